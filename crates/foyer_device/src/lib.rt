@@ -1,0 +1,4 @@
+//! Errors; devices and page buffers come here.
+#![tactic(auto)]
+
+pub mod error;
