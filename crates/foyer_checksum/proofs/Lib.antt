@@ -1,0 +1,2 @@
+pub mod Vectors32
+pub mod Vectors64

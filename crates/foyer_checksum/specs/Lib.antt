@@ -1,0 +1,3 @@
+pub mod Vectors
+pub mod Xxh32
+pub mod Xxh64
