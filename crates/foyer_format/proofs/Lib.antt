@@ -1,0 +1,4 @@
+pub mod CodeLemmas
+pub mod CompressionLemmas
+pub mod HeaderLemmas
+pub mod WritingLemmas

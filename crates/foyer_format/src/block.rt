@@ -1,0 +1,3 @@
+//! What the block engine keeps on its device.
+
+pub mod serde;
