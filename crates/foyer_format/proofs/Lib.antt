@@ -1,4 +1,5 @@
 pub mod CodeLemmas
 pub mod CompressionLemmas
 pub mod HeaderLemmas
+pub mod RefusalLemmas
 pub mod WritingLemmas

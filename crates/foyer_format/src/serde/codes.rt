@@ -119,6 +119,6 @@ pub fn u64_read_back()
 /// Each text is what its spelling reads as.
 #[tactic(auto, using(crate::specs::CodeLaws::text_read_back))]
 pub fn string_read_back()
-    ensures { (s : String) → ⟦<String as Code<Global>>⟧.encodes s
+    ensures { (s : _) → ⟦<String as Code<Global>>⟧.encodes s
         → text_read (⟦<String as Code<Global>>⟧.spelling s) ≡ Some (string_bytes s) }
 {}
