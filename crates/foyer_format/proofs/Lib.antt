@@ -1,5 +1,6 @@
 pub mod CodeLemmas
 pub mod CompressionLemmas
 pub mod HeaderLemmas
+pub mod RecordLemmas
 pub mod RefusalLemmas
 pub mod WritingLemmas

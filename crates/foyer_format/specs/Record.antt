@@ -52,14 +52,18 @@ outcome_of key value (Some error.Unsupported) = Unsupported
 outcome_of key value (Some error.Parse) = Undecodable
 outcome_of key value (Some _) = NoRecord
 
+-- what the bytes behind a header are
+unfoldable pub body_outcome : (List ℕ → Bool) → (List ℕ → Bool) → EntryHeader → List ℕ → Outcome
+body_outcome is_key is_value head body =
+    outcome_of (take head.key_len (drop head.value_len body)) (take head.value_len body)
+    (entry_fault is_key is_value body head.key_len head.value_len head.compression (Some head.checksum))
+
 -- b as a record with this header
 abbrev pub outcome_with : (List ℕ → Bool) → (List ℕ → Bool) → List ℕ → (hash sequence : ℕ) → Result EntryHeader Error → Outcome
 outcome_with is_key is_value b hash sequence (Err e) = NoRecord
 outcome_with is_key is_value b hash sequence (Ok head) =
-    let body = drop 36 b in
     if (head.hash == hash) && (head.sequence == sequence) && (length b == 36 + head.key_len + head.value_len)
-    then outcome_of (take head.key_len (drop head.value_len body)) (take head.value_len body)
-    (entry_fault is_key is_value body head.key_len head.value_len head.compression (Some head.checksum))
+    then body_outcome is_key is_value head (drop 36 b)
     else NoRecord
 
 unfoldable pub pair_of : (List ℕ → Bool) → (List ℕ → Bool) → List ℕ → (hash sequence : ℕ) → Outcome
