@@ -1,9 +1,9 @@
 -- Whether counted bytes are text.
-use Rattle.std.proofs.Common.{◌≡◌, ℕ, List, ◌++◌, ◌&&◌, drop, length, true, false, refl, sym, ◌∙◌, ap}
+use Rattle.std.proofs.Common.{◌≡◌, ℕ, List, ◌&&◌, drop, true, false, refl}
 use Rattle.std.specs.Prelude.{Bool}
 use Rattle.std.specs.Str.{IsUtf8, is_utf8}
 use Rattle.std.proofs.lemmas.Str.{is_utf8-from_IsUtf8, IsUtf8-from_is_utf8}
-use Rattle.foyer_format.specs.Codes.{counted, is_counted, is_counted_text}
+use Rattle.foyer_format.specs.Codes.{is_counted, is_counted_text}
 use Rattle.std.specs.Cmp.Derive.{both_true}
 
 not_true : (a b : Bool) → (b ≡ true → ⊥) → (a && b) ≡ false

@@ -1,15 +1,14 @@
 -- A header is read as it was written.
-use Rattle.std.proofs.Common.{◌≡◌, ℕ, ◌+◌, ◌*◌, ◌/◌, ◌%◌, ◌<◌, ◌^◌, List, [], ◌++◌, Result, Ok, refl, sym, ap, ◌∙◌, rules, arith, length}
+use Rattle.std.proofs.Common.{◌≡◌, ℕ, ◌+◌, ◌*◌, ◌/◌, ◌%◌, ◌<◌, ◌^◌, List, [], ◌++◌, Ok, refl, sym, ap, ◌∙◌, arith, length}
 use Rattle.std.proofs.lemmas.List.{append-nil}
 use Rattle.byteorder.specs.Endian.{big_bytes}
 use Rattle.std.specs.Prelude.{◌==◌, true}
 use Rattle.byteorder.specs.Numbers.{big_number-reads_back}
-use Rattle.foyer_device.specs.declared.error.Error.{Error}
 use Rattle.foyer_format.specs.Compression.{byte_of, compression_of}
 use Rattle.foyer_format.specs.declared.compress.Compression.{Compression}
 use Rattle.foyer_format.specs.declared.compress.Compression.TheVariants as compression
 use Rattle.foyer_format.specs.declared.block.serde.EntryHeader.{EntryHeader}
-use Rattle.foyer_format.specs.Header.{number_at, magic, header_bytes, header_of, header_with, FitsFields}
+use Rattle.foyer_format.specs.Header.{number_at, magic, header_bytes, header_of, FitsFields}
 
 word_is_magic : (c : Compression) → ((magic * 256 + byte_of c) / 256 == magic) ≡ true
 word_is_magic compression.None = refl

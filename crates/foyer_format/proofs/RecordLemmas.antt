@@ -1,8 +1,8 @@
 -- A record is read as it was made.
-use Rattle.std.proofs.Common.{◌≡◌, ℕ, ◌+◌, ◌<◌, ◌^◌, ◌≤◌, ◌*◌, ◌/◌, ◌%◌, bit_xor, lit<, List, [], ◌++◌, Result, Ok, Err, Option, Some, None, take, drop, length, refl, sym, ap, ◌∙◌, arith}
+use Rattle.std.proofs.Common.{◌≡◌, ℕ, ◌+◌, ◌<◌, ◌^◌, ◌*◌, ◌/◌, bit_xor, lit<, List, ◌++◌, Result, Ok, Err, Option, Some, None, take, drop, length, refl, ap, arith}
 use Rattle.std.specs.Prelude.{◌==◌, ◌&&◌, nat_lt, not, Bool, true, false}
 use Rattle.std.proofs.lemmas.List.{length-append, take_at, drop_at, take_all}
-use Rattle.std.proofs.lemmas.Bool.{eq-eqb, ne_eqb, ltb-false, le-ltb}
+use Rattle.std.proofs.lemmas.Bool.{eq-eqb, ne_eqb}
 use Rattle.std.proofs.lemmas.Bool.Decides.{nat_tests}
 use Rattle.foyer_checksum.specs.Xxh64.{xxh64, avalanche, mul64, prime2, prime3}
 use Rattle.std.proofs.lemmas.Nat.{xor_lt}
@@ -11,7 +11,7 @@ use Rattle.foyer_device.specs.declared.error.Error.{Error}
 use Rattle.foyer_format.specs.declared.compress.Compression.TheVariants as compression
 use Rattle.foyer_format.specs.declared.block.serde.EntryHeader.{EntryHeader}
 use Rattle.foyer_format.specs.Header.{header_bytes, header_of, FitsFields}
-use Rattle.foyer_format.specs.Record.{Outcome, body_outcome, record_bytes, entry_fault, pair_of, outcome_of, outcome_with}
+use Rattle.foyer_format.specs.Record.{body_outcome, record_bytes, entry_fault, pair_of, outcome_with}
 use Rattle.foyer_format.specs.Record.{Outcome as outcome}
 use Rattle.foyer_device.specs.declared.error.Error.TheVariants as error
 use Rattle.foyer_format.specs.Refusals.{IsEntryFault, IsRecordFault}

@@ -1,6 +1,6 @@
 -- Refusals of codes, entries and records.
 use Rattle.std.proofs.Common.{◌≡◌, ◌≢◌, ℕ, List, Option, Some, None, Result, Ok, Err, refl, sym, ap, ◌∙◌, subst}
-use Rattle.std.specs.Prelude.{◌⊎◌, IfOk, IfErr, IfSome, IfNone}
+use Rattle.std.specs.Prelude.{IfOk, IfErr, IfSome, IfNone}
 use Rattle.foyer_device.specs.Error.{IsDecodeFault}
 use Rattle.foyer_device.specs.declared.error.Error.{Error}
 use Rattle.foyer_device.specs.declared.error.Error.TheVariants as error

@@ -1,6 +1,6 @@
 -- The laws of the codes.
-use Rattle.std.specs.Prelude.{◌≡◌, ℕ, ◌<◌, ◌^◌, ◌==◌, ◌&&◌, List, ◌++◌, take, drop, length, true, refl, Some}
-use Rattle.std.specs.Str.{IsUtf8, is_utf8}
+use Rattle.std.specs.Prelude.{◌≡◌, ℕ, ◌<◌, ◌^◌, List, take, drop, length, true, refl, Some}
+use Rattle.std.specs.Str.{IsUtf8}
 use Rattle.std.proofs.lemmas.Str.{is_utf8-from_IsUtf8}
 use Rattle.foyer_format.specs.Codes.{is_number, number_read, counted, is_counted, is_counted_text, text_read}
 use Rattle.std.specs.Int.{w64, to_le_bytes, from_le_bytes}

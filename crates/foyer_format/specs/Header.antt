@@ -1,5 +1,5 @@
 -- The header of a record.
-use Rattle.std.specs.Prelude.{◌≡◌, ℕ, ◌+◌, ◌/◌, ◌%◌, ◌<◌, ◌^◌, ◌==◌, List, ◌++◌, drop, Result, Ok, Err, if◌then◌else◌, ◌*◌}
+use Rattle.std.specs.Prelude.{ℕ, ◌+◌, ◌/◌, ◌%◌, ◌<◌, ◌^◌, ◌==◌, List, ◌++◌, drop, Result, Ok, Err, if◌then◌else◌, ◌*◌}
 use Rattle.byteorder.specs.Endian.{big_number, big_bytes}
 use Rattle.foyer_device.specs.declared.error.Error.{Error}
 use Rattle.foyer_device.specs.declared.error.Error.TheVariants.{MagicMismatch}

@@ -1,5 +1,5 @@
 -- What the calls on entries and records answer in place of their result.
-use Rattle.std.specs.Prelude.{◌≡◌, ◌≢◌, ◌⊎◌, ℕ, List, Option, Some, None}
+use Rattle.std.specs.Prelude.{◌≡◌, ◌⊎◌, ℕ, Option, Some, None}
 use Rattle.foyer_device.specs.declared.error.Error.{Error}
 use Rattle.foyer_device.specs.declared.error.Error.TheVariants as error
 use Rattle.foyer_format.specs.declared.compress.Compression.{Compression}

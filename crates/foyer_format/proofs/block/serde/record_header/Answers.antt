@@ -1,5 +1,4 @@
-use Rattle.std.proofs.Common.{◌≡◌, ◌+◌, ℕ, List, Bool, take, length, Ok, Err, arith, sym, rules}
-use Rattle.foyer_format.specs.Header.{header_of}
+use Rattle.std.proofs.Common.{arith, sym, rules}
 use Rattle.foyer_format.proofs.RecordLemmas.{no_header_none, other_hash, other_sequence, other_length}
 use Rattle.foyer_format.proofs.block.serde.record_header.Goals as goal
 use Rattle.foyer_format.proofs.block.serde.record_header.Goals.{else-header-hash-via-then-header-hash+then-header-sequence+else-bytes-body_len, else-header-hash-via-then-header-hash+else-header-sequence, else-header-hash-via-else-header-hash}
