@@ -1,0 +1,7 @@
+pub mod CodeLemmas
+pub mod CompressionLemmas
+pub mod HeaderLemmas
+pub mod PushLemmas
+pub mod RecordLemmas
+pub mod RefusalLemmas
+pub mod WritingLemmas

@@ -1,0 +1,11 @@
+pub mod Codes
+pub mod CodeLaws
+pub mod Compression
+pub mod Header
+pub mod Page
+pub mod PageLaws
+pub mod Pushing
+pub mod Record
+pub mod Refusals
+pub mod Tracked
+pub mod Writing

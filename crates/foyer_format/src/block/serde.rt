@@ -1,0 +1,217 @@
+//! The header of a record, and reading a record back.
+ghost use Rattle.std.specs.Prelude.{◌≡◌, ◌+◌, ◌<◌, ◌^◌, ◌↔◌, ℕ, List, Bool, true, length, take, Ok, Err, None, IfOk, IfSome, IfNone, IfErr};
+ghost use Rattle.foyer_format.specs.Header.{header_bytes, header_of, FitsFields};
+ghost use Rattle.foyer_format.specs.Record.{body_outcome, pair_of, record_bytes};
+ghost use Rattle.foyer_format.specs.Record.{Outcome as outcome};
+ghost use Rattle.foyer_format.specs.Refusals.{IsRecordFault};
+ghost use Rattle.foyer_format.specs.declared.block.serde.EntryHeader.{EntryHeader};
+ghost use Rattle.foyer_device.specs.declared.error.Error.{Error as error};
+
+use crate::compress::Compression;
+use crate::serde::{Code, EntryDeserializer};
+use byteorder::{BigEndian, ByteOrder};
+use foyer_device::error::{Error, Result};
+use std::alloc::Allocator;
+
+/// The place of a write in the order of all writes.
+pub type Sequence = u64;
+
+/// A sequence that threads share.
+pub use std::sync::atomic::AtomicU64 as AtomicSequence;
+
+/// What the last word of a header begins with; its lowest byte names the compression.
+const ENTRY_MAGIC: u32 = 0x9703_2700;
+
+/// The header of a record: the lengths in bytes of its spelled key and value, and the checksum of both.
+#[derive(Debug, PartialEq, Eq, Drop)]
+pub struct EntryHeader {
+    pub key_len: u32,
+    pub value_len: u32,
+    pub hash: u64,
+    pub sequence: Sequence,
+    pub checksum: u64,
+    pub compression: Compression,
+}
+
+impl EntryHeader {
+    /// How many bytes a header takes.
+    pub fn serialized_len() -> usize
+        ensures { result ≡ 36 }
+    {
+        36
+    }
+
+    /// Writes the header over the buffer's 36 bytes, each number with its highest byte first.
+    #[tactic(auto, unfolding(crate::specs::Header::header_bytes))]
+    pub fn write(&self, buf: &mut [u8])
+        requires { length buf.old ≡ 36 }
+        ensures { buf.new ≡ header_bytes self.now }
+    {
+        BigEndian::write_u32(buf, self.key_len);
+        BigEndian::write_u32(&mut buf[4..], self.value_len);
+        BigEndian::write_u64(&mut buf[8..], self.hash);
+        BigEndian::write_u64(&mut buf[16..], self.sequence);
+        BigEndian::write_u64(&mut buf[24..], self.checksum);
+        let word = ENTRY_MAGIC + u32::from(self.compression.to_u8());
+        BigEndian::write_u32(&mut buf[32..], word);
+    }
+
+    /// The header that 36 bytes spell. MagicMismatch where they have another magic, else Parse where the
+    /// last byte names no compression; nothing else is refused.
+    #[tactic(auto, using(crate::proofs::HeaderLemmas::header_again_of))]
+    pub fn read(buf: &[u8]) -> Result<EntryHeader>
+        requires { length buf.now ≡ 36 }
+        ensures exact { result ≡ header_of buf.now }
+        ensures again { (h : EntryHeader) → FitsFields h → buf.now ≡ header_bytes h → result ≡ Ok h }
+    {
+        Self::read_exactly(buf)
+    }
+
+    #[tactic(auto, unfolding(crate::specs::Header::header_of, crate::specs::Header::number_at))]
+    fn read_exactly(buf: &[u8]) -> Result<EntryHeader>
+        requires { length buf.now ≡ 36 }
+        ensures { result ≡ header_of buf.now }
+    {
+        let word = BigEndian::read_u32(&buf[32..]);
+        if word / 256 != ENTRY_MAGIC / 256 {
+            return Err(Error::MagicMismatch);
+        }
+        match Compression::try_from((word % 256) as u8) {
+            Err(e) => Err(e),
+            Ok(compression) => Ok(EntryHeader {
+                key_len: BigEndian::read_u32(buf),
+                value_len: BigEndian::read_u32(&buf[4..]),
+                hash: BigEndian::read_u64(&buf[8..]),
+                sequence: BigEndian::read_u64(&buf[16..]),
+                checksum: BigEndian::read_u64(&buf[24..]),
+                compression,
+            }),
+        }
+    }
+}
+
+/// A header is read as it was written.
+#[tactic(auto, using(crate::proofs::HeaderLemmas::header_again_of))]
+pub fn header_read_back()
+    ensures { (h : EntryHeader) → FitsFields h → header_of (header_bytes h) ≡ Ok h }
+{}
+
+/// A record's bytes read back as its pair.
+#[tactic(auto, using(crate::proofs::RecordLemmas::pair_again))]
+pub fn record_read_back()
+    ensures { (is_key is_value : List ℕ → Bool) (hash sequence : ℕ) (key value : List ℕ)
+        → hash < 2 ^ 64 → sequence < 2 ^ 64 → length key < 2 ^ 32 → length value < 2 ^ 32
+        → is_key key ≡ true → is_value value ≡ true
+        → pair_of is_key is_value (record_bytes hash sequence key value) hash sequence
+        ≡ outcome.Pair key value }
+{}
+
+/// The pair of a record of this hash and this sequence, or `None` where the bytes are no such record.
+/// Unsupported where it is compressed, Parse where its value or its key isn't spelled right, Memory where a
+/// growth was refused; nothing else is refused.
+#[tactic(auto, using(crate::proofs::RefusalLemmas::record_answers))]
+pub fn read_record<A: Allocator + Clone, K: Code<A> + Drop, V: Code<A> + Drop>(
+    alloc: A,
+    bytes: &[u8],
+    hash: u64,
+    sequence: Sequence,
+) -> Result<Option<(K, V)>>
+    ensures pair { IfOk result (λ r. IfSome r (λ p.
+        pair_of K.is_spelling V.is_spelling bytes.now hash sequence
+        ≡ outcome.Pair (K.spelling p.0) (V.spelling p.1))) }
+    ensures encodes { IfOk result (λ r. IfSome r (λ p. K.encodes p.0 × V.encodes p.1)) }
+    ensures absent { (result ≡ Ok None)
+        ↔ (pair_of K.is_spelling V.is_spelling bytes.now hash sequence ≡ outcome.NoRecord) }
+    ensures unsupported { (result ≡ Err error.Unsupported)
+        ↔ (pair_of K.is_spelling V.is_spelling bytes.now hash sequence ≡ outcome.Unsupported) }
+    ensures fault { IfErr result
+        (IsRecordFault (pair_of K.is_spelling V.is_spelling bytes.now hash sequence)) }
+{
+    find_record(alloc, bytes, hash, sequence)
+}
+
+// The same, by the answer alone.
+#[tactic(auto, using(crate::proofs::RecordLemmas::outcomes))]
+fn find_record<A: Allocator + Clone, K: Code<A> + Drop, V: Code<A> + Drop>(
+    alloc: A,
+    bytes: &[u8],
+    hash: u64,
+    sequence: Sequence,
+) -> Result<Option<(K, V)>>
+    ensures pair { IfOk result (λ r. IfSome r (λ p.
+        pair_of K.is_spelling V.is_spelling bytes.now hash sequence
+        ≡ outcome.Pair (K.spelling p.0) (V.spelling p.1))) }
+    ensures encodes { IfOk result (λ r. IfSome r (λ p. K.encodes p.0 × V.encodes p.1)) }
+    ensures absent { IfOk result (λ r. IfNone r
+        (pair_of K.is_spelling V.is_spelling bytes.now hash sequence ≡ outcome.NoRecord)) }
+    ensures fault { IfErr result
+        (IsRecordFault (pair_of K.is_spelling V.is_spelling bytes.now hash sequence)) }
+{
+    let Some(header) = record_header(bytes, hash, sequence) else {
+        return Ok(None);
+    };
+    read_body(alloc, &header, &bytes[36..])
+}
+
+// The pair of the bytes behind this header.
+#[tactic(auto, using(crate::proofs::RecordLemmas::bodies))]
+fn read_body<A: Allocator + Clone, K: Code<A> + Drop, V: Code<A> + Drop>(
+    alloc: A,
+    header: &EntryHeader,
+    body: &[u8],
+) -> Result<Option<(K, V)>>
+    ensures pair { IfOk result (λ r. IfSome r (λ p.
+        body_outcome K.is_spelling V.is_spelling header.now body.now
+        ≡ outcome.Pair (K.spelling p.0) (V.spelling p.1))) }
+    ensures encodes { IfOk result (λ r. IfSome r (λ p. K.encodes p.0 × V.encodes p.1)) }
+    ensures absent { IfOk result (λ r. IfNone r
+        (body_outcome K.is_spelling V.is_spelling header.now body.now ≡ outcome.NoRecord)) }
+    ensures fault { IfErr result
+        (IsRecordFault (body_outcome K.is_spelling V.is_spelling header.now body.now)) }
+{
+    let key_len = header.key_len as usize;
+    let value_len = header.value_len as usize;
+    let told = Some(header.checksum);
+    match EntryDeserializer::deserialize(
+        alloc,
+        body,
+        key_len,
+        value_len,
+        header.compression,
+        told,
+    ) {
+        Ok(pair) => Ok(Some(pair)),
+        Err(e) => {
+            if e == Error::OutOfRange || e == Error::ChecksumMismatch {
+                return Ok(None);
+            }
+            Err(e)
+        }
+    }
+}
+
+// The header of a record of this hash, this sequence and exactly these bytes' length.
+#[tactic(auto, using(crate::proofs::RecordLemmas::outcomes))]
+fn record_header(bytes: &[u8], hash: u64, sequence: Sequence) -> Option<EntryHeader>
+    ensures header { IfSome result (λ head. header_of (take 36 bytes.now) ≡ Ok head) }
+    ensures hash { IfSome result (λ head. head.hash ≡ hash) }
+    ensures sequence { IfSome result (λ head. head.sequence ≡ sequence) }
+    ensures len { IfSome result (λ head. length bytes.now ≡ 36 + head.key_len + head.value_len) }
+    ensures none { (is_key is_value : List ℕ → Bool)
+        → IfNone result (pair_of is_key is_value bytes.now hash sequence ≡ outcome.NoRecord) }
+{
+    if bytes.len() < 36 {
+        return None;
+    }
+    match EntryHeader::read(&bytes[..36]) {
+        Err(_) => None,
+        Ok(header) => {
+            let body_len = header.key_len as usize + header.value_len as usize;
+            if header.hash == hash && header.sequence == sequence && bytes.len() - 36 == body_len {
+                Some(header)
+            } else {
+                None
+            }
+        }
+    }
+}

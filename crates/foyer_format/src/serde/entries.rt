@@ -1,0 +1,118 @@
+//! The bytes of an entry: the value's, and then the key's.
+ghost use Rattle.std.specs.Prelude.{◌≡◌, ◌+◌, ◌-◌, ◌^◌, ◌<◌, ◌++◌, ◌⊎◌, min, length, take, drop, None, OnOk, OnErr, IfOk, IfErr};
+ghost use Rattle.std.specs.Io.KnownBytes.{Appends};
+ghost use Rattle.foyer_device.specs.declared.error.Error.TheVariants.{Memory};
+ghost use Rattle.foyer_format.specs.declared.compress.Compression.TheVariants as compression_of;
+ghost use Rattle.foyer_format.specs.Record.{entry_fault};
+ghost use Rattle.foyer_format.specs.Refusals.{IsSerializeFault, IsEntryFault};
+ghost use Rattle.foyer_format.specs.Writing.{Takes, Extends};
+
+use super::coding::Code;
+use super::sinks::Sink;
+use crate::compress::Compression;
+use foyer_checksum::Checksummer;
+use foyer_device::error::{Error, Result};
+use std::alloc::Allocator;
+
+/// How many bytes a key and a value took.
+#[derive(Debug, Drop)]
+pub struct KvInfo {
+    pub key_len: usize,
+    pub value_len: usize,
+}
+
+/// Writes entries.
+pub struct EntrySerializer;
+
+impl EntrySerializer {
+    /// Writes the value and then the key. Unsupported for another compression than `None`; else BufferSizeLimit
+    /// where room is missing, Io where the writer failed, or a code's own error. After an `Err` a sink of known
+    /// room has taken some of the bytes at most.
+    #[tactic(auto, using(crate::proofs::WritingLemmas::two_writes))]
+    pub fn serialize<A: Allocator, K: Code<A>, V: Code<A>, W: Sink>(
+        key: &K,
+        value: &V,
+        compression: Compression,
+        writer: &mut W,
+    ) -> Result<KvInfo>
+        ensures bytes { OnOk result (Appends (W.contents writer.old) (W.contents writer.new)
+            (V.spelling value.now ++ K.spelling key.now)) }
+        ensures lens { IfOk result (λ info.
+            W.taken writer.old + length (V.spelling value.now) + length (K.spelling key.now) < 2 ^ 64
+            → (info.value_len ≡ length (V.spelling value.now)) × (info.key_len ≡ length (K.spelling key.now))) }
+        ensures plain { OnOk result (compression ≡ compression_of.None) }
+        ensures encoded { OnOk result (V.encodes value.now × K.encodes key.now) }
+        ensures room { OnOk result (Takes (W.room writer.old) (W.room writer.new)
+            (length (V.spelling value.now) + length (K.spelling key.now))) }
+        ensures borrow { W.borrow writer.new ≡ W.borrow writer.old }
+        ensures kept { OnErr result (Extends (W.room writer.old) (W.room writer.new)
+            (W.contents writer.old) (W.contents writer.new)) }
+        ensures refused { IfErr result (IsSerializeFault compression (V.encodes value.now × K.encodes key.now)
+            (W.room writer.old) (length (V.spelling value.now) + length (K.spelling key.now))) }
+    {
+        if compression != Compression::None {
+            return Err(Error::Unsupported);
+        }
+        let start = writer.taken();
+        value.encode_into(writer)?;
+        let middle = writer.taken();
+        key.encode_into(writer)?;
+        let end = writer.taken();
+        Ok(KvInfo {
+            key_len: end.saturating_sub(middle),
+            value_len: middle.saturating_sub(start),
+        })
+    }
+
+    /// How many bytes both codes take together, at most `usize::MAX`.
+    pub fn estimated_size<A: Allocator, K: Code<A>, V: Code<A>>(key: &K, value: &V) -> usize
+        ensures { K.encodes key.now → V.encodes value.now
+            → result ≡ min (length (V.spelling value.now) + length (K.spelling key.now)) (2 ^ 64 - 1) }
+    {
+        key.estimated_size().saturating_add(value.estimated_size())
+    }
+}
+
+/// Reads entries.
+pub struct EntryDeserializer;
+
+impl EntryDeserializer {
+    /// The key and the value of the bytes. The first of these faults is answered: OutOfRange where there are
+    /// fewer bytes than both lengths together, ChecksumMismatch where a checksum was told and isn't theirs,
+    /// Unsupported for another compression than `None`, Parse where a code refuses them. Memory where a growth,
+    /// or a clone of the allocator, was refused.
+    #[tactic(auto, unfolding(crate::specs::Record::entry_fault), using(crate::proofs::RefusalLemmas::decode_faults))]
+    pub fn deserialize<A: Allocator + Clone, K: Code<A> + Drop, V: Code<A> + Drop>(
+        alloc: A,
+        bytes: &[u8],
+        key_len: usize,
+        value_len: usize,
+        compression: Compression,
+        checksum: Option<u64>,
+    ) -> Result<(K, V)>
+        ensures value { IfOk result (λ p. V.spelling p.1 ≡ take value_len bytes.now) }
+        ensures key { IfOk result (λ p. K.spelling p.0 ≡ take key_len (drop value_len bytes.now)) }
+        ensures encodes { IfOk result (λ p. V.encodes p.1 × K.encodes p.0) }
+        ensures sound { OnOk result
+            (entry_fault K.is_spelling V.is_spelling bytes.now key_len value_len compression checksum ≡ None) }
+        ensures fault { IfErr result (IsEntryFault
+            (entry_fault K.is_spelling V.is_spelling bytes.now key_len value_len compression checksum)) }
+        ensures memory { IfErr result (λ e. e ≡ Memory
+            → V.takes_memory ⊎ K.takes_memory ⊎ (A.is_infallible alloc → ⊥)) }
+    {
+        if bytes.len() < value_len || bytes.len() - value_len < key_len {
+            return Err(Error::OutOfRange);
+        }
+        if let Some(expected) = checksum {
+            if Checksummer::checksum64(&bytes[..value_len + key_len]) != expected {
+                return Err(Error::ChecksumMismatch);
+            }
+        }
+        if compression != Compression::None {
+            return Err(Error::Unsupported);
+        }
+        let value = V::decode(alloc.clone()?, &bytes[..value_len])?;
+        let key = K::decode(alloc, &bytes[value_len..value_len + key_len])?;
+        Ok((key, value))
+    }
+}
