@@ -1,0 +1,18 @@
+use Rattle.std.proofs.Common.{◌≡◌, ◌<◌, ◌≤◌, ◌+◌, ℕ, length, length-set, slice_index, slice_set, ap, subst, sym, arith, ◌∙◌}
+use Rattle.foyer_block.specs.Shards.{room}
+use Rattle.foyer_block.proofs.Found.{map_of-place, room-reserved}
+use Rattle.foyer_block.proofs.shards.reserve.Goals as goal
+
+pub returns-in_err-reserve-clause-unchanged : goal.returns-in_err-reserve-clause-unchanged
+returns-in_err-reserve-clause-unchanged g c =
+    let within : c.loop-place.place < length c.loop-place.shards.items = omega arith in
+    map_of-place c.loop-place.shards.items c.loop-place.place c.index_mut.result.now c.reserve.new.self within c.index_mut.ensures.value c.reserve.ensures.entries.2 ∙ c.loop-place.invariant.same
+
+pub loop-place-preserved : goal.loop-place-preserved
+loop-place-preserved g c =
+    let within : c.loop-place.place < length c.loop-place.shards.items = omega arith in
+    record {
+      len = length-set c.loop-place.shards.items c.loop-place.place c.reserve.new.self ∙ c.loop-place.invariant.len;
+      same = map_of-place c.loop-place.shards.items c.loop-place.place c.index_mut.result.now c.reserve.new.self within c.index_mut.ensures.value c.reserve.ensures.entries.2 ∙ c.loop-place.invariant.same;
+      room = room-reserved c.args.counts.now c.loop-place.shards.items c.loop-place.place c.reserve.new.self within c.in_ok-reserve.ensures.ok c.loop-place.invariant.room;
+    }

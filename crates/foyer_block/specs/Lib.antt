@@ -1,0 +1,4 @@
+pub mod Index
+pub mod Insertion
+pub mod Removal
+pub mod Shards

@@ -1,0 +1,40 @@
+-- The shards of the index, as the map that they are together.
+use Rattle.std.specs.Prelude.{ℕ, suc, ◌<◌, ◌≤◌, ◌%◌, ◌==◌, Option, Some, None, List, [], ◌∷◌, ◌++◌, length, filter, nat_eq, slice_get, unwrap_or, option_and_then}
+use Rattle.std.specs.Option.{option_map}
+use Rattle.std.specs.declared.hash.FoldHasher.{FoldHasher}
+use Rattle.std.specs.declared.hash.BuildHasherDefault.{BuildHasherDefault}
+use Rattle.std.specs.HashMap.{HashMap, get, spare}
+use Rattle.std.specs.FinMap as map
+use Rattle.std.specs.List.{count_by}
+use Rattle.foyer_block.specs.declared.indexer.HashedEntryAddress.{HashedEntryAddress}
+use Rattle.foyer_block.specs.declared.indexer.Index.{Index}
+use Rattle.foyer_block.specs.Index.{IndexMap}
+
+-- one shard
+abbrev pub Shard : Type 0
+Shard = HashMap ℕ Index (BuildHasherDefault FoldHasher)
+
+-- the entries of shards, of which the first is the i-th of n: in each, those of the hashes that belong there
+abbrev pub entries_from : ℕ → ℕ → List Shard → List (ℕ × Index)
+entries_from n i [] = []
+entries_from n i (shard ∷ shards) = filter (λ e. e.0 % n == i) shard.entries ++ entries_from n (suc i) shards
+
+-- what the shards have together
+abbrev pub map_of : List Shard → IndexMap
+map_of shards = map.from_entries (entries_from (length shards) 0 shards)
+
+-- what a hash has in its shard
+abbrev pub found : List Shard → ℕ → Option Index
+found shards hash = option_and_then (λ shard. get nat_eq shard hash) (slice_get shards (hash % length shards))
+
+-- how many entries a shard takes without growing
+abbrev pub room : List Shard → ℕ → ℕ
+room shards i = unwrap_or (option_map spare (slice_get shards i)) 0
+
+-- how many of a batch belong in the i-th of n shards
+abbrev pub belonging : ℕ → ℕ → List HashedEntryAddress → ℕ
+belonging n i es = count_by (λ e. e.hash % n == i) es
+
+-- each of n shards takes what belongs there of a batch without growing
+abbrev pub HasRoom : ℕ → List Shard → List HashedEntryAddress → Type 0
+HasRoom n shards es = (i : ℕ) → i < n → belonging n i es ≤ room shards i

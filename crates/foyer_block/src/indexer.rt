@@ -1,0 +1,171 @@
+//! The index: what each hash has, an address on the device or the mark of a delete.
+ghost use Rattle.std.specs.Prelude.{◌≡◌, ◌<◌, ◌↔◌, IsTrue, IfOk, OnOk, OnErr, IsOkUnless};
+ghost use Rattle.std.specs.Bool.{OnTrue, OnFalse};
+ghost use Rattle.std.specs.FinMap as map;
+ghost use Rattle.foyer_block.specs.Insertion.{left_out, inserted, inserted_all, all_left_out};
+ghost use Rattle.foyer_block.specs.Removal.{without_addresses, without_marks};
+ghost use Rattle.foyer_block.specs.Index.{address_at};
+
+use crate::manager::BlockId;
+use crate::shards;
+use crate::shards::Shard;
+use crate::tombstone::Tombstone;
+use foyer_device::error::{Error, Result};
+use std::alloc::Allocator;
+use std::collections::HashMap;
+use std::marker::Model;
+
+/// The number of a put or a delete, in the order in which they were accepted.
+pub type Sequence = u64;
+
+/// Where a record stands: `len` bytes from byte `offset` of a block in its filling `filling`.
+#[derive(Clone, Copy, Debug, PartialEq, Eq)]
+pub struct EntryAddress {
+    pub block: BlockId,
+    pub offset: u32,
+    pub len: u32,
+    pub sequence: Sequence,
+    pub filling: u64,
+}
+
+/// An address with the hash that it is indexed under.
+#[derive(Clone, Copy, Debug)]
+pub struct HashedEntryAddress {
+    pub hash: u64,
+    pub address: EntryAddress,
+}
+
+/// What the index holds for a hash.
+#[derive(Clone, Copy, Debug, PartialEq, Eq)]
+pub enum Index {
+    /// The record of the newest put.
+    Address(EntryAddress),
+    /// The mark of a newer delete.
+    Tombstone(Sequence),
+}
+
+/// A map from hashes to what they have. Of all that is inserted for a hash the greatest sequence
+/// stays, the later among equals.
+#[derive(Drop)]
+pub struct Indexer<A: Allocator> {
+    shards: Vec<Shard<A>, A>,
+    // For each shard a count, of use during `insert_batch` alone.
+    counts: Vec<usize, A>,
+}
+
+impl<A: Allocator> Model for Indexer<A> {
+    ghost use Rattle.std.specs.Prelude.{◌≡◌, ◌<◌, length};
+    ghost use Rattle.foyer_block.specs.Index.{IndexMap, index_map_code};
+    ghost use Rattle.foyer_block.specs.Shards.{map_of};
+
+    ghost Value = { IndexMap };
+
+    ghost coded = { index_map_code };
+
+    ghost view = { λ a. map_of a.shards.items };
+
+    ghost invariant = { λ a. (0 < length a.shards.items) × (length a.counts.items ≡ length a.shards.items) };
+}
+
+impl<A: Allocator + Clone> Indexer<A> {
+    /// An index that has nothing. Memory is the only refusal.
+    pub fn new(alloc: A, shards: usize) -> Result<Indexer<A>>
+        requires { 0 < shards }
+        ensures empty { IfOk result (λ indexer. indexer ≡ map.empty) }
+        ensures refused { IsOkUnless result Error.Memory }
+    {
+        let counts = shards::zeros(alloc.clone()?, shards)?;
+        let shards = shards::empty(alloc, shards)?;
+        Ok(Indexer { shards, counts })
+    }
+
+    /// Inserts a mark, and answers the address that doesn't stay. Memory is the only refusal.
+    pub fn insert_tombstone(
+        &mut self,
+        hash: u64,
+        sequence: Sequence,
+    ) -> Result<Option<EntryAddress>>
+        ensures inserted { OnOk result (self.new ≡ inserted self.old hash (Index.Tombstone sequence)) }
+        ensures answer { IfOk result (λ answer. answer ≡ left_out (map.get self.old hash) (Index.Tombstone sequence)) }
+        ensures err { OnErr result (self.new ≡ self.old) }
+        ensures refused { IsOkUnless result Error.Memory }
+    {
+        shards::enter(&mut self.shards, hash, Index::Tombstone(sequence))
+    }
+
+    /// The address of a hash. A mark has none.
+    pub fn get(&self, hash: u64) -> Option<EntryAddress>
+        ensures { result ≡ address_at self.now hash }
+    {
+        match shards::find(&self.shards, hash) {
+            Some(Index::Address(address)) => Some(*address),
+            Some(Index::Tombstone(_)) => None,
+            None => None,
+        }
+    }
+
+    /// Inserts addresses in order, and answers those that don't stay, in that order; they take the batch's
+    /// memory. Memory is the only refusal.
+    pub fn insert_batch(
+        &mut self,
+        batch: Vec<HashedEntryAddress, A>,
+    ) -> Result<Vec<HashedEntryAddress, A>>
+        ensures inserted { OnOk result (self.new ≡ inserted_all self.old batch.items) }
+        ensures answers { IfOk result (λ answers. answers.items ≡ all_left_out self.old batch.items) }
+        ensures err { OnErr result (self.new ≡ self.old) }
+        ensures refused { IsOkUnless result Error.Memory }
+    {
+        let mut batch = batch;
+        shards::count(&mut self.counts, &batch);
+        shards::reserve(&mut self.shards, &self.counts)?;
+        let answers = shards::enter_all(&mut self.shards, &mut batch);
+        batch.truncate(answers);
+        Ok(batch)
+    }
+
+    /// Moves a hash from one address to another of the same sequence, where it has the first one.
+    /// Tells whether it did.
+    pub fn replace(&mut self, hash: u64, old: &EntryAddress, new: EntryAddress) -> bool
+        requires { old.now.sequence ≡ new.sequence }
+        ensures answer { IsTrue result ↔ (map.get self.old hash ≡ Some (Index.Address old.now)) }
+        ensures replaced { OnTrue result (self.new ≡ map.insert self.old hash (Index.Address new)) }
+        ensures unchanged { OnFalse result (self.new ≡ self.old) }
+    {
+        shards::replace(
+            &mut self.shards,
+            hash,
+            Index::Address(*old),
+            Index::Address(new),
+        )
+    }
+
+    /// Removes a hash where it has that very address. Tells whether it did.
+    pub fn remove(&mut self, hash: u64, address: &EntryAddress) -> bool
+        ensures answer { IsTrue result ↔ (map.get self.old hash ≡ Some (Index.Address address.now)) }
+        ensures removed { OnTrue result (self.new ≡ map.remove self.old hash) }
+        ensures unchanged { OnFalse result (self.new ≡ self.old) }
+    {
+        shards::remove(&mut self.shards, hash, Index::Address(*address))
+    }
+
+    /// Removes each hash of the list that has that very address.
+    pub fn remove_batch(&mut self, addresses: &[HashedEntryAddress])
+        ensures { self.new ≡ without_addresses self.old addresses.now }
+    {
+        shards::remove_addresses(&mut self.shards, addresses);
+    }
+
+    /// Removes each hash of the list that has a mark of that very sequence.
+    pub fn remove_marks(&mut self, marks: &[Tombstone])
+        ensures { self.new ≡ without_marks self.old marks.now }
+    {
+        shards::remove_marks(&mut self.shards, marks);
+    }
+
+    /// Removes everything.
+    pub fn clear(&mut self)
+        ensures { self.new ≡ map.empty }
+    {
+        shards::clear(&mut self.shards);
+    }
+}

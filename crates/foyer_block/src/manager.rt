@@ -1,0 +1,4 @@
+//! Blocks.
+
+/// The number of a block, from 0 on.
+pub type BlockId = u32;

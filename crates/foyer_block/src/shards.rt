@@ -1,0 +1,263 @@
+//! The shards of the index: a hash lies in the shard of its number modulo the count of shards.
+ghost use Rattle.std.specs.Prelude.{◌≡◌, ◌<◌, ◌≤◌, ◌+◌, ◌%◌, ◌==◌, ℕ, nat_eq, if◌then◌else◌, length, take, slice_index, EachIndex, ◌↔◌, IfOk, OnOk, OnErr, IsOk, IsOkUnless, IsTrue};
+ghost use Rattle.std.specs.Bool.{OnTrue, OnFalse};
+ghost use Rattle.std.specs.Option.{option_copied};
+ghost use Rattle.std.specs.FinMap as map;
+ghost use Rattle.std.specs.HashMap.{get, spare};
+ghost use Rattle.foyer_block.specs.Index.{sequence_of, address_of};
+ghost use Rattle.foyer_block.specs.Insertion.{entered, left_out, inserted, inserted_all, all_left_out};
+ghost use Rattle.foyer_block.specs.Removal.{without_addresses, without_marks};
+ghost use Rattle.foyer_block.specs.Shards.{belonging, map_of, room, HasRoom};
+
+use crate::indexer::{EntryAddress, HashedEntryAddress, Index, Sequence};
+use crate::tombstone::Tombstone;
+use foyer_device::error::{Error, Result};
+use std::alloc::Allocator;
+use std::collections::HashMap;
+use std::hash::{BuildHasherDefault, FoldHasher};
+
+pub(crate) type Shard<A> = HashMap<u64, Index, BuildHasherDefault<FoldHasher>, A>;
+
+impl Index {
+    fn sequence(&self) -> Sequence
+        ensures { result ≡ sequence_of self.now }
+    {
+        match self {
+            Index::Address(address) => address.sequence,
+            Index::Tombstone(sequence) => *sequence,
+        }
+    }
+
+    fn address(&self) -> Option<EntryAddress>
+        ensures { result ≡ address_of self.now }
+    {
+        match self {
+            Index::Address(address) => Some(*address),
+            Index::Tombstone(_) => None,
+        }
+    }
+}
+
+// A number for each shard.
+pub(crate) fn zeros<A: Allocator>(alloc: A, shards: usize) -> Result<Vec<usize, A>>
+    ensures ok { IfOk result (λ counts. length counts.items ≡ shards) }
+    ensures refused { IsOkUnless result Error.Memory }
+{
+    Ok(vec![in alloc; 0; shards]?)
+}
+
+pub(crate) fn empty<A: Allocator + Clone>(alloc: A, shards: usize) -> Result<Vec<Shard<A>, A>>
+    ensures len { IfOk result (λ made. length made.items ≡ shards) }
+    ensures empty { IfOk result (λ made. map_of made.items ≡ map.empty) }
+    ensures refused { IsOkUnless result Error.Memory }
+{
+    let mut made = Vec::with_capacity(alloc.clone()?, shards)?;
+    for _ in 0..shards {
+        made.push(HashMap::new(alloc.clone()?))?;
+    }
+    Ok(made)
+}
+
+pub(crate) fn find<A: Allocator>(shards: &[Shard<A>], hash: u64) -> Option<&Index>
+    requires { 0 < length shards.now }
+    ensures { option_copied result ≡ map.get (map_of shards.now) hash }
+{
+    shards[(hash % shards.len() as u64) as usize].get(&hash)
+}
+
+// An insertion into the shard of the hash.
+fn enter_here<A: Allocator + Clone>(
+    shard: &mut Shard<A>,
+    hash: u64,
+    next: Index,
+) -> Result<Option<EntryAddress>>
+    ensures entered { OnOk result ((q : ℕ) → get nat_eq shard.new q ≡ (if nat_eq hash q then Some (entered (get nat_eq shard.old hash) next) else get nat_eq shard.old q)) }
+    ensures answer { IfOk result (λ answer. answer ≡ left_out (get nat_eq shard.old hash) next) }
+    ensures err { OnErr result ((q : ℕ) → get nat_eq shard.new q ≡ get nat_eq shard.old q) }
+    ensures refused { IsOkUnless result Error.Memory }
+    ensures succeeds { 0 < spare shard.old → IsOk result }
+    ensures spare { spare shard.old ≤ spare shard.new + 1 }
+{
+    if let Some(held) = shard.get(&hash)
+        && next.sequence() < held.sequence()
+    {
+        return Ok(next.address());
+    }
+    match shard.insert(hash, next)? {
+        Some(held) => Ok(held.address()),
+        None => Ok(None),
+    }
+}
+
+// An insertion.
+pub(crate) fn enter<A: Allocator + Clone>(
+    shards: &mut Vec<Shard<A>, A>,
+    hash: u64,
+    next: Index,
+) -> Result<Option<EntryAddress>>
+    requires { 0 < length shards.old.items }
+    ensures inserted { OnOk result (map_of shards.new.items ≡ inserted (map_of shards.old.items) hash next) }
+    ensures answer { IfOk result (λ answer. answer ≡ left_out (map.get (map_of shards.old.items) hash) next) }
+    ensures err { OnErr result (map_of shards.new.items ≡ map_of shards.old.items) }
+    ensures len { length shards.new.items ≡ length shards.old.items }
+    ensures refused { IsOkUnless result Error.Memory }
+    ensures succeeds { 0 < room shards.old.items (hash % length shards.old.items) → IsOk result }
+    ensures room { (s : ℕ) → room shards.old.items s ≤ room shards.new.items s + (if hash % length shards.old.items == s then 1 else 0) }
+{
+    let place = (hash % shards.len() as u64) as usize;
+    enter_here(&mut shards[place], hash, next)
+}
+
+// Removes the hash from its shard where it has just that.
+fn remove_here<A: Allocator>(shard: &mut Shard<A>, hash: u64, held: Index) -> bool
+    ensures answer { IsTrue result ↔ (get nat_eq shard.old hash ≡ Some held) }
+    ensures removed { OnTrue result ((q : ℕ) → get nat_eq shard.new q ≡ (if nat_eq hash q then None else get nat_eq shard.old q)) }
+    ensures unchanged { OnFalse result ((q : ℕ) → get nat_eq shard.new q ≡ get nat_eq shard.old q) }
+{
+    let is_held = match shard.get(&hash) {
+        Some(found) => *found == held,
+        None => false,
+    };
+    if is_held {
+        let _ = shard.remove(&hash);
+    }
+    is_held
+}
+
+// Removes the hash where it has just that, and tells whether it did.
+pub(crate) fn remove<A: Allocator>(shards: &mut Vec<Shard<A>, A>, hash: u64, held: Index) -> bool
+    requires { 0 < length shards.old.items }
+    ensures answer { IsTrue result ↔ (map.get (map_of shards.old.items) hash ≡ Some held) }
+    ensures removed { OnTrue result (map_of shards.new.items ≡ map.remove (map_of shards.old.items) hash) }
+    ensures unchanged { OnFalse result (map_of shards.new.items ≡ map_of shards.old.items) }
+    ensures len { length shards.new.items ≡ length shards.old.items }
+{
+    let place = (hash % shards.len() as u64) as usize;
+    remove_here(&mut shards[place], hash, held)
+}
+
+// Removes each hash of the list that has that very address.
+pub(crate) fn remove_addresses<A: Allocator>(
+    shards: &mut Vec<Shard<A>, A>,
+    addresses: &[HashedEntryAddress],
+)
+    requires { 0 < length shards.old.items }
+    ensures removed { map_of shards.new.items ≡ without_addresses (map_of shards.old.items) addresses.now }
+    ensures len { length shards.new.items ≡ length shards.old.items }
+{
+    for entry in addresses {
+        let _ = remove(shards, entry.hash, Index::Address(entry.address));
+    }
+}
+
+// Removes each hash of the list that has a mark of that very sequence.
+pub(crate) fn remove_marks<A: Allocator>(shards: &mut Vec<Shard<A>, A>, marks: &[Tombstone])
+    requires { 0 < length shards.old.items }
+    ensures removed { map_of shards.new.items ≡ without_marks (map_of shards.old.items) marks.now }
+    ensures len { length shards.new.items ≡ length shards.old.items }
+{
+    for mark in marks {
+        let _ = remove(shards, mark.hash, Index::Tombstone(mark.sequence));
+    }
+}
+
+// Writes over what the hash has where that is `old`.
+fn replace_here<A: Allocator + Clone>(
+    shard: &mut Shard<A>,
+    hash: u64,
+    old: Index,
+    new: Index,
+) -> bool
+    ensures answer { IsTrue result ↔ (get nat_eq shard.old hash ≡ Some old) }
+    ensures replaced { OnTrue result ((q : ℕ) → get nat_eq shard.new q ≡ (if nat_eq hash q then Some new else get nat_eq shard.old q)) }
+    ensures unchanged { OnFalse result ((q : ℕ) → get nat_eq shard.new q ≡ get nat_eq shard.old q) }
+{
+    let is_held = match shard.get(&hash) {
+        Some(found) => *found == old,
+        None => false,
+    };
+    if is_held {
+        let inserted: std::result::Result<_, _> = shard.insert(hash, new);
+        let _ = inserted.unwrap();
+    }
+    is_held
+}
+
+// Writes over what the hash has where that is `old`, and tells whether it did.
+pub(crate) fn replace<A: Allocator + Clone>(
+    shards: &mut Vec<Shard<A>, A>,
+    hash: u64,
+    old: Index,
+    new: Index,
+) -> bool
+    requires { 0 < length shards.old.items }
+    ensures answer { IsTrue result ↔ (map.get (map_of shards.old.items) hash ≡ Some old) }
+    ensures replaced { OnTrue result (map_of shards.new.items ≡ map.insert (map_of shards.old.items) hash new) }
+    ensures unchanged { OnFalse result (map_of shards.new.items ≡ map_of shards.old.items) }
+    ensures len { length shards.new.items ≡ length shards.old.items }
+{
+    let place = (hash % shards.len() as u64) as usize;
+    replace_here(&mut shards[place], hash, old, new)
+}
+
+pub(crate) fn clear<A: Allocator>(shards: &mut [Shard<A>])
+    ensures { map_of shards.new ≡ map.empty }
+{
+    for shard in shards.iter_mut() {
+        shard.clear();
+    }
+}
+
+// Counts for each shard the entries of a batch that belong there.
+pub(crate) fn count(counts: &mut [usize], batch: &[HashedEntryAddress])
+    requires { 0 < length counts.old }
+    ensures { EachIndex counts.new (λ s. slice_index counts.new s ≡ belonging (length counts.old) s batch.now) }
+{
+    for count in counts.iter_mut() {
+        *count = 0;
+    }
+    for entry in batch {
+        let place = (entry.hash % counts.len() as u64) as usize;
+        counts[place] += 1;
+    }
+}
+
+// Makes room in each shard for as many entries as its count says.
+pub(crate) fn reserve<A: Allocator + Clone>(
+    shards: &mut Vec<Shard<A>, A>,
+    counts: &[usize],
+) -> Result<()>
+    requires { length counts.now ≡ length shards.old.items }
+    ensures room { OnOk result (EachIndex counts.now (λ s. slice_index counts.now s ≤ room shards.new.items s)) }
+    ensures unchanged { map_of shards.new.items ≡ map_of shards.old.items }
+    ensures len { length shards.new.items ≡ length shards.old.items }
+    ensures refused { IsOkUnless result Error.Memory }
+{
+    for (place, count) in counts.iter().enumerate() {
+        shards[place].reserve(*count)?;
+    }
+    Ok(())
+}
+
+// Inserts a batch in order. The addresses that don't stay are moved to its front; tells how many they are.
+pub(crate) fn enter_all<A: Allocator + Clone>(
+    shards: &mut Vec<Shard<A>, A>,
+    batch: &mut [HashedEntryAddress],
+) -> usize
+    requires some { 0 < length shards.old.items }
+    requires room { HasRoom (length shards.old.items) shards.old.items batch.old }
+    ensures inserted { map_of shards.new.items ≡ inserted_all (map_of shards.old.items) batch.old }
+    ensures answers { take result batch.new ≡ all_left_out (map_of shards.old.items) batch.old }
+    ensures len { length shards.new.items ≡ length shards.old.items }
+{
+    let mut answers = 0;
+    for i in 0..batch.len() {
+        let HashedEntryAddress { hash, address } = batch[i];
+        let entered: Result<_> = enter(shards, hash, Index::Address(address));
+        if let Some(address) = entered.unwrap() {
+            batch[answers] = HashedEntryAddress { hash, address };
+            answers += 1;
+        }
+    }
+    answers
+}
