@@ -124,6 +124,7 @@ impl<A: Allocator> Buffer<A> {
             (K.encodes key.now × V.encodes value.now)
             (length (V.spelling value.now) + length (K.spelling key.now)) → ⊥)) }
         ensures kept { IfOk result (λ r. IfNone r (self.new ≡ self.old)) }
+        ensures within { IfOk result (λ r. IfSome r (λ len. len ≤ room)) }
         ensures memory { IfErr result (λ e. e ≡ error.Memory) }
         ensures refused { OnErr result (self.new ≡ self.old) }
     {

@@ -1,0 +1,69 @@
+//! The one call that changes the core.
+ghost use Rattle.foyer_core.specs.Answered.{HandsBack, AnswersPair};
+
+use crate::reply::Reply;
+use crate::state::Core;
+use crate::step::Step;
+use foyer_device::error::ErrorKind;
+use foyer_format::serde::{Code, Properties};
+use std::alloc::Allocator;
+
+/// What the core's callers lend it at each step: pickers, conditions and a generator will be here.
+#[derive(Debug, Drop)]
+pub struct Env {}
+
+impl<K, V, P, A> Core<K, V, P, A>
+where
+    K: Code<A> + Drop,
+    V: Code<A> + Drop,
+    P: Properties,
+    A: Allocator + Clone,
+{
+    /// Applies one step, at any time. A step that is out of turn or refused changes nothing and is handed back, and
+    /// isn't counted; after 2^64 - 1 steps each one is refused as `SequenceEnd`. Reclaims, destroys and a tombstone
+    /// log aren't built yet: their steps are out of turn.
+    pub fn apply(&mut self, _env: &mut Env, step: Step<K, V, P, A>) -> Reply<K, V, P, A>
+        ensures back { HandsBack step result self.old self.new }
+        ensures pair { AnswersPair K.is_spelling V.is_spelling K.spelling V.spelling step result }
+    {
+        if self.steps == u64::MAX {
+            return Reply::Refused(ErrorKind::SequenceEnd, step);
+        }
+        let steps = self.steps + 1;
+        let reply = self.dispatch(step);
+        match &reply {
+            Reply::NotNow(_) => {}
+            Reply::Refused(_, _) => {}
+            _ => self.steps = steps,
+        }
+        reply
+    }
+
+    #[tactic(auto, using(crate::proofs::Answers::no_entry_answers_pair))]
+    fn dispatch(&mut self, step: Step<K, V, P, A>) -> Reply<K, V, P, A>
+        ensures back { HandsBack step result self.old self.new }
+        ensures pair { AnswersPair K.is_spelling V.is_spelling K.spelling V.spelling step result }
+    {
+        match step {
+            Step::Enqueue { piece, size } => self.enqueue(piece, size),
+            Step::Delete { hash } => self.delete(hash),
+            Step::Wait { flusher, id } => self.wait(flusher, id),
+            Step::MayContains { hash } => self.may_contains(hash),
+            Step::LoadBegin { hash, throttled } => self.load_begin(hash, throttled),
+            Step::LoadEnd {
+                ticket,
+                result: outcome,
+            } => self.load_end(ticket, outcome),
+            Step::Receive { flusher } => self.receive(flusher),
+            Step::FlushBegin { flusher } => self.flush_begin(flusher),
+            Step::FlushBlock { flusher } => self.flush_block(flusher),
+            Step::FlushWrote {
+                flusher,
+                result: outcome,
+            } => self.flush_wrote(flusher, outcome),
+            Step::FlushEnd { flusher } => self.flush_end(flusher),
+            Step::Close => self.close(),
+            later => Reply::NotNow(later),
+        }
+    }
+}

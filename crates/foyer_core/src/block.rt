@@ -1,0 +1,5 @@
+//! Flushers; the reclaimer comes here.
+
+pub mod batch;
+pub mod flusher;
+pub mod receive;

@@ -1,0 +1,29 @@
+//! What the core's accesses go to.
+ghost use Rattle.std.specs.Prelude.{◌≡◌, ℕ, length, IsOk, OnOk, OnErr};
+ghost use Rattle.foyer_core.specs.Disk.{IsRead, IsWritten, IsTorn};
+
+use foyer_block::manager::BlockId;
+use foyer_device::error::Result;
+
+/// Blocks of bytes. Its bytes stay but for what `write` changes.
+pub trait Disk {
+    // The byte at an offset of a block.
+    ghost byte_at: { Self → ℕ → ℕ → ℕ };
+
+    // So many bytes from an offset of a block on can be read and written without a fault.
+    ghost surely_has: { Self → ℕ → ℕ → ℕ → Type 0 };
+
+    /// Fills `into` with the bytes from `offset` of a block on. After an error `into` may hold anything.
+    fn read(&mut self, block: BlockId, offset: usize, into: &mut [u8]) -> Result<()>
+        ensures read { OnOk result (IsRead (byte_at self.old) block offset into.new) }
+        ensures same { byte_at self.new ≡ byte_at self.old }
+        ensures has { (b o n : ℕ) → surely_has self.old b o n → surely_has self.new b o n }
+        ensures succeeds { surely_has self.old block offset (length into.old) → IsOk result };
+
+    /// Writes the bytes over those from `offset` of a block on. After an error any bytes may stand in their range.
+    fn write(&mut self, block: BlockId, offset: usize, bytes: &[u8]) -> Result<()>
+        ensures wrote { OnOk result (IsWritten (byte_at self.old) block offset bytes.now (byte_at self.new)) }
+        ensures torn { OnErr result (IsTorn (byte_at self.old) block offset (length bytes.now) (byte_at self.new)) }
+        ensures has { (b o n : ℕ) → surely_has self.old b o n → surely_has self.new b o n }
+        ensures succeeds { surely_has self.old block offset (length bytes.now) → IsOk result };
+}

@@ -1,0 +1,133 @@
+//! The steps of a flush.
+ghost use Rattle.foyer_core.specs.Answered.{HandsBack, IsNoEntry};
+ghost use Rattle.foyer_core.specs.declared.step.Step.TheVariants as step;
+
+use crate::block::batch::{Ended, Next, Wrote};
+use crate::block::receive::Taken;
+use crate::reply::Reply;
+use crate::state::Core;
+use crate::step::Step;
+use foyer_device::error::{ErrorKind, Result};
+use foyer_format::serde::Code;
+use std::alloc::Allocator;
+
+impl<K, V, P, A: Allocator + Clone> Core<K, V, P, A> {
+    pub(crate) fn receive(&mut self, flusher: u32) -> Reply<K, V, P, A>
+    where
+        K: Code<A>,
+        V: Code<A>,
+        ensures back { HandsBack (step.Receive flusher) result self.old self.new }
+        ensures no_entry { IsNoEntry result }
+    {
+        if flusher as usize >= self.flushers.len() {
+            return Reply::NotNow(Step::Receive { flusher });
+        }
+        let found = &mut self.flushers[flusher as usize];
+        match found.receive(self.settings.block_size) {
+            Err(_) => Reply::Refused(ErrorKind::Memory, Step::Receive { flusher }),
+            Ok(Taken::Nothing) => Reply::Empty,
+            Ok(Taken::Other) => Reply::Received(None),
+            Ok(Taken::Piece(size, back)) => {
+                self.queued = self.queued.saturating_sub(size as u128);
+                Reply::Received(back)
+            }
+        }
+    }
+
+    pub(crate) fn flush_begin(&mut self, flusher: u32) -> Reply<K, V, P, A>
+        ensures back { HandsBack (step.FlushBegin flusher) result self.old self.new }
+        ensures no_entry { IsNoEntry result }
+    {
+        if flusher as usize >= self.flushers.len() {
+            return Reply::NotNow(Step::FlushBegin { flusher });
+        }
+        let found = &mut self.flushers[flusher as usize];
+        if !found.may_begin() {
+            return Reply::NotNow(Step::FlushBegin { flusher });
+        }
+        match found.begin(&self.alloc) {
+            Ok(marks) => Reply::Began { blocks: 1, marks },
+            Err(_) => Reply::Refused(ErrorKind::Memory, Step::FlushBegin { flusher }),
+        }
+    }
+
+    pub(crate) fn flush_block(&mut self, flusher: u32) -> Reply<K, V, P, A>
+        ensures back { HandsBack (step.FlushBlock flusher) result self.old self.new }
+        ensures no_entry { IsNoEntry result }
+    {
+        if flusher as usize >= self.flushers.len() {
+            return Reply::NotNow(Step::FlushBlock { flusher });
+        }
+        let found = &mut self.flushers[flusher as usize];
+        if !found.has_block() {
+            return Reply::NotNow(Step::FlushBlock { flusher });
+        }
+        match found.next(
+            flusher,
+            &mut self.clean,
+            &mut self.blocks,
+            &mut self.waiting,
+        ) {
+            Err(_) => Reply::Refused(ErrorKind::Memory, Step::FlushBlock { flusher }),
+            Ok(Next::NoBlock) => Reply::NoBlock,
+            Ok(Next::Block(block, writes)) => Reply::Write { block, writes },
+        }
+    }
+
+    pub(crate) fn flush_wrote(&mut self, flusher: u32, outcome: Result<()>) -> Reply<K, V, P, A>
+        ensures back { HandsBack (step.FlushWrote flusher outcome) result self.old self.new }
+        ensures no_entry { IsNoEntry result }
+    {
+        if flusher as usize >= self.flushers.len() {
+            return Reply::NotNow(Step::FlushWrote {
+                flusher,
+                result: outcome,
+            });
+        }
+        let found = &mut self.flushers[flusher as usize];
+        if !found.is_writing() {
+            return Reply::NotNow(Step::FlushWrote {
+                flusher,
+                result: outcome,
+            });
+        }
+        let first_offset = self.settings.blob_index_size;
+        match found.wrote(
+            outcome.is_ok(),
+            &mut self.index,
+            &mut self.blocks,
+            first_offset,
+        ) {
+            Wrote::Next => Reply::Next,
+            Wrote::Committed(count) => Reply::Committed(count),
+            Wrote::Failed => Reply::Failed,
+        }
+    }
+
+    // Takes no memory: the lists that are handed out were made by the steps before.
+    pub(crate) fn flush_end(&mut self, flusher: u32) -> Reply<K, V, P, A>
+        ensures back { HandsBack (step.FlushEnd flusher) result self.old self.new }
+        ensures no_entry { IsNoEntry result }
+    {
+        if flusher as usize >= self.flushers.len() {
+            return Reply::NotNow(Step::FlushEnd { flusher });
+        }
+        let found = &mut self.flushers[flusher as usize];
+        if !found.is_written() {
+            return Reply::NotNow(Step::FlushEnd { flusher });
+        }
+        let Ended {
+            marks,
+            invalid,
+            pieces,
+            waits,
+        } = found.end();
+        self.index.remove_marks(marks.as_slice());
+        for stats in &invalid {
+            if let Some(state) = self.blocks.get_mut(stats.block as usize) {
+                state.invalid = state.invalid.saturating_add(stats.size);
+            }
+        }
+        Reply::Ended { pieces, waits }
+    }
+}

@@ -1,0 +1,112 @@
+//! Loads: a look-up that tells a read, and the judgement on what was read.
+ghost use Rattle.std.specs.Prelude.{◌≡◌};
+ghost use Rattle.foyer_core.specs.Answered.{HandsBack, IsNoEntry, AnswersPair};
+ghost use Rattle.foyer_core.specs.declared.reply.Reply.TheVariants as reply;
+ghost use Rattle.foyer_core.specs.declared.step.Step.TheVariants as step;
+
+use crate::reply::Reply;
+use crate::state::Core;
+use crate::step::{Step, Ticket};
+use foyer_block::manager::BlockId;
+use foyer_device::error::{Error, ErrorKind, Result};
+use foyer_format::block::buffer::PAGE;
+use foyer_format::block::serde::read_record;
+use foyer_format::serde::{Age, Code};
+use std::alloc::Allocator;
+
+// The step that brings what was read for a ticket.
+fn load_end<K, V, P, A: Allocator>(ticket: Ticket, outcome: Result<Vec<u8, A>>) -> Step<K, V, P, A>
+    ensures { result ≡ step.LoadEnd ticket outcome }
+{
+    Step::LoadEnd {
+        ticket,
+        result: outcome,
+    }
+}
+
+impl<K, V, P, A: Allocator + Clone> Core<K, V, P, A> {
+    // How often a block was handed out or destroyed.
+    fn filling_of(&self, block: BlockId) -> u64 {
+        match self.blocks.get(block as usize) {
+            Some(state) => state.filling,
+            None => 0,
+        }
+    }
+
+    // An address of an older filling leaves the index.
+    pub(crate) fn load_begin(&mut self, hash: u64, throttled: bool) -> Reply<K, V, P, A>
+        ensures back { HandsBack (step.LoadBegin hash throttled) result self.old self.new }
+        ensures no_entry { IsNoEntry result }
+    {
+        let Some(address) = self.index.get(hash) else {
+            return Reply::Miss;
+        };
+        if throttled {
+            return Reply::Throttled;
+        }
+        if self.filling_of(address.block) != address.filling {
+            self.index.remove(hash, &address);
+            return Reply::Miss;
+        }
+        if let Some(state) = self.blocks.get_mut(address.block as usize) {
+            state.access = state.access.saturating_add(1);
+        }
+        Reply::Read(Ticket { hash, address })
+    }
+
+    // The very address leaves the index.
+    fn miss(&mut self, ticket: &Ticket) -> Reply<K, V, P, A>
+        ensures { result ≡ reply.Miss }
+    {
+        self.index.remove(ticket.hash, &ticket.address);
+        Reply::Miss
+    }
+
+    // The block may have been refilled meanwhile: its filling is compared before the bytes are judged.
+    pub(crate) fn load_end(
+        &mut self,
+        ticket: Ticket,
+        outcome: Result<Vec<u8, A>>,
+    ) -> Reply<K, V, P, A>
+    where
+        K: Code<A> + Drop,
+        V: Code<A> + Drop,
+        ensures back { HandsBack (step.LoadEnd ticket outcome) result self.old self.new }
+        ensures pair { AnswersPair K.is_spelling V.is_spelling K.spelling V.spelling
+            (step.LoadEnd ticket outcome) result }
+    {
+        let address = ticket.address;
+        let Some(state) = self.blocks.get(address.block as usize) else {
+            return Reply::NotNow(load_end(ticket, outcome));
+        };
+        let bytes = match outcome {
+            Ok(bytes) => bytes,
+            Err(error) => return Reply::Refused(ErrorKind::Io, load_end(ticket, Err(error))),
+        };
+        if bytes.len() != (address.len as usize).div_ceil(PAGE) * PAGE {
+            return Reply::NotNow(load_end(ticket, Ok(bytes)));
+        }
+        if state.filling != address.filling {
+            return self.miss(&ticket);
+        }
+        let age = if state.probation {
+            Age::Old
+        } else {
+            Age::Young
+        };
+        let judged = match self.alloc.clone() {
+            Ok(alloc) => read_record(
+                alloc,
+                &bytes[..address.len as usize],
+                ticket.hash,
+                address.sequence,
+            ),
+            Err(_) => Err(Error::Memory),
+        };
+        match judged {
+            Ok(Some((key, value))) => Reply::Entry { key, value, age },
+            Ok(None) => self.miss(&ticket),
+            Err(error) => Reply::Refused(error.kind(), load_end(ticket, Ok(bytes))),
+        }
+    }
+}

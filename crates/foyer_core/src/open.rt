@@ -1,0 +1,87 @@
+//! Opening.
+ghost use Rattle.std.specs.Prelude.{◌≡◌, ◌⊎◌, IfOk, IfErr, IsOkUnless};
+ghost use Rattle.foyer_device.specs.declared.error.Error.TheVariants.{Memory, Config};
+ghost use Rattle.foyer_core.specs.Opened.{IsOpened, idle};
+ghost use Rattle.foyer_core.specs.Sizes.{IsSound};
+ghost use Rattle.foyer_core.specs.Unchanged.{seen};
+
+use crate::block::flusher::Flusher;
+use crate::settings::Settings;
+use crate::state::{BlockState, Core, Place};
+use foyer_block::indexer::Indexer;
+use foyer_device::error::Result;
+use foyer_format::block::buffer::Buffer;
+use std::alloc::Allocator;
+use std::collections::VecDeque;
+
+impl<K, V, P, A: Allocator> Flusher<K, V, P, A> {
+    // A flusher that has nothing, and takes no memory.
+    fn new(alloc: &A, first_offset: usize) -> Result<Flusher<K, V, P, A>>
+    where
+        A: Clone,
+        ensures idle { IfOk result (λ φ. seen φ ≡ idle first_offset) }
+        ensures refused { IsOkUnless result Memory }
+    {
+        let records = Vec::new(alloc.clone()?);
+        let marks = Vec::new(alloc.clone()?);
+        let invalid = Vec::new(alloc.clone()?);
+        let waits = Vec::new(alloc.clone()?);
+        let buffer = Buffer::new(alloc.clone()?);
+        let queue_alloc = alloc.clone()?;
+        let pieces_alloc = alloc.clone()?;
+        Ok(Flusher {
+            queue: VecDeque::new(queue_alloc),
+            buffer,
+            records,
+            marks,
+            invalid,
+            pieces: Vec::new(pieces_alloc),
+            waits,
+            next_offset: first_offset,
+            own: None,
+            batch: None,
+        })
+    }
+}
+
+impl<K: Drop, V: Drop, P: Drop, A: Allocator + Clone> Core<K, V, P, A> {
+    /// Opens a core that finds nothing: no block is read, every block is clean, in the order of their ids, and the
+    /// first sequence is 1. `Config` where the settings don't go together, else `Memory` alone.
+    pub fn open(alloc: A, settings: Settings) -> Result<Core<K, V, P, A>>
+        ensures opened { IfOk result (IsOpened settings) }
+        ensures sound { IfOk result (λ _. IsSound settings) }
+        ensures config { IfErr result (λ e. (e ≡ Memory) ⊎ ((e ≡ Config) × (IsSound settings → ⊥))) }
+    {
+        settings.check()?;
+        let index = Indexer::new(alloc.clone()?, settings.indexer_shards)?;
+        let mut flushers = Vec::with_capacity(alloc.clone()?, settings.flushers as usize)?;
+        'each_flusher: for _ in 0..settings.flushers {
+            flushers.push(Flusher::new(&alloc, settings.blob_index_size)?)?;
+        }
+        let mut blocks = Vec::with_capacity(alloc.clone()?, settings.blocks as usize)?;
+        let mut clean = VecDeque::with_capacity(alloc.clone()?, settings.blocks as usize)?;
+        'each_block: for block in 0..settings.blocks {
+            blocks.push(BlockState {
+                place: Place::Clean,
+                filling: 0,
+                invalid: 0,
+                access: 0,
+                probation: false,
+            })?;
+            clean.push_back(block)?;
+        }
+        Ok(Core {
+            waiting: Vec::new(alloc.clone()?),
+            alloc,
+            settings,
+            index,
+            next: 1,
+            steps: 0,
+            closed: false,
+            queued: 0,
+            flushers,
+            blocks,
+            clean,
+        })
+    }
+}

@@ -1,0 +1,145 @@
+//! What callers queue.
+ghost use Rattle.std.specs.Prelude.{◌≡◌, ◌<◌, ◌%◌, IsTrue, ◌↔◌, Some, true, is_some, vec_len};
+ghost use Rattle.foyer_block.specs.Index.{address_at};
+ghost use Rattle.foyer_core.specs.declared.reply.Reply.TheVariants as reply;
+ghost use Rattle.foyer_core.specs.Answered.{HandsBack, IsNoEntry};
+ghost use Rattle.foyer_core.specs.Unchanged.{IsUnchanged};
+ghost use Rattle.foyer_core.specs.declared.step.Step.TheVariants as step;
+ghost use Rattle.foyer_format.specs.declared.serde.ages.Age.TheVariants as age;
+
+use crate::block::flusher::{InvalidStats, Submission, TombstoneInfo};
+use crate::reply::Reply;
+use crate::state::Core;
+use crate::step::Step;
+use foyer_block::indexer::EntryAddress;
+use foyer_block::tombstone::Tombstone;
+use foyer_device::error::ErrorKind;
+use foyer_format::block::buffer::PAGE;
+use foyer_format::serde::{Age, Properties};
+use foyer_policy::keeper::Piece;
+use std::alloc::Allocator;
+
+// The bytes of a block that a mark makes invalid where it pushes this address out.
+fn invalid_stats(address: &EntryAddress) -> InvalidStats {
+    InvalidStats {
+        block: address.block,
+        size: (address.len as usize).div_ceil(PAGE) * PAGE,
+    }
+}
+
+fn is_young<P: Properties>(properties: &P) -> bool
+    ensures { IsTrue result ↔ (P.age properties.now ≡ Some age.Young) }
+{
+    match properties.age() {
+        Some(Age::Young) => true,
+        _ => false,
+    }
+}
+
+impl<K, V, P, A: Allocator + Clone> Core<K, V, P, A> {
+    // The flusher that all submissions of a hash pass.
+    fn flusher_of(&self, hash: u64) -> usize
+        ensures number { result ≡ hash % vec_len self.now.flushers }
+        ensures within { result < vec_len self.now.flushers }
+    {
+        (hash % self.flushers.len() as u64) as usize
+    }
+
+    pub(crate) fn enqueue(&mut self, piece: Piece<K, V, P, A>, size: usize) -> Reply<K, V, P, A>
+    where
+        P: Properties,
+        ensures back { HandsBack (step.Enqueue piece size) result self.old self.new }
+        ensures no_entry { IsNoEntry result }
+    {
+        if self.closed {
+            return Reply::Refused(ErrorKind::Closed, Step::Enqueue { piece, size });
+        }
+        if is_young(piece.properties())
+            || self.queued.min(u64::MAX as u128)
+                > self.settings.submit_queue_size_threshold as u128
+        {
+            return Reply::Ignored(piece);
+        }
+        if self.next == u64::MAX {
+            return Reply::Refused(ErrorKind::SequenceEnd, Step::Enqueue { piece, size });
+        }
+        let flusher = self.flusher_of(piece.hash());
+        let queue = &mut self.flushers[flusher].queue;
+        if queue.reserve(1).is_err() {
+            return Reply::Refused(ErrorKind::Memory, Step::Enqueue { piece, size });
+        }
+        let sequence = self.next;
+        queue.push_back_reserved(Submission::CacheEntry {
+            piece,
+            estimated_size: size,
+            sequence,
+        });
+        self.queued = self.queued.saturating_add(size as u128);
+        self.next = sequence + 1;
+        Reply::Queued(sequence)
+    }
+
+    // The mark enters the index at once.
+    pub(crate) fn delete(&mut self, hash: u64) -> Reply<K, V, P, A>
+        ensures back { HandsBack (step.Delete hash) result self.old self.new }
+        ensures no_entry { IsNoEntry result }
+    {
+        if self.closed {
+            return Reply::Refused(ErrorKind::Closed, Step::Delete { hash });
+        }
+        if self.next == u64::MAX {
+            return Reply::Refused(ErrorKind::SequenceEnd, Step::Delete { hash });
+        }
+        let flusher = self.flusher_of(hash);
+        let queue = &mut self.flushers[flusher].queue;
+        if queue.reserve(1).is_err() {
+            return Reply::Refused(ErrorKind::Memory, Step::Delete { hash });
+        }
+        let sequence = self.next;
+        match self.index.insert_tombstone(hash, sequence) {
+            Err(_) => Reply::Refused(ErrorKind::Memory, Step::Delete { hash }),
+            Ok(pushed_out) => {
+                let stats = match pushed_out {
+                    Some(address) => Some(invalid_stats(&address)),
+                    None => None,
+                };
+                queue.push_back_reserved(Submission::Tombstone(TombstoneInfo {
+                    tombstone: Tombstone { hash, sequence },
+                    stats,
+                }));
+                self.next = sequence + 1;
+                Reply::Deleted(sequence)
+            }
+        }
+    }
+
+    pub(crate) fn wait(&mut self, flusher: u32, id: u64) -> Reply<K, V, P, A>
+        ensures back { HandsBack (step.Wait flusher id) result self.old self.new }
+        ensures no_entry { IsNoEntry result }
+    {
+        if flusher as usize >= self.flushers.len() {
+            return Reply::NotNow(Step::Wait { flusher, id });
+        }
+        let found = &mut self.flushers[flusher as usize];
+        if found.queue.reserve(1).is_err() {
+            return Reply::Refused(ErrorKind::Memory, Step::Wait { flusher, id });
+        }
+        found.queue.push_back_reserved(Submission::Wait { id });
+        Reply::Done
+    }
+
+    pub(crate) fn may_contains(&self, hash: u64) -> Reply<K, V, P, A>
+        ensures { result ≡ reply.Answer (is_some (address_at self.now.index hash)) }
+    {
+        Reply::Answer(self.index.get(hash).is_some())
+    }
+
+    pub(crate) fn close(&mut self) -> Reply<K, V, P, A>
+        ensures reply { result ≡ reply.Done }
+        ensures closed { self.new.closed ≡ true }
+        ensures rest { IsUnchanged self.old (record self.new { closed = self.old.closed }) }
+    {
+        self.closed = true;
+        Reply::Done
+    }
+}

@@ -1,0 +1,91 @@
+//! What the core answers.
+use crate::step::{Step, Ticket};
+use foyer_block::manager::BlockId;
+use foyer_block::tombstone::Tombstone;
+use foyer_device::error::ErrorKind;
+use foyer_format::block::serde::Sequence;
+use foyer_format::serde::Age;
+use foyer_policy::keeper::Piece;
+use std::alloc::Allocator;
+
+/// A write that a reply tells: these bytes, whole pages, at this offset of the block.
+#[derive(Drop)]
+pub struct Write<A: Allocator> {
+    /// In bytes from the block's start.
+    pub offset: usize,
+    pub bytes: Vec<u8, A>,
+}
+
+/// The answer to a step.
+#[derive(Drop)]
+pub enum Reply<K, V, P, A: Allocator> {
+    /// The step is out of turn: nothing changed.
+    NotNow(Step<K, V, P, A>),
+    /// The step is refused: nothing changed.
+    Refused(ErrorKind, Step<K, V, P, A>),
+    /// The piece isn't taken: it is young, or too much is queued.
+    Ignored(Piece<K, V, P, A>),
+    /// The piece is queued under this sequence.
+    Queued(Sequence),
+    /// The delete is accepted under this sequence.
+    Deleted(Sequence),
+    /// A wait is queued, the log's outcome is noted, a clean is noted, or the core is closed.
+    Done,
+    /// Whether the hash is indexed, or whether no reclaim runs.
+    Answer(bool),
+    /// There is no such entry.
+    Miss,
+    /// The device is throttled.
+    Throttled,
+    /// Read this, and bring it by `LoadEnd`.
+    Read(Ticket),
+    /// The entry. Its age is old where its block is on probation.
+    Entry {
+        key: K,
+        value: V,
+        age: Age,
+    },
+    /// Nothing is queued.
+    Empty,
+    /// The front of the queue was taken. A piece that doesn't fit is handed back.
+    Received(Option<Piece<K, V, P, A>>),
+    /// A batch of so many blocks began; these are its marks, in order.
+    Began {
+        blocks: usize,
+        marks: Vec<Tombstone, A>,
+    },
+    /// Write these to this block, one after the other, and bring each result by `FlushWrote`.
+    Write {
+        block: BlockId,
+        writes: Vec<Write<A>, A>,
+    },
+    /// No block is clean. The flusher waits for one.
+    NoBlock,
+    /// The write is noted, and the block has another.
+    Next,
+    /// The block's records are indexed, so many.
+    Committed(usize),
+    /// The write failed. Nothing of this or a later block of the batch is indexed.
+    Failed,
+    /// The batch ended: its pieces in order, and the waits that it answers.
+    Ended {
+        pieces: Vec<Piece<K, V, P, A>, A>,
+        waits: Vec<u64, A>,
+    },
+    /// Read this part of a block that is reclaimed, and bring it by `ReclaimRead`.
+    Scan {
+        block: BlockId,
+        offset: usize,
+        len: usize,
+    },
+    /// A reclaimed block's entries are listed.
+    Listed,
+    /// Clean this block, and bring the result.
+    Clean(BlockId),
+    /// A destroy began under this sequence.
+    Destroying(Sequence),
+    /// The index is clear. Clean every block, and bring each result.
+    Cleared,
+    /// The last block's clean came; whether every clean went well.
+    Destroyed(bool),
+}

@@ -1,0 +1,58 @@
+//! The state of the core.
+ghost use Rattle.std.specs.Prelude.{◌<◌, vec_len};
+
+use crate::block::flusher::Flusher;
+use crate::settings::Settings;
+use foyer_block::indexer::Indexer;
+use foyer_block::manager::BlockId;
+use std::alloc::Allocator;
+use std::collections::VecDeque;
+
+/// Which of the four sets a block is in.
+#[derive(Clone, Copy, Debug, PartialEq, Eq)]
+pub enum Place {
+    /// It may be handed out.
+    Clean,
+    /// This flusher has it.
+    Writing(u32),
+    /// It may be reclaimed.
+    Evictable,
+    /// A reclaim has it.
+    Reclaiming,
+}
+
+/// What the core knows of a block.
+#[derive(Clone, Copy, Debug, PartialEq, Eq)]
+pub struct BlockState {
+    pub place: Place,
+    /// How often it was handed out or destroyed.
+    pub filling: u64,
+    /// The bytes of its records that deletes made invalid.
+    pub invalid: usize,
+    /// How many loads read it.
+    pub access: usize,
+    /// Whether its entries are old.
+    pub probation: bool,
+}
+
+/// The engine's state. `Core::apply` changes it.
+#[derive(Drop)]
+pub struct Core<K, V, P, A: Allocator> {
+    pub(crate) alloc: A,
+    pub(crate) settings: Settings,
+    pub(crate) index: Indexer<A>,
+    /// The sequence that is drawn next.
+    pub(crate) next: u64,
+    /// How many steps were applied, those handed back aside.
+    pub(crate) steps: u64,
+    pub(crate) closed: bool,
+    /// The sizes of all queued pieces together, in bytes.
+    pub(crate) queued: u128,
+    pub(crate) flushers: Vec<Flusher<K, V, P, A>, A>,
+    pub(crate) blocks: Vec<BlockState, A>,
+    /// The clean blocks, the one that has been clean longest first.
+    pub(crate) clean: VecDeque<BlockId, A>,
+    /// The flushers that wait for a block, the one that began last at the end.
+    pub(crate) waiting: Vec<u32, A>,
+    ghost some_flusher: { 0 < vec_len flushers },
+}

@@ -1,0 +1,106 @@
+//! What may happen to the core.
+use foyer_block::indexer::EntryAddress;
+use foyer_block::manager::BlockId;
+use foyer_device::error::Result;
+use foyer_policy::keeper::Piece;
+use std::alloc::Allocator;
+
+/// What a load reads: `page_up(address.len)` bytes at its address. The entry is judged by the first `address.len`.
+#[derive(Clone, Copy, Debug, PartialEq, Eq)]
+pub struct Ticket {
+    /// The hash that was looked up.
+    pub hash: u64,
+    /// Where the index had it.
+    pub address: EntryAddress,
+}
+
+/// One event of the engine.
+///
+/// A step that brings the result of an access says `Err` for a fault of the device, whatever the error is. Flushers
+/// are counted from 0. `Core::apply` hands back a step that is out of turn or refused.
+#[derive(Drop)]
+pub enum Step<K, V, P, A: Allocator> {
+    /// Queues a piece; `size` is its estimated size in bytes.
+    Enqueue {
+        piece: Piece<K, V, P, A>,
+        size: usize,
+    },
+    /// Accepts a delete.
+    Delete {
+        hash: u64,
+    },
+    /// Queues a wait, which is answered when all that was queued before it at this flusher was flushed.
+    Wait {
+        flusher: u32,
+        id: u64,
+    },
+    /// Asks whether a hash is indexed.
+    MayContains {
+        hash: u64,
+    },
+    /// Looks a hash up. The caller tells whether the device is throttled.
+    LoadBegin {
+        hash: u64,
+        throttled: bool,
+    },
+    /// Brings the bytes that a ticket asked for.
+    LoadEnd {
+        ticket: Ticket,
+        result: Result<Vec<u8, A>>,
+    },
+    /// Takes the front of a flusher's queue.
+    Receive {
+        flusher: u32,
+    },
+    /// Makes a batch of what was received.
+    FlushBegin {
+        flusher: u32,
+    },
+    /// Asks for the next block of the batch and its writes.
+    FlushBlock {
+        flusher: u32,
+    },
+    /// Brings the result of the next write that `FlushBlock` told.
+    FlushWrote {
+        flusher: u32,
+        result: Result<()>,
+    },
+    /// Brings the outcome of writing the batch's marks to the tombstone log.
+    LogWrote {
+        flusher: u32,
+        result: Result<()>,
+    },
+    /// Ends the batch.
+    FlushEnd {
+        flusher: u32,
+    },
+    /// Begins to reclaim a block.
+    ReclaimBegin,
+    /// Brings what a reclaim read.
+    ReclaimRead {
+        block: BlockId,
+        result: Result<Vec<u8, A>>,
+    },
+    /// Forgets what a reclaimed block holds.
+    ReclaimForget {
+        block: BlockId,
+    },
+    /// Brings the result of a reclaimed block's clean.
+    ReclaimCleaned {
+        block: BlockId,
+        result: Result<()>,
+    },
+    /// Asks whether no reclaim runs.
+    ReclaimIdle,
+    /// Begins to destroy all entries.
+    DestroyBegin,
+    /// Clears the index, once nothing is under way.
+    DestroyClear,
+    /// Brings the result of a block's clean.
+    DestroyCleaned {
+        block: BlockId,
+        result: Result<()>,
+    },
+    /// Ends enqueues, deletes and destroys.
+    Close,
+}

@@ -1,0 +1,49 @@
+//! The lines that the program prints.
+use crate::engine::Answer;
+use foyer_device::error::ErrorKind;
+use std::alloc::Allocator;
+use std::io;
+use std::io::Write;
+
+/// The name of a kind of error, as a fault prints it.
+pub fn name_of(kind: ErrorKind) -> &'static str {
+    match kind {
+        ErrorKind::Io => "Io",
+        ErrorKind::Memory => "Memory",
+        ErrorKind::Config => "Config",
+        ErrorKind::Parse => "Parse",
+        ErrorKind::MagicMismatch => "MagicMismatch",
+        ErrorKind::ChecksumMismatch => "ChecksumMismatch",
+        ErrorKind::OutOfRange => "OutOfRange",
+        ErrorKind::BufferSizeLimit => "BufferSizeLimit",
+        ErrorKind::NoSpace => "NoSpace",
+        ErrorKind::Recover => "Recover",
+        ErrorKind::Closed => "Closed",
+        ErrorKind::Unsupported => "Unsupported",
+        ErrorKind::SequenceEnd => "SequenceEnd",
+    }
+}
+
+/// Prints `fault` and the kind's name.
+pub fn print_fault<W: Write>(output: &mut W, kind: ErrorKind) -> io::Result<()> {
+    output.write_all(b"fault ")?;
+    output.write_all(name_of(kind).as_bytes())?;
+    output.write_all(b"\n")
+}
+
+/// Prints an answer's line.
+pub fn print<W: Write, A: Allocator>(output: &mut W, answer: &Answer<A>) -> io::Result<()> {
+    match answer {
+        Answer::Queued => output.write_all(b"queued\n"),
+        Answer::Ignored => output.write_all(b"ignored\n"),
+        Answer::Throttled => output.write_all(b"throttled\n"),
+        Answer::Miss => output.write_all(b"miss\n"),
+        Answer::Ok => output.write_all(b"ok\n"),
+        Answer::Fault(kind) => print_fault(output, *kind),
+        Answer::Entry(text) => {
+            output.write_all(b"entry ")?;
+            output.write_all(text.as_str().as_bytes())?;
+            output.write_all(b"\n")
+        }
+    }
+}

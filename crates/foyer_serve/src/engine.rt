@@ -1,0 +1,220 @@
+//! The engine that the program keeps: a core over a disk in memory, driven on one thread.
+ghost use Rattle.std.specs.Prelude.{None};
+
+use foyer_core::apply::Env;
+use foyer_core::disk::Disk;
+use foyer_core::memory::MemoryDisk;
+use foyer_core::moves::{read_told, write_told};
+use foyer_core::reply::{Reply, Write};
+use foyer_core::settings::Settings;
+use foyer_core::state::Core;
+use foyer_core::step::Step;
+use foyer_device::error::{ErrorKind, Result};
+use foyer_format::serde::{Age, EntrySerializer, Properties};
+use foyer_policy::keeper::Piece;
+use std::alloc::Allocator;
+
+/// Entries of this program have no age of their own.
+#[derive(Clone, Copy, Debug, PartialEq, Eq)]
+pub struct NoProperties;
+
+impl Properties for NoProperties {
+    ghost age = { λ _. None };
+
+    fn age(&self) -> Option<Age> {
+        None
+    }
+}
+
+type Key = u64;
+
+/// What the program prints for a line, beside faults.
+#[derive(Drop)]
+pub enum Answer<A: Allocator> {
+    Queued,
+    Ignored,
+    Entry(String<A>),
+    Throttled,
+    Miss,
+    Ok,
+    Fault(ErrorKind),
+}
+
+/// A core with its disk.
+#[derive(Drop)]
+pub struct Engine<A: Allocator> {
+    alloc: A,
+    core: Core<Key, String<A>, NoProperties, A>,
+    env: Env,
+    disk: MemoryDisk<A>,
+    flushers: u32,
+    next_wait: u64,
+}
+
+impl<A: Allocator + Clone> Engine<A> {
+    /// Opens an engine that finds nothing, over zeroed memory.
+    pub fn open(alloc: A, settings: Settings) -> Result<Engine<A>> {
+        Ok(Engine {
+            core: Core::open(alloc.clone()?, settings)?,
+            env: Env {},
+            disk: MemoryDisk::new(alloc.clone()?, settings.blocks, settings.block_size)?,
+            flushers: settings.flushers,
+            next_wait: 0,
+            alloc,
+        })
+    }
+
+    fn piece(&self, key: u64, text: &str) -> Result<Piece<Key, String<A>, NoProperties, A>> {
+        let value = String::from_str(self.alloc.clone()?, text)?;
+        Piece::new(self.alloc.clone()?, key, value, key, NoProperties)
+    }
+
+    pub fn put(&mut self, key: u64, text: &str) -> Answer<A> {
+        let piece = match self.piece(key, text) {
+            Ok(piece) => piece,
+            Err(error) => return Answer::Fault(error.kind()),
+        };
+        let size = EntrySerializer::estimated_size::<A, Key, String<A>>(piece.key(), piece.value());
+        match self
+            .core
+            .apply(&mut self.env, Step::Enqueue { piece, size })
+        {
+            Reply::Queued(_) => Answer::Queued,
+            Reply::Refused(kind, _) => Answer::Fault(kind),
+            _ => Answer::Ignored,
+        }
+    }
+
+    pub fn get(&mut self, key: u64) -> Answer<A> {
+        let begin = Step::LoadBegin {
+            hash: key,
+            throttled: false,
+        };
+        let ticket = match self.core.apply(&mut self.env, begin) {
+            Reply::Read(ticket) => ticket,
+            Reply::Throttled => return Answer::Throttled,
+            Reply::Refused(kind, _) => return Answer::Fault(kind),
+            _ => return Answer::Miss,
+        };
+        let Ok(alloc) = self.alloc.clone() else {
+            return Answer::Fault(ErrorKind::Memory);
+        };
+        let Ok(outcome) = read_told(alloc, &mut self.disk, &ticket) else {
+            return Answer::Fault(ErrorKind::Memory);
+        };
+        let end = Step::LoadEnd {
+            ticket,
+            result: outcome,
+        };
+        match self.core.apply(&mut self.env, end) {
+            Reply::Entry {
+                key: _,
+                value,
+                age: _,
+            } => Answer::Entry(value),
+            Reply::Refused(kind, _) => Answer::Fault(kind),
+            _ => Answer::Miss,
+        }
+    }
+
+    pub fn delete(&mut self, key: u64) -> Answer<A> {
+        match self.core.apply(&mut self.env, Step::Delete { hash: key }) {
+            Reply::Refused(kind, _) => Answer::Fault(kind),
+            _ => Answer::Ok,
+        }
+    }
+
+    /// Queues a wait at each flusher, and flushes until no flusher has anything left to do.
+    pub fn wait(&mut self) -> Answer<A> {
+        for flusher in 0..self.flushers {
+            let id = self.next_wait;
+            match self.core.apply(&mut self.env, Step::Wait { flusher, id }) {
+                Reply::Refused(kind, _) => return Answer::Fault(kind),
+                _ => {}
+            }
+            self.next_wait = id.wrapping_add(1);
+        }
+        self.flush_all()
+    }
+
+    /// Takes no more puts, deletes and destroys, and waits.
+    pub fn close(&mut self) -> Answer<A> {
+        match self.core.apply(&mut self.env, Step::Close) {
+            Reply::Refused(kind, _) => Answer::Fault(kind),
+            _ => self.wait(),
+        }
+    }
+
+    fn flush_all(&mut self) -> Answer<A> {
+        for flusher in 0..self.flushers {
+            match self.flush(flusher) {
+                Ok(()) => {}
+                Err(kind) => return Answer::Fault(kind),
+            }
+        }
+        Answer::Ok
+    }
+
+    // Flushes until nothing is queued or received at a flusher.
+    fn flush(&mut self, flusher: u32) -> std::result::Result<(), ErrorKind> {
+        for _ in 0..u64::MAX {
+            self.receive_all(flusher)?;
+            let has_begun = match self.core.apply(&mut self.env, Step::FlushBegin { flusher }) {
+                Reply::Refused(kind, _) => return Err(kind),
+                Reply::NotNow(_) => false,
+                _ => true,
+            };
+            self.write_all(flusher)?;
+            let has_ended = match self.core.apply(&mut self.env, Step::FlushEnd { flusher }) {
+                Reply::Refused(kind, _) => return Err(kind),
+                Reply::NotNow(_) => false,
+                _ => true,
+            };
+            if !has_begun && !has_ended {
+                return Ok(());
+            }
+        }
+        Ok(())
+    }
+
+    // Takes all that is queued. A piece that is handed back doesn't fit, and is dropped.
+    fn receive_all(&mut self, flusher: u32) -> std::result::Result<(), ErrorKind> {
+        for _ in 0..u64::MAX {
+            match self.core.apply(&mut self.env, Step::Receive { flusher }) {
+                Reply::Received(_) => {}
+                Reply::Refused(kind, _) => return Err(kind),
+                _ => return Ok(()),
+            }
+        }
+        Ok(())
+    }
+
+    // Writes the blocks of the batch.
+    fn write_all(&mut self, flusher: u32) -> std::result::Result<(), ErrorKind> {
+        for _ in 0..u64::MAX {
+            match self.core.apply(&mut self.env, Step::FlushBlock { flusher }) {
+                Reply::Write { block, writes } => {
+                    for write in &writes {
+                        let outcome = write_told(&mut self.disk, block, write);
+                        let is_written = outcome.is_ok();
+                        let wrote = Step::FlushWrote {
+                            flusher,
+                            result: outcome,
+                        };
+                        match self.core.apply(&mut self.env, wrote) {
+                            Reply::Refused(kind, _) => return Err(kind),
+                            _ => {}
+                        }
+                        if !is_written {
+                            break;
+                        }
+                    }
+                }
+                Reply::NoBlock => return Err(ErrorKind::NoSpace),
+                Reply::Refused(kind, _) => return Err(kind),
+                _ => return Ok(()),
+            }
+        }
+        Ok(())
+    }
+}

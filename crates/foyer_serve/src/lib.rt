@@ -1,0 +1,12 @@
+//! The whole program, over any reader and writers.
+//!
+//! Lines are read from the input and answered one by one on the output. Only `wait`, `close` and the end of the input
+//! write what was put.
+#![tactic(auto)]
+
+mod answer;
+mod command;
+mod engine;
+mod lines;
+mod options;
+pub mod serve;

@@ -1,0 +1,112 @@
+//! The lines of a reader, in one buffer that is used again.
+ghost use Rattle.std.specs.Prelude.{◌≤◌, ◌<◌, vec_len};
+
+use std::alloc::{AllocError, Allocator};
+use std::io;
+use std::io::Read;
+
+// The bytes that the buffer begins with.
+const FIRST_CAPACITY: usize = 64 * 1024;
+
+/// Where a line stands in the buffer, without its end.
+#[derive(Clone, Copy, Debug, PartialEq, Eq)]
+pub struct Line {
+    start: usize,
+    end: usize,
+}
+
+/// A reader's lines. A line is lent from the buffer, which grows only where one line is longer than it.
+#[derive(Drop)]
+pub struct Lines<R: Read + Drop, A: Allocator> {
+    input: R,
+    buffer: Vec<u8, A>,
+    // The bytes from `start` to `end` have been read and not been taken; up to `searched` there is no line's end.
+    start: usize,
+    searched: usize,
+    end: usize,
+    ghost in_order: { start ≤ searched },
+    ghost searched_in: { searched ≤ end },
+    ghost in_buffer: { end ≤ vec_len buffer },
+    ghost some_room: { 0 < vec_len buffer },
+}
+
+impl<R: Read + Drop, A: Allocator> Lines<R, A> {
+    pub fn new(alloc: A, input: R) -> Result<Lines<R, A>, AllocError> {
+        Ok(Lines {
+            input,
+            buffer: Vec::from_elem(alloc, 0, FIRST_CAPACITY)?,
+            start: 0,
+            searched: 0,
+            end: 0,
+        })
+    }
+
+    /// The next line that was read whole already.
+    pub fn next_whole(&mut self) -> Option<Line> {
+        let rest = &self.buffer.as_slice()[self.searched..self.end];
+        match rest.iter().position(|byte| *byte == b'\n') {
+            Some(place) => {
+                let line = Line {
+                    start: self.start,
+                    end: self.searched + place,
+                };
+                self.start = line.end + 1;
+                self.searched = self.start;
+                Some(line)
+            }
+            None => {
+                self.searched = self.end;
+                None
+            }
+        }
+    }
+
+    /// What stands behind the last line's end, once the input has ended.
+    pub fn last(&mut self) -> Option<Line> {
+        let line = Line {
+            start: self.start,
+            end: self.end,
+        };
+        self.start = self.end;
+        self.searched = self.end;
+        if line.start < line.end {
+            Some(line)
+        } else {
+            None
+        }
+    }
+
+    /// The bytes of a line that was found last.
+    pub fn bytes(&self, line: Line) -> &[u8] {
+        if line.start <= line.end && line.end <= self.buffer.len() {
+            &self.buffer.as_slice()[line.start..line.end]
+        } else {
+            &[]
+        }
+    }
+
+    /// Reads more. False at the end of the input.
+    pub fn fill(&mut self) -> io::Result<bool> {
+        if self.start > 0 {
+            self.move_to_front();
+        }
+        if self.end == self.buffer.len() {
+            let more = self.buffer.len();
+            self.buffer.resize(more.saturating_add(more), 0)?;
+        }
+        let count = self
+            .input
+            .read(&mut self.buffer.as_mut_slice()[self.end..])?;
+        self.end += count;
+        Ok(count > 0)
+    }
+
+    fn move_to_front(&mut self) {
+        let start = self.start;
+        let end = self.end;
+        self.buffer.as_mut_slice().copy_within(start..end, 0);
+        self.start = 0;
+        self.searched -= start;
+        self.end -= start;
+    }
+}

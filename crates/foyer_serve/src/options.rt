@@ -1,0 +1,51 @@
+//! The program's arguments.
+use crate::command::number;
+use foyer_core::settings::{MAX_BLOCK_SIZE, Settings};
+use foyer_device::error::{Error, Result};
+use foyer_format::block::buffer::PAGE;
+use std::alloc::Allocator;
+
+/// Printed where the arguments are bad.
+pub const USAGE: &str = "usage: foyerdisk DIR CAPACITY BLOCK\n";
+
+/// The directory that stands for memory.
+pub const MEMORY: &str = ":memory:";
+
+/// `DIR CAPACITY BLOCK`, the numbers in bytes.
+#[derive(Clone, Copy, Debug, PartialEq, Eq)]
+pub struct Options {
+    pub is_memory: bool,
+    pub capacity: u64,
+    pub block_size: u64,
+}
+
+impl Options {
+    /// Reads the words. None where there are not three, or the second or third is no number.
+    pub fn parse<A: Allocator>(words: &[String<A>]) -> Option<Options> {
+        if words.len() != 3 {
+            return None;
+        }
+        Some(Options {
+            is_memory: words[0].as_str() == MEMORY,
+            capacity: number(words[1].as_str())?,
+            block_size: number(words[2].as_str())?,
+        })
+    }
+
+    /// The sizes that an engine is opened with: the block rounded up to whole pages, and as many blocks as the capacity
+    /// holds. `Config` where they don't go together.
+    pub fn settings(&self) -> Result<Settings> {
+        if self.block_size == 0 || self.block_size > MAX_BLOCK_SIZE as u64 {
+            return Err(Error::Config);
+        }
+        let block_size = (self.block_size as usize).div_ceil(PAGE) * PAGE;
+        let pages = self.capacity as usize / PAGE;
+        let blocks = pages / (block_size / PAGE);
+        if blocks > u32::MAX as usize {
+            return Err(Error::Config);
+        }
+        let settings = Settings::new(blocks as u32, block_size);
+        settings.check()?;
+        Ok(settings)
+    }
+}

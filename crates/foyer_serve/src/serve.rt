@@ -1,0 +1,152 @@
+//! The program.
+use crate::answer::{print, print_fault};
+use crate::command::Command;
+use crate::engine::{Answer, Engine};
+use crate::lines::Lines;
+use crate::options::{Options, USAGE};
+use foyer_device::error::{Error, ErrorKind, Result};
+use std::alloc::Allocator;
+use std::io;
+use std::io::{BufWriter, Read, Write};
+
+// The bytes of the output's buffer.
+const OUTPUT_CAPACITY: usize = 64 * 1024;
+
+// All went well; something was refused, or a line was bad; the arguments were bad.
+const STATUS_OK: u8 = 0;
+
+const STATUS_FAULT: u8 = 1;
+
+const STATUS_USAGE: u8 = 2;
+
+/// Runs the program over the words `DIR CAPACITY BLOCK`, and gives its exit status: 0, or 1 where a fault or a bad line
+/// was printed, an input or output failed, or the end's close was refused, or 2 for bad words.
+///
+/// Each line of the input is answered by one line. Answers are written out before more input is asked for.
+pub fn serve<A, B, R, W, E>(
+    alloc: A,
+    words: &[String<B>],
+    input: R,
+    mut output: W,
+    mut errors: E,
+) -> u8
+where
+    A: Allocator + Clone,
+    B: Allocator,
+    R: Read + Drop,
+    W: Write + Drop,
+    E: Write + Drop,
+{
+    let Some(options) = Options::parse(words) else {
+        let _ = errors.write_all(USAGE.as_bytes());
+        return STATUS_USAGE;
+    };
+    match open(&alloc, &options) {
+        Err(error) => {
+            let _ = print_fault(&mut output, error.kind());
+            STATUS_FAULT
+        }
+        Ok(engine) => {
+            let Ok(lines_alloc) = alloc.clone() else {
+                let _ = print_fault(&mut output, ErrorKind::Memory);
+                return STATUS_FAULT;
+            };
+            let Ok(lines) = Lines::new(lines_alloc, input) else {
+                let _ = print_fault(&mut output, ErrorKind::Memory);
+                return STATUS_FAULT;
+            };
+            answer_lines(alloc, engine, lines, output)
+        }
+    }
+}
+
+// `Config` is found before anything is touched.
+fn open<A: Allocator + Clone>(alloc: &A, options: &Options) -> Result<Engine<A>> {
+    let settings = options.settings()?;
+    if !options.is_memory {
+        return Err(Error::Unsupported);
+    }
+    Engine::open(alloc.clone()?, settings)
+}
+
+// Whether every answer was one that status 0 allows, or why no more can be written.
+fn answer_lines<A, R, W>(alloc: A, mut engine: Engine<A>, mut lines: Lines<R, A>, output: W) -> u8
+where
+    A: Allocator + Clone,
+    R: Read + Drop,
+    W: Write + Drop,
+{
+    let Ok(mut output) = BufWriter::with_capacity(alloc, OUTPUT_CAPACITY, output) else {
+        return STATUS_FAULT;
+    };
+    let mut is_well = true;
+    match answer_all(&mut engine, &mut lines, &mut output, &mut is_well) {
+        Ok(()) => {}
+        Err(_) => is_well = false,
+    }
+    if let Answer::Fault(_) = engine.close() {
+        is_well = false;
+    }
+    if output.flush().is_err() {
+        is_well = false;
+    }
+    if is_well { STATUS_OK } else { STATUS_FAULT }
+}
+
+// Answers every line, until the input ends or fails, or the output fails.
+fn answer_all<A, R, W>(
+    engine: &mut Engine<A>,
+    lines: &mut Lines<R, A>,
+    output: &mut W,
+    is_well: &mut bool,
+) -> io::Result<()>
+where
+    A: Allocator + Clone,
+    R: Read + Drop,
+    W: Write,
+{
+    for _ in 0..u64::MAX {
+        for _ in 0..u64::MAX {
+            let Some(line) = lines.next_whole() else {
+                break;
+            };
+            answer_line(engine, lines.bytes(line), output, is_well)?;
+        }
+        output.flush()?;
+        if !lines.fill()? {
+            if let Some(line) = lines.last() {
+                answer_line(engine, lines.bytes(line), output, is_well)?;
+            }
+            return Ok(());
+        }
+    }
+    Ok(())
+}
+
+fn answer_line<A, W>(
+    engine: &mut Engine<A>,
+    line: &[u8],
+    output: &mut W,
+    is_well: &mut bool,
+) -> io::Result<()>
+where
+    A: Allocator + Clone,
+    W: Write,
+{
+    let answer = match Command::parse(line) {
+        Some(Command::Put { key, text }) => engine.put(key, text),
+        Some(Command::Get { key }) => engine.get(key),
+        Some(Command::Delete { key }) => engine.delete(key),
+        Some(Command::Wait) => engine.wait(),
+        Some(Command::Destroy) => Answer::Fault(ErrorKind::Unsupported),
+        Some(Command::Close) => engine.close(),
+        None => {
+            *is_well = false;
+            return output.write_all(b"bad line\n");
+        }
+    };
+    if let Answer::Fault(_) = &answer {
+        *is_well = false;
+    }
+    print(output, &answer)
+}

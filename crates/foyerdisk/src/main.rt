@@ -1,0 +1,26 @@
+//! `foyerdisk DIR CAPACITY BLOCK`: a disk cache that is asked by lines.
+#![tactic(auto)]
+
+use foyer_serve::serve::serve;
+use std::env;
+use std::process::ExitCode;
+
+fn main(rt: HostRuntime) -> ExitCode {
+    let mut words = Vec::new(rt.alloc());
+    if let Ok(mut all) = env::args(&rt) {
+        let _ = all.next();
+        for word in all {
+            if words.push(word).is_err() {
+                return ExitCode::from(1);
+            }
+        }
+    }
+    let status = serve(
+        rt.alloc(),
+        words.as_slice(),
+        rt.stdin(),
+        rt.stdout(),
+        rt.stderr(),
+    );
+    ExitCode::from(status)
+}
