@@ -1,4 +1,4 @@
-pub mod Answers
 pub mod BlockPlaces
 pub mod FlusherLists
 pub mod Opening
+pub mod Telling

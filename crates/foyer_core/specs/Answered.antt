@@ -1,5 +1,8 @@
 -- What a reply says of its step.
-use Rattle.std.specs.Prelude.{◌≡◌, ℕ, Bool, List, take, Ok}
+use Rattle.std.specs.Prelude.{◌≡◌, ℕ, ◌+◌, Bool, false, List, take, Some, is_some, Ok}
+use Rattle.foyer_block.specs.Index.{address_at}
+use Rattle.foyer_block.specs.Insertion.{inserted}
+use Rattle.foyer_block.specs.declared.indexer.Index.TheVariants as index
 use Rattle.foyer_format.specs.Record.{pair_of}
 use Rattle.foyer_format.specs.Record.Outcome.{Pair}
 use Rattle.foyer_core.specs.declared.reply.Reply.{Reply}
@@ -7,6 +10,7 @@ use Rattle.foyer_core.specs.declared.reply.Reply.TheVariants as reply
 use Rattle.foyer_core.specs.declared.state.Core.{Core}
 use Rattle.foyer_core.specs.declared.step.Step.{Step}
 use Rattle.foyer_core.specs.declared.step.Step.TheVariants as step
+use Rattle.foyer_core.specs.declared.step.Ticket.{Ticket}
 use Rattle.foyer_core.specs.Unchanged.{IsUnchanged}
 
 -- a step that is out of turn or refused is handed back, and nothing changed
@@ -15,19 +19,74 @@ HandsBack given (reply.NotNow back) old new = (back ≡ given) × IsUnchanged ol
 HandsBack given (reply.Refused kind back) old new = (back ≡ given) × IsUnchanged old new
 HandsBack given answer old new = Unit {0}
 
-abbrev pub IsNoEntry : {K V P A : Type 0} → Reply K V P A → Type 0
-IsNoEntry (reply.Entry key value age) = ⊥
-IsNoEntry answer = Unit {0}
-
 -- the step brings the bytes of this spelled pair: its record, judged by as many bytes as its address has
 abbrev pub BringsPair : {K V P A : Type 0} → (List ℕ → Bool) → (List ℕ → Bool) → List ℕ → List ℕ → Step K V P A → Type 0
 BringsPair is_key is_value key value (step.LoadEnd ticket (Ok bytes)) =
     pair_of is_key is_value (take ticket.address.len bytes.items) ticket.hash ticket.address.sequence ≡ Pair key value
 BringsPair is_key is_value key value given = ⊥
 
--- an entry is the pair of the bytes that its step brought
+-- a piece got the next sequence, from a core that isn't closed
+abbrev pub Queues : {K V P A : Type 0} → Step K V P A → ℕ → Core K V P A → Core K V P A → Type 0
+Queues (step.Enqueue piece size) sequence old new =
+    (old.closed ≡ false) × (sequence ≡ old.next) × (new.next ≡ sequence + 1) × (new.index ≡ old.index)
+Queues given sequence old new = ⊥
+
+-- a delete got the next sequence, from a core that isn't closed, and its mark is in the index
+abbrev pub Deletes : {K V P A : Type 0} → Step K V P A → ℕ → Core K V P A → Core K V P A → Type 0
+Deletes (step.Delete hash) sequence old new =
+    (old.closed ≡ false) × (sequence ≡ old.next) × (new.next ≡ sequence + 1)
+    × (new.index ≡ inserted old.index hash (index.Tombstone sequence))
+Deletes given sequence old new = ⊥
+
+-- whether the hash that was asked for is indexed
+abbrev pub Asks : {K V P A : Type 0} → Step K V P A → Bool → Core K V P A → Type 0
+Asks (step.MayContains hash) answer old = answer ≡ is_some (address_at old.index hash)
+Asks given answer old = ⊥
+
+-- the ticket has the hash that was looked up, and its address
+abbrev pub Looks : {K V P A : Type 0} → Step K V P A → Ticket → Core K V P A → Type 0
+Looks (step.LoadBegin hash throttled) ticket old =
+    (ticket.hash ≡ hash) × (address_at old.index hash ≡ Some ticket.address)
+Looks given ticket old = ⊥
+
+-- what a reply says, beside that of a step that was handed back
+abbrev pub Tells : {K V P A : Type 0} → (List ℕ → Bool) → (List ℕ → Bool) → (K → List ℕ) → (V → List ℕ)
+    → Step K V P A → Reply K V P A → Core K V P A → Core K V P A → Type 0
+Tells is_key is_value key_of value_of given (reply.Entry key value age) old new =
+    BringsPair is_key is_value (key_of key) (value_of value) given
+Tells is_key is_value key_of value_of given (reply.Queued sequence) old new = Queues given sequence old new
+Tells is_key is_value key_of value_of given (reply.Deleted sequence) old new = Deletes given sequence old new
+Tells is_key is_value key_of value_of given (reply.Answer answer) old new = Asks given answer old
+Tells is_key is_value key_of value_of given (reply.Read ticket) old new = Looks given ticket old
+Tells is_key is_value key_of value_of given answer old new = Unit {0}
+
+-- a reply of another kind than those
+abbrev pub TellsNothing : {K V P A : Type 0} → Reply K V P A → Type 0
+TellsNothing (reply.Entry key value age) = ⊥
+TellsNothing (reply.Queued sequence) = ⊥
+TellsNothing (reply.Deleted sequence) = ⊥
+TellsNothing (reply.Answer answer) = ⊥
+TellsNothing (reply.Read ticket) = ⊥
+TellsNothing answer = Unit {0}
+
+-- of an enqueue's answers one tells a sequence
+abbrev pub Enqueues : {K V P A : Type 0} → Step K V P A → Reply K V P A → Core K V P A → Core K V P A → Type 0
+Enqueues given (reply.Queued sequence) old new = Queues given sequence old new
+Enqueues given answer old new = TellsNothing answer
+
+-- and so of a delete's
+abbrev pub Deleting : {K V P A : Type 0} → Step K V P A → Reply K V P A → Core K V P A → Core K V P A → Type 0
+Deleting given (reply.Deleted sequence) old new = Deletes given sequence old new
+Deleting given answer old new = TellsNothing answer
+
+-- of a look-up's answers one tells a ticket
+abbrev pub Looking : {K V P A : Type 0} → Step K V P A → Reply K V P A → Core K V P A → Type 0
+Looking given (reply.Read ticket) old = Looks given ticket old
+Looking given answer old = TellsNothing answer
+
+-- of a load's answers one is a pair
 abbrev pub AnswersPair : {K V P A : Type 0} → (List ℕ → Bool) → (List ℕ → Bool) → (K → List ℕ) → (V → List ℕ)
     → Step K V P A → Reply K V P A → Type 0
 AnswersPair is_key is_value key_of value_of given (reply.Entry key value age) =
     BringsPair is_key is_value (key_of key) (value_of value) given
-AnswersPair is_key is_value key_of value_of given answer = Unit {0}
+AnswersPair is_key is_value key_of value_of given answer = TellsNothing answer

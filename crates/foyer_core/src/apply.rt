@@ -1,5 +1,5 @@
 //! The one call that changes the core.
-ghost use Rattle.foyer_core.specs.Answered.{HandsBack, AnswersPair};
+ghost use Rattle.foyer_core.specs.Answered.{HandsBack, Tells};
 
 use crate::reply::Reply;
 use crate::state::Core;
@@ -19,12 +19,14 @@ where
     P: Properties,
     A: Allocator + Clone,
 {
+    #[tactic(auto, using(crate::proofs::Telling::tells_counted))]
     /// Applies one step, at any time. A step that is out of turn or refused changes nothing and is handed back, and
     /// isn't counted; after 2^64 - 1 steps each one is refused as `SequenceEnd`. Reclaims, destroys and a tombstone
     /// log aren't built yet: their steps are out of turn.
     pub fn apply(&mut self, _env: &mut Env, step: Step<K, V, P, A>) -> Reply<K, V, P, A>
         ensures back { HandsBack step result self.old self.new }
-        ensures pair { AnswersPair K.is_spelling V.is_spelling K.spelling V.spelling step result }
+        ensures told { Tells K.is_spelling V.is_spelling K.spelling V.spelling
+            step result self.old self.new }
     {
         if self.steps == u64::MAX {
             return Reply::Refused(ErrorKind::SequenceEnd, step);
@@ -39,10 +41,11 @@ where
         reply
     }
 
-    #[tactic(auto, using(crate::proofs::Answers::no_entry_answers_pair))]
+    #[tactic(auto, using(crate::proofs::Telling::telling))]
     fn dispatch(&mut self, step: Step<K, V, P, A>) -> Reply<K, V, P, A>
         ensures back { HandsBack step result self.old self.new }
-        ensures pair { AnswersPair K.is_spelling V.is_spelling K.spelling V.spelling step result }
+        ensures told { Tells K.is_spelling V.is_spelling K.spelling V.spelling
+            step result self.old self.new }
     {
         match step {
             Step::Enqueue { piece, size } => self.enqueue(piece, size),

@@ -1,5 +1,5 @@
 //! Flushers; the reclaimer comes here.
 
-pub mod batch;
+pub(crate) mod batch;
 pub mod flusher;
-pub mod receive;
+pub(crate) mod receive;

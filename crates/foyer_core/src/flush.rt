@@ -1,5 +1,5 @@
 //! The steps of a flush.
-ghost use Rattle.foyer_core.specs.Answered.{HandsBack, IsNoEntry};
+ghost use Rattle.foyer_core.specs.Answered.{HandsBack, TellsNothing};
 ghost use Rattle.foyer_core.specs.declared.step.Step.TheVariants as step;
 
 use crate::block::batch::{Ended, Next, Wrote};
@@ -17,7 +17,7 @@ impl<K, V, P, A: Allocator + Clone> Core<K, V, P, A> {
         K: Code<A>,
         V: Code<A>,
         ensures back { HandsBack (step.Receive flusher) result self.old self.new }
-        ensures no_entry { IsNoEntry result }
+        ensures nothing { TellsNothing result }
     {
         if flusher as usize >= self.flushers.len() {
             return Reply::NotNow(Step::Receive { flusher });
@@ -36,7 +36,7 @@ impl<K, V, P, A: Allocator + Clone> Core<K, V, P, A> {
 
     pub(crate) fn flush_begin(&mut self, flusher: u32) -> Reply<K, V, P, A>
         ensures back { HandsBack (step.FlushBegin flusher) result self.old self.new }
-        ensures no_entry { IsNoEntry result }
+        ensures nothing { TellsNothing result }
     {
         if flusher as usize >= self.flushers.len() {
             return Reply::NotNow(Step::FlushBegin { flusher });
@@ -53,7 +53,7 @@ impl<K, V, P, A: Allocator + Clone> Core<K, V, P, A> {
 
     pub(crate) fn flush_block(&mut self, flusher: u32) -> Reply<K, V, P, A>
         ensures back { HandsBack (step.FlushBlock flusher) result self.old self.new }
-        ensures no_entry { IsNoEntry result }
+        ensures nothing { TellsNothing result }
     {
         if flusher as usize >= self.flushers.len() {
             return Reply::NotNow(Step::FlushBlock { flusher });
@@ -76,7 +76,7 @@ impl<K, V, P, A: Allocator + Clone> Core<K, V, P, A> {
 
     pub(crate) fn flush_wrote(&mut self, flusher: u32, outcome: Result<()>) -> Reply<K, V, P, A>
         ensures back { HandsBack (step.FlushWrote flusher outcome) result self.old self.new }
-        ensures no_entry { IsNoEntry result }
+        ensures nothing { TellsNothing result }
     {
         if flusher as usize >= self.flushers.len() {
             return Reply::NotNow(Step::FlushWrote {
@@ -107,7 +107,7 @@ impl<K, V, P, A: Allocator + Clone> Core<K, V, P, A> {
     // Takes no memory: the lists that are handed out were made by the steps before.
     pub(crate) fn flush_end(&mut self, flusher: u32) -> Reply<K, V, P, A>
         ensures back { HandsBack (step.FlushEnd flusher) result self.old self.new }
-        ensures no_entry { IsNoEntry result }
+        ensures nothing { TellsNothing result }
     {
         if flusher as usize >= self.flushers.len() {
             return Reply::NotNow(Step::FlushEnd { flusher });

@@ -1,6 +1,6 @@
 //! Loads: a look-up that tells a read, and the judgement on what was read.
 ghost use Rattle.std.specs.Prelude.{◌≡◌};
-ghost use Rattle.foyer_core.specs.Answered.{HandsBack, IsNoEntry, AnswersPair};
+ghost use Rattle.foyer_core.specs.Answered.{HandsBack, AnswersPair, Looking};
 ghost use Rattle.foyer_core.specs.declared.reply.Reply.TheVariants as reply;
 ghost use Rattle.foyer_core.specs.declared.step.Step.TheVariants as step;
 
@@ -36,7 +36,7 @@ impl<K, V, P, A: Allocator + Clone> Core<K, V, P, A> {
     // An address of an older filling leaves the index.
     pub(crate) fn load_begin(&mut self, hash: u64, throttled: bool) -> Reply<K, V, P, A>
         ensures back { HandsBack (step.LoadBegin hash throttled) result self.old self.new }
-        ensures no_entry { IsNoEntry result }
+        ensures looked { Looking (step.LoadBegin hash throttled) result self.old }
     {
         let Some(address) = self.index.get(hash) else {
             return Reply::Miss;

@@ -1,4 +1,9 @@
 //! Runs of the core over a disk.
+ghost use Rattle.std.specs.Prelude.{◌≡◌, ◌≤◌, length, vec_len, OnOk, OnErr, IfOk, IfErr};
+ghost use Rattle.foyer_device.specs.declared.error.Error.TheVariants.{Memory};
+ghost use Rattle.foyer_core.specs.Disk.{IsRead, IsWritten, IsTorn};
+ghost use Rattle.foyer_format.specs.Page.{page_up};
+
 use crate::apply::Env;
 use crate::disk::Disk;
 use crate::reply::{Reply, Write};
@@ -84,12 +89,19 @@ struct Told {
     next: usize,
 }
 
+#[tactic(auto, unfolding(foyer_format::specs::Page::page_up))]
 /// Does the read that a ticket tells. `Err` is a refused growth; a fault of the disk is the step's result.
 pub fn read_told<A: Allocator, D: Disk>(
     alloc: A,
     disk: &mut D,
     ticket: &Ticket,
-) -> std::result::Result<Result<Vec<u8, A>>, AllocError> {
+) -> std::result::Result<Result<Vec<u8, A>>, AllocError>
+    ensures read { IfOk result (λ outcome. IfOk outcome (λ bytes.
+        IsRead (D.byte_at disk.old) ticket.now.address.block ticket.now.address.offset bytes.items)) }
+    ensures len { IfOk result (λ outcome. IfOk outcome (λ bytes.
+        vec_len bytes ≡ page_up ticket.now.address.len)) }
+    ensures same { D.byte_at disk.new ≡ D.byte_at disk.old }
+{
     let len = (ticket.address.len as usize).div_ceil(PAGE) * PAGE;
     let mut bytes = Vec::from_elem(alloc, 0, len)?;
     match disk.read(
@@ -107,7 +119,12 @@ pub fn write_told<A: Allocator, D: Disk>(
     disk: &mut D,
     block: BlockId,
     write: &Write<A>,
-) -> Result<()> {
+) -> Result<()>
+    ensures wrote { OnOk result
+        (IsWritten (D.byte_at disk.old) block write.now.offset write.now.bytes.items (D.byte_at disk.new)) }
+    ensures torn { OnErr result
+        (IsTorn (D.byte_at disk.old) block write.now.offset (vec_len write.now.bytes) (D.byte_at disk.new)) }
+{
     disk.write(block, write.offset, write.bytes.as_slice())
 }
 
@@ -211,6 +228,8 @@ where
     P: Properties + Drop,
     A: Allocator + Clone,
     D: Disk,
+    ensures replies { IfOk result (λ replies. vec_len replies ≤ vec_len moves) }
+    ensures memory { IfErr result (λ e. e ≡ Memory) }
 {
     let flushers = core.flushers.len();
     let mut replies = Vec::with_capacity(core.alloc.clone()?, moves.len())?;

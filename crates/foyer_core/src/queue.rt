@@ -2,7 +2,7 @@
 ghost use Rattle.std.specs.Prelude.{◌≡◌, ◌<◌, ◌%◌, IsTrue, ◌↔◌, Some, true, is_some, vec_len};
 ghost use Rattle.foyer_block.specs.Index.{address_at};
 ghost use Rattle.foyer_core.specs.declared.reply.Reply.TheVariants as reply;
-ghost use Rattle.foyer_core.specs.Answered.{HandsBack, IsNoEntry};
+ghost use Rattle.foyer_core.specs.Answered.{HandsBack, TellsNothing, Enqueues, Deleting};
 ghost use Rattle.foyer_core.specs.Unchanged.{IsUnchanged};
 ghost use Rattle.foyer_core.specs.declared.step.Step.TheVariants as step;
 ghost use Rattle.foyer_format.specs.declared.serde.ages.Age.TheVariants as age;
@@ -49,7 +49,7 @@ impl<K, V, P, A: Allocator + Clone> Core<K, V, P, A> {
     where
         P: Properties,
         ensures back { HandsBack (step.Enqueue piece size) result self.old self.new }
-        ensures no_entry { IsNoEntry result }
+        ensures queued { Enqueues (step.Enqueue piece size) result self.old self.new }
     {
         if self.closed {
             return Reply::Refused(ErrorKind::Closed, Step::Enqueue { piece, size });
@@ -82,7 +82,7 @@ impl<K, V, P, A: Allocator + Clone> Core<K, V, P, A> {
     // The mark enters the index at once.
     pub(crate) fn delete(&mut self, hash: u64) -> Reply<K, V, P, A>
         ensures back { HandsBack (step.Delete hash) result self.old self.new }
-        ensures no_entry { IsNoEntry result }
+        ensures deleted { Deleting (step.Delete hash) result self.old self.new }
     {
         if self.closed {
             return Reply::Refused(ErrorKind::Closed, Step::Delete { hash });
@@ -115,7 +115,7 @@ impl<K, V, P, A: Allocator + Clone> Core<K, V, P, A> {
 
     pub(crate) fn wait(&mut self, flusher: u32, id: u64) -> Reply<K, V, P, A>
         ensures back { HandsBack (step.Wait flusher id) result self.old self.new }
-        ensures no_entry { IsNoEntry result }
+        ensures nothing { TellsNothing result }
     {
         if flusher as usize >= self.flushers.len() {
             return Reply::NotNow(Step::Wait { flusher, id });

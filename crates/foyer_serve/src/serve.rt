@@ -69,14 +69,20 @@ fn open<A: Allocator + Clone>(alloc: &A, options: &Options) -> Result<Engine<A>>
     Engine::open(alloc.clone()?, settings)
 }
 
-// Whether every answer was one that status 0 allows, or why no more can be written.
-fn answer_lines<A, R, W>(alloc: A, mut engine: Engine<A>, mut lines: Lines<R, A>, output: W) -> u8
+// Answers the input's lines, and closes the engine.
+fn answer_lines<A, R, W>(
+    alloc: A,
+    mut engine: Engine<A>,
+    mut lines: Lines<R, A>,
+    mut direct: W,
+) -> u8
 where
     A: Allocator + Clone,
     R: Read + Drop,
     W: Write + Drop,
 {
-    let Ok(mut output) = BufWriter::with_capacity(alloc, OUTPUT_CAPACITY, output) else {
+    let Ok(mut output) = BufWriter::with_capacity(alloc, OUTPUT_CAPACITY, &mut direct) else {
+        let _ = print_fault(&mut direct, ErrorKind::Memory);
         return STATUS_FAULT;
     };
     let mut is_well = true;

@@ -17,7 +17,7 @@ use std::mem;
 
 /// The next block of a batch.
 #[derive(Drop)]
-pub enum Next<A: Allocator> {
+pub(crate) enum Next<A: Allocator> {
     /// None is clean.
     NoBlock,
     /// This one, with its writes.
@@ -26,7 +26,7 @@ pub enum Next<A: Allocator> {
 
 /// What a write's result led to.
 #[derive(Clone, Copy, Debug, PartialEq, Eq)]
-pub enum Wrote {
+pub(crate) enum Wrote {
     /// The block has another write.
     Next,
     /// The block's records are in the index, so many.
@@ -37,7 +37,7 @@ pub enum Wrote {
 
 /// What a batch gives back.
 #[derive(Drop)]
-pub struct Ended<K, V, P, A: Allocator> {
+pub(crate) struct Ended<K, V, P, A: Allocator> {
     pub marks: Vec<Tombstone, A>,
     pub invalid: Vec<InvalidStats, A>,
     pub pieces: Vec<foyer_policy::keeper::Piece<K, V, P, A>, A>,
@@ -84,7 +84,7 @@ fn settle<A: Allocator>(
 
 impl<K, V, P, A: Allocator + Clone> Flusher<K, V, P, A> {
     /// Whether a batch may begin: none is there, and something was received since the one before.
-    pub fn may_begin(&self) -> bool
+    pub(crate) fn may_begin(&self) -> bool
         ensures { IsTrue result ↔ MayBegin self.now }
     {
         self.batch.is_none()
@@ -92,7 +92,7 @@ impl<K, V, P, A: Allocator + Clone> Flusher<K, V, P, A> {
     }
 
     /// Makes a batch of what was received, in one block, and gives its marks. `Memory` changes nothing.
-    pub fn begin(&mut self, alloc: &A) -> Result<Vec<Tombstone, A>>
+    pub(crate) fn begin(&mut self, alloc: &A) -> Result<Vec<Tombstone, A>>
         requires { MayBegin self.old }
         ensures refused { OnErr result (self.new ≡ self.old) }
     {
@@ -133,7 +133,7 @@ impl<K, V, P, A: Allocator + Clone> Flusher<K, V, P, A> {
     }
 
     /// Whether the next block of the batch is to be told.
-    pub fn has_block(&self) -> bool
+    pub(crate) fn has_block(&self) -> bool
         ensures { IsTrue result ↔ HasBlock self.now }
     {
         match &self.batch {
@@ -144,7 +144,7 @@ impl<K, V, P, A: Allocator + Clone> Flusher<K, V, P, A> {
 
     /// Gives the batch's next block: the flusher's own, or for one that begins a block the one that has been clean
     /// longest; the block before is evictable then. `Memory` changes nothing, but that it may have made room.
-    pub fn next(
+    pub(crate) fn next(
         &mut self,
         number: u32,
         clean: &mut VecDeque<BlockId, A>,
@@ -206,7 +206,7 @@ impl<K, V, P, A: Allocator + Clone> Flusher<K, V, P, A> {
     }
 
     /// Whether a told write is to be reported.
-    pub fn is_writing(&self) -> bool
+    pub(crate) fn is_writing(&self) -> bool
         ensures { IsTrue result ↔ IsWriting self.now }
     {
         match &self.batch {
@@ -218,7 +218,7 @@ impl<K, V, P, A: Allocator + Clone> Flusher<K, V, P, A> {
     /// Takes the result of the next told write. After the block's last one its records enter the index. After a fault,
     /// or where the index can't grow, nothing of the batch's rest is written, and the block isn't written again in this
     /// filling.
-    pub fn wrote(
+    pub(crate) fn wrote(
         &mut self,
         is_done: bool,
         index: &mut Indexer<A>,
@@ -259,7 +259,7 @@ impl<K, V, P, A: Allocator + Clone> Flusher<K, V, P, A> {
     }
 
     /// Whether the batch has nothing left to write.
-    pub fn is_written(&self) -> bool
+    pub(crate) fn is_written(&self) -> bool
         ensures { IsTrue result ↔ IsWritten self.now }
     {
         match &self.batch {
@@ -269,7 +269,7 @@ impl<K, V, P, A: Allocator + Clone> Flusher<K, V, P, A> {
     }
 
     /// Ends the batch, and gives back what it has. Takes no memory.
-    pub fn end(&mut self) -> Ended<K, V, P, A>
+    pub(crate) fn end(&mut self) -> Ended<K, V, P, A>
         requires { IsWritten self.old }
         ensures { self.new.batch ≡ None }
     {

@@ -16,7 +16,7 @@ const BUFFER_RESERVE: usize = 16 * 1024 * 1024;
 
 /// What was taken from a queue.
 #[derive(Drop)]
-pub enum Taken<K, V, P, A: Allocator> {
+pub(crate) enum Taken<K, V, P, A: Allocator> {
     /// The queue is empty.
     Nothing,
     /// A mark or a wait.
@@ -77,7 +77,7 @@ impl<K, V, P, A: Allocator + Clone> Flusher<K, V, P, A> {
     }
 
     /// Takes the front of the queue. A refused growth leaves it there: `Memory`.
-    pub fn receive(&mut self, block_size: usize) -> Result<Taken<K, V, P, A>>
+    pub(crate) fn receive(&mut self, block_size: usize) -> Result<Taken<K, V, P, A>>
     where
         K: Code<A>,
         V: Code<A>,

@@ -1,0 +1,62 @@
+//! A disk that fails one call.
+
+use foyer_block::manager::BlockId;
+use foyer_core::disk::Disk;
+use foyer_device::error::{Error, Result};
+
+/// Passes each call on, but for the one that is counted down to: that read gives nothing, and that write writes a front
+/// of its bytes.
+#[derive(Drop)]
+pub struct Failing<D: Disk + Drop> {
+    inner: D,
+    left: u64,
+    kept: usize,
+}
+
+impl<D: Disk + Drop> Failing<D> {
+    /// Fails the n-th read or write, from 1, a write after `kept` bytes. With 0 it fails none.
+    pub fn new(inner: D, n: u64, kept: usize) -> Failing<D> {
+        Failing {
+            inner,
+            left: n,
+            kept,
+        }
+    }
+
+    /// Whether the call has come.
+    pub fn has_failed(&self) -> bool {
+        self.left == 0
+    }
+
+    fn fails(&mut self) -> bool {
+        let n = self.left;
+        self.left = n.saturating_sub(1);
+        n == 1
+    }
+}
+
+impl<D: Disk + Drop> Disk for Failing<D> {
+    ghost byte_at = { λ d. D.byte_at d.inner };
+
+    ghost surely_has = { λ _ b o n. ⊥ };
+
+    fn read(&mut self, block: BlockId, offset: usize, into: &mut [u8]) -> Result<()> {
+        let n = self.left;
+        self.left = n.saturating_sub(1);
+        if n == 1 {
+            return Err(Error::Io);
+        }
+        self.inner.read(block, offset, into)
+    }
+
+    fn write(&mut self, block: BlockId, offset: usize, bytes: &[u8]) -> Result<()> {
+        let n = self.left;
+        self.left = n.saturating_sub(1);
+        if n == 1 {
+            let front = &bytes[..self.kept.min(bytes.len())];
+            let _ = self.inner.write(block, offset, front);
+            return Err(Error::Io);
+        }
+        self.inner.write(block, offset, bytes)
+    }
+}

@@ -1,0 +1,51 @@
+//! An allocator that refuses one allocation.
+use std::alloc::{AllocError, Allocator};
+use std::cell::Cell;
+
+/// Passes each call on, but for the allocation that is counted down to.
+pub struct Refusing<B: Allocator> {
+    inner: B,
+    left: Cell<u64>,
+}
+
+impl<B: Allocator> Refusing<B> {
+    /// Refuses the n-th allocation, from 1. With 0 it refuses none.
+    pub fn new(inner: B, n: u64) -> Refusing<B> {
+        Refusing {
+            inner,
+            left: Cell::new(n),
+        }
+    }
+
+    /// Whether the allocation has come.
+    pub fn has_refused(&self) -> bool {
+        self.left.get() == 0
+    }
+}
+
+impl<B: Allocator> Drop for Refusing<B> {
+    fn drop(self) {
+        let Self { inner: _, left: _ } = self;
+    }
+}
+
+fn refuses(left: &Cell<u64>) -> bool {
+    let n = left.get();
+    left.set(n.saturating_sub(1));
+    n == 1
+}
+
+unsafe impl<B: Allocator> Allocator for Refusing<B> {
+    ghost dealloc_token = { λ heap ty ptr. B.dealloc_token heap.inner ty ptr };
+
+    fn allocate(&self, size: usize, align: usize) -> Result<*mut u8, AllocError> {
+        if refuses(&self.left) {
+            return Err(AllocError);
+        }
+        self.inner.allocate(size, align)
+    }
+
+    unsafe fn deallocate(&self, ptr: *mut u8, size: usize, align: usize) {
+        self.inner.deallocate(ptr, size, align);
+    }
+}

@@ -1,0 +1,4 @@
+mod formats;
+mod program;
+mod steps;
+mod sweeps;

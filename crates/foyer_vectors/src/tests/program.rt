@@ -1,0 +1,216 @@
+//! The program's lines.
+use foyer_serve::serve::serve;
+use std::alloc::{Allocator, Global};
+use std::process::Abort;
+use std::test::Fail;
+
+// What the program prints for these words and this input, with its status.
+pub fn told<A: Allocator + Clone>(
+    alloc: Global,
+    engine: A,
+    words: &[&str],
+    input: &str,
+) -> Result<(Vec<u8>, Vec<u8>, u8), Fail> {
+    let mut all = Vec::new(alloc);
+    for word in words {
+        all.push(String::from_str(alloc, *word)?)?;
+    }
+    let mut output = Vec::new(alloc);
+    let mut errors = Vec::new(alloc);
+    let status = serve(
+        engine,
+        all.as_slice(),
+        input.as_bytes(),
+        &mut output,
+        &mut errors,
+    );
+    Ok((output, errors, status))
+}
+
+fn check(
+    rt: &(impl Abort + AllocGlobal),
+    words: &[&str],
+    input: &str,
+    output: &str,
+    status: u8,
+) -> Result<(), Fail> {
+    let (printed, errors, ended) = told(rt.alloc(), rt.alloc(), words, input)?;
+    assert_eq!(rt; printed.as_slice(), output.as_bytes(), "for {input}");
+    assert_eq!(rt; errors.len(), 0);
+    assert_eq!(rt; ended, status, "for {input}");
+    Ok(())
+}
+
+const SMALL: [&str; 3] = [":memory:", "16384", "16384"];
+
+#[test]
+fn a_record_goes_in_and_comes_back(rt: HostRuntime) -> Result<(), Fail> {
+    check(
+        &rt,
+        &SMALL,
+        "put 1 a\nwait\nget 1\ndel 1\nget 1\n",
+        "queued\nok\nentry a\nok\nmiss\n",
+        0,
+    )
+}
+
+#[test]
+fn a_record_that_was_not_flushed_is_missed(rt: HostRuntime) -> Result<(), Fail> {
+    check(&rt, &SMALL, "put 1 a\nget 1\n", "queued\nmiss\n", 0)
+}
+
+#[test]
+fn the_newest_pair_is_answered(rt: HostRuntime) -> Result<(), Fail> {
+    check(
+        &rt,
+        &SMALL,
+        "put 1 a\nput 1 b\nwait\nget 1\nput 1 c\nget 1\nwait\nget 1\n",
+        "queued\nqueued\nok\nentry b\nqueued\nentry b\nok\nentry c\n",
+        0,
+    )
+}
+
+#[test]
+fn what_does_not_fit_the_block_is_missed(rt: HostRuntime) -> Result<(), Fail> {
+    check(
+        &rt,
+        &SMALL,
+        "put 1 a\nput 2 b\nput 3 c\nput 4 d\nwait\nget 1\nget 3\nget 4\nput 5 e\nwait\nget 5\n",
+        "queued\nqueued\nqueued\nqueued\nok\nentry a\nentry c\nmiss\nqueued\nok\nmiss\n",
+        0,
+    )
+}
+
+#[test]
+fn bad_lines_are_told_and_passed(rt: HostRuntime) -> Result<(), Fail> {
+    check(
+        &rt,
+        &SMALL,
+        "put 1\n\nget 18446744073709551616\nput 1 \nwait\nget 01\nget +1\nget \nwait \nGET 1\nput 18446744073709551615 z\nwait\nget 18446744073709551615",
+        "bad line\nbad line\nbad line\nqueued\nok\nentry \nbad line\nbad line\nbad line\nbad line\nqueued\nok\nentry z\n",
+        1,
+    )
+}
+
+#[test]
+fn a_line_that_is_no_text_is_bad(rt: HostRuntime) -> Result<(), Fail> {
+    let alloc = rt.alloc();
+    let mut words = Vec::new(alloc);
+    for word in &SMALL {
+        words.push(String::from_str(alloc, *word)?)?;
+    }
+    let mut output = Vec::new(alloc);
+    let mut errors = Vec::new(alloc);
+    let input: &[u8] = b"put 1 \xff\nget 1\n";
+    let status = serve(alloc, words.as_slice(), input, &mut output, &mut errors);
+    assert_eq!(rt; output.as_slice(), b"bad line\nmiss\n".as_slice());
+    assert_eq!(rt; status, 1);
+    Ok(())
+}
+
+#[test]
+fn texts_keep_their_spaces(rt: HostRuntime) -> Result<(), Fail> {
+    check(
+        &rt,
+        &SMALL,
+        "put 7  two  spaces \nwait\nget 7\n",
+        "queued\nok\nentry  two  spaces \n",
+        0,
+    )
+}
+
+#[test]
+fn nothing_is_taken_once_closed(rt: HostRuntime) -> Result<(), Fail> {
+    check(&rt, &SMALL, "close\nput 1 a\n", "ok\nfault Closed\n", 1)?;
+    check(
+        &rt,
+        &SMALL,
+        "put 1 a\nclose\ndel 1\nget 1\nwait\nclose\n",
+        "queued\nok\nfault Closed\nentry a\nok\nok\n",
+        1,
+    )
+}
+
+#[test]
+fn a_destroy_is_not_supported_yet(rt: HostRuntime) -> Result<(), Fail> {
+    check(&rt, &SMALL, "destroy\n", "fault Unsupported\n", 1)
+}
+
+#[test]
+fn bad_words_give_the_usage(rt: HostRuntime) -> Result<(), Fail> {
+    let alloc = rt.alloc();
+    let usage = "usage: foyerdisk DIR CAPACITY BLOCK\n";
+    let (output, errors, status) = told(alloc, alloc, &[":memory:", "16384"], "put 1 a\n")?;
+    assert_eq!(rt; output.len(), 0);
+    assert_eq!(rt; errors.as_slice(), usage.as_bytes());
+    assert_eq!(rt; status, 2);
+    let (_, errors, status) = told(alloc, alloc, &[":memory:", "16384", "1 "], "")?;
+    assert_eq!(rt; errors.as_slice(), usage.as_bytes());
+    assert_eq!(rt; status, 2);
+    Ok(())
+}
+
+#[test]
+fn sizes_that_do_not_go_together_are_refused(rt: HostRuntime) -> Result<(), Fail> {
+    check(
+        &rt,
+        &[":memory:", "4096", "16384"],
+        "put 1 a\n",
+        "fault Config\n",
+        1,
+    )?;
+    check(
+        &rt,
+        &[":memory:", "16384", "0"],
+        "put 1 a\n",
+        "fault Config\n",
+        1,
+    )?;
+    check(
+        &rt,
+        &[":memory:", "16384", "4096"],
+        "put 1 a\n",
+        "fault Config\n",
+        1,
+    )?;
+    check(
+        &rt,
+        &[":memory:", "16384", "4294967297"],
+        "put 1 a\n",
+        "fault Config\n",
+        1,
+    )?;
+    check(
+        &rt,
+        &["cache", "4096", "16384"],
+        "put 1 a\n",
+        "fault Config\n",
+        1,
+    )?;
+    check(
+        &rt,
+        &["cache", "16384", "16384"],
+        "put 1 a\n",
+        "fault Unsupported\n",
+        1,
+    )
+}
+
+// A line's text is longer than the buffer that lines are read into.
+#[test]
+fn a_long_line_is_one_line(rt: HostRuntime) -> Result<(), Fail> {
+    let alloc = rt.alloc();
+    let mut text = String::new(alloc);
+    for _ in 0..3000 {
+        text.push_str("a hundred bytes at most, and there are many of them, one behind another")?;
+    }
+    let input = format!(in alloc; "put 1 {}\nwait\nget 1\n", text.as_str())?;
+    let wanted = format!(in alloc; "queued\nok\nentry {}\n", text.as_str())?;
+    check(
+        &rt,
+        &[":memory:", "1048576", "1048576"],
+        input.as_str(),
+        wanted.as_str(),
+        0,
+    )
+}

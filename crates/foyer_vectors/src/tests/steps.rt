@@ -1,0 +1,243 @@
+//! Steps of the core, and their replies.
+ghost use Rattle.std.specs.Prelude.{None, Some, if◌then◌else◌};
+ghost use Rattle.foyer_format.specs.declared.serde.ages.Age.TheVariants.{Young};
+
+use crate::failing::Failing;
+use foyer_core::apply::Env;
+use foyer_core::memory::MemoryDisk;
+use foyer_core::moves::{Move, run};
+use foyer_core::reply::Reply;
+use foyer_core::settings::Settings;
+use foyer_core::state::Core;
+use foyer_device::error::Result;
+use foyer_format::serde::{Age, Properties};
+use foyer_policy::keeper::Piece;
+use std::alloc::{AllocError, Allocator, Global};
+use std::process::Abort;
+use std::test::Fail;
+
+// An entry's age, as a test tells it.
+#[derive(Clone, Copy, Debug, PartialEq, Eq)]
+pub struct Told(pub bool);
+
+impl Properties for Told {
+    ghost age = { λ told. if told.0 then Some Young else None };
+
+    fn age(&self) -> Option<Age> {
+        if self.0 { Some(Age::Young) } else { None }
+    }
+}
+
+pub type Value<A> = String<A>;
+
+pub type TestMove<A> = Move<u64, Value<A>, Told, A>;
+
+pub type TestReply<A> = Reply<u64, Value<A>, Told, A>;
+
+pub type TestCore<A> = Core<u64, Value<A>, Told, A>;
+
+// A put of a key, which is its hash.
+fn put<A: Allocator + Clone>(
+    alloc: &A,
+    key: u64,
+    text: &str,
+    is_young: bool,
+) -> Result<TestMove<A>> {
+    let value = String::from_str(alloc.clone()?, text)?;
+    let piece = Piece::new(alloc.clone()?, key, value, key, Told(is_young))?;
+    Ok(Move::Enqueue {
+        piece,
+        size: text.len(),
+    })
+}
+
+// The move that a line of a script names: a word, a number, and for a put a text.
+fn move_of<A: Allocator + Clone>(alloc: &A, line: &str) -> Result<TestMove<A>> {
+    let (word, rest) = line.split_once(' ').unwrap_or((line, ""));
+    let (first, text) = rest.split_once(' ').unwrap_or((rest, ""));
+    let hash = first.parse::<u64>().unwrap_or(0);
+    let flusher = first.parse::<u32>().unwrap_or(0);
+    Ok(match word {
+        "put" => put(alloc, hash, text, false)?,
+        "young" => put(alloc, hash, text, true)?,
+        "delete" => Move::Delete { hash },
+        "wait" => Move::Wait { flusher, id: 3 },
+        "ask" => Move::MayContains { hash },
+        "look" => Move::LoadBegin {
+            hash,
+            throttled: false,
+        },
+        "throttled" => Move::LoadBegin {
+            hash,
+            throttled: true,
+        },
+        "read" => Move::LoadEnd {
+            ticket: flusher as usize,
+        },
+        "receive" => Move::Receive { flusher },
+        "begin" => Move::FlushBegin { flusher },
+        "block" => Move::FlushBlock { flusher },
+        "wrote" => Move::FlushWrote { flusher },
+        "end" => Move::FlushEnd { flusher },
+        "reclaim" => Move::ReclaimBegin,
+        "idle" => Move::ReclaimIdle,
+        "destroy" => Move::DestroyBegin,
+        "clear" => Move::DestroyClear,
+        _ => Move::Close,
+    })
+}
+
+// A reply in words.
+pub fn word_of<A: Allocator>(reply: &TestReply<A>) -> &'static str {
+    match reply {
+        Reply::NotNow(_) => "not now",
+        Reply::Refused(_, _) => "refused",
+        Reply::Ignored(_) => "ignored",
+        Reply::Queued(_) => "queued",
+        Reply::Deleted(_) => "deleted",
+        Reply::Done => "done",
+        Reply::Answer(true) => "yes",
+        Reply::Answer(false) => "no",
+        Reply::Miss => "miss",
+        Reply::Throttled => "throttled",
+        Reply::Read(_) => "read",
+        Reply::Entry {
+            key: _,
+            value: _,
+            age: _,
+        } => "entry",
+        Reply::Empty => "empty",
+        Reply::Received(None) => "received",
+        Reply::Received(Some(_)) => "handed back",
+        Reply::Began {
+            blocks: _,
+            marks: _,
+        } => "began",
+        Reply::Write {
+            block: _,
+            writes: _,
+        } => "write",
+        Reply::NoBlock => "no block",
+        Reply::Next => "next",
+        Reply::Committed(_) => "committed",
+        Reply::Failed => "failed",
+        Reply::Ended {
+            pieces: _,
+            waits: _,
+        } => "ended",
+        _ => "another",
+    }
+}
+
+// The replies in words, one a line; of an entry its text.
+pub fn words_of<A: Allocator, B: Allocator>(
+    alloc: A,
+    replies: &[TestReply<B>],
+) -> std::result::Result<String<A>, AllocError> {
+    let mut words = String::new(alloc);
+    for reply in replies {
+        words.push_str(word_of(reply))?;
+        if let Reply::Entry {
+            key: _,
+            value,
+            age: _,
+        } = reply
+        {
+            words.push_str(" ")?;
+            words.push_str(value.as_str())?;
+        }
+        words.push_str("\n")?;
+    }
+    Ok(words)
+}
+
+// Runs a script over a core of so many blocks of 16 KiB, whose disk fails its n-th call, and checks the replies.
+pub fn check(
+    rt: &(impl Abort + AllocGlobal),
+    blocks: u32,
+    fails_at: u64,
+    script: &str,
+    wanted: &str,
+) -> std::result::Result<(), Fail> {
+    let alloc = rt.alloc();
+    let settings = Settings::new(blocks, 16384);
+    let mut core = Core::open(alloc, settings)?;
+    let memory = MemoryDisk::new(alloc, settings.blocks, settings.block_size)?;
+    let mut disk = Failing::new(memory, fails_at, 100);
+    let mut moves = Vec::new(alloc);
+    for line in script.lines() {
+        moves.push(move_of(&alloc, line)?)?;
+    }
+    let replies = run(&mut core, &mut Env {}, &mut disk, moves)?;
+    let words = words_of(alloc, replies.as_slice())?;
+    assert_eq!(rt; words.as_str(), wanted, "where call {fails_at} fails");
+    assert!(rt; fails_at == 0 || disk.has_failed());
+    Ok(())
+}
+
+#[test]
+fn a_delete_hides_an_older_put(rt: HostRuntime) -> std::result::Result<(), Fail> {
+    check(
+        &rt,
+        1,
+        0,
+        "put 7 a\ndelete 7\nreceive 0\nreceive 0\nbegin 0\nblock 0\nwrote 0\nend 0\nlook 7\nask 7\n",
+        "queued\ndeleted\nreceived\nreceived\nbegan\nwrite\ncommitted\nended\nmiss\nno\n",
+    )
+}
+
+#[test]
+fn steps_out_of_turn_are_handed_back(rt: HostRuntime) -> std::result::Result<(), Fail> {
+    check(
+        &rt,
+        1,
+        0,
+        "begin 0\nblock 0\nend 0\nreceive 0\nreceive 1\nwait 1\nreclaim\nidle\ndestroy\nclear\n",
+        "not now\nnot now\nnot now\nempty\nnot now\nnot now\nnot now\nnot now\nnot now\nnot now\n",
+    )
+}
+
+#[test]
+fn a_wait_alone_makes_a_batch_and_takes_a_block(rt: HostRuntime) -> std::result::Result<(), Fail> {
+    check(
+        &rt,
+        1,
+        0,
+        "wait 0\nreceive 0\nbegin 0\nblock 0\nwrote 0\nend 0\n",
+        "done\nreceived\nbegan\nwrite\nended\n",
+    )
+}
+
+#[test]
+fn young_pieces_and_closed_cores_take_nothing(rt: HostRuntime) -> std::result::Result<(), Fail> {
+    check(
+        &rt,
+        1,
+        0,
+        "young 1 a\nclose\nput 1 a\ndelete 1\nthrottled 1\n",
+        "ignored\ndone\nrefused\nrefused\nmiss\n",
+    )
+}
+
+#[test]
+fn what_does_not_fit_is_handed_back(rt: HostRuntime) -> std::result::Result<(), Fail> {
+    check(
+        &rt,
+        2,
+        0,
+        "put 1 a\nput 2 a\nput 3 a\nput 4 a\nreceive 0\nreceive 0\nreceive 0\nreceive 0\nbegin 0\nblock 0\nwrote 0\nend 0\nask 3\nask 4\nthrottled 3\n",
+        "queued\nqueued\nqueued\nqueued\nreceived\nreceived\nreceived\nhanded back\nbegan\nwrite\ncommitted\nended\nyes\nno\nthrottled\n",
+    )
+}
+
+// One block, whose write fails: no other is clean, and the flusher waits.
+#[test]
+fn where_no_block_is_clean_the_flusher_waits(rt: HostRuntime) -> std::result::Result<(), Fail> {
+    check(
+        &rt,
+        1,
+        1,
+        "put 1 a\nreceive 0\nbegin 0\nblock 0\nwrote 0\nend 0\nput 1 b\nreceive 0\nbegin 0\nblock 0\nend 0\nblock 0\n",
+        "queued\nreceived\nbegan\nwrite\nfailed\nended\nqueued\nreceived\nbegan\nno block\nnot now\nno block\n",
+    )
+}
