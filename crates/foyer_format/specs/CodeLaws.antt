@@ -13,12 +13,15 @@ pub number_spelled : (n : ℕ) → n < 2 ^ 64 → is_number (to_le_bytes w64 n) 
 number_spelled n fits = refl
 
 pub one_number : (n m : ℕ) → n < 2 ^ 64 → m < 2 ^ 64 → to_le_bytes w64 n ≡ to_le_bytes w64 m → n ≡ m
-one_number n m a b same = sym (from_le_bytes-to_le_bytes_8 n a) ∙ ap (from_le_bytes w64) same ∙ from_le_bytes-to_le_bytes_8 m b
+one_number n m a b same =
+    sym (from_le_bytes-to_le_bytes_8 n a) ∙ ap (from_le_bytes w64) same
+    ∙ from_le_bytes-to_le_bytes_8 m b
 
 pub number_read_back : (n : ℕ) → n < 2 ^ 64 → number_read (to_le_bytes w64 n) ≡ Some n
 number_read_back n fits = ap (λ (m : ℕ). Some m) (from_le_bytes-to_le_bytes_8 n fits)
 
-before : (bytes : List ℕ) → length bytes < 2 ^ 64 → from_le_bytes w64 (take 8 (counted bytes)) ≡ length bytes
+before : (bytes : List ℕ) → length bytes < 2 ^ 64
+    → from_le_bytes w64 (take 8 (counted bytes)) ≡ length bytes
 before bytes fits = from_le_bytes-to_le_bytes_8 (length bytes) fits
 
 counted_spelled : (bytes : List ℕ) → length bytes < 2 ^ 64 → is_counted (counted bytes) ≡ true
@@ -29,8 +32,10 @@ counted_spelled bytes fits =
 pub one_list : (a b : List ℕ) → counted a ≡ counted b → a ≡ b
 one_list a b same = ap (drop 8) same
 
-pub text_spelled : (bytes : List ℕ) → length bytes < 2 ^ 64 → IsUtf8 bytes → is_counted_text (counted bytes) ≡ true
+pub text_spelled : (bytes : List ℕ) → length bytes < 2 ^ 64 → IsUtf8 bytes
+    → is_counted_text (counted bytes) ≡ true
 text_spelled bytes fits text = rw (counted_spelled bytes fits, is_utf8-from_IsUtf8 bytes text) refl
 
-pub text_read_back : (bytes : List ℕ) → length bytes < 2 ^ 64 → IsUtf8 bytes → text_read (counted bytes) ≡ Some bytes
+pub text_read_back : (bytes : List ℕ) → length bytes < 2 ^ 64 → IsUtf8 bytes
+    → text_read (counted bytes) ≡ Some bytes
 text_read_back bytes fits text = rw (text_spelled bytes fits text) refl

@@ -8,4 +8,6 @@ pub mod Pushing
 pub mod Record
 pub mod Refusals
 pub mod Tracked
+pub mod Vectors
 pub mod Writing
+pub mod Written

@@ -28,6 +28,10 @@ abbrev pub IsFaultAt : Option ℕ → Error → Type 0
 IsFaultAt None e = IsWriterFault e
 IsFaultAt (Some room) e = e ≡ BufferSizeLimit
 
+-- what a failed write of n bytes answers
+abbrev pub IsWriteFault : Option ℕ → ℕ → Error → Type 0
+IsWriteFault room n e = IsFaultAt room e × Lacks room n
+
 -- n bytes more, as far as a count goes
 abbrev pub counted_on : ℕ → ℕ → ℕ
 counted_on old n = min (old + n) (2 ^ 64 - 1)
