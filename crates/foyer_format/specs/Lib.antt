@@ -1,9 +1,8 @@
-pub mod Codes
 pub mod CodeLaws
+pub mod Codes
 pub mod Compression
 pub mod Header
 pub mod Page
-pub mod PageLaws
 pub mod Pushing
 pub mod Record
 pub mod Refusals

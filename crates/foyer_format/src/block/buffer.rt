@@ -103,7 +103,7 @@ impl<A: Allocator> Buffer<A> {
     /// Appends the record of a key and a value, padded with zeros to whole pages, and gives its
     /// length without the padding; `None` where it doesn't fit into `room` bytes. Memory where a
     /// growth was refused. The bytes change only where a length is given.
-    #[tactic(auto, using(crate::specs::PageLaws::pages))]
+    #[tactic(auto, using(crate::proofs::PageLaws::pages))]
     pub fn push<K: Code<A>, V: Code<A>>(
         &mut self,
         room: usize,

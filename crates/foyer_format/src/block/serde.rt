@@ -23,6 +23,9 @@ pub use std::sync::atomic::AtomicU64 as AtomicSequence;
 /// What the last word of a header begins with; its lowest byte names the compression.
 const ENTRY_MAGIC: u32 = 0x9703_2700;
 
+/// The bytes that a header takes.
+const HEADER_LEN: usize = 36;
+
 /// The header of a record: the lengths in bytes of its spelled key and value, and the checksum of
 /// both.
 #[derive(Debug, PartialEq, Eq, Drop)]
@@ -40,7 +43,7 @@ impl EntryHeader {
     pub fn serialized_len() -> usize
         ensures { result ≡ 36 }
     {
-        36
+        HEADER_LEN
     }
 
     /// Writes the header over the buffer's 36 bytes, each number with its highest byte first.
@@ -159,7 +162,7 @@ fn find_record<A: Allocator + Clone, K: Code<A> + Drop, V: Code<A> + Drop>(
     let Some(header) = record_header(bytes, hash, sequence) else {
         return Ok(None);
     };
-    read_body(alloc, &header, &bytes[36..])
+    read_body(alloc, &header, &bytes[HEADER_LEN..])
 }
 
 // The pair of the bytes behind this header.
@@ -209,14 +212,17 @@ fn record_header(bytes: &[u8], hash: u64, sequence: Sequence) -> Option<EntryHea
     ensures none { (is_key is_value : List ℕ → Bool)
         → IfNone result (pair_of is_key is_value bytes.now hash sequence ≡ outcome.NoRecord) }
 {
-    if bytes.len() < 36 {
+    if bytes.len() < HEADER_LEN {
         return None;
     }
-    match EntryHeader::read(&bytes[..36]) {
+    match EntryHeader::read(&bytes[..HEADER_LEN]) {
         Err(_) => None,
         Ok(header) => {
             let body_len = header.key_len as usize + header.value_len as usize;
-            if header.hash == hash && header.sequence == sequence && bytes.len() - 36 == body_len {
+            if header.hash == hash
+                && header.sequence == sequence
+                && bytes.len() - HEADER_LEN == body_len
+            {
                 Some(header)
             } else {
                 None

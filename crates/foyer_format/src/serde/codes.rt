@@ -20,7 +20,7 @@ impl<A: Allocator> Code<A> for u64 {
 
     ghost same = { λ n m. n ≡ m };
 
-    ghost takes_memory = { ⊥ };
+    ghost takes_memory = { λ _. ⊥ };
 
     fn encode_into<W: Sink>(&self, writer: &mut W) -> Result<()> {
         let value = *self;
@@ -78,7 +78,7 @@ impl<A: Allocator> Code<A> for String<A> {
 
     ghost same = { λ s t. string_bytes s ≡ string_bytes t };
 
-    ghost takes_memory = { Unit {0} };
+    ghost takes_memory = { λ b. is_counted_text b ≡ true };
 
     #[tactic(auto, using(crate::proofs::WritingLemmas::two_writes))]
     fn encode_into<W: Sink>(&self, writer: &mut W) -> Result<()> {
@@ -119,13 +119,13 @@ pub fn code_vectors()
 {}
 
 /// Each number of 64 bits is what its spelling reads as.
-#[tactic(auto, using(crate::specs::CodeLaws::number_read_back))]
+#[tactic(auto, using(crate::proofs::CodeLemmas::number_read_back))]
 pub fn u64_read_back()
     ensures { (n : ℕ) → n < 2 ^ 64 → number_read (⟦<u64 as Code<Global>>⟧.spelling n) ≡ Some n }
 {}
 
 /// Each text is what its spelling reads as.
-#[tactic(auto, using(crate::specs::CodeLaws::text_read_back))]
+#[tactic(auto, using(crate::proofs::CodeLemmas::text_read_back))]
 pub fn string_read_back()
     ensures { (s : _) → ⟦<String as Code<Global>>⟧.encodes s
         → text_read (⟦<String as Code<Global>>⟧.spelling s) ≡ Some (string_bytes s) }

@@ -26,8 +26,8 @@ pub trait Code<A: Allocator> {
     // The two values are the same, whatever memory they lie in.
     ghost same: { Self → Self → Type 0 };
 
-    // Decoding takes memory, which may be refused.
-    ghost takes_memory: { Type 0 };
+    // Decoding these bytes takes memory, which may be refused.
+    ghost takes_memory: { List ℕ → Type 0 };
 
     /// Writes the value's bytes. An error is the writer's, or comes of a value that can't be
     /// encoded. After an `Err` some of the bytes may have been written.
@@ -72,7 +72,7 @@ pub trait Code<A: Allocator> {
         ensures encodes { IfOk result encodes }
         ensures is_spelling { OnOk result (is_spelling bytes.now ≡ true) }
         ensures refused { IfErr result (λ e. e ≢ Memory → is_spelling bytes.now ≡ false) }
-        ensures memory { IfErr result (λ e. e ≡ Memory → takes_memory) }
+        ensures memory { IfErr result (λ e. e ≡ Memory → takes_memory bytes.now) }
         ensures fault { IfErr result IsDecodeFault };
 
     /// How many bytes the value takes, at most `usize::MAX`.

@@ -99,7 +99,9 @@ impl EntryDeserializer {
         ensures fault { IfErr result (IsEntryFault (entry_fault K.is_spelling V.is_spelling
             bytes.now key_len value_len compression checksum)) }
         ensures memory { IfErr result (λ e. e ≡ Memory
-            → V.takes_memory ⊎ K.takes_memory ⊎ (A.is_infallible alloc → ⊥)) }
+            → V.takes_memory (take value_len bytes.now)
+            ⊎ K.takes_memory (take key_len (drop value_len bytes.now))
+            ⊎ (A.is_infallible alloc → ⊥)) }
     {
         if bytes.len() < value_len || bytes.len() - value_len < key_len {
             return Err(Error::OutOfRange);
@@ -109,9 +111,9 @@ impl EntryDeserializer {
                 return Err(Error::ChecksumMismatch);
             }
         }
-        if compression != Compression::None {
+        let Compression::None = compression else {
             return Err(Error::Unsupported);
-        }
+        };
         let value = V::decode(alloc.clone()?, &bytes[..value_len])?;
         let key = K::decode(alloc, &bytes[value_len..value_len + key_len])?;
         Ok((key, value))
