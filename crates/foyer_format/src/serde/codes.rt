@@ -1,5 +1,5 @@
 //! The codes of `u64` and `String`.
-ghost use Rattle.std.specs.Prelude.{◌≡◌, ◌<◌, ◌^◌, ◌==◌, ℕ, List, drop, length, true, false, Some, MatchOption, string_bytes};
+ghost use Rattle.std.specs.Prelude.{◌≡◌, ◌<◌, ◌^◌, ℕ, drop, length, true, false, Some, MatchOption, string_bytes};
 ghost use Rattle.std.specs.Int.{w64, to_le_bytes};
 ghost use Rattle.std.specs.Str.{IsUtf8};
 ghost use Rattle.foyer_format.specs.Codes.{is_number, number_read, counted, is_counted, is_counted_text, text_read};
