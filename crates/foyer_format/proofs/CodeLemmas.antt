@@ -1,9 +1,12 @@
--- Whether counted bytes are text.
-use Rattle.std.proofs.Common.{◌≡◌, ℕ, List, ◌&&◌, drop, true, false, refl}
-use Rattle.std.specs.Prelude.{Bool}
+-- Whether counted bytes are text; and what spellings read as.
+use Rattle.std.proofs.Common.{◌≡◌, ◌<◌, ◌^◌, ℕ, List, ◌&&◌, drop, length, true, false, refl, ap}
+use Rattle.std.proofs.lemmas.Nat.{from_le_bytes-to_le_bytes_8}
+use Rattle.std.specs.Int.{w64, to_le_bytes}
+use Rattle.std.specs.Prelude.{Bool, Some}
+use Rattle.foyer_format.specs.CodeLaws.{text_spelled}
 use Rattle.std.specs.Str.{IsUtf8, is_utf8}
 use Rattle.std.proofs.lemmas.Str.{is_utf8-from_IsUtf8, IsUtf8-from_is_utf8}
-use Rattle.foyer_format.specs.Codes.{is_counted, is_counted_text}
+use Rattle.foyer_format.specs.Codes.{counted, is_counted, is_counted_text, number_read, text_read}
 use Rattle.std.specs.Cmp.Derive.{both_true}
 
 not_true : (a b : Bool) → (b ≡ true → ⊥) → (a && b) ≡ false
@@ -18,3 +21,9 @@ pub is_text : (b : List ℕ) → is_counted b ≡ true → IsUtf8 (drop 8 b) →
 is_text b count text = both_true count (is_utf8-from_IsUtf8 (drop 8 b) text)
 
 pub ruleset text_lemmas = (not_text, is_text)
+
+pub number_read_back : (n : ℕ) → n < 2 ^ 64 → number_read (to_le_bytes w64 n) ≡ Some n
+number_read_back n fits = ap (λ (m : ℕ). Some m) (from_le_bytes-to_le_bytes_8 n fits)
+
+pub text_read_back : (bytes : List ℕ) → length bytes < 2 ^ 64 → IsUtf8 bytes → text_read (counted bytes) ≡ Some bytes
+text_read_back bytes fits text = rw (text_spelled bytes fits text) refl

@@ -8,7 +8,7 @@ use Rattle.foyer_format.specs.declared.compress.Compression.TheVariants as compr
 use Rattle.foyer_format.specs.Header.{header_bytes}
 use Rattle.foyer_format.specs.Record.{record_bytes}
 use Rattle.foyer_format.specs.Page.{page_up}
-use Rattle.foyer_format.specs.PageLaws.{page_up-holds}
+use Rattle.foyer_format.proofs.PageLaws.{page_up-holds}
 use Rattle.foyer_format.specs.Pushing.{Pushes}
 use Rattle.foyer_format.proofs.HeaderLemmas.{length-header_bytes}
 

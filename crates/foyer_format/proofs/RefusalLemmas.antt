@@ -42,8 +42,6 @@ reaches_pair o key value (Some error.Recover) is reached = absurd reached
 reaches_pair o key value (Some error.Closed) is reached = absurd reached
 reaches_pair o key value (Some error.SequenceEnd) is reached = absurd reached
 
-pub ruleset decode_faults = (decode_fault)
-
 -- an entry's refusal is a record's, but for those of an entry that is no record at all
 pub record_fault : (o : Outcome) (key value : List ℕ) (fault : Option Error) (e : Error) → o ≡ outcome_of key value fault
     → IsEntryFault fault e → e ≢ error.OutOfRange → e ≢ error.ChecksumMismatch → IsRecordFault o e

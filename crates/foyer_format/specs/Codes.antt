@@ -1,5 +1,5 @@
--- How values are spelled. A number of 64 bits is its eight bytes, the lowest first; a text is its length,
--- spelled as such a number, and its bytes.
+-- How values are spelled. A number of 64 bits is its eight bytes, the lowest first; a text is its
+-- length, spelled as such a number, and its bytes.
 use Rattle.std.specs.Prelude.{ℕ, ◌==◌, ◌&&◌, nat_le, Bool, List, ◌++◌, length, take, drop, Option, Some, None, if◌then◌else◌}
 use Rattle.std.specs.Int.{w64, to_le_bytes, from_le_bytes}
 use Rattle.std.specs.Str.{is_utf8}

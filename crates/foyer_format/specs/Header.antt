@@ -18,8 +18,9 @@ magic = 0x970327
 -- the 36 bytes of a header
 unfoldable pub header_bytes : EntryHeader → List ℕ
 header_bytes h =
-    big_bytes 4 h.key_len ++ (big_bytes 4 h.value_len ++ (big_bytes 8 h.hash ++ (big_bytes 8 h.sequence
-    ++ (big_bytes 8 h.checksum ++ big_bytes 4 (magic * 256 + byte_of h.compression)))))
+    big_bytes 4 h.key_len ++ (big_bytes 4 h.value_len ++ (big_bytes 8 h.hash
+    ++ (big_bytes 8 h.sequence ++ (big_bytes 8 h.checksum
+    ++ big_bytes 4 (magic * 256 + byte_of h.compression)))))
 
 -- the header with this compression
 abbrev pub header_with : List ℕ → Result Compression Error → Result EntryHeader Error
@@ -36,7 +37,9 @@ header_with b (Err e) = Err e
 -- the header that the first 36 bytes of b spell
 unfoldable pub header_of : List ℕ → Result EntryHeader Error
 header_of b =
-    if number_at 32 4 b / 256 == magic then header_with b (compression_of (number_at 32 4 b % 256)) else Err MagicMismatch
+    if number_at 32 4 b / 256 == magic
+    then header_with b (compression_of (number_at 32 4 b % 256))
+    else Err MagicMismatch
 
 -- each number fits its field
 pub record FitsFields (h : EntryHeader) : Type 0 where

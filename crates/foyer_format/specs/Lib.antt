@@ -1,11 +1,12 @@
-pub mod Codes
 pub mod CodeLaws
+pub mod Codes
 pub mod Compression
 pub mod Header
 pub mod Page
-pub mod PageLaws
 pub mod Pushing
 pub mod Record
 pub mod Refusals
 pub mod Tracked
+pub mod Vectors
 pub mod Writing
+pub mod Written

@@ -30,16 +30,18 @@ is_plain compression.None = true
 is_plain _ = false
 
 -- the first fault of the bytes of a value and a key
-unfoldable pub entry_fault : (List ℕ → Bool) → (List ℕ → Bool) → List ℕ → (key_len value_len : ℕ) → Compression → Option ℕ → Option Error
+unfoldable pub entry_fault : (is_key is_value : List ℕ → Bool) → List ℕ → (key_len value_len : ℕ)
+    → Compression → Option ℕ → Option Error
 entry_fault is_key is_value b key_len value_len c told =
     if nat_lt (length b) (value_len + key_len) then Some error.OutOfRange
-    else if is_other_sum told (xxh64 (take (value_len + key_len) b)) then Some error.ChecksumMismatch
+    else if is_other_sum told (xxh64 (take (value_len + key_len) b))
+    then Some error.ChecksumMismatch
     else if not (is_plain c) then Some error.Unsupported
     else if is_value (take value_len b) && is_key (take key_len (drop value_len b)) then None
     else Some error.Parse
 
--- What bytes are, for the hash and the sequence that were looked for: another record or none, a compressed
--- one, one whose value or key isn't spelled right, or a pair.
+-- What bytes are, for the hash and the sequence that were looked for: another record or none, a
+-- compressed one, one whose value or key isn't spelled right, or a pair.
 pub data Outcome : Type 0 where
   NoRecord : Outcome
   Unsupported : Outcome
@@ -53,19 +55,23 @@ outcome_of key value (Some error.Parse) = Undecodable
 outcome_of key value (Some _) = NoRecord
 
 -- what the bytes behind a header are
-unfoldable pub body_outcome : (List ℕ → Bool) → (List ℕ → Bool) → EntryHeader → List ℕ → Outcome
+unfoldable pub body_outcome : (is_key is_value : List ℕ → Bool) → EntryHeader → List ℕ → Outcome
 body_outcome is_key is_value head body =
     outcome_of (take head.key_len (drop head.value_len body)) (take head.value_len body)
-    (entry_fault is_key is_value body head.key_len head.value_len head.compression (Some head.checksum))
+    (entry_fault is_key is_value body head.key_len head.value_len
+    head.compression (Some head.checksum))
 
 -- b as a record with this header
-abbrev pub outcome_with : (List ℕ → Bool) → (List ℕ → Bool) → List ℕ → (hash sequence : ℕ) → Result EntryHeader Error → Outcome
+abbrev pub outcome_with : (is_key is_value : List ℕ → Bool) → List ℕ → (hash sequence : ℕ)
+    → Result EntryHeader Error → Outcome
 outcome_with is_key is_value b hash sequence (Err e) = NoRecord
 outcome_with is_key is_value b hash sequence (Ok head) =
-    if (head.hash == hash) && (head.sequence == sequence) && (length b == 36 + head.key_len + head.value_len)
+    if (head.hash == hash) && (head.sequence == sequence)
+    && (length b == 36 + head.key_len + head.value_len)
     then body_outcome is_key is_value head (drop 36 b)
     else NoRecord
 
-unfoldable pub pair_of : (List ℕ → Bool) → (List ℕ → Bool) → List ℕ → (hash sequence : ℕ) → Outcome
+-- what b is, where this hash and this sequence are looked for
+unfoldable pub pair_of : (is_key is_value : List ℕ → Bool) → List ℕ → (hash sequence : ℕ) → Outcome
 pair_of is_key is_value b hash sequence =
     outcome_with is_key is_value b hash sequence (header_of (take 36 b))

@@ -6,12 +6,12 @@ use Rattle.foyer_format.specs.declared.compress.Compression.{Compression}
 use Rattle.foyer_format.specs.declared.compress.Compression.TheVariants as compression
 use Rattle.foyer_format.specs.Record.{Outcome}
 use Rattle.foyer_format.specs.Record.{Outcome as outcome}
-use Rattle.foyer_format.specs.Writing.{IsFaultAt, Lacks}
+use Rattle.foyer_format.specs.Writing.{IsWriteFault}
 
--- Serializing n bytes is refused for another compression than None; else where a code can't encode its
--- value, or the writer, of this room, fails.
+-- Serializing n bytes is refused for another compression than None; else where a code can't encode
+-- its value, or the writer, of this room, fails.
 abbrev pub IsSerializeFault : Compression → (encodes : Type 0) → Option ℕ → ℕ → Error → Type 0
-IsSerializeFault compression.None encodes room n e = (encodes → ⊥) ⊎ (IsFaultAt room e × Lacks room n)
+IsSerializeFault compression.None encodes room n e = (encodes → ⊥) ⊎ IsWriteFault room n e
 IsSerializeFault _ encodes room n e = e ≡ error.Unsupported
 
 -- the codes were reached

@@ -1,4 +1,5 @@
-//! The bytes of entries: codes of keys and values, records, and the buffer that records are written into.
+//! The bytes of entries: codes of keys and values, records, and the buffer that records are
+//! written into.
 #![tactic(auto)]
 
 pub mod block;

@@ -7,7 +7,7 @@ mod entries;
 mod sinks;
 
 pub use ages::{Age, Properties};
-pub use codes::{string_read_back, u64_read_back};
+pub use codes::{code_vectors, string_read_back, u64_read_back};
 pub use coding::{Code, StorageKey, StorageValue};
 pub use entries::{EntryDeserializer, EntrySerializer, KvInfo};
 pub use foyer_checksum::Checksummer;

@@ -1,5 +1,5 @@
 //! The buffer that records are written into, one behind another, each padded to whole pages.
-ghost use Rattle.std.specs.Prelude.{◌≡◌, ◌+◌, ◌-◌, ◌^◌, ◌<◌, ◌≤◌, ◌++◌, ◌↔◌, ◌⊎◌, [], ℕ, List, length, take, drop, IsTrue, OnOk, OnErr, IfOk, IfErr, IfSome, IfNone, OnSome, vec_len, vec_capacity};
+ghost use Rattle.std.specs.Prelude.{◌≡◌, ◌+◌, ◌^◌, ◌<◌, ◌↔◌, [], ℕ, List, length, IsTrue, OnErr, IfOk, IfErr, IfSome, IfNone, OnSome};
 ghost use Rattle.foyer_device.specs.declared.error.Error.{Error as error};
 ghost use Rattle.foyer_format.specs.Page.{page_up};
 ghost use Rattle.foyer_format.specs.Pushing.{FitsRoom, Pushes};
@@ -7,7 +7,7 @@ ghost use Rattle.foyer_format.specs.Record.{record_bytes};
 
 use crate::block::serde::{EntryHeader, Sequence};
 use crate::compress::Compression;
-use crate::serde::{Checksummer, Code, EntrySerializer};
+use crate::serde::{Code, EntrySerializer};
 use foyer_device::error::Result;
 use reserved::Reserved;
 use std::alloc::Allocator;
@@ -76,13 +76,14 @@ impl<A: Allocator> Buffer<A> {
         self.sink.bytes.len()
     }
 
+    /// Whether no byte was written.
     pub fn is_empty(&self) -> bool
         ensures { IsTrue result ↔ (self.now ≡ []) }
     {
         self.sink.bytes.is_empty()
     }
 
-    /// Makes room for so many bytes more, and no other. Memory where it was refused.
+    /// Makes room for exactly so many bytes more. Memory where it was refused.
     pub fn reserve(&mut self, additional: usize) -> Result<()>
         ensures unchanged { self.new ≡ self.old }
         ensures memory { IfErr result (λ e. e ≡ error.Memory) }
@@ -100,10 +101,10 @@ impl<A: Allocator> Buffer<A> {
         bytes
     }
 
-    /// Appends the record of a key and a value, padded with zeros to whole pages, and gives its length without
-    /// the padding; `None` where it doesn't fit into `room` bytes. Memory where a growth was refused. The bytes
-    /// change only where a length is given.
-    #[tactic(auto, using(crate::specs::PageLaws::pages))]
+    /// Appends the record of a key and a value, padded with zeros to whole pages, and gives its
+    /// length without the padding; `None` where it doesn't fit into `room` bytes. Memory where a
+    /// growth was refused. The bytes change only where a length is given.
+    #[tactic(auto, using(crate::proofs::PageLaws::pages))]
     pub fn push<K: Code<A>, V: Code<A>>(
         &mut self,
         room: usize,

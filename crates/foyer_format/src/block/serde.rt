@@ -1,6 +1,7 @@
 //! The header of a record, and reading a record back.
 ghost use Rattle.std.specs.Prelude.{◌≡◌, ◌+◌, ◌<◌, ◌^◌, ◌↔◌, ℕ, List, Bool, true, length, take, Ok, Err, None, IfOk, IfSome, IfNone, IfErr};
 ghost use Rattle.foyer_format.specs.Header.{header_bytes, header_of, FitsFields};
+ghost use Rattle.foyer_format.specs.Vectors.{HeaderVector};
 ghost use Rattle.foyer_format.specs.Record.{body_outcome, pair_of, record_bytes};
 ghost use Rattle.foyer_format.specs.Record.{Outcome as outcome};
 ghost use Rattle.foyer_format.specs.Refusals.{IsRecordFault};
@@ -22,7 +23,11 @@ pub use std::sync::atomic::AtomicU64 as AtomicSequence;
 /// What the last word of a header begins with; its lowest byte names the compression.
 const ENTRY_MAGIC: u32 = 0x9703_2700;
 
-/// The header of a record: the lengths in bytes of its spelled key and value, and the checksum of both.
+/// The bytes that a header takes.
+const HEADER_LEN: usize = 36;
+
+/// The header of a record: the lengths in bytes of its spelled key and value, and the checksum of
+/// both.
 #[derive(Debug, PartialEq, Eq, Drop)]
 pub struct EntryHeader {
     pub key_len: u32,
@@ -38,7 +43,7 @@ impl EntryHeader {
     pub fn serialized_len() -> usize
         ensures { result ≡ 36 }
     {
-        36
+        HEADER_LEN
     }
 
     /// Writes the header over the buffer's 36 bytes, each number with its highest byte first.
@@ -56,13 +61,14 @@ impl EntryHeader {
         BigEndian::write_u32(&mut buf[32..], word);
     }
 
-    /// The header that 36 bytes spell. MagicMismatch where they have another magic, else Parse where the
-    /// last byte names no compression; nothing else is refused.
+    /// The header that 36 bytes spell. MagicMismatch where they have another magic, else Parse
+    /// where the last byte names no compression; nothing else is refused.
     #[tactic(auto, using(crate::proofs::HeaderLemmas::header_again_of))]
     pub fn read(buf: &[u8]) -> Result<EntryHeader>
         requires { length buf.now ≡ 36 }
         ensures exact { result ≡ header_of buf.now }
-        ensures again { (h : EntryHeader) → FitsFields h → buf.now ≡ header_bytes h → result ≡ Ok h }
+        ensures again { (h : EntryHeader) → FitsFields h → buf.now ≡ header_bytes h
+            → result ≡ Ok h }
     {
         Self::read_exactly(buf)
     }
@@ -90,6 +96,12 @@ impl EntryHeader {
     }
 }
 
+/// A header in bytes.
+#[tactic(auto, unfolding(crate::specs::Header::header_bytes))]
+pub fn header_vector()
+    ensures { HeaderVector }
+{}
+
 /// A header is read as it was written.
 #[tactic(auto, using(crate::proofs::HeaderLemmas::header_again_of))]
 pub fn header_read_back()
@@ -106,9 +118,9 @@ pub fn record_read_back()
         ≡ outcome.Pair key value }
 {}
 
-/// The pair of a record of this hash and this sequence, or `None` where the bytes are no such record.
-/// Unsupported where it is compressed, Parse where its value or its key isn't spelled right, Memory where a
-/// growth was refused; nothing else is refused.
+/// The pair of a record of this hash and this sequence, or `None` where the bytes are no such
+/// record. Unsupported where it is compressed, Parse where its value or its key isn't spelled
+/// right, Memory where a growth was refused; nothing else is refused.
 #[tactic(auto, using(crate::proofs::RefusalLemmas::record_answers))]
 pub fn read_record<A: Allocator + Clone, K: Code<A> + Drop, V: Code<A> + Drop>(
     alloc: A,
@@ -150,7 +162,7 @@ fn find_record<A: Allocator + Clone, K: Code<A> + Drop, V: Code<A> + Drop>(
     let Some(header) = record_header(bytes, hash, sequence) else {
         return Ok(None);
     };
-    read_body(alloc, &header, &bytes[36..])
+    read_body(alloc, &header, &bytes[HEADER_LEN..])
 }
 
 // The pair of the bytes behind this header.
@@ -200,14 +212,17 @@ fn record_header(bytes: &[u8], hash: u64, sequence: Sequence) -> Option<EntryHea
     ensures none { (is_key is_value : List ℕ → Bool)
         → IfNone result (pair_of is_key is_value bytes.now hash sequence ≡ outcome.NoRecord) }
 {
-    if bytes.len() < 36 {
+    if bytes.len() < HEADER_LEN {
         return None;
     }
-    match EntryHeader::read(&bytes[..36]) {
+    match EntryHeader::read(&bytes[..HEADER_LEN]) {
         Err(_) => None,
         Ok(header) => {
             let body_len = header.key_len as usize + header.value_len as usize;
-            if header.hash == hash && header.sequence == sequence && bytes.len() - 36 == body_len {
+            if header.hash == hash
+                && header.sequence == sequence
+                && bytes.len() - HEADER_LEN == body_len
+            {
                 Some(header)
             } else {
                 None

@@ -1,8 +1,9 @@
 //! The codes of `u64` and `String`.
-ghost use Rattle.std.specs.Prelude.{◌≡◌, ◌<◌, ◌^◌, ◌==◌, ℕ, List, drop, length, true, false, Some, MatchOption, string_bytes};
+ghost use Rattle.std.specs.Prelude.{◌≡◌, ◌<◌, ◌^◌, ℕ, drop, length, true, false, Some, MatchOption, string_bytes};
 ghost use Rattle.std.specs.Int.{w64, to_le_bytes};
 ghost use Rattle.std.specs.Str.{IsUtf8};
 ghost use Rattle.foyer_format.specs.Codes.{is_number, number_read, counted, is_counted, is_counted_text, text_read};
+ghost use Rattle.foyer_format.specs.Vectors.{NumberVector, TextVector};
 ghost use Rattle.foyer_format.specs.CodeLaws.{one_number, number_spelled, one_list, text_spelled};
 
 use super::coding::{Code, StorageKey, StorageValue};
@@ -19,7 +20,7 @@ impl<A: Allocator> Code<A> for u64 {
 
     ghost same = { λ n m. n ≡ m };
 
-    ghost takes_memory = { ⊥ };
+    ghost takes_memory = { λ _. ⊥ };
 
     fn encode_into<W: Sink>(&self, writer: &mut W) -> Result<()> {
         let value = *self;
@@ -51,7 +52,8 @@ impl<A: Allocator> StorageValue<A> for u64 {}
 // The bytes behind a length of eight bytes, if they are as many.
 fn counted_bytes(bytes: &[u8]) -> Option<&[u8]>
     ensures { MatchOption result (is_counted bytes.now ≡ false)
-        (λ b. (is_counted bytes.now ≡ true) × (b.now ≡ drop 8 bytes.now) × (counted b.now ≡ bytes.now)) }
+        (λ b. (is_counted bytes.now ≡ true) × (b.now ≡ drop 8 bytes.now)
+        × (counted b.now ≡ bytes.now)) }
 {
     if bytes.len() < 8 {
         return None;
@@ -76,7 +78,7 @@ impl<A: Allocator> Code<A> for String<A> {
 
     ghost same = { λ s t. string_bytes s ≡ string_bytes t };
 
-    ghost takes_memory = { Unit {0} };
+    ghost takes_memory = { λ b. is_counted_text b ≡ true };
 
     #[tactic(auto, using(crate::proofs::WritingLemmas::two_writes))]
     fn encode_into<W: Sink>(&self, writer: &mut W) -> Result<()> {
@@ -106,18 +108,24 @@ impl<A: Allocator> Code<A> for String<A> {
     ghost one_value = { λ s t a b same. one_list (string_bytes s) (string_bytes t) same };
 }
 
-impl StorageKey<Global> for String {}
+impl<A: Allocator + Send + Sync + 'static> StorageKey<A> for String<A> {}
 
-impl StorageValue<Global> for String {}
+impl<A: Allocator + Send + Sync + 'static> StorageValue<A> for String<A> {}
+
+/// The spellings of a number and of a text, in bytes.
+pub fn code_vectors()
+    ensures number { NumberVector }
+    ensures text { TextVector }
+{}
 
 /// Each number of 64 bits is what its spelling reads as.
-#[tactic(auto, using(crate::specs::CodeLaws::number_read_back))]
+#[tactic(auto, using(crate::proofs::CodeLemmas::number_read_back))]
 pub fn u64_read_back()
     ensures { (n : ℕ) → n < 2 ^ 64 → number_read (⟦<u64 as Code<Global>>⟧.spelling n) ≡ Some n }
 {}
 
 /// Each text is what its spelling reads as.
-#[tactic(auto, using(crate::specs::CodeLaws::text_read_back))]
+#[tactic(auto, using(crate::proofs::CodeLemmas::text_read_back))]
 pub fn string_read_back()
     ensures { (s : _) → ⟦<String as Code<Global>>⟧.encodes s
         → text_read (⟦<String as Code<Global>>⟧.spelling s) ≡ Some (string_bytes s) }

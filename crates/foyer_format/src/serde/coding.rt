@@ -3,7 +3,7 @@ ghost use Rattle.std.specs.Prelude.{◌≡◌, ◌≢◌, ◌⊎◌, ◌-◌, �
 ghost use Rattle.std.specs.Io.KnownBytes.{Appends};
 ghost use Rattle.foyer_device.specs.Error.{IsDecodeFault};
 ghost use Rattle.foyer_device.specs.declared.error.Error.TheVariants.{Memory};
-ghost use Rattle.foyer_format.specs.Writing.{Lacks, Takes, Extends, IsFaultAt, counted_on};
+ghost use Rattle.foyer_format.specs.Writing.{Takes, Extends, IsFaultAt, IsWriteFault, counted_on};
 
 use super::sinks::Sink;
 use foyer_device::error::Result;
@@ -26,10 +26,11 @@ pub trait Code<A: Allocator> {
     // The two values are the same, whatever memory they lie in.
     ghost same: { Self → Self → Type 0 };
 
-    // Decoding takes memory, which may be refused.
-    ghost takes_memory: { Type 0 };
+    // Decoding these bytes takes memory, which may be refused.
+    ghost takes_memory: { List ℕ → Type 0 };
 
-    /// Writes the value's bytes. An error is the writer's, or comes of a value that can't be encoded.
+    /// Writes the value's bytes. An error is the writer's, or comes of a value that can't be
+    /// encoded. After an `Err` some of the bytes may have been written.
     fn encode_into<W: Sink>(&self, writer: &mut W) -> Result<()>
         ensures bytes { OnOk result
             (Appends (W.contents writer.old) (W.contents writer.new) (spelling self.now)) }
@@ -42,10 +43,11 @@ pub trait Code<A: Allocator> {
         ensures kept { OnErr result (Extends (W.room writer.old) (W.room writer.new)
             (W.contents writer.old) (W.contents writer.new)) }
         ensures refused { IfErr result (λ e. (encodes self.now → ⊥)
-            ⊎ (IsFaultAt (W.room writer.old) e × Lacks (W.room writer.old) (length (spelling self.now)))) };
+            ⊎ IsWriteFault (W.room writer.old) (length (spelling self.now)) e) };
 
-    /// Writes the value's bytes to any writer. Io where the writer failed, BufferSizeLimit where it takes no
-    /// more, else the code's own error. After an `Err` some of the bytes may have been written.
+    /// Writes the value's bytes to any writer. Io where the writer failed, BufferSizeLimit where it
+    /// takes no more, else the code's own error. After an `Err` some of the bytes may have been
+    /// written.
     final fn encode<W: Write>(&self, writer: &mut W) -> Result<()>
     where
         Self: Sized,
@@ -61,8 +63,8 @@ pub trait Code<A: Allocator> {
         self.encode_into(&mut lent)
     }
 
-    /// The value that the bytes spell, all of the bytes. Parse where they spell none; Memory where a growth
-    /// was refused.
+    /// The value that the bytes spell, all of the bytes. Parse where they spell none, Memory where
+    /// a growth was refused.
     fn decode(alloc: A, bytes: &[u8]) -> Result<Self>
     where
         Self: Sized,
@@ -70,7 +72,7 @@ pub trait Code<A: Allocator> {
         ensures encodes { IfOk result encodes }
         ensures is_spelling { OnOk result (is_spelling bytes.now ≡ true) }
         ensures refused { IfErr result (λ e. e ≢ Memory → is_spelling bytes.now ≡ false) }
-        ensures memory { IfErr result (λ e. e ≡ Memory → takes_memory) }
+        ensures memory { IfErr result (λ e. e ≡ Memory → takes_memory bytes.now) }
         ensures fault { IfErr result IsDecodeFault };
 
     /// How many bytes the value takes, at most `usize::MAX`.

@@ -1,10 +1,11 @@
 //! The bytes of an entry: the value's, and then the key's.
-ghost use Rattle.std.specs.Prelude.{◌≡◌, ◌+◌, ◌-◌, ◌^◌, ◌<◌, ◌++◌, ◌⊎◌, min, length, take, drop, None, OnOk, OnErr, IfOk, IfErr};
+ghost use Rattle.std.specs.Prelude.{◌≡◌, ◌+◌, ◌-◌, ◌^◌, ◌++◌, ◌⊎◌, min, length, take, drop, None, OnOk, OnErr, IfOk, IfErr};
 ghost use Rattle.std.specs.Io.KnownBytes.{Appends};
 ghost use Rattle.foyer_device.specs.declared.error.Error.TheVariants.{Memory};
 ghost use Rattle.foyer_format.specs.declared.compress.Compression.TheVariants as compression_of;
 ghost use Rattle.foyer_format.specs.Record.{entry_fault};
 ghost use Rattle.foyer_format.specs.Refusals.{IsSerializeFault, IsEntryFault};
+ghost use Rattle.foyer_format.specs.Written.{IsWritten};
 ghost use Rattle.foyer_format.specs.Writing.{Takes, Extends};
 
 use super::coding::Code;
@@ -25,9 +26,9 @@ pub struct KvInfo {
 pub struct EntrySerializer;
 
 impl EntrySerializer {
-    /// Writes the value and then the key. Unsupported for another compression than `None`; else BufferSizeLimit
-    /// where room is missing, Io where the writer failed, or a code's own error. After an `Err` a sink of known
-    /// room has taken some of the bytes at most.
+    /// Writes the value and then the key. Unsupported for another compression than `None`; else
+    /// BufferSizeLimit where room is missing, Io where the writer failed, or a code's own error.
+    /// After an `Err` some of the bytes may have been written.
     #[tactic(auto, using(crate::proofs::WritingLemmas::two_writes))]
     pub fn serialize<A: Allocator, K: Code<A>, V: Code<A>, W: Sink>(
         key: &K,
@@ -37,9 +38,8 @@ impl EntrySerializer {
     ) -> Result<KvInfo>
         ensures bytes { OnOk result (Appends (W.contents writer.old) (W.contents writer.new)
             (V.spelling value.now ++ K.spelling key.now)) }
-        ensures lens { IfOk result (λ info.
-            W.taken writer.old + length (V.spelling value.now) + length (K.spelling key.now) < 2 ^ 64
-            → (info.value_len ≡ length (V.spelling value.now)) × (info.key_len ≡ length (K.spelling key.now))) }
+        ensures lens { IfOk result (λ info. IsWritten (W.taken writer.old)
+            (V.spelling value.now) (K.spelling key.now) info) }
         ensures plain { OnOk result (compression ≡ compression_of.None) }
         ensures encoded { OnOk result (V.encodes value.now × K.encodes key.now) }
         ensures room { OnOk result (Takes (W.room writer.old) (W.room writer.new)
@@ -47,8 +47,9 @@ impl EntrySerializer {
         ensures borrow { W.borrow writer.new ≡ W.borrow writer.old }
         ensures kept { OnErr result (Extends (W.room writer.old) (W.room writer.new)
             (W.contents writer.old) (W.contents writer.new)) }
-        ensures refused { IfErr result (IsSerializeFault compression (V.encodes value.now × K.encodes key.now)
-            (W.room writer.old) (length (V.spelling value.now) + length (K.spelling key.now))) }
+        ensures refused { IfErr result (IsSerializeFault compression
+            (V.encodes value.now × K.encodes key.now) (W.room writer.old)
+            (length (V.spelling value.now) + length (K.spelling key.now))) }
     {
         if compression != Compression::None {
             return Err(Error::Unsupported);
@@ -66,8 +67,8 @@ impl EntrySerializer {
 
     /// How many bytes both codes take together, at most `usize::MAX`.
     pub fn estimated_size<A: Allocator, K: Code<A>, V: Code<A>>(key: &K, value: &V) -> usize
-        ensures { K.encodes key.now → V.encodes value.now
-            → result ≡ min (length (V.spelling value.now) + length (K.spelling key.now)) (2 ^ 64 - 1) }
+        ensures { K.encodes key.now → V.encodes value.now → result
+            ≡ min (length (V.spelling value.now) + length (K.spelling key.now)) (2 ^ 64 - 1) }
     {
         key.estimated_size().saturating_add(value.estimated_size())
     }
@@ -77,11 +78,11 @@ impl EntrySerializer {
 pub struct EntryDeserializer;
 
 impl EntryDeserializer {
-    /// The key and the value of the bytes. The first of these faults is answered: OutOfRange where there are
-    /// fewer bytes than both lengths together, ChecksumMismatch where a checksum was told and isn't theirs,
-    /// Unsupported for another compression than `None`, Parse where a code refuses them. Memory where a growth,
-    /// or a clone of the allocator, was refused.
-    #[tactic(auto, unfolding(crate::specs::Record::entry_fault), using(crate::proofs::RefusalLemmas::decode_faults))]
+    /// The key and the value of the bytes. The first of these faults is answered: OutOfRange where
+    /// there are fewer bytes than both lengths together, ChecksumMismatch where a checksum was told
+    /// and isn't theirs, Unsupported for another compression than `None`, Parse where a code
+    /// refuses them. Memory where a growth, or a clone of the allocator, was refused.
+    #[tactic(auto, unfolding(crate::specs::Record::entry_fault), using(crate::proofs::RefusalLemmas::decode_fault))]
     pub fn deserialize<A: Allocator + Clone, K: Code<A> + Drop, V: Code<A> + Drop>(
         alloc: A,
         bytes: &[u8],
@@ -93,12 +94,14 @@ impl EntryDeserializer {
         ensures value { IfOk result (λ p. V.spelling p.1 ≡ take value_len bytes.now) }
         ensures key { IfOk result (λ p. K.spelling p.0 ≡ take key_len (drop value_len bytes.now)) }
         ensures encodes { IfOk result (λ p. V.encodes p.1 × K.encodes p.0) }
-        ensures sound { OnOk result
-            (entry_fault K.is_spelling V.is_spelling bytes.now key_len value_len compression checksum ≡ None) }
-        ensures fault { IfErr result (IsEntryFault
-            (entry_fault K.is_spelling V.is_spelling bytes.now key_len value_len compression checksum)) }
+        ensures sound { OnOk result (entry_fault K.is_spelling V.is_spelling
+            bytes.now key_len value_len compression checksum ≡ None) }
+        ensures fault { IfErr result (IsEntryFault (entry_fault K.is_spelling V.is_spelling
+            bytes.now key_len value_len compression checksum)) }
         ensures memory { IfErr result (λ e. e ≡ Memory
-            → V.takes_memory ⊎ K.takes_memory ⊎ (A.is_infallible alloc → ⊥)) }
+            → V.takes_memory (take value_len bytes.now)
+            ⊎ K.takes_memory (take key_len (drop value_len bytes.now))
+            ⊎ (A.is_infallible alloc → ⊥)) }
     {
         if bytes.len() < value_len || bytes.len() - value_len < key_len {
             return Err(Error::OutOfRange);
@@ -108,9 +111,9 @@ impl EntryDeserializer {
                 return Err(Error::ChecksumMismatch);
             }
         }
-        if compression != Compression::None {
+        let Compression::None = compression else {
             return Err(Error::Unsupported);
-        }
+        };
         let value = V::decode(alloc.clone()?, &bytes[..value_len])?;
         let key = K::decode(alloc, &bytes[value_len..value_len + key_len])?;
         Ok((key, value))

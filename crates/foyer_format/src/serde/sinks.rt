@@ -1,6 +1,7 @@
 //! Writers that count, and that may say how much they surely take.
-ghost use Rattle.std.specs.Prelude.{◌≡◌, ℕ, Option, None, length, IfErr, OnErr, OnOk};
-ghost use Rattle.std.specs.Io.KnownBytes.{Appends};
+ghost use Rattle.std.specs.Prelude.{◌≡◌, ℕ, Option, None, length, IfErr, IfOk, OnErr, OnOk};
+ghost use Rattle.std.specs.Io.KnownBytes.{Appends, Keeps, WriteAppends};
+ghost use Rattle.std.specs.Io.{WritesAtMost};
 ghost use Rattle.foyer_format.specs.Writing.{Lacks, Takes, Extends, IsFaultAt, counted_on};
 ghost use Rattle.foyer_format.specs.Tracked.{written_of, inner_of};
 
@@ -8,8 +9,8 @@ use foyer_device::error::Result;
 use std::io;
 use std::io::Write;
 
-/// A writer that counts its bytes. Where its room is known, only a lack of room makes it fail, so that
-/// a caller can tell its failure from that of a code.
+/// A writer that counts its bytes. Where its room is known, only a lack of room makes it fail, so
+/// that a caller can tell its failure from that of a code.
 pub trait Sink: Write {
     // How many bytes it surely takes, where that is known.
     ghost room: { Self → Option ℕ };
@@ -24,8 +25,8 @@ pub trait Sink: Write {
     fn taken(&self) -> usize
         ensures { result ≡ taken self.now };
 
-    /// Writes all the bytes. BufferSizeLimit where room is missing, Io where the writer failed; after an
-    /// `Err` a sink of known room has taken some of the bytes at most.
+    /// Writes all the bytes. BufferSizeLimit where room is missing, Io where the writer failed.
+    /// After an `Err` some of the bytes may have been written.
     fn put(&mut self, bytes: &[u8]) -> Result<()>
         ensures bytes { OnOk result
             (Appends (Self.contents self.old) (Self.contents self.new) bytes.now) }
@@ -66,13 +67,23 @@ impl<W: Write> TrackedWriter<W> {
 impl<W: Write> Write for TrackedWriter<W> {
     ghost contents = { λ t. W.contents (inner_of t) };
 
-    fn write(&mut self, buf: &[u8]) -> io::Result<usize> {
+    fn write(&mut self, buf: &[u8]) -> io::Result<usize>
+        ensures bound { WritesAtMost result buf.now }
+        ensures bytes { WriteAppends (W.contents (inner_of self.old))
+            (W.contents (inner_of self.new)) result buf.now }
+        ensures written { IfOk result (λ n.
+            written_of self.new ≡ counted_on (written_of self.old) n) }
+        ensures refused { OnErr result (written_of self.new ≡ written_of self.old) }
+    {
         let n = self.inner.write(buf)?;
         self.written = self.written.saturating_add(n);
         Ok(n)
     }
 
-    fn flush(&mut self) -> io::Result<()> {
+    fn flush(&mut self) -> io::Result<()>
+        ensures bytes { Keeps (W.contents (inner_of self.old)) (W.contents (inner_of self.new)) }
+        ensures written { written_of self.new ≡ written_of self.old }
+    {
         self.inner.flush()
     }
 }

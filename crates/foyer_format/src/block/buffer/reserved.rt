@@ -1,5 +1,5 @@
 //! Memory that was reserved, as a writer that takes exactly as much as there is.
-ghost use Rattle.std.specs.Prelude.{◌≡◌, ◌+◌, ◌-◌, ◌^◌, ◌<◌, ◌≤◌, ◌++◌, length, take, drop, true, false, Some, OnErr, IfOk, IfErr, MatchBool, vec_len, vec_capacity};
+ghost use Rattle.std.specs.Prelude.{◌≡◌, ◌+◌, ◌-◌, ◌^◌, ◌<◌, ◌≤◌, ◌++◌, length, take, drop, Some, OnErr, IfOk, IfErr, MatchBool, vec_len, vec_capacity};
 ghost use Rattle.std.specs.Bool.{OnTrue};
 ghost use Rattle.foyer_device.specs.declared.error.Error.{Error as error};
 ghost use Rattle.foyer_format.specs.Record.{record_bytes};
@@ -52,7 +52,8 @@ impl<A: Allocator> Sink for Reserved<A> {
 }
 
 impl<A: Allocator> Reserved<A> {
-    // Appends the record; false, and nothing appended, where a code fails. The header's place is filled last.
+    // Appends the record; false, and nothing appended, where a code fails. The header's place is
+    // filled last.
     pub(super) fn append_record<K: Code<A>, V: Code<A>>(
         &mut self,
         key: &K,
@@ -62,15 +63,16 @@ impl<A: Allocator> Reserved<A> {
     ) -> Result<bool>
         requires header { vec_len self.old.bytes + 36 ≤ vec_capacity self.old.bytes }
         requires room { K.encodes key.now → V.encodes value.now
-            → vec_len self.old.bytes + 36 + length (V.spelling value.now) + length (K.spelling key.now)
-            ≤ vec_capacity self.old.bytes }
+            → vec_len self.old.bytes + 36 + length (V.spelling value.now)
+            + length (K.spelling key.now) ≤ vec_capacity self.old.bytes }
         requires lens { K.encodes key.now → V.encodes value.now
             → length (V.spelling value.now) + length (K.spelling key.now) < 2 ^ 32 }
         ensures appended { IfOk result (λ done. MatchBool done
             (self.new.bytes.items ≡ self.old.bytes.items
             ++ record_bytes hash sequence (K.spelling key.now) (V.spelling value.now))
             (self.new.bytes.items ≡ self.old.bytes.items)) }
-        ensures encoded { IfOk result (λ done. MatchBool done (K.encodes key.now × V.encodes value.now)
+        ensures encoded { IfOk result (λ done. MatchBool done
+            (K.encodes key.now × V.encodes value.now)
             (K.encodes key.now → V.encodes value.now → ⊥)) }
         ensures capacity { IfOk result (λ done. OnTrue done
             (vec_capacity self.old.bytes ≤ vec_capacity self.new.bytes)) }
@@ -93,7 +95,7 @@ impl<A: Allocator> Reserved<A> {
     }
 }
 
-// Writes the header of the record that begins at `start`, whose value and key stand behind its place.
+// Writes the header of the record that begins at `start`; its value and key stand there already.
 fn seal(
     bytes: &mut [u8],
     start: usize,
@@ -105,8 +107,9 @@ fn seal(
     requires header { start + 36 ≤ length bytes.old }
     requires body { length (drop (start + 36) bytes.old) ≡ value_len + key_len }
     requires lens { value_len + key_len < 2 ^ 32 }
-    ensures { bytes.new ≡ take start bytes.old ++ record_bytes hash sequence
-        (drop value_len (drop (start + 36) bytes.old)) (take value_len (drop (start + 36) bytes.old)) }
+    ensures { let body = drop (start + 36) bytes.old in bytes.new
+        ≡ take start bytes.old
+        ++ record_bytes hash sequence (drop value_len body) (take value_len body) }
 {
     let checksum = Checksummer::checksum64(&bytes[start + 36..]);
     let header = EntryHeader {

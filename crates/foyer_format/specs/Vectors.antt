@@ -1,0 +1,30 @@
+-- Worked examples: a header, and the spellings of a number and of a text.
+use Rattle.std.specs.Prelude.{◌≡◌, [], ◌∷◌, codes}
+use Rattle.std.specs.Int.{w64, to_le_bytes}
+use Rattle.foyer_format.specs.declared.compress.Compression.TheVariants as compression
+use Rattle.foyer_format.specs.Codes.{counted}
+use Rattle.foyer_format.specs.Header.{header_bytes}
+
+-- key_len 8, value_len 3, hash 1, sequence 2, checksum 0, not compressed
+abbrev pub HeaderVector : Type 0
+HeaderVector =
+    header_bytes (record {
+      key_len = 8;
+      value_len = 3;
+      hash = 1;
+      sequence = 2;
+      checksum = 0;
+      compression = compression.None;
+    })
+    ≡ 0 ∷ 0 ∷ 0 ∷ 8 ∷ 0 ∷ 0 ∷ 0 ∷ 3
+    ∷ 0 ∷ 0 ∷ 0 ∷ 0 ∷ 0 ∷ 0 ∷ 0 ∷ 1
+    ∷ 0 ∷ 0 ∷ 0 ∷ 0 ∷ 0 ∷ 0 ∷ 0 ∷ 2
+    ∷ 0 ∷ 0 ∷ 0 ∷ 0 ∷ 0 ∷ 0 ∷ 0 ∷ 0
+    ∷ 0x97 ∷ 0x03 ∷ 0x27 ∷ 0x00 ∷ []
+
+abbrev pub NumberVector : Type 0
+NumberVector = to_le_bytes w64 0x0102030405060708 ≡ 8 ∷ 7 ∷ 6 ∷ 5 ∷ 4 ∷ 3 ∷ 2 ∷ 1 ∷ []
+
+abbrev pub TextVector : Type 0
+TextVector =
+    counted (codes "abc") ≡ 3 ∷ 0 ∷ 0 ∷ 0 ∷ 0 ∷ 0 ∷ 0 ∷ 0 ∷ 0x61 ∷ 0x62 ∷ 0x63 ∷ []
