@@ -12,7 +12,6 @@ use crate::shards::Shard;
 use crate::tombstone::Tombstone;
 use foyer_device::error::{Error, Result};
 use std::alloc::Allocator;
-use std::collections::HashMap;
 use std::marker::Model;
 
 /// The number of a put or a delete, in the order in which they were accepted.
@@ -64,11 +63,12 @@ impl<A: Allocator> Model for Indexer<A> {
 
     ghost view = { λ a. map_of a.shards.items };
 
-    ghost invariant = { λ a. (0 < length a.shards.items) × (length a.counts.items ≡ length a.shards.items) };
+    ghost invariant = { λ a. (0 < length a.shards.items)
+        × (length a.counts.items ≡ length a.shards.items) };
 }
 
 impl<A: Allocator + Clone> Indexer<A> {
-    /// An index that has nothing. Memory is the only refusal.
+    /// An index of so many shards that has nothing. Memory is the only refusal.
     pub fn new(alloc: A, shards: usize) -> Result<Indexer<A>>
         requires { 0 < shards }
         ensures empty { IfOk result (λ indexer. indexer ≡ map.empty) }
@@ -85,8 +85,10 @@ impl<A: Allocator + Clone> Indexer<A> {
         hash: u64,
         sequence: Sequence,
     ) -> Result<Option<EntryAddress>>
-        ensures inserted { OnOk result (self.new ≡ inserted self.old hash (Index.Tombstone sequence)) }
-        ensures answer { IfOk result (λ answer. answer ≡ left_out (map.get self.old hash) (Index.Tombstone sequence)) }
+        ensures inserted { OnOk result
+            (self.new ≡ inserted self.old hash (Index.Tombstone sequence)) }
+        ensures answer { IfOk result (λ answer.
+            answer ≡ left_out (map.get self.old hash) (Index.Tombstone sequence)) }
         ensures err { OnErr result (self.new ≡ self.old) }
         ensures refused { IsOkUnless result Error.Memory }
     {
@@ -104,14 +106,15 @@ impl<A: Allocator + Clone> Indexer<A> {
         }
     }
 
-    /// Inserts addresses in order, and answers those that don't stay, in that order; they take the batch's
-    /// memory. Memory is the only refusal.
+    /// Inserts addresses in order, and answers those that don't stay, in that order and in the
+    /// batch's memory. Memory is the only refusal.
     pub fn insert_batch(
         &mut self,
         batch: Vec<HashedEntryAddress, A>,
     ) -> Result<Vec<HashedEntryAddress, A>>
         ensures inserted { OnOk result (self.new ≡ inserted_all self.old batch.items) }
-        ensures answers { IfOk result (λ answers. answers.items ≡ all_left_out self.old batch.items) }
+        ensures answers { IfOk result
+            (λ answers. answers.items ≡ all_left_out self.old batch.items) }
         ensures err { OnErr result (self.new ≡ self.old) }
         ensures refused { IsOkUnless result Error.Memory }
     {
@@ -141,7 +144,8 @@ impl<A: Allocator + Clone> Indexer<A> {
 
     /// Removes a hash where it has that very address. Tells whether it did.
     pub fn remove(&mut self, hash: u64, address: &EntryAddress) -> bool
-        ensures answer { IsTrue result ↔ (map.get self.old hash ≡ Some (Index.Address address.now)) }
+        ensures answer { IsTrue result
+            ↔ (map.get self.old hash ≡ Some (Index.Address address.now)) }
         ensures removed { OnTrue result (self.new ≡ map.remove self.old hash) }
         ensures unchanged { OnFalse result (self.new ≡ self.old) }
     {
