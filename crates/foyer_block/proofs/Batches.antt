@@ -1,17 +1,12 @@
 -- A batch: counted by shard, and inserted in order.
-use Rattle.std.proofs.Common.{◌≡◌, ◌≢◌, ℕ, zero, suc, ◌+◌, ◌-◌, ◌<◌, ◌≤◌, ◌%◌, ◌==◌, Bool, true, false, cond, Option, Some, None, List, [], ◌∷◌, ◌++◌, length, take, drop, get_or, slice_set, slice_index, if◌then◌else◌, refl, sym, ap, subst, ◌∙◌, arith, append_assoc, append-nil}
-use Rattle.std.specs.List.{count_by}
-use Rattle.std.specs.FinMap as map
-use Rattle.std.proofs.lemmas.List.{take_more, take_all, drop_all, drop_more, drop-set-lt, take_more_set, get_or-set_same, get_or-set_other}
-use Rattle.std.proofs.lemmas.List.Sums.{sum_by-cons, sum_by-append, sum_by_push, count_by-le-length}
+use Rattle.std.proofs.Common.{◌≡◌, ◌≢◌, ℕ, ◌+◌, ◌<◌, ◌≤◌, ◌%◌, ◌==◌, Bool, true, false, cond, List, [], ◌∷◌, ◌++◌, length, take, drop, get_or, slice_set, slice_index, if◌then◌else◌, refl, sym, ap, ◌∙◌, arith}
+use Rattle.std.proofs.lemmas.List.{take_more, get_or-set_same, get_or-set_other}
+use Rattle.std.proofs.lemmas.List.Sums.{sum_by-cons, sum_by_push}
 use Rattle.std.proofs.lemmas.Bool.{eqb-true, eqb-false, eq-eqb}
-use Rattle.foyer_block.specs.declared.indexer.EntryAddress.{EntryAddress}
 use Rattle.foyer_block.specs.declared.indexer.HashedEntryAddress.{HashedEntryAddress}
-use Rattle.foyer_block.specs.declared.indexer.Index.{Index}
-use Rattle.foyer_block.specs.declared.indexer.Index.TheVariants.{Address, Tombstone}
 use Rattle.foyer_block.specs.Index.{IndexMap}
-use Rattle.foyer_block.specs.Insertion.{left_out, inserted, inserted_all, hashed, all_left_out}
-use Rattle.foyer_block.specs.Shards.{Shard, belonging, room, HasRoom}
+use Rattle.foyer_block.specs.Insertion.{inserted_all, all_left_out}
+use Rattle.foyer_block.specs.Shards.{belonging}
 
 belonging-push : (n i : ℕ) (es : List HashedEntryAddress) (e : HashedEntryAddress) → belonging n i (es ++ e ∷ []) ≡ belonging n i es + cond (e.hash % n == i) 1 0
 belonging-push n i es e = sum_by_push (λ e. cond (e.hash % n == i) 1 0) es e

@@ -1,3 +1,4 @@
 pub mod Batches
 pub mod Found
+pub mod Indexed
 pub mod Removals

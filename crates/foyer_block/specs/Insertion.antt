@@ -4,7 +4,7 @@ use Rattle.std.specs.FinMap as map
 use Rattle.foyer_block.specs.declared.indexer.EntryAddress.{EntryAddress}
 use Rattle.foyer_block.specs.declared.indexer.HashedEntryAddress.{HashedEntryAddress}
 use Rattle.foyer_block.specs.declared.indexer.Index.{Index}
-use Rattle.foyer_block.specs.declared.indexer.Index.TheVariants.{Address, Tombstone}
+use Rattle.foyer_block.specs.declared.indexer.Index.TheVariants.{Address}
 use Rattle.foyer_block.specs.Index.{sequence_of, address_of, IndexMap}
 
 -- what a hash has after an insertion

@@ -1,5 +1,5 @@
 -- Removal: a hash goes only where it has that very address, or that very mark.
-use Rattle.std.specs.Prelude.{ℕ, Bool, true, false, not, ◌&&◌, ◌==◌, Option, Some, None, List}
+use Rattle.std.specs.Prelude.{ℕ, Bool, false, not, ◌&&◌, ◌==◌, Option, Some, None, List}
 use Rattle.std.specs.List.{list_any}
 use Rattle.std.specs.FinMap as map
 use Rattle.foyer_block.specs.declared.indexer.EntryAddress.{EntryAddress}

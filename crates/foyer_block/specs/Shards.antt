@@ -1,6 +1,6 @@
 -- The shards of the index, as the map that they are together.
 use Rattle.std.specs.Prelude.{◌≡◌, ℕ, suc, ◌+◌, ◌<◌, ◌≤◌, ◌%◌, ◌==◌, if◌then◌else◌, length, nat_eq}
-use Rattle.std.specs.Prelude.{Option, Some, None, unwrap_or, option_and_then}
+use Rattle.std.specs.Prelude.{Option, unwrap_or, option_and_then}
 use Rattle.std.specs.Prelude.{List, [], ◌∷◌, ◌++◌, filter, slice_get}
 use Rattle.std.specs.Option.{option_map}
 use Rattle.std.specs.declared.hash.FoldHasher.{FoldHasher}

@@ -82,15 +82,16 @@ fn enter_here<A: Allocator + Clone>(
     ensures succeeds { 0 < spare shard.old → IsOk result }
     ensures spare { spare shard.old ≤ spare shard.new + 1 }
 {
-    if let Some(held) = shard.get(&hash)
-        && next.sequence() < held.sequence()
-    {
-        return Ok(next.address());
+    if let Some(held) = shard.get_mut(&hash) {
+        if next.sequence() < held.sequence() {
+            return Ok(next.address());
+        }
+        let before = *held;
+        *held = next;
+        return Ok(before.address());
     }
-    match shard.insert(hash, next)? {
-        Some(held) => Ok(held.address()),
-        None => Ok(None),
-    }
+    shard.insert(hash, next)?;
+    Ok(None)
 }
 
 // An insertion.
@@ -170,29 +171,23 @@ pub(crate) fn remove_marks<A: Allocator>(shards: &mut Vec<Shard<A>, A>, marks: &
 }
 
 // Writes over what the hash has where that is `old`.
-fn replace_here<A: Allocator + Clone>(
-    shard: &mut Shard<A>,
-    hash: u64,
-    old: Index,
-    new: Index,
-) -> bool
+fn replace_here<A: Allocator>(shard: &mut Shard<A>, hash: u64, old: Index, new: Index) -> bool
     ensures answer { IsTrue result ↔ (held_at shard.old hash ≡ Some old) }
     ensures replaced { OnTrue result (ChangesAt shard.old shard.new hash (Some new)) }
     ensures unchanged { OnFalse result (HoldsSame shard.old shard.new) }
 {
-    let is_held = match shard.get(&hash) {
-        Some(found) => *found == old,
+    match shard.get_mut(&hash) {
+        Some(held) if *held == old => {
+            *held = new;
+            true
+        }
+        Some(_) => false,
         None => false,
-    };
-    if is_held {
-        let inserted: std::result::Result<_, _> = shard.insert(hash, new);
-        let _ = inserted.unwrap();
     }
-    is_held
 }
 
 // Writes over what the hash has where that is `old`, and tells whether it did.
-pub(crate) fn replace<A: Allocator + Clone>(
+pub(crate) fn replace<A: Allocator>(
     shards: &mut Vec<Shard<A>, A>,
     hash: u64,
     old: Index,
