@@ -1,10 +1,12 @@
 //! The index: what each hash has, an address on the device or the mark of a delete.
-ghost use Rattle.std.specs.Prelude.{◌≡◌, ◌<◌, ◌↔◌, IsTrue, IfOk, OnOk, OnErr, IsOkUnless};
+ghost use Rattle.std.specs.Prelude.{◌≡◌, ◌<◌, ◌↔◌, ℕ, List, MatchOption, IsTrue, IfOk, OnOk, OnErr, IsOkUnless};
 ghost use Rattle.std.specs.Bool.{OnTrue, OnFalse};
 ghost use Rattle.std.specs.FinMap as map;
 ghost use Rattle.foyer_block.specs.Insertion.{left_out, inserted, inserted_all, all_left_out};
 ghost use Rattle.foyer_block.specs.Removal.{without_addresses, without_marks};
 ghost use Rattle.foyer_block.specs.Index.{address_at};
+ghost use Rattle.foyer_block.specs.Greatest.{IsAbsent, HoldsNewest};
+ghost use Rattle.foyer_block.specs.declared.indexer.HashedEntryAddress.{HashedEntryAddress};
 
 use crate::manager::BlockId;
 use crate::shards;
@@ -173,3 +175,11 @@ impl<A: Allocator + Clone> Indexer<A> {
         shards::clear(&mut self.shards);
     }
 }
+
+/// After any insertions of addresses into an empty index a hash has the newest of its own: none of
+/// them has a greater sequence, and none behind it an equal one.
+pub fn greatest_sequence_stays()
+    ensures { (entries : List HashedEntryAddress) (hash : ℕ)
+        → MatchOption (map.get (inserted_all map.empty entries) hash)
+        (IsAbsent entries hash) (HoldsNewest entries hash) }
+{}
