@@ -10,8 +10,8 @@ use Rattle.foyer_block.specs.declared.indexer.Index.TheVariants.{Address, Tombst
 abbrev pub IsAbsent : List HashedEntryAddress → ℕ → Type 0
 IsAbsent es hash = AllByRecursion (λ e. e.hash ≢ hash) es
 
--- the address is in the list under the hash; there nothing before it has a greater sequence, and nothing
--- behind it one that is as great
+-- the address is in the list under the hash; of that hash nothing before it has a greater sequence,
+-- and nothing behind it one as great
 abbrev pub IsNewest : List HashedEntryAddress → ℕ → EntryAddress → Type 0
 IsNewest [] hash address = ⊥
 IsNewest (e ∷ es) hash address =
