@@ -1,5 +1,5 @@
 -- What the map of the shards has is what a hash has in its shard.
-use Rattle.std.proofs.Common.{◌≡◌, ◌≢◌, ℕ, zero, suc, ◌+◌, ◌-◌, ◌<◌, ◌≤◌, ◌%◌, ◌==◌, Bool, true, false, cond, IsTrue, ◌↔◌, Result, Ok, Err, OnOk, OnErr, IfOk, IsOk, Option, Some, None, List, [], ◌∷◌, ◌++◌, filter, length, nat_eq, slice_get, slice_set, slice_index, slice_index_or, unwrap_or, option_and_then, if◌then◌else◌, refl, sym, ap, subst, ◌∙◌, arith, nat_cmp}
+use Rattle.std.proofs.Common.{◌≡◌, ◌≢◌, ℕ, zero, suc, ◌+◌, ◌<◌, ◌≤◌, ◌%◌, ◌==◌, Bool, true, false, cond, IsTrue, ◌↔◌, Result, Ok, Err, OnOk, OnErr, IfOk, Option, Some, None, List, [], ◌∷◌, ◌++◌, filter, length, nat_eq, slice_get, slice_set, slice_index, slice_index_or, unwrap_or, option_and_then, if◌then◌else◌, refl, sym, ap, subst, ◌∙◌, arith, nat_cmp}
 use Rattle.std.specs.Bool.{OnTrue, OnFalse}
 use Rattle.std.specs.Option.{option_map}
 use Rattle.std.specs.Map.{lookup}
@@ -14,7 +14,6 @@ use Rattle.std.proofs.lemmas.Bool.{eqb-true, eqb-false, eq-eqb}
 use Rattle.foyer_block.specs.declared.indexer.EntryAddress.{EntryAddress}
 use Rattle.foyer_block.specs.declared.indexer.Index.{Index}
 use Rattle.foyer_block.specs.Insertion.{entered, left_out, inserted}
-use Rattle.foyer_block.specs.Index.{IndexMap}
 use Rattle.foyer_block.specs.Shards.{Shard, entries_from, map_of, found, room}
 
 find-lookup : {X : Type 0} (q : ℕ) (es : List (ℕ × X)) → find nat_cmp q es ≡ lookup (nat_eq q) es

@@ -1,3 +1,5 @@
 pub mod Batches
 pub mod Found
+pub mod Greatest
+pub mod Indexed
 pub mod Removals

@@ -1,20 +1,20 @@
 -- Removals one after another leave what a removal of all leaves.
-use Rattle.std.proofs.Common.{◌≡◌, ◌≢◌, ℕ, ◌+◌, ◌<◌, length, take, get_or, subst, arith, ◌==◌, ◌&&◌, ◌||◌, Bool, true, false, not, cond, IsTrue, ◌↔◌, Option, Some, None, List, [], ◌∷◌, ◌++◌, refl, sym, ap, ◌∙◌, nat_cmp}
+use Rattle.std.proofs.Common.{◌≡◌, ℕ, ◌+◌, ◌<◌, length, take, get_or, subst, arith, ◌==◌, ◌&&◌, ◌||◌, Bool, true, false, cond, IsTrue, ◌↔◌, Option, Some, None, List, [], ◌∷◌, ◌++◌, refl, sym, ap, ◌∙◌, nat_cmp}
 use Rattle.std.specs.Bool.{OnTrue, OnFalse}
 use Rattle.std.specs.List.{list_any}
 use Rattle.std.specs.Ordering.{eq_by_cmp}
 use Rattle.std.specs.Cmp.{nat_cmp_total, unsigned_tied, nat_eq_equiv}
 use Rattle.std.specs.FinMap as map
-use Rattle.std.specs.FinMap.{nat_cmp-IsAntisymmetric, same_map, get-remove, get-retain_keys}
+use Rattle.std.specs.FinMap.{nat_cmp-IsAntisymmetric, same_map, get-remove}
 use Rattle.std.proofs.lemmas.List.{take_more, take_all}
 use Rattle.std.proofs.lemmas.List.Folds.{list_any-append}
-use Rattle.std.proofs.lemmas.Bool.{eqb-true, eqb-false, eq-eqb}
-use Rattle.foyer_block.specs.declared.indexer.EntryAddress.{EntryAddress}
+use Rattle.std.proofs.lemmas.Bool.{eqb-true}
 use Rattle.foyer_block.specs.declared.indexer.HashedEntryAddress.{HashedEntryAddress}
 use Rattle.foyer_block.specs.declared.indexer.Index.{Index}
 use Rattle.foyer_block.specs.declared.indexer.Index.TheVariants.{Address, Tombstone}
 use Rattle.foyer_block.specs.declared.tombstone.Tombstone.{Tombstone as Mark}
-use Rattle.foyer_block.specs.Removal.{same_address, has_address, has_mark, without_addresses, without_marks}
+use Rattle.foyer_block.specs.Removal.{has_address, has_mark, without_addresses, without_marks}
+use Rattle.foyer_block.proofs.Indexed.{has_address-is, has_address-itself, has_mark-is, has_mark-itself, get-without_addresses, get-without_marks}
 use Rattle.foyer_block.specs.Index.{IndexMap}
 
 false_is_not_true : IsTrue false → ⊥
@@ -77,51 +77,6 @@ module _ {X : Type 0} (hash : X → ℕ) (value : X → Index) (has : Option Ind
   pub left_by_none : (m : IndexMap) → LeftBy m m []
   left_by_none m q = refl
 
-  pub left_by_all : (m now : IndexMap) (xs : List X) → LeftBy m now xs
-      → now ≡ map.retain_keys m (λ q. not (list_any (λ x. hash x == q && has (map.get m q) x) xs))
-  left_by_all m now xs left = same_map nat_cmp_total nat_cmp-IsAntisymmetric _ _ (λ q.
-      left q ∙ turned (list_any (λ x. hash x == q && has (map.get m q) x) xs) (map.get m q)
-      ∙ sym (get-retain_keys m (λ q. not (list_any (λ x. hash x == q && has (map.get m q) x) xs)) q
-      (λ y tie. ap (λ q. not (list_any (λ x. hash x == q && has (map.get m q) x) xs)) (sym (nat_cmp-IsAntisymmetric q y tie)))))
-    where
-      turned : (b : Bool) (o : Option Index) → cond b None o ≡ cond (not b) o None
-      turned true o = refl
-      turned false o = refl
-
-both : (a b : Bool) → (a && b) ≡ true → (a ≡ true) × (b ≡ true)
-both true b e = (refl, e)
-both false b e = absurd (cc)
-
-same_address-refl : (a : EntryAddress) → same_address a a ≡ true
-same_address-refl a = rw (eq-eqb a.block a.block refl, eq-eqb a.offset a.offset refl, eq-eqb a.len a.len refl, eq-eqb a.sequence a.sequence refl, eq-eqb a.filling a.filling refl)
-
-same_address-same : (a b : EntryAddress) → same_address a b ≡ true → a ≡ b
-same_address-same a b e =
-    let p = both _ _ e in
-    let q = both _ _ p.0 in
-    let r = both _ _ q.0 in
-    let s = both _ _ r.0 in
-    λ i. record {
-      block = eqb-true a.block b.block s.0 i;
-      offset = eqb-true a.offset b.offset s.1 i;
-      len = eqb-true a.len b.len r.1 i;
-      sequence = eqb-true a.sequence b.sequence q.1 i;
-      filling = eqb-true a.filling b.filling p.1 i;
-    }
-
-address_found : (o : Option Index) (e : HashedEntryAddress) → has_address o e.address ≡ true → o ≡ Some (Address e.address)
-address_found None e is = absurd (cc)
-address_found (Some (Address held)) e is = ap (λ a. Some (Address a)) (same_address-same held e.address is)
-address_found (Some (Tombstone sequence)) e is = absurd (cc)
-
-mark_found : (o : Option Index) (mark : Mark) → has_mark o mark.sequence ≡ true → o ≡ Some (Tombstone mark.sequence)
-mark_found None mark is = absurd (cc)
-mark_found (Some (Address held)) mark is = absurd (cc)
-mark_found (Some (Tombstone held)) mark is = ap (λ s. Some (Tombstone s)) (eqb-true held mark.sequence is)
-
-mark_there : (mark : Mark) → has_mark (Some (Tombstone mark.sequence)) mark.sequence ≡ true
-mark_there mark = eq-eqb mark.sequence mark.sequence refl
-
 abbrev pub LeftByAddresses : IndexMap → IndexMap → List HashedEntryAddress → Type 0
 LeftByAddresses m now es = (q : ℕ) → map.get now q ≡ cond (list_any (λ e. e.hash == q && has_address (map.get m q) e.address) es) None (map.get m q)
 
@@ -134,7 +89,7 @@ pub address_more : (m now new : IndexMap) (es : List HashedEntryAddress) (i : �
     → OnTrue acted (new ≡ map.remove now (get_or es i d).hash) → OnFalse acted (new ≡ now)
     → LeftByAddresses m new (take (i + 1) es)
 address_more m now new es i d acted within left is removed unchanged = subst (LeftByAddresses m new) (sym (take_more es i d within))
-    (left_by_more (λ e. e.hash) (λ e. Address e.address) (λ o e. has_address o e.address) address_found (λ e. same_address-refl e.address)
+    (left_by_more (λ e. e.hash) (λ e. Address e.address) (λ o e. has_address o e.address) (λ o e. has_address-is o e.address) (λ e. has_address-itself e.address)
     m now new (take i es) (get_or es i d) acted left is removed unchanged)
 
 pub mark_more : (m now new : IndexMap) (marks : List Mark) (i : ℕ) (d : Mark) (acted : Bool) → i < length marks
@@ -143,16 +98,16 @@ pub mark_more : (m now new : IndexMap) (marks : List Mark) (i : ℕ) (d : Mark) 
     → OnTrue acted (new ≡ map.remove now (get_or marks i d).hash) → OnFalse acted (new ≡ now)
     → LeftByMarks m new (take (i + 1) marks)
 mark_more m now new marks i d acted within left is removed unchanged = subst (LeftByMarks m new) (sym (take_more marks i d within))
-    (left_by_more (λ mark. mark.hash) (λ mark. Tombstone mark.sequence) (λ o mark. has_mark o mark.sequence) mark_found mark_there
+    (left_by_more (λ mark. mark.hash) (λ mark. Tombstone mark.sequence) (λ o mark. has_mark o mark.sequence) (λ o mark. has_mark-is o mark.sequence) (λ mark. has_mark-itself mark.sequence)
     m now new (take i marks) (get_or marks i d) acted left is removed unchanged)
 
 -- at the end of the list
-pub addresses_left : (m now : IndexMap) (es : List HashedEntryAddress) (i : ℕ) → i ≡ length es → LeftByAddresses m now (take i es) → now ≡ without_addresses m es
-addresses_left m now es i end left =
-    left_by_all (λ e. e.hash) (λ e. Address e.address) (λ o e. has_address o e.address) address_found (λ e. same_address-refl e.address) m now es
-    (subst (LeftByAddresses m now) (take_all i es (omega (arith, end))) left)
+pub addresses_left : (m now : IndexMap) (es : List HashedEntryAddress) (i : ℕ) → i ≡ length es
+    → LeftByAddresses m now (take i es) → now ≡ without_addresses m es
+addresses_left m now es i end left = same_map nat_cmp_total nat_cmp-IsAntisymmetric _ _ (λ q.
+    subst (LeftByAddresses m now) (take_all i es (omega (arith, end))) left q ∙ sym (get-without_addresses m es q))
 
-pub marks_left : (m now : IndexMap) (marks : List Mark) (i : ℕ) → i ≡ length marks → LeftByMarks m now (take i marks) → now ≡ without_marks m marks
-marks_left m now marks i end left =
-    left_by_all (λ mark. mark.hash) (λ mark. Tombstone mark.sequence) (λ o mark. has_mark o mark.sequence) mark_found mark_there m now marks
-    (subst (LeftByMarks m now) (take_all i marks (omega (arith, end))) left)
+pub marks_left : (m now : IndexMap) (marks : List Mark) (i : ℕ) → i ≡ length marks
+    → LeftByMarks m now (take i marks) → now ≡ without_marks m marks
+marks_left m now marks i end left = same_map nat_cmp_total nat_cmp-IsAntisymmetric _ _ (λ q.
+    subst (LeftByMarks m now) (take_all i marks (omega (arith, end))) left q ∙ sym (get-without_marks m marks q))

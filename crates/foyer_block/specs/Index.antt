@@ -29,19 +29,29 @@ numbers_of (Tombstone sequence) = inr sequence
 
 abbrev pub index_of : Numbers ⊎ ℕ → Index
 index_of (inl n) =
-    Address (record { block = n.0; offset = n.1.0; len = n.1.1.0; sequence = n.1.1.1.0; filling = n.1.1.1.1 })
+    Address (record {
+      block = n.0;
+      offset = n.1.0;
+      len = n.1.1.0;
+      sequence = n.1.1.1.0;
+      filling = n.1.1.1.1;
+    })
 index_of (inr sequence) = Tombstone sequence
 
 abbrev pub index_of-numbers_of : (index : Index) → index_of (numbers_of index) ≡ index
 index_of-numbers_of (Address a) = refl
 index_of-numbers_of (Tombstone sequence) = refl
 
+abbrev pub index_code : Coded Index
+index_code =
+    code_by (Numbers ⊎ ℕ) (coded⊎ numbers_code coded_ℕ) numbers_of index_of index_of-numbers_of
+
 -- what each hash has
 abbrev pub IndexMap : Type 0
 IndexMap = map.FinMap nat_cmp Index
 
 abbrev pub index_map_code : Coded IndexMap
-index_map_code = map.code coded_ℕ (code_by (Numbers ⊎ ℕ) (coded⊎ numbers_code coded_ℕ) numbers_of index_of index_of-numbers_of)
+index_map_code = map.code coded_ℕ index_code
 
 -- the address of a hash
 abbrev pub address_at : IndexMap → ℕ → Option EntryAddress

@@ -1,10 +1,10 @@
--- Insertion: of all that is inserted for a hash the greatest sequence stays, the later among equals.
-use Rattle.std.specs.Prelude.{ℕ, Option, Some, None, List, [], ◌∷◌, ◌++◌, nat_le, if◌then◌else◌}
+-- Insertion: of what is inserted for a hash the greatest sequence stays, the later among equals.
+use Rattle.std.specs.Prelude.{ℕ, nat_le, if◌then◌else◌, Option, Some, None, List, [], ◌∷◌, ◌++◌}
 use Rattle.std.specs.FinMap as map
 use Rattle.foyer_block.specs.declared.indexer.EntryAddress.{EntryAddress}
 use Rattle.foyer_block.specs.declared.indexer.HashedEntryAddress.{HashedEntryAddress}
 use Rattle.foyer_block.specs.declared.indexer.Index.{Index}
-use Rattle.foyer_block.specs.declared.indexer.Index.TheVariants.{Address, Tombstone}
+use Rattle.foyer_block.specs.declared.indexer.Index.TheVariants.{Address}
 use Rattle.foyer_block.specs.Index.{sequence_of, address_of, IndexMap}
 
 -- what a hash has after an insertion
@@ -15,7 +15,8 @@ entered (Some held) next = if nat_le (sequence_of held) (sequence_of next) then 
 -- the address that doesn't stay, be it the one that the hash had or the one that came
 abbrev pub left_out : Option Index → Index → Option EntryAddress
 left_out None next = None
-left_out (Some held) next = address_of (if nat_le (sequence_of held) (sequence_of next) then held else next)
+left_out (Some held) next =
+    address_of (if nat_le (sequence_of held) (sequence_of next) then held else next)
 
 -- the index after an insertion
 abbrev pub inserted : IndexMap → ℕ → Index → IndexMap
@@ -35,4 +36,5 @@ hashed hash (Some address) = record { hash = hash; address = address } ∷ []
 abbrev pub all_left_out : IndexMap → List HashedEntryAddress → List HashedEntryAddress
 all_left_out m [] = []
 all_left_out m (e ∷ es) =
-    hashed e.hash (left_out (map.get m e.hash) (Address e.address)) ++ all_left_out (inserted m e.hash (Address e.address)) es
+    hashed e.hash (left_out (map.get m e.hash) (Address e.address))
+    ++ all_left_out (inserted m e.hash (Address e.address)) es

@@ -1,5 +1,5 @@
 -- Removal: a hash goes only where it has that very address, or that very mark.
-use Rattle.std.specs.Prelude.{ℕ, Bool, true, false, not, ◌&&◌, ◌==◌, Option, Some, None, List}
+use Rattle.std.specs.Prelude.{ℕ, Bool, false, not, ◌&&◌, ◌==◌, Option, Some, None, List}
 use Rattle.std.specs.List.{list_any}
 use Rattle.std.specs.FinMap as map
 use Rattle.foyer_block.specs.declared.indexer.EntryAddress.{EntryAddress}
@@ -11,7 +11,8 @@ use Rattle.foyer_block.specs.Index.{IndexMap}
 
 abbrev pub same_address : EntryAddress → EntryAddress → Bool
 same_address a b =
-    a.block == b.block && a.offset == b.offset && a.len == b.len && a.sequence == b.sequence && a.filling == b.filling
+    a.block == b.block && a.offset == b.offset && a.len == b.len
+    && a.sequence == b.sequence && a.filling == b.filling
 
 -- a hash has that very address
 abbrev pub has_address : Option Index → EntryAddress → Bool
@@ -27,11 +28,13 @@ has_mark (Some (Tombstone held)) sequence = held == sequence
 
 -- the list has the address that the hash has, under that hash
 abbrev pub lists_address : List HashedEntryAddress → ℕ → Option Index → Bool
-lists_address es hash held = list_any (λ e. e.hash == hash && has_address held e.address) es
+lists_address es hash held =
+    list_any (λ e. e.hash == hash && has_address held e.address) es
 
 -- the list has the mark that the hash has, under that hash
 abbrev pub lists_mark : List Mark → ℕ → Option Index → Bool
-lists_mark marks hash held = list_any (λ mark. mark.hash == hash && has_mark held mark.sequence) marks
+lists_mark marks hash held =
+    list_any (λ mark. mark.hash == hash && has_mark held mark.sequence) marks
 
 -- the index without the listed addresses
 abbrev pub without_addresses : IndexMap → List HashedEntryAddress → IndexMap

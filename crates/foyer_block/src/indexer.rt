@@ -1,10 +1,13 @@
 //! The index: what each hash has, an address on the device or the mark of a delete.
-ghost use Rattle.std.specs.Prelude.{◌≡◌, ◌<◌, ◌↔◌, IsTrue, IfOk, OnOk, OnErr, IsOkUnless};
+ghost use Rattle.std.specs.Prelude.{◌≡◌, ◌<◌, ◌↔◌, ℕ, List, MatchOption, IsTrue};
+ghost use Rattle.std.specs.Prelude.{IfOk, OnOk, OnErr, IsOkUnless};
 ghost use Rattle.std.specs.Bool.{OnTrue, OnFalse};
 ghost use Rattle.std.specs.FinMap as map;
 ghost use Rattle.foyer_block.specs.Insertion.{left_out, inserted, inserted_all, all_left_out};
 ghost use Rattle.foyer_block.specs.Removal.{without_addresses, without_marks};
 ghost use Rattle.foyer_block.specs.Index.{address_at};
+ghost use Rattle.foyer_block.specs.Greatest.{IsAbsent, HoldsNewest};
+ghost use Rattle.foyer_block.specs.declared.indexer.HashedEntryAddress.{HashedEntryAddress};
 
 use crate::manager::BlockId;
 use crate::shards;
@@ -12,7 +15,6 @@ use crate::shards::Shard;
 use crate::tombstone::Tombstone;
 use foyer_device::error::{Error, Result};
 use std::alloc::Allocator;
-use std::collections::HashMap;
 use std::marker::Model;
 
 /// The number of a put or a delete, in the order in which they were accepted.
@@ -64,11 +66,12 @@ impl<A: Allocator> Model for Indexer<A> {
 
     ghost view = { λ a. map_of a.shards.items };
 
-    ghost invariant = { λ a. (0 < length a.shards.items) × (length a.counts.items ≡ length a.shards.items) };
+    ghost invariant = { λ a. (0 < length a.shards.items)
+        × (length a.counts.items ≡ length a.shards.items) };
 }
 
 impl<A: Allocator + Clone> Indexer<A> {
-    /// An index that has nothing. Memory is the only refusal.
+    /// An index of so many shards that has nothing. Memory is the only refusal.
     pub fn new(alloc: A, shards: usize) -> Result<Indexer<A>>
         requires { 0 < shards }
         ensures empty { IfOk result (λ indexer. indexer ≡ map.empty) }
@@ -85,8 +88,10 @@ impl<A: Allocator + Clone> Indexer<A> {
         hash: u64,
         sequence: Sequence,
     ) -> Result<Option<EntryAddress>>
-        ensures inserted { OnOk result (self.new ≡ inserted self.old hash (Index.Tombstone sequence)) }
-        ensures answer { IfOk result (λ answer. answer ≡ left_out (map.get self.old hash) (Index.Tombstone sequence)) }
+        ensures inserted { OnOk result
+            (self.new ≡ inserted self.old hash (Index.Tombstone sequence)) }
+        ensures answer { IfOk result (λ answer.
+            answer ≡ left_out (map.get self.old hash) (Index.Tombstone sequence)) }
         ensures err { OnErr result (self.new ≡ self.old) }
         ensures refused { IsOkUnless result Error.Memory }
     {
@@ -104,14 +109,15 @@ impl<A: Allocator + Clone> Indexer<A> {
         }
     }
 
-    /// Inserts addresses in order, and answers those that don't stay, in that order; they take the batch's
-    /// memory. Memory is the only refusal.
+    /// Inserts addresses in order, and answers those that don't stay, in that order and in the
+    /// batch's memory. Memory is the only refusal.
     pub fn insert_batch(
         &mut self,
         batch: Vec<HashedEntryAddress, A>,
     ) -> Result<Vec<HashedEntryAddress, A>>
         ensures inserted { OnOk result (self.new ≡ inserted_all self.old batch.items) }
-        ensures answers { IfOk result (λ answers. answers.items ≡ all_left_out self.old batch.items) }
+        ensures answers { IfOk result
+            (λ answers. answers.items ≡ all_left_out self.old batch.items) }
         ensures err { OnErr result (self.new ≡ self.old) }
         ensures refused { IsOkUnless result Error.Memory }
     {
@@ -141,7 +147,8 @@ impl<A: Allocator + Clone> Indexer<A> {
 
     /// Removes a hash where it has that very address. Tells whether it did.
     pub fn remove(&mut self, hash: u64, address: &EntryAddress) -> bool
-        ensures answer { IsTrue result ↔ (map.get self.old hash ≡ Some (Index.Address address.now)) }
+        ensures answer { IsTrue result
+            ↔ (map.get self.old hash ≡ Some (Index.Address address.now)) }
         ensures removed { OnTrue result (self.new ≡ map.remove self.old hash) }
         ensures unchanged { OnFalse result (self.new ≡ self.old) }
     {
@@ -169,3 +176,11 @@ impl<A: Allocator + Clone> Indexer<A> {
         shards::clear(&mut self.shards);
     }
 }
+
+/// After any insertions of addresses into an empty index a hash has the newest of its own: none of
+/// them has a greater sequence, and none behind it an equal one.
+pub fn greatest_sequence_stays()
+    ensures { (entries : List HashedEntryAddress) (hash : ℕ)
+        → MatchOption (map.get (inserted_all map.empty entries) hash)
+        (IsAbsent entries hash) (HoldsNewest entries hash) }
+{}

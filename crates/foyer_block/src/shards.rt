@@ -1,13 +1,16 @@
 //! The shards of the index: a hash lies in the shard of its number modulo the count of shards.
-ghost use Rattle.std.specs.Prelude.{◌≡◌, ◌<◌, ◌≤◌, ◌+◌, ◌%◌, ◌==◌, ℕ, nat_eq, if◌then◌else◌, length, take, slice_index, EachIndex, ◌↔◌, IfOk, OnOk, OnErr, IsOk, IsOkUnless, IsTrue};
+ghost use Rattle.std.specs.Prelude.{◌≡◌, ◌<◌, ◌≤◌, ◌+◌, ◌%◌, ◌↔◌, length, take, slice_index};
+ghost use Rattle.std.specs.Prelude.{EachIndex, IfOk, OnOk, OnErr, IsOk, IsOkUnless, IsTrue};
 ghost use Rattle.std.specs.Bool.{OnTrue, OnFalse};
 ghost use Rattle.std.specs.Option.{option_copied};
 ghost use Rattle.std.specs.FinMap as map;
-ghost use Rattle.std.specs.HashMap.{get, spare};
+ghost use Rattle.std.specs.HashMap.{spare};
 ghost use Rattle.foyer_block.specs.Index.{sequence_of, address_of};
-ghost use Rattle.foyer_block.specs.Insertion.{entered, left_out, inserted, inserted_all, all_left_out};
+ghost use Rattle.foyer_block.specs.Insertion.{entered, left_out, inserted};
+ghost use Rattle.foyer_block.specs.Insertion.{inserted_all, all_left_out};
 ghost use Rattle.foyer_block.specs.Removal.{without_addresses, without_marks};
-ghost use Rattle.foyer_block.specs.Shards.{belonging, map_of, room, HasRoom};
+ghost use Rattle.foyer_block.specs.Shards.{held_at, map_of, ChangesAt, HoldsSame};
+ghost use Rattle.foyer_block.specs.Shards.{belonging, room, HasRoom, TakesOnePlace};
 
 use crate::indexer::{EntryAddress, HashedEntryAddress, Index, Sequence};
 use crate::tombstone::Tombstone;
@@ -71,22 +74,24 @@ fn enter_here<A: Allocator + Clone>(
     hash: u64,
     next: Index,
 ) -> Result<Option<EntryAddress>>
-    ensures entered { OnOk result ((q : ℕ) → get nat_eq shard.new q ≡ (if nat_eq hash q then Some (entered (get nat_eq shard.old hash) next) else get nat_eq shard.old q)) }
-    ensures answer { IfOk result (λ answer. answer ≡ left_out (get nat_eq shard.old hash) next) }
-    ensures err { OnErr result ((q : ℕ) → get nat_eq shard.new q ≡ get nat_eq shard.old q) }
+    ensures entered { OnOk result
+        (ChangesAt shard.old shard.new hash (Some (entered (held_at shard.old hash) next))) }
+    ensures answer { IfOk result (λ answer. answer ≡ left_out (held_at shard.old hash) next) }
+    ensures err { OnErr result (HoldsSame shard.old shard.new) }
     ensures refused { IsOkUnless result Error.Memory }
     ensures succeeds { 0 < spare shard.old → IsOk result }
     ensures spare { spare shard.old ≤ spare shard.new + 1 }
 {
-    if let Some(held) = shard.get(&hash)
-        && next.sequence() < held.sequence()
-    {
-        return Ok(next.address());
+    if let Some(held) = shard.get_mut(&hash) {
+        if next.sequence() < held.sequence() {
+            return Ok(next.address());
+        }
+        let before = *held;
+        *held = next;
+        return Ok(before.address());
     }
-    match shard.insert(hash, next)? {
-        Some(held) => Ok(held.address()),
-        None => Ok(None),
-    }
+    shard.insert(hash, next)?;
+    Ok(None)
 }
 
 // An insertion.
@@ -96,13 +101,15 @@ pub(crate) fn enter<A: Allocator + Clone>(
     next: Index,
 ) -> Result<Option<EntryAddress>>
     requires { 0 < length shards.old.items }
-    ensures inserted { OnOk result (map_of shards.new.items ≡ inserted (map_of shards.old.items) hash next) }
-    ensures answer { IfOk result (λ answer. answer ≡ left_out (map.get (map_of shards.old.items) hash) next) }
+    ensures inserted { OnOk result
+        (map_of shards.new.items ≡ inserted (map_of shards.old.items) hash next) }
+    ensures answer { IfOk result
+        (λ answer. answer ≡ left_out (map.get (map_of shards.old.items) hash) next) }
     ensures err { OnErr result (map_of shards.new.items ≡ map_of shards.old.items) }
     ensures len { length shards.new.items ≡ length shards.old.items }
     ensures refused { IsOkUnless result Error.Memory }
     ensures succeeds { 0 < room shards.old.items (hash % length shards.old.items) → IsOk result }
-    ensures room { (s : ℕ) → room shards.old.items s ≤ room shards.new.items s + (if hash % length shards.old.items == s then 1 else 0) }
+    ensures room { TakesOnePlace shards.old.items shards.new.items hash }
 {
     let place = (hash % shards.len() as u64) as usize;
     enter_here(&mut shards[place], hash, next)
@@ -110,9 +117,9 @@ pub(crate) fn enter<A: Allocator + Clone>(
 
 // Removes the hash from its shard where it has just that.
 fn remove_here<A: Allocator>(shard: &mut Shard<A>, hash: u64, held: Index) -> bool
-    ensures answer { IsTrue result ↔ (get nat_eq shard.old hash ≡ Some held) }
-    ensures removed { OnTrue result ((q : ℕ) → get nat_eq shard.new q ≡ (if nat_eq hash q then None else get nat_eq shard.old q)) }
-    ensures unchanged { OnFalse result ((q : ℕ) → get nat_eq shard.new q ≡ get nat_eq shard.old q) }
+    ensures answer { IsTrue result ↔ (held_at shard.old hash ≡ Some held) }
+    ensures removed { OnTrue result (ChangesAt shard.old shard.new hash None) }
+    ensures unchanged { OnFalse result (HoldsSame shard.old shard.new) }
 {
     let is_held = match shard.get(&hash) {
         Some(found) => *found == held,
@@ -128,7 +135,8 @@ fn remove_here<A: Allocator>(shard: &mut Shard<A>, hash: u64, held: Index) -> bo
 pub(crate) fn remove<A: Allocator>(shards: &mut Vec<Shard<A>, A>, hash: u64, held: Index) -> bool
     requires { 0 < length shards.old.items }
     ensures answer { IsTrue result ↔ (map.get (map_of shards.old.items) hash ≡ Some held) }
-    ensures removed { OnTrue result (map_of shards.new.items ≡ map.remove (map_of shards.old.items) hash) }
+    ensures removed { OnTrue result
+        (map_of shards.new.items ≡ map.remove (map_of shards.old.items) hash) }
     ensures unchanged { OnFalse result (map_of shards.new.items ≡ map_of shards.old.items) }
     ensures len { length shards.new.items ≡ length shards.old.items }
 {
@@ -142,7 +150,8 @@ pub(crate) fn remove_addresses<A: Allocator>(
     addresses: &[HashedEntryAddress],
 )
     requires { 0 < length shards.old.items }
-    ensures removed { map_of shards.new.items ≡ without_addresses (map_of shards.old.items) addresses.now }
+    ensures removed { map_of shards.new.items
+        ≡ without_addresses (map_of shards.old.items) addresses.now }
     ensures len { length shards.new.items ≡ length shards.old.items }
 {
     for entry in addresses {
@@ -162,29 +171,23 @@ pub(crate) fn remove_marks<A: Allocator>(shards: &mut Vec<Shard<A>, A>, marks: &
 }
 
 // Writes over what the hash has where that is `old`.
-fn replace_here<A: Allocator + Clone>(
-    shard: &mut Shard<A>,
-    hash: u64,
-    old: Index,
-    new: Index,
-) -> bool
-    ensures answer { IsTrue result ↔ (get nat_eq shard.old hash ≡ Some old) }
-    ensures replaced { OnTrue result ((q : ℕ) → get nat_eq shard.new q ≡ (if nat_eq hash q then Some new else get nat_eq shard.old q)) }
-    ensures unchanged { OnFalse result ((q : ℕ) → get nat_eq shard.new q ≡ get nat_eq shard.old q) }
+fn replace_here<A: Allocator>(shard: &mut Shard<A>, hash: u64, old: Index, new: Index) -> bool
+    ensures answer { IsTrue result ↔ (held_at shard.old hash ≡ Some old) }
+    ensures replaced { OnTrue result (ChangesAt shard.old shard.new hash (Some new)) }
+    ensures unchanged { OnFalse result (HoldsSame shard.old shard.new) }
 {
-    let is_held = match shard.get(&hash) {
-        Some(found) => *found == old,
+    match shard.get_mut(&hash) {
+        Some(held) if *held == old => {
+            *held = new;
+            true
+        }
+        Some(_) => false,
         None => false,
-    };
-    if is_held {
-        let inserted: std::result::Result<_, _> = shard.insert(hash, new);
-        let _ = inserted.unwrap();
     }
-    is_held
 }
 
 // Writes over what the hash has where that is `old`, and tells whether it did.
-pub(crate) fn replace<A: Allocator + Clone>(
+pub(crate) fn replace<A: Allocator>(
     shards: &mut Vec<Shard<A>, A>,
     hash: u64,
     old: Index,
@@ -192,7 +195,8 @@ pub(crate) fn replace<A: Allocator + Clone>(
 ) -> bool
     requires { 0 < length shards.old.items }
     ensures answer { IsTrue result ↔ (map.get (map_of shards.old.items) hash ≡ Some old) }
-    ensures replaced { OnTrue result (map_of shards.new.items ≡ map.insert (map_of shards.old.items) hash new) }
+    ensures replaced { OnTrue result
+        (map_of shards.new.items ≡ map.insert (map_of shards.old.items) hash new) }
     ensures unchanged { OnFalse result (map_of shards.new.items ≡ map_of shards.old.items) }
     ensures len { length shards.new.items ≡ length shards.old.items }
 {
@@ -211,7 +215,8 @@ pub(crate) fn clear<A: Allocator>(shards: &mut [Shard<A>])
 // Counts for each shard the entries of a batch that belong there.
 pub(crate) fn count(counts: &mut [usize], batch: &[HashedEntryAddress])
     requires { 0 < length counts.old }
-    ensures { EachIndex counts.new (λ s. slice_index counts.new s ≡ belonging (length counts.old) s batch.now) }
+    ensures { EachIndex counts.new (λ i.
+        slice_index counts.new i ≡ belonging (length counts.old) i batch.now) }
 {
     for count in counts.iter_mut() {
         *count = 0;
@@ -228,7 +233,8 @@ pub(crate) fn reserve<A: Allocator + Clone>(
     counts: &[usize],
 ) -> Result<()>
     requires { length counts.now ≡ length shards.old.items }
-    ensures room { OnOk result (EachIndex counts.now (λ s. slice_index counts.now s ≤ room shards.new.items s)) }
+    ensures room { OnOk result (EachIndex counts.now (λ i.
+        slice_index counts.now i ≤ room shards.new.items i)) }
     ensures unchanged { map_of shards.new.items ≡ map_of shards.old.items }
     ensures len { length shards.new.items ≡ length shards.old.items }
     ensures refused { IsOkUnless result Error.Memory }
@@ -239,7 +245,7 @@ pub(crate) fn reserve<A: Allocator + Clone>(
     Ok(())
 }
 
-// Inserts a batch in order. The addresses that don't stay are moved to its front; tells how many they are.
+// Inserts a batch in order. The addresses that don't stay are moved to its front, and counted.
 pub(crate) fn enter_all<A: Allocator + Clone>(
     shards: &mut Vec<Shard<A>, A>,
     batch: &mut [HashedEntryAddress],

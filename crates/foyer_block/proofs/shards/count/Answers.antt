@@ -1,4 +1,4 @@
-use Rattle.std.proofs.Common.{◌≡◌, ◌<◌, ◌+◌, ◌%◌, get_or, length, length-set, ap, ◌∙◌, arith}
+use Rattle.std.proofs.Common.{◌≡◌, ◌<◌, ◌%◌, get_or, length, length-set, ap, ◌∙◌, arith}
 use Rattle.foyer_block.specs.declared.indexer.HashedEntryAddress.{HashedEntryAddress}
 use Rattle.foyer_block.proofs.Batches.{counted_more}
 use Rattle.foyer_block.proofs.shards.count.Goals as goal

@@ -1,4 +1,4 @@
-use Rattle.std.proofs.Common.{◌≡◌, ◌+◌, ◌∷◌, [], ◌++◌, length, ap, arith, length-append}
+use Rattle.std.proofs.Common.{◌≡◌, ◌∷◌, [], ◌++◌, length, ap, arith, length-append}
 use Rattle.foyer_block.proofs.Found.{map_of-no_entries, no_entries-push}
 use Rattle.foyer_block.proofs.shards.empty.Goals as goal
 

@@ -1,4 +1,4 @@
-use Rattle.std.proofs.Common.{◌≡◌, ◌<◌, ℕ, Some, [], length, slice_get}
+use Rattle.std.proofs.Common.{◌≡◌, ℕ, Some, [], length, slice_get}
 use Rattle.foyer_block.specs.Shards.{Shard}
 use Rattle.foyer_block.proofs.shards.empty.Given as goal
 

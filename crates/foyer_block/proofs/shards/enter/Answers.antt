@@ -1,5 +1,5 @@
-use Rattle.std.proofs.Common.{◌≡◌, ◌<◌, ◌%◌, length, arith, sym, ap, subst, ◌∙◌}
-use Rattle.foyer_block.proofs.Found.{IsShardOf, shard_of, inserted_here, answered_here, refused_here, room-slice_set, room-here}
+use Rattle.std.proofs.Common.{◌≡◌, ◌<◌, length, arith, subst}
+use Rattle.foyer_block.proofs.Found.{shard_of, inserted_here, answered_here, refused_here, room-slice_set, room-here}
 use Rattle.foyer_block.proofs.shards.enter.Goals as goal
 
 pub returns-clause-answer : goal.returns-clause-answer

@@ -1,5 +1,4 @@
-use Rattle.std.proofs.Common.{◌≡◌, ◌<◌, ◌≤◌, ◌+◌, ℕ, length, length-set, slice_index, slice_set, ap, subst, sym, arith, ◌∙◌}
-use Rattle.foyer_block.specs.Shards.{room}
+use Rattle.std.proofs.Common.{◌<◌, length, length-set, arith, ◌∙◌}
 use Rattle.foyer_block.proofs.Found.{map_of-place, room-reserved}
 use Rattle.foyer_block.proofs.shards.reserve.Goals as goal
 
