@@ -1,5 +1,5 @@
 //! The buffer that records are written into, one behind another, each padded to whole pages.
-ghost use Rattle.std.specs.Prelude.{◌≡◌, ◌+◌, ◌^◌, ◌<◌, ◌↔◌, [], ℕ, List, length, IsTrue, OnErr, IfOk, IfErr, IfSome, IfNone, OnSome};
+ghost use Rattle.std.specs.Prelude.{◌≡◌, ◌+◌, ◌^◌, ◌<◌, ◌≤◌, ◌↔◌, [], ℕ, List, length, IsTrue, OnErr, IfOk, IfErr, IfSome, IfNone, OnSome};
 ghost use Rattle.foyer_device.specs.declared.error.Error.{Error as error};
 ghost use Rattle.foyer_format.specs.Page.{page_up};
 ghost use Rattle.foyer_format.specs.Pushing.{FitsRoom, Pushes};
