@@ -1,9 +1,10 @@
 //! What the core's accesses go to.
-ghost use Rattle.std.specs.Prelude.{◌≡◌, ℕ, length, IsOk, OnOk, OnErr};
+ghost use Rattle.std.specs.Prelude.{◌≡◌, ◌≤◌, ℕ, length, vec_len, vec_capacity, IsOk, OnOk, OnErr};
 ghost use Rattle.foyer_core.specs.Disk.{IsRead, IsWritten, IsTorn};
 
 use foyer_block::manager::BlockId;
 use foyer_device::error::Result;
+use std::alloc::Allocator;
 
 /// Blocks of bytes. Its bytes stay but for what `write` changes.
 pub trait Disk {
@@ -13,12 +14,22 @@ pub trait Disk {
     // So many bytes from an offset of a block on can be read and written without a fault.
     ghost surely_has: { Self → ℕ → ℕ → ℕ → Type 0 };
 
-    /// Fills `into` with the bytes from `offset` of a block on. After an error `into` may hold anything.
-    fn read(&mut self, block: BlockId, offset: usize, into: &mut [u8]) -> Result<()>
-        ensures read { OnOk result (IsRead (byte_at self.old) block offset into.new) }
+    /// Appends the `len` bytes from `offset` of a block on to `into`, which is empty and has room for them. After an
+    /// error `into` may hold anything.
+    fn read<A: Allocator>(
+        &mut self,
+        block: BlockId,
+        offset: usize,
+        len: usize,
+        into: &mut Vec<u8, A>,
+    ) -> Result<()>
+        requires empty { vec_len into.old ≡ 0 }
+        requires room { len ≤ vec_capacity into.old }
+        ensures read { OnOk result (IsRead (byte_at self.old) block offset into.new.items) }
+        ensures len { OnOk result (vec_len into.new ≡ len) }
         ensures same { byte_at self.new ≡ byte_at self.old }
         ensures has { (b o n : ℕ) → surely_has self.old b o n → surely_has self.new b o n }
-        ensures succeeds { surely_has self.old block offset (length into.old) → IsOk result };
+        ensures succeeds { surely_has self.old block offset len → IsOk result };
 
     /// Writes the bytes over those from `offset` of a block on. After an error any bytes may stand in their range.
     fn write(&mut self, block: BlockId, offset: usize, bytes: &[u8]) -> Result<()>

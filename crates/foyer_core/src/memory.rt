@@ -72,21 +72,23 @@ fn put_at<A: Allocator>(memory: &mut Vec<u8, A>, start: usize, bytes: &[u8])
     }
 }
 
-// Fills `into` with the bytes from a place on, and with zeros where none were written.
-fn get_at(memory: &[u8], start: usize, into: &mut [u8])
-    ensures { (i : ℕ) → i < length into.new
-        → slice_index into.new i ≡ slice_index memory.now (start + i) }
+// Appends so many bytes from a place on, and zeros where none were written.
+fn get_at<B: Allocator>(memory: &[u8], start: usize, len: usize, into: &mut Vec<u8, B>)
+    requires empty { vec_len into.old ≡ 0 }
+    requires room { len ≤ vec_capacity into.old }
+    ensures len { vec_len into.new ≡ len }
+    ensures read { (i : ℕ) → i < len
+        → slice_index into.new.items i ≡ slice_index memory.now (start + i) }
 {
-    let end = start.saturating_add(into.len());
+    let end = start.saturating_add(len);
     if end <= memory.len() {
-        into.copy_from_slice(&memory[start..end]);
+        into.extend_from_slice(&memory[start..end]).unwrap();
         return;
     }
-    into.fill(0);
     if start < memory.len() {
-        let written = memory.len() - start;
-        into[..written].copy_from_slice(&memory[start..]);
+        into.extend_from_slice(&memory[start..]).unwrap();
     }
+    into.resize(len, 0).unwrap();
 }
 
 impl<A: Allocator> Disk for MemoryDisk<A> {
@@ -94,11 +96,17 @@ impl<A: Allocator> Disk for MemoryDisk<A> {
 
     ghost surely_has = { λ d. IsWithin d.blocks d.block_size };
 
-    fn read(&mut self, block: BlockId, offset: usize, into: &mut [u8]) -> Result<()> {
-        let Some(start) = self.start_of(block, offset, into.len()) else {
+    fn read<B: Allocator>(
+        &mut self,
+        block: BlockId,
+        offset: usize,
+        len: usize,
+        into: &mut Vec<u8, B>,
+    ) -> Result<()> {
+        let Some(start) = self.start_of(block, offset, len) else {
             return Err(Error::Io);
         };
-        get_at(self.bytes.as_slice(), start, into);
+        get_at(self.bytes.as_slice(), start, len, into);
         Ok(())
     }
 

@@ -103,12 +103,9 @@ pub fn read_told<A: Allocator, D: Disk>(
     ensures same { D.byte_at disk.new ≡ D.byte_at disk.old }
 {
     let len = (ticket.address.len as usize).div_ceil(PAGE) * PAGE;
-    let mut bytes = Vec::from_elem(alloc, 0, len)?;
-    match disk.read(
-        ticket.address.block,
-        ticket.address.offset as usize,
-        bytes.as_mut_slice(),
-    ) {
+    let mut bytes = Vec::with_capacity(alloc, len)?;
+    let (block, offset) = (ticket.address.block, ticket.address.offset as usize);
+    match disk.read(block, offset, len, &mut bytes) {
         Ok(()) => Ok(Ok(bytes)),
         Err(error) => Ok(Err(error)),
     }

@@ -1,5 +1,7 @@
 //! A disk that fails one call.
 
+use std::alloc::Allocator;
+
 use foyer_block::manager::BlockId;
 use foyer_core::disk::Disk;
 use foyer_device::error::{Error, Result};
@@ -27,12 +29,6 @@ impl<D: Disk + Drop> Failing<D> {
     pub fn has_failed(&self) -> bool {
         self.left == 0
     }
-
-    fn fails(&mut self) -> bool {
-        let n = self.left;
-        self.left = n.saturating_sub(1);
-        n == 1
-    }
 }
 
 impl<D: Disk + Drop> Disk for Failing<D> {
@@ -40,13 +36,19 @@ impl<D: Disk + Drop> Disk for Failing<D> {
 
     ghost surely_has = { λ _ b o n. ⊥ };
 
-    fn read(&mut self, block: BlockId, offset: usize, into: &mut [u8]) -> Result<()> {
+    fn read<A: Allocator>(
+        &mut self,
+        block: BlockId,
+        offset: usize,
+        len: usize,
+        into: &mut Vec<u8, A>,
+    ) -> Result<()> {
         let n = self.left;
         self.left = n.saturating_sub(1);
         if n == 1 {
             return Err(Error::Io);
         }
-        self.inner.read(block, offset, into)
+        self.inner.read(block, offset, len, into)
     }
 
     fn write(&mut self, block: BlockId, offset: usize, bytes: &[u8]) -> Result<()> {
