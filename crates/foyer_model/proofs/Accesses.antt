@@ -1,14 +1,20 @@
 -- Reads and writes begin and end.
+use Rattle.std.proofs.Common.{◌≡◌, ◌≢◌, ℕ, zero, suc, ◌+◌, ◌-◌, ◌<◌, ◌≤◌, ◌==◌, nat_le, nat_lt, Bool, true, false, ◌&&◌, ◌||◌, if◌then◌else◌, List, [], ◌∷◌, ◌++◌, length, map, take, slice_index, Option, Some, None, ◌⊎◌, inl, inr, refl, sym, ap, subst, ◌∙◌, arith, append_assoc}
+use Rattle.std.proofs.lemmas.Bool.{eqb-true, eqb-false, eq-eqb, ne_eqb}
 use Rattle.std.proofs.lemmas.Bool.Decides.{nat_tests}
-use Rattle.std.proofs.lemmas.Bool.{eqb-true}
-use Rattle.std.proofs.Common.{◌≡◌, ℕ, zero, suc, ◌+◌, ◌-◌, ◌<◌, ◌≤◌, ◌==◌, nat_le, nat_lt, ◌&&◌, ◌||◌, if◌then◌else◌, Bool, true, false, List, [], ◌∷◌, length, take, slice_index, Option, Some, None, inl, inr, refl, sym, ap, subst, ◌∙◌, arith}
-use Rattle.foyer_model.specs.State.{put, page, Address, Outcome, Rec, Write, Writing, Flusher, Place, Rules}
+use Rattle.foyer_model.specs.Numbers.{put, page}
+use Rattle.foyer_model.specs.Record.{Address, Outcome, Record}
+use Rattle.foyer_model.specs.Filling.{Write}
+use Rattle.foyer_model.specs.State.{Writing, Flusher, Place}
+use Rattle.foyer_model.specs.Rules.{Rules}
 use Rattle.foyer_model.specs.Step.{Came, Bytes, Fault}
 use Rattle.foyer_model.specs.Placing.{laid, all_laid, read, AllStand, IsBeside, AllBehind}
-use Rattle.foyer_model.specs.World.{Pen, Rest, Told, Under, Over, Wipe, Still, Asked, Wiping, Wiped, Phase, Unread, Reading, HasRead, Load, World, is_in, pen_covers, some_pen_covers, wipe_covers, begun, spoiled, came, at_load, pen_begun, will_cover, pen_ended, bytes_ended, wipe_will_cover, wiped, bytes_wiped, IsRead, IsReadAt, IsTorn, IsTornWipe, covers}
+use Rattle.foyer_model.specs.Access.{Pen, Rest, Told, Under, Wipe, Still, Asked, Wiping, Wiped, Phase, Unread, Reading, HasRead, Load, is_in, pen_covers, some_pen_covers, wipe_covers, begun, spoiled, came, at_load, pen_begun, will_cover, pen_ended, bytes_ended, wipe_will_cover, wiped, bytes_wiped, IsRead, IsTorn, IsTornWipe}
+use Rattle.foyer_model.specs.World.{World, covers, IsReadAt}
 use Rattle.foyer_model.proofs.Basics.{put_at, put_other, read_same, take_read, put_one}
-use Rattle.foyer_model.proofs.Invariant.{Ground, ground_of, InPages, Spares, PenSpares, IsSolid, IsGood, writing_in, line_of, PhaseOk, IsPromised, LoadOk, PenFits, WritingOk, IsTended, IsSound, one_owner}
+use Rattle.foyer_model.proofs.Invariant.{Ground, ground_of, InPages, Spares, PenSpares, IsSolid, IsGood, writing_in, line_of, PhaseOk, IsPromised, LoadOk, AreLeft, AllWell, PenFits, WritingOk, IsTended, IsSound, one_owner}
 use Rattle.foyer_model.proofs.Good.{good_pen, read_ended, good_ended, slot_lift, load_lift}
+use Rattle.foyer_model.proofs.Loads.{promised}
 
 pub beside_not_in : (v : Write) (o : ℕ) → IsBeside v o → is_in v o ≡ false
 beside_not_in v o beside = go (nat_le v.offset o) refl (nat_lt o (v.offset + length v.bytes)) refl
@@ -17,6 +23,31 @@ beside_not_in v o beside = go (nat_le v.offset o) refl (nat_lt o (v.offset + len
     go true e true f = absurd (elim beside [ inl l ↦ grind (arith, nat_tests) | inr r ↦ grind (arith, nat_tests) ])
     go true e false f = refl
     go false e q f = refl
+
+-- results and the writes that are left
+
+pub all_well : (rs : List Bool) (v : Write) (ws left : List Write) → AreLeft rs (v ∷ ws) left → AllWell rs
+all_well [] v ws left ok = tt
+all_well (true ∷ rs) v ws [] ok = absurd ok
+all_well (true ∷ rs) v ws (x ∷ left) ok = all_well rs v ws left ok
+all_well (false ∷ rs) v ws left ok = absurd (let e : v ∷ ws ≡ [] = ok.1 in cc)
+
+pub left_well : (rs : List Bool) (v : Write) (ws left : List Write) → AreLeft rs (v ∷ ws) left → AreLeft (rs ++ true ∷ []) ws left
+left_well [] v ws left ok = subst (λ l. AreLeft (true ∷ []) ws l) ok refl
+left_well (true ∷ rs) v ws [] ok = absurd ok
+left_well (true ∷ rs) v ws (x ∷ left) ok = left_well rs v ws left ok
+left_well (false ∷ rs) v ws left ok = absurd (let e : v ∷ ws ≡ [] = ok.1 in cc)
+
+pub left_failed : (rs : List Bool) (v : Write) (ws left : List Write) → AreLeft rs (v ∷ ws) left → AreLeft (rs ++ false ∷ []) [] left
+left_failed [] v ws left ok = (refl, refl, λ none. let e : v ∷ ws ≡ [] = ok ∙ none in cc)
+left_failed (true ∷ rs) v ws [] ok = absurd ok
+left_failed (true ∷ rs) v ws (x ∷ left) ok = left_failed rs v ws left ok
+left_failed (false ∷ rs) v ws left ok = absurd (let e : v ∷ ws ≡ [] = ok.1 in cc)
+
+pub not_well : (rs : List Bool) → AllWell (rs ++ false ∷ []) → ⊥
+not_well [] well = well
+not_well (true ∷ rs) well = not_well rs well
+not_well (false ∷ rs) well = well
 
 module _ {C : Type 0} (rules : Rules C) where
   spared_at : (a : Address) (b : ℕ) (v : Write) (o : ℕ) → (a.block ≡ b → Spares rules a v) → InPages rules a o → (a.block == b && is_in v o) ≡ false
@@ -28,9 +59,8 @@ module _ {C : Type 0} (rules : Rules C) where
 
   pen_spared : (a : Address) (pen : Pen) (o : ℕ) → PenSpares rules a pen → InPages rules a o → pen_covers a.block pen o ≡ false
   pen_spared a Rest o spares inside = refl
-  pen_spared a (Told b ws) o spares inside = refl
-  pen_spared a (Over b ok ws) o spares inside = refl
-  pen_spared a (Under b v ws) o spares inside = spared_at a b v o (λ at. (spares at).0) inside
+  pen_spared a (Told b rs ws) o spares inside = refl
+  pen_spared a (Under b rs v ws) o spares inside = spared_at a b v o (λ at. (spares at).0) inside
 
   or_false : (p q : Bool) → p ≡ false → q ≡ false → (p || q) ≡ false
   or_false false q e f = f
@@ -61,8 +91,8 @@ module _ {C : Type 0} (rules : Rules C) where
   -- nothing under way covers an address
   pub uncovered : (w : World C) (h : ℕ) (a : Address) (x : Outcome C) (o : ℕ) → IsSolid rules (ground_of w) w.pens h a x → InPages rules a o → covers rules w a.block o ≡ false
   uncovered w h a x o solid inside =
-      or_false (some_pen_covers rules.count w.pens a.block o) (wipe_covers (w.wipes a.block) o)
-      (no_pen_covers rules.count a w.pens o solid.spared inside) (clean_spares (w.wipes a.block) a o solid.past inside)
+      or_false (some_pen_covers rules.flushers w.pens a.block o) (wipe_covers (w.wipes a.block) o)
+      (no_pen_covers rules.flushers a w.pens o solid.spared inside) (clean_spares (w.wipes a.block) a o solid.past inside)
 
   -- a read begins
 
@@ -90,16 +120,16 @@ module _ {C : Type 0} (rules : Rules C) where
 
   -- a read ends
 
-  judged_bytes : (g : Ground) (a : Address) (seen : ℕ → Bool) (bs : List ℕ) → length bs ≡ rules.up a.len
+  judged_bytes : (g : Ground) (a : Address) (seen : ℕ → Bool) (bs : List ℕ) → length bs ≡ rules.page_up a.len
       → ((i : ℕ) → i < length bs → seen (a.offset + i) ≡ false → slice_index bs i ≡ g.bytes a.block (a.offset + i))
       → ((o : ℕ) → InPages rules a o → seen o ≡ false)
       → take a.len bs ≡ read (g.bytes a.block) a.offset a.len
   judged_bytes g a seen bs len given clear =
-      let above : a.len ≤ rules.up a.len = rules.up_above a.len in
+      let above : a.len ≤ rules.page_up a.len = rules.page_up_above a.len in
       take_read bs (g.bytes a.block) a.offset a.len (omega arith)
       (λ i lt. given i lt (clear (a.offset + i) (omega arith, omega arith)))
 
-  pub phase_came : (g : Ground) (a : Address) (phase : Phase) (result : Came) → IsRead (g.bytes a.block) a.offset (rules.up a.len) phase result
+  pub phase_came : (g : Ground) (a : Address) (phase : Phase) (result : Came) → IsRead (g.bytes a.block) a.offset (rules.page_up a.len) phase result
       → PhaseOk rules g a phase → PhaseOk rules g a (came result phase)
   phase_came g a Unread result read_is ok = ok
   phase_came g a (HasRead r) result read_is ok = ok
@@ -139,10 +169,9 @@ module _ {C : Type 0} (rules : Rules C) where
 
   pub pen_will_spare : (a : Address) (pen : Pen) (o : ℕ) → PenSpares rules a pen → InPages rules a o → will_cover pen a.block o ≡ false
   pen_will_spare a Rest o spares inside = refl
-  pen_will_spare a (Told b []) o spares inside = refl
-  pen_will_spare a (Told b (v ∷ ws)) o spares inside = spared_at a b v o (λ at. (spares at).0) inside
-  pen_will_spare a (Under b v ws) o spares inside = refl
-  pen_will_spare a (Over b ok ws) o spares inside = refl
+  pen_will_spare a (Told b rs []) o spares inside = refl
+  pen_will_spare a (Told b rs (v ∷ ws)) o spares inside = spared_at a b v o (λ at. (spares at).0) inside
+  pen_will_spare a (Under b rs v ws) o spares inside = refl
 
   pub wipe_will_spare : (b : ℕ) (wipe : Wipe) (a : Address) (o : ℕ) → page ≤ a.offset → InPages rules a o → wipe_will_cover b wipe a.block o ≡ false
   wipe_will_spare b Still a o past inside = refl
@@ -159,17 +188,15 @@ module _ {C : Type 0} (rules : Rules C) where
 
   pen_begun_spares : (a : Address) (pen : Pen) → PenSpares rules a pen → PenSpares rules a (pen_begun pen)
   pen_begun_spares a Rest spares = spares
-  pen_begun_spares a (Told b []) spares = spares
-  pen_begun_spares a (Told b (v ∷ ws)) spares = spares
-  pen_begun_spares a (Under b v ws) spares = spares
-  pen_begun_spares a (Over b ok ws) spares = spares
+  pen_begun_spares a (Told b rs []) spares = spares
+  pen_begun_spares a (Told b rs (v ∷ ws)) spares = spares
+  pen_begun_spares a (Under b rs v ws) spares = spares
 
   pen_begun_fits : (bytes : ℕ → ℕ → ℕ) (r : Writing C) (pen : Pen) → PenFits bytes r pen → PenFits bytes r (pen_begun pen)
   pen_begun_fits bytes r Rest fits = fits
-  pen_begun_fits bytes r (Told b []) fits = fits
-  pen_begun_fits bytes r (Told b (v ∷ ws)) fits = fits
-  pen_begun_fits bytes r (Under b v ws) fits = fits
-  pen_begun_fits bytes r (Over b ok ws) fits = fits
+  pen_begun_fits bytes r (Told b rs []) fits = fits
+  pen_begun_fits bytes r (Told b rs (v ∷ ws)) fits = (fits.0, fits.1, fits.2 (all_well rs v ws r.left fits.1))
+  pen_begun_fits bytes r (Under b rs v ws) fits = fits
 
   writing_begun : (g : Ground) (own : Option ℕ) (r : Option (Writing C)) (pen : Pen) → WritingOk rules g own r pen → WritingOk rules g own r (pen_begun pen)
   writing_begun g own None pen ok = ap pen_begun ok
@@ -187,6 +214,7 @@ module _ {C : Type 0} (rules : Rules C) where
         marks = t.marks;
         queue = t.queue;
         split = t.split;
+        context = t.context;
         owned = t.owned;
         spare = t.spare;
         either = t.either;
@@ -215,37 +243,33 @@ module _ {C : Type 0} (rules : Rules C) where
 
   fits_same : (bytes bytes' : ℕ → ℕ → ℕ) (r : Writing C) (pen : Pen) → bytes' r.block ≡ bytes r.block → PenFits bytes r pen → PenFits bytes' r pen
   fits_same bytes bytes' r Rest same fits = fits
-  fits_same bytes bytes' r (Told b ws) same fits = (fits.0, fits.1, subst (λ k. AllStand (all_laid ws k) r.records) (sym same) fits.2)
-  fits_same bytes bytes' r (Under b v ws) same fits = (fits.0, fits.1, subst (λ k. AllStand (all_laid ws (laid v k)) r.records) (sym same) fits.2)
-  fits_same bytes bytes' r (Over b true ws) same fits = (fits.0, fits.1, subst (λ k. AllStand (all_laid ws k) r.records) (sym same) fits.2)
-  fits_same bytes bytes' r (Over b false ws) same fits = fits
+  fits_same bytes bytes' r (Told b rs ws) same fits = (fits.0, fits.1, λ well. subst (λ k. AllStand (all_laid ws k) r.records) (sym same) (fits.2 well))
+  fits_same bytes bytes' r (Under b rs v ws) same fits = (fits.0, fits.1, subst (λ k. AllStand (all_laid ws (laid v k)) r.records) (sym same) fits.2)
 
   fits_ended : (bytes : ℕ → ℕ → ℕ) (r : Writing C) (pen : Pen) (ok : Bool) (k : ℕ → ℕ) → PenFits bytes r pen → PenFits (bytes_ended ok k pen bytes) r (pen_ended ok pen)
   fits_ended bytes r Rest ok k fits = fits
-  fits_ended bytes r (Told b ws) ok k fits = fits
-  fits_ended bytes r (Over b j ws) ok k fits = fits
-  fits_ended bytes r (Under b v ws) true k fits = (
+  fits_ended bytes r (Told b rs ws) ok k fits = fits
+  fits_ended bytes r (Under b rs v ws) true k fits = (
     fits.0,
-    (v, fits.1),
-    subst (λ g. AllStand (all_laid ws g) r.records)
+    left_well rs v ws r.left fits.1,
+    λ _. subst (λ g. AllStand (all_laid ws g) r.records)
         (sym (put_at (λ g. g ≡ laid v (bytes r.block)) bytes b (laid v (bytes b)) r.block (λ at. ap (λ q. laid v (bytes q)) (sym at)) (λ ne. absurd (ne (sym fits.0))))) fits.2,
   )
-  fits_ended bytes r (Under b v ws) false k fits = (fits.0, (v, fits.1))
+  fits_ended bytes r (Under b rs v ws) false k fits = (fits.0, left_failed rs v ws r.left fits.1, λ well. absurd (not_well rs well))
 
   -- where a pen writes
   ended_elsewhere : (bytes : ℕ → ℕ → ℕ) (pen : Pen) (ok : Bool) (k : ℕ → ℕ) (c : ℕ)
-      → ((b : ℕ) (v : Write) (ws : List Write) → pen ≡ Under b v ws → c ≡ b → ⊥) → bytes_ended ok k pen bytes c ≡ bytes c
+      → ((b : ℕ) (rs : List Bool) (v : Write) (ws : List Write) → pen ≡ Under b rs v ws → c ≡ b → ⊥) → bytes_ended ok k pen bytes c ≡ bytes c
   ended_elsewhere bytes Rest ok k c far = refl
-  ended_elsewhere bytes (Told b ws) ok k c far = refl
-  ended_elsewhere bytes (Over b j ws) ok k c far = refl
-  ended_elsewhere bytes (Under b v ws) ok k c far = put_other bytes b (if ok then laid v (bytes b) else k) c (far b v ws refl)
+  ended_elsewhere bytes (Told b rs ws) ok k c far = refl
+  ended_elsewhere bytes (Under b rs v ws) ok k c far = put_other bytes b (if ok then laid v (bytes b) else k) c (far b rs v ws refl)
 
   -- a pen under way writes its flusher's own block
-  pub under_own : (g : Ground) (own : Option ℕ) (r : Option (Writing C)) (pen : Pen) (b : ℕ) (v : Write) (ws : List Write)
-      → WritingOk rules g own r pen → pen ≡ Under b v ws → own ≡ Some b
-  under_own g own None pen b v ws ok is = absurd (let e : Rest ≡ Under b v ws = sym ok ∙ is in cc)
-  under_own g own (Some r) pen b v ws ok is =
-      let fits : PenFits g.bytes r (Under b v ws) = subst (λ p. PenFits g.bytes r p) is ok.1 in
+  pub under_own : (g : Ground) (own : Option ℕ) (r : Option (Writing C)) (pen : Pen) (b : ℕ) (rs : List Bool) (v : Write) (ws : List Write)
+      → WritingOk rules g own r pen → pen ≡ Under b rs v ws → own ≡ Some b
+  under_own g own None pen b rs v ws ok is = absurd (let e : Rest ≡ Under b rs v ws = sym ok ∙ is in cc)
+  under_own g own (Some r) pen b rs v ws ok is =
+      let fits : PenFits g.bytes r (Under b rs v ws) = subst (λ p. PenFits g.bytes r p) is ok.1 in
       ok.0 ∙ ap (λ c. Some c) (sym fits.0)
 
   pub write_ends : (w : World C) (f : ℕ) (ok : Bool) (k : ℕ → ℕ) → IsSound rules w → IsTorn w.bytes (w.pens f) k
@@ -259,15 +283,15 @@ module _ {C : Type 0} (rules : Rules C) where
             (tended f (pen_ended ok (w.pens f)) (sound.flushers f) (λ r _. fits_ended w.bytes r (w.pens f) ok k) (λ rest. ap (pen_ended ok) rest))
             (λ q ne. tended q (w.pens q) (sound.flushers q)
             (λ r mine fits. fits_same w.bytes (bytes_ended ok k (w.pens f) w.bytes) r (w.pens q)
-            (ended_elsewhere w.bytes (w.pens f) ok k r.block (λ b v ws is at.
-            ne (one_owner rules w sound q f b (mine ∙ ap (λ c. Some c) at) (under_own (ground_of w) (w.core.flushers f).own (writing_in (w.core.flushers f).batch) (w.pens f) b v ws (sound.flushers f).writing is))))
+            (ended_elsewhere w.bytes (w.pens f) ok k r.block (λ b rs v ws is at.
+            ne (one_owner rules w sound q f b (mine ∙ ap (λ c. Some c) at) (under_own (ground_of w) (w.core.flushers f).own (writing_in (w.core.flushers f).batch) (w.pens f) b rs v ws (sound.flushers f).writing is))))
             fits)
             (λ rest. rest));
         next = sound.next;
       }
     where
       g' : Ground
-      g' = record { tail = w.core.tail; blob = w.core.blob; filling = w.core.filling; bytes = bytes_ended ok k (w.pens f) w.bytes }
+      g' = record { filled = w.filled; filling = w.core.filling; bytes = bytes_ended ok k (w.pens f) w.bytes }
 
       pens' : ℕ → Pen
       pens' = put w.pens f (pen_ended ok (w.pens f))
@@ -300,6 +324,7 @@ module _ {C : Type 0} (rules : Rules C) where
             marks = t.marks;
             queue = t.queue;
             split = t.split;
+            context = t.context;
             owned = t.owned;
             spare = t.spare;
             either = t.either;
@@ -349,7 +374,7 @@ module _ {C : Type 0} (rules : Rules C) where
   laid_same [] g k o same = same
   laid_same (v ∷ ws) g k o same = laid_same ws (laid v g) (laid v k) o (one_laid_same v g k o same)
 
-  stand_same : (g k : ℕ → ℕ) (ps : List (ℕ × Rec C)) → AllBehind rules.index_size ps → ((o : ℕ) → page ≤ o → g o ≡ k o) → AllStand g ps → AllStand k ps
+  stand_same : (g k : ℕ → ℕ) (ps : List (ℕ × Record C)) → AllBehind rules.index_size ps → ((o : ℕ) → page ≤ o → g o ≡ k o) → AllStand g ps → AllStand k ps
   stand_same g k [] behind same ok = tt
   stand_same g k (p ∷ ps) behind same ok = (
     sym (read_same g k p.0 (length (p.1).bytes) (λ i low high. same i (let a : rules.index_size ≤ p.0 = behind.0 in let b : 4096 ≤ rules.index_size = rules.index_holds_page in omega arith))) ∙ ok.0,
@@ -359,17 +384,14 @@ module _ {C : Type 0} (rules : Rules C) where
   fits_behind : (bytes bytes' : ℕ → ℕ → ℕ) (r : Writing C) (pen : Pen) → AllBehind rules.index_size r.records → ((o : ℕ) → page ≤ o → bytes r.block o ≡ bytes' r.block o)
       → PenFits bytes r pen → PenFits bytes' r pen
   fits_behind bytes bytes' r Rest behind same fits = fits
-  fits_behind bytes bytes' r (Told b ws) behind same fits =
-      (fits.0, fits.1, stand_same (all_laid ws (bytes r.block)) (all_laid ws (bytes' r.block)) r.records behind (λ o past. laid_same ws (bytes r.block) (bytes' r.block) o (same o past)) fits.2)
-  fits_behind bytes bytes' r (Under b v ws) behind same fits = (
+  fits_behind bytes bytes' r (Told b rs ws) behind same fits =
+      (fits.0, fits.1, λ well. stand_same (all_laid ws (bytes r.block)) (all_laid ws (bytes' r.block)) r.records behind (λ o past. laid_same ws (bytes r.block) (bytes' r.block) o (same o past)) (fits.2 well))
+  fits_behind bytes bytes' r (Under b rs v ws) behind same fits = (
     fits.0,
     fits.1,
     stand_same (all_laid ws (laid v (bytes r.block))) (all_laid ws (laid v (bytes' r.block))) r.records behind
         (λ o past. laid_same ws (laid v (bytes r.block)) (laid v (bytes' r.block)) o (one_laid_same v (bytes r.block) (bytes' r.block) o (same o past))) fits.2,
   )
-  fits_behind bytes bytes' r (Over b true ws) behind same fits =
-      (fits.0, fits.1, stand_same (all_laid ws (bytes r.block)) (all_laid ws (bytes' r.block)) r.records behind (λ o past. laid_same ws (bytes r.block) (bytes' r.block) o (same o past)) fits.2)
-  fits_behind bytes bytes' r (Over b false ws) behind same fits = fits
 
   pub wipe_ends : (w : World C) (b : ℕ) (ok : Bool) (k : ℕ → ℕ) → IsSound rules w → IsTornWipe w.bytes b (w.wipes b) k
       → IsSound rules (record w { bytes = bytes_wiped ok k b (w.wipes b) w.bytes })
@@ -388,6 +410,7 @@ module _ {C : Type 0} (rules : Rules C) where
               marks = t.marks;
               queue = t.queue;
               split = t.split;
+              context = t.context;
               owned = t.owned;
               spare = t.spare;
               either = t.either;
@@ -397,7 +420,7 @@ module _ {C : Type 0} (rules : Rules C) where
       }
     where
       g' : Ground
-      g' = record { tail = w.core.tail; blob = w.core.blob; filling = w.core.filling; bytes = bytes_wiped ok k b (w.wipes b) w.bytes }
+      g' = record { filled = w.filled; filling = w.core.filling; bytes = bytes_wiped ok k b (w.wipes b) w.bytes }
 
       same : (c o : ℕ) → page ≤ o → bytes_wiped ok k b (w.wipes b) w.bytes c o ≡ w.bytes c o
       same = wiped_behind w.bytes b (w.wipes b) ok k torn

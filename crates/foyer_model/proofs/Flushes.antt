@@ -1,21 +1,31 @@
 -- FlushBlock, FlushWrote and FlushEnd.
+use Rattle.std.proofs.Common.{◌≡◌, ◌≢◌, ℕ, zero, suc, ◌+◌, ◌-◌, ◌<◌, ◌≤◌, ◌==◌, nat_le, nat_lt, Bool, true, false, ◌&&◌, ◌||◌, if◌then◌else◌, List, [], ◌∷◌, ◌++◌, length, map, take, slice_index, Option, Some, None, ◌⊎◌, inl, inr, refl, sym, ap, subst, ◌∙◌, arith, append_assoc}
+use Rattle.std.proofs.lemmas.Bool.{eqb-true, eqb-false, eq-eqb, ne_eqb}
+use Rattle.std.proofs.lemmas.Bool.Decides.{nat_tests}
 use mathlib.Core.Path.{fun_ext}
-use Rattle.std.proofs.Common.{◌≡◌, ℕ, ◌<◌, ◌≤◌, true, false, List, [], ◌∷◌, ◌++◌, map, Option, Some, None, inl, inr, refl, sym, ap, subst, ◌∙◌, arith}
-use Rattle.foyer_model.specs.State.{put, Address, Slot, Outcome, Rec, Write, Spread, Writing, Batch, Flusher, Place, Writes, Evictable, Rules}
-use Rattle.foyer_model.specs.Placing.{MayWrite, all_laid, AllStand, AllOutside, AllBehind, IsPlaced, AllFresh, IsSplit, records_of}
-use Rattle.foyer_model.specs.Flush.{address_of, committed, unmarked, released, writing_of}
-use Rattle.foyer_model.specs.Events.{Ev, sequence_in, newest, noted}
-use Rattle.foyer_model.specs.World.{Pen, Rest, Told, Under, Over, World, pen_of, pen_next}
-use Rattle.foyer_model.proofs.Basics.{put_at, put_other, Ascends, ascends_span, ascends_to, ascends_at_least, put_one, put_both}
-use Rattle.foyer_model.proofs.Invariant.{Ground, ground_of, Each, Spares, PenSpares, IsGood, puts_onto, queue_puts, writing_in, placed_in, blocks_in, line_of, SlotOk, sequences, queue_sequences, RecOk, PenFits, WritingOk, IsTended, IsSound, one_owner, tended_place}
+use Rattle.foyer_model.specs.Numbers.{put, page}
+use Rattle.foyer_model.specs.Record.{Address, Slot, Outcome, Record}
+use Rattle.foyer_model.specs.Filling.{Filling, Write, Spread, records_in, records_of, last_end}
+use Rattle.foyer_model.specs.State.{Writing, Batch, Flusher, Place, Writes, Evictable}
+use Rattle.foyer_model.specs.Rules.{Rules, flusher_of, empty_filling}
+use Rattle.foyer_model.specs.Index.{unmarked}
+use Rattle.foyer_model.specs.Placing.{MayWrite, all_laid, AllStand, AllOutside, AllBehind, writes_in, AllPlaced}
+use Rattle.foyer_model.specs.Commit.{address_of}
+use Rattle.foyer_model.specs.Queue.{queued}
+use Rattle.foyer_model.specs.Flush.{released, writing_of}
+use Rattle.foyer_model.specs.Event.{Event, sequence_in, newest}
+use Rattle.foyer_model.specs.Access.{Pen, Rest, Told, Under, pen_of, pen_reported, result_of, begun}
+use Rattle.foyer_model.specs.World.{World}
+use Rattle.foyer_model.proofs.Basics.{put_at, put_same, put_other, Ascends, ascends_span, ascends_to, ascends_at_least, put_one, put_both}
+use Rattle.foyer_model.proofs.Invariant.{Ground, ground_of, Each, PenSpares, IsGood, puts_onto, queue_puts, writing_in, placed_in, blocks_in, goes_on_in, line_of, SlotOk, sequences, queue_sequences, RecordOk, AreLeft, AllWell, PenFits, WritingOk, start_of, IsTended, IsSound, one_owner, tended_place}
 use Rattle.foyer_model.proofs.Good.{good_pen, slot_lift, load_lift}
-use Rattle.foyer_model.proofs.Commits.{each_drop, each_front, each_past, onto_append, ascends_skip, ascends_first, ascends_join, ascends_puts, line_ascends, Brings, commits, commits_other, noted_below, unmarks, unmarks_other}
+use Rattle.foyer_model.proofs.Commits.{committed, noted, each_drop, each_front, each_past, onto_append, ascends_skip, ascends_first, ascends_join, ascends_puts, line_ascends, Brings, commits, commits_other, noted_below, unmarks, unmarks_other}
 
 pub put_self : {A : Type 0} (m : ℕ → A) (k : ℕ) → put m k (m k) ≡ m
 put_self m k = fun_ext (λ q. put_at (λ x. x ≡ m q) m k (m k) q (λ e. ap m (sym e)) (λ _. refl))
 
 module _ {C : Type 0} (rules : Rules C) where
-  pub puts_skip : (P : ℕ × ℕ → Type 0) (a b : List (Rec C)) (l : List (ℕ × ℕ)) → Each P (puts_onto (a ++ b) l) → Each P (puts_onto b l)
+  pub puts_skip : (P : ℕ × ℕ → Type 0) (a b : List (Record C)) (l : List (ℕ × ℕ)) → Each P (puts_onto (a ++ b) l) → Each P (puts_onto b l)
   puts_skip P a b l h = each_past P a (puts_onto b l) (subst (Each P) (onto_append a b l) h)
 
   -- a block that a flusher leaves is no other flusher's
@@ -28,12 +38,12 @@ module _ {C : Type 0} (rules : Rules C) where
       (λ _. mine)
 
   -- one flusher changes with its pen, the index and the history
-  pub flushed : (w : World C) (f : ℕ) (φ ψ : Flusher C) (pen : Pen) (m : ℕ → Option Slot) (H : List (Ev C)) (place : ℕ → Place) → IsSound rules w
+  pub flushed : (w : World C) (f : ℕ) (φ ψ : Flusher C) (pen : Pen) (m : ℕ → Option Slot) (H : List (Event C)) (place : ℕ → Place) → IsSound rules w
       → w.core.flushers f ≡ φ
       → ((q b : ℕ) → (q ≡ f → ⊥) → w.core.place b ≡ Writes q → place b ≡ Writes q)
       → ((a : Address) → PenSpares rules a (w.pens f) → PenSpares rules a pen)
-      → ((h : ℕ) → rules.flusher_of h ≡ f → SlotOk rules (ground_of w) (put w.pens f pen) w.history h (line_of φ) (w.core.index h) → SlotOk rules (ground_of w) (put w.pens f pen) H h (line_of ψ) (m h))
-      → ((h : ℕ) (line : List (ℕ × ℕ)) → (rules.flusher_of h ≡ f → ⊥) → SlotOk rules (ground_of w) (put w.pens f pen) w.history h line (w.core.index h) → SlotOk rules (ground_of w) (put w.pens f pen) H h line (m h))
+      → ((h : ℕ) → flusher_of rules h ≡ f → SlotOk rules (ground_of w) (put w.pens f pen) w.history h (line_of φ) (w.core.index h) → SlotOk rules (ground_of w) (put w.pens f pen) H h (line_of ψ) (m h))
+      → ((h : ℕ) (line : List (ℕ × ℕ)) → (flusher_of rules h ≡ f → ⊥) → SlotOk rules (ground_of w) (put w.pens f pen) w.history h line (w.core.index h) → SlotOk rules (ground_of w) (put w.pens f pen) H h line (m h))
       → (IsTended rules (ground_of w) w.core.place w.core.next f φ (w.pens f) → IsTended rules (ground_of w) place w.core.next f ψ pen)
       → ((h : ℕ) → sequence_in (newest h H) < w.core.next)
       → IsSound rules (record w { core = record w.core { flushers = put w.core.flushers f ψ; index = m; place = place }; history = H; pens = put w.pens f pen })
@@ -53,17 +63,17 @@ module _ {C : Type 0} (rules : Rules C) where
       good : (h : ℕ) (a : Address) (x : Outcome C) → IsGood rules (ground_of w) w.pens h a x → IsGood rules (ground_of w) (put w.pens f pen) h a x
       good h a x = good_pen rules (ground_of w) w.pens h a x f pen (spares a)
 
-      lifted : (h e : ℕ) → rules.flusher_of h ≡ e → SlotOk rules (ground_of w) (put w.pens f pen) w.history h (line_of (w.core.flushers e)) (w.core.index h)
+      lifted : (h e : ℕ) → flusher_of rules h ≡ e → SlotOk rules (ground_of w) (put w.pens f pen) w.history h (line_of (w.core.flushers e)) (w.core.index h)
       lifted h e routed = slot_lift rules (ground_of w) (ground_of w) w.pens (put w.pens f pen) w.history h (line_of (w.core.flushers e)) (line_of (w.core.flushers e)) (w.core.index h)
           (λ a x. good h a x) (λ n _ line. line) (sound.slots h e routed)
 
   -- a flusher leaves its block and keeps the one that is ready
-  pub leaves : (place : ℕ → Place) (tail blob : ℕ → ℕ) (f : ℕ) (own : Option ℕ) (ready : Option ℕ)
+  pub leaves : (place : ℕ → Place) (filled : ℕ → Filling) (f : ℕ) (own : Option ℕ) (ready : Option ℕ)
       → ((b c : ℕ) → own ≡ Some b → ready ≡ Some c → ⊥)
-      → ((b : ℕ) → ready ≡ Some b → (place b ≡ Writes f) × (tail b ≡ 0) × (blob b ≡ 0))
-      → (b : ℕ) → ready ≡ Some b → (released own place b ≡ Writes f) × (tail b ≡ 0) × (blob b ≡ 0)
-  leaves place tail blob f None ready never spare b is = spare b is
-  leaves place tail blob f (Some c) ready never spare b is = absurd (never c b refl is)
+      → ((b : ℕ) → ready ≡ Some b → (place b ≡ Writes f) × (filled b ≡ empty_filling rules))
+      → (b : ℕ) → ready ≡ Some b → (released own place b ≡ Writes f) × (filled b ≡ empty_filling rules)
+  leaves place filled f None ready never spare b is = spare b is
+  leaves place filled f (Some c) ready never spare b is = absurd (never c b refl is)
 
   -- FlushEnd
   pub ended : (w : World C) (f : ℕ) (batch : Batch C) → IsSound rules w → (w.core.flushers f).batch ≡ Some batch → batch.blocks ≡ [] → batch.writing ≡ None
@@ -85,7 +95,8 @@ module _ {C : Type 0} (rules : Rules C) where
         buffer = t.buffer;
         marks = t.marks;
         queue = t.queue;
-        split = split_none φ.own;
+        split = tt;
+        context = t.context;
         owned = t.owned;
         spare = t.spare;
         either = t.either;
@@ -105,21 +116,54 @@ module _ {C : Type 0} (rules : Rules C) where
       t : IsTended rules (ground_of w) w.core.place w.core.next f (record (w.core.flushers f) { batch = Some (record batch { blocks = []; writing = None }) }) (w.pens f)
       t = subst (λ k. IsTended rules (ground_of w) w.core.place w.core.next f k (w.pens f)) is0 (sound.flushers f)
 
-      split_none : (own : Option ℕ) → IsSplit rules w.core.tail w.core.blob own []
-      split_none None = tt
-      split_none (Some b) = tt
+  -- a result is reported
+
+  reported_spares : (a : Address) (pen : Pen) → PenSpares rules a pen → PenSpares rules a (pen_reported pen)
+  reported_spares a Rest spares = spares
+  reported_spares a (Told b [] ws) spares = spares
+  reported_spares a (Told b (r ∷ rs) ws) spares = spares
+  reported_spares a (Under b [] v ws) spares = spares
+  reported_spares a (Under b (r ∷ rs) v ws) spares = spares
+
+  reported_fits : (bytes : ℕ → ℕ → ℕ) (r : Writing C) (first second : Write) (rest : List Write) (pen : Pen) → result_of pen ≡ Some true → r.left ≡ first ∷ second ∷ rest
+      → PenFits bytes r pen → PenFits bytes (record r { left = second ∷ rest }) (pen_reported pen)
+  reported_fits bytes r first second rest Rest is left fits = absurd fits
+  reported_fits bytes r first second rest (Told b [] ws) is left fits = absurd (let e : None ≡ Some true = is in cc)
+  reported_fits bytes r first second rest (Told b (true ∷ rs) ws) is left fits = (fits.0, subst (λ l. AreLeft (true ∷ rs) ws l) left fits.1, fits.2)
+  reported_fits bytes r first second rest (Told b (false ∷ rs) ws) is left fits = absurd (let e : Some false ≡ Some true = is in cc)
+  reported_fits bytes r first second rest (Under b [] v ws) is left fits = absurd (let e : None ≡ Some true = is in cc)
+  reported_fits bytes r first second rest (Under b (true ∷ rs) v ws) is left fits = (fits.0, subst (λ l. AreLeft (true ∷ rs) (v ∷ ws) l) left fits.1, fits.2)
+  reported_fits bytes r first second rest (Under b (false ∷ rs) v ws) is left fits = absurd (let e : Some false ≡ Some true = is in cc)
+
+  -- after the last one all records stand
+  none_left : (rs : List Bool) (ws : List Write) → AreLeft rs ws [] → (rs ≡ []) × (ws ≡ [])
+  none_left [] ws ok = (refl, ok)
+  none_left (true ∷ rs) ws ok = absurd ok
+  none_left (false ∷ rs) ws ok = absurd (ok.2 refl)
+
+  pub last_stands : (bytes : ℕ → ℕ → ℕ) (r : Writing C) (last : Write) (pen : Pen) → result_of pen ≡ Some true → r.left ≡ last ∷ [] → PenFits bytes r pen → AllStand (bytes r.block) r.records
+  last_stands bytes r last Rest is left fits = absurd fits
+  last_stands bytes r last (Told b [] ws) is left fits = absurd (let e : None ≡ Some true = is in cc)
+  last_stands bytes r last (Told b (true ∷ rs) ws) is left fits =
+      let none : (rs ≡ []) × (ws ≡ []) = none_left rs ws (subst (λ l. AreLeft (true ∷ rs) ws l) left fits.1) in
+      subst (λ vs. AllStand (all_laid vs (bytes r.block)) r.records) none.1 (fits.2 (subst AllWell (sym none.0) tt))
+  last_stands bytes r last (Told b (false ∷ rs) ws) is left fits = absurd (let e : Some false ≡ Some true = is in cc)
+  last_stands bytes r last (Under b [] v ws) is left fits = absurd (let e : None ≡ Some true = is in cc)
+  last_stands bytes r last (Under b (true ∷ rs) v ws) is left fits =
+      let none : (rs ≡ []) × (v ∷ ws ≡ []) = none_left rs (v ∷ ws) (subst (λ l. AreLeft (true ∷ rs) (v ∷ ws) l) left fits.1) in
+      absurd (let e : v ∷ ws ≡ [] = none.1 in cc)
+  last_stands bytes r last (Under b (false ∷ rs) v ws) is left fits = absurd (let e : Some false ≡ Some true = is in cc)
 
   -- FlushWrote, where more writes follow
-  pub wrote_one : (w : World C) (f : ℕ) (batch : Batch C) (r : Writing C) (first second : Write) (rest : List Write) (b : ℕ) (ws : List Write)
-      → IsSound rules w → (w.core.flushers f).batch ≡ Some batch → batch.writing ≡ Some r → r.left ≡ first ∷ second ∷ rest → w.pens f ≡ Over b true ws
+  pub wrote_one : (w : World C) (f : ℕ) (batch : Batch C) (r : Writing C) (first second : Write) (rest : List Write)
+      → IsSound rules w → (w.core.flushers f).batch ≡ Some batch → batch.writing ≡ Some r → r.left ≡ first ∷ second ∷ rest → result_of (w.pens f) ≡ Some true
       → IsSound rules (record w {
         core = record w.core { flushers = put w.core.flushers f (record (w.core.flushers f) { batch = Some (record batch { writing = Some (record r { left = second ∷ rest }) }) }) };
-        pens = put w.pens f (pen_next (w.pens f));
+        pens = put w.pens f (pen_reported (w.pens f));
       })
-  wrote_one w f batch r first second rest b ws sound is writing left over =
-      subst (λ pen. IsSound rules (record w { core = record w.core { flushers = put w.core.flushers f ψ }; pens = put w.pens f (pen_next pen) })) (sym over)
-      (flushed w f φ0 ψ (pen_of b ws) w.core.index w.history w.core.place sound is0 (λ q b _ p. p)
-      (λ a s. spares a ws (subst (λ p. PenSpares rules a p) over s))
+  wrote_one w f batch r first second rest sound is writing left over =
+      flushed w f φ0 ψ (pen_reported (w.pens f)) w.core.index w.history w.core.place sound is0 (λ q b _ p. p)
+      (λ a s. reported_spares a (w.pens f) s)
       (λ h _ ok. ok) (λ h line _ ok. ok)
       (λ t. record {
         order = record { received = t.order.received; queued = t.order.queued; batch = t.order.batch; batch_marks = t.order.batch_marks; buffer = t.order.buffer; marks = t.order.marks; queue = t.order.queue };
@@ -129,12 +173,13 @@ module _ {C : Type 0} (rules : Rules C) where
         marks = t.marks;
         queue = t.queue;
         split = t.split;
+        context = t.context;
         owned = t.owned;
         spare = t.spare;
         either = t.either;
-        writing = fits ws t.writing.0 (subst (λ p. PenFits w.bytes r p) over t.writing.1) t.writing.2 t.writing.3;
+        writing = (t.writing.0, reported_fits w.bytes r first second rest (w.pens f) over left t.writing.1, t.writing.2, t.writing.3);
       })
-      sound.next)
+      sound.next
     where
       φ : Flusher C
       φ = w.core.flushers f
@@ -148,22 +193,10 @@ module _ {C : Type 0} (rules : Rules C) where
       is0 : w.core.flushers f ≡ record (w.core.flushers f) { batch = Some (record batch { writing = Some r }) }
       is0 = λ i. record (w.core.flushers f) { batch = (is ∙ (λ j. Some (record batch { writing = writing j }))) i }
 
-      spares : (a : Address) (vs : List Write) → (a.block ≡ b → Each (Spares rules a) vs) → PenSpares rules a (pen_of b vs)
-      spares a [] s = tt
-      spares a (v ∷ vs) s = s
-
-      fits : (vs : List Write) → φ.own ≡ Some r.block
-          → (b ≡ r.block) × ((v : Write) × (v ∷ vs ≡ r.left)) × AllStand (all_laid vs (w.bytes r.block)) r.records
-          → AllOutside rules.up (MayWrite rules.index_size (w.core.tail r.block) (w.core.blob r.block)) r.records
-          → AllBehind rules.index_size r.records
-          → WritingOk rules (ground_of w) φ.own (Some (record r { left = second ∷ rest })) (pen_of b vs)
-      fits [] own p outside behind = absurd (let e : (p.1).0 ∷ [] ≡ first ∷ second ∷ rest = (p.1).1 ∙ left in cc)
-      fits (v ∷ vs) own p outside behind = (own, (p.0, (let e : (p.1).0 ∷ v ∷ vs ≡ first ∷ second ∷ rest = (p.1).1 ∙ left in cc), p.2), outside, behind)
-
   -- a failed flush
   pub failed : (w : World C) (f : ℕ) (batch : Batch C) (r : Writing C) → IsSound rules w → (w.core.flushers f).batch ≡ Some batch → batch.writing ≡ Some r
       → IsSound rules (record w {
-        core = record w.core { flushers = put w.core.flushers f (record (w.core.flushers f) { own = None; batch = Some (record batch { blocks = []; writing = None }) }); place = released (w.core.flushers f).own w.core.place };
+        core = record w.core { flushers = put w.core.flushers f (record (w.core.flushers f) { own = None; context = empty_filling rules; batch = Some (record batch { blocks = []; goes_on = false; writing = None }) }); place = released (w.core.flushers f).own w.core.place };
         pens = put w.pens f Rest;
       })
   failed w f batch r sound is writing =
@@ -179,8 +212,9 @@ module _ {C : Type 0} (rules : Rules C) where
         marks = t.marks;
         queue = t.queue;
         split = tt;
+        context = refl;
         owned = λ c p. absurd (let e : None ≡ Some c = p in cc);
-        spare = leaves w.core.place w.core.tail w.core.blob f φ.own φ.ready t.either t.spare;
+        spare = leaves w.core.place w.filled f φ.own φ.ready t.either t.spare;
         either = λ c d p q. absurd (let e : None ≡ Some c = p in cc);
         writing = refl;
       })
@@ -193,7 +227,7 @@ module _ {C : Type 0} (rules : Rules C) where
       φ0 = record φ { batch = Some (record batch { writing = Some r }) }
 
       ψ : Flusher C
-      ψ = record φ { own = None; batch = Some (record batch { blocks = []; writing = None }) }
+      ψ = record φ { own = None; context = empty_filling rules; batch = Some (record batch { blocks = []; goes_on = false; writing = None }) }
 
       is0 : w.core.flushers f ≡ record (w.core.flushers f) { batch = Some (record batch { writing = Some r }) }
       is0 = λ i. record (w.core.flushers f) { batch = (is ∙ (λ j. Some (record batch { writing = writing j }))) i }
@@ -202,14 +236,12 @@ module _ {C : Type 0} (rules : Rules C) where
   pub pen_spares_far : (g : Ground) (own : Option ℕ) (r : Option (Writing C)) (pen : Pen) (a : Address) → WritingOk rules g own r pen → (own ≡ Some a.block → ⊥) → PenSpares rules a pen
   pen_spares_far g own None pen a ok far = subst (λ p. PenSpares rules a p) (sym ok) tt
   pen_spares_far g own (Some r) Rest a ok far = tt
-  pen_spares_far g own (Some r) (Told b ws) a ok far = λ at. absurd (far (ok.0 ∙ ap (λ c. Some c) (sym ((ok.1).0) ∙ sym at)))
-  pen_spares_far g own (Some r) (Under b v ws) a ok far = λ at. absurd (far (ok.0 ∙ ap (λ c. Some c) (sym ((ok.1).0) ∙ sym at)))
-  pen_spares_far g own (Some r) (Over b true ws) a ok far = λ at. absurd (far (ok.0 ∙ ap (λ c. Some c) (sym ((ok.1).0) ∙ sym at)))
-  pen_spares_far g own (Some r) (Over b false ws) a ok far = λ at. absurd (far (ok.0 ∙ ap (λ c. Some c) (sym ((ok.1).0) ∙ sym at)))
+  pen_spares_far g own (Some r) (Told b rs ws) a ok far = λ at. absurd (far (ok.0 ∙ ap (λ c. Some c) (sym ((ok.1).0) ∙ sym at)))
+  pen_spares_far g own (Some r) (Under b rs v ws) a ok far = λ at. absurd (far (ok.0 ∙ ap (λ c. Some c) (sym ((ok.1).0) ∙ sym at)))
 
   -- the records of a block that is wholly written
-  pub all_good : (w : World C) (f b : ℕ) (ps : List (ℕ × Rec C)) → IsSound rules w → (w.core.flushers f).own ≡ Some b
-      → AllStand (w.bytes b) ps → AllOutside rules.up (MayWrite rules.index_size (w.core.tail b) (w.core.blob b)) ps
+  pub all_good : (w : World C) (f b : ℕ) (ps : List (ℕ × Record C)) → IsSound rules w → (w.core.flushers f).own ≡ Some b
+      → AllStand (w.bytes b) ps → AllOutside rules.page_up (MayWrite rules.index_size (w.filled b)) ps
       → AllBehind rules.index_size ps
       → Each (λ p. IsGood rules (ground_of w) (put w.pens f Rest) (p.1).hash (address_of b (w.core.filling b) p) (rules.pair_of (p.1).bytes (p.1).hash (p.1).sequence)) ps
   all_good w f b [] sound own stand outside behind = tt
@@ -229,8 +261,8 @@ module _ {C : Type 0} (rules : Rules C) where
   )
 
   -- FlushWrote after the last write of a block
-  pub wrote_all : (w : World C) (f : ℕ) (batch : Batch C) (r : Writing C) (last : Write) (b : ℕ) (ws : List Write)
-      → IsSound rules w → (w.core.flushers f).batch ≡ Some batch → batch.writing ≡ Some r → r.left ≡ last ∷ [] → w.pens f ≡ Over b true ws
+  pub wrote_all : (w : World C) (f : ℕ) (batch : Batch C) (r : Writing C) (last : Write)
+      → IsSound rules w → (w.core.flushers f).batch ≡ Some batch → batch.writing ≡ Some r → r.left ≡ last ∷ [] → result_of (w.pens f) ≡ Some true
       → Each (Brings rules (ground_of w) (put w.pens f Rest) r.block (w.core.filling r.block) w.core.index w.history) (map (λ p. p.1) r.records)
       → IsSound rules (record w {
         core = record w.core {
@@ -240,7 +272,7 @@ module _ {C : Type 0} (rules : Rules C) where
         history = noted r.block (w.core.filling r.block) r.records w.core.index w.history;
         pens = put w.pens f Rest;
       })
-  wrote_all w f batch r last b ws sound is writing left over brings =
+  wrote_all w f batch r last sound is writing left over brings =
       flushed w f φ0 ψ Rest (committed r.block (w.core.filling r.block) r.records w.core.index) (noted r.block (w.core.filling r.block) r.records w.core.index w.history) w.core.place sound is0 (λ q b _ p. p) (λ a s. tt)
       (λ h _ ok. commits rules (ground_of w) (put w.pens f Rest) f r.block (w.core.filling r.block) r.records w.core.index w.history h 0 w.core.next (line_of ψ) routed brings good
       (subst (λ l. Ascends 0 (sequences l) w.core.next) line_is (line_ascends w.core.next φ0 t.order))
@@ -257,12 +289,13 @@ module _ {C : Type 0} (rules : Rules C) where
           marks = t.order.marks;
           queue = t.order.queue;
         };
-        batch = each_drop (RecOk rules f) (map (λ p. p.1) r.records) (records_of batch.blocks) t.batch;
+        batch = each_drop (RecordOk rules f) (map (λ p. p.1) r.records) (records_of batch.blocks) t.batch;
         batch_marks = t.batch_marks;
         buffer = t.buffer;
         marks = t.marks;
         queue = t.queue;
         split = t.split;
+        context = t.context;
         owned = t.owned;
         spare = t.spare;
         either = t.either;
@@ -292,76 +325,55 @@ module _ {C : Type 0} (rules : Rules C) where
       line_is : line_of φ0 ≡ puts_onto (map (λ p. p.1) r.records) (line_of ψ)
       line_is = onto_append (map (λ p. p.1) r.records) (records_of batch.blocks) (puts_onto φ.buffer (queue_puts φ.queue))
 
-      stand : (vs : List Write) → PenFits w.bytes r (Over b true vs) → AllStand (w.bytes r.block) r.records
-      stand [] fits = fits.2
-      stand (v ∷ vs) fits = absurd (let e : (fits.1).0 ∷ v ∷ vs ≡ last ∷ [] = (fits.1).1 ∙ left in cc)
-
-      routed : Each (RecOk rules f) (map (λ p. p.1) r.records)
-      routed = each_front (RecOk rules f) (map (λ p. p.1) r.records) (records_of batch.blocks) t.batch
+      routed : Each (RecordOk rules f) (map (λ p. p.1) r.records)
+      routed = each_front (RecordOk rules f) (map (λ p. p.1) r.records) (records_of batch.blocks) t.batch
 
       good : Each (λ p. IsGood rules (ground_of w) (put w.pens f Rest) (p.1).hash (address_of r.block (w.core.filling r.block) p) (rules.pair_of (p.1).bytes (p.1).hash (p.1).sequence)) r.records
-      good = all_good w f r.block r.records sound (t.writing).0 (stand ws (subst (λ p. PenFits w.bytes r p) over (t.writing).1)) (t.writing).2 (t.writing).3
+      good = all_good w f r.block r.records sound (t.writing).0 (last_stands w.bytes r last (w.pens f) over left (t.writing).1) (t.writing).2 (t.writing).3
 
   -- FlushBlock
 
-  pub split_other : (tail blob : ℕ → ℕ) (b t l : ℕ) (own : Option ℕ) (blocks : List (Spread C)) → (own ≡ Some b → ⊥)
-      → IsSplit rules tail blob own blocks → IsSplit rules (put tail b t) (put blob b l) own blocks
-  split_other tail blob b t l own [] far ok = split_nil own
-    where
-      split_nil : (o : Option ℕ) → IsSplit rules (put tail b t) (put blob b l) o []
-      split_nil None = tt
-      split_nil (Some c) = tt
-  split_other tail blob b t l None (s ∷ ss) far ok = ok
-  split_other tail blob b t l (Some c) (s ∷ ss) far ok = (
-    elim ok.0 [
-      | inl fresh ↦ inl fresh
-      | inr goes_on ↦ inr (
-        goes_on.0,
-        subst {A = ℕ × ℕ} (λ p. IsPlaced rules p.0 p.1 s)
-            (let P : ℕ → ℕ → Type 0 = λ x y. (tail c ≡ x) × (blob c ≡ y) in
-            let same : P (put tail b t c) (put blob b l c) =
-            put_both (λ q x y. q ≡ c → (tail q ≡ x) × (blob q ≡ y)) tail blob b t l (λ at. absurd (far (ap (λ k. Some k) (sym at)))) (λ q _ _. (refl, refl)) c refl in
-            λ i. (same.0 i, same.1 i))
-            goes_on.1,
-      )
-    ],
-    ok.1,
-  )
+  pub start_other : (filled : ℕ → Filling) (b : ℕ) (e : Filling) (own : Option ℕ) (goes_on : Bool) → (own ≡ Some b → ⊥)
+      → start_of rules (put filled b e) own goes_on ≡ start_of rules filled own goes_on
+  start_other filled b e None goes_on far = refl
+  start_other filled b e (Some c) false far = refl
+  start_other filled b e (Some c) true far = put_other filled b e c (λ at. far (ap (λ k. Some k) at))
 
-  split_rest : (tail blob : ℕ → ℕ) (b : ℕ) (blocks : List (Spread C)) → AllFresh rules blocks → IsSplit rules tail blob (Some b) blocks
-  split_rest tail blob b [] ok = tt
-  split_rest tail blob b (s ∷ ss) ok = (inl (ok.0, ok.1), ok.2)
+  pub split_other : (filled : ℕ → Filling) (b : ℕ) (e : Filling) (own : Option ℕ) (goes_on : Bool) (blocks : List (Spread C)) → (own ≡ Some b → ⊥)
+      → AllPlaced rules (start_of rules filled own goes_on) blocks → AllPlaced rules (start_of rules (put filled b e) own goes_on) blocks
+  split_other filled b e own goes_on blocks far ok = subst (λ g. AllPlaced rules g blocks) (sym (start_other filled b e own goes_on far)) ok
 
-  pub writing_other : (g : Ground) (fill : ℕ → ℕ) (b t l : ℕ) (own : Option ℕ) (r : Option (Writing C)) (pen : Pen) → (own ≡ Some b → ⊥)
+  pub context_other : (filled : ℕ → Filling) (b : ℕ) (e : Filling) (own : Option ℕ) (blocks : List (Spread C)) (context : Filling) → (own ≡ Some b → ⊥)
+      → context ≡ last_end (start_of rules filled own true) blocks → context ≡ last_end (start_of rules (put filled b e) own true) blocks
+  context_other filled b e own blocks context far ok = ok ∙ ap (λ g. last_end g blocks) (sym (start_other filled b e own true far))
+
+  pub writing_other : (g : Ground) (fill : ℕ → ℕ) (b : ℕ) (e : Filling) (own : Option ℕ) (r : Option (Writing C)) (pen : Pen) → (own ≡ Some b → ⊥)
       → WritingOk rules g own r pen
-      → WritingOk rules (record { tail = put g.tail b t; blob = put g.blob b l; filling = fill; bytes = g.bytes }) own r pen
-  writing_other g fill b t l own None pen far ok = ok
-  writing_other g fill b t l own (Some r) pen far ok = (
+      → WritingOk rules (record { filled = put g.filled b e; filling = fill; bytes = g.bytes }) own r pen
+  writing_other g fill b e own None pen far ok = ok
+  writing_other g fill b e own (Some r) pen far ok = (
     ok.0,
     ok.1,
-    put_both (λ q x y. q ≡ r.block → AllOutside rules.up (MayWrite rules.index_size x y) r.records) g.tail g.blob b t l
+    put_one (λ q x. q ≡ r.block → AllOutside rules.page_up (MayWrite rules.index_size x) r.records) g.filled b e
         (λ at. absurd (far (ok.0 ∙ ap (λ k. Some k) (sym at))))
-        (λ q _ at. subst (λ k. AllOutside rules.up (MayWrite rules.index_size (g.tail k) (g.blob k)) r.records) (sym at) ok.2) r.block refl,
+        (λ q _ at. subst (λ k. AllOutside rules.page_up (MayWrite rules.index_size (g.filled k)) r.records) (sym at) ok.2) r.block refl,
     ok.3,
   )
 
-  writing_told : (g : Ground) (fill : ℕ → ℕ) (b t l : ℕ) (ws : List Write) (ps : List (ℕ × Rec C))
-      → AllStand (all_laid ws (g.bytes b)) ps → AllOutside rules.up (MayWrite rules.index_size t l) ps → AllBehind rules.index_size ps
-      → WritingOk rules (record { tail = put g.tail b t; blob = put g.blob b l; filling = fill; bytes = g.bytes }) (Some b) (writing_of b ws ps) (pen_of b ws)
-  writing_told g fill b t l [] ps stand outside behind = refl
-  writing_told g fill b t l (v ∷ vs) ps stand outside behind = (
+  writing_told : (g : Ground) (fill : ℕ → ℕ) (b : ℕ) (e : Filling) (ws : List Write) (ps : List (ℕ × Record C))
+      → AllStand (all_laid ws (g.bytes b)) ps → AllOutside rules.page_up (MayWrite rules.index_size e) ps → AllBehind rules.index_size ps
+      → WritingOk rules (record { filled = put g.filled b e; filling = fill; bytes = g.bytes }) (Some b) (writing_of b ws ps) (pen_of b ws)
+  writing_told g fill b e [] ps stand outside behind = refl
+  writing_told g fill b e (v ∷ vs) ps stand outside behind = (
     refl,
-    (refl, refl, stand),
-    put_both (λ q x y. q ≡ b → AllOutside rules.up (MayWrite rules.index_size x y) ps) g.tail g.blob b t l (λ _. outside) (λ q ne at. absurd (ne at)) b refl,
+    (refl, refl, λ _. stand),
+    put_one (λ q x. q ≡ b → AllOutside rules.page_up (MayWrite rules.index_size x) ps) g.filled b e (λ _. outside) (λ q ne at. absurd (ne at)) b refl,
     behind,
   )
 
-  spare_other : (m : ℕ → ℕ) (b v c : ℕ) → (c ≡ b → ⊥) → m c ≡ 0 → put m b v c ≡ 0
-  spare_other m b v c ne is = put_other m b v c ne ∙ is
-
   -- the records of a block that is told, or of none where there is nothing to write
-  pub records_told : (P : List (Rec C) → Type 0) (b : ℕ) (ws : List Write) (ps : List (ℕ × Rec C)) (rest : List (Rec C))
-      → ((x y : List (Rec C)) → P (x ++ y) → P y)
+  pub records_told : (P : List (Record C) → Type 0) (b : ℕ) (ws : List Write) (ps : List (ℕ × Record C)) (rest : List (Record C))
+      → ((x y : List (Record C)) → P (x ++ y) → P y)
       → P (map (λ p. p.1) ps ++ rest) → P (map (λ p. p.1) (placed_in (writing_of b ws ps)) ++ rest)
   records_told P b [] ps rest skip ok = skip (map (λ p. p.1) ps) rest ok
   records_told P b (v ∷ vs) ps rest skip ok = ok
@@ -369,56 +381,56 @@ module _ {C : Type 0} (rules : Rules C) where
   -- A flusher is told a block, its own or a clean one: what the two have in common.
   pub told : (w : World C) (f b : ℕ) (batch : Batch C) (s : Spread C) (rest : List (Spread C)) (own : Option ℕ) (fill : ℕ → ℕ) (place : ℕ → Place) → IsSound rules w
       → w.core.flushers f ≡ record (w.core.flushers f) { own = own; batch = Some (record batch { blocks = s ∷ rest; writing = None }) }
-      → AllStand (all_laid s.writes (w.bytes b)) s.records
-      → AllOutside rules.up (MayWrite rules.index_size s.tail s.blob) s.records
-      → AllBehind rules.index_size s.records
-      → AllFresh rules rest
+      → AllStand (all_laid (writes_in rules s.parts) (w.bytes b)) (records_in s.parts)
+      → AllOutside rules.page_up (MayWrite rules.index_size s.end) (records_in s.parts)
+      → AllBehind rules.index_size (records_in s.parts)
+      → AllPlaced rules (empty_filling rules) rest
       → ((q : ℕ) → (q ≡ f → ⊥) → (w.core.flushers q).own ≡ Some b → ⊥)
       → ((q : ℕ) → (q ≡ f → ⊥) → (c : ℕ) → (w.core.flushers q).ready ≡ Some c → c ≡ b → ⊥)
       → (place b ≡ Writes f) → ((q c : ℕ) → (q ≡ f → ⊥) → w.core.place c ≡ Writes q → place c ≡ Writes q)
       → ((h : ℕ) (a : Address) (x : Outcome C) → IsGood rules (ground_of w) w.pens h a x
-      → IsGood rules (record { tail = put w.core.tail b s.tail; blob = put w.core.blob b s.blob; filling = fill; bytes = w.bytes }) (put w.pens f (pen_of b s.writes)) h a x)
+      → IsGood rules (record { filled = put w.filled b s.end; filling = fill; bytes = w.bytes }) (put w.pens f (pen_of b (writes_in rules s.parts))) h a x)
       → ((a : Address) → a.filling ≤ w.core.filling a.block → a.filling ≡ fill a.block → a.filling ≡ w.core.filling a.block)
       → IsSound rules (record w {
         core = record w.core {
-          tail = put w.core.tail b s.tail;
-          blob = put w.core.blob b s.blob;
           filling = fill;
           place = place;
-          flushers = put w.core.flushers f (record (w.core.flushers f) { own = Some b; ready = None; batch = Some (record batch { blocks = rest; writing = writing_of b s.writes s.records }) });
+          flushers = put w.core.flushers f (record (w.core.flushers f) { own = Some b; ready = None; batch = Some (record batch { blocks = rest; goes_on = false; writing = writing_of b (writes_in rules s.parts) (records_in s.parts) }) });
         };
-        pens = put w.pens f (pen_of b s.writes);
+        filled = put w.filled b s.end;
+        pens = put w.pens f (pen_of b (writes_in rules s.parts));
       })
   told w f b batch s rest own fill place sound is stand outside behind fresh alone vacant taken cleaner good older =
       record {
         slots = λ h e routed. put_at (λ k. SlotOk rules g' pens' w.history h (line_of k) (w.core.index h)) w.core.flushers f ψ e
             (λ at. slot_lift rules (ground_of w) g' w.pens pens' w.history h (line_of φ0) (line_of ψ) (w.core.index h) (λ a x. good h a x)
             (λ n _ line. let P : ℕ × ℕ → Type 0 = λ p. p.0 ≡ h → n ≤ p.1 in
-            records_told (λ rs. Each P (puts_onto rs rear)) b s.writes s.records (records_of rest) (λ x y. puts_skip P x y rear) line)
+            records_told (λ rs. Each P (puts_onto rs rear)) b (writes_in rules s.parts) (records_in s.parts) (records_of rest) (λ x y. puts_skip P x y rear) line)
             (subst (λ k. SlotOk rules (ground_of w) w.pens w.history h (line_of k) (w.core.index h)) is (sound.slots h f (routed ∙ at))))
             (λ _. slot_lift rules (ground_of w) g' w.pens pens' w.history h (line_of (w.core.flushers e)) (line_of (w.core.flushers e)) (w.core.index h) (λ a x. good h a x) (λ n _ line. line) (sound.slots h e routed));
         loads = λ n. load_lift rules (ground_of w) g' w.pens pens' (w.loads n) good (λ l ok e. ok.phase (older l.ticket.address ok.good.older e)) (sound.loads n);
-        flushers = put_both (λ q k p. IsTended rules g' place w.core.next q k p) w.core.flushers w.pens f ψ (pen_of b s.writes)
+        flushers = put_both (λ q k p. IsTended rules g' place w.core.next q k p) w.core.flushers w.pens f ψ (pen_of b (writes_in rules s.parts))
             (record {
               order = record {
                 received = t.order.received;
                 queued = t.order.queued;
-                batch = records_told (λ rs. Ascends 0 (sequences (puts_onto rs [])) t.order.received) b s.writes s.records (records_of rest) (ascends_skip 0 t.order.received) t.order.batch;
+                batch = records_told (λ rs. Ascends 0 (sequences (puts_onto rs [])) t.order.received) b (writes_in rules s.parts) (records_in s.parts) (records_of rest) (ascends_skip 0 t.order.received) t.order.batch;
                 batch_marks = t.order.batch_marks;
                 buffer = t.order.buffer;
                 marks = t.order.marks;
                 queue = t.order.queue;
               };
-              batch = records_told (Each (RecOk rules f)) b s.writes s.records (records_of rest) (each_drop (RecOk rules f)) t.batch;
+              batch = records_told (Each (RecordOk rules f)) b (writes_in rules s.parts) (records_in s.parts) (records_of rest) (each_drop (RecordOk rules f)) t.batch;
               batch_marks = t.batch_marks;
               buffer = t.buffer;
               marks = t.marks;
               queue = t.queue;
-              split = split_rest (put w.core.tail b s.tail) (put w.core.blob b s.blob) b rest fresh;
+              split = fresh;
+              context = t.context ∙ ap (λ g. last_end g rest) (sym (put_same w.filled b s.end));
               owned = λ c p. subst (λ k. place k ≡ Writes f) (let e : Some b ≡ Some c = p in cc) taken;
               spare = λ c p. absurd (let e : None ≡ Some c = p in cc);
               either = λ c d p q. absurd (let e : None ≡ Some d = q in cc);
-              writing = writing_told (ground_of w) fill b s.tail s.blob s.writes s.records stand outside behind;
+              writing = writing_told (ground_of w) fill b s.end (writes_in rules s.parts) (records_in s.parts) stand outside behind;
             })
             (λ q ne. let u : IsTended rules (ground_of w) w.core.place w.core.next q (w.core.flushers q) (w.pens q) = sound.flushers q in
             record {
@@ -428,11 +440,12 @@ module _ {C : Type 0} (rules : Rules C) where
               buffer = u.buffer;
               marks = u.marks;
               queue = u.queue;
-              split = split_other w.core.tail w.core.blob b s.tail s.blob (w.core.flushers q).own (blocks_in (w.core.flushers q).batch) (alone q ne) u.split;
+              split = split_other w.filled b s.end (w.core.flushers q).own (goes_on_in (w.core.flushers q).batch) (blocks_in (w.core.flushers q).batch) (alone q ne) u.split;
+              context = context_other w.filled b s.end (w.core.flushers q).own (blocks_in (w.core.flushers q).batch) (w.core.flushers q).context (alone q ne) u.context;
               owned = λ c p. cleaner q c ne (u.owned c p);
-              spare = λ c p. (cleaner q c ne (u.spare c p).0, spare_other w.core.tail b s.tail c (vacant q ne c p) (u.spare c p).1, spare_other w.core.blob b s.blob c (vacant q ne c p) (u.spare c p).2);
+              spare = λ c p. (cleaner q c ne (u.spare c p).0, put_other w.filled b s.end c (vacant q ne c p) ∙ (u.spare c p).1);
               either = u.either;
-              writing = writing_other (ground_of w) fill b s.tail s.blob (w.core.flushers q).own (writing_in (w.core.flushers q).batch) (w.pens q) (alone q ne) u.writing;
+              writing = writing_other (ground_of w) fill b s.end (w.core.flushers q).own (writing_in (w.core.flushers q).batch) (w.pens q) (alone q ne) u.writing;
             });
         next = sound.next;
       }
@@ -441,13 +454,13 @@ module _ {C : Type 0} (rules : Rules C) where
       φ0 = record (w.core.flushers f) { own = own; batch = Some (record batch { blocks = s ∷ rest; writing = None }) }
 
       ψ : Flusher C
-      ψ = record (w.core.flushers f) { own = Some b; ready = None; batch = Some (record batch { blocks = rest; writing = writing_of b s.writes s.records }) }
+      ψ = record (w.core.flushers f) { own = Some b; ready = None; batch = Some (record batch { blocks = rest; goes_on = false; writing = writing_of b (writes_in rules s.parts) (records_in s.parts) }) }
 
       g' : Ground
-      g' = record { tail = put w.core.tail b s.tail; blob = put w.core.blob b s.blob; filling = fill; bytes = w.bytes }
+      g' = record { filled = put w.filled b s.end; filling = fill; bytes = w.bytes }
 
       pens' : ℕ → Pen
-      pens' = put w.pens f (pen_of b s.writes)
+      pens' = put w.pens f (pen_of b (writes_in rules s.parts))
 
       rear : List (ℕ × ℕ)
       rear = puts_onto (w.core.flushers f).buffer (queue_puts (w.core.flushers f).queue)
@@ -457,7 +470,7 @@ module _ {C : Type 0} (rules : Rules C) where
 
   -- FlushBlock without a block: the flusher leaves its own and waits
   pub waited : (w : World C) (f : ℕ) (batch : Batch C) (s : Spread C) (rest : List (Spread C)) → IsSound rules w → (w.core.flushers f).batch ≡ Some batch
-      → batch.writing ≡ None → batch.blocks ≡ s ∷ rest → s.fresh ≡ true
+      → batch.writing ≡ None → batch.blocks ≡ s ∷ rest → batch.goes_on ≡ false
       → IsSound rules (record w { core = record w.core { flushers = put w.core.flushers f (record (w.core.flushers f) { own = None }); place = released (w.core.flushers f).own w.core.place } })
   waited w f batch s rest sound is writing blocks fresh =
       subst (λ pens. IsSound rules (record w { core = record w.core { flushers = put w.core.flushers f (record (w.core.flushers f) { own = None }); place = released (w.core.flushers f).own w.core.place }; pens = pens }))
@@ -471,9 +484,10 @@ module _ {C : Type 0} (rules : Rules C) where
         buffer = t.buffer;
         marks = t.marks;
         queue = t.queue;
-        split = subst (λ bs. IsSplit rules w.core.tail w.core.blob None bs) (sym blocks_are) (begun φ.own (subst (λ bs. IsSplit rules w.core.tail w.core.blob φ.own bs) blocks_are t.split));
+        split = begun φ.own (subst (λ g. AllPlaced rules (start_of rules w.filled φ.own g) (blocks_in φ.batch)) goes_on_is t.split);
+        context = t.context ∙ ap (λ bs. last_end (start_of rules w.filled φ.own true) bs) blocks_are ∙ ap (λ bs. last_end (start_of rules w.filled None true) bs) (sym blocks_are);
         owned = λ c p. absurd (let e : None ≡ Some c = p in cc);
-        spare = leaves w.core.place w.core.tail w.core.blob f φ.own φ.ready t.either t.spare;
+        spare = leaves w.core.place w.filled f φ.own φ.ready t.either t.spare;
         either = λ c d p q. absurd (let e : None ≡ Some c = p in cc);
         writing = subst (λ r. WritingOk rules (ground_of w) None r (w.pens f)) (sym writing_is) (subst (λ r. WritingOk rules (ground_of w) φ.own r (w.pens f)) writing_is t.writing);
       })
@@ -488,6 +502,9 @@ module _ {C : Type 0} (rules : Rules C) where
       writing_is : writing_in (w.core.flushers f).batch ≡ None
       writing_is = ap writing_in is ∙ writing
 
-      begun : (own : Option ℕ) → IsSplit rules w.core.tail w.core.blob own (s ∷ rest) → AllFresh rules (s ∷ rest)
+      goes_on_is : goes_on_in (w.core.flushers f).batch ≡ false
+      goes_on_is = ap goes_on_in is ∙ fresh
+
+      begun : (own : Option ℕ) → AllPlaced rules (start_of rules w.filled own false) (blocks_in φ.batch) → AllPlaced rules (empty_filling rules) (blocks_in φ.batch)
       begun None ok = ok
-      begun (Some c) ok = elim ok.0 [ inl p ↦ (p.0, p.1, ok.1) | inr p ↦ absurd (let e : true ≡ false = sym fresh ∙ p.0 in cc) ]
+      begun (Some c) ok = ok

@@ -1,11 +1,15 @@
 -- What keeps an address good.
-use Rattle.std.proofs.Common.{◌≡◌, ℕ, ◌+◌, ◌≤◌, nat_le, nat_lt, Bool, true, false, if◌then◌else◌, List, [], ◌∷◌, length, Option, Some, None, inl, inr, refl, sym, ap, subst, arith, ◌&&◌, ◌-◌, slice_index}
+use Rattle.std.proofs.Common.{◌≡◌, ◌≢◌, ℕ, zero, suc, ◌+◌, ◌-◌, ◌<◌, ◌≤◌, ◌==◌, nat_le, nat_lt, Bool, true, false, ◌&&◌, ◌||◌, if◌then◌else◌, List, [], ◌∷◌, ◌++◌, length, map, take, slice_index, Option, Some, None, ◌⊎◌, inl, inr, refl, sym, ap, subst, ◌∙◌, arith, append_assoc}
+use Rattle.std.proofs.lemmas.Bool.{eqb-true, eqb-false, eq-eqb, ne_eqb}
 use Rattle.std.proofs.lemmas.Bool.Decides.{nat_tests}
-use Rattle.foyer_model.specs.State.{put, Address, Slot, Indexed, Mark, Outcome, Write, Spread, Rules}
-use Rattle.foyer_model.specs.Placing.{MayWrite, laid, read, IsBeside, AllWithin, IsPlaced}
-use Rattle.foyer_model.specs.Events.{Ev, sequence_in, newest}
-use Rattle.foyer_model.specs.World.{Pen, Rest, Told, Under, Over, Load, pen_of, pen_ended, bytes_ended, IsTorn}
-use Rattle.foyer_model.proofs.Basics.{put_at, read_same, put_one, put_both, beside_or}
+use Rattle.foyer_model.specs.Numbers.{put, page}
+use Rattle.foyer_model.specs.Record.{Address, Slot, Indexed, Mark, Outcome}
+use Rattle.foyer_model.specs.Filling.{Write, Spread}
+use Rattle.foyer_model.specs.Rules.{Rules}
+use Rattle.foyer_model.specs.Placing.{MayWrite, laid, read, IsBeside, AllWithin, writes_in, IsPlaced}
+use Rattle.foyer_model.specs.Event.{Event, sequence_in, newest}
+use Rattle.foyer_model.specs.Access.{Pen, Rest, Told, Under, Load, pen_of, pen_ended, bytes_ended, IsTorn}
+use Rattle.foyer_model.proofs.Basics.{put_at, read_same, put_one, beside_or}
 use Rattle.foyer_model.proofs.Invariant.{Ground, Each, InPages, Spares, PenSpares, IsSolid, IsGood, AtLeast, SlotOk, PhaseOk, IsPromised, LoadOk}
 
 module _ {C : Type 0} (rules : Rules C) where
@@ -38,20 +42,20 @@ module _ {C : Type 0} (rules : Rules C) where
 
   -- a flusher goes on in its own block
   pub good_told : (g : Ground) (pens : ℕ → Pen) (h : ℕ) (a : Address) (x : Outcome C) (f b : ℕ) (s : Spread C)
-      → IsPlaced rules (g.tail b) (g.blob b) s → IsGood rules g pens h a x
-      → IsGood rules (record g { tail = put g.tail b s.tail; blob = put g.blob b s.blob }) (put pens f (pen_of b s.writes)) h a x
+      → IsPlaced rules (g.filled b) s → IsGood rules g pens h a x
+      → IsGood rules (record g { filled = put g.filled b s.end }) (put pens f (pen_of b (writes_in rules s.parts))) h a x
   good_told g pens h a x f b s placed good =
       record {
         older = good.older;
         solid = λ e. let solid : IsSolid rules g pens h a x = good.solid e in
             record {
               outcome = solid.outcome;
-              shut = λ o page. put_both (λ q t bl. q ≡ a.block → MayWrite rules.index_size t bl o → ⊥) g.tail g.blob b s.tail s.blob
-                  (λ at may. subst (λ q. MayWrite rules.index_size (g.tail q) (g.blob q) o → ⊥) (sym at) (solid.shut o page) (placed.shrinks o may))
-                  (λ q ne at. subst (λ i. MayWrite rules.index_size (g.tail i) (g.blob i) o → ⊥) (sym at) (solid.shut o page)) a.block refl;
-              spared = put_one (λ q p. PenSpares rules a p) pens f (pen_of b s.writes)
-                  (pen_of_spares a b s.writes (λ at. within_spares a (MayWrite rules.index_size (g.tail b) (g.blob b)) s.writes placed.within
-                  (λ o page. subst (λ q. MayWrite rules.index_size (g.tail q) (g.blob q) o → ⊥) at (solid.shut o page))))
+              shut = λ o page. put_one (λ q fl. q ≡ a.block → MayWrite rules.index_size fl o → ⊥) g.filled b s.end
+                  (λ at may. subst (λ q. MayWrite rules.index_size (g.filled q) o → ⊥) (sym at) (solid.shut o page) (placed.shrinks o may))
+                  (λ q ne at. subst (λ i. MayWrite rules.index_size (g.filled i) o → ⊥) (sym at) (solid.shut o page)) a.block refl;
+              spared = put_one (λ q p. PenSpares rules a p) pens f (pen_of b (writes_in rules s.parts))
+                  (pen_of_spares a b (writes_in rules s.parts) (λ at. within_spares a (MayWrite rules.index_size (g.filled b)) (writes_in rules s.parts) placed.within
+                  (λ o page. subst (λ q. MayWrite rules.index_size (g.filled q) o → ⊥) at (solid.shut o page))))
                   (λ q ne. solid.spared q);
               past = solid.past;
             };
@@ -60,28 +64,28 @@ module _ {C : Type 0} (rules : Rules C) where
   -- a block is handed out: its filling grows
   pub good_handed : (g : Ground) (pens : ℕ → Pen) (h : ℕ) (a : Address) (x : Outcome C) (f b : ℕ) (s : Spread C)
       → IsGood rules g pens h a x
-      → IsGood rules (record g { tail = put g.tail b s.tail; blob = put g.blob b s.blob; filling = put g.filling b (g.filling b + 1) }) (put pens f (pen_of b s.writes)) h a x
+      → IsGood rules (record g { filled = put g.filled b s.end; filling = put g.filling b (g.filling b + 1) }) (put pens f (pen_of b (writes_in rules s.parts))) h a x
   good_handed g pens h a x f b s good =
       record {
         older = put_at (λ n. a.filling ≤ n) g.filling b (g.filling b + 1) a.block
             (λ at. let before : a.filling ≤ g.filling b = subst (λ q. a.filling ≤ g.filling q) at good.older in omega arith)
             (λ ne. good.older);
-        solid = put_at (λ n. a.filling ≡ n → IsSolid rules (record g { tail = put g.tail b s.tail; blob = put g.blob b s.blob; filling = put g.filling b (g.filling b + 1) }) (put pens f (pen_of b s.writes)) h a x)
+        solid = put_at (λ n. a.filling ≡ n → IsSolid rules (record g { filled = put g.filled b s.end; filling = put g.filling b (g.filling b + 1) }) (put pens f (pen_of b (writes_in rules s.parts))) h a x)
             g.filling b (g.filling b + 1) a.block
             (λ at e. let before : a.filling ≤ g.filling b = subst (λ q. a.filling ≤ g.filling q) at good.older in absurd (omega arith))
             (λ ne e. elsewhere ne (good.solid e));
       }
     where
       elsewhere : (a.block ≡ b → ⊥) → IsSolid rules g pens h a x
-          → IsSolid rules (record g { tail = put g.tail b s.tail; blob = put g.blob b s.blob; filling = put g.filling b (g.filling b + 1) }) (put pens f (pen_of b s.writes)) h a x
+          → IsSolid rules (record g { filled = put g.filled b s.end; filling = put g.filling b (g.filling b + 1) }) (put pens f (pen_of b (writes_in rules s.parts))) h a x
       elsewhere ne solid =
           record {
             outcome = solid.outcome;
-            shut = λ o page. put_both (λ q t bl. q ≡ a.block → MayWrite rules.index_size t bl o → ⊥) g.tail g.blob b s.tail s.blob
+            shut = λ o page. put_one (λ q fl. q ≡ a.block → MayWrite rules.index_size fl o → ⊥) g.filled b s.end
                 (λ at. absurd (ne (sym at)))
-                (λ q _ at. subst (λ i. MayWrite rules.index_size (g.tail i) (g.blob i) o → ⊥) (sym at) (solid.shut o page)) a.block refl;
-            spared = put_one (λ q p. PenSpares rules a p) pens f (pen_of b s.writes)
-                (pen_of_spares a b s.writes (λ at. absurd (ne at))) (λ q _. solid.spared q);
+                (λ q _ at. subst (λ i. MayWrite rules.index_size (g.filled i) o → ⊥) (sym at) (solid.shut o page)) a.block refl;
+            spared = put_one (λ q p. PenSpares rules a p) pens f (pen_of b (writes_in rules s.parts))
+                (pen_of_spares a b (writes_in rules s.parts) (λ at. absurd (ne at))) (λ q _. solid.spared q);
             past = solid.past;
           }
 
@@ -98,9 +102,8 @@ module _ {C : Type 0} (rules : Rules C) where
   pub ended_same : (bytes : ℕ → ℕ → ℕ) (pen : Pen) (ok : Bool) (g : ℕ → ℕ) (a : Address) → IsTorn bytes pen g → PenSpares rules a pen
       → (o : ℕ) → InPages rules a o → bytes_ended ok g pen bytes a.block o ≡ bytes a.block o
   ended_same bytes Rest ok g a torn spares o inside = refl
-  ended_same bytes (Told b ws) ok g a torn spares o inside = refl
-  ended_same bytes (Over b k ws) ok g a torn spares o inside = refl
-  ended_same bytes (Under b w ws) ok g a torn spares o inside =
+  ended_same bytes (Told b rs ws) ok g a torn spares o inside = refl
+  ended_same bytes (Under b rs w ws) ok g a torn spares o inside =
       put_at (λ k. k o ≡ bytes a.block o) bytes b (if ok then laid w (bytes b) else g) a.block
       (λ at. subst (λ q. (if ok then laid w (bytes b) else g) o ≡ bytes q o) (sym at) (go ok ((spares at).0 o inside)))
       (λ _. refl)
@@ -112,14 +115,14 @@ module _ {C : Type 0} (rules : Rules C) where
   pub read_ended : (bytes : ℕ → ℕ → ℕ) (pen : Pen) (ok : Bool) (g : ℕ → ℕ) (a : Address) → IsTorn bytes pen g → PenSpares rules a pen
       → read (bytes_ended ok g pen bytes a.block) a.offset a.len ≡ read (bytes a.block) a.offset a.len
   read_ended bytes pen ok g a torn spares =
-      read_same _ _ a.offset a.len (λ i low high. let above : a.len ≤ rules.up a.len = rules.up_above a.len in
+      read_same _ _ a.offset a.len (λ i low high. let above : a.len ≤ rules.page_up a.len = rules.page_up_above a.len in
       ended_same bytes pen ok g a torn spares i (low, omega arith))
 
   pub pen_ended_spares : (a : Address) (ok : Bool) (pen : Pen) → PenSpares rules a pen → PenSpares rules a (pen_ended ok pen)
   pen_ended_spares a ok Rest spares = spares
-  pen_ended_spares a ok (Told b ws) spares = spares
-  pen_ended_spares a ok (Over b k ws) spares = spares
-  pen_ended_spares a ok (Under b w ws) spares = λ at. (spares at).1
+  pen_ended_spares a ok (Told b rs ws) spares = spares
+  pen_ended_spares a true (Under b rs w ws) spares = λ at. (spares at).1
+  pen_ended_spares a false (Under b rs w ws) spares = λ at. tt
 
   pub good_ended : (g : Ground) (pens : ℕ → Pen) (h : ℕ) (a : Address) (x : Outcome C) (f : ℕ) (ok : Bool) (k : ℕ → ℕ)
       → IsTorn g.bytes (pens f) k → IsGood rules g pens h a x
@@ -137,7 +140,7 @@ module _ {C : Type 0} (rules : Rules C) where
       }
 
   -- the facts of slots and loads go along
-  pub slot_lift : (g g' : Ground) (pens pens' : ℕ → Pen) (H : List (Ev C)) (h : ℕ) (line line' : List (ℕ × ℕ)) (slot : Option Slot)
+  pub slot_lift : (g g' : Ground) (pens pens' : ℕ → Pen) (H : List (Event C)) (h : ℕ) (line line' : List (ℕ × ℕ)) (slot : Option Slot)
       → ((a : Address) (x : Outcome C) → IsGood rules g pens h a x → IsGood rules g' pens' h a x)
       → ((n : ℕ) → n ≡ sequence_in (newest h H) → AtLeast h n line → AtLeast h n line')
       → SlotOk rules g pens H h line slot → SlotOk rules g' pens' H h line' slot

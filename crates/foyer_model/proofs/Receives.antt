@@ -1,10 +1,18 @@
 -- Receive and FlushBegin.
-use Rattle.std.proofs.Common.{◌≡◌, ℕ, ◌+◌, ◌<◌, ◌≤◌, List, [], ◌∷◌, ◌++◌, Some, None, refl, sym, subst, arith}
-use Rattle.foyer_model.specs.State.{put, Address, Given, Reread, Rec, Sub, Piece, Remove, Await, Reinsert, Spread, Flusher, Rules}
-use Rattle.foyer_model.specs.Placing.{IsSplit, records_of}
+use Rattle.std.proofs.Common.{◌≡◌, ◌≢◌, ℕ, zero, suc, ◌+◌, ◌-◌, ◌<◌, ◌≤◌, ◌==◌, nat_le, nat_lt, Bool, true, false, ◌&&◌, ◌||◌, if◌then◌else◌, List, [], ◌∷◌, ◌++◌, length, map, take, slice_index, Option, Some, None, ◌⊎◌, inl, inr, refl, sym, ap, subst, ◌∙◌, arith, append_assoc}
+use Rattle.std.proofs.lemmas.Bool.{eqb-true, eqb-false, eq-eqb, ne_eqb}
+use Rattle.std.proofs.lemmas.Bool.Decides.{nat_tests}
+use Rattle.foyer_model.specs.Numbers.{put}
+use Rattle.foyer_model.specs.Record.{Address, Given, Reread, Record}
+use Rattle.foyer_model.specs.Filling.{Filling, Spread, last_end}
+use Rattle.foyer_model.specs.State.{Submission, Piece, Remove, Await, Reinsert, Flusher}
+use Rattle.foyer_model.specs.Rules.{Rules, flusher_of}
+use Rattle.foyer_model.specs.Placing.{AllPlaced, IsSplit}
+use Rattle.foyer_model.specs.Queue.{queued}
+use Rattle.foyer_model.specs.Flush.{is_some}
 use Rattle.foyer_model.specs.World.{World}
 use Rattle.foyer_model.proofs.Basics.{Ascends, ascends_from, ascends_to}
-use Rattle.foyer_model.proofs.Invariant.{Each, puts_onto, queue_puts, batch_records, AtLeast, sequences, queue_sequences, RecOk, IsSound}
+use Rattle.foyer_model.proofs.Invariant.{Each, puts_onto, queue_puts, batch_records, AtLeast, sequences, queue_sequences, RecordOk, start_of, IsSound}
 use Rattle.foyer_model.proofs.Commits.{each_join, each_onto, onto_append, ascends_last}
 use Rattle.foyer_model.proofs.Turns.{one_turned}
 
@@ -17,7 +25,7 @@ marks_below n m ps le = each_weaker (λ p. p.1 < n) (λ p. p.1 < m) ps (λ p lt.
 
 module _ {C : Type 0} (rules : Rules C) where
   -- the front of the queue goes to the buffer
-  pub received_piece : (w : World C) (f h s n : ℕ) (c : C) (bytes : List ℕ) (rest : List (Sub C)) → IsSound rules w → (w.core.flushers f).queue ≡ Piece h s n c ∷ rest
+  pub received_piece : (w : World C) (f h s n : ℕ) (c : C) (bytes : List ℕ) (rest : List (Submission C)) → IsSound rules w → (w.core.flushers f).queue ≡ Piece h s n c ∷ rest
       → rules.encode h s c ≡ Some bytes
       → IsSound rules (record w {
         core = record w.core {
@@ -46,10 +54,11 @@ module _ {C : Type 0} (rules : Rules C) where
         };
         batch = t.batch;
         batch_marks = t.batch_marks;
-        buffer = each_join (RecOk rules f) φ.buffer (r ∷ []) t.buffer ((((t.queue).0).0, ((t.queue).0).1 bytes encoded), tt);
+        buffer = each_join (RecordOk rules f) φ.buffer (r ∷ []) t.buffer ((((t.queue).0).0, ((t.queue).0).1 bytes encoded), tt);
         marks = t.marks;
         queue = (t.queue).1;
         split = t.split;
+      context = t.context;
         owned = t.owned;
         spare = t.spare;
         either = t.either;
@@ -59,10 +68,10 @@ module _ {C : Type 0} (rules : Rules C) where
       φ : Flusher C
       φ = w.core.flushers f
 
-      r : Rec C
+      r : Record C
       r = record { hash = h; sequence = s; bytes = bytes; source = Given c }
 
-  pub returned_piece : (w : World C) (f h s n : ℕ) (c : C) (rest : List (Sub C)) → IsSound rules w → (w.core.flushers f).queue ≡ Piece h s n c ∷ rest
+  pub returned_piece : (w : World C) (f h s n : ℕ) (c : C) (rest : List (Submission C)) → IsSound rules w → (w.core.flushers f).queue ≡ Piece h s n c ∷ rest
       → IsSound rules (record w { core = record w.core { flushers = put w.core.flushers f (record (w.core.flushers f) { queue = rest }) } })
   returned_piece w f h s n c rest sound is =
       one_turned rules w f (record φ { queue = Piece h s n c ∷ rest }) (record φ { queue = rest }) w.core.next sound
@@ -87,6 +96,7 @@ module _ {C : Type 0} (rules : Rules C) where
         marks = t.marks;
         queue = (t.queue).1;
         split = t.split;
+      context = t.context;
         owned = t.owned;
         spare = t.spare;
         either = t.either;
@@ -96,7 +106,7 @@ module _ {C : Type 0} (rules : Rules C) where
       φ : Flusher C
       φ = w.core.flushers f
 
-  pub received_mark : (w : World C) (f h s : ℕ) (spoils more : List (ℕ × ℕ)) (rest : List (Sub C)) → IsSound rules w → (w.core.flushers f).queue ≡ Remove h s spoils ∷ rest
+  pub received_mark : (w : World C) (f h s : ℕ) (spoils more : List (ℕ × ℕ)) (rest : List (Submission C)) → IsSound rules w → (w.core.flushers f).queue ≡ Remove h s spoils ∷ rest
       → IsSound rules (record w {
         core = record w.core {
           flushers = put w.core.flushers f (record (w.core.flushers f) {
@@ -123,9 +133,10 @@ module _ {C : Type 0} (rules : Rules C) where
         batch = t.batch;
         batch_marks = t.batch_marks;
         buffer = t.buffer;
-        marks = each_join (λ p. rules.flusher_of p.0 ≡ f) φ.marks ((h, s) ∷ []) t.marks ((t.queue).0, tt);
+        marks = each_join (λ p. flusher_of rules p.0 ≡ f) φ.marks ((h, s) ∷ []) t.marks ((t.queue).0, tt);
         queue = (t.queue).1;
         split = t.split;
+      context = t.context;
         owned = t.owned;
         spare = t.spare;
         either = t.either;
@@ -135,7 +146,7 @@ module _ {C : Type 0} (rules : Rules C) where
       φ : Flusher C
       φ = w.core.flushers f
 
-  pub received_wait : (w : World C) (f j : ℕ) (rest : List (Sub C)) (waits : List ℕ) → IsSound rules w → (w.core.flushers f).queue ≡ Await j ∷ rest
+  pub received_wait : (w : World C) (f j : ℕ) (rest : List (Submission C)) (waits : List ℕ) → IsSound rules w → (w.core.flushers f).queue ≡ Await j ∷ rest
       → IsSound rules (record w { core = record w.core { flushers = put w.core.flushers f (record (w.core.flushers f) { queue = rest; waits = waits }) } })
   received_wait w f j rest waits sound is =
       one_turned rules w f (record φ { queue = Await j ∷ rest }) (record φ { queue = rest; waits = waits }) w.core.next sound
@@ -156,6 +167,7 @@ module _ {C : Type 0} (rules : Rules C) where
         marks = t.marks;
         queue = (t.queue).1;
         split = t.split;
+      context = t.context;
         owned = t.owned;
         spare = t.spare;
         either = t.either;
@@ -166,7 +178,7 @@ module _ {C : Type 0} (rules : Rules C) where
       φ = w.core.flushers f
 
   -- a reinsertion goes to the buffer, or is dropped
-  pub received_again : (w : World C) (f h : ℕ) (bytes : List ℕ) (a : Address) (rest : List (Sub C)) → IsSound rules w → (w.core.flushers f).queue ≡ Reinsert h bytes a ∷ rest
+  pub received_again : (w : World C) (f h : ℕ) (bytes : List ℕ) (a : Address) (rest : List (Submission C)) → IsSound rules w → (w.core.flushers f).queue ≡ Reinsert h bytes a ∷ rest
       → IsSound rules (record w {
         core = record w.core {
           flushers = put w.core.flushers f (record (w.core.flushers f) {
@@ -193,10 +205,11 @@ module _ {C : Type 0} (rules : Rules C) where
         };
         batch = t.batch;
         batch_marks = t.batch_marks;
-        buffer = each_join (RecOk rules f) φ.buffer (r ∷ []) t.buffer (tt, tt);
+        buffer = each_join (RecordOk rules f) φ.buffer (r ∷ []) t.buffer (tt, tt);
         marks = t.marks;
         queue = (t.queue).1;
         split = t.split;
+      context = t.context;
         owned = t.owned;
         spare = t.spare;
         either = t.either;
@@ -206,10 +219,10 @@ module _ {C : Type 0} (rules : Rules C) where
       φ : Flusher C
       φ = w.core.flushers f
 
-      r : Rec C
+      r : Record C
       r = record { hash = h; sequence = a.sequence; bytes = bytes; source = Reread a }
 
-  pub dropped_again : (w : World C) (f h : ℕ) (bytes : List ℕ) (a : Address) (rest : List (Sub C)) → IsSound rules w → (w.core.flushers f).queue ≡ Reinsert h bytes a ∷ rest
+  pub dropped_again : (w : World C) (f h : ℕ) (bytes : List ℕ) (a : Address) (rest : List (Submission C)) → IsSound rules w → (w.core.flushers f).queue ≡ Reinsert h bytes a ∷ rest
       → IsSound rules (record w { core = record w.core { flushers = put w.core.flushers f (record (w.core.flushers f) { queue = rest }) } })
   dropped_again w f h bytes a rest sound is =
       one_turned rules w f (record φ { queue = Reinsert h bytes a ∷ rest }) (record φ { queue = rest }) w.core.next sound
@@ -230,6 +243,7 @@ module _ {C : Type 0} (rules : Rules C) where
         marks = t.marks;
         queue = (t.queue).1;
         split = t.split;
+      context = t.context;
         owned = t.owned;
         spare = t.spare;
         either = t.either;
@@ -239,9 +253,12 @@ module _ {C : Type 0} (rules : Rules C) where
       φ : Flusher C
       φ = w.core.flushers f
 
+  pub start_same : (filled : ℕ → Filling) (own : Option ℕ) → start_of rules filled own true ≡ start_of rules filled own (is_some own)
+  start_same filled None = refl
+  start_same filled (Some b) = refl
+
   pub begun_batch : (w : World C) (f : ℕ) (blocks : List (Spread C)) (pieces : List C) → IsSound rules w → (w.core.flushers f).batch ≡ None
-      → records_of blocks ≡ (w.core.flushers f).buffer
-      → IsSplit rules w.core.tail w.core.blob (w.core.flushers f).own blocks
+      → IsSplit rules (w.core.flushers f).context (w.core.flushers f).buffer blocks
       → IsSound rules (record w {
         core = record w.core {
           flushers = put w.core.flushers f (record (w.core.flushers f) {
@@ -249,31 +266,33 @@ module _ {C : Type 0} (rules : Rules C) where
             marks = [];
             spoils = [];
             waits = [];
-            batch = Some (record { blocks = blocks; writing = None; marks = (w.core.flushers f).marks; spoils = (w.core.flushers f).spoils; pieces = pieces; waits = (w.core.flushers f).waits; logged = None });
+            context = last_end (w.core.flushers f).context blocks;
+            batch = Some (record { blocks = blocks; goes_on = is_some (w.core.flushers f).own; writing = None; marks = (w.core.flushers f).marks; spoils = (w.core.flushers f).spoils; pieces = pieces; waits = (w.core.flushers f).waits; logged = None });
           });
         };
       })
-  begun_batch w f blocks pieces sound none all split =
+  begun_batch w f blocks pieces sound none split =
       one_turned rules w f (record φ { batch = None })
-      (record φ { buffer = []; marks = []; spoils = []; waits = []; batch = Some (record { blocks = blocks; writing = None; marks = φ.marks; spoils = φ.spoils; pieces = pieces; waits = φ.waits; logged = None }) }) w.core.next sound
+      (record φ { buffer = []; marks = []; spoils = []; waits = []; context = last_end φ.context blocks; batch = Some (record { blocks = blocks; goes_on = is_some φ.own; writing = None; marks = φ.marks; spoils = φ.spoils; pieces = pieces; waits = φ.waits; logged = None }) }) w.core.next sound
       (λ i. record φ { batch = none i }) (omega arith)
-      (λ k n lt line. subst (λ rs. AtLeast k n (puts_onto rs (queue_puts φ.queue))) (sym all) line)
+      (λ k n lt line. subst (λ rs. AtLeast k n (puts_onto rs (queue_puts φ.queue))) (sym split.all) line)
       (λ t. record {
         order = record {
           received = t.order.queued;
           queued = t.order.queued;
-          batch = subst (λ rs. Ascends 0 (sequences (puts_onto rs [])) t.order.queued) (sym all) (ascends_from 0 t.order.received (sequences (puts_onto φ.buffer [])) t.order.queued (omega arith) t.order.buffer);
+          batch = subst (λ rs. Ascends 0 (sequences (puts_onto rs [])) t.order.queued) (sym split.all) (ascends_from 0 t.order.received (sequences (puts_onto φ.buffer [])) t.order.queued (omega arith) t.order.buffer);
           batch_marks = t.order.marks;
           buffer = omega arith;
           marks = tt;
           queue = t.order.queue;
         };
-        batch = subst (λ rs. Each (RecOk rules f) rs) (sym all) t.buffer;
+        batch = subst (λ rs. Each (RecordOk rules f) rs) (sym split.all) t.buffer;
         batch_marks = t.marks;
         buffer = tt;
         marks = tt;
         queue = t.queue;
-        split = split;
+        split = subst (λ g. AllPlaced rules g blocks) (t.context ∙ start_same w.filled φ.own) split.placed;
+        context = ap (λ g. last_end g blocks) t.context;
         owned = t.owned;
         spare = t.spare;
         either = t.either;

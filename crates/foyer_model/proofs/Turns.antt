@@ -1,10 +1,16 @@
 -- Steps that change one flusher alone.
-use Rattle.std.proofs.Common.{◌≡◌, ℕ, ◌<◌, ◌≤◌, List, [], ◌∷◌, ◌++◌, refl, sym, ap, subst, ◌∙◌, arith}
-use Rattle.foyer_model.specs.State.{put, Sub, Piece, Remove, Await, Reinsert, Flusher, Place, Rules}
-use Rattle.foyer_model.specs.Events.{sequence_in, newest}
-use Rattle.foyer_model.specs.World.{Pen, World}
+use Rattle.std.proofs.Common.{◌≡◌, ◌≢◌, ℕ, zero, suc, ◌+◌, ◌-◌, ◌<◌, ◌≤◌, ◌==◌, nat_le, nat_lt, Bool, true, false, ◌&&◌, ◌||◌, if◌then◌else◌, List, [], ◌∷◌, ◌++◌, length, map, take, slice_index, Option, Some, None, ◌⊎◌, inl, inr, refl, sym, ap, subst, ◌∙◌, arith, append_assoc}
+use Rattle.std.proofs.lemmas.Bool.{eqb-true, eqb-false, eq-eqb, ne_eqb}
+use Rattle.std.proofs.lemmas.Bool.Decides.{nat_tests}
+use Rattle.foyer_model.specs.Numbers.{put}
+use Rattle.foyer_model.specs.State.{Submission, Piece, Remove, Await, Reinsert, Flusher, Place}
+use Rattle.foyer_model.specs.Rules.{Rules}
+use Rattle.foyer_model.specs.Queue.{queued}
+use Rattle.foyer_model.specs.Event.{sequence_in, newest}
+use Rattle.foyer_model.specs.Access.{Pen}
+use Rattle.foyer_model.specs.World.{World}
 use Rattle.foyer_model.proofs.Basics.{put_at, Ascends, ascends_to, put_one}
-use Rattle.foyer_model.proofs.Invariant.{Ground, ground_of, Each, puts_onto, queue_puts, batch_records, line_of, AtLeast, SlotOk, sequences, queue_sequences, IsOrdered, SubOk, IsTended, IsSound}
+use Rattle.foyer_model.proofs.Invariant.{Ground, ground_of, Each, puts_onto, queue_puts, batch_records, line_of, AtLeast, SlotOk, sequences, queue_sequences, IsOrdered, SubmissionOk, IsTended, IsSound}
 use Rattle.foyer_model.proofs.Good.{slot_lift}
 use Rattle.foyer_model.proofs.Commits.{each_join, each_onto}
 
@@ -31,6 +37,7 @@ module _ {C : Type 0} (rules : Rules C) where
         marks = t.marks;
         queue = t.queue;
         split = t.split;
+      context = t.context;
         owned = t.owned;
         spare = t.spare;
         either = t.either;
@@ -59,14 +66,14 @@ module _ {C : Type 0} (rules : Rules C) where
 
   -- what waits
 
-  pub queue_puts-append : (a b : List (Sub C)) → queue_puts (a ++ b) ≡ queue_puts a ++ queue_puts b
+  pub queue_puts-append : (a b : List (Submission C)) → queue_puts (a ++ b) ≡ queue_puts a ++ queue_puts b
   queue_puts-append [] b = refl
   queue_puts-append (Piece h s n c ∷ a) b = ap (λ l. (h, s) ∷ l) (queue_puts-append a b)
   queue_puts-append (Remove h s spoils ∷ a) b = queue_puts-append a b
   queue_puts-append (Await i ∷ a) b = queue_puts-append a b
   queue_puts-append (Reinsert h bytes o ∷ a) b = queue_puts-append a b
 
-  pub queue_sequences-append : (a b : List (Sub C)) → queue_sequences (a ++ b) ≡ queue_sequences a ++ queue_sequences b
+  pub queue_sequences-append : (a b : List (Submission C)) → queue_sequences (a ++ b) ≡ queue_sequences a ++ queue_sequences b
   queue_sequences-append [] b = refl
   queue_sequences-append (Piece h s n c ∷ a) b = ap (λ l. s ∷ l) (queue_sequences-append a b)
   queue_sequences-append (Remove h s spoils ∷ a) b = ap (λ l. s ∷ l) (queue_sequences-append a b)
@@ -78,8 +85,8 @@ module _ {C : Type 0} (rules : Rules C) where
   sequences-append (p ∷ a) b = ap (λ l. p.1 ∷ l) (sequences-append a b)
 
   -- the queue grows
-  pub pushed : (w : World C) (f : ℕ) (sub : Sub C) (next : ℕ) → IsSound rules w → w.core.next ≤ next
-      → SubOk rules f sub
+  pub pushed : (w : World C) (f : ℕ) (sub : Submission C) (next : ℕ) → IsSound rules w → w.core.next ≤ next
+      → SubmissionOk rules f sub
       → ((h n : ℕ) → n < w.core.next → AtLeast h n (queue_puts (sub ∷ [])))
       → ((low : ℕ) (xs : List ℕ) → Ascends low xs w.core.next → Ascends low (xs ++ queue_sequences (sub ∷ [])) next)
       → IsSound rules (record w { core = record w.core { flushers = put w.core.flushers f (record (w.core.flushers f) { queue = (w.core.flushers f).queue ++ sub ∷ [] }); next = next } })
@@ -106,8 +113,9 @@ module _ {C : Type 0} (rules : Rules C) where
         batch_marks = t.batch_marks;
         buffer = t.buffer;
         marks = t.marks;
-        queue = each_join (SubOk rules f) (w.core.flushers f).queue (sub ∷ []) t.queue (ok, tt);
+        queue = each_join (SubmissionOk rules f) (w.core.flushers f).queue (sub ∷ []) t.queue (ok, tt);
         split = t.split;
+      context = t.context;
         owned = t.owned;
         spare = t.spare;
         either = t.either;

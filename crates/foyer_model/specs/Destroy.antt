@@ -1,15 +1,11 @@
 -- Destroys.
-use Rattle.std.specs.Prelude.{◌≡◌, ℕ, suc, zero, ◌+◌, ◌<◌, Bool, true, false, if◌then◌else◌, List, [], ◌∷◌, ◌++◌, None}
-use Rattle.foyer_model.specs.State.{put, last_number, Remove, Flusher, Place, Clean, Writes, Evictable, Reclaims, Destroy, NoDestroy, Begun, Cleaning, State, Rules}
+use Rattle.std.specs.Prelude.{◌≡◌, ℕ, ◌+◌, ◌<◌, nat_lt, Bool, true, false, if◌then◌else◌, List, [], ◌∷◌, None}
+use Rattle.foyer_model.specs.Numbers.{put, last_number, plus}
+use Rattle.foyer_model.specs.Ids.{ids, without_id}
+use Rattle.foyer_model.specs.State.{Remove, Flusher, Place, Clean, Writes, Evictable, Reclaims, no_stats, Destroy, NoDestroy, Begun, Cleaning, State}
+use Rattle.foyer_model.specs.Rules.{Rules, flusher_of, empty_filling}
 use Rattle.foyer_model.specs.Reply.{Reply, Done, Destroying, Cleared, Destroyed}
 use Rattle.foyer_model.specs.Queue.{queued}
-use Rattle.foyer_model.specs.Flush.{is_id_in, without_id}
-use Rattle.foyer_model.specs.Reclaim.{no_stats}
-
--- the ids below n
-abbrev pub ids : ℕ → List ℕ
-ids zero = []
-ids (suc n) = ids n ++ n ∷ []
 
 -- a destroy takes every block from its flusher
 abbrev pub vacated : Place → Place
@@ -18,7 +14,7 @@ vacated (Writes f) = Evictable
 vacated Evictable = Evictable
 vacated Reclaims = Reclaims
 
--- nothing waits at a flusher
+-- nothing waits at a flusher: kept marks and waits count too
 abbrev pub IsIdle : {C : Type 0} → Flusher C → Type 0
 IsIdle φ = (φ.queue ≡ []) × (φ.buffer ≡ []) × (φ.marks ≡ []) × (φ.waits ≡ []) × (φ.batch ≡ None)
 
@@ -27,39 +23,37 @@ abbrev pub after_clean : List ℕ → Bool → Destroy
 after_clean [] failed = NoDestroy
 after_clean (b ∷ bs) failed = Cleaning (b ∷ bs) failed
 
+-- and the last reply says whether one failed
 abbrev pub told_after_clean : {C : Type 0} → List ℕ → Bool → Reply C
 told_after_clean [] failed = Destroyed (if failed then false else true)
 told_after_clean (b ∷ bs) failed = Done
+
+-- each block begins a new filling, up to the greatest count
+abbrev pub refilled : ℕ → (ℕ → ℕ) → ℕ → ℕ
+refilled blocks filling b = if nat_lt b blocks then plus (filling b) 1 else filling b
 
 module _ {C : Type 0} (rules : Rules C) (old : State C) where
   -- a mark of hash 0 is queued, and the index isn't touched
   abbrev pub BeginsDestroy : Reply C → State C → Type 0
   BeginsDestroy (Destroying s) new =
-      (s ≡ old.next) × (old.closed ≡ false) × (old.destroy ≡ NoDestroy) × (old.next < last_number)
-      × (new ≡ record (queued rules old (rules.flusher_of 0) (Remove 0 s [])) { next = s + 1; destroy = Begun })
+      (s ≡ old.next) × (old.closed ≡ false) × (old.next < last_number)
+      × (new ≡ record (queued rules old (flusher_of rules 0) (Remove 0 s [])) { next = s + 1; destroy = Begun })
   BeginsDestroy reply new = ⊥
 
-  -- nothing is queued or under way: the index is cleared, and every block begins a new filling
+  -- the index is cleared, every block begins a new filling, every splitter is fresh, and a clean of each block is told
   abbrev pub Clears : Reply C → State C → Type 0
   Clears (Cleared bs) new =
-      (bs ≡ ids rules.blocks) × (old.destroy ≡ Begun)
-      × ((f : ℕ) → IsIdle (old.flushers f)) × ((b : ℕ) → old.reclaims b ≡ None)
+      (bs ≡ ids rules.blocks)
       × (new ≡ record old {
-        index = λ h. None;
-        filling = λ b. old.filling b + 1;
-        tail = λ b. 0;
-        blob = λ b. 0;
-        place = λ b. vacated (old.place b);
-        flushers = λ f. record (old.flushers f) { own = None; ready = None };
-        destroy = Cleaning (ids rules.blocks) false;
-      })
+          index = λ h. None; filling = refilled rules.blocks old.filling; place = λ b. vacated (old.place b);
+          flushers = λ f. record (old.flushers f) { own = None; ready = None; context = empty_filling rules };
+          destroy = Cleaning (ids rules.blocks) false })
   Clears reply new = ⊥
 
   -- once for each block, which stays in its set
   abbrev pub CleansOne : ℕ → Bool → Destroy → Reply C → State C → Type 0
   CleansOne b ok (Cleaning left failed) reply new =
-      (is_id_in b left ≡ true)
-      × (reply ≡ told_after_clean (without_id b left) (if ok then failed else true))
+      (reply ≡ told_after_clean (without_id b left) (if ok then failed else true))
       × (new ≡ record old { destroy = after_clean (without_id b left) (if ok then failed else true); stats = put old.stats b no_stats })
   CleansOne b ok NoDestroy reply new = ⊥
   CleansOne b ok Begun reply new = ⊥

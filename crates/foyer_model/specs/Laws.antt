@@ -1,28 +1,71 @@
--- What holds of every list of world events.
-use Rattle.std.specs.Prelude.{◌≡◌, ℕ, Bool, true, List, Some, ◌⊎◌}
-use Rattle.foyer_model.specs.State.{Outcome, NoRecord, Holds, State, Rules, HasRoundTrip}
-use Rattle.foyer_model.specs.Step.{Came, Age, Ticket, LoadBegin, LoadEnd}
-use Rattle.foyer_model.specs.Reply.{Reply, Throttled, Read, Entry}
-use Rattle.foyer_model.specs.Turn.{Does}
-use Rattle.foyer_model.specs.Events.{Puts, newest}
-use Rattle.foyer_model.specs.World.{Load, HasRead, World, Event, Applies, MayHappen, MayAllHappen, after_all, IsOpened}
+-- What holds of every list of world events, from any opened core, for any number of blocks and flushers.
+use Rattle.std.specs.Prelude.{◌≡◌, ◌≢◌, ℕ, ◌<◌, Bool, true, false, List, Option, Some, None, ◌⊎◌}
+use Rattle.foyer_model.specs.Numbers.{last_number}
+use Rattle.foyer_model.specs.Record.{Outcome, NoRecord, NotSupported, Undecodable, Holds}
+use Rattle.foyer_model.specs.State.{State}
+use Rattle.foyer_model.specs.Rules.{Rules, Splitting, HasRoundTrip}
+use Rattle.foyer_model.specs.Placing.{KeepsRecords}
+use Rattle.foyer_model.specs.Step.{Came, Bytes, Fault, Age, Ticket, LoadBegin, LoadEnd}
+use Rattle.foyer_model.specs.Reply.{Io, Memory, Parse, Unsupported, Reply, Refused, Miss, Throttled, Read, Entry}
+use Rattle.foyer_model.specs.Event.{Event, Put, newest}
+use Rattle.foyer_model.specs.Access.{Load, HasRead}
+use Rattle.foyer_model.specs.World.{World, WorldEvent, Applies, MayHappen, MayAllHappen, after_all}
+use Rattle.foyer_model.specs.Opened.{IsOpened}
 
--- A load answers only the record that was newest of its hash at its look-up.
-abbrev pub AnswersOnly : {C : Type 0} → Rules C → (C → Type 0) → Type 0
-AnswersOnly {C} rules is_value =
-    (first : World C) (events : List (Event C)) (t : Ticket) (result : Came) (c : C) (age : Age) (new : State C) (n : ℕ) (l : Load C)
-    → HasRoundTrip rules is_value → IsOpened rules first
-    → MayAllHappen rules is_value first events
-    → MayHappen rules is_value (after_all rules first events) (Applies (LoadEnd t result) (Entry c age) new)
-    → (after_all rules first events).loads n ≡ Some l → l.ticket ≡ t → l.phase ≡ HasRead result
-    → l.promise ≡ Some (Puts t.hash t.address.sequence (Holds c))
+-- what the laws demand of the codes and of the splitter
+pub record Demands {C : Type 0} (rules : Rules C) (Splits : Splitting C) (is_value : C → Type 0) : Type 0 where
+  pub trips : HasRoundTrip rules is_value
+  pub places : KeepsRecords rules Splits
 
--- A look-up gives a read of the newest record of its hash, unless a reclaim of its block or a destroy began since its last commit.
-abbrev pub FindsNewest : {C : Type 0} → Rules C → (C → Type 0) → Type 0
-FindsNewest {C} rules is_value =
-    (first : World C) (events : List (Event C)) (h : ℕ) (throttled : Bool) (reply : Reply C) (new : State C) (b s : ℕ) (x : Outcome C)
-    → HasRoundTrip rules is_value → IsOpened rules first
-    → MayAllHappen rules is_value first events
-    → Does rules (after_all rules first events).core (LoadBegin h throttled) reply new
-    → (after_all rules first events).kept h ≡ Some b → newest h (after_all rules first events).history ≡ Some (Puts h s x) → (x ≡ NoRecord → ⊥)
-    → ((throttled ≡ true) × (reply ≡ Throttled)) ⊎ ((t : Ticket) × (reply ≡ Read t) × (t.hash ≡ h) × (t.address.sequence ≡ s))
+-- a world that events led to from an opened one
+pub record IsReached {C : Type 0} (rules : Rules C) (Splits : Splitting C) (is_value : C → Type 0) (w : World C) : Type 0 where
+  pub first : World C
+  pub events : List (WorldEvent C)
+  pub opened : IsOpened rules first
+  pub happened : MayAllHappen rules Splits is_value first events
+  pub is : after_all rules first events ≡ w
+
+-- A load answers only the record that was newest of its hash at its look-up: the one of the ticket's sequence, with
+-- that very content.
+abbrev pub AnswersOnly : {C : Type 0} → Rules C → Splitting C → (C → Type 0) → Type 0
+AnswersOnly {C} rules Splits is_value =
+    (w : World C) (t : Ticket) (result : Came) (c : C) (age : Age) (new : State C) (n : ℕ) (l : Load C)
+    → Demands rules Splits is_value → IsReached rules Splits is_value w
+    → MayHappen rules Splits is_value w (Applies (LoadEnd t result) (Entry c age) new)
+    → w.loads n ≡ Some l → l.ticket ≡ t → l.phase ≡ HasRead result
+    → l.promise ≡ Some (Put t.hash t.address.sequence (Holds c))
+
+-- A look-up tells a read of the newest record of its hash, unless it is throttled, or a reclaim of the record's block or
+-- a destroy began since its last commit. A record that was broken when it was recovered may be missed here already.
+abbrev pub LooksUpNewest : {C : Type 0} → Rules C → Splitting C → (C → Type 0) → Type 0
+LooksUpNewest {C} rules Splits is_value =
+    (w : World C) (h : ℕ) (throttled : Bool) (reply : Reply C) (new : State C) (b s : ℕ) (x : Outcome C)
+    → Demands rules Splits is_value → IsReached rules Splits is_value w
+    → MayHappen rules Splits is_value w (Applies (LoadBegin h throttled) reply new) → w.core.steps < last_number
+    → w.kept h ≡ Some b → newest h w.history ≡ Some (Put h s x) → x ≢ NoRecord
+    → ((throttled ≡ true) × (reply ≡ Throttled)) ⊎ ((throttled ≡ false) × ((t : Ticket) × (reply ≡ Read t) × (t.hash ≡ h) × (t.address.sequence ≡ s)))
+
+-- What the end of a load gives, by what the promised bytes are as its record.
+abbrev pub IsAnswer : {C : Type 0} → Ticket → Came → Outcome C → Reply C → Type 0
+IsAnswer t Fault x reply = reply ≡ Refused Io (LoadEnd t Fault)
+IsAnswer t (Bytes bs) NoRecord reply = reply ≡ Miss
+IsAnswer t (Bytes bs) NotSupported reply = reply ≡ Refused Unsupported (LoadEnd t (Bytes bs))
+IsAnswer t (Bytes bs) Undecodable reply = (reply ≡ Refused Parse (LoadEnd t (Bytes bs))) ⊎ (reply ≡ Refused Memory (LoadEnd t (Bytes bs)))
+IsAnswer t (Bytes bs) (Holds c) reply = ((age : Age) × (reply ≡ Entry c age)) ⊎ (reply ≡ Refused Memory (LoadEnd t (Bytes bs)))
+
+-- A load whose look-up promised a record ends with that record, unless its read failed, a growth of its decoding was
+-- refused, or a reclaim of the record's block or a destroy began since its last commit. A recovered record that is
+-- broken is a miss, and one that doesn't decode or isn't supported is so named.
+abbrev pub LoadsNewest : {C : Type 0} → Rules C → Splitting C → (C → Type 0) → Type 0
+LoadsNewest {C} rules Splits is_value =
+    (w : World C) (t : Ticket) (result : Came) (reply : Reply C) (new : State C) (n : ℕ) (l : Load C) (b s : ℕ) (x : Outcome C)
+    → Demands rules Splits is_value → IsReached rules Splits is_value w
+    → MayHappen rules Splits is_value w (Applies (LoadEnd t result) reply new) → w.core.steps < last_number
+    → w.loads n ≡ Some l → l.ticket ≡ t → l.phase ≡ HasRead result
+    → l.kept ≡ Some b → l.promise ≡ Some (Put t.hash s x)
+    → IsAnswer t result x reply
+
+-- A newest committed record is missed only for a named cause, and never is an older one answered in its place.
+pub record MissedOnly {C : Type 0} (rules : Rules C) (Splits : Splitting C) (is_value : C → Type 0) : Type 0 where
+  pub looks_up : LooksUpNewest rules Splits is_value
+  pub loads : LoadsNewest rules Splits is_value

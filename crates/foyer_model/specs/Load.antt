@@ -1,38 +1,33 @@
 -- Loads.
-use Rattle.std.specs.Prelude.{◌≡◌, ◌≢◌, ℕ, ◌==◌, Bool, true, false, ◌&&◌, if◌then◌else◌, List, length, take, Option, Some, None}
-use Rattle.foyer_model.specs.State.{put, plus, Address, Slot, Indexed, Mark, Outcome, NoRecord, NotSupported, Undecodable, Holds, Stats, State, Rules}
+use Rattle.std.specs.Prelude.{◌≡◌, ◌≢◌, ℕ, ◌==◌, Bool, true, false, if◌then◌else◌, List, length, take, Option, Some, None}
+use Rattle.foyer_model.specs.Numbers.{put, plus}
+use Rattle.foyer_model.specs.Record.{Slot, Indexed, Mark, Outcome, NoRecord, NotSupported, Undecodable, Holds}
+use Rattle.foyer_model.specs.Index.{without}
+use Rattle.foyer_model.specs.State.{Stats, State}
+use Rattle.foyer_model.specs.Rules.{Rules}
 use Rattle.foyer_model.specs.Step.{Came, Bytes, Fault, Age, Young, Old, Ticket}
 use Rattle.foyer_model.specs.Reply.{Reply, Miss, Throttled, Read, Entry}
-
--- whether two addresses are the very same
-abbrev pub is_same : Address → Address → Bool
-is_same a b =
-    (a.block == b.block) && (a.offset == b.offset) && (a.len == b.len) && (a.sequence == b.sequence) && (a.filling == b.filling)
-
--- the very address leaves the index
-abbrev pub without : Address → Option Slot → Option Slot
-without a None = None
-without a (Some (Mark s)) = Some (Mark s)
-without a (Some (Indexed b)) = if is_same a b then None else Some (Indexed b)
 
 module _ {C : Type 0} (rules : Rules C) (old : State C) where
   -- one more access of a block
   abbrev pub accessed : ℕ → ℕ → Stats
   accessed b = put old.stats b (record (old.stats b) { access = plus (old.stats b).access 1 })
 
-  -- an address of an older filling leaves the index
+  -- A look-up: without an address a miss; throttled if told so; an address of an older filling leaves the index; else
+  -- a read is told.
   abbrev pub Looks : ℕ → Bool → Option Slot → Reply C → State C → Type 0
+  Looks h throttled None Miss new = new ≡ old
+  Looks h throttled (Some (Mark s)) Miss new = new ≡ old
   Looks h throttled (Some (Indexed a)) Throttled new = (throttled ≡ true) × (new ≡ old)
   Looks h throttled (Some (Indexed a)) Miss new =
       (throttled ≡ false) × (a.filling ≢ old.filling a.block) × (new ≡ record old { index = put old.index h None })
   Looks h throttled (Some (Indexed a)) (Read t) new =
       (throttled ≡ false) × (a.filling ≡ old.filling a.block) × (t ≡ record { hash = h; address = a })
       × (new ≡ record old { stats = accessed a.block })
-  Looks h throttled None Miss new = new ≡ old
-  Looks h throttled (Some (Mark s)) Miss new = new ≡ old
   Looks h throttled slot reply new = ⊥
 
-  -- what the bytes of a read are as the ticket's record
+  -- What the bytes of a read are as the ticket's record: nothing where its block has begun a new filling. The record
+  -- is the first bytes, as many as the address says.
   abbrev pub judged : Ticket → List ℕ → Outcome C
   judged t bs =
       if t.address.filling == old.filling t.address.block
@@ -49,15 +44,17 @@ module _ {C : Type 0} (rules : Rules C) (old : State C) where
   Judges t (Holds c) (Entry d age) new = (d ≡ c) × (age ≡ age_at t.address.block) × (new ≡ old)
   Judges t outcome reply new = ⊥
 
-  -- bytes are as many as were told
-  abbrev pub HasLength : Ticket → List ℕ → Type 0
-  HasLength t bs = length bs ≡ rules.up t.address.len
-
+  -- a fault is a refusal
   abbrev pub Ends : Ticket → Came → Reply C → State C → Type 0
   Ends t Fault reply new = ⊥
-  Ends t (Bytes bs) reply new = HasLength t bs × Judges t (judged t bs) reply new
+  Ends t (Bytes bs) reply new = Judges t (judged t bs) reply new
 
-  -- what needs no memory, and what is decoded
+  -- bytes are as many as were told, whole pages
+  abbrev pub HasLength : Ticket → Came → Type 0
+  HasLength t Fault = Unit {0}
+  HasLength t (Bytes bs) = length bs ≡ rules.page_up t.address.len
+
+  -- a key or a value is decoded, which takes memory
   abbrev pub IsDecoded : Outcome C → Type 0
   IsDecoded NoRecord = ⊥
   IsDecoded NotSupported = ⊥

@@ -1,10 +1,12 @@
--- Where a batch's records go.
-use Rattle.std.specs.Prelude.{◌≡◌, ℕ, suc, zero, ◌+◌, ◌-◌, ◌<◌, ◌≤◌, nat_le, nat_lt, true, false, ◌&&◌, if◌then◌else◌, List, [], ◌∷◌, ◌++◌, length, map, Option, Some, None, slice_index, ◌⊎◌}
-use Rattle.foyer_model.specs.State.{Rec, Write, Spread, Rules}
+-- What the placing of a batch must keep: the four facts that the laws need of a splitter.
+use Rattle.std.specs.Prelude.{◌≡◌, ◌≢◌, ℕ, suc, zero, ◌+◌, ◌-◌, ◌<◌, ◌≤◌, nat_le, nat_lt, ◌&&◌, if◌then◌else◌, List, [], ◌∷◌, ◌++◌, length, slice_index, ◌⊎◌}
+use Rattle.foyer_model.specs.Record.{Record}
+use Rattle.foyer_model.specs.Filling.{Filling, tail_of, Write, Part, Spread, records_in, records_of, last_end}
+use Rattle.foyer_model.specs.Rules.{Rules, empty_filling, Splitting}
 
--- where later writes of the present filling of a block may fall
-abbrev pub MayWrite : ℕ → ℕ → ℕ → ℕ → Type 0
-MayWrite index_size tail blob o = (tail ≤ o) ⊎ ((blob ≤ o) × (o < blob + index_size))
+-- where later writes of a filling may fall: at or behind its tail, or into the index of its present blob
+abbrev pub MayWrite : ℕ → Filling → ℕ → Type 0
+MayWrite index_size f o = (tail_of f ≤ o) ⊎ ((f.blob ≤ o) × (o < f.blob + index_size))
 
 -- a block's bytes after a write
 abbrev pub laid : Write → (ℕ → ℕ) → ℕ → ℕ
@@ -21,7 +23,7 @@ read g o zero = []
 read g o (suc n) = g o ∷ read g (o + 1) n
 
 -- these records stand at their offsets
-abbrev pub AllStand : {C : Type 0} → (ℕ → ℕ) → List (ℕ × Rec C) → Type 0
+abbrev pub AllStand : {C : Type 0} → (ℕ → ℕ) → List (ℕ × Record C) → Type 0
 AllStand g [] = Unit {0}
 AllStand g (p ∷ ps) = (read g p.0 (length (p.1).bytes) ≡ (p.1).bytes) × AllStand g ps
 
@@ -29,40 +31,67 @@ AllStand g (p ∷ ps) = (read g p.0 (length (p.1).bytes) ≡ (p.1).bytes) × All
 abbrev pub IsBeside : Write → ℕ → Type 0
 IsBeside w o = (o < w.offset) ⊎ (w.offset + length w.bytes ≤ o)
 
--- each byte that a write touches has the property
+-- each byte that these writes touch has the property
 abbrev pub AllWithin : (ℕ → Type 0) → List Write → Type 0
 AllWithin P [] = Unit {0}
 AllWithin P (w ∷ ws) = ((o : ℕ) → (IsBeside w o → ⊥) → P o) × AllWithin P ws
 
--- each record's pages lie outside
-abbrev pub AllOutside : {C : Type 0} → (ℕ → ℕ) → (ℕ → Type 0) → List (ℕ × Rec C) → Type 0
-AllOutside up P [] = Unit {0}
-AllOutside up P (p ∷ ps) = ((o : ℕ) → p.0 ≤ o → o < p.0 + up (length (p.1).bytes) → P o → ⊥) × AllOutside up P ps
+-- no byte of these records' pages has it
+abbrev pub AllOutside : {C : Type 0} → (ℕ → ℕ) → (ℕ → Type 0) → List (ℕ × Record C) → Type 0
+AllOutside page_up P [] = Unit {0}
+AllOutside page_up P (p ∷ ps) = ((o : ℕ) → p.0 ≤ o → o < p.0 + page_up (length (p.1).bytes) → P o → ⊥) × AllOutside page_up P ps
 
--- each record stands behind the first index
-abbrev pub AllBehind : {C : Type 0} → ℕ → List (ℕ × Rec C) → Type 0
+-- each record stands at or behind an offset
+abbrev pub AllBehind : {C : Type 0} → ℕ → List (ℕ × Record C) → Type 0
 AllBehind n [] = Unit {0}
 AllBehind n (p ∷ ps) = (n ≤ p.0) × AllBehind n ps
 
--- what goes into one block, where writes may fall behind this tail and into this blob's index
-pub record IsPlaced {C : Type 0} (rules : Rules C) (tail blob : ℕ) (s : Spread C) : Type 0 where
-  pub within : AllWithin (MayWrite rules.index_size tail blob) s.writes
-  pub shrinks : (o : ℕ) → MayWrite rules.index_size s.tail s.blob o → MayWrite rules.index_size tail blob o
-  pub stand : (g : ℕ → ℕ) → AllStand (all_laid s.writes g) s.records
-  pub outside : AllOutside rules.up (MayWrite rules.index_size s.tail s.blob) s.records
-  pub behind : AllBehind rules.index_size s.records
+-- the writes of these parts, in their order
+abbrev pub writes_in : {C : Type 0} → Rules C → List (Part C) → List Write
+writes_in rules [] = []
+writes_in rules (p ∷ ps) = rules.writes_of p ++ writes_in rules ps
 
-abbrev pub AllFresh : {C : Type 0} → Rules C → List (Spread C) → Type 0
-AllFresh rules [] = Unit {0}
-AllFresh rules (s ∷ ss) = (s.fresh ≡ true) × IsPlaced rules 0 0 s × AllFresh rules ss
+-- What goes into one block: its writes fall only where the filling may still be written, and where it may be written
+-- afterwards it could before; after them, over any bytes, each record stands at its offset, behind the first index, and
+-- no later write falls into its pages.
+pub record IsPlaced {C : Type 0} (rules : Rules C) (f : Filling) (s : Spread C) : Type 0 where
+  pub within : AllWithin (MayWrite rules.index_size f) (writes_in rules s.parts)
+  pub shrinks : (o : ℕ) → MayWrite rules.index_size s.end o → MayWrite rules.index_size f o
+  pub stand : (g : ℕ → ℕ) → AllStand (all_laid (writes_in rules s.parts) g) (records_in s.parts)
+  pub outside : AllOutside rules.page_up (MayWrite rules.index_size s.end) (records_in s.parts)
+  pub behind : AllBehind rules.index_size (records_in s.parts)
 
--- the first block may go on with the flusher's own, the others are fresh
-abbrev pub IsSplit : {C : Type 0} → Rules C → (ℕ → ℕ) → (ℕ → ℕ) → Option ℕ → List (Spread C) → Type 0
-IsSplit rules tail blob own [] = Unit {0}
-IsSplit rules tail blob None (s ∷ ss) = AllFresh rules (s ∷ ss)
-IsSplit rules tail blob (Some b) (s ∷ ss) =
-    (((s.fresh ≡ true) × IsPlaced rules 0 0 s) ⊎ ((s.fresh ≡ false) × IsPlaced rules (tail b) (blob b) s)) × AllFresh rules ss
+-- block after block, the first from f on, the others from nothing
+abbrev pub AllPlaced : {C : Type 0} → Rules C → Filling → List (Spread C) → Type 0
+AllPlaced rules f [] = Unit {0}
+AllPlaced rules f (s ∷ ss) = IsPlaced rules f s × AllPlaced rules (empty_filling rules) ss
 
-abbrev pub records_of : {C : Type 0} → List (Spread C) → List (Rec C)
-records_of [] = []
-records_of (s ∷ ss) = map (λ p. p.1) s.records ++ records_of ss
+-- a batch has at least one block and holds all of its records in order
+pub record IsSplit {C : Type 0} (rules : Rules C) (f : Filling) (records : List (Record C)) (blocks : List (Spread C)) : Type 0 where
+  pub some : blocks ≢ []
+  pub all : records_of blocks ≡ records
+  pub placed : AllPlaced rules f blocks
+
+-- what is demanded of a way of placing
+abbrev pub KeepsRecords : {C : Type 0} → Rules C → Splitting C → Type 0
+KeepsRecords {C} rules Splits =
+    (f : Filling) (records : List (Record C)) (blocks : List (Spread C)) → Splits f records blocks → IsSplit rules f records blocks
+
+-- the record fits into an empty block
+abbrev pub FitsBlock : {C : Type 0} → Rules C → List ℕ → Type 0
+FitsBlock rules bytes = rules.index_size + rules.page_up (length bytes) ≤ rules.block_size
+
+abbrev pub AllFitBlock : {C : Type 0} → Rules C → List (Record C) → Type 0
+AllFitBlock rules [] = Unit {0}
+AllFitBlock rules (r ∷ rs) = FitsBlock rules r.bytes × AllFitBlock rules rs
+
+-- a filling at which a batch may begin: an empty one, or one that a batch has left
+abbrev pub IsLeft : {C : Type 0} → Rules C → Splitting C → Filling → Type 0
+IsLeft {C} rules Splits f =
+    (f ≡ empty_filling rules)
+    ⊎ ((g : Filling) × (records : List (Record C)) × (blocks : List (Spread C)) × Splits g records blocks × (f ≡ last_end g blocks))
+
+-- from there on, records that fit into a block can always be placed
+abbrev pub PlacesAll : {C : Type 0} → Rules C → Splitting C → Type 0
+PlacesAll {C} rules Splits =
+    (f : Filling) (records : List (Record C)) → IsLeft rules Splits f → AllFitBlock rules records → (blocks : List (Spread C)) × Splits f records blocks

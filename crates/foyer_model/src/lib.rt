@@ -1,18 +1,24 @@
-//! The plain machine of the core, and its law.
+//! The plain machine of the core, the world round it, and what holds of every run.
 #![tactic(auto)]
 
-ghost use Rattle.std.specs.Prelude.{◌≡◌, Bool, true};
-ghost use Rattle.foyer_model.specs.State.{Rules};
-ghost use Rattle.foyer_model.specs.Laws.{AnswersOnly, FindsNewest};
+ghost use Rattle.std.specs.Prelude.{◌≡◌, Bool, true, List};
+ghost use Rattle.foyer_model.specs.Record.{Record};
+ghost use Rattle.foyer_model.specs.Filling.{Filling, Spread};
+ghost use Rattle.foyer_model.specs.Rules.{Rules};
+ghost use Rattle.foyer_model.specs.Laws.{AnswersOnly, MissedOnly};
 
 /// Whatever steps come, and whatever reads and writes do, a load answers only the record that was newest of its
 /// hash at its look-up.
 pub fn answers_only<C>()
-    ensures { (rules : Rules C) (is_value : C → Bool) → AnswersOnly rules (λ c. is_value c ≡ true) }
-{}
+    ensures { (rules : Rules C) (splits : Filling → List (Record C) → List (Spread C) → Bool) (is_value : C → Bool)
+        → AnswersOnly rules (λ f rs ss. splits f rs ss ≡ true) (λ c. is_value c ≡ true) }
+{
+}
 
-/// A look-up gives a read of the newest record of its hash, unless it is throttled, or a reclaim of the record's block
-/// or a destroy began since its last commit.
-pub fn finds_newest<C>()
-    ensures { (rules : Rules C) (is_value : C → Bool) → FindsNewest rules (λ c. is_value c ≡ true) }
-{}
+/// A newest committed record is answered, unless the load was throttled, its read failed, memory was refused, or a
+/// reclaim of the record's block or a destroy began since its last commit.
+pub fn missed_only<C>()
+    ensures { (rules : Rules C) (splits : Filling → List (Record C) → List (Spread C) → Bool) (is_value : C → Bool)
+        → MissedOnly rules (λ f rs ss. splits f rs ss ≡ true) (λ c. is_value c ≡ true) }
+{
+}
