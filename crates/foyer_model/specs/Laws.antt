@@ -1,12 +1,12 @@
 -- What holds of every list of world events, from any opened core, for any number of blocks and flushers.
-use Rattle.std.specs.Prelude.{◌≡◌, ◌≢◌, ℕ, ◌<◌, Bool, true, false, List, Option, Some, None, ◌⊎◌}
+use Rattle.std.specs.Prelude.{◌≡◌, ◌≢◌, ℕ, ◌<◌, Bool, true, false, List, [], ◌∷◌, Option, Some, None, ◌⊎◌}
 use Rattle.foyer_model.specs.Numbers.{last_number}
 use Rattle.foyer_model.specs.Record.{Outcome, NoRecord, NotSupported, Undecodable, Holds}
 use Rattle.foyer_model.specs.State.{State}
 use Rattle.foyer_model.specs.Rules.{Rules, Splitting, HasRoundTrip}
 use Rattle.foyer_model.specs.Placing.{KeepsRecords}
-use Rattle.foyer_model.specs.Step.{Came, Bytes, Fault, Age, Ticket, LoadBegin, LoadEnd}
-use Rattle.foyer_model.specs.Reply.{Io, Memory, Parse, Unsupported, Reply, Refused, Miss, Throttled, Read, Entry}
+use Rattle.foyer_model.specs.Step.{Came, Bytes, Fault, Age, Ticket, Enqueue, LoadBegin, LoadEnd}
+use Rattle.foyer_model.specs.Reply.{Io, Memory, Parse, Unsupported, Reply, Refused, Queued, Miss, Throttled, Read, Entry}
 use Rattle.foyer_model.specs.Event.{Event, Put, newest}
 use Rattle.foyer_model.specs.Access.{Load, HasRead}
 use Rattle.foyer_model.specs.World.{World, WorldEvent, Applies, MayHappen, MayAllHappen, after_all}
@@ -69,3 +69,22 @@ LoadsNewest {C} rules Splits is_value =
 pub record MissedOnly {C : Type 0} (rules : Rules C) (Splits : Splitting C) (is_value : C → Type 0) : Type 0 where
   pub looks_up : LooksUpNewest rules Splits is_value
   pub loads : LoadsNewest rules Splits is_value
+
+-- an Enqueue of this content was queued under this sequence
+abbrev pub WasQueued : {C : Type 0} → (hash sequence : ℕ) → C → List (WorldEvent C) → Type 0
+WasQueued h s c [] = ⊥
+WasQueued h s c (Applies (Enqueue q n age d) (Queued u) new ∷ events) = ((q ≡ h) × (u ≡ s) × (d ≡ c)) ⊎ WasQueued h s c events
+WasQueued h s c (event ∷ events) = WasQueued h s c events
+
+abbrev pub IsAmong : {A : Type 0} → A → List A → Type 0
+IsAmong x [] = ⊥
+IsAmong x (y ∷ ys) = (x ≡ y) ⊎ IsAmong x ys
+
+-- Each put is one that was recovered, or its content is that of the Enqueue that got its sequence. A reinsertion puts
+-- again what one of these put.
+abbrev pub PutsAreQueued : {C : Type 0} → Rules C → Splitting C → (C → Type 0) → Type 0
+PutsAreQueued {C} rules Splits is_value =
+    (first : World C) (events : List (WorldEvent C)) (h s : ℕ) (x : Outcome C)
+    → Demands rules Splits is_value → IsOpened rules first → MayAllHappen rules Splits is_value first events
+    → IsAmong (Put h s x) (after_all rules first events).history
+    → IsAmong (Put h s x) first.history ⊎ ((c : C) × (x ≡ Holds c) × WasQueued h s c events)

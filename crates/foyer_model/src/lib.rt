@@ -5,7 +5,7 @@ ghost use Rattle.std.specs.Prelude.{◌≡◌, Bool, true, List};
 ghost use Rattle.foyer_model.specs.Record.{Record};
 ghost use Rattle.foyer_model.specs.Filling.{Filling, Spread};
 ghost use Rattle.foyer_model.specs.Rules.{Rules};
-ghost use Rattle.foyer_model.specs.Laws.{AnswersOnly, MissedOnly};
+ghost use Rattle.foyer_model.specs.Laws.{AnswersOnly, MissedOnly, PutsAreQueued};
 
 /// Whatever steps come, and whatever reads and writes do, a load answers only the record that was newest of its
 /// hash at its look-up.
@@ -20,5 +20,12 @@ pub fn answers_only<C>()
 pub fn missed_only<C>()
     ensures { (rules : Rules C) (splits : Filling → List (Record C) → List (Spread C) → Bool) (is_value : C → Bool)
         → MissedOnly rules (λ f rs ss. splits f rs ss ≡ true) (λ c. is_value c ≡ true) }
+{
+}
+
+/// What the history says was put was recovered, or is what the Enqueue that got its sequence handed in.
+pub fn puts_are_queued<C>()
+    ensures { (rules : Rules C) (splits : Filling → List (Record C) → List (Spread C) → Bool) (is_value : C → Bool)
+        → PutsAreQueued rules (λ f rs ss. splits f rs ss ≡ true) (λ c. is_value c ≡ true) }
 {
 }
