@@ -6,6 +6,7 @@ ghost use Rattle.foyer_model.specs.Record.{Record};
 ghost use Rattle.foyer_model.specs.Filling.{Filling, Spread};
 ghost use Rattle.foyer_model.specs.Rules.{Rules};
 ghost use Rattle.foyer_model.specs.Laws.{AnswersOnly, MissedOnly, PutsAreQueued};
+ghost use Rattle.foyer_model.specs.Companions.{QueueKeeps, CommitKeeps, ReclaimKeeps, NotNowKeeps, InTurnReplies};
 
 /// Whatever steps come, and whatever reads and writes do, a load answers only the record that was newest of its
 /// hash at its look-up.
@@ -27,5 +28,40 @@ pub fn missed_only<C>()
 pub fn puts_are_queued<C>()
     ensures { (rules : Rules C) (splits : Filling → List (Record C) → List (Spread C) → Bool) (is_value : C → Bool)
         → PutsAreQueued rules (λ f rs ss. splits f rs ss ≡ true) (λ c. is_value c ≡ true) }
+{
+}
+
+/// A piece is ignored or handed back only where it may be.
+pub fn queue_clause<C>()
+    ensures { (rules : Rules C) (splits : Filling → List (Record C) → List (Spread C) → Bool)
+        → QueueKeeps rules (λ f rs ss. splits f rs ss ≡ true) }
+{
+}
+
+/// What was received is placed, told, and put when its block is written.
+pub fn commit_clause<C>()
+    ensures { (rules : Rules C) (splits : Filling → List (Record C) → List (Spread C) → Bool)
+        → CommitKeeps rules (λ f rs ss. splits f rs ss ≡ true) }
+{
+}
+
+/// A reclaim begins only where it may.
+pub fn reclaim_clause<C>()
+    ensures { (rules : Rules C) (splits : Filling → List (Record C) → List (Spread C) → Bool)
+        → ReclaimKeeps rules (λ f rs ss. splits f rs ss ≡ true) }
+{
+}
+
+/// A step is handed back only out of turn or for its cause, and changes nothing then.
+pub fn not_now_clause<C>()
+    ensures { (rules : Rules C) (splits : Filling → List (Record C) → List (Spread C) → Bool)
+        → NotNowKeeps rules (λ f rs ss. splits f rs ss ≡ true) }
+{
+}
+
+/// What is in turn has a reply, before the limit of steps.
+pub fn in_turn_replies<C>()
+    ensures { (rules : Rules C) (splits : Filling → List (Record C) → List (Spread C) → Bool) (is_value : C → Bool)
+        → InTurnReplies rules (λ f rs ss. splits f rs ss ≡ true) (λ c. is_value c ≡ true) }
 {
 }
