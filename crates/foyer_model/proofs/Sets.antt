@@ -66,7 +66,7 @@ module _ {C : Type 0} (rules : Rules C) where
   clean_below c sets b given = (sets.clean b (free_in c b given)).1
 
   -- one step more
-  pub counted : (c : State C) → AreSets rules c → AreSets rules (record c { steps = c.steps + 1 })
+  counted : (c : State C) → AreSets rules c → AreSets rules (record c { steps = c.steps + 1 })
   counted c sets = record {
     clean = sets.clean; waiting = sets.waiting; distinct = sets.distinct; own = sets.own; ready = sets.ready;
     filling = λ b. let le : c.filling b ≤ c.steps = sets.filling b in omega arith }

@@ -6,6 +6,7 @@ ghost use Rattle.foyer_model.specs.Record.{Record};
 ghost use Rattle.foyer_model.specs.Filling.{Filling, Spread};
 ghost use Rattle.foyer_model.specs.Rules.{Rules};
 ghost use Rattle.foyer_model.specs.Laws.{AnswersOnly, MissedOnly, PutsAreQueued};
+ghost use Rattle.foyer_model.specs.Witness.{ReachesEveryReply};
 ghost use Rattle.foyer_model.specs.Companions.{QueueKeeps, CommitKeeps, ReclaimKeeps, NotNowKeeps, InTurnReplies};
 
 /// Whatever steps come, and whatever reads and writes do, a load answers only the record that was newest of its
@@ -63,5 +64,11 @@ pub fn not_now_clause<C>()
 pub fn in_turn_replies<C>()
     ensures { (rules : Rules C) (splits : Filling → List (Record C) → List (Spread C) → Bool) (is_value : C → Bool)
         → InTurnReplies rules (λ f rs ss. splits f rs ss ≡ true) (λ c. is_value c ≡ true) }
+{
+}
+
+/// The laws speak of something: two runs of a small core reach every reply of the table.
+pub fn reaches_every_reply()
+    ensures { ReachesEveryReply }
 {
 }
