@@ -7,7 +7,7 @@ ghost use Rattle.foyer_model.specs.Filling.{Filling, Spread};
 ghost use Rattle.foyer_model.specs.Rules.{Rules};
 ghost use Rattle.foyer_model.specs.Laws.{AnswersOnly, MissedOnly, PutsAreQueued};
 ghost use Rattle.foyer_model.specs.Witness.{ReachesEveryReply};
-ghost use Rattle.foyer_model.specs.Companions.{QueueKeeps, CommitKeeps, ReclaimKeeps, NotNowKeeps, InTurnReplies};
+ghost use Rattle.foyer_model.specs.Companions.{QueueKeeps, CommitKeeps, ReclaimKeeps, NotNowKeeps, IsDetermined, InTurnReplies};
 
 /// Whatever steps come, and whatever reads and writes do, a load answers only the record that was newest of its
 /// hash at its look-up.
@@ -57,6 +57,13 @@ pub fn reclaim_clause<C>()
 pub fn not_now_clause<C>()
     ensures { (rules : Rules C) (splits : Filling → List (Record C) → List (Spread C) → Bool)
         → NotNowKeeps rules (λ f rs ss. splits f rs ss ≡ true) }
+{
+}
+
+/// The state afterwards is determined by the state before, the step and the reply: each choice stands in the reply.
+pub fn is_determined<C>()
+    ensures { (rules : Rules C) (splits : Filling → List (Record C) → List (Spread C) → Bool)
+        → IsDetermined rules (λ f rs ss. splits f rs ss ≡ true) }
 {
 }
 
