@@ -17,21 +17,25 @@ use Rattle.foyer_model.specs.Reclaim.{Picks}
 use Rattle.foyer_model.specs.Event.{Event, with_puts, puts_of, events_of}
 use Rattle.foyer_model.specs.Laws.{IsAmong}
 use Rattle.foyer_model.specs.Companions.{IsWrittenBy, PiecesAmong, QueueKeeps, CommitKeeps, ReclaimKeeps, NotNowKeeps}
-use Rattle.foyer_model.proofs.Commits.{committed}
-use Rattle.foyer_model.proofs.Flushes.{failed, told}
+use Rattle.foyer_model.proofs.CommitSteps.{committed}
+use Rattle.foyer_model.proofs.FlushSteps.{failed, told}
 
 -- the pieces of a commit are puts
 pieces_put : {C : Type 0} (b n : ℕ) (ps : List (ℕ × Record C)) (m : ℕ → Option Slot) → PiecesAmong ps (commit_of b n ps m).puts
 pieces_put b n [] m p c is given = absurd is
 pieces_put {C} b n (q ∷ ps) m p c is given =
-    elim is [ inl same ↦ first (q.1).source (m (q.1).hash) (sym (ap (λ k. (k.1).source) same) ∙ given) (ap (λ k. k.1) same)
-            | inr later ↦ rest (is_put (q.1).source (m (q.1).hash)) (pieces_put b n ps (committed_one b n q m) p c later given) ]
+    elim is [
+      | inl same ↦ first (q.1).source (m (q.1).hash) (sym (ap (λ k. (k.1).source) same) ∙ given) (ap (λ k. k.1) same)
+      | inr later ↦ rest (is_put (q.1).source (m (q.1).hash)) (pieces_put b n ps (committed_one b n q m) p c later given)
+    ]
   where
     puts : List (Record C)
     puts = (commit_of b n ps (committed_one b n q m)).puts
+
     first : (src : Source C) (slot : Option Slot) → src ≡ Given c → p.1 ≡ q.1 → IsAmong p.1 (if is_put src slot then q.1 ∷ puts else puts)
     first (Given d) slot is same = inl same
     first (Reread a) slot is same = absurd (let e : Reread a ≡ Given c = is in cc)
+
     rest : (t : Bool) → IsAmong p.1 puts → IsAmong p.1 (if t then q.1 ∷ puts else puts)
     rest true there = inr there
     rest false there = there
@@ -50,7 +54,8 @@ module _ {C : Type 0} (rules : Rules C) (Splits : Splitting C) where
   pub queue_keeps_lem : QueueKeeps rules Splits
   queue_keeps_lem = record {
     ignored = λ old new h n age c d ok. let does : Enqueues rules old h n age c (Ignored d) (ok.2).0 = (ok.2).1 in (does.0, does.2);
-    returned = λ old new f d ok. takes_back old (ok.2).0 f (old.flushers f).queue d (ok.2).1 }
+    returned = λ old new f d ok. takes_back old (ok.2).0 f (old.flushers f).queue d (ok.2).1;
+  }
 
   told_of : (old done : State C) (f b : ℕ) (writes : List Write) (batch : Option (Batch C)) → Tells rules old f batch (Written b writes) done
       → (k : Batch C) × (s : Spread C) × (rest : List (Spread C)) × (batch ≡ Some k) × (k.blocks ≡ s ∷ rest) × (writes ≡ writes_in rules s.parts)
@@ -62,10 +67,15 @@ module _ {C : Type 0} (rules : Rules C) (Splits : Splitting C) where
       × (new.index ≡ (commit_in old w).index) × (events_of old (Committed n) (FlushWrote f true) H ≡ with_puts (commit_in old w).puts H)
       × (n ≡ length (commit_in old w).puts) × PiecesAmong w.records (commit_in old w).puts
   committed_of old new done f n H None is ok new_is = absurd ok
-  committed_of old new done f n H (Some batch) is (w, last, writing, left, count, eq) new_is =
-      (w, (batch, is, writing), (last, left), ap (λ k. k.index) new_is ∙ ap (λ k. k.index) eq,
-       ap (λ k. with_puts (puts_of old k) H) (is ∙ (λ i. Some (record batch { writing = writing i }))), count,
-       pieces_put w.block (old.filling w.block) w.records old.index)
+  committed_of old new done f n H (Some batch) is (w, last, writing, left, count, eq) new_is = (
+    w,
+    (batch, is, writing),
+    (last, left),
+    ap (λ k. k.index) new_is ∙ ap (λ k. k.index) eq,
+    ap (λ k. with_puts (puts_of old k) H) (is ∙ (λ i. Some (record batch { writing = writing i }))),
+    count,
+    pieces_put w.block (old.filling w.block) w.records old.index,
+  )
 
   failed_of : (old done : State C) (f : ℕ) (ok : Bool) (batch : Option (Batch C)) → Wrote rules old f ok batch Failed done → done.index ≡ old.index
   failed_of old done f true None given = absurd given
@@ -79,7 +89,8 @@ module _ {C : Type 0} (rules : Rules C) (Splits : Splitting C) where
         ((places (old.flushers f).context (old.flushers f).buffer blocks does.1).all, does.0);
     told = λ old new f b writes ok. told_of old (ok.2).0 f b writes (old.flushers f).batch (ok.2).1;
     committed = λ old new f n H ok. committed_of old new (ok.2).0 f n H (old.flushers f).batch refl (ok.2).1 (ok.2).2;
-    failed = λ old new f well H ok. (ap (λ k. k.index) (ok.2).2 ∙ failed_of old (ok.2).0 f well (old.flushers f).batch (ok.2).1, refl) }
+    failed = λ old new f well H ok. (ap (λ k. k.index) (ok.2).2 ∙ failed_of old (ok.2).0 f well (old.flushers f).batch (ok.2).1, refl);
+  }
 
   pub reclaim_keeps_lem : ReclaimKeeps rules Splits
   reclaim_keeps_lem old new b answers probation ok = let does : Picks rules old (Picked b answers probation) (ok.2).0 = (ok.2).1 in (ok.1, does.0, does.1)
@@ -87,4 +98,5 @@ module _ {C : Type 0} (rules : Rules C) (Splits : Splitting C) where
   pub not_now_keeps_lem : NotNowKeeps rules Splits
   not_now_keeps_lem = record {
     not_now = λ old new step back ok. (ok.0, ok.2, (ok.1).2);
-    refused = λ old new step back kind ok. (ok.0, ok.2, ok.1) }
+    refused = λ old new step back kind ok. (ok.0, ok.2, ok.1);
+  }

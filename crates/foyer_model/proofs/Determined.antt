@@ -19,7 +19,7 @@ use Rattle.foyer_model.specs.Does.{Does}
 use Rattle.foyer_model.specs.Turn.{Follows}
 use Rattle.foyer_model.specs.Access.{came}
 use Rattle.foyer_model.specs.Companions.{IsDetermined}
-use Rattle.foyer_model.proofs.Flushes.{failed, told}
+use Rattle.foyer_model.proofs.FlushSteps.{failed, told}
 
 -- two ends of one list
 same_last : (xs ys : List ℕ) (x y : ℕ) → xs ++ x ∷ [] ≡ ys ++ y ∷ [] → (xs ≡ ys) × (x ≡ y)
@@ -76,7 +76,7 @@ module _ {C : Type 0} (rules : Rules C) (Splits : Splitting C) (old : State C) w
   takes_one f [] Empty one two p q = joined one two old p q
   takes_one f (Piece h s n k ∷ rest) (Received None) one two (bs, encoded, fits, eq) (bs', encoded', fits', eq') =
       eq ∙ ap (λ b. pushed_to rules old f rest (record { hash = h; sequence = s; bytes = b; source = Given k }))
-        (let e : Some bs ≡ Some bs' = sym encoded ∙ encoded' in let g : bs ≡ bs' = cc in g) ∙ sym eq'
+      (let e : Some bs ≡ Some bs' = sym encoded ∙ encoded' in let g : bs ≡ bs' = cc in g) ∙ sym eq'
   takes_one f (Piece h s n k ∷ rest) (Received (Some d)) one two p q = joined one two _ p.2 q.2
   takes_one f (Remove h s spoils ∷ rest) (Received None) one two p q = joined one two _ p q
   takes_one f (Await i ∷ rest) (Received None) one two p q = joined one two _ p q
@@ -96,26 +96,35 @@ module _ {C : Type 0} (rules : Rules C) (Splits : Splitting C) (old : State C) w
   tells_one f (Some batch) (Written b writes) one two (s, rest, blocks, all, which) (s', rest', blocks', all', which') =
       elim which [
         | inl (on, own, eq) ↦ elim which' [
-            | inl (on', own', eq') ↦ told eq eq'
-            | inr (inl (off', ready', eq')) ↦ absurd (let e : true ≡ false = sym on ∙ off' in cc)
-            | inr (inr (off', none', free', eq')) ↦ absurd (let e : true ≡ false = sym on ∙ off' in cc) ]
+          | inl (on', own', eq') ↦ told eq eq'
+          | inr (inl (off', ready', eq')) ↦ absurd (let e : true ≡ false = sym on ∙ off' in cc)
+          | inr (inr (off', none', free', eq')) ↦ absurd (let e : true ≡ false = sym on ∙ off' in cc)
+        ]
         | inr (inl (off, ready, eq)) ↦ elim which' [
-            | inl (on', own', eq') ↦ absurd (let e : true ≡ false = sym on' ∙ off in cc)
-            | inr (inl (off', ready', eq')) ↦ told eq eq'
-            | inr (inr (off', none', free', eq')) ↦ absurd (let e : None ≡ Some b = sym none' ∙ ready in cc) ]
+          | inl (on', own', eq') ↦ absurd (let e : true ≡ false = sym on' ∙ off in cc)
+          | inr (inl (off', ready', eq')) ↦ told eq eq'
+          | inr (inr (off', none', free', eq')) ↦ absurd (let e : None ≡ Some b = sym none' ∙ ready in cc)
+        ]
         | inr (inr (off, none, free, eq)) ↦ elim which' [
-            | inl (on', own', eq') ↦ absurd (let e : true ≡ false = sym on' ∙ off in cc)
-            | inr (inl (off', ready', eq')) ↦ absurd (let e : None ≡ Some b = sym none ∙ ready' in cc)
-            | inr (inr (off', none', free', eq')) ↦ eq ∙ (λ i. record (block_told rules old f b batch (same_s i) (same_rest i)) {
-                filling = put old.filling b (old.filling b + 1); clean = without_id b old.clean; place = put (released (old.flushers f).own old.place) b (Writes f) }) ∙ sym eq' ]
+          | inl (on', own', eq') ↦ absurd (let e : true ≡ false = sym on' ∙ off in cc)
+          | inr (inl (off', ready', eq')) ↦ absurd (let e : None ≡ Some b = sym none ∙ ready' in cc)
+          | inr (inr (off', none', free', eq')) ↦ eq ∙ (λ i. record (block_told rules old f b batch (same_s i) (same_rest i)) {
+            filling = put old.filling b (old.filling b + 1);
+            clean = without_id b old.clean;
+            place = put (released (old.flushers f).own old.place) b (Writes f);
+          }) ∙ sym eq'
+        ]
       ]
     where
       same_blocks : s ∷ rest ≡ s' ∷ rest'
       same_blocks = sym blocks ∙ blocks'
+
       same_s : s ≡ s'
       same_s = let e : s ∷ rest ≡ s' ∷ rest' = same_blocks in cc
+
       same_rest : rest ≡ rest'
       same_rest = let e : s ∷ rest ≡ s' ∷ rest' = same_blocks in cc
+
       told : one ≡ block_told rules old f b batch s rest → two ≡ block_told rules old f b batch s' rest' → one ≡ two
       told eq eq' = eq ∙ (λ i. block_told rules old f b batch (same_s i) (same_rest i)) ∙ sym eq'
   tells_one f batch reply one two p q = absurd p
@@ -126,6 +135,7 @@ module _ {C : Type 0} (rules : Rules C) (Splits : Splitting C) (old : State C) w
     where
       same_r : r ≡ r'
       same_r = let e : Some r ≡ Some r' = sym writing ∙ writing' in cc
+
       same_left : second ∷ rest ≡ second' ∷ rest'
       same_left = let e : first ∷ second ∷ rest ≡ first' ∷ second' ∷ rest' = sym left ∙ ap (λ w. w.left) same_r ∙ left' in cc
   wrote_one f true (Some batch) (Committed n) one two (r, last, writing, left, count, eq) (r', last', writing', left', count', eq') =
@@ -161,7 +171,7 @@ module _ {C : Type 0} (rules : Rules C) (Splits : Splitting C) (old : State C) w
   lists_one b r place None reply one two p q = joined one two _ p.1 q.1
   lists_one b r place (Some es) reply one two (vs, count, told, eq) (vs', count', told', eq') =
       eq ∙ ap (λ v. reclaiming rules old b (record r { stage = stage_behind rules old b place es v; listed = addresses b (old.filling b) place es ++ r.listed }))
-        (sym (verdicts_told b (stage_behind rules old b place es vs) vs) ∙ ap verdicts_in (sym told ∙ told') ∙ verdicts_told b (stage_behind rules old b place es vs') vs') ∙ sym eq'
+      (sym (verdicts_told b (stage_behind rules old b place es vs) vs) ∙ ap verdicts_in (sym told ∙ told') ∙ verdicts_told b (stage_behind rules old b place es vs') vs') ∙ sym eq'
 
   scanned_one : (b : ℕ) (r : Reclaim) (stage : Stage) (came : Came) (reply : Reply C) (one two : State C) → Scanned rules old b r stage came reply one → Scanned rules old b r stage came reply two → one ≡ two
   scanned_one b r (AtIndex place) Fault reply one two p q = joined one two _ p.1 q.1
@@ -182,15 +192,20 @@ module _ {C : Type 0} (rules : Rules C) (Splits : Splitting C) (old : State C) w
   cleaned_one b Done one two p q =
       elim p [
         | inl (f, others, waits, room, eq) ↦ elim q [
-            | inl (f', others', waits', room', eq') ↦
-                (let same : (others ≡ others') × (f ≡ f') = same_last others others' f f' (sym waits ∙ waits') in
-                eq ∙ (λ i. record (reclaimed rules old b) {
-                  waiting = same.0 i; place = put old.place b (Writes (same.1 i)); filling = put old.filling b (old.filling b + 1);
-                  flushers = put old.flushers (same.1 i) (record (old.flushers (same.1 i)) { ready = Some b }) }) ∙ sym eq')
-            | inr (nobody', eq') ↦ absurd (elim nobody' [ inl none ↦ not_empty others f (sym waits ∙ none) | inr full ↦ omega arith ]) ]
+          | inl (f', others', waits', room', eq') ↦
+              (let same : (others ≡ others') × (f ≡ f') = same_last others others' f f' (sym waits ∙ waits') in
+              eq ∙ (λ i. record (reclaimed rules old b) {
+                waiting = same.0 i;
+                place = put old.place b (Writes (same.1 i));
+                filling = put old.filling b (old.filling b + 1);
+                flushers = put old.flushers (same.1 i) (record (old.flushers (same.1 i)) { ready = Some b });
+              }) ∙ sym eq')
+          | inr (nobody', eq') ↦ absurd (elim nobody' [ inl none ↦ not_empty others f (sym waits ∙ none) | inr full ↦ omega arith ])
+        ]
         | inr (nobody, eq) ↦ elim q [
-            | inl (f', others', waits', room', eq') ↦ absurd (elim nobody [ inl none ↦ not_empty others' f' (sym waits' ∙ none) | inr full ↦ omega arith ])
-            | inr (nobody', eq') ↦ joined one two _ eq eq' ]
+          | inl (f', others', waits', room', eq') ↦ absurd (elim nobody [ inl none ↦ not_empty others' f' (sym waits' ∙ none) | inr full ↦ omega arith ])
+          | inr (nobody', eq') ↦ joined one two _ eq eq'
+        ]
       ]
   cleaned_one b reply one two p q = absurd p
 

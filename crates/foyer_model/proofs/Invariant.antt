@@ -30,8 +30,17 @@ pub record View (C : Type 0) : Type 0 where
 abbrev pub view_of : {C : Type 0} → World C → View C
 view_of w =
     record {
-      index = w.core.index; next = w.core.next; flushers = w.core.flushers; place = w.core.place; filled = w.filled;
-      filling = w.core.filling; bytes = w.bytes; history = w.history; loads = w.loads; pens = w.pens }
+      index = w.core.index;
+      next = w.core.next;
+      flushers = w.core.flushers;
+      place = w.core.place;
+      filled = w.filled;
+      filling = w.core.filling;
+      bytes = w.bytes;
+      history = w.history;
+      loads = w.loads;
+      pens = w.pens;
+    }
 
 -- of each block how far it is filled, in which filling, and its bytes
 pub record Ground : Type 0 where

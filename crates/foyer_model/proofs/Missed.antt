@@ -18,9 +18,9 @@ use Rattle.foyer_model.specs.Access.{HasRead, Load}
 use Rattle.foyer_model.specs.World.{World}
 use Rattle.foyer_model.specs.Laws.{Demands, LooksUpNewest, IsAnswer, LoadsNewest, MissedOnly}
 use Rattle.foyer_model.proofs.Invariant.{ground_of, PhaseOk, IsPromised, LoadOk}
-use Rattle.foyer_model.proofs.Loads.{promised}
-use Rattle.foyer_model.proofs.Finds.{looked}
-use Rattle.foyer_model.proofs.Misses.{HasReadAll, IsHeld, HeldOk, IsHeldWorld, reached_held}
+use Rattle.foyer_model.proofs.LoadSteps.{promised}
+use Rattle.foyer_model.proofs.FoundKept.{looked}
+use Rattle.foyer_model.proofs.LoadsHeld.{HasReadAll, IsHeld, HeldOk, IsHeldWorld, reached_held}
 
 module _ {C : Type 0} (rules : Rules C) (Splits : Splitting C) (is_value : C → Type 0) (demands : Demands rules Splits is_value) where
   -- what was read is judged as what was promised
@@ -41,7 +41,7 @@ module _ {C : Type 0} (rules : Rules C) (Splits : Splitting C) (is_value : C →
       go true e =
           let fill : l.ticket.address.filling ≡ w.core.filling l.ticket.address.block = eqb-true l.ticket.address.filling (w.core.filling l.ticket.address.block) e in
           let bytes : take l.ticket.address.len bs ≡ read (w.bytes l.ticket.address.block) l.ticket.address.offset l.ticket.address.len =
-            subst (λ p. PhaseOk rules (ground_of w) l.ticket.address p) phase (promised.phase fill) in
+          subst (λ p. PhaseOk rules (ground_of w) l.ticket.address p) phase (promised.phase fill) in
           ap (λ k. rules.pair_of k l.ticket.hash l.ticket.address.sequence) bytes ∙ (promised.good.solid fill).outcome ∙ same
       go false e = other x refl (eqb-false l.ticket.address.filling (w.core.filling l.ticket.address.block) e)
 
@@ -95,17 +95,18 @@ module _ {C : Type 0} (rules : Rules C) (Splits : Splitting C) (is_value : C →
       fault_answer w.core new t x reply few (subst (λ u. u.address.block < rules.blocks) ticket held.below, tt) ok
   ended w t (Bytes bs) reply new l b s x promised held ok few ticket phase kept promise =
       bytes_answer w.core new t bs x reply
-        (subst (λ u. judged rules w.core u bs ≡ x) ticket (judged_here w l bs b s x promised held phase kept (subst (λ u. l.promise ≡ Some (Put u.hash s x)) (sym ticket) promise))) few
-        (subst (λ u. u.address.block < rules.blocks) ticket held.below,
-         subst (λ u. length bs ≡ rules.page_up u.address.len) ticket (subst (λ p. HasReadAll rules l.ticket.address.len p) phase held.all)) ok
+      (subst (λ u. judged rules w.core u bs ≡ x) ticket (judged_here w l bs b s x promised held phase kept (subst (λ u. l.promise ≡ Some (Put u.hash s x)) (sym ticket) promise))) few (
+        subst (λ u. u.address.block < rules.blocks) ticket held.below,
+        subst (λ u. length bs ≡ rules.page_up u.address.len) ticket (subst (λ p. HasReadAll rules l.ticket.address.len p) phase held.all),
+      ) ok
 
 pub loads_newest_lem : {C : Type 0} (rules : Rules C) (Splits : Splitting C) (is_value : C → Type 0) → LoadsNewest rules Splits is_value
 loads_newest_lem rules Splits is_value w t result reply new n l b s x demands reached last few at ticket phase kept promise =
     let all : IsHeldWorld rules Splits is_value demands w = reached_held rules Splits is_value demands w reached in
     ended rules Splits is_value demands w t result reply new l b s x
-      (subst (λ o. LoadOk rules (ground_of w) w.pens o) at (all.known.sound.loads n))
-      (subst (λ o. HeldOk rules w.core.filling w.core.place o) at (all.held.loads n))
-      last.1 few ticket phase kept promise
+    (subst (λ o. LoadOk rules (ground_of w) w.pens o) at (all.known.sound.loads n))
+    (subst (λ o. HeldOk rules w.core.filling w.core.place o) at (all.held.loads n))
+    last.1 few ticket phase kept promise
 
 pub looks_up_newest_lem : {C : Type 0} (rules : Rules C) (Splits : Splitting C) (is_value : C → Type 0) → LooksUpNewest rules Splits is_value
 looks_up_newest_lem {C} rules Splits is_value w h throttled reply new b s x demands reached last few kept newer some = go reply last.1

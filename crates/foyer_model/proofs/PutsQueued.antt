@@ -16,9 +16,9 @@ use Rattle.foyer_model.specs.Access.{came}
 use Rattle.foyer_model.specs.World.{World, WorldEvent, Applies, ReadBegins, ReadEnds, ScanBegins, ScanEnds, WriteBegins, WriteEnds, WipeBegins, WipeEnds, after, after_all, MayHappen, MayAllHappen}
 use Rattle.foyer_model.specs.Laws.{Demands, WasQueued, IsAmong, PutsAreQueued}
 use Rattle.foyer_model.proofs.Invariant.{Each}
-use Rattle.foyer_model.proofs.Goes.{new_again}
-use Rattle.foyer_model.proofs.Keeps.{IsKnown, known_keeps}
-use Rattle.foyer_model.proofs.Opens.{new_sound, new_sets}
+use Rattle.foyer_model.proofs.RereadsKept.{new_again}
+use Rattle.foyer_model.proofs.SoundKept.{IsKnown, known_keeps}
+use Rattle.foyer_model.proofs.OpenedSound.{new_sound, new_sets}
 use Rattle.foyer_model.proofs.Traced.{IsKnownPut, IsTracedAt, IsTracedIn, IsTraced, traced_more, pushed_traced, traced_as, deletes_traced, takes_traced, begins_traced, tells_traced, wrote_traced, logs_traced, finishes_traced, reads_traced, looks_traced, ends_traced, waits_traced, picks_traced, forgets_traced, cleaned_traced, destroys_traced, clears_traced, cleans_traced}
 
 module _ {C : Type 0} (rules : Rules C) (Splits : Splitting C) (is_value : C → Type 0) (demands : Demands rules Splits is_value) (R : ℕ → ℕ → Outcome C → Type 0) where
@@ -51,7 +51,7 @@ module _ {C : Type 0} (rules : Rules C) (Splits : Splitting C) (is_value : C →
       traced_as rules (More K (Applies (Enqueue h n age c) (Ignored d) new ∷ [])) R w.history done w.core ok.3 (traced_more K _ R (λ h s c k. inl k) w traced)
   enqueues_traced K w h n age c (Queued s) done new ok traced =
       traced_as rules (More K (Applies (Enqueue h n age c) (Queued s) new ∷ [])) R w.history done _ ok.4
-        (pushed_traced rules (More K (Applies (Enqueue h n age c) (Queued s) new ∷ [])) R w (flusher_of rules h) (Piece h s n c) (inr (inl (refl, refl, refl))) (traced_more K _ R (λ h s c k. inl k) w traced))
+      (pushed_traced rules (More K (Applies (Enqueue h n age c) (Queued s) new ∷ [])) R w (flusher_of rules h) (Piece h s n c) (inr (inl (refl, refl, refl))) (traced_more K _ R (λ h s c k. inl k) w traced))
   enqueues_traced K w h n age c reply done new ok traced = absurd ok
 
   does_traced : (K : ℕ → ℕ → C → Type 0) (w : World C) (step : Step C) (reply : Reply C) (done new : State C) → InTurn rules w.core step → Does rules Splits w.core step reply done → IsKnown rules Splits is_value demands w → IsTraced K R w
@@ -107,12 +107,12 @@ module _ {C : Type 0} (rules : Rules C) (Splits : Splitting C) (is_value : C →
   all_traced K w [] ok known traced = traced_more K _ R (λ h s c k. inl k) w traced
   all_traced K w (e ∷ es) ok known traced =
       traced_more (More (More K (e ∷ [])) es) (More K (e ∷ es)) R
-        (λ h s c given. elim given [
-          | inl before ↦ elim before [ inl k ↦ inl k | inr one ↦ inr (queued_front h s c e es (inl one)) ]
-          | inr rest ↦ inr (queued_front h s c e es (inr rest))
-        ])
-        (after_all rules (after rules w e) es)
-        (all_traced (More K (e ∷ [])) (after rules w e) es ok.1 (known_keeps rules Splits is_value demands w e ok.0 known) (event_traced K w e ok.0 known traced))
+      (λ h s c given. elim given [
+        | inl before ↦ elim before [ inl k ↦ inl k | inr one ↦ inr (queued_front h s c e es (inl one)) ]
+        | inr rest ↦ inr (queued_front h s c e es (inr rest))
+      ])
+      (after_all rules (after rules w e) es)
+      (all_traced (More K (e ∷ [])) (after rules w e) es ok.1 (known_keeps rules Splits is_value demands w e ok.0 known) (event_traced K w e ok.0 known traced))
 
 -- what is among the events is known of
 known_among : {C : Type 0} (P : Event C → Type 0) (e : Event C) (H : List (Event C)) → Each P H → IsAmong e H → P e
@@ -137,4 +137,5 @@ puts_are_queued_lem {C} rules Splits is_value first events h s x demands opened 
         (record { sound = new_sound rules first opened; again = new_again rules first opened; sets = new_sets rules first opened })
         (record {
           at = λ f. subst (IsTracedAt (λ q u c. ⊥)) (sym (opened.flushers f)) (record { pieces = tt; received = tt; written = tt });
-          puts = among_itself (λ q u c. ⊥) first.history first.history (λ e given. given) })
+          puts = among_itself (λ q u c. ⊥) first.history first.history (λ e given. given);
+        })

@@ -25,8 +25,8 @@ use Rattle.foyer_model.specs.Turn.{Follows}
 use Rattle.foyer_model.specs.Access.{came}
 use Rattle.foyer_model.specs.Companions.{IsInTurnReply, InTurnReplies}
 use Rattle.foyer_model.proofs.Invariant.{writing_in, goes_on_in}
-use Rattle.foyer_model.proofs.Flushes.{failed, told}
-use Rattle.foyer_model.proofs.Finds.{looked}
+use Rattle.foyer_model.proofs.FlushSteps.{failed, told}
+use Rattle.foyer_model.proofs.FoundKept.{looked}
 use Rattle.foyer_model.proofs.Served.{IsServed, reached_served}
 
 pub last_of : (xs : List ℕ) → (xs ≡ []) ⊎ ((others : List ℕ) × (x : ℕ) × (xs ≡ others ++ x ∷ []))
@@ -78,6 +78,7 @@ module _ {C : Type 0} (rules : Rules C) (Splits : Splitting C) where
       follows (NotNow back) plain does = absurd plain
       follows (Refused kind back) plain does = absurd plain
       follows reply plain does = (few, turn, (done, does, refl))
+
       ordinary : (reply : Reply C) → IsOrdinary reply → IsInTurnReply rules Splits reply
       ordinary (NotNow back) plain = absurd plain
       ordinary (Refused kind back) plain = absurd plain
@@ -109,8 +110,9 @@ module _ {C : Type 0} (rules : Rules C) (Splits : Splitting C) where
   ignored_or c age = elim (age_or age) [
     | inl young ↦ inl (inl young)
     | inr old ↦ elim (le_or (size_queued rules.flushers c.flushers) rules.threshold) [
-        | inl low ↦ inr (λ is. elim is [ inl young ↦ old young | inr high ↦ omega arith ])
-        | inr high ↦ inl (inr (omega arith)) ]
+      | inl low ↦ inr (λ is. elim is [ inl young ↦ old young | inr high ↦ omega arith ])
+      | inr high ↦ inl (inr (omega arith))
+    ]
   ]
 
   -- closed, at the last sequence, or neither
@@ -125,26 +127,30 @@ module _ {C : Type 0} (rules : Rules C) (Splits : Splitting C) where
   enqueue_replies c h n age k few = elim (open_or c) [
     | inl closed ↦ refuses c (Enqueue h n age k) Closed (few, (tt, closed))
     | inr still ↦ elim (ignored_or c age) [
-        | inl ignored ↦ answers c c (Enqueue h n age k) (Ignored k) tt few tt (refl, still, ignored, refl)
-        | inr not ↦ elim (le_or last_number c.next) [
-            | inl end ↦ refuses c (Enqueue h n age k) SequenceEnd (inr (few, (tt, not, still, end)))
-            | inr more ↦ answers c _ (Enqueue h n age k) (Queued c.next) tt few tt (refl, still, not, omega arith, refl) ] ]
+      | inl ignored ↦ answers c c (Enqueue h n age k) (Ignored k) tt few tt (refl, still, ignored, refl)
+      | inr not ↦ elim (le_or last_number c.next) [
+        | inl end ↦ refuses c (Enqueue h n age k) SequenceEnd (inr (few, (tt, not, still, end)))
+        | inr more ↦ answers c _ (Enqueue h n age k) (Queued c.next) tt few tt (refl, still, not, omega arith, refl)
+      ]
+    ]
   ]
 
   delete_replies : (c : State C) (h : ℕ) → c.steps < last_number → HasReply c (Delete h)
   delete_replies c h few = elim (open_or c) [
     | inl closed ↦ refuses c (Delete h) Closed (few, (tt, closed))
     | inr still ↦ elim (le_or last_number c.next) [
-        | inl end ↦ refuses c (Delete h) SequenceEnd (inr (few, (tt, tt, still, end)))
-        | inr more ↦ answers c _ (Delete h) (Deleted c.next) tt few tt (refl, still, omega arith, refl) ]
+      | inl end ↦ refuses c (Delete h) SequenceEnd (inr (few, (tt, tt, still, end)))
+      | inr more ↦ answers c _ (Delete h) (Deleted c.next) tt few tt (refl, still, omega arith, refl)
+    ]
   ]
 
   destroy_replies : (c : State C) → c.steps < last_number → InTurn rules c DestroyBegin → HasReply c DestroyBegin
   destroy_replies c few turn = elim (open_or c) [
     | inl closed ↦ refuses c DestroyBegin Closed (few, (tt, closed))
     | inr still ↦ elim (le_or last_number c.next) [
-        | inl end ↦ refuses c DestroyBegin SequenceEnd (inr (few, (turn, tt, still, end)))
-        | inr more ↦ answers c _ DestroyBegin (Destroying c.next) tt few turn (refl, still, omega arith, refl) ]
+      | inl end ↦ refuses c DestroyBegin SequenceEnd (inr (few, (turn, tt, still, end)))
+      | inr more ↦ answers c _ DestroyBegin (Destroying c.next) tt few turn (refl, still, omega arith, refl)
+    ]
   ]
 
   look_replies : (c : State C) (h : ℕ) (throttled : Bool) → c.steps < last_number → HasReply c (LoadBegin h throttled)
@@ -153,10 +159,12 @@ module _ {C : Type 0} (rules : Rules C) (Splits : Splitting C) where
       -- by what the index holds
       at_slot : (reply : Reply C) (done : State C) (slot : Option Slot) → c.index h ≡ slot → IsOrdinary reply → Looks rules c h throttled slot reply done → HasReply c (LoadBegin h throttled)
       at_slot reply done slot is plain looks = answers c done (LoadBegin h throttled) reply plain few tt (subst (λ s. Looks rules c h throttled s reply done) (sym is) looks)
+
       address : (a : Address) (t : Bool) → throttled ≡ t → c.index h ≡ Some (Indexed a) → (p : Bool) → (a.filling == c.filling a.block) ≡ p → HasReply c (LoadBegin h throttled)
       address a true told is p e = at_slot Throttled c (Some (Indexed a)) is tt (told, refl)
       address a false told is true e = at_slot (Read (record { hash = h; address = a })) _ (Some (Indexed a)) is tt (told, eqb-true a.filling (c.filling a.block) e, refl, refl)
       address a false told is false e = at_slot Miss _ (Some (Indexed a)) is tt (told, eqb-false a.filling (c.filling a.block) e, refl)
+
       looked : (slot : Option Slot) → c.index h ≡ slot → HasReply c (LoadBegin h throttled)
       looked None is = at_slot Miss c None is tt refl
       looked (Some (Mark s)) is = at_slot Miss c (Some (Mark s)) is tt refl
@@ -179,6 +187,7 @@ module _ {C : Type 0} (rules : Rules C) (Splits : Splitting C) where
     where
       at_queue : (reply : Reply C) (done : State C) (queue : List (Submission C)) → (c.flushers f).queue ≡ queue → IsOrdinary reply → Takes rules c f queue reply done → HasReply c (Receive f)
       at_queue reply done queue is plain takes = answers c done (Receive f) reply plain few turn (subst (λ q. Takes rules c f q reply done) (sym is) takes)
+
       piece : (h s n : ℕ) (k : C) (rest : List (Submission C)) → (c.flushers f).queue ≡ Piece h s n k ∷ rest → (bytes : Option (List ℕ)) → rules.encode h s k ≡ bytes → HasReply c (Receive f)
       piece h s n k rest is None none = at_queue (Received (Some k)) _ (Piece h s n k ∷ rest) is tt
           (refl, (λ bs some fits. let e : None ≡ Some bs = sym none ∙ some in cc), refl)
@@ -187,12 +196,14 @@ module _ {C : Type 0} (rules : Rules C) (Splits : Splitting C) where
         | inr not ↦ at_queue (Received (Some k)) _ (Piece h s n k ∷ rest) is tt
             (refl, (λ bs other fits. not (subst (Fits rules c (c.flushers f).buffer) (let e : Some bs ≡ Some bytes = sym other ∙ some in let g : bs ≡ bytes = cc in g) fits)), refl)
       ]
+
       again : (h : ℕ) (bytes : List ℕ) (a : Address) (rest : List (Submission C)) → (c.flushers f).queue ≡ Reinsert h bytes a ∷ rest → (t : Bool) → holds a (c.index h) ≡ t → HasReply c (Receive f)
       again h bytes a rest is false not = at_queue (Received None) _ (Reinsert h bytes a ∷ rest) is tt (inr ((λ held fits. let e : false ≡ true = sym not ∙ held in cc), refl))
       again h bytes a rest is true held = elim (fits_or c (c.flushers f).buffer bytes) [
         | inl fits ↦ at_queue (Received None) _ (Reinsert h bytes a ∷ rest) is tt (inl (held, fits, refl))
         | inr not ↦ at_queue (Received None) _ (Reinsert h bytes a ∷ rest) is tt (inr ((λ _ fits. not fits), refl))
       ]
+
       queue : (queue : List (Submission C)) → (c.flushers f).queue ≡ queue → HasReply c (Receive f)
       queue [] is = at_queue Empty c [] is tt refl
       queue (Piece h s n k ∷ rest) is = piece h s n k rest is (rules.encode h s k) refl
@@ -205,20 +216,25 @@ module _ {C : Type 0} (rules : Rules C) (Splits : Splitting C) where
     where
       at_batch : (batch : Batch C) → (c.flushers f).batch ≡ Some batch → (reply : Reply C) (done : State C) → IsOrdinary reply → Tells rules c f (Some batch) reply done → HasReply c (FlushBlock f)
       at_batch batch is reply done plain tells = answers c done (FlushBlock f) reply plain few turn (subst (λ k. Tells rules c f k reply done) (sym is) tells)
+
       free : (batch : Batch C) → (c.flushers f).batch ≡ Some batch → (s : Spread C) (rest : List (Spread C)) → batch.blocks ≡ s ∷ rest → batch.goes_on ≡ false → (c.flushers f).ready ≡ None → (b : Option ℕ) → clean_block rules c ≡ b → HasReply c (FlushBlock f)
       free batch is s rest blocks fresh none None clean = at_batch batch is NoBlock _ tt (fresh, none, clean, refl)
       free batch is s rest blocks fresh none (Some b) clean = at_batch batch is (Written b (writes_in rules s.parts)) _ tt (s, rest, blocks, refl, inr (inr (fresh, none, clean, refl)))
+
       ready : (batch : Batch C) → (c.flushers f).batch ≡ Some batch → (s : Spread C) (rest : List (Spread C)) → batch.blocks ≡ s ∷ rest → batch.goes_on ≡ false → (r : Option ℕ) → (c.flushers f).ready ≡ r → HasReply c (FlushBlock f)
       ready batch is s rest blocks fresh None none = free batch is s rest blocks fresh none (clean_block rules c) refl
       ready batch is s rest blocks fresh (Some b) has = at_batch batch is (Written b (writes_in rules s.parts)) _ tt (s, rest, blocks, refl, inr (inl (fresh, has, refl)))
+
       on : (batch : Batch C) → (c.flushers f).batch ≡ Some batch → (s : Spread C) (rest : List (Spread C)) → batch.blocks ≡ s ∷ rest → (t : Bool) → batch.goes_on ≡ t → HasReply c (FlushBlock f)
       on batch is s rest blocks true goes_on =
           let own : (b : ℕ) × ((c.flushers f).own ≡ Some b) = served.owner (ap goes_on_in is ∙ goes_on) in
           at_batch batch is (Written own.0 (writes_in rules s.parts)) _ tt (s, rest, blocks, refl, inl (goes_on, own.1, refl))
       on batch is s rest blocks false fresh = ready batch is s rest blocks fresh (c.flushers f).ready refl
+
       spreads : (batch : Batch C) → (c.flushers f).batch ≡ Some batch → batch.blocks ≢ [] → (blocks : List (Spread C)) → batch.blocks ≡ blocks → HasReply c (FlushBlock f)
       spreads batch is some [] none = absurd (some none)
       spreads batch is some (s ∷ rest) blocks = on batch is s rest blocks batch.goes_on refl
+
       batches : (batch : Option (Batch C)) → (c.flushers f).batch ≡ batch → WantsBlock batch → HasReply c (FlushBlock f)
       batches None is wants = absurd wants
       batches (Some batch) is wants = spreads batch is wants.0 batch.blocks refl
@@ -229,11 +245,13 @@ module _ {C : Type 0} (rules : Rules C) (Splits : Splitting C) where
       at_batch : (batch : Batch C) → (c.flushers f).batch ≡ Some batch → (ok : Bool) → good ≡ ok → (reply : Reply C) (done : State C) → IsOrdinary reply → Wrote rules c f ok (Some batch) reply done → HasReply c (FlushWrote f good)
       at_batch batch is ok same reply done plain wrote = answers c done (FlushWrote f good) reply plain few turn
           (subst (λ k. Wrote rules c f good k reply done) (sym is) (subst (λ g. Wrote rules c f g (Some batch) reply done) (sym same) wrote))
+
       writes : (batch : Batch C) → (c.flushers f).batch ≡ Some batch → (w : Writing C) → batch.writing ≡ Some w → (ok : Bool) → good ≡ ok → (left : List Write) → w.left ≡ left → HasReply c (FlushWrote f good)
       writes batch is w writing ok same [] none = absurd (served.some w (ap writing_in is ∙ writing) none)
       writes batch is w writing true same (v ∷ []) left = at_batch batch is true same (Committed (length (commit_in c w).puts)) _ tt (w, v, writing, left, refl, refl)
       writes batch is w writing true same (v ∷ u ∷ rest) left = at_batch batch is true same Next _ tt (w, v, u, rest, writing, left, refl)
       writes batch is w writing false same (v ∷ rest) left = at_batch batch is false same Failed _ tt (w, v, rest, writing, left, (λ e. absurd (let g : false ≡ true = e in cc)), refl)
+
       batches : (batch : Option (Batch C)) → (c.flushers f).batch ≡ batch → IsWriting batch → HasReply c (FlushWrote f good)
       batches None is wants = absurd wants
       batches (Some batch) is wants = writes batch is wants.0 wants.1 good refl (wants.0).left refl
@@ -253,12 +271,18 @@ module _ {C : Type 0} (rules : Rules C) (Splits : Splitting C) where
       batches None is none = absurd none
       batches (Some batch) is written = answers c _ (FlushEnd f) (Ended batch.pieces batch.waits) tt few turn
           (subst (λ k. Finishes rules c f k (Ended batch.pieces batch.waits) (record (turned rules c f (record (c.flushers f) { batch = None })) {
-            index = unmarked batch.marks c.index; stats = spoiled_unless batch.logged batch.spoils c.stats })) (sym is) (refl, refl, refl))
+            index = unmarked batch.marks c.index;
+            stats = spoiled_unless batch.logged batch.spoils c.stats;
+          })) (sym is) (refl, refl, refl))
 
   pick_replies : (c : State C) → c.steps < last_number → InTurn rules c ReclaimBegin → HasReply c ReclaimBegin
-  pick_replies c few may = answers c _ ReclaimBegin (Picked (may.some_block).0 (nones rules.pickers) []) tt few may
-      ((may.some_block).1, (may.some_block).2, nones_asked rules.pickers rules.blocks c.place,
-       (λ d is. absurd (let e : None ≡ Some d = sym (nones_pick rules.pickers rules.blocks c.place) ∙ is in cc)), refl)
+  pick_replies c few may = answers c _ ReclaimBegin (Picked (may.some_block).0 (nones rules.pickers) []) tt few may (
+    (may.some_block).1,
+    (may.some_block).2,
+    nones_asked rules.pickers rules.blocks c.place,
+    (λ d is. absurd (let e : None ≡ Some d = sym (nones_pick rules.pickers rules.blocks c.place) ∙ is in cc)),
+    refl,
+  )
 
   told_plain : (c : State C) (b : ℕ) (stage : Stage) (vs : List Bool) → IsOrdinary (told_at rules c b stage vs)
   told_plain c b (AtIndex place) vs = tt
@@ -272,16 +296,18 @@ module _ {C : Type 0} (rules : Rules C) (Splits : Splitting C) where
       at_reclaim : (r : Reclaim) → c.reclaims b ≡ Some r → (stage : Stage) → r.stage ≡ stage → (reply : Reply C) (done : State C) → IsOrdinary reply → Scanned rules c b r stage came reply done → HasReply c (ReclaimRead b came)
       at_reclaim r is stage at reply done plain scanned = answers c done (ReclaimRead b came) reply plain few turn
           (subst (λ k. Rereads rules c b k came reply done) (sym is) (subst (λ k. Scanned rules c b r k came reply done) (sym at) scanned))
+
       index : (r : Reclaim) → c.reclaims b ≡ Some r → (place : ℕ) → r.stage ≡ AtIndex place → (bs : List ℕ) → came ≡ Bytes bs → (es : Option (List IndexEntry)) → rules.entries_of place bs ≡ es → HasReply c (ReclaimRead b came)
       index r is place at bs same None none = at_reclaim r is (AtIndex place) at (Listed []) _ tt
           (subst (λ k. Scanned rules c b r (AtIndex place) k (Listed []) (reclaiming rules c b (record r { stage = AllListed }))) (sym same)
-            (subst (λ k. Lists rules c b r place k (Listed []) (reclaiming rules c b (record r { stage = AllListed }))) (sym none) (refl, refl)))
+          (subst (λ k. Lists rules c b r place k (Listed []) (reclaiming rules c b (record r { stage = AllListed }))) (sym none) (refl, refl)))
       index r is place at bs same (Some es) some =
           let vs : List Bool = all_rejected (length es) in
           at_reclaim r is (AtIndex place) at (told_at rules c b (stage_behind rules c b place es vs) vs) _ (told_plain c b (stage_behind rules c b place es vs) vs)
-            (subst (λ k. Scanned rules c b r (AtIndex place) k (told_at rules c b (stage_behind rules c b place es vs) vs) (reclaiming rules c b (record r { stage = stage_behind rules c b place es vs; listed = addresses b (c.filling b) place es ++ r.listed }))) (sym same)
-              (subst (λ k. Lists rules c b r place k (told_at rules c b (stage_behind rules c b place es vs) vs) (reclaiming rules c b (record r { stage = stage_behind rules c b place es vs; listed = addresses b (c.filling b) place es ++ r.listed }))) (sym some)
-                (vs, rejected_length (length es), refl, refl)))
+          (subst (λ k. Scanned rules c b r (AtIndex place) k (told_at rules c b (stage_behind rules c b place es vs) vs) (reclaiming rules c b (record r { stage = stage_behind rules c b place es vs; listed = addresses b (c.filling b) place es ++ r.listed }))) (sym same)
+          (subst (λ k. Lists rules c b r place k (told_at rules c b (stage_behind rules c b place es vs) vs) (reclaiming rules c b (record r { stage = stage_behind rules c b place es vs; listed = addresses b (c.filling b) place es ++ r.listed }))) (sym some)
+          (vs, rejected_length (length es), refl, refl)))
+
       scan : (r : Reclaim) → c.reclaims b ≡ Some r → (stage : Stage) → r.stage ≡ stage → IsScan rules stage came → (got : Came) → came ≡ got → HasReply c (ReclaimRead b came)
       scan r is (AtIndex place) at ok Fault same = at_reclaim r is (AtIndex place) at (Listed []) _ tt
           (subst (λ k. Scanned rules c b r (AtIndex place) k (Listed []) (reclaiming rules c b (record r { stage = AllListed }))) (sym same) (refl, refl))
@@ -290,9 +316,11 @@ module _ {C : Type 0} (rules : Rules C) (Splits : Splitting C) where
           (subst (λ k. Scanned rules c b r (AtRecord h a rest place) k (Listed []) (reclaiming rules c b (record r { stage = AllListed }))) (sym same) (refl, refl))
       scan r is (AtRecord h a rest place) at ok (Bytes bs) same = at_reclaim r is (AtRecord h a rest place) at (told_at rules c b (stage_after rules c rest place) []) _ (told_plain c b (stage_after rules c rest place) [])
           (subst (λ k. Scanned rules c b r (AtRecord h a rest place) k (told_at rules c b (stage_after rules c rest place) []) (record (queued rules c (flusher_of rules (length r.requeued)) (Reinsert h (take a.len bs) a)) {
-            reclaims = put c.reclaims b (Some (record r { stage = stage_after rules c rest place; requeued = (h, a) ∷ r.requeued })) })) (sym same) (refl, refl))
+            reclaims = put c.reclaims b (Some (record r { stage = stage_after rules c rest place; requeued = (h, a) ∷ r.requeued }));
+          })) (sym same) (refl, refl))
       scan r is AllListed at ok got same = absurd ok
       scan r is ToClean at ok got same = absurd ok
+
       reclaims : (r : Option Reclaim) → c.reclaims b ≡ r → ReadsFor rules r came → HasReply c (ReclaimRead b came)
       reclaims None is ok = absurd ok
       reclaims (Some r) is ok = scan r is r.stage refl ok came refl
@@ -309,8 +337,9 @@ module _ {C : Type 0} (rules : Rules C) (Splits : Splitting C) where
   clean_replies c b well few turn = elim (last_of c.waiting) [
     | inl nobody ↦ answers c _ (ReclaimCleaned b well) Done tt few turn (inr (inl nobody, refl))
     | inr somebody ↦ elim (le_or last_number (c.filling b)) [
-        | inl full ↦ answers c _ (ReclaimCleaned b well) Done tt few turn (inr (inr full, refl))
-        | inr room ↦ answers c _ (ReclaimCleaned b well) Done tt few turn (inl (somebody.1, somebody.0, somebody.2, omega arith, refl)) ]
+      | inl full ↦ answers c _ (ReclaimCleaned b well) Done tt few turn (inr (inr full, refl))
+      | inr room ↦ answers c _ (ReclaimCleaned b well) Done tt few turn (inl (somebody.1, somebody.0, somebody.2, omega arith, refl))
+    ]
   ]
 
   clean_plain : (left : List ℕ) (failed : Bool) → IsOrdinary (told_after_clean {C = C} left failed)
@@ -325,8 +354,10 @@ module _ {C : Type 0} (rules : Rules C) (Splits : Splitting C) where
       destroys Begun is ok = absurd ok
       destroys (Cleaning left failed) is ok =
           answers c _ (DestroyCleaned b well) (told_after_clean (without_id b left) (if well then failed else true)) (clean_plain (without_id b left) (if well then failed else true)) few turn
-            (subst (λ k. CleansOne rules c b well k (told_after_clean (without_id b left) (if well then failed else true)) (record c {
-              destroy = after_clean (without_id b left) (if well then failed else true); stats = put c.stats b no_stats })) (sym is) (refl, refl))
+          (subst (λ k. CleansOne rules c b well k (told_after_clean (without_id b left) (if well then failed else true)) (record c {
+            destroy = after_clean (without_id b left) (if well then failed else true);
+            stats = put c.stats b no_stats;
+          })) (sym is) (refl, refl))
 
   -- each step
   replies : (c : State C) → c.steps < last_number → ((q : ℕ) → IsServed rules Splits (c.flushers q)) → PlacesAll rules Splits → (step : Step C) → InTurn rules c step → HasReply c step

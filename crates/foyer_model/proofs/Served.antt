@@ -24,7 +24,7 @@ use Rattle.foyer_model.specs.World.{World, WorldEvent, Applies, ReadBegins, Read
 use Rattle.foyer_model.specs.Laws.{IsReached}
 use Rattle.foyer_model.proofs.Basics.{put_one}
 use Rattle.foyer_model.proofs.Invariant.{writing_in, goes_on_in}
-use Rattle.foyer_model.proofs.Flushes.{failed, told}
+use Rattle.foyer_model.proofs.FlushSteps.{failed, told}
 
 -- its own block where a batch goes on in it, a write where a block is written, records that fit into a block, and a
 -- splitter that goes on where a batch may begin
@@ -52,7 +52,8 @@ module _ {C : Type 0} (rules : Rules C) (Splits : Splitting C) where
     owner = λ is. let r : (b : ℕ) × (φ.own ≡ Some b) = ok.owner (sym (ap goes_on_in batch) ∙ is) in (r.0, own ∙ r.1);
     some = λ w is. ok.some w (sym (ap writing_in batch) ∙ is);
     fit = subst (AllFitBlock rules) (sym buffer) ok.fit;
-    goes_on = subst (IsLeft rules Splits) (sym context) ok.goes_on }
+    goes_on = subst (IsLeft rules Splits) (sym context) ok.goes_on;
+  }
 
   queued_served : (c new : State C) (f : ℕ) (sub : Submission C) → new.flushers ≡ (queued rules c f sub).flushers → ((q : ℕ) → IsServed rules Splits (c.flushers q)) → (q : ℕ) → IsServed rules Splits (new.flushers q)
   queued_served c new f sub eq ok = subst (λ fs. (q : ℕ) → IsServed rules Splits (fs q)) (sym eq)
@@ -78,8 +79,11 @@ module _ {C : Type 0} (rules : Rules C) (Splits : Splitting C) where
 
   begins_served : (c new : State C) (f : ℕ) (reply : Reply C) → Begins rules Splits c f reply new → ((q : ℕ) → IsServed rules Splits (c.flushers q)) → (q : ℕ) → IsServed rules Splits (new.flushers q)
   begins_served c new f (Began blocks marks) ok served = served_as new _ ok.2 (one_served c f _ (λ t. record {
-    owner = some_is (c.flushers f).own; some = λ w is. absurd (let e : None ≡ Some w = is in cc); fit = tt;
-    goes_on = inr ((c.flushers f).context, (c.flushers f).buffer, blocks, ok.1, refl) }) served)
+    owner = some_is (c.flushers f).own;
+    some = λ w is. absurd (let e : None ≡ Some w = is in cc);
+    fit = tt;
+    goes_on = inr ((c.flushers f).context, (c.flushers f).buffer, blocks, ok.1, refl);
+  }) served)
   begins_served c new f reply ok served = absurd ok
 
   abbrev left_or : List Write → Option (Writing C) → List Write
@@ -92,7 +96,11 @@ module _ {C : Type 0} (rules : Rules C) (Splits : Splitting C) where
 
   tells_served : (c new : State C) (f : ℕ) (batch : Option (Batch C)) (reply : Reply C) → (c.flushers f).batch ≡ batch → Tells rules c f batch reply new → ((q : ℕ) → IsServed rules Splits (c.flushers q)) → (q : ℕ) → IsServed rules Splits (new.flushers q)
   tells_served c new f (Some batch) NoBlock is ok served = served_as new _ ok.3 (one_served c f _ (λ t. record {
-    owner = λ e. absurd (let g : false ≡ true = sym (ap goes_on_in is ∙ ok.0) ∙ e in cc); some = t.some; fit = t.fit; goes_on = t.goes_on }) served)
+    owner = λ e. absurd (let g : false ≡ true = sym (ap goes_on_in is ∙ ok.0) ∙ e in cc);
+    some = t.some;
+    fit = t.fit;
+    goes_on = t.goes_on;
+  }) served)
   tells_served c new f (Some batch) (Written b writes) is (s, rest, blocks, all, which) served =
       elim which [
         | inl (goes_on, own, eq) ↦ served_as new _ eq told
@@ -103,27 +111,49 @@ module _ {C : Type 0} (rules : Rules C) (Splits : Splitting C) where
       told : (q : ℕ) → IsServed rules Splits ((block_told rules c f b batch s rest).flushers q)
       told = one_served c f _ (λ t. record {
         owner = λ e. absurd (let g : false ≡ true = e in cc);
-        some = λ w. written_some b (writes_in rules s.parts) (records_in s.parts) w; fit = t.fit; goes_on = t.goes_on }) served
+        some = λ w. written_some b (writes_in rules s.parts) (records_in s.parts) w;
+        fit = t.fit;
+        goes_on = t.goes_on;
+      }) served
   tells_served c new f batch reply is ok served = absurd ok
 
   wrote_served : (c new : State C) (f : ℕ) (good : Bool) (batch : Option (Batch C)) (reply : Reply C) → (c.flushers f).batch ≡ batch → Wrote rules c f good batch reply new → ((q : ℕ) → IsServed rules Splits (c.flushers q)) → (q : ℕ) → IsServed rules Splits (new.flushers q)
   wrote_served c new f true (Some batch) Next is (r, first, second, rest, writing, left, eq) served = served_as new _ eq (one_served c f _ (λ t. record {
     owner = λ e. t.owner (ap goes_on_in is ∙ e);
-    some = λ w same none. let e : second ∷ rest ≡ [] = ap (left_or (second ∷ rest)) same ∙ none in cc; fit = t.fit; goes_on = t.goes_on }) served)
+    some = λ w same none. let e : second ∷ rest ≡ [] = ap (left_or (second ∷ rest)) same ∙ none in cc;
+    fit = t.fit;
+    goes_on = t.goes_on;
+  }) served)
   wrote_served c new f true (Some batch) (Committed n) is (r, last, writing, left, count, eq) served = served_as new _ eq (one_served c f _ (λ t. record {
-    owner = λ e. t.owner (ap goes_on_in is ∙ e); some = λ w same. absurd (let e : None ≡ Some w = same in cc); fit = t.fit; goes_on = t.goes_on }) served)
+    owner = λ e. t.owner (ap goes_on_in is ∙ e);
+    some = λ w same. absurd (let e : None ≡ Some w = same in cc);
+    fit = t.fit;
+    goes_on = t.goes_on;
+  }) served)
   wrote_served c new f good (Some batch) Failed is (r, first, rest, writing, left, grown, eq) served = served_as new _ eq (one_served c f _ (λ t. record {
-    owner = λ e. absurd (let g : false ≡ true = e in cc); some = λ w same. absurd (let e : None ≡ Some w = same in cc); fit = t.fit; goes_on = inl refl }) served)
+    owner = λ e. absurd (let g : false ≡ true = e in cc);
+    some = λ w same. absurd (let e : None ≡ Some w = same in cc);
+    fit = t.fit;
+    goes_on = inl refl;
+  }) served)
   wrote_served c new f good batch reply is ok served = absurd ok
 
   logs_served : (c new : State C) (f : ℕ) (well : Bool) (batch : Option (Batch C)) (reply : Reply C) → (c.flushers f).batch ≡ batch → Logs rules c f well batch reply new → ((q : ℕ) → IsServed rules Splits (c.flushers q)) → (q : ℕ) → IsServed rules Splits (new.flushers q)
   logs_served c new f well (Some batch) Done is ok served = served_as new _ ok (one_served c f _ (λ t. record {
-    owner = λ e. t.owner (ap goes_on_in is ∙ e); some = λ w same. t.some w (ap writing_in is ∙ same); fit = t.fit; goes_on = t.goes_on }) served)
+    owner = λ e. t.owner (ap goes_on_in is ∙ e);
+    some = λ w same. t.some w (ap writing_in is ∙ same);
+    fit = t.fit;
+    goes_on = t.goes_on;
+  }) served)
   logs_served c new f well batch reply is ok served = absurd ok
 
   finishes_served : (c new : State C) (f : ℕ) (batch : Option (Batch C)) (reply : Reply C) → Finishes rules c f batch reply new → ((q : ℕ) → IsServed rules Splits (c.flushers q)) → (q : ℕ) → IsServed rules Splits (new.flushers q)
   finishes_served c new f (Some batch) (Ended pieces waits) ok served = served_as new _ ok.2 (one_served c f _ (λ t. record {
-    owner = λ e. absurd (let g : false ≡ true = e in cc); some = λ w same. absurd (let e : None ≡ Some w = same in cc); fit = t.fit; goes_on = t.goes_on }) served)
+    owner = λ e. absurd (let g : false ≡ true = e in cc);
+    some = λ w same. absurd (let e : None ≡ Some w = same in cc);
+    fit = t.fit;
+    goes_on = t.goes_on;
+  }) served)
   finishes_served c new f batch reply ok served = absurd ok
 
   reads_served : (c new : State C) (b : ℕ) (r : Option Reclaim) (came : Came) (reply : Reply C) → Rereads rules c b r came reply new → ((q : ℕ) → IsServed rules Splits (c.flushers q)) → (q : ℕ) → IsServed rules Splits (new.flushers q)
@@ -133,6 +163,7 @@ module _ {C : Type 0} (rules : Rules C) (Splits : Splitting C) where
       lists : (place : ℕ) (es : Option (List IndexEntry)) → Lists rules c b r place es reply new → (q : ℕ) → IsServed rules Splits (new.flushers q)
       lists place None given = served_as new _ given.1 served
       lists place (Some es) given = served_as new _ given.3 served
+
       scanned : (stage : Stage) (came : Came) → Scanned rules c b r stage came reply new → (q : ℕ) → IsServed rules Splits (new.flushers q)
       scanned (AtIndex place) Fault given = served_as new _ given.1 served
       scanned (AtRecord h a rest place) Fault given = served_as new _ given.1 served
@@ -194,7 +225,10 @@ module _ {C : Type 0} (rules : Rules C) (Splits : Splitting C) where
   clears_served : (c new : State C) (reply : Reply C) → MayClear c → Clears rules c reply new → ((q : ℕ) → IsServed rules Splits (c.flushers q)) → (q : ℕ) → IsServed rules Splits (new.flushers q)
   clears_served c new (Cleared bs) may ok served = served_as new _ ok.1 (λ f. record {
     owner = λ e. absurd (let g : false ≡ true = sym (ap goes_on_in ((may.1 f).4)) ∙ e in cc);
-    some = (served f).some; fit = (served f).fit; goes_on = inl refl })
+    some = (served f).some;
+    fit = (served f).fit;
+    goes_on = inl refl;
+  })
   clears_served c new reply may ok served = absurd ok
 
   cleans_served : (c new : State C) (b : ℕ) (well : Bool) (d : Destroy) (reply : Reply C) → CleansOne rules c b well d reply new → ((q : ℕ) → IsServed rules Splits (c.flushers q)) → (q : ℕ) → IsServed rules Splits (new.flushers q)
@@ -248,5 +282,9 @@ module _ {C : Type 0} (rules : Rules C) (Splits : Splitting C) where
   pub reached_served : (is_value : C → Type 0) (w : World C) → IsReached rules Splits is_value w → (q : ℕ) → IsServed rules Splits (w.core.flushers q)
   reached_served is_value w reached = subst (λ v. (q : ℕ) → IsServed rules Splits (v.core.flushers q)) reached.is
       (all_served is_value reached.first reached.events reached.happened
-        (λ f. subst (IsServed rules Splits) (sym (reached.opened.flushers f)) (record {
-          owner = λ e. absurd (let g : false ≡ true = e in cc); some = λ w is. absurd (let e : None ≡ Some w = is in cc); fit = tt; goes_on = inl refl })))
+      (λ f. subst (IsServed rules Splits) (sym (reached.opened.flushers f)) (record {
+        owner = λ e. absurd (let g : false ≡ true = e in cc);
+        some = λ w is. absurd (let e : None ≡ Some w = is in cc);
+        fit = tt;
+        goes_on = inl refl;
+      })))

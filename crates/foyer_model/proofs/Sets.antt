@@ -23,8 +23,8 @@ use Rattle.foyer_model.specs.Turn.{Follows}
 use Rattle.foyer_model.specs.Access.{came}
 use Rattle.foyer_model.proofs.Basics.{put_at, put_other, put_one}
 use Rattle.foyer_model.proofs.Ids.{AreDistinct, same_in, later_in, in_append, in_front, in_without, distinct_without, distinct_with, in_with, in_not_in, distinct_front}
-use Rattle.foyer_model.proofs.Flushes.{failed, told}
-use Rattle.foyer_model.proofs.Reclaims.{plus_one}
+use Rattle.foyer_model.proofs.FlushSteps.{failed, told}
+use Rattle.foyer_model.proofs.ReclaimSteps.{plus_one}
 
 -- a clean block is in its set, a flusher that waits has no block, each flusher's block is there, and no block was filled
 -- more often than there were steps
@@ -68,20 +68,27 @@ module _ {C : Type 0} (rules : Rules C) where
   -- one step more
   counted : (c : State C) → AreSets rules c → AreSets rules (record c { steps = c.steps + 1 })
   counted c sets = record {
-    clean = sets.clean; waiting = sets.waiting; distinct = sets.distinct; own = sets.own; ready = sets.ready;
-    filling = λ b. let le : c.filling b ≤ c.steps = sets.filling b in omega arith }
+    clean = sets.clean;
+    waiting = sets.waiting;
+    distinct = sets.distinct;
+    own = sets.own;
+    ready = sets.ready;
+    filling = λ b. let le : c.filling b ≤ c.steps = sets.filling b in omega arith;
+  }
 
   -- a flusher keeps its blocks
   one_turned : (c : State C) (f : ℕ) (ψ : Flusher C) → ψ.own ≡ (c.flushers f).own → ψ.ready ≡ (c.flushers f).ready → AreSets rules c
       → AreSets rules (record c { flushers = put c.flushers f ψ; steps = c.steps + 1 })
   one_turned c f ψ own ready sets = record {
-    clean = sets.clean; distinct = sets.distinct;
+    clean = sets.clean;
+    distinct = sets.distinct;
     waiting = put_one (λ q φ. is_id_in q c.waiting ≡ true → (φ.own ≡ None) × (φ.ready ≡ None)) c.flushers f ψ
         (λ is. let none : ((c.flushers f).own ≡ None) × ((c.flushers f).ready ≡ None) = sets.waiting f is in (own ∙ none.0, ready ∙ none.1))
         (λ q _. sets.waiting q);
     own = put_one (λ q φ. (b : ℕ) → φ.own ≡ Some b → b < rules.blocks) c.flushers f ψ (λ b is. sets.own f b (sym own ∙ is)) (λ q _. sets.own q);
     ready = put_one (λ q φ. (b : ℕ) → φ.ready ≡ Some b → b < rules.blocks) c.flushers f ψ (λ b is. sets.ready f b (sym ready ∙ is)) (λ q _. sets.ready q);
-    filling = λ b. let le : c.filling b ≤ c.steps = sets.filling b in omega arith }
+    filling = λ b. let le : c.filling b ≤ c.steps = sets.filling b in omega arith;
+  }
 
   -- a clean block stays in its set where a flusher leaves its own
   released_clean : (c : State C) (f : ℕ) (own : Option ℕ) → ((b : ℕ) → own ≡ Some b → c.place b ≡ Writes f) → (d : ℕ) → c.place d ≡ Clean → released own c.place d ≡ Clean
@@ -99,7 +106,8 @@ module _ {C : Type 0} (rules : Rules C) where
         put_at (λ φ. (φ.own ≡ None) × (φ.ready ≡ None)) c.flushers f _ q (λ at. absurd (r.1 at)) (λ _. sets.waiting q r.0);
     own = put_one (λ q φ. (d : ℕ) → φ.own ≡ Some d → d < rules.blocks) c.flushers f _ (λ d is. subst (λ k. k < rules.blocks) (let e : Some b ≡ Some d = is in cc) lt) (λ q _. sets.own q);
     ready = put_one (λ q φ. (d : ℕ) → φ.ready ≡ Some d → d < rules.blocks) c.flushers f _ (λ d is. absurd (let e : None ≡ Some d = is in cc)) (λ q _. sets.ready q);
-    filling = λ d. let le : c.filling d ≤ c.steps = sets.filling d in omega arith }
+    filling = λ d. let le : c.filling d ≤ c.steps = sets.filling d in omega arith;
+  }
 
   tells_sets : (c new : State C) (f : ℕ) (batch : Option (Batch C)) (reply : Reply C) → ((b : ℕ) → (c.flushers f).own ≡ Some b → c.place b ≡ Writes f)
       → Tells rules c f batch reply new → AreSets rules c → AreSets rules (record new { steps = c.steps + 1 })
@@ -113,7 +121,8 @@ module _ {C : Type 0} (rules : Rules C) where
             (λ q ne is. elim (in_with q f c.waiting is) [ inl there ↦ sets.waiting q there | inr at ↦ absurd (ne at) ]) q is;
         own = put_one (λ q φ. (d : ℕ) → φ.own ≡ Some d → d < rules.blocks) c.flushers f _ (λ d is. absurd (let e : None ≡ Some d = is in cc)) (λ q _. sets.own q);
         ready = put_one (λ q φ. (d : ℕ) → φ.ready ≡ Some d → d < rules.blocks) c.flushers f _ (sets.ready f) (λ q _. sets.ready q);
-        filling = λ d. let le : c.filling d ≤ c.steps = sets.filling d in omega arith })
+        filling = λ d. let le : c.filling d ≤ c.steps = sets.filling d in omega arith;
+      })
   tells_sets c new f (Some batch) (Written b writes) owned (s, rest, blocks, all, which) sets =
       elim which [
         | inl (goes_on, own, eq) ↦ subst (λ k. AreSets rules (record k { steps = c.steps + 1 })) (sym eq) (told_sets c f b batch s rest (sets.own f b own) sets)
@@ -124,9 +133,13 @@ module _ {C : Type 0} (rules : Rules C) where
               clean = λ d is. let r : (is_id_in d c.clean ≡ true) × (d ≡ b → ⊥) = in_without d b c.clean is in
                   let was : (c.place d ≡ Clean) × (d < rules.blocks) = sets.clean d r.0 in
                   (put_other (released (c.flushers f).own c.place) b (Writes f) d r.1 ∙ released_clean c f (c.flushers f).own owned d was.0, was.1);
-              distinct = told.distinct; waiting = told.waiting; own = told.own; ready = told.ready;
+              distinct = told.distinct;
+              waiting = told.waiting;
+              own = told.own;
+              ready = told.ready;
               filling = λ d. put_at (λ n. n ≤ c.steps + 1) c.filling b (c.filling b + 1) d
-                  (λ _. let le : c.filling b ≤ c.steps = sets.filling b in omega arith) (λ _. let le : c.filling d ≤ c.steps = sets.filling d in omega arith) })
+                  (λ _. let le : c.filling b ≤ c.steps = sets.filling b in omega arith) (λ _. let le : c.filling d ≤ c.steps = sets.filling d in omega arith);
+            })
       ]
   tells_sets c new f batch reply owned ok sets = absurd ok
 
@@ -144,7 +157,8 @@ module _ {C : Type 0} (rules : Rules C) where
         waiting = put_one (λ q φ. is_id_in q c.waiting ≡ true → (φ.own ≡ None) × (φ.ready ≡ None)) c.flushers f _ (λ is. (refl, (sets.waiting f is).1)) (λ q _. sets.waiting q);
         own = put_one (λ q φ. (d : ℕ) → φ.own ≡ Some d → d < rules.blocks) c.flushers f _ (λ d is. absurd (let e : None ≡ Some d = is in cc)) (λ q _. sets.own q);
         ready = put_one (λ q φ. (d : ℕ) → φ.ready ≡ Some d → d < rules.blocks) c.flushers f _ (sets.ready f) (λ q _. sets.ready q);
-        filling = λ d. let le : c.filling d ≤ c.steps = sets.filling d in omega arith })
+        filling = λ d. let le : c.filling d ≤ c.steps = sets.filling d in omega arith;
+      })
   wrote_sets c new f good batch reply owned ok sets = absurd ok
 
   cleaned_sets : (c new : State C) (b : ℕ) (reply : Reply C) → b < rules.blocks → c.place b ≡ Reclaims → Cleaned rules c b reply new → AreSets rules c → AreSets rules (record new { steps = c.steps + 1 })
@@ -162,15 +176,20 @@ module _ {C : Type 0} (rules : Rules C) where
               own = put_one (λ q φ. (d : ℕ) → φ.own ≡ Some d → d < rules.blocks) c.flushers f _ (sets.own f) (λ q _. sets.own q);
               ready = put_one (λ q φ. (d : ℕ) → φ.ready ≡ Some d → d < rules.blocks) c.flushers f _ (λ d is. subst (λ k. k < rules.blocks) (let e : Some b ≡ Some d = is in cc) lt) (λ q _. sets.ready q);
               filling = λ d. put_at (λ n. n ≤ c.steps + 1) c.filling b (c.filling b + 1) d
-                  (λ _. let le : c.filling b ≤ c.steps = sets.filling b in omega arith) (λ _. let le : c.filling d ≤ c.steps = sets.filling d in omega arith) })
+                  (λ _. let le : c.filling b ≤ c.steps = sets.filling b in omega arith) (λ _. let le : c.filling d ≤ c.steps = sets.filling d in omega arith);
+            })
         | inr (nobody, eq) ↦ subst (λ k. AreSets rules (record k { steps = c.steps + 1 })) (sym eq)
             (record {
               clean = λ d is. elim (in_append d b c.clean is) [
                 | inl there ↦ (let was : (c.place d ≡ Clean) × (d < rules.blocks) = sets.clean d there in (put_at (λ p. p ≡ Clean) c.place b Clean d (λ _. refl) (λ _. was.0), was.1))
                 | inr e ↦ (put_at (λ p. p ≡ Clean) c.place b Clean d (λ _. refl) (λ ne. absurd (ne e)), subst (λ k. k < rules.blocks) (sym e) lt)
               ];
-              distinct = sets.distinct; waiting = sets.waiting; own = sets.own; ready = sets.ready;
-              filling = λ d. let le : c.filling d ≤ c.steps = sets.filling d in omega arith })
+              distinct = sets.distinct;
+              waiting = sets.waiting;
+              own = sets.own;
+              ready = sets.ready;
+              filling = λ d. let le : c.filling d ≤ c.steps = sets.filling d in omega arith;
+            })
       ]
   cleaned_sets c new b reply lt at ok sets = absurd ok
 
@@ -182,9 +201,12 @@ module _ {C : Type 0} (rules : Rules C) where
       subst (λ k. AreSets rules (record k { steps = c.steps + 1 })) (sym ok.1)
       (record {
         clean = λ b is. let was : (c.place b ≡ Clean) × (b < rules.blocks) = sets.clean b is in (vacated_clean (c.place b) was.0, was.1);
-        distinct = sets.distinct; waiting = λ f is. (refl, refl);
-        own = λ f d is. absurd (let e : None ≡ Some d = is in cc); ready = λ f d is. absurd (let e : None ≡ Some d = is in cc);
-        filling = λ b. go b (nat_lt b rules.blocks) })
+        distinct = sets.distinct;
+        waiting = λ f is. (refl, refl);
+        own = λ f d is. absurd (let e : None ≡ Some d = is in cc);
+        ready = λ f d is. absurd (let e : None ≡ Some d = is in cc);
+        filling = λ b. go b (nat_lt b rules.blocks);
+      })
     where
       go : (b : ℕ) (t : Bool) → (if t then plus (c.filling b) 1 else c.filling b) ≤ c.steps + 1
       go b true = let p : plus (c.filling b) 1 ≡ c.filling b + 1 = plus_one (c.filling b) (fillings_few c sets few b) in let le : c.filling b ≤ c.steps = sets.filling b in omega arith
@@ -197,8 +219,12 @@ module _ {C : Type 0} (rules : Rules C) where
       (record {
         clean = λ d is. let was : (c.place d ≡ Clean) × (d < rules.blocks) = sets.clean d is in
             (put_other c.place b Reclaims d (λ e. let z : Clean ≡ Evictable = sym was.0 ∙ ap c.place e ∙ ok.1 in cc) ∙ was.0, was.1);
-        distinct = sets.distinct; waiting = sets.waiting; own = sets.own; ready = sets.ready;
-        filling = λ d. let le : c.filling d ≤ c.steps = sets.filling d in omega arith })
+        distinct = sets.distinct;
+        waiting = sets.waiting;
+        own = sets.own;
+        ready = sets.ready;
+        filling = λ d. let le : c.filling d ≤ c.steps = sets.filling d in omega arith;
+      })
   picks_sets c new reply ok sets = absurd ok
 
   -- where the sets stay as they are

@@ -21,9 +21,9 @@ use Rattle.foyer_model.specs.Does.{Does}
 use Rattle.foyer_model.specs.Access.{came}
 use Rattle.foyer_model.proofs.Basics.{put_at, put_other}
 use Rattle.foyer_model.proofs.Invariant.{writing_in}
-use Rattle.foyer_model.proofs.Commits.{committed, committed_is}
-use Rattle.foyer_model.proofs.Flushes.{failed}
-use Rattle.foyer_model.proofs.Again.{without_stays, put_stays, unmarked_stays, forgotten_stays}
+use Rattle.foyer_model.proofs.CommitSteps.{committed, committed_is}
+use Rattle.foyer_model.proofs.FlushSteps.{failed}
+use Rattle.foyer_model.proofs.Rereads.{without_stays, put_stays, unmarked_stays, forgotten_stays}
 use Rattle.foyer_model.proofs.Sets.{AreSets, clean_is}
 
 -- such a block stays as it is, and indexed addresses name blocks that are there
@@ -78,10 +78,12 @@ module _ {C : Type 0} (rules : Rules C) where
         | inl (goes_on, own, eq) ↦ settled c new _ eq (record { stays = λ b p q. (refl, (p, q)); below = λ ok. ok })
         | inr (inl (fresh, ready, eq)) ↦ settled c new _ eq (record { stays = λ b p q. (refl, (p, q)); below = λ ok. ok })
         | inr (inr (fresh, ready, free, eq)) ↦ settled c new _ eq (record {
-            stays = λ d p q. let ne : d ≡ b → ⊥ = λ e. p (ap c.place e ∙ clean_is rules c sets b free) in
-                (put_other c.filling b (c.filling b + 1) d ne,
-                 subst (λ k. (k ≡ Clean → ⊥) × (k ≡ Reclaims → ⊥)) (sym (put_other (released (c.flushers f).own c.place) b (Writes f) d ne)) (left (c.flushers f).own c.place d p q));
-            below = λ ok. ok })
+          stays = λ d p q. let ne : d ≡ b → ⊥ = λ e. p (ap c.place e ∙ clean_is rules c sets b free) in (
+            put_other c.filling b (c.filling b + 1) d ne,
+            subst (λ k. (k ≡ Clean → ⊥) × (k ≡ Reclaims → ⊥)) (sym (put_other (released (c.flushers f).own c.place) b (Writes f) d ne)) (left (c.flushers f).own c.place d p q),
+          );
+          below = λ ok. ok;
+        })
       ]
   tells c new f batch reply sets ok = absurd ok
 
@@ -89,7 +91,7 @@ module _ {C : Type 0} (rules : Rules C) where
   wrote c new f true (Some batch) Next lt (r, first, second, rest, writing, at, eq) = settled c new _ eq (record { stays = λ b p q. (refl, (p, q)); below = λ ok. ok })
   wrote c new f true (Some batch) (Committed n) lt (r, last, writing, at, count, eq) =
       settled c new _ (eq ∙ (λ i. record (turned rules c f (record (c.flushers f) { batch = Some (record batch { writing = None }) })) { index = committed_is r.block (c.filling r.block) r.records c.index i }))
-        (record { stays = λ b p q. (refl, (p, q)); below = committed_below r.block (c.filling r.block) r.records c.index (lt r writing) })
+      (record { stays = λ b p q. (refl, (p, q)); below = committed_below r.block (c.filling r.block) r.records c.index (lt r writing) })
   wrote c new f good (Some batch) Failed lt (r, first, rest, writing, at, grown, eq) =
       settled c new _ eq (record { stays = λ b p q. (refl, left (c.flushers f).own c.place b p q); below = λ ok. ok })
   wrote c new f good batch reply lt ok = absurd ok
@@ -98,13 +100,15 @@ module _ {C : Type 0} (rules : Rules C) where
   cleaned c new b Done at ok =
       elim ok [
         | inl (f, others, waits, room, eq) ↦ settled c new _ eq (record {
-            stays = λ d p q. let ne : d ≡ b → ⊥ = λ e. q (ap c.place e ∙ at) in
-                (put_other c.filling b (c.filling b + 1) d ne, subst (λ k. (k ≡ Clean → ⊥) × (k ≡ Reclaims → ⊥)) (sym (put_other c.place b (Writes f) d ne)) (p, q));
-            below = λ ok. ok })
+          stays = λ d p q. let ne : d ≡ b → ⊥ = λ e. q (ap c.place e ∙ at) in
+              (put_other c.filling b (c.filling b + 1) d ne, subst (λ k. (k ≡ Clean → ⊥) × (k ≡ Reclaims → ⊥)) (sym (put_other c.place b (Writes f) d ne)) (p, q));
+          below = λ ok. ok;
+        })
         | inr (nobody, eq) ↦ settled c new _ eq (record {
-            stays = λ d p q. let ne : d ≡ b → ⊥ = λ e. q (ap c.place e ∙ at) in
-                (refl, subst (λ k. (k ≡ Clean → ⊥) × (k ≡ Reclaims → ⊥)) (sym (put_other c.place b Clean d ne)) (p, q));
-            below = λ ok. ok })
+          stays = λ d p q. let ne : d ≡ b → ⊥ = λ e. q (ap c.place e ∙ at) in
+              (refl, subst (λ k. (k ≡ Clean → ⊥) × (k ≡ Reclaims → ⊥)) (sym (put_other c.place b Clean d ne)) (p, q));
+          below = λ ok. ok;
+        })
       ]
   cleaned c new b reply at ok = absurd ok
 
@@ -145,6 +149,7 @@ module _ {C : Type 0} (rules : Rules C) where
       lists : (place : ℕ) (es : Option (List IndexEntry)) → Lists rules c b r place es reply new → Settles rules c new
       lists place None given = settled c new _ given.1 (record { stays = λ b p q. (refl, (p, q)); below = λ ok. ok })
       lists place (Some es) given = settled c new _ given.3 (record { stays = λ b p q. (refl, (p, q)); below = λ ok. ok })
+
       scanned : (stage : Stage) (came : Came) → Scanned rules c b r stage came reply new → Settles rules c new
       scanned (AtIndex place) Fault given = settled c new _ given.1 (record { stays = λ b p q. (refl, (p, q)); below = λ ok. ok })
       scanned (AtRecord h a rest place) Fault given = settled c new _ given.1 (record { stays = λ b p q. (refl, (p, q)); below = λ ok. ok })
@@ -170,7 +175,8 @@ module _ {C : Type 0} (rules : Rules C) where
   deletes : (c new : State C) (h : ℕ) (reply : Reply C) → Deletes rules c h reply new → Settles rules c new
   deletes c new h (Deleted s) ok = settled c new _ ok.3 (record {
     stays = λ b p q. (refl, (p, q));
-    below = λ ok k a is. ok k a (put_stays c.index h (inserted (c.index h) (Mark s)) a (marked_back (c.index h) s a) k is) })
+    below = λ ok k a is. ok k a (put_stays c.index h (inserted (c.index h) (Mark s)) a (marked_back (c.index h) s a) k is);
+  })
   deletes c new h reply ok = absurd ok
 
   waits : (c new : State C) (f i : ℕ) (reply : Reply C) → Waits rules c f i reply new → Settles rules c new
@@ -187,12 +193,16 @@ module _ {C : Type 0} (rules : Rules C) where
 
   finishes : (c new : State C) (f : ℕ) (batch : Option (Batch C)) (reply : Reply C) → Finishes rules c f batch reply new → Settles rules c new
   finishes c new f (Some batch) (Ended pieces waits) ok = settled c new _ ok.2 (record {
-    stays = λ b p q. (refl, (p, q)); below = λ ok h a is. ok h a (unmarked_stays batch.marks c.index h a is) })
+    stays = λ b p q. (refl, (p, q));
+    below = λ ok h a is. ok h a (unmarked_stays batch.marks c.index h a is);
+  })
   finishes c new f batch reply ok = absurd ok
 
   forgets : (c new : State C) (b : ℕ) (r : Option Reclaim) (reply : Reply C) → Forgets rules c b r reply new → Settles rules c new
   forgets c new b (Some r) (Cleans d) ok = settled c new _ ok.1 (record {
-    stays = λ b p q. (refl, (p, q)); below = λ ok h a is. ok h a (forgotten_stays (not_among r.requeued r.listed) c.index h a is) })
+    stays = λ b p q. (refl, (p, q));
+    below = λ ok h a is. ok h a (forgotten_stays (not_among r.requeued r.listed) c.index h a is);
+  })
   forgets c new b r reply ok = absurd ok
 
   cleans : (c new : State C) (b : ℕ) (well : Bool) (d : Destroy) (reply : Reply C) → CleansOne rules c b well d reply new → Settles rules c new

@@ -24,11 +24,11 @@ use Rattle.foyer_model.specs.Access.{Pen, came}
 use Rattle.foyer_model.specs.World.{World, Applies, after}
 use Rattle.foyer_model.proofs.Basics.{put_one}
 use Rattle.foyer_model.proofs.Invariant.{Ground, ground_of, Each, writing_in, batch_records, WritingOk, IsSound, RecordWaits}
-use Rattle.foyer_model.proofs.Commits.{noted_one, noted, noted_is, each_drop, each_join, each_front, holds_is, SourceBrings, Brings, all_bring}
-use Rattle.foyer_model.proofs.Receives.{each_weaker}
-use Rattle.foyer_model.proofs.Flushes.{failed, records_told, told}
-use Rattle.foyer_model.proofs.Again.{IsAgain}
-use Rattle.foyer_model.proofs.Goes.{brings_of}
+use Rattle.foyer_model.proofs.CommitSteps.{noted_one, noted, noted_is, each_drop, each_join, each_front, holds_is, SourceBrings, Brings, all_bring}
+use Rattle.foyer_model.proofs.Received.{each_weaker}
+use Rattle.foyer_model.proofs.FlushSteps.{failed, records_told, told}
+use Rattle.foyer_model.proofs.Rereads.{IsAgain}
+use Rattle.foyer_model.proofs.RereadsKept.{brings_of}
 
 -- what is known of puts: K of those that were queued, R of those that were there before
 abbrev pub IsKnownPut : {C : Type 0} → (ℕ → ℕ → C → Type 0) → (ℕ → ℕ → Outcome C → Type 0) → Event C → Type 0
@@ -83,7 +83,8 @@ module _ {C : Type 0} (K L : ℕ → ℕ → C → Type 0) (R : ℕ → ℕ → 
   at_more φ ok = record {
     pieces = each_weaker (SubmissionKnown K) (SubmissionKnown L) φ.queue submission_more ok.pieces;
     received = each_weaker (RecordKnown K) (RecordKnown L) φ.buffer (λ r. source_more r r.source) ok.received;
-    written = each_weaker (RecordKnown K) (RecordKnown L) (batch_records φ.batch) (λ r. source_more r r.source) ok.written }
+    written = each_weaker (RecordKnown K) (RecordKnown L) (batch_records φ.batch) (λ r. source_more r r.source) ok.written;
+  }
 
   pub traced_more : (w : World C) → IsTraced K R w → IsTraced L R w
   traced_more w ok = record { at = λ f. at_more (w.core.flushers f) (ok.at f); puts = each_weaker (IsKnownPut K R) (IsKnownPut L R) w.history put_more ok.puts }
@@ -110,7 +111,10 @@ module _ {C : Type 0} (rules : Rules C) (K : ℕ → ℕ → C → Type 0) (R : 
 
   pub pushed_traced : (w : World C) (f : ℕ) (sub : Submission C) → SubmissionKnown K sub → IsTraced K R w → IsTracedIn K R (queued rules w.core f sub).flushers w.history
   pushed_traced w f sub known ok = one_traced w f _ (λ t. record {
-    pieces = each_join (SubmissionKnown K) (w.core.flushers f).queue (sub ∷ []) t.pieces (known, tt); received = t.received; written = t.written }) ok
+    pieces = each_join (SubmissionKnown K) (w.core.flushers f).queue (sub ∷ []) t.pieces (known, tt);
+    received = t.received;
+    written = t.written;
+  }) ok
 
   -- the commit of a block, record by record
   one_noted : (r : Record C) (src : Source C) (apart : ℕ → ℕ → Type 0) (m : ℕ → Option Slot) (H : List (Event C)) (g : Ground) (pens : ℕ → Pen) → SourceKnown K r src → SourceBrings rules g pens apart m H r src
@@ -120,9 +124,11 @@ module _ {C : Type 0} (rules : Rules C) (K : ℕ → ℕ → C → Type 0) (R : 
     where
       go : (t : Bool) → holds over (m r.hash) ≡ t → Each (IsKnownPut K R) (if t then Put r.hash r.sequence (outcome_in (newest r.hash H)) ∷ H else H)
       go true is =
-          let newer : newest r.hash H ≡ Some (Put r.hash r.sequence (rules.pair_of r.bytes r.hash r.sequence)) = brings.2 (holds_is over (m r.hash) is) in
-          (newest_known (IsKnownPut K R) r.hash H (Put r.hash r.sequence (outcome_in (newest r.hash H))) all
-            (newer ∙ ap (λ e. Some (Put r.hash r.sequence (outcome_in e))) (sym newer)), all)
+          let newer : newest r.hash H ≡ Some (Put r.hash r.sequence (rules.pair_of r.bytes r.hash r.sequence)) = brings.2 (holds_is over (m r.hash) is) in (
+            newest_known (IsKnownPut K R) r.hash H (Put r.hash r.sequence (outcome_in (newest r.hash H))) all
+                (newer ∙ ap (λ e. Some (Put r.hash r.sequence (outcome_in e))) (sym newer)),
+            all,
+          )
       go false is = all
 
   all_noted : (g : Ground) (pens : ℕ → Pen) (b n : ℕ) (ps : List (ℕ × Record C)) (m : ℕ → Option Slot) (H : List (Event C)) → Each (RecordKnown K) (map (λ p. p.1) ps) → Each (Brings rules g pens b n m H) (map (λ p. p.1) ps)
@@ -130,7 +136,7 @@ module _ {C : Type 0} (rules : Rules C) (K : ℕ → ℕ → C → Type 0) (R : 
   all_noted g pens b n [] m H known brings all = all
   all_noted g pens b n (p ∷ ps) m H known brings all =
       all_noted g pens b n ps (committed_one b n p m) (noted_one p.1 (p.1).source (m (p.1).hash) H) known.1 (all_bring rules g pens b n p m H (map (λ q. q.1) ps) brings.1)
-        (one_noted p.1 (p.1).source (λ d k. d ≡ b → k ≡ n → ⊥) m H g pens known.0 brings.0 all)
+      (one_noted p.1 (p.1).source (λ d k. d ≡ b → k ≡ n → ⊥) m H g pens known.0 brings.0 all)
 
   pub traced_as : (H : List (Event C)) (new expr : State C) → new ≡ expr → IsTracedIn K R expr.flushers H → IsTracedIn K R new.flushers H
   traced_as H new expr eq ok = subst (λ c. IsTracedIn K R c.flushers H) (sym eq) ok
@@ -138,8 +144,8 @@ module _ {C : Type 0} (rules : Rules C) (K : ℕ → ℕ → C → Type 0) (R : 
   pub deletes_traced : (w : World C) (h : ℕ) (reply : Reply C) (new : State C) → Deletes rules w.core h reply new → IsTraced K R w → IsTraced K R (after rules w (Applies (Delete h) reply new))
   deletes_traced w h (Deleted s) new ok traced =
       traced_as (Deletion h s ∷ w.history) new _ ok.3
-        (let t : IsTracedIn K R (queued rules w.core (flusher_of rules h) (Remove h s (spoiled_by rules s (w.core.index h)))).flushers w.history = pushed_traced w (flusher_of rules h) (Remove h s (spoiled_by rules s (w.core.index h))) tt traced in
-         record { at = t.at; puts = (tt, t.puts) })
+      (let t : IsTracedIn K R (queued rules w.core (flusher_of rules h) (Remove h s (spoiled_by rules s (w.core.index h)))).flushers w.history = pushed_traced w (flusher_of rules h) (Remove h s (spoiled_by rules s (w.core.index h))) tt traced in
+      record { at = t.at; puts = (tt, t.puts) })
   deletes_traced w h reply new ok traced = absurd ok
 
   pub takes_traced : (w : World C) (f : ℕ) (queue : List (Submission C)) (reply : Reply C) (new : State C) → (w.core.flushers f).queue ≡ queue → Takes rules w.core f queue reply new → IsTraced K R w
@@ -165,7 +171,10 @@ module _ {C : Type 0} (rules : Rules C) (K : ℕ → ℕ → C → Type 0) (R : 
 
   pub begins_traced : (Splits : Splitting C) → KeepsRecords rules Splits → (w : World C) (f : ℕ) (reply : Reply C) (new : State C) → Begins rules Splits w.core f reply new → IsTraced K R w → IsTracedIn K R new.flushers w.history
   begins_traced Splits places w f (Began blocks marks) new ok traced = traced_as w.history new _ ok.2 (one_traced w f _ (λ t. record {
-    pieces = t.pieces; received = tt; written = subst (Each (RecordKnown K)) (sym (places (w.core.flushers f).context (w.core.flushers f).buffer blocks ok.1).all) t.received }) traced)
+    pieces = t.pieces;
+    received = tt;
+    written = subst (Each (RecordKnown K)) (sym (places (w.core.flushers f).context (w.core.flushers f).buffer blocks ok.1).all) t.received;
+  }) traced)
   begins_traced Splits places w f reply new ok traced = absurd ok
 
   pub tells_traced : (w : World C) (f : ℕ) (batch : Option (Batch C)) (reply : Reply C) (new : State C) → (w.core.flushers f).batch ≡ batch → WantsBlock batch → Tells rules w.core f batch reply new → IsTraced K R w
@@ -180,37 +189,48 @@ module _ {C : Type 0} (rules : Rules C) (K : ℕ → ℕ → C → Type 0) (R : 
     where
       whole : (w.core.flushers f).batch ≡ Some (record batch { blocks = s ∷ rest; writing = None })
       whole = is ∙ (λ j. Some (record batch { blocks = blocks j; writing = wants.1 j }))
+
       told : IsTracedIn K R (block_told rules w.core f b batch s rest).flushers w.history
       told = one_traced w f _ (λ t. record {
-        pieces = t.pieces; received = t.received;
+        pieces = t.pieces;
+        received = t.received;
         written = records_told rules (Each (RecordKnown K)) b (writes_in rules s.parts) (records_in s.parts) (records_of rest) (each_drop (RecordKnown K))
-            (subst (λ k. Each (RecordKnown K) (batch_records k)) whole t.written) }) traced
+            (subst (λ k. Each (RecordKnown K) (batch_records k)) whole t.written);
+      }) traced
   tells_traced w f batch reply new is wants ok traced = absurd ok
 
   pub wrote_traced : (w : World C) (f : ℕ) (good : Bool) (batch : Option (Batch C)) (reply : Reply C) (new : State C) → (w.core.flushers f).batch ≡ batch → Wrote rules w.core f good batch reply new
       → IsSound rules w → IsAgain rules w → IsTraced K R w → IsTraced K R (after rules w (Applies (FlushWrote f good) reply new))
   wrote_traced w f true (Some batch) Next new is (r, first, second, rest, writing, left, eq) sound again traced =
       traced_as w.history new _ eq (one_traced w f _ (λ t. record {
-        pieces = t.pieces; received = t.received;
-        written = subst (λ k. Each (RecordKnown K) (batch_records k)) (is ∙ (λ i. Some (record batch { writing = writing i }))) t.written }) traced)
+        pieces = t.pieces;
+        received = t.received;
+        written = subst (λ k. Each (RecordKnown K) (batch_records k)) (is ∙ (λ i. Some (record batch { writing = writing i }))) t.written;
+      }) traced)
   wrote_traced w f true (Some batch) (Committed n) new is (r, last, writing, left, count, eq) sound again traced =
       subst (λ H. IsTracedIn K R new.flushers H) (sym (ap (λ k. with_puts (puts_of w.core k) w.history) whole ∙ noted_is r.block (w.core.filling r.block) r.records w.core.index w.history))
-        (traced_as (noted r.block (w.core.filling r.block) r.records w.core.index w.history) new _ eq
-          (let t : IsTracedIn K R (put w.core.flushers f (record (w.core.flushers f) { batch = Some (record batch { writing = None }) })) w.history = one_traced w f _ (λ t. record {
-             pieces = t.pieces; received = t.received; written = each_drop (RecordKnown K) (map (λ p. p.1) r.records) (records_of batch.blocks) (parts t) }) traced in
-           record {
-             at = t.at;
-             puts = all_noted (ground_of w) w.pens r.block (w.core.filling r.block) r.records w.core.index w.history
-                 (each_front (RecordKnown K) (map (λ p. p.1) r.records) (records_of batch.blocks) (parts (traced.at f)))
-                 (brings_of rules w f r.block (map (λ p. p.1) r.records) ((sound.flushers f).owned r.block own)
-                   (each_front (RecordWaits rules w.core.index w.history w.core.place w.core.filling) (map (λ p. p.1) r.records) (records_of batch.blocks)
-                   (subst (λ k. Each (RecordWaits rules w.core.index w.history w.core.place w.core.filling) (batch_records k)) whole (again.waits f).batch)))
-                 traced.puts }))
+      (traced_as (noted r.block (w.core.filling r.block) r.records w.core.index w.history) new _ eq
+      (let t : IsTracedIn K R (put w.core.flushers f (record (w.core.flushers f) { batch = Some (record batch { writing = None }) })) w.history = one_traced w f _ (λ t. record {
+        pieces = t.pieces;
+        received = t.received;
+        written = each_drop (RecordKnown K) (map (λ p. p.1) r.records) (records_of batch.blocks) (parts t);
+      }) traced in
+      record {
+        at = t.at;
+        puts = all_noted (ground_of w) w.pens r.block (w.core.filling r.block) r.records w.core.index w.history
+            (each_front (RecordKnown K) (map (λ p. p.1) r.records) (records_of batch.blocks) (parts (traced.at f)))
+            (brings_of rules w f r.block (map (λ p. p.1) r.records) ((sound.flushers f).owned r.block own)
+            (each_front (RecordWaits rules w.core.index w.history w.core.place w.core.filling) (map (λ p. p.1) r.records) (records_of batch.blocks)
+            (subst (λ k. Each (RecordWaits rules w.core.index w.history w.core.place w.core.filling) (batch_records k)) whole (again.waits f).batch)))
+            traced.puts;
+      }))
     where
       whole : (w.core.flushers f).batch ≡ Some (record batch { writing = Some r })
       whole = is ∙ (λ i. Some (record batch { writing = writing i }))
+
       parts : IsTracedAt K (w.core.flushers f) → Each (RecordKnown K) (map (λ p. p.1) r.records ++ records_of batch.blocks)
       parts t = subst (λ k. Each (RecordKnown K) (batch_records k)) whole t.written
+
       own : (w.core.flushers f).own ≡ Some r.block
       own = (subst (λ k. WritingOk rules (ground_of w) (w.core.flushers f).own (writing_in k) (w.pens f)) whole (sound.flushers f).writing).0
   wrote_traced w f good (Some batch) Failed new is (r, first, rest, writing, left, grown, eq) sound again traced =
@@ -219,7 +239,10 @@ module _ {C : Type 0} (rules : Rules C) (K : ℕ → ℕ → C → Type 0) (R : 
 
   pub logs_traced : (w : World C) (f : ℕ) (well : Bool) (batch : Option (Batch C)) (reply : Reply C) (new : State C) → (w.core.flushers f).batch ≡ batch → Logs rules w.core f well batch reply new → IsTraced K R w → IsTracedIn K R new.flushers w.history
   logs_traced w f well (Some batch) Done new is ok traced = traced_as w.history new _ ok (one_traced w f _ (λ t. record {
-    pieces = t.pieces; received = t.received; written = subst (λ k. Each (RecordKnown K) (batch_records k)) is t.written }) traced)
+    pieces = t.pieces;
+    received = t.received;
+    written = subst (λ k. Each (RecordKnown K) (batch_records k)) is t.written;
+  }) traced)
   logs_traced w f well batch reply new is ok traced = absurd ok
 
   pub finishes_traced : (w : World C) (f : ℕ) (batch : Option (Batch C)) (reply : Reply C) (new : State C) → Finishes rules w.core f batch reply new → IsTraced K R w → IsTracedIn K R new.flushers w.history
@@ -233,6 +256,7 @@ module _ {C : Type 0} (rules : Rules C) (K : ℕ → ℕ → C → Type 0) (R : 
       lists : (place : ℕ) (es : Option (List IndexEntry)) → Lists rules w.core b r place es reply new → IsTracedIn K R new.flushers w.history
       lists place None given = traced_as w.history new _ given.1 traced
       lists place (Some es) given = traced_as w.history new _ given.3 traced
+
       scanned : (stage : Stage) (came : Came) → Scanned rules w.core b r stage came reply new → IsTracedIn K R new.flushers w.history
       scanned (AtIndex place) Fault given = traced_as w.history new _ given.1 traced
       scanned (AtRecord h a rest place) Fault given = traced_as w.history new _ given.1 traced
@@ -284,7 +308,9 @@ module _ {C : Type 0} (rules : Rules C) (K : ℕ → ℕ → C → Type 0) (R : 
 
   pub clears_traced : (w : World C) (reply : Reply C) (new : State C) → Clears rules w.core reply new → IsTraced K R w → IsTraced K R (after rules w (Applies DestroyClear reply new))
   clears_traced w (Cleared bs) new ok traced = traced_as (Destruction ∷ w.history) new _ ok.1 (record {
-    at = λ f. record { pieces = (traced.at f).pieces; received = (traced.at f).received; written = (traced.at f).written }; puts = (tt, traced.puts) })
+    at = λ f. record { pieces = (traced.at f).pieces; received = (traced.at f).received; written = (traced.at f).written };
+    puts = (tt, traced.puts);
+  })
   clears_traced w reply new ok traced = absurd ok
 
   pub cleans_traced : (w : World C) (b : ℕ) (well : Bool) (d : Destroy) (reply : Reply C) (new : State C) → CleansOne rules w.core b well d reply new → IsTraced K R w → IsTracedIn K R new.flushers w.history

@@ -38,7 +38,7 @@ small_trip : (h s c : ℕ) (bytes : List ℕ) → IsSmall c → small_encode h s
 small_trip h s zero bytes small_c is = absurd (let e : None ≡ Some bytes = is in cc)
 small_trip h s (suc c) bytes small_c is =
     subst (λ bs. small_pair bs h s ≡ Holds (suc c)) (let e : Some (h ∷ s ∷ suc c ∷ []) ≡ Some bytes = is in let f : h ∷ s ∷ suc c ∷ [] ≡ bytes = cc in f)
-      (go (h == h) refl (s == s) refl (suc c == 100) refl (suc c == 101) refl)
+    (go (h == h) refl (s == s) refl (suc c == 100) refl (suc c == 101) refl)
   where
     go : (p : Bool) → (h == h) ≡ p → (q : Bool) → (s == s) ≡ q → (a : Bool) → (suc c == 100) ≡ a → (b : Bool) → (suc c == 101) ≡ b
         → (if p && q then (if a then NotSupported else (if b then Undecodable else Holds (suc c))) else NoRecord) ≡ Holds (suc c)
@@ -65,7 +65,8 @@ one_placed at h s a b c source low stand = record {
   shrinks = λ o may. elim may [ inl past ↦ inl (let p : 0 + (at + 3) ≤ o = past in omega arith) | inr blob ↦ inr blob ];
   stand = stand;
   outside = ((λ o from to may. elim may [ inl past ↦ (let p : 0 + (at + 3) ≤ o = past in absurd (omega arith)) | inr blob ↦ (let p : o < 0 + 4096 = blob.1 in absurd (omega arith)) ]), tt);
-  behind = (low, tt) }
+  behind = (low, tt);
+}
 
 split_none : (f : Filling) (rs : List (Record ℕ)) (ss : List (Spread ℕ)) → rs ≡ [] → ss ≡ no_spread f ∷ [] → IsSplit small f rs ss
 split_none f rs ss none is = subst (λ k. IsSplit small f k ss) (sym none) (subst (λ k. IsSplit small f [] k) (sym is) (record { some = λ e. cc; all = refl; placed = (no_placed f, tt) }))
@@ -74,7 +75,7 @@ split_one : (at : ℕ) (f : Filling) (rs : List (Record ℕ)) (ss : List (Spread
     → ((h s a b c : ℕ) (source : Source ℕ) → IsPlaced small (filled_to at) (one_spread at (three h s a b c source))) → IsSplit small f rs ss
 split_one at f rs ss (h, s, a, b, c, source, from, records, is) placed =
     subst (λ k. IsSplit small k rs ss) (sym from) (subst (λ k. IsSplit small (filled_to at) k ss) (sym records)
-      (subst (λ k. IsSplit small (filled_to at) (three h s a b c source ∷ []) k) (sym is) (record { some = λ e. cc; all = refl; placed = (placed h s a b c source, tt) })))
+    (subst (λ k. IsSplit small (filled_to at) (three h s a b c source ∷ []) k) (sym is) (record { some = λ e. cc; all = refl; placed = (placed h s a b c source, tt) })))
 
 pub small_demands : Demands small SmallSplits IsSmall
 small_demands = record {
@@ -82,12 +83,19 @@ small_demands = record {
   places = λ f rs ss splits. elim splits [
     | inl none ↦ split_none f rs ss none.0 none.1
     | inr (inl first) ↦ split_one 4096 f rs ss first (λ h s a b c source. one_placed 4096 h s a b c source (omega arith) (λ g. (refl, tt)))
-    | inr (inr behind) ↦ split_one 4099 f rs ss behind (λ h s a b c source. one_placed 4099 h s a b c source (omega arith) (λ g. (refl, tt))) ] }
+    | inr (inr behind) ↦ split_one 4099 f rs ss behind (λ h s a b c source. one_placed 4099 h s a b c source (omega arith) (λ g. (refl, tt)))
+  ];
+}
 
 pub reaches_lem : ReachesEveryReply
 reaches_lem = record {
   demands = small_demands;
-  empty = w0; run = run; is_run = record { opened = opened; happened = happened };
-  recovered = wr0; is_recovered = λ e. cc;
-  second = run_recovered; is_second = record { opened = opened_recovered; happened = happened_recovered };
-  all = refl }
+  empty = w0;
+  run = run;
+  is_run = record { opened = opened; happened = happened };
+  recovered = wr0;
+  is_recovered = λ e. cc;
+  second = run_recovered;
+  is_second = record { opened = opened_recovered; happened = happened_recovered };
+  all = refl;
+}

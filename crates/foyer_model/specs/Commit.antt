@@ -28,6 +28,7 @@ pub record Commit (C : Type 0) : Type 0 where
   pub index : ℕ → Option Slot
   pub puts : List (Record C)
 
+-- a commit with one record in front
 abbrev pub with_put : {C : Type 0} → Bool → Record C → Commit C → Commit C
 with_put b r c = record { index = c.index; puts = if b then r ∷ c.puts else c.puts }
 

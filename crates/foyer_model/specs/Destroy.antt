@@ -45,9 +45,12 @@ module _ {C : Type 0} (rules : Rules C) (old : State C) where
   Clears (Cleared bs) new =
       (bs ≡ ids rules.blocks)
       × (new ≡ record old {
-          index = λ h. None; filling = refilled rules.blocks old.filling; place = λ b. vacated (old.place b);
-          flushers = λ f. record (old.flushers f) { own = None; ready = None; context = empty_filling rules };
-          destroy = Cleaning (ids rules.blocks) false })
+        index = λ h. None;
+        filling = refilled rules.blocks old.filling;
+        place = λ b. vacated (old.place b);
+        flushers = λ f. record (old.flushers f) { own = None; ready = None; context = empty_filling rules };
+        destroy = Cleaning (ids rules.blocks) false;
+      })
   Clears reply new = ⊥
 
   -- once for each block, which stays in its set

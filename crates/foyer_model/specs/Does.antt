@@ -11,6 +11,7 @@ use Rattle.foyer_model.specs.Reclaim.{Picks, Rereads, Forgets, Cleaned, Idles}
 use Rattle.foyer_model.specs.Destroy.{BeginsDestroy, Clears, CleansOne}
 
 module _ {C : Type 0} (rules : Rules C) (Splits : Splitting C) (old : State C) where
+  -- what a step in turn does, by step
   abbrev pub Does : Step C → Reply C → State C → Type 0
   Does (Enqueue h n age c) reply new = Enqueues rules old h n age c reply new
   Does (Delete h) reply new = Deletes rules old h reply new

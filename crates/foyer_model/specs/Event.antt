@@ -7,11 +7,13 @@ use Rattle.foyer_model.specs.Reply.{Reply, Deleted, Committed, Cleared}
 use Rattle.foyer_model.specs.Commit.{Commit}
 use Rattle.foyer_model.specs.Flush.{commit_in}
 
+-- a put of what a record is, a delete, or a destroy
 pub data Event (C : Type 0) : Type 0 where
   Put : (hash sequence : ℕ) → Outcome C → Event C
   Deletion : (hash sequence : ℕ) → Event C
   Destruction : Event C
 
+-- the sequence of the newest event, or 0
 abbrev pub sequence_in : {C : Type 0} → Option (Event C) → ℕ
 sequence_in None = 0
 sequence_in (Some (Put h s x)) = s
@@ -47,6 +49,7 @@ abbrev pub puts_in : {C : Type 0} → State C → Option (Writing C) → List (R
 puts_in old None = []
 puts_in old (Some w) = (commit_in old w).puts
 
+-- the same of a flusher's batch
 abbrev pub puts_of : {C : Type 0} → State C → Option (Batch C) → List (Record C)
 puts_of old None = []
 puts_of old (Some batch) = puts_in old batch.writing

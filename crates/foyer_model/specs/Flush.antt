@@ -12,6 +12,7 @@ use Rattle.foyer_model.specs.Commit.{Commit, commit_of}
 use Rattle.foyer_model.specs.Reply.{Reply, Began, Written, NoBlock, Next, Committed, Failed, Ended, Done}
 use Rattle.foyer_model.specs.Receive.{pieces_of, flusher, turned}
 
+-- whether there is one
 abbrev pub is_some : {A : Type 0} → Option A → Bool
 is_some None = false
 is_some (Some x) = true
@@ -42,6 +43,7 @@ abbrev pub usable_count : (ℕ → ℕ) → List ℕ → ℕ
 usable_count filling [] = 0
 usable_count filling (b ∷ bs) = (if nat_lt (filling b) last_number then 1 else 0) + usable_count filling bs
 
+-- whether a destroy cleans
 abbrev pub is_cleaning : Destroy → Bool
 is_cleaning NoDestroy = false
 is_cleaning Begun = false
@@ -62,10 +64,22 @@ module _ {C : Type 0} (rules : Rules C) (Splits : Splitting C) (old : State C) w
   Begins f (Began blocks marks) new =
       (marks ≡ (old.flushers f).marks) × Splits (old.flushers f).context (old.flushers f).buffer blocks
       × (new ≡ turned rules old f (record (old.flushers f) {
-          buffer = []; marks = []; spoils = []; waits = []; context = last_end (old.flushers f).context blocks;
-          batch = Some (record {
-            blocks = blocks; goes_on = is_some (old.flushers f).own; writing = None; marks = (old.flushers f).marks; spoils = (old.flushers f).spoils;
-            pieces = pieces_of (old.flushers f).buffer; waits = (old.flushers f).waits; logged = None }) }))
+        buffer = [];
+        marks = [];
+        spoils = [];
+        waits = [];
+        context = last_end (old.flushers f).context blocks;
+        batch = Some (record {
+          blocks = blocks;
+          goes_on = is_some (old.flushers f).own;
+          writing = None;
+          marks = (old.flushers f).marks;
+          spoils = (old.flushers f).spoils;
+          pieces = pieces_of (old.flushers f).buffer;
+          waits = (old.flushers f).waits;
+          logged = None;
+        });
+      }))
   Begins f reply new = ⊥
 
 module _ {C : Type 0} (rules : Rules C) (old : State C) where
@@ -75,8 +89,11 @@ module _ {C : Type 0} (rules : Rules C) (old : State C) where
       record old {
         waiting = without_id f old.waiting;
         flushers = put old.flushers f (record (old.flushers f) {
-          own = Some b; ready = None;
-          batch = Some (record batch { blocks = rest; goes_on = false; writing = writing_of b (writes_in rules s.parts) (records_in s.parts) }) }) }
+          own = Some b;
+          ready = None;
+          batch = Some (record batch { blocks = rest; goes_on = false; writing = writing_of b (writes_in rules s.parts) (records_in s.parts) });
+        });
+      }
 
   -- f leaves its block and waits for another
   abbrev pub waits_for_block : ℕ → State C
@@ -94,12 +111,13 @@ module _ {C : Type 0} (rules : Rules C) (old : State C) where
   Tells f (Some batch) (Written b writes) new =
       (s : Spread C) × (rest : List (Spread C)) × (batch.blocks ≡ s ∷ rest) × (writes ≡ writes_in rules s.parts)
       × (((batch.goes_on ≡ true) × ((old.flushers f).own ≡ Some b) × (new ≡ block_told f b batch s rest))
-         ⊎ ((batch.goes_on ≡ false) × ((old.flushers f).ready ≡ Some b) × (new ≡ block_told f b batch s rest))
-         ⊎ ((batch.goes_on ≡ false) × ((old.flushers f).ready ≡ None) × (clean_block ≡ Some b)
-            × (new ≡ record (block_told f b batch s rest) {
-                filling = put old.filling b (old.filling b + 1);
-                clean = without_id b old.clean;
-                place = put (released (old.flushers f).own old.place) b (Writes f) })))
+      ⊎ ((batch.goes_on ≡ false) × ((old.flushers f).ready ≡ Some b) × (new ≡ block_told f b batch s rest))
+      ⊎ ((batch.goes_on ≡ false) × ((old.flushers f).ready ≡ None) × (clean_block ≡ Some b)
+      × (new ≡ record (block_told f b batch s rest) {
+        filling = put old.filling b (old.filling b + 1);
+        clean = without_id b old.clean;
+        place = put (released (old.flushers f).own old.place) b (Writes f);
+      })))
   Tells f batch reply new = ⊥
 
   -- one more write is reported
@@ -116,7 +134,8 @@ module _ {C : Type 0} (rules : Rules C) (old : State C) where
   abbrev pub batch_failed : ℕ → Batch C → State C
   batch_failed f batch =
       record (turned rules old f (record (old.flushers f) { own = None; context = empty_filling rules; batch = Some (record batch { blocks = []; goes_on = false; writing = None }) })) {
-        place = released (old.flushers f).own old.place }
+        place = released (old.flushers f).own old.place;
+      }
 
   -- A write that went well may still fail by a refused growth of the index, at the end of its block.
   abbrev pub Wrote : ℕ → Bool → Option (Batch C) → Reply C → State C → Type 0
@@ -141,5 +160,7 @@ module _ {C : Type 0} (rules : Rules C) (old : State C) where
   Finishes f (Some batch) (Ended pieces waits) new =
       (pieces ≡ batch.pieces) × (waits ≡ batch.waits)
       × (new ≡ record (turned rules old f (record (old.flushers f) { batch = None })) {
-          index = unmarked batch.marks old.index; stats = spoiled_unless batch.logged batch.spoils old.stats })
+        index = unmarked batch.marks old.index;
+        stats = spoiled_unless batch.logged batch.spoils old.stats;
+      })
   Finishes f batch reply new = ⊥

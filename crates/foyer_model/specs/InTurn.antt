@@ -40,6 +40,7 @@ module _ {C : Type 0} (rules : Rules C) where
   IsScan AllListed came = ⊥
   IsScan ToClean came = ⊥
 
+  -- a reclaim runs and waits for this read
   abbrev pub ReadsFor : Option Reclaim → Came → Type 0
   ReadsFor None came = ⊥
   ReadsFor (Some r) came = IsScan r.stage came

@@ -20,6 +20,7 @@ holds a None = false
 holds a (Some (Mark s)) = false
 holds a (Some (Indexed b)) = is_same a b
 
+-- the sequence of an address or a mark
 abbrev pub sequence_at : Slot → ℕ
 sequence_at (Indexed a) = a.sequence
 sequence_at (Mark s) = s

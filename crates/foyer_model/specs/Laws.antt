@@ -76,6 +76,7 @@ WasQueued h s c [] = ⊥
 WasQueued h s c (Applies (Enqueue q n age d) (Queued u) new ∷ events) = ((q ≡ h) × (u ≡ s) × (d ≡ c)) ⊎ WasQueued h s c events
 WasQueued h s c (event ∷ events) = WasQueued h s c events
 
+-- a member of a list
 abbrev pub IsAmong : {A : Type 0} → A → List A → Type 0
 IsAmong x [] = ⊥
 IsAmong x (y ∷ ys) = (x ≡ y) ⊎ IsAmong x ys

@@ -41,10 +41,12 @@ pub record IsFound {C : Type 0} (rules : Rules C) (core : State C) (a : Address)
   pub behind : rules.index_size ≤ a.offset
   pub within : a.offset + rules.page_up a.len ≤ rules.block_size
 
+-- each address was found, and no two have one hash
 abbrev pub AllFound : {C : Type 0} → Rules C → State C → List (ℕ × Address) → Type 0
 AllFound rules core [] = Unit {0}
 AllFound rules core (p ∷ ps) = IsFound rules core p.1 × IsAlone p.0 ps × AllFound rules core ps
 
+-- whether it is the clean set
 abbrev pub is_clean : Place → Bool
 is_clean Clean = true
 is_clean (Writes f) = false
@@ -59,7 +61,16 @@ clean_among place (b ∷ bs) = if is_clean (place b) then b ∷ clean_among plac
 -- nothing was queued at a flusher
 abbrev pub idle : {C : Type 0} → Rules C → Flusher C
 idle rules = record {
-  queue = []; buffer = []; marks = []; spoils = []; waits = []; batch = None; own = None; ready = None; context = empty_filling rules }
+  queue = [];
+  buffer = [];
+  marks = [];
+  spoils = [];
+  waits = [];
+  batch = None;
+  own = None;
+  ready = None;
+  context = empty_filling rules;
+}
 
 -- a block into which no more is written
 abbrev pub full_filling : {C : Type 0} → Rules C → Filling

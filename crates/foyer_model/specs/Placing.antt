@@ -81,6 +81,7 @@ KeepsRecords {C} rules Splits =
 abbrev pub FitsBlock : {C : Type 0} → Rules C → List ℕ → Type 0
 FitsBlock rules bytes = rules.index_size + rules.page_up (length bytes) ≤ rules.block_size
 
+-- each record does
 abbrev pub AllFitBlock : {C : Type 0} → Rules C → List (Record C) → Type 0
 AllFitBlock rules [] = Unit {0}
 AllFitBlock rules (r ∷ rs) = FitsBlock rules r.bytes × AllFitBlock rules rs

@@ -50,9 +50,12 @@ module _ {C : Type 0} (rules : Rules C) (old : State C) where
   Deletes h (Deleted s) new =
       (s ≡ old.next) × (old.closed ≡ false) × (old.next < last_number)
       × (new ≡ record (queued (flusher_of rules h) (Remove h s (spoiled_by rules s (old.index h)))) {
-          next = s + 1; index = put old.index h (inserted (old.index h) (Mark s)) })
+        next = s + 1;
+        index = put old.index h (inserted (old.index h) (Mark s));
+      })
   Deletes h reply new = ⊥
 
+  -- a wait is queued
   abbrev pub Waits : ℕ → ℕ → Reply C → State C → Type 0
   Waits f i Done new = new ≡ queued f (Await i)
   Waits f i reply new = ⊥
@@ -61,5 +64,6 @@ module _ {C : Type 0} (rules : Rules C) (old : State C) where
   abbrev pub Asks : ℕ → Reply C → State C → Type 0
   Asks h reply new = (reply ≡ Answer (is_address (old.index h))) × (new ≡ old)
 
+  -- a closed core takes no more puts, deletes and destroys
   abbrev pub Closes : Reply C → State C → Type 0
   Closes reply new = (reply ≡ Done) × (new ≡ record old { closed = true })

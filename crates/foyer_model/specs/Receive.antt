@@ -18,6 +18,7 @@ abbrev pub piece_of : {C : Type 0} → Source C → List C → List C
 piece_of (Given c) cs = c ∷ cs
 piece_of (Reread a) cs = cs
 
+-- the contents of a buffer's pieces, in order
 abbrev pub pieces_of : {C : Type 0} → List (Record C) → List C
 pieces_of [] = []
 pieces_of (r ∷ rs) = piece_of r.source (pieces_of rs)
@@ -27,6 +28,7 @@ abbrev pub HasReceived : {C : Type 0} → Flusher C → Type 0
 HasReceived φ = (φ.buffer ≢ []) ⊎ (φ.marks ≢ []) ⊎ (φ.waits ≢ [])
 
 module _ {C : Type 0} (rules : Rules C) (old : State C) where
+  -- the flusher of this number
   abbrev pub flusher : ℕ → Flusher C
   flusher f = old.flushers f
 
@@ -58,9 +60,10 @@ module _ {C : Type 0} (rules : Rules C) (old : State C) where
       new ≡ turned f (record (flusher f) { queue = rest; waits = (flusher f).waits ++ i ∷ [] })
   Takes f (Reinsert h bytes a ∷ rest) (Received None) new =
       ((holds a (old.index h) ≡ true) × Fits (flusher f).buffer bytes
-       × (new ≡ pushed_to f rest (record { hash = h; sequence = a.sequence; bytes = bytes; source = Reread a })))
+      × (new ≡ pushed_to f rest (record { hash = h; sequence = a.sequence; bytes = bytes; source = Reread a })))
       ⊎ (((holds a (old.index h) ≡ true) → Fits (flusher f).buffer bytes → ⊥) × (new ≡ turned f (record (flusher f) { queue = rest })))
   Takes f queue reply new = ⊥
 
+  -- the front of a flusher's queue
   abbrev pub Receives : ℕ → Reply C → State C → Type 0
   Receives f reply new = Takes f (flusher f).queue reply new

@@ -15,6 +15,7 @@ abbrev pub running : ℕ → (ℕ → Option Reclaim) → ℕ
 running zero reclaims = 0
 running (suc n) reclaims = (if is_some (reclaims n) then 1 else 0) + running n reclaims
 
+-- whether it is the evictable set
 abbrev pub is_evictable : Place → Bool
 is_evictable Clean = false
 is_evictable (Writes f) = false
@@ -44,6 +45,7 @@ abbrev pub marked : List ℕ → (ℕ → Place) → (ℕ → Stats) → ℕ →
 marked [] place stats = stats
 marked (b ∷ bs) place stats = marked bs place (if is_evictable (place b) then put stats b (record (stats b) { probation = true }) else stats)
 
+-- the very address is listed under its hash
 abbrev pub is_listed : ℕ × Address → List (ℕ × Address) → Bool
 is_listed p [] = false
 is_listed p (q ∷ qs) = (p.0 == q.0 && is_same p.1 q.1) || is_listed p qs
@@ -85,9 +87,10 @@ module _ {C : Type 0} (rules : Rules C) (old : State C) where
       (b < rules.blocks) × (old.place b ≡ Evictable) × (are_asked rules.pickers rules.blocks old.place answers ≡ true)
       × ((c : ℕ) → first_pick rules.blocks old.place answers ≡ Some c → b ≡ c)
       × (new ≡ record old {
-          place = put old.place b Reclaims;
-          reclaims = put old.reclaims b (Some (record { stage = AtIndex 0; listed = []; requeued = [] }));
-          stats = marked probation old.place old.stats })
+        place = put old.place b Reclaims;
+        reclaims = put old.reclaims b (Some (record { stage = AtIndex 0; listed = []; requeued = [] }));
+        stats = marked probation old.place old.stats;
+      })
   Picks reply new = ⊥
 
   -- how a reclaim goes on, with these records yet to be read and the next index at a place
@@ -102,6 +105,7 @@ module _ {C : Type 0} (rules : Rules C) (old : State C) where
   told_at b AllListed verdicts = Listed verdicts
   told_at b ToClean verdicts = Listed verdicts
 
+  -- the reclaim of a block goes on
   abbrev pub reclaiming : ℕ → Reclaim → State C
   reclaiming b r = record old { reclaims = put old.reclaims b (Some r) }
 
@@ -126,9 +130,11 @@ module _ {C : Type 0} (rules : Rules C) (old : State C) where
   Scanned b r (AtRecord h a rest place) (Bytes bs) reply new =
       (reply ≡ told_at b (stage_after rest place) [])
       × (new ≡ record (queued rules old (flusher_of rules (length r.requeued)) (Reinsert h (take a.len bs) a)) {
-          reclaims = put old.reclaims b (Some (record r { stage = stage_after rest place; requeued = (h, a) ∷ r.requeued })) })
+        reclaims = put old.reclaims b (Some (record r { stage = stage_after rest place; requeued = (h, a) ∷ r.requeued }));
+      })
   Scanned b r stage came reply new = ⊥
 
+  -- a read for the reclaim of a block
   abbrev pub Rereads : ℕ → Option Reclaim → Came → Reply C → State C → Type 0
   Rereads b None came reply new = ⊥
   Rereads b (Some r) came reply new = Scanned b r r.stage came reply new
@@ -138,8 +144,9 @@ module _ {C : Type 0} (rules : Rules C) (old : State C) where
   Forgets b (Some r) (Cleans d) new =
       (d ≡ b)
       × (new ≡ record old {
-          index = forgotten (not_among r.requeued r.listed) old.index;
-          reclaims = put old.reclaims b (Some (record r { stage = ToClean })) })
+        index = forgotten (not_among r.requeued r.listed) old.index;
+        reclaims = put old.reclaims b (Some (record r { stage = ToClean }));
+      })
   Forgets b r reply new = ⊥
 
   -- the reclaim ends
@@ -150,12 +157,16 @@ module _ {C : Type 0} (rules : Rules C) (old : State C) where
   abbrev pub Cleaned : ℕ → Reply C → State C → Type 0
   Cleaned b Done new =
       ((f : ℕ) × (others : List ℕ) × (old.waiting ≡ others ++ f ∷ []) × (old.filling b < last_number)
-       × (new ≡ record (reclaimed b) {
-           waiting = others; place = put old.place b (Writes f); filling = put old.filling b (old.filling b + 1);
-           flushers = put old.flushers f (record (old.flushers f) { ready = Some b }) }))
+      × (new ≡ record (reclaimed b) {
+        waiting = others;
+        place = put old.place b (Writes f);
+        filling = put old.filling b (old.filling b + 1);
+        flushers = put old.flushers f (record (old.flushers f) { ready = Some b });
+      }))
       ⊎ (((old.waiting ≡ []) ⊎ (last_number ≤ old.filling b))
-         × (new ≡ record (reclaimed b) { place = put old.place b Clean; clean = old.clean ++ b ∷ [] }))
+      × (new ≡ record (reclaimed b) { place = put old.place b Clean; clean = old.clean ++ b ∷ [] }))
   Cleaned b reply new = ⊥
 
+  -- whether no reclaim runs
   abbrev pub Idles : Reply C → State C → Type 0
   Idles reply new = (reply ≡ Answer (running rules.blocks old.reclaims == 0)) × (new ≡ old)

@@ -4,22 +4,23 @@ use Rattle.foyer_model.specs.Numbers.{last_number, page}
 use Rattle.foyer_model.specs.Record.{Outcome, Holds, IndexEntry, Record}
 use Rattle.foyer_model.specs.Filling.{Filling, Write, Part, Spread}
 
+-- the sizes, and the judgements on bytes
 pub record Rules (C : Type 0) : Type 0 where
-  pub flushers : ℕ               -- how many there are
+  pub flushers : ℕ  -- how many there are
   pub blocks : ℕ
   pub reclaimers : ℕ
   pub pickers : ℕ
   pub index_size : ℕ
   pub block_size : ℕ
-  pub room : ℕ                   -- of a flusher's buffer, in bytes
-  pub threshold : ℕ              -- of the sizes of all queued pieces
-  pub clean_threshold : ℕ        -- of clean blocks
+  pub room : ℕ  -- of a flusher's buffer, in bytes
+  pub threshold : ℕ  -- of the sizes of all queued pieces
+  pub clean_threshold : ℕ  -- of clean blocks
   pub has_log : Bool
-  pub page_up : ℕ → ℕ            -- to whole pages
-  pub encode : (hash sequence : ℕ) → C → Option (List ℕ) -- a record's bytes; None where a code fails
-  pub pair_of : List ℕ → (hash sequence : ℕ) → Outcome C -- what bytes are as this record
-  pub entries_of : (place : ℕ) → List ℕ → Option (List IndexEntry) -- of an index; None where it isn't sealed or doesn't fit
-  pub writes_of : Part C → List Write -- the writes of a part, in their order
+  pub page_up : ℕ → ℕ  -- to whole pages
+  pub encode : (hash sequence : ℕ) → C → Option (List ℕ)  -- a record's bytes; None where a code fails
+  pub pair_of : List ℕ → (hash sequence : ℕ) → Outcome C  -- what bytes are as this record
+  pub entries_of : (place : ℕ) → List ℕ → Option (List IndexEntry)  -- of an index; None where it isn't sealed or doesn't fit
+  pub writes_of : Part C → List Write  -- the writes of a part, in their order
   pub some_flusher : 0 < flushers
   pub page_up_above : (n : ℕ) → n ≤ page_up n
   pub index_holds_page : page ≤ index_size

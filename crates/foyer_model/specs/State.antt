@@ -19,25 +19,26 @@ pub record Writing (C : Type 0) : Type 0 where
 
 -- what one flush writes
 pub record Batch (C : Type 0) : Type 0 where
-  pub blocks : List (Spread C)   -- those not yet told
-  pub goes_on : Bool             -- whether the first of them is the flusher's own block
+  pub blocks : List (Spread C)  -- those not yet told
+  pub goes_on : Bool  -- whether the first of them is the flusher's own block
   pub writing : Option (Writing C)
-  pub marks : List (ℕ × ℕ)       -- hashes with sequences
-  pub spoils : List (ℕ × ℕ)      -- blocks with the bytes that the marks made invalid
-  pub pieces : List C            -- to be given back at the end
+  pub marks : List (ℕ × ℕ)  -- hashes with sequences
+  pub spoils : List (ℕ × ℕ)  -- blocks with the bytes that the marks made invalid
+  pub pieces : List C  -- to be given back at the end
   pub waits : List ℕ
-  pub logged : Option Bool       -- whether the log took the marks, once it has answered
+  pub logged : Option Bool  -- whether the log took the marks, once it has answered
 
+-- what a flusher has
 pub record Flusher (C : Type 0) : Type 0 where
   pub queue : List (Submission C)
-  pub buffer : List (Record C)   -- what was received since the batch before
+  pub buffer : List (Record C)  -- what was received since the batch before
   pub marks : List (ℕ × ℕ)
   pub spoils : List (ℕ × ℕ)
   pub waits : List ℕ
   pub batch : Option (Batch C)
-  pub own : Option ℕ             -- the block that it goes on with
-  pub ready : Option ℕ           -- a block that it got while it waited for one
-  pub context : Filling          -- where its splitter goes on
+  pub own : Option ℕ  -- the block that it goes on with
+  pub ready : Option ℕ  -- a block that it got while it waited for one
+  pub context : Filling  -- where its splitter goes on
 
 -- which of the four sets a block is in
 pub data Place : Type 0 where
@@ -48,10 +49,11 @@ pub data Place : Type 0 where
 
 -- what pickers know of a block
 pub record Stats : Type 0 where
-  pub invalid : ℕ                -- bytes
+  pub invalid : ℕ  -- bytes
   pub access : ℕ
   pub probation : Bool
 
+-- of a block that was just cleaned
 abbrev pub no_stats : Stats
 no_stats = record { invalid = 0; access = 0; probation = false }
 
@@ -63,10 +65,11 @@ pub data Stage : Type 0 where
   AllListed : Stage
   ToClean : Stage
 
+-- the reclaim of a block
 pub record Reclaim : Type 0 where
   pub stage : Stage
-  pub listed : List (ℕ × Address)   -- hashes with addresses
-  pub requeued : List (ℕ × Address) -- those queued for reinsertion, the last one first
+  pub listed : List (ℕ × Address)  -- hashes with addresses
+  pub requeued : List (ℕ × Address)  -- those queued for reinsertion, the last one first
 
 -- how far a destroy is: while it cleans, the blocks whose clean has yet to come, and whether one failed
 pub data Destroy : Type 0 where
@@ -74,16 +77,17 @@ pub data Destroy : Type 0 where
   Begun : Destroy
   Cleaning : (left : List ℕ) → (has_failed : Bool) → Destroy
 
+-- all that the core has
 pub record State (C : Type 0) : Type 0 where
   pub index : ℕ → Option Slot
-  pub next : ℕ                   -- the sequence that is drawn next
-  pub steps : ℕ                  -- how many steps were applied
+  pub next : ℕ  -- the sequence that is drawn next
+  pub steps : ℕ  -- how many steps were applied
   pub closed : Bool
   pub flushers : ℕ → Flusher C
   pub place : ℕ → Place
-  pub clean : List ℕ             -- the clean blocks, the one that has been clean longest first
-  pub waiting : List ℕ           -- the flushers that wait for a block, the one that began last at the end
-  pub filling : ℕ → ℕ            -- how often a block was handed out or destroyed
+  pub clean : List ℕ  -- the clean blocks, the one that has been clean longest first
+  pub waiting : List ℕ  -- the flushers that wait for a block, the one that began last at the end
+  pub filling : ℕ → ℕ  -- how often a block was handed out or destroyed
   pub stats : ℕ → Stats
-  pub reclaims : ℕ → Option Reclaim -- of a block
+  pub reclaims : ℕ → Option Reclaim  -- of a block
   pub destroy : Destroy

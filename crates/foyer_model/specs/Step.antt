@@ -18,6 +18,7 @@ pub record Ticket : Type 0 where
   pub hash : ℕ
   pub address : Address
 
+-- what the core is asked
 pub data Step (C : Type 0) : Type 0 where
   Enqueue : (hash size : ℕ) → Age → C → Step C
   Delete : (hash : ℕ) → Step C

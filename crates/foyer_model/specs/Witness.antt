@@ -9,6 +9,7 @@ use Rattle.foyer_model.specs.SmallCore.{small, IsSmall, SmallSplits}
 
 -- replies by number
 
+-- the number of a reply, by its kind and not by what it carries
 abbrev pub number_of : Reply ℕ → ℕ
 number_of (NotNow step) = 0
 number_of (Refused Io step) = 1
@@ -44,11 +45,13 @@ number_of (Destroying s) = 30
 number_of (Cleared bs) = 31
 number_of (Destroyed ok) = 32
 
+-- the numbers of all replies of a run
 abbrev pub numbers_of : List (WorldEvent ℕ) → List ℕ
 numbers_of [] = []
 numbers_of (Applies step reply new ∷ events) = number_of reply ∷ numbers_of events
 numbers_of (event ∷ events) = numbers_of events
 
+-- each of the first list is in the second
 abbrev pub are_all_in : List ℕ → List ℕ → Bool
 are_all_in [] ys = true
 are_all_in (x ∷ xs) ys = is_id_in x ys && are_all_in xs ys

@@ -11,18 +11,19 @@ use Rattle.foyer_model.specs.Event.{Event, events_of}
 use Rattle.foyer_model.specs.Kept.{kept_after}
 use Rattle.foyer_model.specs.Access.{Pen, Told, Wipe, Wiped, HasRead, Load, Scan, loads_after, told_after, scans_after, pens_after, wipes_after, result_of, some_pen_covers, wipe_covers, begun, spoiled, came, at_load, at_scan, pen_begun, will_cover, pen_ended, bytes_ended, wipe_begun, wipe_will_cover, wipe_ended, bytes_wiped, IsRead, IsTorn, IsTornWipe}
 
+-- all that is, with what the laws speak of: the history, what is kept, how far blocks are filled, and the writes begun
 pub record World (C : Type 0) : Type 0 where
   pub core : State C
-  pub bytes : ℕ → ℕ → ℕ         -- of each block
+  pub bytes : ℕ → ℕ → ℕ  -- of each block
   pub history : List (Event C)  -- the newest event first
-  pub kept : ℕ → Option ℕ       -- of each hash
-  pub filled : ℕ → Filling      -- how far what was told fills each block
-  pub begun_writes : List (ℕ × Write) -- each write that began, with its block, the last one first
-  pub loads : ℕ → Option (Load C) -- by the number of its ticket in the run
-  pub told : ℕ                  -- how many tickets there are
-  pub scans : ℕ → Option Scan   -- by block
-  pub pens : ℕ → Pen            -- by flusher
-  pub wipes : ℕ → Wipe          -- by block
+  pub kept : ℕ → Option ℕ  -- of each hash
+  pub filled : ℕ → Filling  -- how far what was told fills each block
+  pub begun_writes : List (ℕ × Write)  -- each write that began, with its block, the last one first
+  pub loads : ℕ → Option (Load C)  -- by the number of its ticket in the run
+  pub told : ℕ  -- how many tickets there are
+  pub scans : ℕ → Option Scan  -- by block
+  pub pens : ℕ → Pen  -- by flusher
+  pub wipes : ℕ → Wipe  -- by block
 
 -- a step with its reply and the state that it leaves, or the beginning or the end of an access
 pub data WorldEvent (C : Type 0) : Type 0 where
@@ -41,6 +42,7 @@ abbrev pub end_of : {C : Type 0} → List (Spread C) → Filling → Filling
 end_of [] f = f
 end_of (s ∷ ss) f = s.end
 
+-- the same of a flusher's batch
 abbrev pub end_in : {C : Type 0} → Option (Batch C) → Filling → Filling
 end_in None f = f
 end_in (Some batch) f = end_of batch.blocks f
@@ -77,7 +79,8 @@ module _ {C : Type 0} (rules : Rules C) where
         told = told_after reply w.told;
         scans = scans_after rules.index_size reply step w.scans;
         pens = pens_after reply step w.pens;
-        wipes = wipes_after reply step w.wipes }
+        wipes = wipes_after reply step w.wipes;
+      }
   after w (ReadBegins n) = record w { loads = put w.loads n (at_load (begun (covers w)) (w.loads n)) }
   after w (ReadEnds n result) = record w { loads = put w.loads n (at_load (λ _. came result) (w.loads n)) }
   after w (ScanBegins b) = record w { scans = put w.scans b (at_scan (begun (covers w)) b (w.scans b)) }
@@ -87,17 +90,20 @@ module _ {C : Type 0} (rules : Rules C) where
         pens = put w.pens f (pen_begun (w.pens f));
         begun_writes = noted_write (w.pens f) w.begun_writes;
         loads = λ n. at_load (spoiled (will_cover (w.pens f))) (w.loads n);
-        scans = λ b. at_scan (spoiled (will_cover (w.pens f))) b (w.scans b) }
+        scans = λ b. at_scan (spoiled (will_cover (w.pens f))) b (w.scans b);
+      }
   after w (WriteEnds f ok g) =
       record w { pens = put w.pens f (pen_ended ok (w.pens f)); bytes = bytes_ended ok g (w.pens f) w.bytes }
   after w (WipeBegins b) =
       record w {
         wipes = put w.wipes b (wipe_begun (w.wipes b));
         loads = λ n. at_load (spoiled (wipe_will_cover b (w.wipes b))) (w.loads n);
-        scans = λ c. at_scan (spoiled (wipe_will_cover b (w.wipes b))) c (w.scans c) }
+        scans = λ c. at_scan (spoiled (wipe_will_cover b (w.wipes b))) c (w.scans c);
+      }
   after w (WipeEnds b ok g) =
       record w { wipes = put w.wipes b (wipe_ended ok (w.wipes b)); bytes = bytes_wiped ok g b (w.wipes b) w.bytes }
 
+  -- what a list of events leaves
   abbrev pub after_all : World C → List (WorldEvent C) → World C
   after_all w [] = w
   after_all w (e ∷ es) = after_all (after w e) es
@@ -108,6 +114,7 @@ IsReadAt rules bytes None result = Unit {0}
 IsReadAt rules bytes (Some l) result =
     IsRead (bytes l.ticket.address.block) l.ticket.address.offset (rules.page_up l.ticket.address.len) l.phase result
 
+-- the same of a reclaim
 abbrev pub IsScanned : (ℕ → ℕ) → Option Scan → Came → Type 0
 IsScanned bytes None result = Unit {0}
 IsScanned bytes (Some s) result = IsRead bytes s.offset s.len s.phase result
@@ -125,6 +132,7 @@ module _ {C : Type 0} (rules : Rules C) (Splits : Splitting C) (is_value : C →
   IsFed w (DestroyCleaned b ok) = w.wipes b ≡ Wiped ok
   IsFed w step = Unit {0}
 
+  -- what may happen: a step as the relation has it, an access as told
   abbrev pub MayHappen : World C → WorldEvent C → Type 0
   MayHappen w (Applies step reply new) = IsFed w step × Follows rules Splits w.core step reply new
   MayHappen w (ReadBegins n) = Unit {0}
@@ -136,6 +144,7 @@ module _ {C : Type 0} (rules : Rules C) (Splits : Splitting C) (is_value : C →
   MayHappen w (WipeBegins b) = Unit {0}
   MayHappen w (WipeEnds b ok g) = IsTornWipe w.bytes b (w.wipes b) g
 
+  -- each event may, after those before it
   abbrev pub MayAllHappen : World C → List (WorldEvent C) → Type 0
   MayAllHappen w [] = Unit {0}
   MayAllHappen w (e ∷ es) = MayHappen w e × MayAllHappen (after rules w e) es

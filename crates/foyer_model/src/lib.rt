@@ -14,68 +14,58 @@ ghost use Rattle.foyer_model.specs.Companions.{QueueKeeps, CommitKeeps, ReclaimK
 pub fn answers_only<C>()
     ensures { (rules : Rules C) (splits : Filling → List (Record C) → List (Spread C) → Bool) (is_value : C → Bool)
         → AnswersOnly rules (λ f rs ss. splits f rs ss ≡ true) (λ c. is_value c ≡ true) }
-{
-}
+{}
 
 /// A newest committed record is answered, unless the load was throttled, its read failed, memory was refused, or a
 /// reclaim of the record's block or a destroy began since its last commit.
 pub fn missed_only<C>()
     ensures { (rules : Rules C) (splits : Filling → List (Record C) → List (Spread C) → Bool) (is_value : C → Bool)
         → MissedOnly rules (λ f rs ss. splits f rs ss ≡ true) (λ c. is_value c ≡ true) }
-{
-}
+{}
 
 /// What the history says was put was recovered, or is what the Enqueue that got its sequence handed in.
 pub fn puts_are_queued<C>()
     ensures { (rules : Rules C) (splits : Filling → List (Record C) → List (Spread C) → Bool) (is_value : C → Bool)
         → PutsAreQueued rules (λ f rs ss. splits f rs ss ≡ true) (λ c. is_value c ≡ true) }
-{
-}
+{}
 
 /// A piece is ignored or handed back only where it may be.
 pub fn queue_clause<C>()
     ensures { (rules : Rules C) (splits : Filling → List (Record C) → List (Spread C) → Bool)
         → QueueKeeps rules (λ f rs ss. splits f rs ss ≡ true) }
-{
-}
+{}
 
 /// What was received is placed, told, and put when its block is written.
 pub fn commit_clause<C>()
     ensures { (rules : Rules C) (splits : Filling → List (Record C) → List (Spread C) → Bool)
         → CommitKeeps rules (λ f rs ss. splits f rs ss ≡ true) }
-{
-}
+{}
 
 /// A reclaim begins only where it may.
 pub fn reclaim_clause<C>()
     ensures { (rules : Rules C) (splits : Filling → List (Record C) → List (Spread C) → Bool)
         → ReclaimKeeps rules (λ f rs ss. splits f rs ss ≡ true) }
-{
-}
+{}
 
 /// A step is handed back only out of turn or for its cause, and changes nothing then.
 pub fn not_now_clause<C>()
     ensures { (rules : Rules C) (splits : Filling → List (Record C) → List (Spread C) → Bool)
         → NotNowKeeps rules (λ f rs ss. splits f rs ss ≡ true) }
-{
-}
+{}
 
 /// The state afterwards is determined by the state before, the step and the reply: each choice stands in the reply.
 pub fn is_determined<C>()
     ensures { (rules : Rules C) (splits : Filling → List (Record C) → List (Spread C) → Bool)
         → IsDetermined rules (λ f rs ss. splits f rs ss ≡ true) }
-{
-}
+{}
 
 /// What is in turn has a reply, before the limit of steps.
 pub fn in_turn_replies<C>()
     ensures { (rules : Rules C) (splits : Filling → List (Record C) → List (Spread C) → Bool) (is_value : C → Bool)
         → InTurnReplies rules (λ f rs ss. splits f rs ss ≡ true) (λ c. is_value c ≡ true) }
-{
-}
+{}
 
 /// The laws speak of something: two runs of a small core reach every reply of the table.
 pub fn reaches_every_reply()
     ensures { ReachesEveryReply }
-{
-}
+{}

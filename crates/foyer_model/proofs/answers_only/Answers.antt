@@ -1,5 +1,5 @@
 use Rattle.std.proofs.Common.{◌≡◌, true}
-use Rattle.foyer_model.proofs.Answers.{answers_only_lem}
+use Rattle.foyer_model.proofs.Answered.{answers_only_lem}
 use Rattle.foyer_model.proofs.answers_only.Goals as goal
 
 pub returns : goal.returns

@@ -29,16 +29,16 @@ use Rattle.foyer_model.specs.Opened.{slot_among, block_among, is_clean, IsOpened
 use Rattle.foyer_model.specs.Laws.{Demands}
 use Rattle.foyer_model.proofs.Basics.{put_at, Ascends}
 use Rattle.foyer_model.proofs.Invariant.{ground_of, Each, IsGood, puts_onto, queue_puts, writing_in, batch_records, line_of, SlotOk, PhaseOk, IsPromised, LoadOk, sequences, RecordOk, WritingOk, IsTended, IsSound, RecordWaits}
-use Rattle.foyer_model.proofs.Good.{good_pen, slot_lift}
-use Rattle.foyer_model.proofs.Commits.{committed, noted, committed_is, noted_is, each_front, onto_append, line_ascends, same_address, Brings}
-use Rattle.foyer_model.proofs.Loads.{mark_enters, promised}
-use Rattle.foyer_model.proofs.Flushes.{last_stands, all_good, told}
-use Rattle.foyer_model.proofs.Again.{AllHere, ReclaimOk, still_of, IsAgain}
+use Rattle.foyer_model.proofs.GoodAddresses.{good_pen, slot_lift}
+use Rattle.foyer_model.proofs.CommitSteps.{committed, noted, committed_is, noted_is, each_front, onto_append, line_ascends, same_address, Brings}
+use Rattle.foyer_model.proofs.LoadSteps.{mark_enters, promised}
+use Rattle.foyer_model.proofs.FlushSteps.{last_stands, all_good, told}
+use Rattle.foyer_model.proofs.Rereads.{AllHere, ReclaimOk, still_of, IsAgain}
 use Rattle.foyer_model.proofs.Sets.{AreSets, clean_is}
-use Rattle.foyer_model.proofs.Goes.{brings_of}
-use Rattle.foyer_model.proofs.Keeps.{reclaims_at, IsKnown}
-use Rattle.foyer_model.proofs.Opens.{FoundOk, found_ok}
-use Rattle.foyer_model.proofs.Kept.{kept_one, all_kept, kept_is, Found, IsKept, kept_deleted, kept_put, kept_unmarked, kept_forgotten, kept_reclaimed, kept_placed, commits_found, commits_found_other}
+use Rattle.foyer_model.proofs.RereadsKept.{brings_of}
+use Rattle.foyer_model.proofs.SoundKept.{reclaims_at, IsKnown}
+use Rattle.foyer_model.proofs.OpenedSound.{FoundOk, found_ok}
+use Rattle.foyer_model.proofs.Found.{kept_one, all_kept, kept_is, Found, IsKept, kept_deleted, kept_put, kept_unmarked, kept_forgotten, kept_reclaimed, kept_placed, commits_found, commits_found_other}
 
 abbrev pub Stays : {C : Type 0} → State C → List (Event C) → (ℕ → Option ℕ) → Type 0
 Stays c H kept = IsKept c.index H kept c.filling c.place
@@ -437,7 +437,8 @@ module _ {C : Type 0} (rules : Rules C) (Splits : Splitting C) (is_value : C →
   pub new_kept : (w : World C) → IsOpened rules w → Kept w
   new_kept w first = record {
     found = λ h. subst (λ k. Found w.history w.core.filling h k (w.core.index h)) (sym (kept_block w first h)) (opened_found w first h (w.core.index h) (found_ok rules w first h));
-    safe = λ h b is. opened_safe w h (w.core.index h) (found_ok rules w first h) b (sym (kept_block w first h) ∙ is) }
+    safe = λ h b is. opened_safe w h (w.core.index h) (found_ok rules w first h) b (sym (kept_block w first h) ∙ is);
+  }
 
   pub looked : (w : World C) (h : ℕ) (throttled : Bool) (slot : Option Slot) (reply : Reply C) (new : State C) (b s : ℕ) (x : Outcome C) → IsSound rules w → Kept w
       → w.core.index h ≡ slot → Looks rules w.core h throttled slot reply new

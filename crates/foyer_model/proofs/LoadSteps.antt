@@ -11,7 +11,7 @@ use Rattle.foyer_model.specs.Access.{Pen, Unread}
 use Rattle.foyer_model.specs.World.{World}
 use Rattle.foyer_model.proofs.Basics.{put_at, put_one}
 use Rattle.foyer_model.proofs.Invariant.{Ground, ground_of, line_of, AtLeast, SlotOk, LoadOk, IsSound}
-use Rattle.foyer_model.proofs.Commits.{newest_del, newest_del_other, newest_del_below}
+use Rattle.foyer_model.proofs.CommitSteps.{newest_del, newest_del_other, newest_del_below}
 
 module _ {C : Type 0} (rules : Rules C) where
   pub slot_history : (g : Ground) (pens : ℕ → Pen) (H H' : List (Event C)) (h : ℕ) (line : List (ℕ × ℕ)) (slot : Option Slot) → newest h H' ≡ newest h H
@@ -42,6 +42,7 @@ module _ {C : Type 0} (rules : Rules C) where
     where
       at_d : sequence_in (newest h H) ≡ d
       at_d = ap sequence_in ok
+
       go : (t : Bool) → nat_le d s ≡ t → (if t then Some (Mark s) else Some (Mark d)) ≡ Some (Mark s)
       go true e = refl
       go false e = absurd (grind (arith, nat_tests, at_d))
@@ -49,6 +50,7 @@ module _ {C : Type 0} (rules : Rules C) where
     where
       at_a : sequence_in (newest h H) ≡ a.sequence
       at_a = ap sequence_in ok.1
+
       go : (t : Bool) → nat_le a.sequence s ≡ t → (if t then Some (Mark s) else Some (Indexed a)) ≡ Some (Mark s)
       go true e = refl
       go false e = absurd (grind (arith, nat_tests, at_a))

@@ -30,17 +30,17 @@ use Rattle.foyer_model.specs.Laws.{Demands}
 use Rattle.foyer_model.proofs.Basics.{put_at, put_same, Ascends, ascends_push}
 use Rattle.foyer_model.proofs.Ids.{in_last}
 use Rattle.foyer_model.proofs.Invariant.{ground_of, Each, writing_in, blocks_in, goes_on_in, batch_records, line_of, SlotOk, LoadOk, WritingOk, start_of, IsSound, RecordWaits, one_owner}
-use Rattle.foyer_model.proofs.Good.{good_told, good_handed}
-use Rattle.foyer_model.proofs.Commits.{noted, committed_is, noted_is, each_front}
-use Rattle.foyer_model.proofs.Turns.{one_turned, pushed}
-use Rattle.foyer_model.proofs.Receives.{received_piece, returned_piece, received_mark, received_wait, received_again, dropped_again, begun_batch}
-use Rattle.foyer_model.proofs.Loads.{slot_none, slot_without, mark_enters, deleted, indexed, promised}
-use Rattle.foyer_model.proofs.Accesses.{read_begins, read_ends, write_begins, write_ends, wipe_begins, wipe_ends}
-use Rattle.foyer_model.proofs.Flushes.{released_other, ended, wrote_one, failed, wrote_all, told, waited}
-use Rattle.foyer_model.proofs.Reclaims.{one_moved, forgot, cleared, handed}
-use Rattle.foyer_model.proofs.Again.{ReclaimOk, still_of, IsAgain}
+use Rattle.foyer_model.proofs.GoodAddresses.{good_told, good_handed}
+use Rattle.foyer_model.proofs.CommitSteps.{noted, committed_is, noted_is, each_front}
+use Rattle.foyer_model.proofs.OneFlusher.{one_turned, pushed}
+use Rattle.foyer_model.proofs.Received.{received_piece, returned_piece, received_mark, received_wait, received_again, dropped_again, begun_batch}
+use Rattle.foyer_model.proofs.LoadSteps.{slot_none, slot_without, mark_enters, deleted, indexed, promised}
+use Rattle.foyer_model.proofs.AccessEvents.{read_begins, read_ends, write_begins, write_ends, wipe_begins, wipe_ends}
+use Rattle.foyer_model.proofs.FlushSteps.{released_other, ended, wrote_one, failed, wrote_all, told, waited}
+use Rattle.foyer_model.proofs.ReclaimSteps.{one_moved, forgot, cleared, handed}
+use Rattle.foyer_model.proofs.Rereads.{ReclaimOk, still_of, IsAgain}
 use Rattle.foyer_model.proofs.Sets.{AreSets, fillings_few, clean_is, follows_sets}
-use Rattle.foyer_model.proofs.Goes.{brings_of, event_goes}
+use Rattle.foyer_model.proofs.RereadsKept.{brings_of, event_goes}
 
 module _ {C : Type 0} (rules : Rules C) (Splits : Splitting C) (is_value : C → Type 0) (demands : Demands rules Splits is_value) where
   same : (w : World C) (new : State C) → new ≡ w.core → IsSound rules w → IsSound rules (record w { core = new })
@@ -324,14 +324,20 @@ module _ {C : Type 0} (rules : Rules C) (Splits : Splitting C) (is_value : C →
         | inl (f, others, waits, room, eq) ↦
             (let none : ((w.core.flushers f).own ≡ None) × ((w.core.flushers f).ready ≡ None) = sets.waiting f (subst (λ l. is_id_in f l ≡ true) (sym waits) (in_last f others)) in
             subst (λ k. IsSound rules (after rules w (Applies (ReclaimCleaned b well) Done k))) (sym eq)
-            (subst (λ t. IsSound rules (record w { core = record (reclaimed rules w.core b) {
-                waiting = others; place = put w.core.place b (Writes f); filling = put w.core.filling b (w.core.filling b + 1);
-                flushers = put w.core.flushers f (record (w.core.flushers f) { ready = Some b }) }; filled = if t then w.filled else put w.filled b (empty_filling rules) }))
-              (sym (grown w.core.filling b)) (handed rules w b f sound at none.0 none.1)))
+            (subst (λ t. IsSound rules (record w {
+              core = record (reclaimed rules w.core b) {
+                waiting = others;
+                place = put w.core.place b (Writes f);
+                filling = put w.core.filling b (w.core.filling b + 1);
+                flushers = put w.core.flushers f (record (w.core.flushers f) { ready = Some b });
+              };
+              filled = if t then w.filled else put w.filled b (empty_filling rules);
+            }))
+            (sym (grown w.core.filling b)) (handed rules w b f sound at none.0 none.1)))
         | inr (nobody, eq) ↦
             subst (λ k. IsSound rules (after rules w (Applies (ReclaimCleaned b well) Done k))) (sym eq)
             (subst (λ t. IsSound rules (record w { core = record (reclaimed rules w.core b) { place = put w.core.place b Clean; clean = w.core.clean ++ b ∷ [] }; filled = if t then w.filled else put w.filled b (empty_filling rules) }))
-              (sym (eq_self (w.core.filling b))) (one_moved rules w b Reclaims Clean sound at (λ q e. cc)))
+            (sym (eq_self (w.core.filling b))) (one_moved rules w b Reclaims Clean sound at (λ q e. cc)))
       ]
   clean_keeps w b well reply new at sets ok sound = absurd ok
 
@@ -465,7 +471,8 @@ module _ {C : Type 0} (rules : Rules C) (Splits : Splitting C) (is_value : C →
   known_keeps w e ok known = record {
     sound = keeps w e ok known.sets known.again known.sound;
     again = event_goes rules Splits is_value demands.places w e ok known.sets known.sound known.again;
-    sets = sets_keep w e ok known }
+    sets = sets_keep w e ok known;
+  }
     where
       sets_keep : (w : World C) (e : WorldEvent C) → MayHappen rules Splits is_value w e → IsKnown w → AreSets rules (after rules w e).core
       sets_keep w (Applies step reply new) ok known =

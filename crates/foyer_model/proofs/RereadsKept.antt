@@ -27,14 +27,14 @@ use Rattle.foyer_model.specs.World.{World, WorldEvent, Applies, ReadBegins, Read
 use Rattle.foyer_model.specs.Opened.{is_clean, idle, IsOpened}
 use Rattle.foyer_model.proofs.Basics.{put_at, put_same, put_other, read_same, put_one, put_both}
 use Rattle.foyer_model.proofs.Invariant.{Ground, ground_of, Each, InPages, IsSolid, writing_in, batch_records, PhaseOk, WritingOk, IsSound, IsBarred, SourceWaits, RecordWaits, SubmissionWaits, AllWait}
-use Rattle.foyer_model.proofs.Good.{read_ended}
-use Rattle.foyer_model.proofs.Commits.{committed, noted, committed_is, noted_is, each_drop, each_join, newest_del_other, SourceBrings, Brings, all_faithful}
-use Rattle.foyer_model.proofs.Receives.{each_weaker}
-use Rattle.foyer_model.proofs.Loads.{mark_enters}
-use Rattle.foyer_model.proofs.Accesses.{phase_begun, phase_came, phase_spoiled, pen_will_spare, wipe_will_spare, wiped_behind}
-use Rattle.foyer_model.proofs.Flushes.{failed, records_told, told}
-use Rattle.foyer_model.proofs.Reclaims.{plus_one, moved}
-use Rattle.foyer_model.proofs.Again.{AllHere, ScanOk, StageOk, ReclaimOk, IsAgainIn, still_of, IsAgain, without_stays, put_stays, unmarked_stays, forgotten_stays, committed_stays, wait_drifts, barred_here, drifted, removed, one_waits, one_reclaim, solid_at, reclaim_maps}
+use Rattle.foyer_model.proofs.GoodAddresses.{read_ended}
+use Rattle.foyer_model.proofs.CommitSteps.{committed, noted, committed_is, noted_is, each_drop, each_join, newest_del_other, SourceBrings, Brings, all_faithful}
+use Rattle.foyer_model.proofs.Received.{each_weaker}
+use Rattle.foyer_model.proofs.LoadSteps.{mark_enters}
+use Rattle.foyer_model.proofs.AccessEvents.{phase_begun, phase_came, phase_spoiled, pen_will_spare, wipe_will_spare, wiped_behind}
+use Rattle.foyer_model.proofs.FlushSteps.{failed, records_told, told}
+use Rattle.foyer_model.proofs.ReclaimSteps.{plus_one, moved}
+use Rattle.foyer_model.proofs.Rereads.{AllHere, ScanOk, StageOk, ReclaimOk, IsAgainIn, still_of, IsAgain, without_stays, put_stays, unmarked_stays, forgotten_stays, committed_stays, wait_drifts, barred_here, drifted, removed, one_waits, one_reclaim, solid_at, reclaim_maps}
 use Rattle.foyer_model.proofs.Sets.{AreSets, fillings_few, clean_is}
 
 module _ {C : Type 0} (rules : Rules C) where

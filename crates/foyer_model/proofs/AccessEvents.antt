@@ -13,8 +13,8 @@ use Rattle.foyer_model.specs.Access.{Pen, Rest, Told, Under, Wipe, Still, Asked,
 use Rattle.foyer_model.specs.World.{World, covers, IsReadAt}
 use Rattle.foyer_model.proofs.Basics.{put_at, put_other, read_same, take_read, put_one}
 use Rattle.foyer_model.proofs.Invariant.{Ground, ground_of, InPages, Spares, PenSpares, IsSolid, IsGood, writing_in, line_of, PhaseOk, IsPromised, LoadOk, AreLeft, AllWell, PenFits, WritingOk, IsTended, IsSound, one_owner}
-use Rattle.foyer_model.proofs.Good.{good_pen, read_ended, good_ended, slot_lift, load_lift}
-use Rattle.foyer_model.proofs.Loads.{promised}
+use Rattle.foyer_model.proofs.GoodAddresses.{good_pen, read_ended, good_ended, slot_lift, load_lift}
+use Rattle.foyer_model.proofs.LoadSteps.{promised}
 
 pub beside_not_in : (v : Write) (o : ℕ) → IsBeside v o → is_in v o ≡ false
 beside_not_in v o beside = go (nat_le v.offset o) refl (nat_lt o (v.offset + length v.bytes)) refl

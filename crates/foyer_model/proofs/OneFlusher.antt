@@ -11,8 +11,8 @@ use Rattle.foyer_model.specs.Access.{Pen}
 use Rattle.foyer_model.specs.World.{World}
 use Rattle.foyer_model.proofs.Basics.{put_at, Ascends, ascends_to, put_one}
 use Rattle.foyer_model.proofs.Invariant.{Ground, ground_of, Each, puts_onto, queue_puts, batch_records, line_of, AtLeast, SlotOk, sequences, queue_sequences, IsOrdered, SubmissionOk, IsTended, IsSound}
-use Rattle.foyer_model.proofs.Good.{slot_lift}
-use Rattle.foyer_model.proofs.Commits.{each_join, each_onto}
+use Rattle.foyer_model.proofs.GoodAddresses.{slot_lift}
+use Rattle.foyer_model.proofs.CommitSteps.{each_join, each_onto}
 
 pub ordered_next : {C : Type 0} (n m : ℕ) (φ : Flusher C) → n ≤ m → IsOrdered n φ → IsOrdered m φ
 ordered_next n m φ le o =
@@ -37,7 +37,7 @@ module _ {C : Type 0} (rules : Rules C) where
         marks = t.marks;
         queue = t.queue;
         split = t.split;
-      context = t.context;
+        context = t.context;
         owned = t.owned;
         spare = t.spare;
         either = t.either;
@@ -115,7 +115,7 @@ module _ {C : Type 0} (rules : Rules C) where
         marks = t.marks;
         queue = each_join (SubmissionOk rules f) (w.core.flushers f).queue (sub ∷ []) t.queue (ok, tt);
         split = t.split;
-      context = t.context;
+        context = t.context;
         owned = t.owned;
         spare = t.spare;
         either = t.either;

@@ -15,9 +15,9 @@ use Rattle.foyer_model.specs.Access.{HasRead, Load}
 use Rattle.foyer_model.specs.World.{World}
 use Rattle.foyer_model.specs.Laws.{Demands, IsReached, AnswersOnly}
 use Rattle.foyer_model.proofs.Invariant.{ground_of, PhaseOk, IsPromised, LoadOk, IsSound}
-use Rattle.foyer_model.proofs.Goes.{new_again}
-use Rattle.foyer_model.proofs.Keeps.{IsKnown, all_known}
-use Rattle.foyer_model.proofs.Opens.{new_sound, new_sets}
+use Rattle.foyer_model.proofs.RereadsKept.{new_again}
+use Rattle.foyer_model.proofs.SoundKept.{IsKnown, all_known}
+use Rattle.foyer_model.proofs.OpenedSound.{new_sound, new_sets}
 
 module _ {C : Type 0} (rules : Rules C) (Splits : Splitting C) (is_value : C → Type 0) (demands : Demands rules Splits is_value) where
   -- what is known of a world that was reached
@@ -25,7 +25,7 @@ module _ {C : Type 0} (rules : Rules C) (Splits : Splitting C) (is_value : C →
   reached_known w reached =
       subst (IsKnown rules Splits is_value demands) reached.is
       (all_known rules Splits is_value demands reached.first reached.events reached.happened
-        (record { sound = new_sound rules reached.first reached.opened; again = new_again rules reached.first reached.opened; sets = new_sets rules reached.first reached.opened }))
+      (record { sound = new_sound rules reached.first reached.opened; again = new_again rules reached.first reached.opened; sets = new_sets rules reached.first reached.opened }))
 
   entry_holds : (old : State C) (t : Ticket) (outcome : Outcome C) (c : C) (age : Age) (new : State C) → Judges rules old t outcome (Entry c age) new → outcome ≡ Holds c
   entry_holds old t NoRecord c age new ok = absurd ok

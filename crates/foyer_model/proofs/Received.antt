@@ -13,8 +13,8 @@ use Rattle.foyer_model.specs.Flush.{is_some}
 use Rattle.foyer_model.specs.World.{World}
 use Rattle.foyer_model.proofs.Basics.{Ascends, ascends_from, ascends_to}
 use Rattle.foyer_model.proofs.Invariant.{Each, puts_onto, queue_puts, batch_records, AtLeast, sequences, queue_sequences, RecordOk, start_of, IsSound}
-use Rattle.foyer_model.proofs.Commits.{each_join, each_onto, onto_append, ascends_last}
-use Rattle.foyer_model.proofs.Turns.{one_turned}
+use Rattle.foyer_model.proofs.CommitSteps.{each_join, each_onto, onto_append, ascends_last}
+use Rattle.foyer_model.proofs.OneFlusher.{one_turned}
 
 pub each_weaker : {A : Type 0} (P Q : A → Type 0) (xs : List A) → ((x : A) → P x → Q x) → Each P xs → Each Q xs
 each_weaker P Q [] f h = tt
@@ -58,7 +58,7 @@ module _ {C : Type 0} (rules : Rules C) where
         marks = t.marks;
         queue = (t.queue).1;
         split = t.split;
-      context = t.context;
+        context = t.context;
         owned = t.owned;
         spare = t.spare;
         either = t.either;
@@ -96,7 +96,7 @@ module _ {C : Type 0} (rules : Rules C) where
         marks = t.marks;
         queue = (t.queue).1;
         split = t.split;
-      context = t.context;
+        context = t.context;
         owned = t.owned;
         spare = t.spare;
         either = t.either;
@@ -136,7 +136,7 @@ module _ {C : Type 0} (rules : Rules C) where
         marks = each_join (λ p. flusher_of rules p.0 ≡ f) φ.marks ((h, s) ∷ []) t.marks ((t.queue).0, tt);
         queue = (t.queue).1;
         split = t.split;
-      context = t.context;
+        context = t.context;
         owned = t.owned;
         spare = t.spare;
         either = t.either;
@@ -167,7 +167,7 @@ module _ {C : Type 0} (rules : Rules C) where
         marks = t.marks;
         queue = (t.queue).1;
         split = t.split;
-      context = t.context;
+        context = t.context;
         owned = t.owned;
         spare = t.spare;
         either = t.either;
@@ -209,7 +209,7 @@ module _ {C : Type 0} (rules : Rules C) where
         marks = t.marks;
         queue = (t.queue).1;
         split = t.split;
-      context = t.context;
+        context = t.context;
         owned = t.owned;
         spare = t.spare;
         either = t.either;
@@ -243,7 +243,7 @@ module _ {C : Type 0} (rules : Rules C) where
         marks = t.marks;
         queue = (t.queue).1;
         split = t.split;
-      context = t.context;
+        context = t.context;
         owned = t.owned;
         spare = t.spare;
         either = t.either;

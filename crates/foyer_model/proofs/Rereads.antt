@@ -15,8 +15,8 @@ use Rattle.foyer_model.specs.Access.{Phase, Unread, Reading, HasRead, Scan, at_s
 use Rattle.foyer_model.specs.World.{World}
 use Rattle.foyer_model.proofs.Basics.{put_at, put_one}
 use Rattle.foyer_model.proofs.Invariant.{Ground, ground_of, Each, IsSolid, batch_records, line_of, SlotOk, PhaseOk, IsSound, IsBarred, IsFaithful, SourceWaits, RecordWaits, SubmissionWaits, AllWait}
-use Rattle.foyer_model.proofs.Commits.{committed}
-use Rattle.foyer_model.proofs.Receives.{each_weaker}
+use Rattle.foyer_model.proofs.CommitSteps.{committed}
+use Rattle.foyer_model.proofs.Received.{each_weaker}
 
 -- addresses of a block in a filling
 abbrev pub AllHere : ℕ → ℕ → List (ℕ × Address) → Type 0

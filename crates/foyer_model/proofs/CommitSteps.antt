@@ -12,7 +12,7 @@ use Rattle.foyer_model.specs.Event.{Event, Put, Deletion, sequence_in, newest, o
 use Rattle.foyer_model.specs.Access.{Pen}
 use Rattle.foyer_model.proofs.Basics.{put_at, put_other, Ascends, ascends_span, ascends_from, AllAtLeast, ascends_at_least}
 use Rattle.foyer_model.proofs.Invariant.{Ground, Each, IsGood, put_in, puts_onto, queue_puts, batch_records, line_of, AtLeast, SlotOk, sequences, queue_sequences, IsOrdered, SourceOk, RecordOk, IsFaithful}
-use Rattle.foyer_model.proofs.Good.{slot_lift}
+use Rattle.foyer_model.proofs.GoodAddresses.{slot_lift}
 
 -- the index and the history, record by record
 
@@ -39,10 +39,12 @@ noted_is {C} b n (p ∷ ps) m H =
   where
     rest : List (Record C)
     rest = (commit_of b n ps (committed_one b n p m)).puts
+
     again : (a : Address) (src : Source C) → (p.1).source ≡ src → src ≡ Reread a → (t : Bool)
         → with_puts (if t then p.1 ∷ rest else rest) H ≡ with_puts rest (if t then Put (p.1).hash (p.1).sequence (outcome_in (newest (p.1).hash H)) ∷ H else H)
     again a src is re true = ap (λ k. with_puts rest (put_event p.1 k H ∷ H)) (is ∙ re)
     again a src is re false = refl
+
     one : (src : Source C) (slot : Option Slot) → (p.1).source ≡ src
         → with_puts (if is_put src slot then p.1 ∷ rest else rest) H ≡ with_puts rest (noted_one p.1 src slot H)
     one (Given c) slot is = ap (λ k. with_puts rest (put_event p.1 k H ∷ H)) is

@@ -14,7 +14,7 @@ use Rattle.foyer_model.specs.World.{World}
 use Rattle.foyer_model.specs.Opened.{slot_among, recovered, IsAlone, IsFound, AllFound, is_clean, clean_among, IsOpened}
 use Rattle.foyer_model.proofs.Ids.{AreDistinct, same_in, later_in, in_cases, in_append}
 use Rattle.foyer_model.proofs.Invariant.{ground_of, PenSpares, line_of, SlotOk, LoadOk, IsTended, IsSound}
-use Rattle.foyer_model.proofs.Commits.{newest_put, newest_other}
+use Rattle.foyer_model.proofs.CommitSteps.{newest_put, newest_other}
 use Rattle.foyer_model.proofs.Sets.{AreSets}
 
 newest_alone : {C : Type 0} (rules : Rules C) (bytes : ℕ → ℕ → ℕ) (h : ℕ) (ps : List (ℕ × Address)) → IsAlone h ps → newest h (recovered rules bytes ps) ≡ None
@@ -35,6 +35,7 @@ has_put {C} rules core bytes h (p ∷ ps) all = go (p.0 == h) refl (has_put rule
   where
     x : Outcome C
     x = rules.pair_of (read (bytes (p.1).block) (p.1).offset (p.1).len) p.0 (p.1).sequence
+
     go : (t : Bool) → (p.0 == h) ≡ t → HasPut rules bytes h (newest h (recovered rules bytes ps)) (slot_among h ps)
         → HasPut rules bytes h (newest h (Put p.0 (p.1).sequence x ∷ recovered rules bytes ps)) (if t then Some (Indexed p.1) else slot_among h ps)
     go true e rest =
@@ -77,7 +78,7 @@ module _ {C : Type 0} (rules : Rules C) where
   found_ok w first h =
       subst (FoundOk rules w h) (sym (first.index h))
       (both_ok w h (slot_among h first.found) (is_there rules w.core h first.found first.all)
-        (subst (λ H. HasPut rules w.bytes h (newest h H) (slot_among h first.found)) (sym first.history) (has_put rules w.core w.bytes h first.found first.all)))
+      (subst (λ H. HasPut rules w.bytes h (newest h H) (slot_among h first.found)) (sym first.history) (has_put rules w.core w.bytes h first.found first.all)))
 
   opened_slot : (w : World C) → IsOpened rules w → (h : ℕ) (slot : Option Slot) → FoundOk rules w h slot → SlotOk rules (ground_of w) w.pens w.history h [] slot
   opened_slot w first h None found = tt
@@ -138,6 +139,7 @@ module _ {C : Type 0} (rules : Rules C) where
     where
       later : is_id_in b bs ≡ true → is_id_in b (c ∷ bs) ≡ true
       later = later_in b c bs
+
       go : (p : Place) → place c ≡ p → is_id_in b (if is_clean p then c ∷ clean_among place bs else clean_among place bs) ≡ true
           → (is_id_in b (clean_among place bs) ≡ true → (place b ≡ Clean) × (is_id_in b bs ≡ true)) → (place b ≡ Clean) × (is_id_in b (c ∷ bs) ≡ true)
       go Clean at h rec =
@@ -164,4 +166,5 @@ module _ {C : Type 0} (rules : Rules C) where
     distinct = subst AreDistinct (sym first.waiting) tt;
     own = λ f b is. absurd (let e : None ≡ Some b = sym (ap (λ φ. φ.own) (first.flushers f)) ∙ is in cc);
     ready = λ f b is. absurd (let e : None ≡ Some b = sym (ap (λ φ. φ.ready) (first.flushers f)) ∙ is in cc);
-    filling = λ b. let e : w.core.filling b ≡ 0 = first.filling b in omega arith }
+    filling = λ b. let e : w.core.filling b ≡ 0 = first.filling b in omega arith;
+  }

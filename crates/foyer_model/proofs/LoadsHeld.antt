@@ -25,11 +25,11 @@ use Rattle.foyer_model.specs.World.{World, WorldEvent, Applies, ReadBegins, Read
 use Rattle.foyer_model.specs.Laws.{Demands, IsReached}
 use Rattle.foyer_model.proofs.Basics.{put_other, put_one}
 use Rattle.foyer_model.proofs.Invariant.{ground_of, writing_in, WritingOk}
-use Rattle.foyer_model.proofs.Flushes.{failed}
-use Rattle.foyer_model.proofs.Goes.{new_again}
-use Rattle.foyer_model.proofs.Keeps.{reclaims_at, IsKnown, known_keeps}
-use Rattle.foyer_model.proofs.Opens.{FoundOk, found_ok, new_sound, new_sets}
-use Rattle.foyer_model.proofs.Finds.{Kept, event_kept, new_kept}
+use Rattle.foyer_model.proofs.FlushSteps.{failed}
+use Rattle.foyer_model.proofs.RereadsKept.{new_again}
+use Rattle.foyer_model.proofs.SoundKept.{reclaims_at, IsKnown, known_keeps}
+use Rattle.foyer_model.proofs.OpenedSound.{FoundOk, found_ok, new_sound, new_sets}
+use Rattle.foyer_model.proofs.FoundKept.{Kept, event_kept, new_kept}
 use Rattle.foyer_model.proofs.Settles.{Settles, TakesNone, does_settle}
 
 -- what was read has the length that was told
@@ -63,10 +63,12 @@ module _ {C : Type 0} (rules : Rules C) (Splits : Splitting C) (is_value : C →
   held_settles : (c new : State C) (o : Option (Load C)) → Settles rules c new → HeldOk rules c.filling c.place o → HeldOk rules new.filling new.place o
   held_settles c new None settles ok = tt
   held_settles c new (Some l) settles ok = record {
-    below = ok.below; all = ok.all;
+    below = ok.below;
+    all = ok.all;
     stands = λ b s x is promise some. let r : (l.ticket.address.block ≡ b) × (l.ticket.address.filling ≡ c.filling b) = ok.stands b s x is promise some in
         let q : (c.place b ≡ Clean → ⊥) × (c.place b ≡ Reclaims → ⊥) = ok.safe b is in (r.0, r.1 ∙ sym (settles.stays b q.0 q.1).0);
-    safe = λ b is. let q : (c.place b ≡ Clean → ⊥) × (c.place b ≡ Reclaims → ⊥) = ok.safe b is in (settles.stays b q.0 q.1).1 }
+    safe = λ b is. let q : (c.place b ≡ Clean → ⊥) × (c.place b ≡ Reclaims → ⊥) = ok.safe b is in (settles.stays b q.0 q.1).1;
+  }
 
   settles_held : (w : World C) (new : State C) → Settles rules w.core new → Held rules w → Held rules (record w { core = new })
   settles_held w new settles held = record { index_below = settles.below held.index_below; loads = λ n. held_settles w.core new (w.loads n) settles (held.loads n) }
@@ -79,12 +81,15 @@ module _ {C : Type 0} (rules : Rules C) (Splits : Splitting C) (is_value : C →
     index_below = now.index_below;
     loads = put_one (λ n o. HeldOk rules state.filling state.place o) w.loads w.told _
         (record {
-          below = held.index_below h a is; all = tt;
+          below = held.index_below h a is;
+          all = tt;
           stands = λ b s x at promise some. let r : (d : Address) × (w.core.index h ≡ Some (Indexed d)) × (d.block ≡ b) × (d.filling ≡ w.core.filling b) = kept.found h b s x at promise some in
               let same : a ≡ r.0 = (let e : Some (Indexed a) ≡ Some (Indexed r.0) = sym is ∙ r.1 in cc) in
               (ap (λ k. k.block) same ∙ r.2, ap (λ k. k.filling) same ∙ r.3 ∙ ap (λ m. m b) (sym filling));
-          safe = λ b at. subst (λ m. (m b ≡ Clean → ⊥) × (m b ≡ Reclaims → ⊥)) (sym place) (kept.safe h b at) })
-        (λ n _. now.loads n) }
+          safe = λ b at. subst (λ m. (m b ≡ Clean → ⊥) × (m b ≡ Reclaims → ⊥)) (sym place) (kept.safe h b at);
+        })
+        (λ n _. now.loads n);
+  }
 
   look_held : (w : World C) (h : ℕ) (throttled : Bool) (slot : Option Slot) (reply : Reply C) (new : State C) → w.core.index h ≡ slot → Looks rules w.core h throttled slot reply new → Kept w
       → Settles rules w.core new → Held rules w → Held rules (after rules w (Applies (LoadBegin h throttled) reply new))
@@ -108,10 +113,12 @@ module _ {C : Type 0} (rules : Rules C) (Splits : Splitting C) (is_value : C →
   pick_one : (c : State C) (b : ℕ) (o : Option (Load C)) → HeldOk rules c.filling c.place o → HeldOk rules c.filling (put c.place b Reclaims) (load_unless (unless b) o)
   pick_one c b None ok = tt
   pick_one c b (Some l) ok = record {
-    below = ok.below; all = ok.all;
+    below = ok.below;
+    all = ok.all;
     stands = λ d s x is. ok.stands d s x (unless_some b d l.kept is).0;
     safe = λ d is. let u : (l.kept ≡ Some d) × (d ≡ b → ⊥) = unless_some b d l.kept is in
-        subst (λ k. (k ≡ Clean → ⊥) × (k ≡ Reclaims → ⊥)) (sym (put_other c.place b Reclaims d u.1)) (ok.safe d u.0) }
+        subst (λ k. (k ≡ Clean → ⊥) × (k ≡ Reclaims → ⊥)) (sym (put_other c.place b Reclaims d u.1)) (ok.safe d u.0);
+  }
 
   pick_held : (w : World C) (reply : Reply C) (new : State C) → Picks rules w.core reply new → Held rules w → Held rules (after rules w (Applies ReclaimBegin reply new))
   pick_held w (Picked b answers probation) new ok held =
@@ -122,7 +129,11 @@ module _ {C : Type 0} (rules : Rules C) (Splits : Splitting C) (is_value : C →
   clear_one : (filling count : ℕ → ℕ) (place sets : ℕ → Place) (o : Option (Load C)) → HeldOk rules filling place o → HeldOk rules count sets (load_unless (λ k. None) o)
   clear_one filling count place sets None ok = tt
   clear_one filling count place sets (Some l) ok = record {
-    below = ok.below; all = ok.all; stands = λ b s x is. absurd (let e : None ≡ Some b = is in cc); safe = λ b is. absurd (let e : None ≡ Some b = is in cc) }
+    below = ok.below;
+    all = ok.all;
+    stands = λ b s x is. absurd (let e : None ≡ Some b = is in cc);
+    safe = λ b is. absurd (let e : None ≡ Some b = is in cc);
+  }
 
   clear_held : (w : World C) (reply : Reply C) (new : State C) → Clears rules w.core reply new → Held rules w → Held rules (after rules w (Applies DestroyClear reply new))
   clear_held w (Cleared bs) new ok held =
@@ -168,6 +179,7 @@ module _ {C : Type 0} (rules : Rules C) (Splits : Splitting C) (is_value : C →
       lists : (place : ℕ) (es : Option (List IndexEntry)) → Lists rules w.core b r place es reply new → IsPlain reply
       lists place None given = subst IsPlain (sym given.0) tt
       lists place (Some es) given = subst IsPlain (sym given.2) (plain_told w b (stage_behind rules w.core b place es given.0) given.0)
+
       scanned : (stage : Stage) (came : Came) → Scanned rules w.core b r stage came reply new → IsPlain reply
       scanned (AtIndex place) Fault given = subst IsPlain (sym given.0) tt
       scanned (AtRecord h a rest place) Fault given = subst IsPlain (sym given.0) tt
@@ -286,7 +298,7 @@ module _ {C : Type 0} (rules : Rules C) (Splits : Splitting C) (is_value : C →
   step_held w step reply new (few, turn, (state, does, eq)) known kept held =
       subst (λ k. Held rules (after rules w (Applies step reply k))) (sym eq)
       (does_held w step reply state turn does
-        (λ none. does_settle rules Splits w.core state step reply known.sets (writes_below w known) (λ b. reclaims_at rules Splits is_value demands w b known.again) turn none does) kept held)
+      (λ none. does_settle rules Splits w.core state step reply known.sets (writes_below w known) (λ b. reclaims_at rules Splits is_value demands w b known.again) turn none does) kept held)
 
   -- accesses
   phase_held : (count : ℕ → ℕ) (sets : ℕ → Place) (f : ℕ → Phase → Phase) (o : Option (Load C))
@@ -319,21 +331,25 @@ module _ {C : Type 0} (rules : Rules C) (Splits : Splitting C) (is_value : C →
   event_held w (ReadBegins n) ok known kept held = record {
     index_below = held.index_below;
     loads = put_one (λ k o. HeldOk rules w.core.filling w.core.place o) w.loads n _
-        (phase_held w.core.filling w.core.place (begun (covers rules w)) (w.loads n) (λ l _. begun_all (covers rules w) l.ticket.address.block l.ticket.address.len l.phase) (held.loads n)) (λ k _. held.loads k) }
+        (phase_held w.core.filling w.core.place (begun (covers rules w)) (w.loads n) (λ l _. begun_all (covers rules w) l.ticket.address.block l.ticket.address.len l.phase) (held.loads n)) (λ k _. held.loads k);
+  }
   event_held w (ReadEnds n result) ok known kept held = record {
     index_below = held.index_below;
     loads = put_one (λ k o. HeldOk rules w.core.filling w.core.place o) w.loads n _
         (phase_held w.core.filling w.core.place (λ _. came result) (w.loads n)
-          (λ l is. came_all (w.bytes l.ticket.address.block) l.ticket.address.offset l.ticket.address.len result l.phase (subst (λ o. IsReadAt rules w.bytes o result) is ok)) (held.loads n)) (λ k _. held.loads k) }
+        (λ l is. came_all (w.bytes l.ticket.address.block) l.ticket.address.offset l.ticket.address.len result l.phase (subst (λ o. IsReadAt rules w.bytes o result) is ok)) (held.loads n)) (λ k _. held.loads k);
+  }
   event_held w (ScanBegins b) ok known kept held = record { index_below = held.index_below; loads = held.loads }
   event_held w (ScanEnds b result) ok known kept held = record { index_below = held.index_below; loads = held.loads }
   event_held w (WriteBegins f) ok known kept held = record {
     index_below = held.index_below;
-    loads = λ n. phase_held w.core.filling w.core.place (spoiled (will_cover (w.pens f))) (w.loads n) (λ l _. spoiled_all (will_cover (w.pens f)) l.ticket.address.block l.ticket.address.len l.phase) (held.loads n) }
+    loads = λ n. phase_held w.core.filling w.core.place (spoiled (will_cover (w.pens f))) (w.loads n) (λ l _. spoiled_all (will_cover (w.pens f)) l.ticket.address.block l.ticket.address.len l.phase) (held.loads n);
+  }
   event_held w (WriteEnds f good g) ok known kept held = record { index_below = held.index_below; loads = held.loads }
   event_held w (WipeBegins b) ok known kept held = record {
     index_below = held.index_below;
-    loads = λ n. phase_held w.core.filling w.core.place (spoiled (wipe_will_cover b (w.wipes b))) (w.loads n) (λ l _. spoiled_all (wipe_will_cover b (w.wipes b)) l.ticket.address.block l.ticket.address.len l.phase) (held.loads n) }
+    loads = λ n. phase_held w.core.filling w.core.place (spoiled (wipe_will_cover b (w.wipes b))) (w.loads n) (λ l _. spoiled_all (wipe_will_cover b (w.wipes b)) l.ticket.address.block l.ticket.address.len l.phase) (held.loads n);
+  }
   event_held w (WipeEnds b good g) ok known kept held = record { index_below = held.index_below; loads = held.loads }
 
   -- of every world that is reached
@@ -347,7 +363,8 @@ module _ {C : Type 0} (rules : Rules C) (Splits : Splitting C) (is_value : C →
   all_held w (e ∷ es) ok all = all_held (after rules w e) es ok.1 (record {
     known = known_keeps rules Splits is_value demands w e ok.0 all.known;
     kept = event_kept rules Splits is_value demands w e ok.0 all.known all.kept;
-    held = event_held w e ok.0 all.known all.kept all.held })
+    held = event_held w e ok.0 all.known all.kept all.held;
+  })
 
   opened_below : (w : World C) (h : ℕ) (slot : Option Slot) → FoundOk rules w h slot → (a : Address) → slot ≡ Some (Indexed a) → a.block < rules.blocks
   opened_below w h None found a is = absurd (let e : None ≡ Some (Indexed a) = is in cc)
@@ -358,9 +375,11 @@ module _ {C : Type 0} (rules : Rules C) (Splits : Splitting C) (is_value : C →
   reached_held w reached =
       subst IsHeldWorld reached.is
       (all_held reached.first reached.events reached.happened
-        (record {
-          known = record { sound = new_sound rules reached.first reached.opened; again = new_again rules reached.first reached.opened; sets = new_sets rules reached.first reached.opened };
-          kept = new_kept rules Splits is_value demands reached.first reached.opened;
-          held = record {
-            index_below = λ h. opened_below reached.first h (reached.first.core.index h) (found_ok rules reached.first reached.opened h);
-            loads = λ n. subst (HeldOk rules reached.first.core.filling reached.first.core.place) (sym (reached.opened.loads n)) tt } }))
+      (record {
+        known = record { sound = new_sound rules reached.first reached.opened; again = new_again rules reached.first reached.opened; sets = new_sets rules reached.first reached.opened };
+        kept = new_kept rules Splits is_value demands reached.first reached.opened;
+        held = record {
+          index_below = λ h. opened_below reached.first h (reached.first.core.index h) (found_ok rules reached.first reached.opened h);
+          loads = λ n. subst (HeldOk rules reached.first.core.filling reached.first.core.place) (sym (reached.opened.loads n)) tt;
+        };
+      }))

@@ -15,9 +15,9 @@ use Rattle.foyer_model.specs.World.{World}
 use Rattle.foyer_model.specs.Opened.{idle}
 use Rattle.foyer_model.proofs.Basics.{put_at, put_same, put_other, put_one}
 use Rattle.foyer_model.proofs.Invariant.{Ground, ground_of, InPages, IsSolid, IsGood, writing_in, blocks_in, goes_on_in, line_of, AtLeast, SlotOk, IsTended, IsSound, tended_place}
-use Rattle.foyer_model.proofs.Good.{slot_lift, load_lift}
-use Rattle.foyer_model.proofs.Loads.{slot_without, indexed}
-use Rattle.foyer_model.proofs.Flushes.{split_other, context_other, writing_other}
+use Rattle.foyer_model.proofs.GoodAddresses.{slot_lift, load_lift}
+use Rattle.foyer_model.proofs.LoadSteps.{slot_without, indexed}
+use Rattle.foyer_model.proofs.FlushSteps.{split_other, context_other, writing_other}
 
 pub plus_one : (n : ℕ) → n < last_number → plus n 1 ≡ n + 1
 plus_one n lt = go (nat_le (n + 1) last_number) refl

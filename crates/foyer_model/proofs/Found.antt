@@ -13,8 +13,8 @@ use Rattle.foyer_model.specs.Kept.{with_kept, unless}
 use Rattle.foyer_model.specs.Access.{Pen}
 use Rattle.foyer_model.proofs.Basics.{put_at, put_same, put_other, Ascends}
 use Rattle.foyer_model.proofs.Invariant.{Ground, Each, IsGood, put_in, puts_onto, SlotOk, sequences, SourceOk, RecordOk}
-use Rattle.foyer_model.proofs.Commits.{committed, noted_one, noted, newest_kept, newest_del, newest_del_other, Brings, other_newest, all_bring, put_next, commits}
-use Rattle.foyer_model.proofs.Again.{AllHere}
+use Rattle.foyer_model.proofs.CommitSteps.{committed, noted_one, noted, newest_kept, newest_del, newest_del_other, Brings, other_newest, all_bring, put_next, commits}
+use Rattle.foyer_model.proofs.Rereads.{AllHere}
 
 -- record by record, as the index and the history
 
@@ -33,9 +33,11 @@ kept_is {C} b n (p ∷ ps) m kept =
   where
     rest : List (Record C)
     rest = (commit_of b n ps (committed_one b n p m)).puts
+
     again : (t : Bool) → with_kept b (if t then p.1 ∷ rest else rest) kept ≡ with_kept b rest (if t then put kept (p.1).hash (Some b) else kept)
     again true = refl
     again false = refl
+
     one : (src : Source C) (slot : Option Slot) → with_kept b (if is_put src slot then p.1 ∷ rest else rest) kept ≡ with_kept b rest (kept_one b p.1 src slot kept)
     one (Given c) slot = refl
     one (Reread a) slot = again (holds a slot)

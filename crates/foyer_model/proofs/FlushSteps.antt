@@ -18,8 +18,8 @@ use Rattle.foyer_model.specs.Access.{Pen, Rest, Told, Under, pen_of, pen_reporte
 use Rattle.foyer_model.specs.World.{World}
 use Rattle.foyer_model.proofs.Basics.{put_at, put_same, put_other, Ascends, ascends_span, ascends_to, ascends_at_least, put_one, put_both}
 use Rattle.foyer_model.proofs.Invariant.{Ground, ground_of, Each, PenSpares, IsGood, puts_onto, queue_puts, writing_in, placed_in, blocks_in, goes_on_in, line_of, SlotOk, sequences, queue_sequences, RecordOk, AreLeft, AllWell, PenFits, WritingOk, start_of, IsTended, IsSound, one_owner, tended_place}
-use Rattle.foyer_model.proofs.Good.{good_pen, slot_lift, load_lift}
-use Rattle.foyer_model.proofs.Commits.{committed, noted, each_drop, each_front, each_past, onto_append, ascends_skip, ascends_first, ascends_join, ascends_puts, line_ascends, Brings, commits, commits_other, noted_below, unmarks, unmarks_other}
+use Rattle.foyer_model.proofs.GoodAddresses.{good_pen, slot_lift, load_lift}
+use Rattle.foyer_model.proofs.CommitSteps.{committed, noted, each_drop, each_front, each_past, onto_append, ascends_skip, ascends_first, ascends_join, ascends_puts, line_ascends, Brings, commits, commits_other, noted_below, unmarks, unmarks_other}
 
 pub put_self : {A : Type 0} (m : ℕ → A) (k : ℕ) → put m k (m k) ≡ m
 put_self m k = fun_ext (λ q. put_at (λ x. x ≡ m q) m k (m k) q (λ e. ap m (sym e)) (λ _. refl))
