@@ -120,7 +120,7 @@ abbrev pub w90 : World ℕ
 w90 = after small w89 e89
 
 pub may89 : MayHappen small SmallSplits IsSmall w89 e89
-may89 = (tt, (lit< tt, (lit< tt, refl, inr (inl (λ e. cc))), (n89, (refl, inl (refl, refl), refl), refl)))
+may89 = (tt, (lit< tt, (lit< tt, refl, inr (inl (λ e. cc))), (n89, (refl, inl refl, refl), refl)))
 
 abbrev n90 : State ℕ
 n90 = block_told small w90.core 0 0 (batch_in (w90.core.flushers 0).batch) (no_spread (filled_to 4099)) []
@@ -199,7 +199,7 @@ abbrev pub w96 : World ℕ
 w96 = after small w95 e95
 
 pub may95 : MayHappen small SmallSplits IsSmall w95 e95
-may95 = (tt, (lit< tt, (lit< tt, refl, inr (inl (λ e. cc))), (n95, (refl, inl (refl, refl), refl), refl)))
+may95 = (tt, (lit< tt, (lit< tt, refl, inr (inl (λ e. cc))), (n95, (refl, inl refl, refl), refl)))
 
 abbrev n96 : State ℕ
 n96 = block_told small w96.core 0 0 (batch_in (w96.core.flushers 0).batch) (no_spread (filled_to 4099)) []

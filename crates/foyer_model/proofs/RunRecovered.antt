@@ -476,7 +476,7 @@ abbrev pub wr30 : World ℕ
 wr30 = after small wr29 er29
 
 pub mayr29 : MayHappen small SmallSplits IsSmall wr29 er29
-mayr29 = (tt, (lit< tt, (lit< tt, refl, inr (inr (λ e. cc))), (nr29, (refl, inl (refl, refl), refl), refl)))
+mayr29 = (tt, (lit< tt, (lit< tt, refl, inr (inr (λ e. cc))), (nr29, (refl, inl refl, refl), refl)))
 
 abbrev nr30 : State ℕ
 nr30 = waits_for_block small wr30.core 0

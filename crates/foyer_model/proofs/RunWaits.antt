@@ -60,7 +60,7 @@ abbrev pub w41 : World ℕ
 w41 = after small w40 e40
 
 pub may40 : MayHappen small SmallSplits IsSmall w40 e40
-may40 = (tt, (lit< tt, (lit< tt, refl, inr (inr (λ e. cc))), (n40, (refl, inl (refl, refl), refl), refl)))
+may40 = (tt, (lit< tt, (lit< tt, refl, inr (inr (λ e. cc))), (n40, (refl, inl refl, refl), refl)))
 
 abbrev n41 : State ℕ
 n41 = record (block_told small w41.core 0 1 (batch_in (w41.core.flushers 0).batch) (no_spread empty) []) {
@@ -252,7 +252,7 @@ abbrev pub w56 : World ℕ
 w56 = after small w55 e55
 
 pub may55 : MayHappen small SmallSplits IsSmall w55 e55
-may55 = (tt, (lit< tt, (lit< tt, refl, inr (inr (λ e. cc))), (n55, (refl, inl (refl, refl), refl), refl)))
+may55 = (tt, (lit< tt, (lit< tt, refl, inr (inr (λ e. cc))), (n55, (refl, inl refl, refl), refl)))
 
 abbrev n56 : State ℕ
 n56 = waits_for_block small w56.core 0

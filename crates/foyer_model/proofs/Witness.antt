@@ -3,13 +3,14 @@ use Rattle.std.proofs.Common.{◌≡◌, ◌≢◌, ℕ, zero, suc, ◌+◌, ◌
 use Rattle.std.proofs.lemmas.Bool.{eqb-true, eqb-false, eq-eqb, ne_eqb}
 use Rattle.std.proofs.lemmas.Bool.Decides.{nat_tests}
 use Rattle.foyer_model.specs.Record.{NoRecord, NotSupported, Undecodable, Holds, Source, Record}
-use Rattle.foyer_model.specs.Filling.{Filling, Spread}
-use Rattle.foyer_model.specs.Placing.{all_laid, AllStand, writes_in, IsPlaced, IsSplit}
+use Rattle.foyer_model.specs.Filling.{Filling, Data, Index, Write, Spread, records_of}
+use Rattle.foyer_model.specs.Placing.{laid, all_laid, read, AllStand, writes_in, IsPlaced, AllPlaced, IsSplit}
 use Rattle.foyer_model.specs.World.{WorldEvent, MayAllHappen}
 use Rattle.foyer_model.specs.Opened.{recovered}
 use Rattle.foyer_model.specs.Laws.{Demands}
-use Rattle.foyer_model.specs.SmallCore.{small_pair, small_encode, small, IsSmall, three, filled_to, one_spread, no_spread, GoesTo, SmallSplits}
+use Rattle.foyer_model.specs.SmallCore.{small_pair, small_encode, small, IsSmall, three, filled_to, one_spread, no_spread, GoesTo, each_alone, SmallSplits}
 use Rattle.foyer_model.specs.Witness.{ReachesEveryReply}
+use Rattle.foyer_model.proofs.GoodAddresses.{laid_beside}
 use Rattle.foyer_model.proofs.SmallRun.{empty, w0, opened}
 use Rattle.foyer_model.proofs.RunFlush.{e0, may0, e1, may1, e2, may2, e3, may3, e4, may4, e5, may5, e6, may6, e7, may7, e8, may8, e9, may9, e10, may10, e11, may11, e12, may12, e13, may13, e14, may14, e15, may15}
 use Rattle.foyer_model.proofs.RunLoads.{e16, may16, e17, may17, e18, may18, e19, may19, e20, may20, e21, may21, e22, may22, e23, may23, e24, may24, e25, may25, e26, may26, e27, may27, e28, may28, e29, may29, e30, may30, e31, may31, e32, may32, e33, may33, e34, may34, e35, may35, e36, may36, e37, may37}
@@ -68,8 +69,55 @@ one_placed at h s a b c source low stand = record {
   behind = (low, tt);
 }
 
-split_none : (f : Filling) (rs : List (Record ℕ)) (ss : List (Spread ℕ)) → rs ≡ [] → ss ≡ no_spread f ∷ [] → IsSplit small f rs ss
-split_none f rs ss none is = subst (λ k. IsSplit small f k ss) (sym none) (subst (λ k. IsSplit small f [] k) (sym is) (record { some = λ e. cc; all = refl; placed = (no_placed f, tt) }))
+-- what is written stands
+
+read_is : (bs : List ℕ) (g : ℕ → ℕ) (o : ℕ) → ((i : ℕ) → i < length bs → g (o + i) ≡ slice_index bs i) → read g o (length bs) ≡ bs
+read_is [] g o h = refl
+read_is (b ∷ bs) g o h =
+    let none : o ≡ o + 0 = omega arith in
+    let here : g o ≡ b = ap g none ∙ h 0 (omega arith) in
+    let there : read g (o + 1) (length bs) ≡ bs = read_is bs g (o + 1) (λ i lt. let e : o + 1 + i ≡ o + suc i = omega arith in ap g e ∙ h (suc i) (omega arith)) in
+    cc
+
+laid_at : (w : Write) (g : ℕ → ℕ) (i : ℕ) → i < length w.bytes → laid w g (w.offset + i) ≡ slice_index w.bytes i
+laid_at w g i lt = go (nat_le w.offset (w.offset + i)) refl (nat_lt (w.offset + i) (w.offset + length w.bytes)) refl
+  where
+    go : (p : Bool) → nat_le w.offset (w.offset + i) ≡ p → (q : Bool) → nat_lt (w.offset + i) (w.offset + length w.bytes) ≡ q
+        → (if p && q then slice_index w.bytes (w.offset + i - w.offset) else g (w.offset + i)) ≡ slice_index w.bytes i
+    go true e true f = let back : w.offset + i - w.offset ≡ i = omega arith in ap (slice_index w.bytes) back
+    go true e false f = absurd (grind (arith, nat_tests))
+    go false e q f = absurd (grind (arith, nat_tests))
+
+alone_stands : (bs : List ℕ) (g : ℕ → ℕ) → read (laid (record { role = Index; offset = 0; bytes = [] }) (laid (record { role = Data; offset = 4096; bytes = bs }) g)) 4096 (length bs) ≡ bs
+alone_stands bs g = read_is bs _ 4096 (λ i lt.
+    laid_beside small (record { role = Index; offset = 0; bytes = [] }) (laid (record { role = Data; offset = 4096; bytes = bs }) g) (4096 + i) (inr (omega arith))
+    ∙ laid_at (record { role = Data; offset = 4096; bytes = bs }) g i lt)
+
+alone_placed : (r : Record ℕ) → IsPlaced small (filled_to 4096) (one_spread 4096 r)
+alone_placed r = record {
+  within = ((λ o near. inl (not_below o 4096 (length r.bytes) near)), ((λ o near. absurd (near (inr (omega arith)))), tt));
+  shrinks = λ o may. elim may [ inl past ↦ inl (let p : 0 + (4096 + length r.bytes) ≤ o = past in omega arith) | inr blob ↦ inr blob ];
+  stand = λ g. (alone_stands r.bytes g, tt);
+  outside = (
+    (λ o from to may. elim may [
+      | inl past ↦ (let p : 0 + (4096 + length r.bytes) ≤ o = past in absurd (omega arith))
+      | inr blob ↦ (let p : o < 0 + 4096 = blob.1 in absurd (omega arith))
+    ]),
+    tt,
+  );
+  behind = (omega arith, tt);
+}
+
+all_alone : (rs : List (Record ℕ)) → AllPlaced small (filled_to 4096) (each_alone rs)
+all_alone [] = tt
+all_alone (r ∷ rs) = (alone_placed r, all_alone rs)
+
+alone_records : (rs : List (Record ℕ)) → records_of (each_alone rs) ≡ rs
+alone_records [] = refl
+alone_records (r ∷ rs) = ap (λ k. r ∷ k) (alone_records rs)
+
+split_alone : (f : Filling) (rs : List (Record ℕ)) (ss : List (Spread ℕ)) → ss ≡ no_spread f ∷ each_alone rs → IsSplit small f rs ss
+split_alone f rs ss is = subst (λ k. IsSplit small f rs k) (sym is) (record { some = λ e. cc; all = alone_records rs; placed = (no_placed f, all_alone rs) })
 
 split_one : (at : ℕ) (f : Filling) (rs : List (Record ℕ)) (ss : List (Spread ℕ)) → GoesTo at f rs ss
     → ((h s a b c : ℕ) (source : Source ℕ) → IsPlaced small (filled_to at) (one_spread at (three h s a b c source))) → IsSplit small f rs ss
@@ -81,7 +129,7 @@ pub small_demands : Demands small SmallSplits IsSmall
 small_demands = record {
   trips = λ h s c bytes _ _ value is. small_trip h s c bytes value is;
   places = λ f rs ss splits. elim splits [
-    | inl none ↦ split_none f rs ss none.0 none.1
+    | inl alone ↦ split_alone f rs ss alone
     | inr (inl first) ↦ split_one 4096 f rs ss first (λ h s a b c source. one_placed 4096 h s a b c source (omega arith) (λ g. (refl, tt)))
     | inr (inr behind) ↦ split_one 4099 f rs ss behind (λ h s a b c source. one_placed 4099 h s a b c source (omega arith) (λ g. (refl, tt)))
   ];
@@ -90,6 +138,7 @@ small_demands = record {
 pub reaches_lem : ReachesEveryReply
 reaches_lem = record {
   demands = small_demands;
+  places = λ f rs left fits. (no_spread f ∷ each_alone rs, inl refl);
   empty = w0;
   run = run;
   is_run = record { opened = opened; happened = happened };

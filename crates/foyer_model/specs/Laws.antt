@@ -89,3 +89,11 @@ PutsAreQueued {C} rules Splits is_value =
     → Demands rules Splits is_value → IsOpened rules first → MayAllHappen rules Splits is_value first events
     → IsAmong (Put h s x) (after_all rules first events).history
     → IsAmong (Put h s x) first.history ⊎ ((c : C) × (x ≡ Holds c) × WasQueued h s c events)
+
+-- The promise of a load is what was newest when its read was told, and no later event changes it or the ticket.
+abbrev pub PromisesStay : {C : Type 0} → Rules C → Splitting C → (C → Type 0) → Type 0
+PromisesStay {C} rules Splits is_value =
+    (w : World C) (h : ℕ) (throttled : Bool) (t : Ticket) (new : State C) (events : List (WorldEvent C))
+    → MayHappen rules Splits is_value w (Applies (LoadBegin h throttled) (Read t) new)
+    → (l : Load C) × ((after_all rules w (Applies (LoadBegin h throttled) (Read t) new ∷ events)).loads w.told ≡ Some l)
+    × (l.ticket ≡ t) × (l.promise ≡ newest h w.history)

@@ -1,6 +1,6 @@
 -- A small core, for runs that show that the laws speak of something: one flusher, two blocks, a log, pages of one byte.
 -- Contents are numbers: 0 doesn't encode, 100 stands for a record that isn't supported and 101 for one that doesn't decode.
-use Rattle.std.specs.Prelude.{◌≡◌, ℕ, zero, suc, ◌+◌, ◌==◌, nat_lt, Bool, true, false, ◌&&◌, if◌then◌else◌, List, [], ◌∷◌, Option, Some, None, ◌⊎◌}
+use Rattle.std.specs.Prelude.{◌≡◌, ℕ, zero, suc, ◌+◌, ◌==◌, nat_lt, Bool, true, false, ◌&&◌, if◌then◌else◌, List, [], ◌∷◌, length, Option, Some, None, ◌⊎◌}
 use Rattle.std.proofs.Common.{lit<}
 use Rattle.std.proofs.Math.Nat.{le_refl}
 use Rattle.foyer_model.specs.Record.{Outcome, NoRecord, NotSupported, Undecodable, Holds, IndexEntry, Source, Record}
@@ -64,7 +64,7 @@ filled_to at = record { blob = 0; at = at; listed = [] }
 
 -- one record in a part of its own, or none
 abbrev pub one_spread : ℕ → Record ℕ → Spread ℕ
-one_spread at r = record { parts = record { blob = 0; at = at; content = r.bytes; index = []; records = (at, r) ∷ [] } ∷ []; end = filled_to (at + 3) }
+one_spread at r = record { parts = record { blob = 0; at = at; content = r.bytes; index = []; records = (at, r) ∷ [] } ∷ []; end = filled_to (at + length r.bytes) }
 
 -- nothing goes into the block
 abbrev pub no_spread : Filling → Spread ℕ
@@ -75,6 +75,11 @@ abbrev pub GoesTo : ℕ → Filling → List (Record ℕ) → List (Spread ℕ) 
 GoesTo at f rs ss =
     (h s a b c : ℕ) × (source : Source ℕ) × (f ≡ filled_to at) × (rs ≡ three h s a b c source ∷ []) × (ss ≡ one_spread at (three h s a b c source) ∷ [])
 
--- no record, a first record or a second one
+-- each record in a block of its own
+abbrev pub each_alone : List (Record ℕ) → List (Spread ℕ)
+each_alone [] = []
+each_alone (r ∷ rs) = one_spread 4096 r ∷ each_alone rs
+
+-- nothing more into this block and each record in one of its own, or a first record, or a second one
 abbrev pub SmallSplits : Splitting ℕ
-SmallSplits f rs ss = ((rs ≡ []) × (ss ≡ no_spread f ∷ [])) ⊎ GoesTo 4096 f rs ss ⊎ GoesTo 4099 f rs ss
+SmallSplits f rs ss = (ss ≡ no_spread f ∷ each_alone rs) ⊎ GoesTo 4096 f rs ss ⊎ GoesTo 4099 f rs ss

@@ -1,6 +1,7 @@
 -- What shows that the laws speak of something: two runs of a small core that reach every reply of the table.
 use Rattle.std.specs.Prelude.{◌≡◌, ◌≢◌, ℕ, Bool, true, ◌&&◌, List, [], ◌∷◌, ◌++◌, Some, None}
 use Rattle.foyer_model.specs.Ids.{ids, is_id_in}
+use Rattle.foyer_model.specs.Placing.{PlacesAll}
 use Rattle.foyer_model.specs.Reply.{Io, Memory, Parse, Closed, Unsupported, SequenceEnd, Reply, NotNow, Refused, Ignored, Queued, Deleted, Done, Answer, Miss, Throttled, Read, Entry, Empty, Received, Began, Written, NoBlock, Next, Committed, Failed, Ended, Picked, Scans, Listed, Cleans, Destroying, Cleared, Destroyed}
 use Rattle.foyer_model.specs.World.{World, WorldEvent, Applies, MayAllHappen}
 use Rattle.foyer_model.specs.Opened.{IsOpened}
@@ -65,6 +66,7 @@ pub record IsRun (first : World ℕ) (events : List (WorldEvent ℕ)) : Type 0 w
 -- every reply and every refusal.
 pub record ReachesEveryReply : Type 0 where
   pub demands : Demands small SmallSplits IsSmall
+  pub places : PlacesAll small SmallSplits
   pub empty : World ℕ
   pub run : List (WorldEvent ℕ)
   pub is_run : IsRun empty run
