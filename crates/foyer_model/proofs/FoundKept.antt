@@ -1,5 +1,5 @@
 -- A look-up finds the newest record, unless a reclaim or a destroy may have taken it.
-use Rattle.std.proofs.Common.{◌≡◌, ◌≢◌, ℕ, zero, suc, ◌+◌, ◌-◌, ◌<◌, ◌≤◌, ◌==◌, nat_le, nat_lt, Bool, true, false, ◌&&◌, ◌||◌, if◌then◌else◌, List, [], ◌∷◌, ◌++◌, length, map, take, slice_index, Option, Some, None, ◌⊎◌, inl, inr, refl, sym, ap, subst, ◌∙◌, arith, append_assoc}
+use Rattle.std.proofs.Common.{◌≡◌, ◌≢◌, ℕ, zero, suc, ◌+◌, ◌-◌, ◌<◌, ◌≤◌, ◌==◌, nat_le, nat_lt, Bool, true, false, ◌&&◌, ◌||◌, if◌then◌else◌, List, [], ◌∷◌, ◌++◌, length, map, take, slice_index, Option, Some, None, ◌⊎◌, inl, inr, refl, sym, ap, subst, ◌∙◌, arith, append_assoc, lit<}
 use Rattle.std.proofs.lemmas.Bool.{eqb-true, eqb-false, eq-eqb, ne_eqb}
 use Rattle.std.proofs.lemmas.Bool.Decides.{nat_tests}
 use Rattle.foyer_model.specs.Numbers.{put}
@@ -35,7 +35,7 @@ use Rattle.foyer_model.proofs.LoadSteps.{mark_enters, promised}
 use Rattle.foyer_model.proofs.FlushSteps.{last_stands, all_good, told}
 use Rattle.foyer_model.proofs.Rereads.{AllHere, ReclaimOk, still_of, IsAgain}
 use Rattle.foyer_model.proofs.Sets.{AreSets, clean_is}
-use Rattle.foyer_model.proofs.RereadsKept.{brings_of}
+use Rattle.foyer_model.proofs.RereadFlushes.{brings_of}
 use Rattle.foyer_model.proofs.SoundKept.{reclaims_at, IsKnown}
 use Rattle.foyer_model.proofs.OpenedSound.{FoundOk, found_ok}
 use Rattle.foyer_model.proofs.Found.{kept_one, all_kept, kept_is, Found, IsKept, kept_deleted, kept_put, kept_unmarked, kept_forgotten, kept_reclaimed, kept_placed, commits_found, commits_found_other}

@@ -1,5 +1,5 @@
 -- Each event keeps a world sound, and so loads answer only what they promise.
-use Rattle.std.proofs.Common.{◌≡◌, ◌≢◌, ℕ, zero, suc, ◌+◌, ◌-◌, ◌<◌, ◌≤◌, ◌==◌, nat_le, nat_lt, Bool, true, false, ◌&&◌, ◌||◌, if◌then◌else◌, List, [], ◌∷◌, ◌++◌, length, map, take, slice_index, Option, Some, None, ◌⊎◌, inl, inr, refl, sym, ap, subst, ◌∙◌, arith, append_assoc}
+use Rattle.std.proofs.Common.{◌≡◌, ◌≢◌, ℕ, zero, suc, ◌+◌, ◌-◌, ◌<◌, ◌≤◌, ◌==◌, nat_le, nat_lt, Bool, true, false, ◌&&◌, ◌||◌, if◌then◌else◌, List, [], ◌∷◌, ◌++◌, length, map, take, slice_index, Option, Some, None, ◌⊎◌, inl, inr, refl, sym, ap, subst, ◌∙◌, arith, append_assoc, lit<}
 use Rattle.std.proofs.lemmas.Bool.{eqb-true, eqb-false, eq-eqb, ne_eqb}
 use Rattle.std.proofs.lemmas.Bool.Decides.{nat_tests}
 use Rattle.foyer_model.specs.Numbers.{put, last_number}
@@ -40,7 +40,8 @@ use Rattle.foyer_model.proofs.FlushSteps.{released_other, ended, wrote_one, fail
 use Rattle.foyer_model.proofs.ReclaimSteps.{one_moved, forgot, cleared, handed}
 use Rattle.foyer_model.proofs.Rereads.{ReclaimOk, still_of, IsAgain}
 use Rattle.foyer_model.proofs.Sets.{AreSets, fillings_few, clean_is, follows_sets}
-use Rattle.foyer_model.proofs.RereadsKept.{brings_of, event_goes}
+use Rattle.foyer_model.proofs.RereadFlushes.{brings_of}
+use Rattle.foyer_model.proofs.RereadsKept.{event_goes}
 
 module _ {C : Type 0} (rules : Rules C) (Splits : Splitting C) (is_value : C → Type 0) (demands : Demands rules Splits is_value) where
   same : (w : World C) (new : State C) → new ≡ w.core → IsSound rules w → IsSound rules (record w { core = new })

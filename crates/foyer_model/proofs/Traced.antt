@@ -1,5 +1,5 @@
 -- Each put is one that was recovered or queued.
-use Rattle.std.proofs.Common.{◌≡◌, ◌≢◌, ℕ, zero, suc, ◌+◌, ◌-◌, ◌<◌, ◌≤◌, ◌==◌, nat_le, nat_lt, Bool, true, false, ◌&&◌, ◌||◌, if◌then◌else◌, List, [], ◌∷◌, ◌++◌, length, map, take, slice_index, Option, Some, None, ◌⊎◌, inl, inr, refl, sym, ap, subst, ◌∙◌, arith, append_assoc}
+use Rattle.std.proofs.Common.{◌≡◌, ◌≢◌, ℕ, zero, suc, ◌+◌, ◌-◌, ◌<◌, ◌≤◌, ◌==◌, nat_le, nat_lt, Bool, true, false, ◌&&◌, ◌||◌, if◌then◌else◌, List, [], ◌∷◌, ◌++◌, length, map, take, slice_index, Option, Some, None, ◌⊎◌, inl, inr, refl, sym, ap, subst, ◌∙◌, arith, append_assoc, lit<}
 use Rattle.std.proofs.lemmas.Bool.{eqb-true, eqb-false, eq-eqb, ne_eqb}
 use Rattle.std.proofs.lemmas.Bool.Decides.{nat_tests}
 use Rattle.foyer_model.specs.Numbers.{put}
@@ -28,7 +28,7 @@ use Rattle.foyer_model.proofs.CommitSteps.{noted_one, noted, noted_is, each_drop
 use Rattle.foyer_model.proofs.Received.{each_weaker}
 use Rattle.foyer_model.proofs.FlushSteps.{failed, records_told, told}
 use Rattle.foyer_model.proofs.Rereads.{IsAgain}
-use Rattle.foyer_model.proofs.RereadsKept.{brings_of}
+use Rattle.foyer_model.proofs.RereadFlushes.{brings_of}
 
 -- what is known of puts: K of those that were queued, R of those that were there before
 abbrev pub IsKnownPut : {C : Type 0} → (ℕ → ℕ → C → Type 0) → (ℕ → ℕ → Outcome C → Type 0) → Event C → Type 0
