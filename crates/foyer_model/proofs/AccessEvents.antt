@@ -1,6 +1,6 @@
 -- Reads and writes begin and end.
-use Rattle.std.proofs.Common.{◌≡◌, ◌≢◌, ℕ, zero, suc, ◌+◌, ◌-◌, ◌<◌, ◌≤◌, ◌==◌, nat_le, nat_lt, Bool, true, false, ◌&&◌, ◌||◌, if◌then◌else◌, List, [], ◌∷◌, ◌++◌, length, map, take, slice_index, Option, Some, None, ◌⊎◌, inl, inr, refl, sym, ap, subst, ◌∙◌, arith, append_assoc}
-use Rattle.std.proofs.lemmas.Bool.{eqb-true, eqb-false, eq-eqb, ne_eqb}
+use Rattle.std.proofs.Common.{◌≡◌, ℕ, zero, suc, ◌+◌, ◌-◌, ◌<◌, ◌≤◌, ◌==◌, nat_le, nat_lt, Bool, true, false, ◌&&◌, ◌||◌, if◌then◌else◌, List, [], ◌∷◌, ◌++◌, length, take, slice_index, Option, Some, None, inl, inr, refl, sym, ap, subst, ◌∙◌, arith}
+use Rattle.std.proofs.lemmas.Bool.{eqb-true}
 use Rattle.std.proofs.lemmas.Bool.Decides.{nat_tests}
 use Rattle.foyer_model.specs.Numbers.{put, page}
 use Rattle.foyer_model.specs.Record.{Address, Outcome, Record}
@@ -14,7 +14,6 @@ use Rattle.foyer_model.specs.World.{World, covers, IsReadAt}
 use Rattle.foyer_model.proofs.Basics.{put_at, put_other, read_same, take_read, put_one}
 use Rattle.foyer_model.proofs.Invariant.{Ground, ground_of, InPages, Spares, PenSpares, IsSolid, IsGood, writing_in, line_of, PhaseOk, IsPromised, LoadOk, AreLeft, AllWell, PenFits, WritingOk, IsTended, IsSound, one_owner}
 use Rattle.foyer_model.proofs.GoodAddresses.{good_pen, read_ended, good_ended, slot_lift, load_lift}
-use Rattle.foyer_model.proofs.LoadSteps.{promised}
 
 pub beside_not_in : (v : Write) (o : ℕ) → IsBeside v o → is_in v o ≡ false
 beside_not_in v o beside = go (nat_le v.offset o) refl (nat_lt o (v.offset + length v.bytes)) refl

@@ -1,7 +1,5 @@
 -- What one step with its reply says.
-use Rattle.std.proofs.Common.{◌≡◌, ◌≢◌, ℕ, zero, suc, ◌+◌, ◌-◌, ◌<◌, ◌≤◌, ◌==◌, nat_le, nat_lt, Bool, true, false, ◌&&◌, ◌||◌, if◌then◌else◌, List, [], ◌∷◌, ◌++◌, length, map, take, slice_index, Option, Some, None, ◌⊎◌, inl, inr, refl, sym, ap, subst, ◌∙◌, arith, append_assoc}
-use Rattle.std.proofs.lemmas.Bool.{eqb-true, eqb-false, eq-eqb, ne_eqb}
-use Rattle.std.proofs.lemmas.Bool.Decides.{nat_tests}
+use Rattle.std.proofs.Common.{◌≡◌, ℕ, ◌+◌, Bool, true, false, if◌then◌else◌, List, [], ◌∷◌, length, Option, Some, None, inl, inr, refl, sym, ap, ◌∙◌}
 use Rattle.foyer_model.specs.Record.{Slot, Source, Given, Reread, Record}
 use Rattle.foyer_model.specs.Filling.{Write, Spread}
 use Rattle.foyer_model.specs.State.{Submission, Piece, Remove, Await, Reinsert, Writing, Batch, State}
@@ -17,8 +15,6 @@ use Rattle.foyer_model.specs.Reclaim.{Picks}
 use Rattle.foyer_model.specs.Event.{Event, with_puts, puts_of, events_of}
 use Rattle.foyer_model.specs.Laws.{IsAmong}
 use Rattle.foyer_model.specs.Companions.{IsWrittenBy, PiecesAmong, QueueKeeps, CommitKeeps, ReclaimKeeps, NotNowKeeps}
-use Rattle.foyer_model.proofs.CommitSteps.{committed}
-use Rattle.foyer_model.proofs.FlushSteps.{failed, told}
 
 -- the pieces of a commit are puts
 pieces_put : {C : Type 0} (b n : ℕ) (ps : List (ℕ × Record C)) (m : ℕ → Option Slot) → PiecesAmong ps (commit_of b n ps m).puts

@@ -1,7 +1,5 @@
 -- The state afterwards is determined by the state before, the step and the reply.
-use Rattle.std.proofs.Common.{◌≡◌, ◌≢◌, ℕ, zero, suc, ◌+◌, ◌-◌, ◌<◌, ◌≤◌, ◌==◌, nat_le, nat_lt, Bool, true, false, ◌&&◌, ◌||◌, if◌then◌else◌, List, [], ◌∷◌, ◌++◌, length, map, take, slice_index, Option, Some, None, ◌⊎◌, inl, inr, refl, sym, ap, subst, ◌∙◌, arith, append_assoc, lit<}
-use Rattle.std.proofs.lemmas.Bool.{eqb-true, eqb-false, eq-eqb, ne_eqb}
-use Rattle.std.proofs.lemmas.Bool.Decides.{nat_tests}
+use Rattle.std.proofs.Common.{◌≡◌, ℕ, ◌+◌, Bool, true, false, List, [], ◌∷◌, ◌++◌, Option, Some, None, inl, inr, refl, sym, ap, ◌∙◌, arith}
 use Rattle.foyer_model.specs.Numbers.{put}
 use Rattle.foyer_model.specs.Ids.{without_id}
 use Rattle.foyer_model.specs.Record.{Slot, Indexed, Mark, Outcome, NoRecord, Holds, IndexEntry, Given}
@@ -19,7 +17,8 @@ use Rattle.foyer_model.specs.Does.{Does}
 use Rattle.foyer_model.specs.Turn.{Follows}
 use Rattle.foyer_model.specs.Access.{came}
 use Rattle.foyer_model.specs.Companions.{IsDetermined}
-use Rattle.foyer_model.proofs.FlushSteps.{failed, told}
+use Rattle.foyer_model.proofs.FlushEnds.{failed}
+use Rattle.foyer_model.proofs.FlushBlocks.{told}
 
 -- two ends of one list
 same_last : (xs ys : List ℕ) (x y : ℕ) → xs ++ x ∷ [] ≡ ys ++ y ∷ [] → (xs ≡ ys) × (x ≡ y)

@@ -1,7 +1,6 @@
 -- A look-up finds the newest record, unless a reclaim or a destroy may have taken it.
-use Rattle.std.proofs.Common.{◌≡◌, ◌≢◌, ℕ, zero, suc, ◌+◌, ◌-◌, ◌<◌, ◌≤◌, ◌==◌, nat_le, nat_lt, Bool, true, false, ◌&&◌, ◌||◌, if◌then◌else◌, List, [], ◌∷◌, ◌++◌, length, map, take, slice_index, Option, Some, None, ◌⊎◌, inl, inr, refl, sym, ap, subst, ◌∙◌, arith, append_assoc, lit<}
-use Rattle.std.proofs.lemmas.Bool.{eqb-true, eqb-false, eq-eqb, ne_eqb}
-use Rattle.std.proofs.lemmas.Bool.Decides.{nat_tests}
+use Rattle.std.proofs.Common.{◌≡◌, ℕ, ◌+◌, ◌<◌, ◌==◌, Bool, true, false, if◌then◌else◌, List, [], ◌∷◌, map, take, Option, Some, None, ◌⊎◌, inl, inr, refl, sym, ap, subst, ◌∙◌, arith}
+use Rattle.std.proofs.lemmas.Bool.{eqb-true, eqb-false}
 use Rattle.foyer_model.specs.Numbers.{put}
 use Rattle.foyer_model.specs.Record.{Address, Slot, Indexed, Mark, Outcome, NoRecord, Holds, IndexEntry, Source, Given, Reread, Record}
 use Rattle.foyer_model.specs.Filling.{Write, records_of}
@@ -31,8 +30,9 @@ use Rattle.foyer_model.proofs.Basics.{put_at, Ascends}
 use Rattle.foyer_model.proofs.Invariant.{ground_of, Each, IsGood, puts_onto, queue_puts, writing_in, batch_records, line_of, SlotOk, PhaseOk, IsPromised, LoadOk, sequences, RecordOk, WritingOk, IsTended, IsSound, RecordWaits}
 use Rattle.foyer_model.proofs.GoodAddresses.{good_pen, slot_lift}
 use Rattle.foyer_model.proofs.CommitSteps.{committed, noted, committed_is, noted_is, each_front, onto_append, line_ascends, same_address, Brings}
-use Rattle.foyer_model.proofs.LoadSteps.{mark_enters, promised}
-use Rattle.foyer_model.proofs.FlushSteps.{last_stands, all_good, told}
+use Rattle.foyer_model.proofs.LoadSteps.{mark_enters}
+use Rattle.foyer_model.proofs.FlushEnds.{last_stands, all_good}
+use Rattle.foyer_model.proofs.FlushBlocks.{told}
 use Rattle.foyer_model.proofs.Rereads.{AllHere, ReclaimOk, still_of, IsAgain}
 use Rattle.foyer_model.proofs.Sets.{AreSets, clean_is}
 use Rattle.foyer_model.proofs.RereadFlushes.{brings_of}

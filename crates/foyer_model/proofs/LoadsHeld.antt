@@ -1,7 +1,6 @@
 -- A load ends with the record that its look-up promised, unless a reclaim or a destroy may have taken it.
-use Rattle.std.proofs.Common.{◌≡◌, ◌≢◌, ℕ, zero, suc, ◌+◌, ◌-◌, ◌<◌, ◌≤◌, ◌==◌, nat_le, nat_lt, Bool, true, false, ◌&&◌, ◌||◌, if◌then◌else◌, List, [], ◌∷◌, ◌++◌, length, map, take, slice_index, Option, Some, None, ◌⊎◌, inl, inr, refl, sym, ap, subst, ◌∙◌, arith, append_assoc, lit<}
-use Rattle.std.proofs.lemmas.Bool.{eqb-true, eqb-false, eq-eqb, ne_eqb}
-use Rattle.std.proofs.lemmas.Bool.Decides.{nat_tests}
+use Rattle.std.proofs.Common.{◌≡◌, ℕ, ◌<◌, ◌==◌, Bool, true, false, if◌then◌else◌, List, [], ◌∷◌, length, Option, Some, None, refl, sym, ap, subst, ◌∙◌}
+use Rattle.std.proofs.lemmas.Bool.{eqb-false}
 use Rattle.foyer_model.specs.Numbers.{put}
 use Rattle.foyer_model.specs.Ids.{without_id}
 use Rattle.foyer_model.specs.Record.{Address, Slot, Indexed, Mark, Outcome, NoRecord, Holds, IndexEntry}
@@ -25,7 +24,7 @@ use Rattle.foyer_model.specs.World.{World, WorldEvent, Applies, ReadBegins, Read
 use Rattle.foyer_model.specs.Laws.{Demands, IsReached}
 use Rattle.foyer_model.proofs.Basics.{put_other, put_one}
 use Rattle.foyer_model.proofs.Invariant.{ground_of, writing_in, WritingOk}
-use Rattle.foyer_model.proofs.FlushSteps.{failed}
+use Rattle.foyer_model.proofs.FlushEnds.{failed}
 use Rattle.foyer_model.proofs.RereadsKept.{new_again}
 use Rattle.foyer_model.proofs.SoundKept.{reclaims_at, IsKnown, known_keeps}
 use Rattle.foyer_model.proofs.OpenedSound.{FoundOk, found_ok, new_sound, new_sets}

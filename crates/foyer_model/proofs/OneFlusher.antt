@@ -1,11 +1,8 @@
 -- Steps that change one flusher alone.
-use Rattle.std.proofs.Common.{◌≡◌, ◌≢◌, ℕ, zero, suc, ◌+◌, ◌-◌, ◌<◌, ◌≤◌, ◌==◌, nat_le, nat_lt, Bool, true, false, ◌&&◌, ◌||◌, if◌then◌else◌, List, [], ◌∷◌, ◌++◌, length, map, take, slice_index, Option, Some, None, ◌⊎◌, inl, inr, refl, sym, ap, subst, ◌∙◌, arith, append_assoc}
-use Rattle.std.proofs.lemmas.Bool.{eqb-true, eqb-false, eq-eqb, ne_eqb}
-use Rattle.std.proofs.lemmas.Bool.Decides.{nat_tests}
+use Rattle.std.proofs.Common.{◌≡◌, ℕ, ◌<◌, ◌≤◌, List, [], ◌∷◌, ◌++◌, refl, sym, ap, subst, ◌∙◌, arith}
 use Rattle.foyer_model.specs.Numbers.{put}
 use Rattle.foyer_model.specs.State.{Submission, Piece, Remove, Await, Reinsert, Flusher, Place}
 use Rattle.foyer_model.specs.Rules.{Rules}
-use Rattle.foyer_model.specs.Queue.{queued}
 use Rattle.foyer_model.specs.Event.{sequence_in, newest}
 use Rattle.foyer_model.specs.Access.{Pen}
 use Rattle.foyer_model.specs.World.{World}

@@ -1,14 +1,12 @@
 -- An opened world is sound.
-use Rattle.std.proofs.Common.{◌≡◌, ◌≢◌, ℕ, zero, suc, ◌+◌, ◌-◌, ◌<◌, ◌≤◌, ◌==◌, nat_le, nat_lt, Bool, true, false, ◌&&◌, ◌||◌, if◌then◌else◌, List, [], ◌∷◌, ◌++◌, length, map, take, slice_index, Option, Some, None, ◌⊎◌, inl, inr, refl, sym, ap, subst, ◌∙◌, arith, append_assoc}
-use Rattle.std.proofs.lemmas.Bool.{eqb-true, eqb-false, eq-eqb, ne_eqb}
-use Rattle.std.proofs.lemmas.Bool.Decides.{nat_tests}
+use Rattle.std.proofs.Common.{◌≡◌, ℕ, zero, suc, ◌+◌, ◌<◌, ◌≤◌, ◌==◌, Bool, true, false, if◌then◌else◌, List, [], ◌∷◌, Option, Some, None, inl, inr, refl, sym, ap, subst, ◌∙◌, arith}
+use Rattle.std.proofs.lemmas.Bool.{eqb-true, eqb-false}
 use Rattle.foyer_model.specs.Numbers.{put}
 use Rattle.foyer_model.specs.Ids.{ids, is_id_in}
 use Rattle.foyer_model.specs.Record.{Address, Slot, Indexed, Mark, Outcome}
 use Rattle.foyer_model.specs.State.{Place, Clean, Writes, Evictable, Reclaims, State}
 use Rattle.foyer_model.specs.Rules.{Rules}
 use Rattle.foyer_model.specs.Placing.{MayWrite, read}
-use Rattle.foyer_model.specs.Queue.{queued}
 use Rattle.foyer_model.specs.Event.{Event, Put, sequence_in, newest}
 use Rattle.foyer_model.specs.World.{World}
 use Rattle.foyer_model.specs.Opened.{slot_among, recovered, IsAlone, IsFound, AllFound, is_clean, clean_among, IsOpened}

@@ -1,14 +1,11 @@
 -- Receive and FlushBegin.
-use Rattle.std.proofs.Common.{◌≡◌, ◌≢◌, ℕ, zero, suc, ◌+◌, ◌-◌, ◌<◌, ◌≤◌, ◌==◌, nat_le, nat_lt, Bool, true, false, ◌&&◌, ◌||◌, if◌then◌else◌, List, [], ◌∷◌, ◌++◌, length, map, take, slice_index, Option, Some, None, ◌⊎◌, inl, inr, refl, sym, ap, subst, ◌∙◌, arith, append_assoc}
-use Rattle.std.proofs.lemmas.Bool.{eqb-true, eqb-false, eq-eqb, ne_eqb}
-use Rattle.std.proofs.lemmas.Bool.Decides.{nat_tests}
+use Rattle.std.proofs.Common.{◌≡◌, ℕ, ◌+◌, ◌<◌, ◌≤◌, true, List, [], ◌∷◌, ◌++◌, Option, Some, None, refl, sym, ap, subst, ◌∙◌, arith}
 use Rattle.foyer_model.specs.Numbers.{put}
 use Rattle.foyer_model.specs.Record.{Address, Given, Reread, Record}
 use Rattle.foyer_model.specs.Filling.{Filling, Spread, last_end}
 use Rattle.foyer_model.specs.State.{Submission, Piece, Remove, Await, Reinsert, Flusher}
 use Rattle.foyer_model.specs.Rules.{Rules, flusher_of}
 use Rattle.foyer_model.specs.Placing.{AllPlaced, IsSplit}
-use Rattle.foyer_model.specs.Queue.{queued}
 use Rattle.foyer_model.specs.Flush.{is_some}
 use Rattle.foyer_model.specs.World.{World}
 use Rattle.foyer_model.proofs.Basics.{Ascends, ascends_from, ascends_to}

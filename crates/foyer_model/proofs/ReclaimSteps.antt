@@ -1,6 +1,5 @@
 -- Reclaims and destroys.
-use Rattle.std.proofs.Common.{◌≡◌, ◌≢◌, ℕ, zero, suc, ◌+◌, ◌-◌, ◌<◌, ◌≤◌, ◌==◌, nat_le, nat_lt, Bool, true, false, ◌&&◌, ◌||◌, if◌then◌else◌, List, [], ◌∷◌, ◌++◌, length, map, take, slice_index, Option, Some, None, ◌⊎◌, inl, inr, refl, sym, ap, subst, ◌∙◌, arith, append_assoc}
-use Rattle.std.proofs.lemmas.Bool.{eqb-true, eqb-false, eq-eqb, ne_eqb}
+use Rattle.std.proofs.Common.{◌≡◌, ℕ, ◌+◌, ◌<◌, ◌≤◌, nat_le, nat_lt, Bool, true, false, if◌then◌else◌, List, [], ◌∷◌, Some, None, refl, sym, ap, subst, ◌∙◌, arith}
 use Rattle.std.proofs.lemmas.Bool.Decides.{nat_tests}
 use Rattle.foyer_model.specs.Numbers.{put, last_number, plus}
 use Rattle.foyer_model.specs.Record.{Address, Outcome}
@@ -8,7 +7,6 @@ use Rattle.foyer_model.specs.State.{Flusher, Place, Writes, Reclaims}
 use Rattle.foyer_model.specs.Rules.{Rules, flusher_of, empty_filling}
 use Rattle.foyer_model.specs.Index.{without, forgotten}
 use Rattle.foyer_model.specs.Placing.{MayWrite}
-use Rattle.foyer_model.specs.Queue.{queued}
 use Rattle.foyer_model.specs.Destroy.{vacated, refilled}
 use Rattle.foyer_model.specs.Event.{Destruction, sequence_in, newest}
 use Rattle.foyer_model.specs.World.{World}
@@ -17,7 +15,7 @@ use Rattle.foyer_model.proofs.Basics.{put_at, put_same, put_other, put_one}
 use Rattle.foyer_model.proofs.Invariant.{Ground, ground_of, InPages, IsSolid, IsGood, writing_in, blocks_in, goes_on_in, line_of, AtLeast, SlotOk, IsTended, IsSound, tended_place}
 use Rattle.foyer_model.proofs.GoodAddresses.{slot_lift, load_lift}
 use Rattle.foyer_model.proofs.LoadSteps.{slot_without, indexed}
-use Rattle.foyer_model.proofs.FlushSteps.{split_other, context_other, writing_other}
+use Rattle.foyer_model.proofs.FlushBlocks.{split_other, context_other, writing_other}
 
 pub plus_one : (n : ℕ) → n < last_number → plus n 1 ≡ n + 1
 plus_one n lt = go (nat_le (n + 1) last_number) refl

@@ -1,6 +1,6 @@
 -- What is in turn has a reply.
-use Rattle.std.proofs.Common.{◌≡◌, ◌≢◌, ℕ, zero, suc, ◌+◌, ◌-◌, ◌<◌, ◌≤◌, ◌==◌, nat_le, nat_lt, Bool, true, false, ◌&&◌, ◌||◌, if◌then◌else◌, List, [], ◌∷◌, ◌++◌, length, map, take, slice_index, Option, Some, None, ◌⊎◌, inl, inr, refl, sym, ap, subst, ◌∙◌, arith, append_assoc}
-use Rattle.std.proofs.lemmas.Bool.{eqb-true, eqb-false, eq-eqb, ne_eqb}
+use Rattle.std.proofs.Common.{◌≡◌, ◌≢◌, ℕ, zero, suc, ◌+◌, ◌<◌, ◌≤◌, ◌==◌, nat_le, Bool, true, false, if◌then◌else◌, List, [], ◌∷◌, ◌++◌, length, take, Option, Some, None, ◌⊎◌, inl, inr, refl, sym, ap, subst, ◌∙◌, arith}
+use Rattle.std.proofs.lemmas.Bool.{eqb-true, eqb-false}
 use Rattle.std.proofs.lemmas.Bool.Decides.{nat_tests}
 use Rattle.foyer_model.specs.Numbers.{put, last_number}
 use Rattle.foyer_model.specs.Ids.{ids, without_id}
@@ -25,8 +25,8 @@ use Rattle.foyer_model.specs.Turn.{Follows}
 use Rattle.foyer_model.specs.Access.{came}
 use Rattle.foyer_model.specs.Companions.{IsInTurnReply, InTurnReplies}
 use Rattle.foyer_model.proofs.Invariant.{writing_in, goes_on_in}
-use Rattle.foyer_model.proofs.FlushSteps.{failed, told}
-use Rattle.foyer_model.proofs.FoundKept.{looked}
+use Rattle.foyer_model.proofs.FlushEnds.{failed}
+use Rattle.foyer_model.proofs.FlushBlocks.{told}
 use Rattle.foyer_model.proofs.Served.{IsServed, reached_served}
 
 pub last_of : (xs : List ℕ) → (xs ≡ []) ⊎ ((others : List ℕ) × (x : ℕ) × (xs ≡ others ++ x ∷ []))

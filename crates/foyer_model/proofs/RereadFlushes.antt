@@ -1,7 +1,5 @@
 -- What is known of reinsertions stays through what is queued, loaded and flushed.
-use Rattle.std.proofs.Common.{◌≡◌, ◌≢◌, ℕ, zero, suc, ◌+◌, ◌-◌, ◌<◌, ◌≤◌, ◌==◌, nat_le, nat_lt, Bool, true, false, ◌&&◌, ◌||◌, if◌then◌else◌, List, [], ◌∷◌, ◌++◌, length, map, take, slice_index, Option, Some, None, ◌⊎◌, inl, inr, refl, sym, ap, subst, ◌∙◌, arith, append_assoc, lit<}
-use Rattle.std.proofs.lemmas.Bool.{eqb-true, eqb-false, eq-eqb, ne_eqb}
-use Rattle.std.proofs.lemmas.Bool.Decides.{nat_tests}
+use Rattle.std.proofs.Common.{◌≡◌, ℕ, ◌+◌, ◌≤◌, Bool, true, false, List, [], ◌∷◌, ◌++◌, map, Option, Some, None, inl, inr, refl, sym, ap, subst, ◌∙◌, arith}
 use Rattle.foyer_model.specs.Numbers.{put}
 use Rattle.foyer_model.specs.Record.{Address, Slot, Indexed, Mark, Outcome, NoRecord, Holds, Source, Given, Reread, Record}
 use Rattle.foyer_model.specs.Filling.{records_in, records_of}
@@ -25,8 +23,7 @@ use Rattle.foyer_model.proofs.Invariant.{ground_of, Each, writing_in, batch_reco
 use Rattle.foyer_model.proofs.CommitSteps.{committed, noted, committed_is, noted_is, each_drop, each_join, newest_del_other, SourceBrings, Brings, all_faithful}
 use Rattle.foyer_model.proofs.Received.{each_weaker}
 use Rattle.foyer_model.proofs.LoadSteps.{mark_enters}
-use Rattle.foyer_model.proofs.FlushSteps.{records_told}
-use Rattle.foyer_model.proofs.ReclaimSteps.{moved}
+use Rattle.foyer_model.proofs.FlushBlocks.{records_told}
 use Rattle.foyer_model.proofs.Rereads.{IsAgainIn, still_of, IsAgain, without_stays, put_stays, unmarked_stays, committed_stays, drifted, removed, one_waits}
 
 module _ {C : Type 0} (rules : Rules C) where

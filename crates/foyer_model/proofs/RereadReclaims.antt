@@ -1,7 +1,5 @@
 -- It stays through reclaims and destroys.
-use Rattle.std.proofs.Common.{◌≡◌, ◌≢◌, ℕ, zero, suc, ◌+◌, ◌-◌, ◌<◌, ◌≤◌, ◌==◌, nat_le, nat_lt, Bool, true, false, ◌&&◌, ◌||◌, if◌then◌else◌, List, [], ◌∷◌, ◌++◌, length, map, take, slice_index, Option, Some, None, ◌⊎◌, inl, inr, refl, sym, ap, subst, ◌∙◌, arith, append_assoc, lit<}
-use Rattle.std.proofs.lemmas.Bool.{eqb-true, eqb-false, eq-eqb, ne_eqb}
-use Rattle.std.proofs.lemmas.Bool.Decides.{nat_tests}
+use Rattle.std.proofs.Common.{◌≡◌, ℕ, ◌+◌, ◌<◌, ◌≤◌, nat_le, nat_lt, Bool, true, false, if◌then◌else◌, List, [], ◌∷◌, ◌++◌, length, take, Option, Some, None, inl, inr, refl, sym, ap, subst, ◌∙◌, arith}
 use Rattle.foyer_model.specs.Numbers.{put, last_number, plus}
 use Rattle.foyer_model.specs.Record.{Address, Slot, Indexed, Outcome, IndexEntry}
 use Rattle.foyer_model.specs.State.{Remove, Reinsert, Place, Clean, Writes, Evictable, Reclaims, Stage, AtIndex, AtRecord, AllListed, ToClean, Reclaim, Destroy, NoDestroy, Begun, Cleaning, State}
@@ -19,7 +17,8 @@ use Rattle.foyer_model.specs.World.{World, Applies, after}
 use Rattle.foyer_model.proofs.Basics.{put_at, put_same, put_other, put_both}
 use Rattle.foyer_model.proofs.Invariant.{Ground, ground_of, IsSolid, PhaseOk, IsSound, AllWait}
 use Rattle.foyer_model.proofs.CommitSteps.{each_join}
-use Rattle.foyer_model.proofs.FlushSteps.{failed, told}
+use Rattle.foyer_model.proofs.FlushEnds.{failed}
+use Rattle.foyer_model.proofs.FlushBlocks.{told}
 use Rattle.foyer_model.proofs.ReclaimSteps.{plus_one}
 use Rattle.foyer_model.proofs.Rereads.{AllHere, ScanOk, StageOk, ReclaimOk, IsAgainIn, still_of, IsAgain, forgotten_stays, wait_drifts, barred_here, drifted, removed, one_waits, one_reclaim, solid_at}
 use Rattle.foyer_model.proofs.RereadFlushes.{pushes, told_state}

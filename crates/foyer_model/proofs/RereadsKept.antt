@@ -1,7 +1,5 @@
 -- Each step and access keeps what is known of reinsertions.
-use Rattle.std.proofs.Common.{◌≡◌, ◌≢◌, ℕ, zero, suc, ◌+◌, ◌-◌, ◌<◌, ◌≤◌, ◌==◌, nat_le, nat_lt, Bool, true, false, ◌&&◌, ◌||◌, if◌then◌else◌, List, [], ◌∷◌, ◌++◌, length, map, take, slice_index, Option, Some, None, ◌⊎◌, inl, inr, refl, sym, ap, subst, ◌∙◌, arith, append_assoc, lit<}
-use Rattle.std.proofs.lemmas.Bool.{eqb-true, eqb-false, eq-eqb, ne_eqb}
-use Rattle.std.proofs.lemmas.Bool.Decides.{nat_tests}
+use Rattle.std.proofs.Common.{◌≡◌, ℕ, ◌<◌, ◌≤◌, Bool, true, false, if◌then◌else◌, List, [], ◌∷◌, Option, Some, None, ◌⊎◌, inl, inr, refl, sym, subst, ◌∙◌, arith}
 use Rattle.foyer_model.specs.Numbers.{last_number, page}
 use Rattle.foyer_model.specs.Ids.{without_id}
 use Rattle.foyer_model.specs.Record.{Address, Slot, Outcome}
@@ -22,7 +20,7 @@ use Rattle.foyer_model.proofs.Basics.{read_same, put_one}
 use Rattle.foyer_model.proofs.Invariant.{ground_of, InPages, IsSolid, PhaseOk, IsSound, AllWait}
 use Rattle.foyer_model.proofs.GoodAddresses.{read_ended}
 use Rattle.foyer_model.proofs.AccessEvents.{phase_begun, phase_came, phase_spoiled, pen_will_spare, wipe_will_spare, wiped_behind}
-use Rattle.foyer_model.proofs.FlushSteps.{failed}
+use Rattle.foyer_model.proofs.FlushEnds.{failed}
 use Rattle.foyer_model.proofs.Rereads.{ReclaimOk, IsAgainIn, still_of, IsAgain, reclaim_maps}
 use Rattle.foyer_model.proofs.Sets.{AreSets, fillings_few, clean_is}
 use Rattle.foyer_model.proofs.RereadFlushes.{told_state, enqueue_goes, delete_goes, wait_goes, look_goes, end_goes, take_goes, begin_goes, tell_goes, wrote_goes, finish_goes, log_goes}

@@ -1,7 +1,6 @@
 -- The reinserted record, a delete, a destroy, and a close.
-use Rattle.std.proofs.Common.{◌≡◌, ◌≢◌, ℕ, zero, suc, ◌+◌, ◌-◌, ◌<◌, ◌≤◌, ◌==◌, nat_le, nat_lt, Bool, true, false, ◌&&◌, ◌||◌, if◌then◌else◌, List, [], ◌∷◌, ◌++◌, length, map, take, slice_index, Option, Some, None, ◌⊎◌, inl, inr, refl, sym, ap, subst, ◌∙◌, arith, append_assoc, lit<}
-use Rattle.std.proofs.lemmas.Bool.{eqb-true, eqb-false, eq-eqb, ne_eqb}
-use Rattle.std.proofs.lemmas.Bool.Decides.{nat_tests}
+use Rattle.std.proofs.Common.{◌≡◌, ℕ, zero, suc, ◌+◌, ◌<◌, ◌==◌, true, false, [], ◌∷◌, ◌++◌, slice_index, Some, None, inl, inr, refl, arith, lit<}
+use Rattle.std.proofs.lemmas.Bool.{ne_eqb}
 use Rattle.foyer_model.specs.Numbers.{put}
 use Rattle.foyer_model.specs.Record.{Mark}
 use Rattle.foyer_model.specs.State.{Remove, no_stats, NoDestroy, Begun, Cleaning, State}
@@ -239,7 +238,9 @@ may98 = (tt, (lit< tt, (lit< tt, (refl, refl, inr (true, refl))), (n98, (refl, r
 
 all_idle : (f : ℕ) → IsIdle (w99.core.flushers f)
 all_idle zero = (refl, refl, refl, refl, refl)
-all_idle (suc f) = let e : (suc f == 0) ≡ false = ne_eqb (suc f) 0 (λ is. omega arith) in (rw e refl, rw e refl, rw e refl, rw e refl, rw e refl)
+all_idle (suc f) =
+    let e : (suc f == 0) ≡ false = ne_eqb (suc f) 0 (λ is. omega arith) in
+    (rw e (refl {a = []}), rw e (refl {a = []}), rw e (refl {a = []}), rw e (refl {a = []}), rw e (refl {a = None}))
 
 none_reclaimed : (b : ℕ) → w99.core.reclaims b ≡ None
 none_reclaimed zero = refl

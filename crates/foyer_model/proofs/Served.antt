@@ -1,7 +1,5 @@
 -- What a flusher always has: so that its next step has a reply.
-use Rattle.std.proofs.Common.{◌≡◌, ◌≢◌, ℕ, zero, suc, ◌+◌, ◌-◌, ◌<◌, ◌≤◌, ◌==◌, nat_le, nat_lt, Bool, true, false, ◌&&◌, ◌||◌, if◌then◌else◌, List, [], ◌∷◌, ◌++◌, length, map, take, slice_index, Option, Some, None, ◌⊎◌, inl, inr, refl, sym, ap, subst, ◌∙◌, arith, append_assoc}
-use Rattle.std.proofs.lemmas.Bool.{eqb-true, eqb-false, eq-eqb, ne_eqb}
-use Rattle.std.proofs.lemmas.Bool.Decides.{nat_tests}
+use Rattle.std.proofs.Common.{◌≡◌, ◌≢◌, ℕ, Bool, true, false, List, [], ◌∷◌, ◌++◌, length, take, Option, Some, None, inl, inr, refl, sym, ap, subst, ◌∙◌}
 use Rattle.foyer_model.specs.Numbers.{put}
 use Rattle.foyer_model.specs.Record.{Slot, Indexed, Mark, Outcome, NoRecord, Holds, IndexEntry, Record}
 use Rattle.foyer_model.specs.Filling.{Write, records_in}
@@ -24,7 +22,7 @@ use Rattle.foyer_model.specs.World.{World, WorldEvent, Applies, ReadBegins, Read
 use Rattle.foyer_model.specs.Laws.{IsReached}
 use Rattle.foyer_model.proofs.Basics.{put_one}
 use Rattle.foyer_model.proofs.Invariant.{writing_in, goes_on_in}
-use Rattle.foyer_model.proofs.FlushSteps.{failed, told}
+use Rattle.foyer_model.proofs.FlushEnds.{failed}
 
 -- its own block where a batch goes on in it, a write where a block is written, records that fit into a block, and a
 -- splitter that goes on where a batch may begin

@@ -1,7 +1,5 @@
 -- What is true of the sets of blocks and of who waits.
-use Rattle.std.proofs.Common.{◌≡◌, ◌≢◌, ℕ, zero, suc, ◌+◌, ◌-◌, ◌<◌, ◌≤◌, ◌==◌, nat_le, nat_lt, Bool, true, false, ◌&&◌, ◌||◌, if◌then◌else◌, List, [], ◌∷◌, ◌++◌, length, map, take, slice_index, Option, Some, None, ◌⊎◌, inl, inr, refl, sym, ap, subst, ◌∙◌, arith, append_assoc}
-use Rattle.std.proofs.lemmas.Bool.{eqb-true, eqb-false, eq-eqb, ne_eqb}
-use Rattle.std.proofs.lemmas.Bool.Decides.{nat_tests}
+use Rattle.std.proofs.Common.{◌≡◌, ℕ, ◌+◌, ◌<◌, ◌≤◌, nat_lt, Bool, true, false, if◌then◌else◌, List, [], ◌∷◌, length, Option, Some, None, inl, inr, refl, sym, ap, subst, ◌∙◌, arith}
 use Rattle.foyer_model.specs.Numbers.{put, last_number, plus}
 use Rattle.foyer_model.specs.Ids.{is_id_in, with_id}
 use Rattle.foyer_model.specs.Record.{Slot, Indexed, Mark, Outcome, NoRecord, Holds, IndexEntry}
@@ -23,7 +21,7 @@ use Rattle.foyer_model.specs.Turn.{Follows}
 use Rattle.foyer_model.specs.Access.{came}
 use Rattle.foyer_model.proofs.Basics.{put_at, put_other, put_one}
 use Rattle.foyer_model.proofs.Ids.{AreDistinct, same_in, later_in, in_append, in_front, in_without, distinct_without, distinct_with, in_with, in_not_in, distinct_front}
-use Rattle.foyer_model.proofs.FlushSteps.{failed, told}
+use Rattle.foyer_model.proofs.FlushEnds.{failed}
 use Rattle.foyer_model.proofs.ReclaimSteps.{plus_one}
 
 -- a clean block is in its set, a flusher that waits has no block, each flusher's block is there, and no block was filled

@@ -1,7 +1,5 @@
 -- Blocks that are neither clean nor being reclaimed stay in their filling.
-use Rattle.std.proofs.Common.{◌≡◌, ◌≢◌, ℕ, zero, suc, ◌+◌, ◌-◌, ◌<◌, ◌≤◌, ◌==◌, nat_le, nat_lt, Bool, true, false, ◌&&◌, ◌||◌, if◌then◌else◌, List, [], ◌∷◌, ◌++◌, length, map, take, slice_index, Option, Some, None, ◌⊎◌, inl, inr, refl, sym, ap, subst, ◌∙◌, arith, append_assoc}
-use Rattle.std.proofs.lemmas.Bool.{eqb-true, eqb-false, eq-eqb, ne_eqb}
-use Rattle.std.proofs.lemmas.Bool.Decides.{nat_tests}
+use Rattle.std.proofs.Common.{◌≡◌, ℕ, ◌+◌, ◌<◌, nat_le, Bool, true, false, if◌then◌else◌, List, [], ◌∷◌, Option, Some, None, inl, inr, refl, sym, ap, subst, ◌∙◌}
 use Rattle.foyer_model.specs.Numbers.{put}
 use Rattle.foyer_model.specs.Record.{Address, Slot, Indexed, Mark, Outcome, NoRecord, Holds, IndexEntry, Source, Given, Reread, Record}
 use Rattle.foyer_model.specs.State.{Submission, Piece, Remove, Await, Reinsert, Writing, Batch, Place, Clean, Writes, Evictable, Reclaims, Stage, AtIndex, AtRecord, AllListed, ToClean, Reclaim, Destroy, NoDestroy, Begun, Cleaning, State}
@@ -22,7 +20,7 @@ use Rattle.foyer_model.specs.Access.{came}
 use Rattle.foyer_model.proofs.Basics.{put_at, put_other}
 use Rattle.foyer_model.proofs.Invariant.{writing_in}
 use Rattle.foyer_model.proofs.CommitSteps.{committed, committed_is}
-use Rattle.foyer_model.proofs.FlushSteps.{failed}
+use Rattle.foyer_model.proofs.FlushEnds.{failed}
 use Rattle.foyer_model.proofs.Rereads.{without_stays, put_stays, unmarked_stays, forgotten_stays}
 use Rattle.foyer_model.proofs.Sets.{AreSets, clean_is}
 

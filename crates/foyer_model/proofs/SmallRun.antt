@@ -1,7 +1,5 @@
 -- What the small runs share: readings of a state, the empty core, and a block that begins with zeros.
-use Rattle.std.proofs.Common.{◌≡◌, ◌≢◌, ℕ, zero, suc, ◌+◌, ◌-◌, ◌<◌, ◌≤◌, ◌==◌, nat_le, nat_lt, Bool, true, false, ◌&&◌, ◌||◌, if◌then◌else◌, List, [], ◌∷◌, ◌++◌, length, map, take, slice_index, Option, Some, None, ◌⊎◌, inl, inr, refl, sym, ap, subst, ◌∙◌, arith, append_assoc, lit<}
-use Rattle.std.proofs.lemmas.Bool.{eqb-true, eqb-false, eq-eqb, ne_eqb}
-use Rattle.std.proofs.lemmas.Bool.Decides.{nat_tests}
+use Rattle.std.proofs.Common.{◌≡◌, ℕ, zero, suc, ◌+◌, ◌<◌, false, List, [], ◌∷◌, length, slice_index, Option, Some, None, inl, inr, refl, sym, ap, ◌∙◌, arith, lit<}
 use Rattle.foyer_model.specs.Record.{Address}
 use Rattle.foyer_model.specs.Filling.{Filling, Data, Index, Write}
 use Rattle.foyer_model.specs.State.{Writing, Batch, Clean, no_stats, NoDestroy, State}
@@ -12,7 +10,6 @@ use Rattle.foyer_model.specs.World.{World}
 use Rattle.foyer_model.specs.Opened.{idle, full_filling, IsOpened}
 use Rattle.foyer_model.specs.SmallCore.{small}
 use Rattle.foyer_model.proofs.GoodAddresses.{laid_beside}
-use Rattle.foyer_model.proofs.FlushSteps.{told}
 
 -- what a fact speaks of, where it is there
 

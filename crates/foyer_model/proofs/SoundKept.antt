@@ -1,7 +1,6 @@
 -- Each event keeps a world sound, and so loads answer only what they promise.
-use Rattle.std.proofs.Common.{◌≡◌, ◌≢◌, ℕ, zero, suc, ◌+◌, ◌-◌, ◌<◌, ◌≤◌, ◌==◌, nat_le, nat_lt, Bool, true, false, ◌&&◌, ◌||◌, if◌then◌else◌, List, [], ◌∷◌, ◌++◌, length, map, take, slice_index, Option, Some, None, ◌⊎◌, inl, inr, refl, sym, ap, subst, ◌∙◌, arith, append_assoc, lit<}
-use Rattle.std.proofs.lemmas.Bool.{eqb-true, eqb-false, eq-eqb, ne_eqb}
-use Rattle.std.proofs.lemmas.Bool.Decides.{nat_tests}
+use Rattle.std.proofs.Common.{◌≡◌, ℕ, ◌+◌, ◌<◌, ◌≤◌, ◌==◌, nat_lt, Bool, true, false, if◌then◌else◌, List, [], ◌∷◌, ◌++◌, length, map, take, Option, Some, None, ◌⊎◌, inl, inr, refl, sym, ap, subst, ◌∙◌, arith}
+use Rattle.std.proofs.lemmas.Bool.{eqb-true, eqb-false}
 use Rattle.foyer_model.specs.Numbers.{put, last_number}
 use Rattle.foyer_model.specs.Ids.{is_id_in, without_id}
 use Rattle.foyer_model.specs.Record.{Slot, Indexed, Mark, Outcome, NoRecord, Holds, IndexEntry}
@@ -23,7 +22,7 @@ use Rattle.foyer_model.specs.Does.{Does}
 use Rattle.foyer_model.specs.Turn.{Follows}
 use Rattle.foyer_model.specs.Event.{Deletion, Destruction, sequence_in, newest, with_puts, puts_of}
 use Rattle.foyer_model.specs.Kept.{unless}
-use Rattle.foyer_model.specs.Access.{Pen, Rest, Unread, Load, load_unless, pen_of, pen_reported, result_of, begun, came}
+use Rattle.foyer_model.specs.Access.{Pen, Rest, Unread, Load, load_unless, pen_of, pen_reported, result_of, came}
 use Rattle.foyer_model.specs.World.{World, WorldEvent, Applies, ReadBegins, ReadEnds, ScanBegins, ScanEnds, WriteBegins, WriteEnds, WipeBegins, WipeEnds, end_in, after, after_all, IsFed, MayHappen, MayAllHappen}
 use Rattle.foyer_model.specs.Opened.{is_clean}
 use Rattle.foyer_model.specs.Laws.{Demands}
@@ -36,7 +35,8 @@ use Rattle.foyer_model.proofs.OneFlusher.{one_turned, pushed}
 use Rattle.foyer_model.proofs.Received.{received_piece, returned_piece, received_mark, received_wait, received_again, dropped_again, begun_batch}
 use Rattle.foyer_model.proofs.LoadSteps.{slot_none, slot_without, mark_enters, deleted, indexed, promised}
 use Rattle.foyer_model.proofs.AccessEvents.{read_begins, read_ends, write_begins, write_ends, wipe_begins, wipe_ends}
-use Rattle.foyer_model.proofs.FlushSteps.{released_other, ended, wrote_one, failed, wrote_all, told, waited}
+use Rattle.foyer_model.proofs.FlushEnds.{released_other, ended, wrote_one, failed, wrote_all}
+use Rattle.foyer_model.proofs.FlushBlocks.{told, waited}
 use Rattle.foyer_model.proofs.ReclaimSteps.{one_moved, forgot, cleared, handed}
 use Rattle.foyer_model.proofs.Rereads.{ReclaimOk, still_of, IsAgain}
 use Rattle.foyer_model.proofs.Sets.{AreSets, fillings_few, clean_is, follows_sets}

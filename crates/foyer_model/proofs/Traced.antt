@@ -1,7 +1,5 @@
 -- Each put is one that was recovered or queued.
-use Rattle.std.proofs.Common.{◌≡◌, ◌≢◌, ℕ, zero, suc, ◌+◌, ◌-◌, ◌<◌, ◌≤◌, ◌==◌, nat_le, nat_lt, Bool, true, false, ◌&&◌, ◌||◌, if◌then◌else◌, List, [], ◌∷◌, ◌++◌, length, map, take, slice_index, Option, Some, None, ◌⊎◌, inl, inr, refl, sym, ap, subst, ◌∙◌, arith, append_assoc, lit<}
-use Rattle.std.proofs.lemmas.Bool.{eqb-true, eqb-false, eq-eqb, ne_eqb}
-use Rattle.std.proofs.lemmas.Bool.Decides.{nat_tests}
+use Rattle.std.proofs.Common.{◌≡◌, ℕ, ◌==◌, nat_le, Bool, true, false, ◌&&◌, if◌then◌else◌, List, [], ◌∷◌, ◌++◌, length, map, take, Option, Some, None, ◌⊎◌, inl, inr, refl, sym, ap, subst, ◌∙◌}
 use Rattle.foyer_model.specs.Numbers.{put}
 use Rattle.foyer_model.specs.Record.{Slot, Indexed, Mark, Outcome, NoRecord, Holds, IndexEntry, Source, Given, Reread, Record}
 use Rattle.foyer_model.specs.Filling.{records_in, records_of}
@@ -26,7 +24,8 @@ use Rattle.foyer_model.proofs.Basics.{put_one}
 use Rattle.foyer_model.proofs.Invariant.{Ground, ground_of, Each, writing_in, batch_records, WritingOk, IsSound, RecordWaits}
 use Rattle.foyer_model.proofs.CommitSteps.{noted_one, noted, noted_is, each_drop, each_join, each_front, holds_is, SourceBrings, Brings, all_bring}
 use Rattle.foyer_model.proofs.Received.{each_weaker}
-use Rattle.foyer_model.proofs.FlushSteps.{failed, records_told, told}
+use Rattle.foyer_model.proofs.FlushEnds.{failed}
+use Rattle.foyer_model.proofs.FlushBlocks.{records_told}
 use Rattle.foyer_model.proofs.Rereads.{IsAgain}
 use Rattle.foyer_model.proofs.RereadFlushes.{brings_of}
 

@@ -1,23 +1,23 @@
 -- A run that reaches every reply but three refusals, from an empty core.
-use Rattle.std.proofs.Common.{◌≡◌, ◌≢◌, ℕ, zero, suc, ◌+◌, ◌-◌, ◌<◌, ◌≤◌, ◌==◌, nat_le, nat_lt, Bool, true, false, ◌&&◌, ◌||◌, if◌then◌else◌, List, [], ◌∷◌, ◌++◌, length, map, take, slice_index, Option, Some, None, ◌⊎◌, inl, inr, refl, sym, ap, subst, ◌∙◌, arith, append_assoc, lit<}
-use Rattle.std.proofs.lemmas.Bool.{eqb-true, eqb-false, eq-eqb, ne_eqb}
+use Rattle.std.proofs.Common.{◌≡◌, ℕ, zero, suc, ◌+◌, ◌-◌, ◌<◌, ◌≤◌, ◌==◌, nat_le, nat_lt, Bool, true, false, ◌&&◌, if◌then◌else◌, List, [], ◌∷◌, length, slice_index, Some, None, ◌⊎◌, inl, inr, refl, sym, ap, subst, ◌∙◌, arith}
+use Rattle.std.proofs.lemmas.Bool.{eqb-true, eqb-false}
 use Rattle.std.proofs.lemmas.Bool.Decides.{nat_tests}
 use Rattle.foyer_model.specs.Record.{NoRecord, NotSupported, Undecodable, Holds, Source, Record}
 use Rattle.foyer_model.specs.Filling.{Filling, Data, Index, Write, Spread, records_of}
 use Rattle.foyer_model.specs.Placing.{laid, all_laid, read, AllStand, writes_in, IsPlaced, AllPlaced, IsSplit}
 use Rattle.foyer_model.specs.World.{WorldEvent, MayAllHappen}
-use Rattle.foyer_model.specs.Opened.{recovered}
 use Rattle.foyer_model.specs.Laws.{Demands}
 use Rattle.foyer_model.specs.SmallCore.{small_pair, small_encode, small, IsSmall, three, filled_to, one_spread, no_spread, GoesTo, each_alone, SmallSplits}
 use Rattle.foyer_model.specs.Witness.{ReachesEveryReply}
 use Rattle.foyer_model.proofs.GoodAddresses.{laid_beside}
-use Rattle.foyer_model.proofs.SmallRun.{empty, w0, opened}
+use Rattle.foyer_model.proofs.SmallRun.{w0, opened}
 use Rattle.foyer_model.proofs.RunFlush.{e0, may0, e1, may1, e2, may2, e3, may3, e4, may4, e5, may5, e6, may6, e7, may7, e8, may8, e9, may9, e10, may10, e11, may11, e12, may12, e13, may13, e14, may14, e15, may15}
 use Rattle.foyer_model.proofs.RunLoads.{e16, may16, e17, may17, e18, may18, e19, may19, e20, may20, e21, may21, e22, may22, e23, may23, e24, may24, e25, may25, e26, may26, e27, may27, e28, may28, e29, may29, e30, may30, e31, may31, e32, may32, e33, may33, e34, may34, e35, may35, e36, may36, e37, may37}
 use Rattle.foyer_model.proofs.RunWaits.{e38, may38, e39, may39, e40, may40, e41, may41, e42, may42, e43, may43, e44, may44, e45, may45, e46, may46, e47, may47, e48, may48, e49, may49, e50, may50, e51, may51, e52, may52, e53, may53, e54, may54, e55, may55, e56, may56}
 use Rattle.foyer_model.proofs.RunReclaim.{e57, may57, e58, may58, e59, may59, e60, may60, e61, may61, e62, may62, e63, may63, e64, may64, e65, may65, e66, may66, e67, may67, e68, may68, e69, may69, e70, may70, e71, may71, e72, may72, e73, may73, e74, may74, e75, may75, e76, may76, e77, may77, e78, may78, e79, may79, e80, may80, e81, may81}
 use Rattle.foyer_model.proofs.RunDestroy.{e82, may82, e83, may83, e84, may84, e85, may85, e86, may86, e87, may87, e88, may88, e89, may89, e90, may90, e91, may91, e92, may92, e93, may93, e94, may94, e95, may95, e96, may96, e97, may97, e98, may98, e99, may99, e100, may100, e101, may101, e102, may102, e103, may103, e104, may104, e105, may105, e106, may106, e107, may107, e108, may108}
-use Rattle.foyer_model.proofs.RunRecovered.{wr0, opened_recovered, er0, mayr0, er1, mayr1, er2, mayr2, er3, mayr3, er4, mayr4, er5, mayr5, er6, mayr6, er7, mayr7, er8, mayr8, er9, mayr9, er10, mayr10, er11, mayr11, er12, mayr12, er13, mayr13, er14, mayr14, er15, mayr15, er16, mayr16, er17, mayr17, er18, mayr18, er19, mayr19, er20, mayr20, er21, mayr21, er22, mayr22, er23, mayr23, er24, mayr24, er25, mayr25, er26, mayr26, er27, mayr27, er28, mayr28, er29, mayr29, er30, mayr30, er31, mayr31, er32, mayr32, er33, mayr33, er34, mayr34, er35, mayr35, er36, mayr36, er37, mayr37, er38, mayr38, er39, mayr39}
+use Rattle.foyer_model.proofs.RunRecovered.{wr0, opened_recovered, er0, mayr0, er1, mayr1, er2, mayr2, er3, mayr3, er4, mayr4, er5, mayr5, er6, mayr6, er7, mayr7, er8, mayr8, er9, mayr9, er10, mayr10, er11, mayr11, er12, mayr12, er13, mayr13, er14, mayr14, er15, mayr15, er16, mayr16}
+use Rattle.foyer_model.proofs.RunLost.{er17, mayr17, er18, mayr18, er19, mayr19, er20, mayr20, er21, mayr21, er22, mayr22, er23, mayr23, er24, mayr24, er25, mayr25, er26, mayr26, er27, mayr27, er28, mayr28, er29, mayr29, er30, mayr30, er31, mayr31, er32, mayr32, er33, mayr33, er34, mayr34, er35, mayr35, er36, mayr36, er37, mayr37, er38, mayr38, er39, mayr39}
 
 abbrev pub run : List (WorldEvent ℕ)
 run = e0 ∷ e1 ∷ e2 ∷ e3 ∷ e4 ∷ e5 ∷ e6 ∷ e7 ∷ e8 ∷ e9 ∷ e10 ∷ e11 ∷ e12 ∷ e13 ∷ e14 ∷ e15 ∷ e16 ∷ e17 ∷ e18 ∷ e19 ∷ e20 ∷ e21 ∷ e22 ∷ e23 ∷ e24 ∷ e25 ∷ e26 ∷ e27 ∷ e28 ∷ e29 ∷ e30 ∷ e31 ∷ e32 ∷ e33 ∷ e34 ∷ e35 ∷ e36 ∷ e37 ∷ e38 ∷ e39 ∷ e40 ∷ e41 ∷ e42 ∷ e43 ∷ e44 ∷ e45 ∷ e46 ∷ e47 ∷ e48 ∷ e49 ∷ e50 ∷ e51 ∷ e52 ∷ e53 ∷ e54 ∷ e55 ∷ e56 ∷ e57 ∷ e58 ∷ e59 ∷ e60 ∷ e61 ∷ e62 ∷ e63 ∷ e64 ∷ e65 ∷ e66 ∷ e67 ∷ e68 ∷ e69 ∷ e70 ∷ e71 ∷ e72 ∷ e73 ∷ e74 ∷ e75 ∷ e76 ∷ e77 ∷ e78 ∷ e79 ∷ e80 ∷ e81 ∷ e82 ∷ e83 ∷ e84 ∷ e85 ∷ e86 ∷ e87 ∷ e88 ∷ e89 ∷ e90 ∷ e91 ∷ e92 ∷ e93 ∷ e94 ∷ e95 ∷ e96 ∷ e97 ∷ e98 ∷ e99 ∷ e100 ∷ e101 ∷ e102 ∷ e103 ∷ e104 ∷ e105 ∷ e106 ∷ e107 ∷ e108 ∷ []

@@ -1,5 +1,5 @@
 -- The accesses that replies told: reads of loads and of reclaims, the writes of a flusher, and cleans.
-use Rattle.std.specs.Prelude.{◌≡◌, ℕ, suc, zero, ◌+◌, ◌<◌, ◌≤◌, ◌==◌, nat_le, nat_lt, Bool, true, false, ◌&&◌, ◌||◌, if◌then◌else◌, List, [], ◌∷◌, ◌++◌, length, Option, Some, None, slice_index}
+use Rattle.std.specs.Prelude.{◌≡◌, ℕ, suc, zero, ◌+◌, ◌<◌, ◌≤◌, ◌==◌, nat_le, nat_lt, Bool, false, ◌&&◌, ◌||◌, if◌then◌else◌, List, [], ◌∷◌, ◌++◌, length, Option, Some, None, slice_index}
 use Rattle.foyer_model.specs.Numbers.{put, page}
 use Rattle.foyer_model.specs.Ids.{is_id_in}
 use Rattle.foyer_model.specs.Filling.{Write}

@@ -1,5 +1,5 @@
 -- The commit of a block's records: one fold gives the index, the puts and their number.
-use Rattle.std.specs.Prelude.{ℕ, Bool, true, false, if◌then◌else◌, List, [], ◌∷◌, length, Option, Some, None}
+use Rattle.std.specs.Prelude.{ℕ, Bool, true, if◌then◌else◌, List, [], ◌∷◌, length, Option, Some}
 use Rattle.foyer_model.specs.Numbers.{put}
 use Rattle.foyer_model.specs.Record.{Address, Slot, Indexed, Source, Given, Reread, Record}
 use Rattle.foyer_model.specs.Index.{holds, inserted}

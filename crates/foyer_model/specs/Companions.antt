@@ -1,12 +1,11 @@
 -- The clauses that go with the laws: what one step with its reply says.
-use Rattle.std.specs.Prelude.{◌≡◌, ◌≢◌, ℕ, ◌<◌, Bool, true, List, [], ◌∷◌, length, Option, Some, None}
+use Rattle.std.specs.Prelude.{◌≡◌, ℕ, ◌<◌, Bool, true, List, [], ◌∷◌, length, Option, Some}
 use Rattle.foyer_model.specs.Numbers.{last_number}
 use Rattle.foyer_model.specs.Record.{Given, Record}
 use Rattle.foyer_model.specs.Filling.{Write, Spread, records_of}
 use Rattle.foyer_model.specs.State.{Submission, Piece, Writing, Batch, Evictable, State}
 use Rattle.foyer_model.specs.Rules.{Rules, Splitting}
 use Rattle.foyer_model.specs.Placing.{writes_in, KeepsRecords, PlacesAll}
-use Rattle.foyer_model.specs.Commit.{Commit}
 use Rattle.foyer_model.specs.Step.{Age, Step, Enqueue, Receive, FlushBegin, FlushBlock, FlushWrote, ReclaimBegin}
 use Rattle.foyer_model.specs.Reply.{Kind, Reply, NotNow, Refused, Ignored, Received, Began, Written, Committed, Failed, Picked}
 use Rattle.foyer_model.specs.Queue.{IsIgnored}

@@ -4,7 +4,6 @@ use Rattle.foyer_model.specs.Record.{Outcome, NoRecord, Holds, Source, Given, Re
 use Rattle.foyer_model.specs.State.{Writing, Batch, State}
 use Rattle.foyer_model.specs.Step.{Step, Delete, FlushWrote, DestroyClear}
 use Rattle.foyer_model.specs.Reply.{Reply, Deleted, Committed, Cleared}
-use Rattle.foyer_model.specs.Commit.{Commit}
 use Rattle.foyer_model.specs.Flush.{commit_in}
 
 -- a put of what a record is, a delete, or a destroy

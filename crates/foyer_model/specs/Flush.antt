@@ -10,7 +10,7 @@ use Rattle.foyer_model.specs.Rules.{Rules, empty_filling, Splitting}
 use Rattle.foyer_model.specs.Placing.{writes_in}
 use Rattle.foyer_model.specs.Commit.{Commit, commit_of}
 use Rattle.foyer_model.specs.Reply.{Reply, Began, Written, NoBlock, Next, Committed, Failed, Ended, Done}
-use Rattle.foyer_model.specs.Receive.{pieces_of, flusher, turned}
+use Rattle.foyer_model.specs.Receive.{pieces_of, turned}
 
 -- whether there is one
 abbrev pub is_some : {A : Type 0} → Option A → Bool

@@ -1,5 +1,5 @@
 -- Lists of blocks and of flushers, by their numbers.
-use Rattle.std.specs.Prelude.{ℕ, suc, zero, ◌==◌, Bool, true, false, ◌||◌, if◌then◌else◌, List, [], ◌∷◌, ◌++◌}
+use Rattle.std.specs.Prelude.{ℕ, suc, zero, ◌==◌, Bool, false, ◌||◌, if◌then◌else◌, List, [], ◌∷◌, ◌++◌}
 
 -- the ids below n, in order
 abbrev pub ids : ℕ → List ℕ

@@ -1,5 +1,5 @@
 -- Which steps are in turn.
-use Rattle.std.specs.Prelude.{◌≡◌, ◌≢◌, ℕ, ◌<◌, Bool, true, false, List, [], length, Option, Some, None, ◌⊎◌}
+use Rattle.std.specs.Prelude.{◌≡◌, ◌≢◌, ℕ, ◌<◌, Bool, true, false, [], length, Option, Some, None, ◌⊎◌}
 use Rattle.foyer_model.specs.Ids.{is_id_in}
 use Rattle.foyer_model.specs.State.{Writing, Batch, Stage, AtIndex, AtRecord, AllListed, ToClean, Reclaim, Destroy, NoDestroy, Begun, Cleaning, State}
 use Rattle.foyer_model.specs.Rules.{Rules}

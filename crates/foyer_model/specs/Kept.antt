@@ -5,7 +5,6 @@ use Rattle.foyer_model.specs.Record.{Record}
 use Rattle.foyer_model.specs.State.{Writing, Batch, State}
 use Rattle.foyer_model.specs.Step.{Step, FlushWrote, ReclaimBegin, DestroyClear}
 use Rattle.foyer_model.specs.Reply.{Reply, Committed, Picked, Cleared}
-use Rattle.foyer_model.specs.Commit.{Commit}
 use Rattle.foyer_model.specs.Flush.{commit_in}
 
 -- these records were put into a block

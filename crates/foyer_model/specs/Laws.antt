@@ -1,5 +1,5 @@
 -- What holds of every list of world events, from any opened core, for any number of blocks and flushers.
-use Rattle.std.specs.Prelude.{◌≡◌, ◌≢◌, ℕ, ◌<◌, Bool, true, false, List, [], ◌∷◌, Option, Some, None, ◌⊎◌}
+use Rattle.std.specs.Prelude.{◌≡◌, ◌≢◌, ℕ, ◌<◌, Bool, true, false, List, [], ◌∷◌, Some, ◌⊎◌}
 use Rattle.foyer_model.specs.Numbers.{last_number}
 use Rattle.foyer_model.specs.Record.{Outcome, NoRecord, NotSupported, Undecodable, Holds}
 use Rattle.foyer_model.specs.State.{State}
@@ -7,7 +7,7 @@ use Rattle.foyer_model.specs.Rules.{Rules, Splitting, HasRoundTrip}
 use Rattle.foyer_model.specs.Placing.{KeepsRecords}
 use Rattle.foyer_model.specs.Step.{Came, Bytes, Fault, Age, Ticket, Enqueue, LoadBegin, LoadEnd}
 use Rattle.foyer_model.specs.Reply.{Io, Memory, Parse, Unsupported, Reply, Refused, Queued, Miss, Throttled, Read, Entry}
-use Rattle.foyer_model.specs.Event.{Event, Put, newest}
+use Rattle.foyer_model.specs.Event.{Put, newest}
 use Rattle.foyer_model.specs.Access.{Load, HasRead}
 use Rattle.foyer_model.specs.World.{World, WorldEvent, Applies, MayHappen, MayAllHappen, after_all}
 use Rattle.foyer_model.specs.Opened.{IsOpened}

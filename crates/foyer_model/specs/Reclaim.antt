@@ -1,10 +1,10 @@
 -- Reclaims.
-use Rattle.std.specs.Prelude.{◌≡◌, ◌≢◌, ℕ, suc, zero, ◌+◌, ◌<◌, ◌≤◌, ◌%◌, ◌==◌, nat_le, nat_lt, Bool, true, false, ◌&&◌, ◌||◌, if◌then◌else◌, List, [], ◌∷◌, ◌++◌, length, take, Option, Some, None, ◌⊎◌}
+use Rattle.std.specs.Prelude.{◌≡◌, ◌≢◌, ℕ, suc, zero, ◌+◌, ◌<◌, ◌≤◌, ◌==◌, nat_le, nat_lt, Bool, true, false, ◌&&◌, ◌||◌, if◌then◌else◌, List, [], ◌∷◌, ◌++◌, length, take, Option, Some, None, ◌⊎◌}
 use Rattle.foyer_model.specs.Numbers.{put, last_number}
 use Rattle.foyer_model.specs.Record.{Address, IndexEntry}
 use Rattle.foyer_model.specs.Index.{is_same, forgotten}
 use Rattle.foyer_model.specs.State.{Reinsert, Place, Clean, Writes, Evictable, Reclaims, Stats, no_stats, Stage, AtIndex, AtRecord, AllListed, ToClean, Reclaim, State}
-use Rattle.foyer_model.specs.Rules.{Rules, flusher_of, empty_filling}
+use Rattle.foyer_model.specs.Rules.{Rules, flusher_of}
 use Rattle.foyer_model.specs.Step.{Came, Bytes, Fault}
 use Rattle.foyer_model.specs.Reply.{Reply, Picked, Scans, Listed, Cleans, Done, Answer}
 use Rattle.foyer_model.specs.Queue.{queued}

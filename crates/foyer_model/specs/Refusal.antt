@@ -4,7 +4,7 @@ use Rattle.foyer_model.specs.Numbers.{last_number}
 use Rattle.foyer_model.specs.Record.{NotSupported, Undecodable}
 use Rattle.foyer_model.specs.State.{State}
 use Rattle.foyer_model.specs.Rules.{Rules, Splitting}
-use Rattle.foyer_model.specs.Step.{Bytes, Fault, Step, Enqueue, Delete, Wait, MayContains, LoadBegin, LoadEnd, Receive, FlushBegin, FlushBlock, FlushWrote, LogWrote, FlushEnd, ReclaimBegin, ReclaimRead, ReclaimForget, ReclaimCleaned, ReclaimIdle, DestroyBegin, DestroyClear, DestroyCleaned, Close}
+use Rattle.foyer_model.specs.Step.{Bytes, Fault, Step, Enqueue, Delete, Wait, LoadEnd, Receive, FlushBegin, FlushBlock, ReclaimBegin, ReclaimRead, ReclaimCleaned, DestroyBegin, DestroyClear}
 use Rattle.foyer_model.specs.Reply.{Kind, Io, Memory, Parse, Closed, Unsupported, SequenceEnd, Reply, Queued, Deleted, Done, Received, Began, Written, NoBlock, Picked, Destroying, Cleared}
 use Rattle.foyer_model.specs.Queue.{IsIgnored}
 use Rattle.foyer_model.specs.Load.{judged, IsDecoded}

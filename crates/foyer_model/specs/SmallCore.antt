@@ -1,9 +1,9 @@
 -- A small core, for runs that show that the laws speak of something: one flusher, two blocks, a log, pages of one byte.
 -- Contents are numbers: 0 doesn't encode, 100 stands for a record that isn't supported and 101 for one that doesn't decode.
-use Rattle.std.specs.Prelude.{◌≡◌, ℕ, zero, suc, ◌+◌, ◌==◌, nat_lt, Bool, true, false, ◌&&◌, if◌then◌else◌, List, [], ◌∷◌, length, Option, Some, None, ◌⊎◌}
+use Rattle.std.specs.Prelude.{◌≡◌, ℕ, zero, suc, ◌+◌, ◌==◌, nat_lt, true, ◌&&◌, if◌then◌else◌, List, [], ◌∷◌, length, Option, Some, None, ◌⊎◌}
 use Rattle.std.proofs.Common.{lit<}
 use Rattle.std.proofs.Math.Nat.{le_refl}
-use Rattle.foyer_model.specs.Record.{Outcome, NoRecord, NotSupported, Undecodable, Holds, IndexEntry, Source, Record}
+use Rattle.foyer_model.specs.Record.{Outcome, NoRecord, NotSupported, Undecodable, Holds, Source, Record}
 use Rattle.foyer_model.specs.Filling.{Filling, Data, Index, Write, Part, Spread}
 use Rattle.foyer_model.specs.Rules.{Rules, Splitting}
 

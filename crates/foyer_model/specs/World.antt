@@ -4,7 +4,7 @@ use Rattle.foyer_model.specs.Numbers.{put, last_number}
 use Rattle.foyer_model.specs.Filling.{Filling, Write, Spread}
 use Rattle.foyer_model.specs.State.{Batch, State}
 use Rattle.foyer_model.specs.Rules.{Rules, empty_filling, Splitting}
-use Rattle.foyer_model.specs.Step.{Came, Bytes, Fault, Ticket, Step, Enqueue, LoadEnd, FlushBlock, FlushWrote, ReclaimRead, ReclaimCleaned, DestroyClear, DestroyCleaned}
+use Rattle.foyer_model.specs.Step.{Came, Step, Enqueue, LoadEnd, FlushBlock, FlushWrote, ReclaimRead, ReclaimCleaned, DestroyClear, DestroyCleaned}
 use Rattle.foyer_model.specs.Reply.{Reply, Written, Cleared, Done}
 use Rattle.foyer_model.specs.Turn.{Follows}
 use Rattle.foyer_model.specs.Event.{Event, events_of}
