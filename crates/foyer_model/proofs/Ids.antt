@@ -1,12 +1,7 @@
 -- Lists of ids.
 use Rattle.std.proofs.Common.{◌≡◌, ℕ, ◌==◌, Bool, true, false, ◌||◌, if◌then◌else◌, List, [], ◌∷◌, ◌++◌, ◌⊎◌, inl, inr, refl, sym, subst, ◌∙◌}
 use Rattle.std.proofs.lemmas.Bool.{eqb-true, eqb-false}
-use Rattle.foyer_model.specs.Ids.{is_id_in, without_id, with_id}
-
--- no id is there twice
-abbrev pub AreDistinct : List ℕ → Type 0
-AreDistinct [] = Unit {0}
-AreDistinct (x ∷ xs) = (is_id_in x xs ≡ false) × AreDistinct xs
+use Rattle.foyer_model.specs.Ids.{is_id_in, without_id, with_id, AreDistinct}
 
 pub same_in : (b : ℕ) (bs : List ℕ) → is_id_in b (b ∷ bs) ≡ true
 same_in b bs = go (b == b) refl

@@ -287,13 +287,13 @@ module _ {C : Type 0} (rules : Rules C) (Splits : Splitting C) (is_value : C →
   does_held w (DestroyCleaned b well) reply new turn ok settles kept held = plain_held w (DestroyCleaned b well) reply new (cleans_plain w b well w.core.destroy reply new ok) (settles tt) held
   does_held w Close reply new turn ok settles kept held = plain_held w Close reply new (subst IsPlain (sym ok.0) tt) (settles tt) held
 
-  writes_below : (w : World C) → IsKnown rules Splits is_value demands w → (f : ℕ) (r : Writing C) → writing_in (w.core.flushers f).batch ≡ Some r → r.block < rules.blocks
+  pub writes_below : (w : World C) → IsKnown rules Splits is_value demands w → (f : ℕ) (r : Writing C) → writing_in (w.core.flushers f).batch ≡ Some r → r.block < rules.blocks
   writes_below w known f r is =
       known.sets.own f r.block (subst (λ o. WritingOk rules (ground_of w) (w.core.flushers f).own o (w.pens f)) is (known.sound.flushers f).writing).0
 
   step_held : (w : World C) (step : Step C) (reply : Reply C) (new : State C) → Follows rules Splits w.core step reply new → IsKnown rules Splits is_value demands w → Kept w → Held rules w → Held rules (after rules w (Applies step reply new))
-  step_held w step (NotNow back) new ok known kept held = settles_held w new (subst (Settles rules w.core) (sym ok.2) (record { stays = λ b p q. (refl, (p, q)); below = λ ok. ok })) held
-  step_held w step (Refused kind back) new ok known kept held = settles_held w new (subst (Settles rules w.core) (sym ok.2) (record { stays = λ b p q. (refl, (p, q)); below = λ ok. ok })) held
+  step_held w step (NotNow back) new ok known kept held = settles_held w new (subst (Settles rules w.core) (sym ok.2) (record { stays = λ b p q. (refl, (p, q)); listed = λ l. l; below = λ ok. ok })) held
+  step_held w step (Refused kind back) new ok known kept held = settles_held w new (subst (Settles rules w.core) (sym ok.2) (record { stays = λ b p q. (refl, (p, q)); listed = λ l. l; below = λ ok. ok })) held
   step_held w step reply new (few, turn, (state, does, eq)) known kept held =
       subst (λ k. Held rules (after rules w (Applies step reply k))) (sym eq)
       (does_held w step reply state turn does

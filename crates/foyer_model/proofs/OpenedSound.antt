@@ -2,7 +2,7 @@
 use Rattle.std.proofs.Common.{◌≡◌, ℕ, zero, suc, ◌+◌, ◌<◌, ◌≤◌, ◌==◌, Bool, true, false, if◌then◌else◌, List, [], ◌∷◌, Option, Some, None, inl, inr, refl, sym, ap, subst, ◌∙◌, arith}
 use Rattle.std.proofs.lemmas.Bool.{eqb-true, eqb-false}
 use Rattle.foyer_model.specs.Numbers.{put}
-use Rattle.foyer_model.specs.Ids.{ids, is_id_in}
+use Rattle.foyer_model.specs.Ids.{ids, is_id_in, AreDistinct}
 use Rattle.foyer_model.specs.Record.{Address, Slot, Indexed, Mark, Outcome}
 use Rattle.foyer_model.specs.State.{Place, Clean, Writes, Evictable, Reclaims, State}
 use Rattle.foyer_model.specs.Rules.{Rules}
@@ -10,7 +10,7 @@ use Rattle.foyer_model.specs.Placing.{MayWrite, read}
 use Rattle.foyer_model.specs.Event.{Event, Put, sequence_in, newest}
 use Rattle.foyer_model.specs.World.{World}
 use Rattle.foyer_model.specs.Opened.{slot_among, recovered, IsAlone, IsFound, AllFound, is_clean, clean_among, IsOpened}
-use Rattle.foyer_model.proofs.Ids.{AreDistinct, same_in, later_in, in_cases, in_append}
+use Rattle.foyer_model.proofs.Ids.{same_in, later_in, in_cases, in_append}
 use Rattle.foyer_model.proofs.Invariant.{ground_of, PenSpares, line_of, SlotOk, LoadOk, IsTended, IsSound}
 use Rattle.foyer_model.proofs.CommitSteps.{newest_put, newest_other}
 use Rattle.foyer_model.proofs.Sets.{AreSets}
@@ -149,7 +149,7 @@ module _ {C : Type 0} (rules : Rules C) where
       go Evictable at h rec = let r : (place b ≡ Clean) × (is_id_in b bs ≡ true) = rec h in (r.0, later r.1)
       go Reclaims at h rec = let r : (place b ≡ Clean) × (is_id_in b bs ≡ true) = rec h in (r.0, later r.1)
 
-  ids_below : (n b : ℕ) → is_id_in b (ids n) ≡ true → b < n
+  pub ids_below : (n b : ℕ) → is_id_in b (ids n) ≡ true → b < n
   ids_below zero b is = absurd (let e : false ≡ true = is in cc)
   ids_below (suc n) b is = elim (in_append b n (ids n) is) [
     | inl there ↦ (let lt : b < n = ids_below n b there in omega arith)

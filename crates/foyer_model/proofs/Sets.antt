@@ -1,7 +1,7 @@
 -- What is true of the sets of blocks and of who waits.
 use Rattle.std.proofs.Common.{◌≡◌, ℕ, ◌+◌, ◌<◌, ◌≤◌, nat_lt, Bool, true, false, if◌then◌else◌, List, [], ◌∷◌, length, Option, Some, None, inl, inr, refl, sym, ap, subst, ◌∙◌, arith}
 use Rattle.foyer_model.specs.Numbers.{put, last_number, plus}
-use Rattle.foyer_model.specs.Ids.{is_id_in, with_id}
+use Rattle.foyer_model.specs.Ids.{is_id_in, with_id, AreDistinct}
 use Rattle.foyer_model.specs.Record.{Slot, Indexed, Mark, Outcome, NoRecord, Holds, IndexEntry}
 use Rattle.foyer_model.specs.Filling.{Spread}
 use Rattle.foyer_model.specs.State.{Submission, Piece, Remove, Await, Reinsert, Batch, Flusher, Place, Clean, Writes, Evictable, Reclaims, Stage, AtIndex, AtRecord, ToClean, Reclaim, Destroy, NoDestroy, Begun, Cleaning, State}
@@ -20,7 +20,7 @@ use Rattle.foyer_model.specs.Does.{Does}
 use Rattle.foyer_model.specs.Turn.{Follows}
 use Rattle.foyer_model.specs.Access.{came}
 use Rattle.foyer_model.proofs.Basics.{put_at, put_other, put_one}
-use Rattle.foyer_model.proofs.Ids.{AreDistinct, same_in, later_in, in_append, in_front, in_without, distinct_without, distinct_with, in_with, in_not_in, distinct_front}
+use Rattle.foyer_model.proofs.Ids.{same_in, later_in, in_append, in_front, in_without, distinct_without, distinct_with, in_with, in_not_in, distinct_front}
 use Rattle.foyer_model.proofs.FlushEnds.{failed}
 use Rattle.foyer_model.proofs.ReclaimSteps.{plus_one}
 

@@ -1,9 +1,10 @@
 -- The clauses that go with the laws: what one step with its reply says.
 use Rattle.std.specs.Prelude.{◌≡◌, ℕ, ◌<◌, Bool, true, List, [], ◌∷◌, length, Option, Some}
 use Rattle.foyer_model.specs.Numbers.{last_number}
+use Rattle.foyer_model.specs.Ids.{is_id_in, AreDistinct}
 use Rattle.foyer_model.specs.Record.{Given, Record}
 use Rattle.foyer_model.specs.Filling.{Write, Spread, records_of}
-use Rattle.foyer_model.specs.State.{Submission, Piece, Writing, Batch, Evictable, State}
+use Rattle.foyer_model.specs.State.{Submission, Piece, Writing, Batch, Evictable, State, Clean}
 use Rattle.foyer_model.specs.Rules.{Rules, Splitting}
 use Rattle.foyer_model.specs.Placing.{writes_in, KeepsRecords, PlacesAll}
 use Rattle.foyer_model.specs.Step.{Age, Step, Enqueue, Receive, FlushBegin, FlushBlock, FlushWrote, ReclaimBegin}
@@ -75,3 +76,11 @@ module _ {C : Type 0} (rules : Rules C) (Splits : Splitting C) where
       (w : World C) (step : Step C) → Demands rules Splits is_value → PlacesAll rules Splits → IsReached rules Splits is_value w
       → w.core.steps < last_number → InTurn rules w.core step
       → (reply : Reply C) × (new : State C) × Follows rules Splits w.core step reply new × IsInTurnReply reply
+
+-- In every world that is reached, the clean list is the clean set: a block is listed just where it is clean, and once.
+pub record ListsClean {C : Type 0} (rules : Rules C) (Splits : Splitting C) (is_value : C → Type 0) : Type 0 where
+  pub listed : (w : World C) (b : ℕ) → Demands rules Splits is_value → IsReached rules Splits is_value w
+      → b < rules.blocks → w.core.place b ≡ Clean → is_id_in b w.core.clean ≡ true
+  pub clean : (w : World C) (b : ℕ) → Demands rules Splits is_value → IsReached rules Splits is_value w
+      → is_id_in b w.core.clean ≡ true → (w.core.place b ≡ Clean) × (b < rules.blocks)
+  pub once : (w : World C) → Demands rules Splits is_value → IsReached rules Splits is_value w → AreDistinct w.core.clean

@@ -1,5 +1,5 @@
 -- Lists of blocks and of flushers, by their numbers.
-use Rattle.std.specs.Prelude.{ℕ, suc, zero, ◌==◌, Bool, false, ◌||◌, if◌then◌else◌, List, [], ◌∷◌, ◌++◌}
+use Rattle.std.specs.Prelude.{◌≡◌, ℕ, suc, zero, ◌==◌, Bool, false, ◌||◌, if◌then◌else◌, List, [], ◌∷◌, ◌++◌}
 
 -- the ids below n, in order
 abbrev pub ids : ℕ → List ℕ
@@ -19,3 +19,8 @@ without_id x (y ∷ ys) = if x == y then without_id x ys else y ∷ without_id x
 -- the list with the id at the end, unless it has it
 abbrev pub with_id : ℕ → List ℕ → List ℕ
 with_id x xs = if is_id_in x xs then xs else xs ++ x ∷ []
+
+-- no id is there twice
+abbrev pub AreDistinct : List ℕ → Type 0
+AreDistinct [] = Unit {0}
+AreDistinct (x ∷ xs) = (is_id_in x xs ≡ false) × AreDistinct xs

@@ -7,7 +7,7 @@ ghost use Rattle.foyer_model.specs.Filling.{Filling, Spread};
 ghost use Rattle.foyer_model.specs.Rules.{Rules};
 ghost use Rattle.foyer_model.specs.Laws.{AnswersOnly, MissedOnly, PutsAreQueued, PromisesStay};
 ghost use Rattle.foyer_model.specs.Witness.{ReachesEveryReply};
-ghost use Rattle.foyer_model.specs.Companions.{QueueKeeps, CommitKeeps, ReclaimKeeps, NotNowKeeps, IsDetermined, InTurnReplies};
+ghost use Rattle.foyer_model.specs.Companions.{QueueKeeps, CommitKeeps, ReclaimKeeps, NotNowKeeps, IsDetermined, InTurnReplies, ListsClean};
 
 /// Whatever steps come, and whatever reads and writes do, a load answers only the record that was newest of its
 /// hash at its look-up.
@@ -74,4 +74,10 @@ pub fn in_turn_replies<C>()
 /// The laws speak of something: two runs of a small core reach every reply of the table.
 pub fn reaches_every_reply()
     ensures { ReachesEveryReply }
+{}
+
+/// The clean list is the clean set: a block is listed just where it is clean, and once.
+pub fn lists_clean<C>()
+    ensures { (rules : Rules C) (splits : Filling → List (Record C) → List (Spread C) → Bool) (is_value : C → Bool)
+        → ListsClean rules (λ f rs ss. splits f rs ss ≡ true) (λ c. is_value c ≡ true) }
 {}
