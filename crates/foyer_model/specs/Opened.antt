@@ -98,6 +98,7 @@ pub record IsOpened {C : Type 0} (rules : Rules C) (w : World C) : Type 0 where
   pub destroy : w.core.destroy ≡ NoDestroy
   pub filled : (b : ℕ) → w.filled b ≡ full_filling rules
   pub begun_writes : w.begun_writes ≡ []
+  pub committed : w.committed ≡ []
   pub loads : (n : ℕ) → w.loads n ≡ None
   pub told : w.told ≡ 0
   pub scans : (b : ℕ) → w.scans b ≡ None

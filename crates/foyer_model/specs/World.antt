@@ -2,16 +2,25 @@
 use Rattle.std.specs.Prelude.{◌≡◌, ℕ, ◌≤◌, ◌==◌, nat_lt, Bool, ◌||◌, if◌then◌else◌, List, [], ◌∷◌, Option, Some, None}
 use Rattle.foyer_model.specs.Numbers.{put, last_number}
 use Rattle.foyer_model.specs.Filling.{Filling, Write, Spread}
-use Rattle.foyer_model.specs.State.{Batch, State}
+use Rattle.foyer_model.specs.Record.{Record}
+use Rattle.foyer_model.specs.State.{Writing, Batch, State}
 use Rattle.foyer_model.specs.Rules.{Rules, empty_filling, Splitting}
 use Rattle.foyer_model.specs.Step.{Came, Step, Enqueue, LoadEnd, FlushBlock, FlushWrote, ReclaimRead, ReclaimCleaned, DestroyClear, DestroyCleaned}
-use Rattle.foyer_model.specs.Reply.{Reply, Written, Cleared, Done}
+use Rattle.foyer_model.specs.Reply.{Reply, Written, Cleared, Done, Committed}
 use Rattle.foyer_model.specs.Turn.{Follows}
 use Rattle.foyer_model.specs.Event.{Event, events_of}
 use Rattle.foyer_model.specs.Kept.{kept_after}
 use Rattle.foyer_model.specs.Access.{Pen, Told, Wipe, Wiped, HasRead, Load, Scan, loads_after, told_after, scans_after, pens_after, wipes_after, result_of, some_pen_covers, wipe_covers, begun, spoiled, came, at_load, at_scan, pen_begun, will_cover, pen_ended, bytes_ended, wipe_begun, wipe_will_cover, wipe_ended, bytes_wiped, IsRead, IsTorn, IsTornWipe}
 
--- all that is, with what the laws speak of: the history, what is kept, how far blocks are filled, and the writes begun
+-- a record that was committed, and where it stands
+pub record Stored (C : Type 0) : Type 0 where
+  pub block : ℕ
+  pub filling : ℕ
+  pub offset : ℕ
+  pub content : Record C
+
+-- all that is, with what the laws speak of: the history, what is kept, how far blocks are filled,
+-- the writes begun, and the records committed
 pub record World (C : Type 0) : Type 0 where
   pub core : State C
   pub bytes : ℕ → ℕ → ℕ  -- of each block
@@ -19,6 +28,7 @@ pub record World (C : Type 0) : Type 0 where
   pub kept : ℕ → Option ℕ  -- of each hash
   pub filled : ℕ → Filling  -- how far what was told fills each block
   pub begun_writes : List (ℕ × Write)  -- each write that began, with its block, the last one first
+  pub committed : List (Stored C) -- each record that was committed, the last one first
   pub loads : ℕ → Option (Load C)  -- by the number of its ticket in the run
   pub told : ℕ  -- how many tickets there are
   pub scans : ℕ → Option Scan  -- by block
@@ -55,6 +65,26 @@ filled_after rules old Done (ReclaimCleaned b ok) filling filled = if filling b 
 filled_after rules old (Cleared bs) DestroyClear filling filled = λ b. if nat_lt b rules.blocks then empty_filling rules else filled b
 filled_after rules old reply step filling filled = filled
 
+-- these records of a block are committed, one after the other
+abbrev pub with_stored : {C : Type 0} → (block filling : ℕ) → List (ℕ × Record C) → List (Stored C) → List (Stored C)
+with_stored b n [] stored = stored
+with_stored b n (p ∷ ps) stored = with_stored b n ps (record { block = b; filling = n; offset = p.0; content = p.1 } ∷ stored)
+
+-- those of the block that is written
+abbrev pub stored_in : {C : Type 0} → State C → Option (Writing C) → List (Stored C) → List (Stored C)
+stored_in old None stored = stored
+stored_in old (Some w) stored = with_stored w.block (old.filling w.block) w.records stored
+
+-- the same of a flusher's batch
+abbrev pub stored_of : {C : Type 0} → State C → Option (Batch C) → List (Stored C) → List (Stored C)
+stored_of old None stored = stored
+stored_of old (Some batch) stored = stored_in old batch.writing stored
+
+-- the records committed after a step and its reply
+abbrev pub committed_after : {C : Type 0} → State C → Reply C → Step C → List (Stored C) → List (Stored C)
+committed_after old (Committed n) (FlushWrote f ok) stored = stored_of old (old.flushers f).batch stored
+committed_after old reply step stored = stored
+
 -- a write that begins is noted
 abbrev pub noted_write : Pen → List (ℕ × Write) → List (ℕ × Write)
 noted_write (Told b results (w ∷ ws)) log = (b, w) ∷ log
@@ -75,6 +105,7 @@ module _ {C : Type 0} (rules : Rules C) where
         kept = kept_after w.core reply step w.kept;
         filled = filled_after rules w.core reply step new.filling w.filled;
         begun_writes = w.begun_writes;
+        committed = committed_after w.core reply step w.committed;
         loads = loads_after reply w.history w.kept w.told w.loads;
         told = told_after reply w.told;
         scans = scans_after rules.index_size reply step w.scans;
