@@ -1,18 +1,21 @@
 -- The promise of a load stays.
-use Rattle.std.proofs.Common.{◌≡◌, ℕ, ◌<◌, Bool, List, [], ◌∷◌, Option, Some, None, refl, sym, ap, ◌∙◌, arith}
+use Rattle.std.proofs.Common.{◌≡◌, ℕ, ◌<◌, Bool, List, [], ◌∷◌, ◌++◌, Option, Some, None, refl, sym, ap, subst, ◌∙◌, arith}
 use Rattle.foyer_model.specs.Numbers.{put}
-use Rattle.foyer_model.specs.Record.{Slot, Indexed, Mark}
+use Rattle.foyer_model.specs.Record.{Slot, Indexed, Mark, Holds}
 use Rattle.foyer_model.specs.State.{State}
 use Rattle.foyer_model.specs.Rules.{Rules, Splitting}
 use Rattle.foyer_model.specs.Step.{Ticket, Step, LoadBegin}
 use Rattle.foyer_model.specs.Reply.{Reply, Read, Picked, Cleared}
 use Rattle.foyer_model.specs.Load.{Looks}
-use Rattle.foyer_model.specs.Event.{Event, newest}
+use Rattle.foyer_model.specs.Event.{Event, Put, newest}
 use Rattle.foyer_model.specs.Kept.{unless}
 use Rattle.foyer_model.specs.Access.{Phase, Unread, Load, load_unless, begun, spoiled, came, at_load, will_cover, wipe_will_cover}
-use Rattle.foyer_model.specs.World.{World, WorldEvent, Applies, ReadBegins, ReadEnds, ScanBegins, ScanEnds, WriteBegins, WriteEnds, WipeBegins, WipeEnds, covers, after, after_all}
-use Rattle.foyer_model.specs.Laws.{PromisesStay}
+use Rattle.foyer_model.specs.World.{World, WorldEvent, Applies, ReadBegins, ReadEnds, ScanBegins, ScanEnds, WriteBegins, WriteEnds, WipeBegins, WipeEnds, covers, after, after_all, MayAllHappen}
+use Rattle.foyer_model.specs.Laws.{IsReached, PromisesStay, AnswersNewest}
 use Rattle.foyer_model.proofs.Basics.{put_at, put_same, put_other}
+use Rattle.foyer_model.proofs.FlushEnds.{ended}
+use Rattle.foyer_model.proofs.Answered.{answers_only_lem}
+use Rattle.foyer_model.proofs.FoundKept.{looked}
 
 module _ {C : Type 0} (rules : Rules C) where
   -- a ticket that was told keeps its load
@@ -78,3 +81,37 @@ promises_stay_lem {C} rules Splits is_value w h throttled t new events ok =
       omega arith,
     ) in
     (last.0, last.1, last.2, last.3)
+
+-- a run that goes on
+
+after_more : {C : Type 0} (rules : Rules C) (w : World C) (xs ys : List (WorldEvent C)) → after_all rules w (xs ++ ys) ≡ after_all rules (after_all rules w xs) ys
+after_more rules w [] ys = refl
+after_more rules w (x ∷ xs) ys = after_more rules (after rules w x) xs ys
+
+happen_more : {C : Type 0} (rules : Rules C) (Splits : Splitting C) (is_value : C → Type 0) (w : World C) (xs ys : List (WorldEvent C))
+    → MayAllHappen rules Splits is_value w xs → MayAllHappen rules Splits is_value (after_all rules w xs) ys → MayAllHappen rules Splits is_value w (xs ++ ys)
+happen_more rules Splits is_value w [] ys first more = more
+happen_more rules Splits is_value w (x ∷ xs) ys first more = (first.0, happen_more rules Splits is_value (after rules w x) xs ys first.1 more)
+
+pub reached_more : {C : Type 0} (rules : Rules C) (Splits : Splitting C) (is_value : C → Type 0) (w : World C) (events : List (WorldEvent C))
+    → IsReached rules Splits is_value w → MayAllHappen rules Splits is_value w events → IsReached rules Splits is_value (after_all rules w events)
+reached_more rules Splits is_value w events reached happened = record {
+  first = reached.first;
+  events = reached.events ++ events;
+  opened = reached.opened;
+  happened = happen_more rules Splits is_value reached.first reached.events events reached.happened
+      (subst (λ v. MayAllHappen rules Splits is_value v events) (sym reached.is) happened);
+  is = after_more rules reached.first reached.events events ∙ ap (λ v. after_all rules v events) reached.is;
+}
+
+pub answers_newest_lem : {C : Type 0} (rules : Rules C) (Splits : Splitting C) (is_value : C → Type 0) → AnswersNewest rules Splits is_value
+answers_newest_lem {C} rules Splits is_value w h throttled t looked between result c age ended l demands reached happened last at phase =
+    let stays : (k : Load C) × ((after_all rules w (Applies (LoadBegin h throttled) (Read t) looked ∷ between)).loads w.told ≡ Some k) × (k.ticket ≡ t) × (k.promise ≡ newest h w.history) =
+    promises_stay_lem rules Splits is_value w h throttled t looked between happened.0 in
+    let same : stays.0 ≡ l = (let e : Some stays.0 ≡ Some l = sym stays.1 ∙ at in cc) in
+    let ticket : l.ticket ≡ t = ap (λ k. k.ticket) (sym same) ∙ stays.2 in
+    let hash : t.hash ≡ h = looked_hash rules w.core (((happened.0).1).2).0 h throttled (w.core.index h) t (((happened.0).1).2).1 in
+    let promise : l.promise ≡ Some (Put t.hash t.address.sequence (Holds c)) =
+    answers_only_lem rules Splits is_value (after_all rules w (Applies (LoadBegin h throttled) (Read t) looked ∷ between)) t result c age ended w.told l demands
+    (reached_more rules Splits is_value w (Applies (LoadBegin h throttled) (Read t) looked ∷ between) reached happened) last at ticket phase in
+    sym stays.3 ∙ ap (λ k. k.promise) same ∙ promise ∙ ap (λ k. Some (Put k t.address.sequence (Holds c))) hash

@@ -49,7 +49,8 @@ wr0 = record {
   history = recovered small (λ _. found_bytes) all_found;
   kept = λ h. block_among h all_found;
   filled = λ _. full_filling small;
-  begun_writes = []; committed = [];
+  begun_writes = [];
+  committed = [];
   loads = λ _. None;
   told = 0;
   scans = λ _. None;
@@ -99,7 +100,8 @@ opened_recovered = record {
   reclaims = λ b. refl;
   destroy = refl;
   filled = λ b. refl;
-  begun_writes = refl; committed = refl;
+  begun_writes = refl;
+  committed = refl;
   loads = λ n. refl;
   told = refl;
   scans = λ b. refl;

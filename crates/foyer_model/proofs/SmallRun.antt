@@ -81,7 +81,8 @@ w0 = record {
   history = [];
   kept = λ _. None;
   filled = λ _. full_filling small;
-  begun_writes = []; committed = [];
+  begun_writes = [];
+  committed = [];
   loads = λ _. None;
   told = 0;
   scans = λ _. None;
@@ -109,7 +110,8 @@ opened = record {
   reclaims = λ b. refl;
   destroy = refl;
   filled = λ b. refl;
-  begun_writes = refl; committed = refl;
+  begun_writes = refl;
+  committed = refl;
   loads = λ n. refl;
   told = refl;
   scans = λ b. refl;

@@ -97,3 +97,14 @@ PromisesStay {C} rules Splits is_value =
     → MayHappen rules Splits is_value w (Applies (LoadBegin h throttled) (Read t) new)
     → (l : Load C) × ((after_all rules w (Applies (LoadBegin h throttled) (Read t) new ∷ events)).loads w.told ≡ Some l)
     × (l.ticket ≡ t) × (l.promise ≡ newest h w.history)
+
+-- The same of a whole run: where a look-up told a read, and after whatever came between a load ends with an entry by the
+-- bytes of that read, the entry was newest at the look-up.
+abbrev pub AnswersNewest : {C : Type 0} → Rules C → Splitting C → (C → Type 0) → Type 0
+AnswersNewest {C} rules Splits is_value =
+    (w : World C) (h : ℕ) (throttled : Bool) (t : Ticket) (looked : State C) (between : List (WorldEvent C)) (result : Came) (c : C) (age : Age) (ended : State C) (l : Load C)
+    → Demands rules Splits is_value → IsReached rules Splits is_value w
+    → MayAllHappen rules Splits is_value w (Applies (LoadBegin h throttled) (Read t) looked ∷ between)
+    → MayHappen rules Splits is_value (after_all rules w (Applies (LoadBegin h throttled) (Read t) looked ∷ between)) (Applies (LoadEnd t result) (Entry c age) ended)
+    → (after_all rules w (Applies (LoadBegin h throttled) (Read t) looked ∷ between)).loads w.told ≡ Some l → l.phase ≡ HasRead result
+    → newest h w.history ≡ Some (Put h t.address.sequence (Holds c))

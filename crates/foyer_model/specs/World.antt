@@ -28,7 +28,7 @@ pub record World (C : Type 0) : Type 0 where
   pub kept : ℕ → Option ℕ  -- of each hash
   pub filled : ℕ → Filling  -- how far what was told fills each block
   pub begun_writes : List (ℕ × Write)  -- each write that began, with its block, the last one first
-  pub committed : List (Stored C) -- each record that was committed, the last one first
+  pub committed : List (Stored C)  -- each record that was committed, the last one first
   pub loads : ℕ → Option (Load C)  -- by the number of its ticket in the run
   pub told : ℕ  -- how many tickets there are
   pub scans : ℕ → Option Scan  -- by block

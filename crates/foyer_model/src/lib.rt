@@ -5,7 +5,7 @@ ghost use Rattle.std.specs.Prelude.{◌≡◌, Bool, true, List};
 ghost use Rattle.foyer_model.specs.Record.{Record};
 ghost use Rattle.foyer_model.specs.Filling.{Filling, Spread};
 ghost use Rattle.foyer_model.specs.Rules.{Rules};
-ghost use Rattle.foyer_model.specs.Laws.{AnswersOnly, MissedOnly, PutsAreQueued, PromisesStay};
+ghost use Rattle.foyer_model.specs.Laws.{AnswersOnly, AnswersNewest, MissedOnly, PutsAreQueued, PromisesStay};
 ghost use Rattle.foyer_model.specs.Witness.{ReachesEveryReply};
 ghost use Rattle.foyer_model.specs.Companions.{QueueKeeps, CommitKeeps, ReclaimKeeps, NotNowKeeps, IsDetermined, InTurnReplies, ListsClean};
 
@@ -14,6 +14,12 @@ ghost use Rattle.foyer_model.specs.Companions.{QueueKeeps, CommitKeeps, ReclaimK
 pub fn answers_only<C>()
     ensures { (rules : Rules C) (splits : Filling → List (Record C) → List (Spread C) → Bool) (is_value : C → Bool)
         → AnswersOnly rules (λ f rs ss. splits f rs ss ≡ true) (λ c. is_value c ≡ true) }
+{}
+
+/// The same of a whole run, with its look-up, what comes between, and its end.
+pub fn answers_newest<C>()
+    ensures { (rules : Rules C) (splits : Filling → List (Record C) → List (Spread C) → Bool) (is_value : C → Bool)
+        → AnswersNewest rules (λ f rs ss. splits f rs ss ≡ true) (λ c. is_value c ≡ true) }
 {}
 
 /// A newest committed record is answered, unless the load was throttled, its read failed, memory was refused, or a
