@@ -1,21 +1,23 @@
 -- The promise of a load stays.
-use Rattle.std.proofs.Common.{◌≡◌, ℕ, ◌<◌, Bool, List, [], ◌∷◌, ◌++◌, Option, Some, None, refl, sym, ap, subst, ◌∙◌, arith}
+use Rattle.std.proofs.Common.{◌≡◌, ℕ, ◌<◌, Bool, true, false, List, [], ◌∷◌, ◌++◌, Option, Some, None, inl, inr, refl, sym, ap, subst, ◌∙◌, arith}
 use Rattle.foyer_model.specs.Numbers.{put}
 use Rattle.foyer_model.specs.Record.{Slot, Indexed, Mark, Holds}
 use Rattle.foyer_model.specs.State.{State}
 use Rattle.foyer_model.specs.Rules.{Rules, Splitting}
 use Rattle.foyer_model.specs.Step.{Ticket, Step, LoadBegin}
 use Rattle.foyer_model.specs.Reply.{Reply, Read, Picked, Cleared}
+use Rattle.foyer_model.specs.Placing.{read}
 use Rattle.foyer_model.specs.Load.{Looks}
 use Rattle.foyer_model.specs.Event.{Event, Put, newest}
 use Rattle.foyer_model.specs.Kept.{unless}
 use Rattle.foyer_model.specs.Access.{Phase, Unread, Load, load_unless, begun, spoiled, came, at_load, will_cover, wipe_will_cover}
 use Rattle.foyer_model.specs.World.{World, WorldEvent, Applies, ReadBegins, ReadEnds, ScanBegins, ScanEnds, WriteBegins, WriteEnds, WipeBegins, WipeEnds, covers, after, after_all, MayAllHappen}
-use Rattle.foyer_model.specs.Laws.{IsReached, PromisesStay, AnswersNewest}
+use Rattle.foyer_model.specs.Laws.{IsReached, PromisesStay, AnswersNewest, MissedNewest}
 use Rattle.foyer_model.proofs.Basics.{put_at, put_same, put_other}
 use Rattle.foyer_model.proofs.FlushEnds.{ended}
 use Rattle.foyer_model.proofs.Answered.{answers_only_lem}
 use Rattle.foyer_model.proofs.FoundKept.{looked}
+use Rattle.foyer_model.proofs.Missed.{loads_newest_lem, looks_up_newest_lem}
 
 module _ {C : Type 0} (rules : Rules C) where
   -- a ticket that was told keeps its load
@@ -115,3 +117,23 @@ answers_newest_lem {C} rules Splits is_value w h throttled t looked between resu
     answers_only_lem rules Splits is_value (after_all rules w (Applies (LoadBegin h throttled) (Read t) looked ∷ between)) t result c age ended w.told l demands
     (reached_more rules Splits is_value w (Applies (LoadBegin h throttled) (Read t) looked ∷ between) reached happened) last at ticket phase in
     sym stays.3 ∙ ap (λ k. k.promise) same ∙ promise ∙ ap (λ k. Some (Put k t.address.sequence (Holds c))) hash
+
+pub missed_newest_lem : {C : Type 0} (rules : Rules C) (Splits : Splitting C) (is_value : C → Type 0) → MissedNewest rules Splits is_value
+missed_newest_lem {C} rules Splits is_value w h reply looked b s x demands reached may few kept newer some =
+    elim (looks_up_newest_lem rules Splits is_value w h false reply looked b s x demands reached may few kept newer some) [
+      | inl throttled ↦ absurd (let e : false ≡ true = throttled.0 in cc)
+      | inr read ↦ (
+        (read.1).0,
+        (read.1).1,
+        λ between result answer ended l d happened last early at phase left.
+            let t : Ticket = (read.1).0 in
+            let stays : (k : Load C) × ((after_all rules w (Applies (LoadBegin h false) (Read t) looked ∷ between)).loads w.told ≡ Some k) × (k.ticket ≡ t) × (k.promise ≡ newest h w.history) =
+            promises_stay_lem rules Splits is_value w h false t looked between happened.0 in
+            let same : stays.0 ≡ l = (let e : Some stays.0 ≡ Some l = sym stays.1 ∙ at in cc) in
+            let hash : t.hash ≡ h = (read.1).2 in
+            loads_newest_lem rules Splits is_value (after_all rules w (Applies (LoadBegin h false) (Read t) looked ∷ between)) t result answer ended w.told l d s x demands
+            (reached_more rules Splits is_value w (Applies (LoadBegin h false) (Read t) looked ∷ between) reached happened) last early at
+            (ap (λ k. k.ticket) (sym same) ∙ stays.2) phase left
+            (ap (λ k. k.promise) (sym same) ∙ stays.3 ∙ newer ∙ ap (λ k. Some (Put k s x)) (sym hash)),
+      )
+    ]

@@ -108,3 +108,20 @@ AnswersNewest {C} rules Splits is_value =
     → MayHappen rules Splits is_value (after_all rules w (Applies (LoadBegin h throttled) (Read t) looked ∷ between)) (Applies (LoadEnd t result) (Entry c age) ended)
     → (after_all rules w (Applies (LoadBegin h throttled) (Read t) looked ∷ between)).loads w.told ≡ Some l → l.phase ≡ HasRead result
     → newest h w.history ≡ Some (Put h t.address.sequence (Holds c))
+
+-- The same of a whole run: where the newest event is the put of a record that isn't broken, neither a reclaim of its block
+-- nor a destroy began since, and the caller doesn't throttle, a read is told, and after whatever comes between the load
+-- ends as `IsAnswer` says of that record, unless such a reclaim or a destroy began by then.
+abbrev pub MissedNewest : {C : Type 0} → Rules C → Splitting C → (C → Type 0) → Type 0
+MissedNewest {C} rules Splits is_value =
+    (w : World C) (h : ℕ) (reply : Reply C) (looked : State C) (b s : ℕ) (x : Outcome C)
+    → Demands rules Splits is_value → IsReached rules Splits is_value w
+    → MayHappen rules Splits is_value w (Applies (LoadBegin h false) reply looked) → w.core.steps < last_number
+    → w.kept h ≡ Some b → newest h w.history ≡ Some (Put h s x) → x ≢ NoRecord
+    → (t : Ticket) × (reply ≡ Read t)
+    × ((between : List (WorldEvent C)) (result : Came) (answer : Reply C) (ended : State C) (l : Load C) (d : ℕ)
+    → MayAllHappen rules Splits is_value w (Applies (LoadBegin h false) (Read t) looked ∷ between)
+    → MayHappen rules Splits is_value (after_all rules w (Applies (LoadBegin h false) (Read t) looked ∷ between)) (Applies (LoadEnd t result) answer ended)
+    → (after_all rules w (Applies (LoadBegin h false) (Read t) looked ∷ between)).core.steps < last_number
+    → (after_all rules w (Applies (LoadBegin h false) (Read t) looked ∷ between)).loads w.told ≡ Some l → l.phase ≡ HasRead result → l.kept ≡ Some d
+    → IsAnswer t result x answer)

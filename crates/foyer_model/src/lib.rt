@@ -5,7 +5,7 @@ ghost use Rattle.std.specs.Prelude.{◌≡◌, Bool, true, List};
 ghost use Rattle.foyer_model.specs.Record.{Record};
 ghost use Rattle.foyer_model.specs.Filling.{Filling, Spread};
 ghost use Rattle.foyer_model.specs.Rules.{Rules};
-ghost use Rattle.foyer_model.specs.Laws.{AnswersOnly, AnswersNewest, MissedOnly, PutsAreQueued, PromisesStay};
+ghost use Rattle.foyer_model.specs.Laws.{AnswersOnly, AnswersNewest, MissedOnly, MissedNewest, PutsAreQueued, PromisesStay};
 ghost use Rattle.foyer_model.specs.Witness.{ReachesEveryReply};
 ghost use Rattle.foyer_model.specs.Companions.{QueueKeeps, CommitKeeps, ReclaimKeeps, NotNowKeeps, IsDetermined, InTurnReplies, ListsClean};
 
@@ -27,6 +27,12 @@ pub fn answers_newest<C>()
 pub fn missed_only<C>()
     ensures { (rules : Rules C) (splits : Filling → List (Record C) → List (Spread C) → Bool) (is_value : C → Bool)
         → MissedOnly rules (λ f rs ss. splits f rs ss ≡ true) (λ c. is_value c ≡ true) }
+{}
+
+/// The same of a whole run, with its look-up, what comes between, and its end.
+pub fn missed_newest<C>()
+    ensures { (rules : Rules C) (splits : Filling → List (Record C) → List (Spread C) → Bool) (is_value : C → Bool)
+        → MissedNewest rules (λ f rs ss. splits f rs ss ≡ true) (λ c. is_value c ≡ true) }
 {}
 
 /// What a load promises is what was newest when its read was told, and stays.
