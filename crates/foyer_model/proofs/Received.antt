@@ -1,0 +1,300 @@
+-- Receive and FlushBegin.
+use Rattle.std.proofs.Common.{◌≡◌, ℕ, ◌+◌, ◌<◌, ◌≤◌, true, List, [], ◌∷◌, ◌++◌, Option, Some, None, refl, sym, ap, subst, ◌∙◌, arith}
+use Rattle.foyer_model.specs.Numbers.{put}
+use Rattle.foyer_model.specs.Record.{Address, Given, Reread, Record}
+use Rattle.foyer_model.specs.Filling.{Filling, Spread, last_end}
+use Rattle.foyer_model.specs.State.{Submission, Piece, Remove, Await, Reinsert, Flusher}
+use Rattle.foyer_model.specs.Rules.{Rules, flusher_of}
+use Rattle.foyer_model.specs.Placing.{AllPlaced, IsSplit}
+use Rattle.foyer_model.specs.Flush.{is_some}
+use Rattle.foyer_model.specs.World.{World}
+use Rattle.foyer_model.proofs.Basics.{Ascends, ascends_from, ascends_to}
+use Rattle.foyer_model.proofs.Invariant.{Each, puts_onto, queue_puts, batch_records, AtLeast, sequences, queue_sequences, RecordOk, start_of, IsSound}
+use Rattle.foyer_model.proofs.CommitSteps.{each_join, each_onto, onto_append, ascends_last}
+use Rattle.foyer_model.proofs.OneFlusher.{one_turned}
+
+pub each_weaker : {A : Type 0} (P Q : A → Type 0) (xs : List A) → ((x : A) → P x → Q x) → Each P xs → Each Q xs
+each_weaker P Q [] f h = tt
+each_weaker P Q (x ∷ xs) f h = (f x h.0, each_weaker P Q xs f h.1)
+
+pub marks_below : (n m : ℕ) (ps : List (ℕ × ℕ)) → n ≤ m → Each (λ p. p.1 < n) ps → Each (λ p. p.1 < m) ps
+marks_below n m ps le = each_weaker (λ p. p.1 < n) (λ p. p.1 < m) ps (λ p lt. omega arith)
+
+module _ {C : Type 0} (rules : Rules C) where
+  -- the front of the queue goes to the buffer
+  pub received_piece : (w : World C) (f h s n : ℕ) (c : C) (bytes : List ℕ) (rest : List (Submission C)) → IsSound rules w → (w.core.flushers f).queue ≡ Piece h s n c ∷ rest
+      → rules.encode h s c ≡ Some bytes
+      → IsSound rules (record w {
+        core = record w.core {
+          flushers = put w.core.flushers f (record (w.core.flushers f) {
+            queue = rest;
+            buffer = (w.core.flushers f).buffer ++ record { hash = h; sequence = s; bytes = bytes; source = Given c } ∷ [];
+          });
+        };
+      })
+  received_piece w f h s n c bytes rest sound is encoded =
+      one_turned rules w f (record φ { queue = Piece h s n c ∷ rest }) (record φ { queue = rest; buffer = φ.buffer ++ r ∷ [] }) w.core.next sound
+      (λ i. record φ { queue = is i }) (omega arith)
+      (λ k j lt line. let P : ℕ × ℕ → Type 0 = λ p. p.0 ≡ k → j ≤ p.1 in
+      each_onto P (batch_records φ.batch) (puts_onto φ.buffer ((h, s) ∷ queue_puts rest)) (puts_onto (φ.buffer ++ r ∷ []) (queue_puts rest))
+      (λ all. subst (Each P) (sym (onto_append φ.buffer (r ∷ []) (queue_puts rest))) all) line)
+      (λ t. let le : t.order.queued ≤ s = (t.order.queue).0 in
+      record {
+        order = record {
+          received = t.order.received;
+          queued = s + 1;
+          batch = t.order.batch;
+          batch_marks = t.order.batch_marks;
+          buffer = ascends_last t.order.received t.order.queued h s φ.buffer r c refl le t.order.buffer;
+          marks = marks_below t.order.queued (s + 1) φ.marks (omega arith) t.order.marks;
+          queue = (t.order.queue).1;
+        };
+        batch = t.batch;
+        batch_marks = t.batch_marks;
+        buffer = each_join (RecordOk rules f) φ.buffer (r ∷ []) t.buffer ((((t.queue).0).0, ((t.queue).0).1 bytes encoded), tt);
+        marks = t.marks;
+        queue = (t.queue).1;
+        split = t.split;
+        context = t.context;
+        owned = t.owned;
+        spare = t.spare;
+        either = t.either;
+        writing = t.writing;
+      })
+    where
+      φ : Flusher C
+      φ = w.core.flushers f
+
+      r : Record C
+      r = record { hash = h; sequence = s; bytes = bytes; source = Given c }
+
+  pub returned_piece : (w : World C) (f h s n : ℕ) (c : C) (rest : List (Submission C)) → IsSound rules w → (w.core.flushers f).queue ≡ Piece h s n c ∷ rest
+      → IsSound rules (record w { core = record w.core { flushers = put w.core.flushers f (record (w.core.flushers f) { queue = rest }) } })
+  returned_piece w f h s n c rest sound is =
+      one_turned rules w f (record φ { queue = Piece h s n c ∷ rest }) (record φ { queue = rest }) w.core.next sound
+      (λ i. record φ { queue = is i }) (omega arith)
+      (λ k j lt line. let P : ℕ × ℕ → Type 0 = λ p. p.0 ≡ k → j ≤ p.1 in
+      each_onto P (batch_records φ.batch) (puts_onto φ.buffer ((h, s) ∷ queue_puts rest)) (puts_onto φ.buffer (queue_puts rest))
+      (each_onto P φ.buffer ((h, s) ∷ queue_puts rest) (queue_puts rest) (λ all. all.1)) line)
+      (λ t. let le : t.order.queued ≤ s = (t.order.queue).0 in
+      record {
+        order = record {
+          received = t.order.received;
+          queued = t.order.queued;
+          batch = t.order.batch;
+          batch_marks = t.order.batch_marks;
+          buffer = t.order.buffer;
+          marks = t.order.marks;
+          queue = ascends_from t.order.queued (s + 1) (queue_sequences rest) w.core.next (omega arith) (t.order.queue).1;
+        };
+        batch = t.batch;
+        batch_marks = t.batch_marks;
+        buffer = t.buffer;
+        marks = t.marks;
+        queue = (t.queue).1;
+        split = t.split;
+        context = t.context;
+        owned = t.owned;
+        spare = t.spare;
+        either = t.either;
+        writing = t.writing;
+      })
+    where
+      φ : Flusher C
+      φ = w.core.flushers f
+
+  pub received_mark : (w : World C) (f h s : ℕ) (spoils more : List (ℕ × ℕ)) (rest : List (Submission C)) → IsSound rules w → (w.core.flushers f).queue ≡ Remove h s spoils ∷ rest
+      → IsSound rules (record w {
+        core = record w.core {
+          flushers = put w.core.flushers f (record (w.core.flushers f) {
+            queue = rest;
+            marks = (w.core.flushers f).marks ++ (h, s) ∷ [];
+            spoils = more;
+          });
+        };
+      })
+  received_mark w f h s spoils more rest sound is =
+      one_turned rules w f (record φ { queue = Remove h s spoils ∷ rest }) (record φ { queue = rest; marks = φ.marks ++ (h, s) ∷ []; spoils = more }) w.core.next sound
+      (λ i. record φ { queue = is i }) (omega arith) (λ k n lt line. line)
+      (λ t. let le : t.order.queued ≤ s = (t.order.queue).0 in
+      record {
+        order = record {
+          received = t.order.received;
+          queued = s + 1;
+          batch = t.order.batch;
+          batch_marks = t.order.batch_marks;
+          buffer = ascends_to t.order.received (sequences (puts_onto φ.buffer [])) t.order.queued (s + 1) (omega arith) t.order.buffer;
+          marks = each_join (λ p. p.1 < s + 1) φ.marks ((h, s) ∷ []) (marks_below t.order.queued (s + 1) φ.marks (omega arith) t.order.marks) (omega arith, tt);
+          queue = (t.order.queue).1;
+        };
+        batch = t.batch;
+        batch_marks = t.batch_marks;
+        buffer = t.buffer;
+        marks = each_join (λ p. flusher_of rules p.0 ≡ f) φ.marks ((h, s) ∷ []) t.marks ((t.queue).0, tt);
+        queue = (t.queue).1;
+        split = t.split;
+        context = t.context;
+        owned = t.owned;
+        spare = t.spare;
+        either = t.either;
+        writing = t.writing;
+      })
+    where
+      φ : Flusher C
+      φ = w.core.flushers f
+
+  pub received_wait : (w : World C) (f j : ℕ) (rest : List (Submission C)) (waits : List ℕ) → IsSound rules w → (w.core.flushers f).queue ≡ Await j ∷ rest
+      → IsSound rules (record w { core = record w.core { flushers = put w.core.flushers f (record (w.core.flushers f) { queue = rest; waits = waits }) } })
+  received_wait w f j rest waits sound is =
+      one_turned rules w f (record φ { queue = Await j ∷ rest }) (record φ { queue = rest; waits = waits }) w.core.next sound
+      (λ i. record φ { queue = is i }) (omega arith) (λ k n lt line. line)
+      (λ t. record {
+        order = record {
+          received = t.order.received;
+          queued = t.order.queued;
+          batch = t.order.batch;
+          batch_marks = t.order.batch_marks;
+          buffer = t.order.buffer;
+          marks = t.order.marks;
+          queue = t.order.queue;
+        };
+        batch = t.batch;
+        batch_marks = t.batch_marks;
+        buffer = t.buffer;
+        marks = t.marks;
+        queue = (t.queue).1;
+        split = t.split;
+        context = t.context;
+        owned = t.owned;
+        spare = t.spare;
+        either = t.either;
+        writing = t.writing;
+      })
+    where
+      φ : Flusher C
+      φ = w.core.flushers f
+
+  -- a reinsertion goes to the buffer, or is dropped
+  pub received_again : (w : World C) (f h : ℕ) (bytes : List ℕ) (a : Address) (rest : List (Submission C)) → IsSound rules w → (w.core.flushers f).queue ≡ Reinsert h bytes a ∷ rest
+      → IsSound rules (record w {
+        core = record w.core {
+          flushers = put w.core.flushers f (record (w.core.flushers f) {
+            queue = rest;
+            buffer = (w.core.flushers f).buffer ++ record { hash = h; sequence = a.sequence; bytes = bytes; source = Reread a } ∷ [];
+          });
+        };
+      })
+  received_again w f h bytes a rest sound is =
+      one_turned rules w f (record φ { queue = Reinsert h bytes a ∷ rest }) (record φ { queue = rest; buffer = φ.buffer ++ r ∷ [] }) w.core.next sound
+      (λ i. record φ { queue = is i }) (omega arith)
+      (λ k j lt line. let P : ℕ × ℕ → Type 0 = λ p. p.0 ≡ k → j ≤ p.1 in
+      each_onto P (batch_records φ.batch) (puts_onto φ.buffer (queue_puts rest)) (puts_onto (φ.buffer ++ r ∷ []) (queue_puts rest))
+      (λ all. subst (Each P) (sym (onto_append φ.buffer (r ∷ []) (queue_puts rest))) all) line)
+      (λ t. record {
+        order = record {
+          received = t.order.received;
+          queued = t.order.queued;
+          batch = t.order.batch;
+          batch_marks = t.order.batch_marks;
+          buffer = subst (λ l. Ascends t.order.received (sequences l) t.order.queued) (sym (onto_append φ.buffer (r ∷ []) [])) t.order.buffer;
+          marks = t.order.marks;
+          queue = t.order.queue;
+        };
+        batch = t.batch;
+        batch_marks = t.batch_marks;
+        buffer = each_join (RecordOk rules f) φ.buffer (r ∷ []) t.buffer (tt, tt);
+        marks = t.marks;
+        queue = (t.queue).1;
+        split = t.split;
+        context = t.context;
+        owned = t.owned;
+        spare = t.spare;
+        either = t.either;
+        writing = t.writing;
+      })
+    where
+      φ : Flusher C
+      φ = w.core.flushers f
+
+      r : Record C
+      r = record { hash = h; sequence = a.sequence; bytes = bytes; source = Reread a }
+
+  pub dropped_again : (w : World C) (f h : ℕ) (bytes : List ℕ) (a : Address) (rest : List (Submission C)) → IsSound rules w → (w.core.flushers f).queue ≡ Reinsert h bytes a ∷ rest
+      → IsSound rules (record w { core = record w.core { flushers = put w.core.flushers f (record (w.core.flushers f) { queue = rest }) } })
+  dropped_again w f h bytes a rest sound is =
+      one_turned rules w f (record φ { queue = Reinsert h bytes a ∷ rest }) (record φ { queue = rest }) w.core.next sound
+      (λ i. record φ { queue = is i }) (omega arith) (λ k j lt line. line)
+      (λ t. record {
+        order = record {
+          received = t.order.received;
+          queued = t.order.queued;
+          batch = t.order.batch;
+          batch_marks = t.order.batch_marks;
+          buffer = t.order.buffer;
+          marks = t.order.marks;
+          queue = t.order.queue;
+        };
+        batch = t.batch;
+        batch_marks = t.batch_marks;
+        buffer = t.buffer;
+        marks = t.marks;
+        queue = (t.queue).1;
+        split = t.split;
+        context = t.context;
+        owned = t.owned;
+        spare = t.spare;
+        either = t.either;
+        writing = t.writing;
+      })
+    where
+      φ : Flusher C
+      φ = w.core.flushers f
+
+  pub start_same : (filled : ℕ → Filling) (own : Option ℕ) → start_of rules filled own true ≡ start_of rules filled own (is_some own)
+  start_same filled None = refl
+  start_same filled (Some b) = refl
+
+  pub begun_batch : (w : World C) (f : ℕ) (blocks : List (Spread C)) (pieces : List C) → IsSound rules w → (w.core.flushers f).batch ≡ None
+      → IsSplit rules (w.core.flushers f).context (w.core.flushers f).buffer blocks
+      → IsSound rules (record w {
+        core = record w.core {
+          flushers = put w.core.flushers f (record (w.core.flushers f) {
+            buffer = [];
+            marks = [];
+            spoils = [];
+            waits = [];
+            context = last_end (w.core.flushers f).context blocks;
+            batch = Some (record { blocks = blocks; goes_on = is_some (w.core.flushers f).own; writing = None; marks = (w.core.flushers f).marks; spoils = (w.core.flushers f).spoils; pieces = pieces; waits = (w.core.flushers f).waits; logged = None });
+          });
+        };
+      })
+  begun_batch w f blocks pieces sound none split =
+      one_turned rules w f (record φ { batch = None })
+      (record φ { buffer = []; marks = []; spoils = []; waits = []; context = last_end φ.context blocks; batch = Some (record { blocks = blocks; goes_on = is_some φ.own; writing = None; marks = φ.marks; spoils = φ.spoils; pieces = pieces; waits = φ.waits; logged = None }) }) w.core.next sound
+      (λ i. record φ { batch = none i }) (omega arith)
+      (λ k n lt line. subst (λ rs. AtLeast k n (puts_onto rs (queue_puts φ.queue))) (sym split.all) line)
+      (λ t. record {
+        order = record {
+          received = t.order.queued;
+          queued = t.order.queued;
+          batch = subst (λ rs. Ascends 0 (sequences (puts_onto rs [])) t.order.queued) (sym split.all) (ascends_from 0 t.order.received (sequences (puts_onto φ.buffer [])) t.order.queued (omega arith) t.order.buffer);
+          batch_marks = t.order.marks;
+          buffer = omega arith;
+          marks = tt;
+          queue = t.order.queue;
+        };
+        batch = subst (λ rs. Each (RecordOk rules f) rs) (sym split.all) t.buffer;
+        batch_marks = t.marks;
+        buffer = tt;
+        marks = tt;
+        queue = t.queue;
+        split = subst (λ g. AllPlaced rules g blocks) (t.context ∙ start_same w.filled φ.own) split.placed;
+        context = ap (λ g. last_end g blocks) t.context;
+        owned = t.owned;
+        spare = t.spare;
+        either = t.either;
+        writing = t.writing;
+      })
+    where
+      φ : Flusher C
+      φ = w.core.flushers f

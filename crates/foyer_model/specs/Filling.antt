@@ -1,0 +1,54 @@
+-- How far a block is filled, and what a batch puts into it.
+use Rattle.std.specs.Prelude.{ℕ, ◌+◌, List, [], ◌∷◌, ◌++◌, map}
+use Rattle.foyer_model.specs.Record.{IndexEntry, Record}
+
+-- How far a filling of a block has come: its present blob begins at blob, the next data stand at this offset of the
+-- blob, and its index lists these.
+pub record Filling : Type 0 where
+  pub blob : ℕ
+  pub at : ℕ
+  pub listed : List IndexEntry
+
+-- where its data end
+abbrev pub tail_of : Filling → ℕ
+tail_of f = f.blob + f.at
+
+-- what a write puts into a block
+pub data Role : Type 0 where
+  Data : Role
+  Index : Role
+
+-- bytes to be written at an offset of a block
+pub record Write : Type 0 where
+  pub role : Role
+  pub offset : ℕ
+  pub bytes : List ℕ
+
+-- Records that are written together, each with its offset in the block, and the index that lists them: their data
+-- stand at blob + at, the index at the blob's start.
+pub record Part (C : Type 0) : Type 0 where
+  pub blob : ℕ
+  pub at : ℕ
+  pub content : List ℕ
+  pub index : List ℕ
+  pub records : List (ℕ × Record C)
+
+-- what a batch puts into one block, and how far the block is filled then
+pub record Spread (C : Type 0) : Type 0 where
+  pub parts : List (Part C)
+  pub end : Filling
+
+-- the records of these parts, each with its offset
+abbrev pub records_in : {C : Type 0} → List (Part C) → List (ℕ × Record C)
+records_in [] = []
+records_in (p ∷ ps) = p.records ++ records_in ps
+
+-- the records of a batch, in order
+abbrev pub records_of : {C : Type 0} → List (Spread C) → List (Record C)
+records_of [] = []
+records_of (s ∷ ss) = map (λ p. p.1) (records_in s.parts) ++ records_of ss
+
+-- where the last block of a batch ends, if it has one
+abbrev pub last_end : {C : Type 0} → Filling → List (Spread C) → Filling
+last_end f [] = f
+last_end f (s ∷ ss) = last_end s.end ss

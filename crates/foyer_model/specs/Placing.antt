@@ -1,0 +1,98 @@
+-- What the placing of a batch must keep: the four facts that the laws need of a splitter.
+use Rattle.std.specs.Prelude.{◌≡◌, ◌≢◌, ℕ, suc, zero, ◌+◌, ◌-◌, ◌<◌, ◌≤◌, nat_le, nat_lt, ◌&&◌, if◌then◌else◌, List, [], ◌∷◌, ◌++◌, length, slice_index, ◌⊎◌}
+use Rattle.foyer_model.specs.Record.{Record}
+use Rattle.foyer_model.specs.Filling.{Filling, tail_of, Write, Part, Spread, records_in, records_of, last_end}
+use Rattle.foyer_model.specs.Rules.{Rules, empty_filling, Splitting}
+
+-- where later writes of a filling may fall: at or behind its tail, or into the index of its present blob
+abbrev pub MayWrite : ℕ → Filling → ℕ → Type 0
+MayWrite index_size f o = (tail_of f ≤ o) ⊎ ((f.blob ≤ o) × (o < f.blob + index_size))
+
+-- a block's bytes after a write
+abbrev pub laid : Write → (ℕ → ℕ) → ℕ → ℕ
+laid w g o = if nat_le w.offset o && nat_lt o (w.offset + length w.bytes) then slice_index w.bytes (o - w.offset) else g o
+
+-- a block's bytes after these writes, the first of them first
+abbrev pub all_laid : List Write → (ℕ → ℕ) → ℕ → ℕ
+all_laid [] g = g
+all_laid (w ∷ ws) g = all_laid ws (laid w g)
+
+-- the n bytes from o on
+abbrev pub read : (ℕ → ℕ) → ℕ → ℕ → List ℕ
+read g o zero = []
+read g o (suc n) = g o ∷ read g (o + 1) n
+
+-- these records stand at their offsets
+abbrev pub AllStand : {C : Type 0} → (ℕ → ℕ) → List (ℕ × Record C) → Type 0
+AllStand g [] = Unit {0}
+AllStand g (p ∷ ps) = (read g p.0 (length (p.1).bytes) ≡ (p.1).bytes) × AllStand g ps
+
+-- an offset is outside of the bytes of a write
+abbrev pub IsBeside : Write → ℕ → Type 0
+IsBeside w o = (o < w.offset) ⊎ (w.offset + length w.bytes ≤ o)
+
+-- each byte that these writes touch has the property
+abbrev pub AllWithin : (ℕ → Type 0) → List Write → Type 0
+AllWithin P [] = Unit {0}
+AllWithin P (w ∷ ws) = ((o : ℕ) → (IsBeside w o → ⊥) → P o) × AllWithin P ws
+
+-- no byte of these records' pages has it
+abbrev pub AllOutside : {C : Type 0} → (ℕ → ℕ) → (ℕ → Type 0) → List (ℕ × Record C) → Type 0
+AllOutside page_up P [] = Unit {0}
+AllOutside page_up P (p ∷ ps) = ((o : ℕ) → p.0 ≤ o → o < p.0 + page_up (length (p.1).bytes) → P o → ⊥) × AllOutside page_up P ps
+
+-- each record stands at or behind an offset
+abbrev pub AllBehind : {C : Type 0} → ℕ → List (ℕ × Record C) → Type 0
+AllBehind n [] = Unit {0}
+AllBehind n (p ∷ ps) = (n ≤ p.0) × AllBehind n ps
+
+-- the writes of these parts, in their order
+abbrev pub writes_in : {C : Type 0} → Rules C → List (Part C) → List Write
+writes_in rules [] = []
+writes_in rules (p ∷ ps) = rules.writes_of p ++ writes_in rules ps
+
+-- What goes into one block: its writes fall only where the filling may still be written, and where it may be written
+-- afterwards it could before; after them, over any bytes, each record stands at its offset, behind the first index, and
+-- no later write falls into its pages.
+pub record IsPlaced {C : Type 0} (rules : Rules C) (f : Filling) (s : Spread C) : Type 0 where
+  pub within : AllWithin (MayWrite rules.index_size f) (writes_in rules s.parts)
+  pub shrinks : (o : ℕ) → MayWrite rules.index_size s.end o → MayWrite rules.index_size f o
+  pub stand : (g : ℕ → ℕ) → AllStand (all_laid (writes_in rules s.parts) g) (records_in s.parts)
+  pub outside : AllOutside rules.page_up (MayWrite rules.index_size s.end) (records_in s.parts)
+  pub behind : AllBehind rules.index_size (records_in s.parts)
+
+-- block after block, the first from f on, the others from nothing
+abbrev pub AllPlaced : {C : Type 0} → Rules C → Filling → List (Spread C) → Type 0
+AllPlaced rules f [] = Unit {0}
+AllPlaced rules f (s ∷ ss) = IsPlaced rules f s × AllPlaced rules (empty_filling rules) ss
+
+-- a batch has at least one block and holds all of its records in order
+pub record IsSplit {C : Type 0} (rules : Rules C) (f : Filling) (records : List (Record C)) (blocks : List (Spread C)) : Type 0 where
+  pub some : blocks ≢ []
+  pub all : records_of blocks ≡ records
+  pub placed : AllPlaced rules f blocks
+
+-- what is demanded of a way of placing
+abbrev pub KeepsRecords : {C : Type 0} → Rules C → Splitting C → Type 0
+KeepsRecords {C} rules Splits =
+    (f : Filling) (records : List (Record C)) (blocks : List (Spread C)) → Splits f records blocks → IsSplit rules f records blocks
+
+-- the record fits into an empty block
+abbrev pub FitsBlock : {C : Type 0} → Rules C → List ℕ → Type 0
+FitsBlock rules bytes = rules.index_size + rules.page_up (length bytes) ≤ rules.block_size
+
+-- each record does
+abbrev pub AllFitBlock : {C : Type 0} → Rules C → List (Record C) → Type 0
+AllFitBlock rules [] = Unit {0}
+AllFitBlock rules (r ∷ rs) = FitsBlock rules r.bytes × AllFitBlock rules rs
+
+-- a filling at which a batch may begin: an empty one, or one that a batch has left
+abbrev pub IsLeft : {C : Type 0} → Rules C → Splitting C → Filling → Type 0
+IsLeft {C} rules Splits f =
+    (f ≡ empty_filling rules)
+    ⊎ ((g : Filling) × (records : List (Record C)) × (blocks : List (Spread C)) × Splits g records blocks × (f ≡ last_end g blocks))
+
+-- from there on, records that fit into a block can always be placed
+abbrev pub PlacesAll : {C : Type 0} → Rules C → Splitting C → Type 0
+PlacesAll {C} rules Splits =
+    (f : Filling) (records : List (Record C)) → IsLeft rules Splits f → AllFitBlock rules records → (blocks : List (Spread C)) × Splits f records blocks

@@ -1,0 +1,63 @@
+-- Why a step may be refused.
+use Rattle.std.specs.Prelude.{◌≡◌, ◌<◌, ◌≤◌, true, false, ◌⊎◌}
+use Rattle.foyer_model.specs.Numbers.{last_number}
+use Rattle.foyer_model.specs.Record.{NotSupported, Undecodable}
+use Rattle.foyer_model.specs.State.{State}
+use Rattle.foyer_model.specs.Rules.{Rules, Splitting}
+use Rattle.foyer_model.specs.Step.{Bytes, Fault, Step, Enqueue, Delete, Wait, LoadEnd, Receive, FlushBegin, FlushBlock, ReclaimBegin, ReclaimRead, ReclaimCleaned, DestroyBegin, DestroyClear}
+use Rattle.foyer_model.specs.Reply.{Kind, Io, Memory, Parse, Closed, Unsupported, SequenceEnd, Reply, Queued, Deleted, Done, Received, Began, Written, NoBlock, Picked, Destroying, Cleared}
+use Rattle.foyer_model.specs.Queue.{IsIgnored}
+use Rattle.foyer_model.specs.Load.{judged, IsDecoded}
+use Rattle.foyer_model.specs.Does.{Does}
+use Rattle.foyer_model.specs.InTurn.{InTurn}
+
+-- the steps that draw a sequence, and that a closed core refuses
+abbrev pub Draws : {C : Type 0} → Step C → Type 0
+Draws (Enqueue h n age c) = Unit {0}
+Draws (Delete h) = Unit {0}
+Draws DestroyBegin = Unit {0}
+Draws step = ⊥
+
+-- where a step grows something, by the reply that it would have
+abbrev pub Grows : {C : Type 0} → Step C → Reply C → Type 0
+Grows (Enqueue h n age c) (Queued s) = Unit {0}
+Grows (Delete h) (Deleted s) = Unit {0}
+Grows (Wait f i) Done = Unit {0}
+Grows (Receive f) (Received returned) = Unit {0}
+Grows (FlushBegin f) (Began blocks marks) = Unit {0}
+Grows (FlushBlock f) (Written b writes) = Unit {0}
+Grows (FlushBlock f) NoBlock = Unit {0}
+Grows ReclaimBegin (Picked b answers probation) = Unit {0}
+Grows (ReclaimRead b (Bytes bs)) reply = Unit {0}
+Grows (ReclaimCleaned b ok) Done = Unit {0}
+Grows DestroyBegin (Destroying s) = Unit {0}
+Grows DestroyClear (Cleared bs) = Unit {0}
+Grows step reply = ⊥
+
+module _ {C : Type 0} (rules : Rules C) (Splits : Splitting C) (old : State C) where
+  -- an enqueue that is ignored draws nothing
+  abbrev pub DrawsNow : Step C → Type 0
+  DrawsNow (Enqueue h n age c) = IsIgnored rules old age → ⊥
+  DrawsNow (Delete h) = Unit {0}
+  DrawsNow DestroyBegin = Unit {0}
+  DrawsNow step = ⊥
+
+  -- a growth is needed that can be refused: of a load where a key or a value is decoded, of any other step by its reply
+  abbrev pub NeedsMemory : Step C → Type 0
+  NeedsMemory (LoadEnd t (Bytes bs)) = IsDecoded rules old (judged rules old t bs)
+  NeedsMemory step = (reply : Reply C) × (new : State C) × Does rules Splits old step reply new × Grows step reply
+
+  -- the cause of a refusal of a step in turn, before the limit of steps
+  abbrev pub HasCause : Kind → Step C → Type 0
+  HasCause Closed step = Draws step × (old.closed ≡ true)
+  HasCause SequenceEnd step = InTurn rules old step × DrawsNow step × (old.closed ≡ false) × (last_number ≤ old.next)
+  HasCause Memory step = InTurn rules old step × NeedsMemory step
+  HasCause Io (LoadEnd t Fault) = InTurn rules old (LoadEnd t Fault)
+  HasCause Unsupported (LoadEnd t (Bytes bs)) = InTurn rules old (LoadEnd t (Bytes bs)) × (judged rules old t bs ≡ NotSupported)
+  HasCause Parse (LoadEnd t (Bytes bs)) = InTurn rules old (LoadEnd t (Bytes bs)) × (judged rules old t bs ≡ Undecodable)
+  HasCause kind step = ⊥
+
+  -- after the greatest number of steps each one is refused, before all else
+  abbrev pub MayRefuse : Kind → Step C → Type 0
+  MayRefuse SequenceEnd step = (last_number ≤ old.steps) ⊎ ((old.steps < last_number) × HasCause SequenceEnd step)
+  MayRefuse kind step = (old.steps < last_number) × HasCause kind step

@@ -1,0 +1,43 @@
+-- The replies of the core. Each choice that a step makes stands in its reply.
+use Rattle.std.specs.Prelude.{ℕ, Bool, List, Option}
+use Rattle.foyer_model.specs.Filling.{Write, Spread}
+use Rattle.foyer_model.specs.Step.{Age, Ticket, Step}
+
+-- why a step is refused
+pub data Kind : Type 0 where
+  Io : Kind
+  Memory : Kind
+  Parse : Kind
+  Closed : Kind
+  Unsupported : Kind
+  SequenceEnd : Kind
+
+-- what a step answers
+pub data Reply (C : Type 0) : Type 0 where
+  NotNow : Step C → Reply C
+  Refused : Kind → Step C → Reply C
+  Ignored : C → Reply C
+  Queued : (sequence : ℕ) → Reply C
+  Deleted : (sequence : ℕ) → Reply C
+  Done : Reply C
+  Answer : Bool → Reply C
+  Miss : Reply C
+  Throttled : Reply C
+  Read : Ticket → Reply C  -- tells a read
+  Entry : C → Age → Reply C
+  Empty : Reply C
+  Received : (returned : Option C) → Reply C
+  Began : List (Spread C) → (marks : List (ℕ × ℕ)) → Reply C  -- how the batch is placed
+  Written : (block : ℕ) → List Write → Reply C  -- tells these writes
+  NoBlock : Reply C
+  Next : Reply C
+  Committed : (puts : ℕ) → Reply C
+  Failed : Reply C
+  Ended : (pieces : List C) → (waits : List ℕ) → Reply C
+  Picked : (block : ℕ) → (answers : List (Option ℕ)) → (probation : List ℕ) → Reply C  -- tells a read of its first index; the pickers' answers, and what they put on probation
+  Scans : (block offset len : ℕ) → (verdicts : List Bool) → Reply C  -- tells a read; the filter's verdicts on what was listed
+  Listed : (verdicts : List Bool) → Reply C
+  Cleans : (block : ℕ) → Reply C  -- tells a clean
+  Destroying : (sequence : ℕ) → Reply C
+  Cleared : (blocks : List ℕ) → Reply C  -- tells a clean of each of these
+  Destroyed : (is_ok : Bool) → Reply C  -- whether every clean went well
