@@ -85,7 +85,7 @@ impl<R: Read + Drop, A: Allocator> Lines<R, A> {
         }
     }
 
-    /// Reads more. False at the end of the input.
+    /// Reads more, again where a read was interrupted. False at the end of the input.
     pub fn fill(&mut self) -> io::Result<bool> {
         if self.start > 0 {
             self.move_to_front();
@@ -94,11 +94,21 @@ impl<R: Read + Drop, A: Allocator> Lines<R, A> {
             let more = self.buffer.len();
             self.buffer.resize(more.saturating_add(more), 0)?;
         }
-        let count = self
-            .input
-            .read(&mut self.buffer.as_mut_slice()[self.end..])?;
-        self.end += count;
-        Ok(count > 0)
+        for _ in 0..u64::MAX {
+            let room = &mut self.buffer.as_mut_slice()[self.end..];
+            match self.input.read(room) {
+                Ok(count) => {
+                    self.end += count;
+                    return Ok(count > 0);
+                }
+                Err(error) => {
+                    if error.kind() != io::ErrorKind::Interrupted {
+                        return Err(error);
+                    }
+                }
+            }
+        }
+        Ok(false)
     }
 
     fn move_to_front(&mut self) {
