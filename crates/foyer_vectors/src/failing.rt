@@ -1,10 +1,9 @@
 //! A disk that fails one call.
 
-use std::alloc::Allocator;
-
 use foyer_block::manager::BlockId;
 use foyer_core::disk::Disk;
 use foyer_device::error::{Error, Result};
+use std::alloc::Allocator;
 
 /// Passes each call on, but for the one that is counted down to: that read gives nothing, and that write writes a front
 /// of its bytes.
