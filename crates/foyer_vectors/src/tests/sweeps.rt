@@ -50,10 +50,8 @@ fn each_refused_allocation_of_the_program_is_told(rt: HostRuntime) -> Result<(),
         let mut is_delete_refused = false;
         let mut count = 0u32;
         for ((line, wanted), answer) in SCRIPT.lines().zip(ANSWERS.lines()).zip(text.lines()) {
-            assert!(rt;
-                may_be_answered(line, wanted, answer, is_delete_refused),
-                "allocation {n}: {line} gave {answer}"
-            );
+            let is_allowed = may_be_answered(line, wanted, answer, is_delete_refused);
+            assert!(rt; is_allowed, "allocation {n}");
             if line == "del 1" && answer != "ok" {
                 is_delete_refused = true;
             }
