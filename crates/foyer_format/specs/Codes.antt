@@ -1,6 +1,6 @@
 -- How values are spelled. A number of 64 bits is its eight bytes, the lowest first; a text is its
 -- length, spelled as such a number, and its bytes.
-use Rattle.std.specs.Prelude.{ℕ, ◌==◌, ◌&&◌, nat_le, Bool, List, ◌++◌, length, take, drop, Option, Some, None, if◌then◌else◌}
+use Rattle.std.specs.Prelude.{ℕ, ◌==◌, ◌&&◌, nat_le, nat_lt, ◌^◌, Bool, List, ◌++◌, length, take, drop, Option, Some, None, if◌then◌else◌}
 use Rattle.std.specs.Int.{w64, to_le_bytes, from_le_bytes}
 use Rattle.std.specs.Str.{is_utf8}
 
@@ -21,6 +21,10 @@ is_counted b = nat_le 8 (length b) && (from_le_bytes w64 (take 8 b) == length (d
 
 abbrev pub is_counted_text : List ℕ → Bool
 is_counted_text b = is_counted b && is_utf8 (drop 8 b)
+
+-- a text whose length has 64 bits
+abbrev pub is_sized_text : List ℕ → Bool
+is_sized_text bytes = nat_lt (length bytes) (2 ^ 64) && is_utf8 bytes
 
 -- the text that the bytes spell
 abbrev pub text_read : List ℕ → Option (List ℕ)

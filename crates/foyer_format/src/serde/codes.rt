@@ -1,8 +1,7 @@
 //! The codes of `u64` and `String`.
-ghost use Rattle.std.specs.Prelude.{◌≡◌, ◌<◌, ◌^◌, ℕ, drop, length, true, false, Some, MatchOption, string_bytes};
+ghost use Rattle.std.specs.Prelude.{◌≡◌, ◌<◌, ◌^◌, ℕ, drop, length, true, false, Some, MatchOption, string_bytes, nat_lt};
 ghost use Rattle.std.specs.Int.{w64, to_le_bytes};
-ghost use Rattle.std.specs.Str.{IsUtf8};
-ghost use Rattle.foyer_format.specs.Codes.{is_number, number_read, counted, is_counted, is_counted_text, text_read};
+ghost use Rattle.foyer_format.specs.Codes.{is_sized_text, is_number, number_read, counted, is_counted, is_counted_text, text_read};
 ghost use Rattle.foyer_format.specs.Vectors.{NumberVector, TextVector};
 ghost use Rattle.foyer_format.specs.CodeLaws.{one_number, number_spelled, one_list, text_spelled};
 
@@ -14,7 +13,7 @@ use std::alloc::{Allocator, Global};
 impl<A: Allocator> Code<A> for u64 {
     ghost spelling = { λ n. to_le_bytes w64 n };
 
-    ghost encodes = { λ n. n < 2 ^ 64 };
+    ghost encodes = { λ n. nat_lt n (2 ^ 64) };
 
     ghost is_spelling = { is_number };
 
@@ -22,6 +21,7 @@ impl<A: Allocator> Code<A> for u64 {
 
     ghost takes_memory = { λ _. ⊥ };
 
+    #[tactic(auto, using(crate::proofs::CodeLemmas::sized_number))]
     fn encode_into<W: Sink>(&self, writer: &mut W) -> Result<()> {
         let value = *self;
         writer.put(&value.to_le_bytes())
@@ -72,7 +72,7 @@ fn counted_bytes(bytes: &[u8]) -> Option<&[u8]>
 impl<A: Allocator> Code<A> for String<A> {
     ghost spelling = { λ s. counted (string_bytes s) };
 
-    ghost encodes = { λ s. (length (string_bytes s) < 2 ^ 64) × IsUtf8 (string_bytes s) };
+    ghost encodes = { λ s. is_sized_text (string_bytes s) };
 
     ghost is_spelling = { is_counted_text };
 
@@ -80,7 +80,7 @@ impl<A: Allocator> Code<A> for String<A> {
 
     ghost takes_memory = { λ b. is_counted_text b ≡ true };
 
-    #[tactic(auto, using(crate::proofs::WritingLemmas::two_writes))]
+    #[tactic(auto, using(crate::proofs::WritingLemmas::two_writes, crate::proofs::CodeLemmas::text_lemmas))]
     fn encode_into<W: Sink>(&self, writer: &mut W) -> Result<()> {
         let bytes = self.as_str().as_bytes();
         let count = bytes.len() as u64;
@@ -103,7 +103,7 @@ impl<A: Allocator> Code<A> for String<A> {
         self.len().saturating_add(8)
     }
 
-    ghost spelled = { λ s fits. text_spelled (string_bytes s) fits.0 fits.1 };
+    ghost spelled = { λ s. text_spelled (string_bytes s) };
 
     ghost one_value = { λ s t a b same. one_list (string_bytes s) (string_bytes t) same };
 }
@@ -127,6 +127,6 @@ pub fn u64_read_back()
 /// Each text is what its spelling reads as.
 #[tactic(auto, using(crate::proofs::CodeLemmas::text_read_back))]
 pub fn string_read_back()
-    ensures { (s : _) → ⟦<String as Code<Global>>⟧.encodes s
+    ensures { (s : _) → ⟦<String as Code<Global>>⟧.encodes s ≡ true
         → text_read (⟦<String as Code<Global>>⟧.spelling s) ≡ Some (string_bytes s) }
 {}
