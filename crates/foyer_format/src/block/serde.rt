@@ -123,7 +123,7 @@ pub fn record_read_back()
 /// right, Memory where a growth was refused; nothing else is refused.
 #[tactic(auto, using(crate::proofs::RefusalLemmas::record_answers))]
 pub fn read_record<A: Allocator + Clone, K: Code<A> + Drop, V: Code<A> + Drop>(
-    alloc: A,
+    alloc: &A,
     bytes: &[u8],
     hash: u64,
     sequence: Sequence,
@@ -145,7 +145,7 @@ pub fn read_record<A: Allocator + Clone, K: Code<A> + Drop, V: Code<A> + Drop>(
 // The same, by the answer alone.
 #[tactic(auto, using(crate::proofs::RecordLemmas::outcomes))]
 fn find_record<A: Allocator + Clone, K: Code<A> + Drop, V: Code<A> + Drop>(
-    alloc: A,
+    alloc: &A,
     bytes: &[u8],
     hash: u64,
     sequence: Sequence,
@@ -168,7 +168,7 @@ fn find_record<A: Allocator + Clone, K: Code<A> + Drop, V: Code<A> + Drop>(
 // The pair of the bytes behind this header.
 #[tactic(auto, using(crate::proofs::RecordLemmas::bodies))]
 fn read_body<A: Allocator + Clone, K: Code<A> + Drop, V: Code<A> + Drop>(
-    alloc: A,
+    alloc: &A,
     header: &EntryHeader,
     body: &[u8],
 ) -> Result<Option<(K, V)>>

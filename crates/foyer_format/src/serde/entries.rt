@@ -84,7 +84,7 @@ impl EntryDeserializer {
     /// refuses them. Memory where a growth, or a clone of the allocator, was refused.
     #[tactic(auto, unfolding(crate::specs::Record::entry_fault), using(crate::proofs::RefusalLemmas::decode_fault))]
     pub fn deserialize<A: Allocator + Clone, K: Code<A> + Drop, V: Code<A> + Drop>(
-        alloc: A,
+        alloc: &A,
         bytes: &[u8],
         key_len: usize,
         value_len: usize,
@@ -101,7 +101,7 @@ impl EntryDeserializer {
         ensures memory { IfErr result (λ e. e ≡ Memory
             → V.takes_memory (take value_len bytes.now)
             ⊎ K.takes_memory (take key_len (drop value_len bytes.now))
-            ⊎ (A.is_infallible alloc → ⊥)) }
+            ⊎ (A.is_infallible alloc.now → ⊥)) }
     {
         if bytes.len() < value_len || bytes.len() - value_len < key_len {
             return Err(Error::OutOfRange);
@@ -115,7 +115,7 @@ impl EntryDeserializer {
             return Err(Error::Unsupported);
         };
         let value = V::decode(alloc.clone()?, &bytes[..value_len])?;
-        let key = K::decode(alloc, &bytes[value_len..value_len + key_len])?;
+        let key = K::decode(alloc.clone()?, &bytes[value_len..value_len + key_len])?;
         Ok((key, value))
     }
 }
