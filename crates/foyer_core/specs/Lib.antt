@@ -1,6 +1,14 @@
 pub mod Answered
+pub mod Asked
+pub mod Content
 pub mod Disk
+pub mod Flushing
+pub mod InOneBlock
+pub mod Meets
 pub mod Opened
+pub mod Plain
+pub mod Replied
 pub mod Sizes
+pub mod Standing
 pub mod Turns
 pub mod Unchanged

@@ -8,7 +8,7 @@ use crate::reply::Reply;
 use crate::state::Core;
 use crate::step::{Step, Ticket};
 use foyer_block::manager::BlockId;
-use foyer_device::error::{Error, ErrorKind, Result};
+use foyer_device::error::{ErrorKind, Result};
 use foyer_format::block::buffer::PAGE;
 use foyer_format::block::serde::read_record;
 use foyer_format::serde::{Age, Code};
@@ -94,16 +94,8 @@ impl<K, V, P, A: Allocator + Clone> Core<K, V, P, A> {
         } else {
             Age::Young
         };
-        let judged = match self.alloc.clone() {
-            Ok(alloc) => read_record(
-                alloc,
-                &bytes[..address.len as usize],
-                ticket.hash,
-                address.sequence,
-            ),
-            Err(_) => Err(Error::Memory),
-        };
-        match judged {
+        let record = &bytes[..address.len as usize];
+        match read_record(&self.alloc, record, ticket.hash, address.sequence) {
             Ok(Some((key, value))) => Reply::Entry { key, value, age },
             Ok(None) => self.miss(&ticket),
             Err(error) => Reply::Refused(error.kind(), load_end(ticket, Ok(bytes))),

@@ -4,6 +4,8 @@ ghost use Rattle.foyer_block.specs.Index.{address_at};
 ghost use Rattle.foyer_core.specs.declared.reply.Reply.TheVariants as reply;
 ghost use Rattle.foyer_core.specs.Answered.{HandsBack, TellsNothing, Enqueues, Deleting};
 ghost use Rattle.foyer_core.specs.Unchanged.{IsUnchanged};
+ghost use Rattle.foyer_core.specs.Content.{Meaning};
+ghost use Rattle.foyer_core.specs.Meets.{Turned};
 ghost use Rattle.foyer_core.specs.declared.step.Step.TheVariants as step;
 ghost use Rattle.foyer_format.specs.declared.serde.ages.Age.TheVariants as age;
 
@@ -129,7 +131,8 @@ impl<K, V, P, A: Allocator + Clone> Core<K, V, P, A> {
     }
 
     pub(crate) fn may_contains(&self, hash: u64) -> Reply<K, V, P, A>
-        ensures { result ≡ reply.Answer (is_some (address_at self.now.index hash)) }
+        ensures told { result ≡ reply.Answer (is_some (address_at self.now.index hash)) }
+        ensures meets { (m : Meaning K V P) → Turned m (step.MayContains hash) result self.now self.now }
     {
         Reply::Answer(self.index.get(hash).is_some())
     }
@@ -138,6 +141,7 @@ impl<K, V, P, A: Allocator + Clone> Core<K, V, P, A> {
         ensures reply { result ≡ reply.Done }
         ensures closed { self.new.closed ≡ true }
         ensures rest { IsUnchanged self.old (record self.new { closed = self.old.closed }) }
+        ensures meets { (m : Meaning K V P) → Turned m step.Close result self.old self.new }
     {
         self.closed = true;
         Reply::Done

@@ -44,17 +44,34 @@ pub(crate) struct Ended<K, V, P, A: Allocator> {
     pub waits: Vec<u64, A>,
 }
 
+// Where the clean block stands that has been clean longest of those that may still be handed out.
+fn first_usable<A: Allocator>(
+    clean: &VecDeque<BlockId, A>,
+    blocks: &Vec<BlockState, A>,
+) -> Option<usize> {
+    for index in 0..clean.len() {
+        if let Some(block) = clean.get(index) {
+            if let Some(state) = blocks.get(*block as usize) {
+                if state.filling < u64::MAX {
+                    return Some(index);
+                }
+            }
+        }
+    }
+    None
+}
+
 // The block that has been clean longest is handed out to a flusher, in a new filling.
 fn hand_out<A: Allocator>(
     clean: &mut VecDeque<BlockId, A>,
     blocks: &mut Vec<BlockState, A>,
     flusher: u32,
 ) -> Option<BlockId> {
-    let block = *clean.front()?;
+    let index = first_usable(clean, blocks)?;
+    let block = clean.remove(index)?;
     let state = blocks.get_mut(block as usize)?;
     state.filling = state.filling.checked_add(1)?;
     state.place = Place::Writing(flusher);
-    let _ = clean.pop_front();
     Some(block)
 }
 
@@ -112,13 +129,13 @@ impl<K, V, P, A: Allocator + Clone> Flusher<K, V, P, A> {
             writes.push_reserved(Write { offset, bytes });
         }
         blocks.push_back_reserved(Placed {
-            fresh: self.own.is_none(),
             writes,
             offset,
             records: mem::replace(&mut self.records, no_records),
         });
         let batch = Batch {
             blocks,
+            goes_on: self.own.is_some(),
             writing: None,
             marks: mem::replace(&mut self.marks, no_marks),
             invalid: mem::replace(&mut self.invalid, no_invalid),
@@ -161,44 +178,38 @@ impl<K, V, P, A: Allocator + Clone> Flusher<K, V, P, A> {
         let Some(batch) = &mut self.batch else {
             unreachable!()
         };
-        let fresh = match batch.blocks.front() {
-            Some(placed) => placed.fresh,
-            None => unreachable!(),
-        };
-        let own = if fresh { None } else { self.own };
+        let own = if batch.goes_on { self.own } else { None };
         let block = match own {
             Some(block) => block,
             None => {
                 release(&mut self.own, blocks);
-                waiting.retain(|waiter| *waiter != number);
                 match hand_out(clean, blocks, number) {
                     Some(block) => block,
                     None => {
-                        waiting.push_reserved(number);
+                        if !waiting.contains(&number) {
+                            waiting.push_reserved(number);
+                        }
                         return Ok(Next::NoBlock);
                     }
                 }
             }
         };
         self.own = Some(block);
-        let filling = match blocks.get(block as usize) {
-            Some(state) => state.filling,
-            None => 0,
-        };
+        waiting.retain(|waiter| *waiter != number);
+        batch.goes_on = false;
         let Some(placed) = batch.blocks.pop_front() else {
             unreachable!()
         };
         let Placed {
-            fresh: _,
             writes,
             offset,
-            mut records,
+            records,
         } = placed;
-        settle(&mut records, block, filling, offset);
         if !writes.is_empty() {
             batch.writing = Some(Writing {
                 block,
                 left: writes.len(),
+                offset,
                 records,
             });
         }
@@ -236,23 +247,31 @@ impl<K, V, P, A: Allocator + Clone> Flusher<K, V, P, A> {
         let Writing {
             block,
             left,
-            records,
+            offset,
+            mut records,
         } = writing;
         if is_done {
             if left > 1 {
                 batch.writing = Some(Writing {
                     block,
                     left: left - 1,
+                    offset,
                     records,
                 });
                 return Wrote::Next;
             }
+            let filling = match blocks.get(block as usize) {
+                Some(state) => state.filling,
+                None => 0,
+            };
+            settle(&mut records, block, filling, offset);
             let count = records.len();
             if index.insert_batch(records).is_ok() {
                 return Wrote::Committed(count);
             }
         }
         batch.blocks.clear();
+        batch.goes_on = false;
         release(&mut self.own, blocks);
         self.next_offset = first_offset;
         Wrote::Failed
@@ -278,6 +297,7 @@ impl<K, V, P, A: Allocator + Clone> Flusher<K, V, P, A> {
             Some(
                 Batch {
                     blocks: _,
+                    goes_on: _,
                     writing: _,
                     marks,
                     invalid,

@@ -44,8 +44,6 @@ pub enum Submission<K, V, P, A: Allocator> {
 /// What a batch puts into one block.
 #[derive(Drop)]
 pub struct Placed<A: Allocator> {
-    /// Whether it begins a block that was handed out for it.
-    pub fresh: bool,
     pub writes: Vec<Write<A>, A>,
     /// Where its data begin in the block, in bytes.
     pub offset: usize,
@@ -59,6 +57,9 @@ pub struct Writing<A: Allocator> {
     pub block: BlockId,
     /// How many told writes have not been reported.
     pub left: usize,
+    /// Where the records' data begin in the block, in bytes.
+    pub offset: usize,
+    /// The records, by the offsets that they have in the data.
     pub records: Vec<HashedEntryAddress, A>,
 }
 
@@ -67,6 +68,8 @@ pub struct Writing<A: Allocator> {
 pub struct Batch<K, V, P, A: Allocator> {
     /// The blocks that are not yet told, in order.
     pub blocks: VecDeque<Placed<A>, A>,
+    /// Whether the first of them is the flusher's own block.
+    pub goes_on: bool,
     pub writing: Option<Writing<A>>,
     pub marks: Vec<Tombstone, A>,
     pub invalid: Vec<InvalidStats, A>,

@@ -83,6 +83,9 @@ impl<K, V, P, A: Allocator + Clone> Flusher<K, V, P, A> {
         V: Code<A>,
         ensures refused { OnErr result (seen self.new ≡ seen self.old) }
     {
+        if self.queue.is_empty() {
+            return Ok(Taken::Nothing);
+        }
         let room = self.room(block_size);
         self.pieces.reserve(1)?;
         self.marks.reserve(1)?;

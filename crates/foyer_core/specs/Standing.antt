@@ -1,0 +1,94 @@
+-- The plain states that a core stands for. They differ in what a core doesn't keep: the bytes of writes that were told.
+use Rattle.std.specs.Prelude.{◌≡◌, ℕ, zero, suc, ◌+◌, ◌*◌, ◌^◌, ◌<◌, ◌≤◌, Bool, List, [], ◌∷◌, length, Option, Some, None, slice_get}
+use Rattle.std.specs.FinMap as map
+use Rattle.foyer_block.specs.Index.{IndexMap}
+use Rattle.foyer_block.specs.declared.indexer.EntryAddress.{EntryAddress}
+use Rattle.foyer_block.specs.declared.indexer.Index.{Index}
+use Rattle.foyer_block.specs.declared.indexer.Index.TheVariants.{Address, Tombstone}
+use Rattle.foyer_model.specs.Ids.{AreDistinct}
+use Rattle.foyer_model.specs.Record as plain
+use Rattle.foyer_model.specs.State as plainly
+use Rattle.foyer_core.specs.Asked.{address_of}
+use Rattle.foyer_core.specs.Content.{Content, Meaning}
+use Rattle.foyer_core.specs.Flushing.{IsFlusherAs}
+use Rattle.foyer_core.specs.declared.block.flusher.Flusher.{Flusher}
+use Rattle.foyer_core.specs.declared.settings.Settings.{Settings}
+use Rattle.foyer_core.specs.declared.state.BlockState.{BlockState}
+use Rattle.foyer_core.specs.declared.state.Core.{Core}
+use Rattle.foyer_core.specs.declared.state.Place.{Place}
+use Rattle.foyer_core.specs.declared.state.Place.TheVariants as place
+
+abbrev pub slot_of : Option Index → Option plain.Slot
+slot_of None = None
+slot_of (Some (Address a)) = Some (plain.Indexed (address_of a))
+slot_of (Some (Tombstone sequence)) = Some (plain.Mark sequence)
+
+abbrev pub place_of : Place → plainly.Place
+place_of place.Clean = plainly.Clean
+place_of (place.Writing flusher) = plainly.Writes flusher
+place_of place.Evictable = plainly.Evictable
+place_of place.Reclaiming = plainly.Reclaims
+
+-- each hash has what the map has for it, and addresses are of blocks that are there
+pub record IsIndexedAs (s : Settings) (index : IndexMap) (slots : ℕ → Option plain.Slot) : Type 0 where
+  pub slot : (hash : ℕ) → slots hash ≡ slot_of (map.get index hash)
+  pub there : (hash : ℕ) (a : EntryAddress) → map.get index hash ≡ Some (Address a) → a.block < s.blocks
+
+-- what is known of one block
+pub record IsBlockAs (it : BlockState) (its_place : plainly.Place) (its_filling : ℕ) (its_stats : plainly.Stats) : Type 0 where
+  pub place : its_place ≡ place_of it.place
+  pub filling : its_filling ≡ it.filling
+  pub stats : its_stats ≡ record { invalid = it.invalid; access = it.access; probation = it.probation }
+
+-- the blocks by their ids
+pub record AreBlocksAs (s : Settings) (blocks : List BlockState) (places : ℕ → plainly.Place) (fillings : ℕ → ℕ) (stats_at : ℕ → plainly.Stats) : Type 0 where
+  pub count : length blocks ≡ s.blocks
+  pub all : (b : ℕ) (it : BlockState) → slice_get blocks b ≡ Some it → IsBlockAs it (places b) (fillings b) (stats_at b)
+
+-- each is below n
+abbrev pub AllBelow : ℕ → List ℕ → Type 0
+AllBelow n [] = Unit {0}
+AllBelow n (x ∷ xs) = (x < n) × AllBelow n xs
+
+pub record AreCleanAs (s : Settings) (ids : List ℕ) (clean : List ℕ) : Type 0 where
+  pub is : clean ≡ ids
+  pub there : AllBelow s.blocks ids
+  pub once : AreDistinct ids
+
+-- the flushers by their numbers
+pub record AreFlushersAs {K V P A : Type 0} (m : Meaning K V P) (s : Settings) (φs : List (Flusher K V P A)) (its : ℕ → plainly.Flusher Content) : Type 0 where
+  pub count : length φs ≡ s.flushers
+  pub all : (f : ℕ) (φ : Flusher K V P A) → slice_get φs f ≡ Some φ → IsFlusherAs m s φ (its f)
+
+-- the sizes of a queue's pieces
+abbrev pub size_in : {C : Type 0} → List (plainly.Submission C) → ℕ
+size_in [] = 0
+size_in (plainly.Piece h q n c ∷ rest) = n + size_in rest
+size_in (plainly.Remove h q spoils ∷ rest) = size_in rest
+size_in (plainly.Await i ∷ rest) = size_in rest
+size_in (plainly.Reinsert h bytes a ∷ rest) = size_in rest
+
+-- the sizes of the pieces queued at the first n flushers
+abbrev pub size_of_all : {C : Type 0} → ℕ → (ℕ → plainly.Flusher C) → ℕ
+size_of_all zero its = 0
+size_of_all (suc n) its = size_in (its n).queue + size_of_all n its
+
+-- The sum of the queued sizes is exact: each queued piece has drawn a sequence, so that it stays below 2^128.
+pub record IsSizedAs (s : Settings) (queued next : ℕ) (its : ℕ → plainly.Flusher Content) : Type 0 where
+  pub sum : queued ≡ size_of_all s.flushers its
+  pub bound : queued ≤ next * 2 ^ 64
+
+-- a plain state that the core stands for, where its sizes are these
+pub record IsStateOf {K V P A : Type 0} (m : Meaning K V P) (s : Settings) (core : Core K V P A) (it : plainly.State Content) : Type 0 where
+  pub sizes : core.settings ≡ s
+  pub index : IsIndexedAs s core.index it.index
+  pub next : it.next ≡ core.next
+  pub steps : it.steps ≡ core.steps
+  pub closed : it.closed ≡ core.closed
+  pub flushers : AreFlushersAs m s core.flushers.items it.flushers
+  pub queued : IsSizedAs s core.queued core.next it.flushers
+  pub blocks : AreBlocksAs s core.blocks.items it.place it.filling it.stats
+  pub clean : AreCleanAs s core.clean.items it.clean
+  pub waiting : it.waiting ≡ core.waiting.items
+  pub reclaims : (b : ℕ) → it.reclaims b ≡ None
+  pub destroy : it.destroy ≡ plainly.NoDestroy
