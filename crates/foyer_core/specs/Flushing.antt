@@ -11,7 +11,7 @@ use Rattle.foyer_core.specs.Content.{Content, Meaning, content_of}
 use Rattle.foyer_core.specs.InOneBlock.{packed, laid_from, parts_of, spread_of, all_writes}
 use Rattle.foyer_core.specs.Replied.{write_of, mark_of}
 use Rattle.foyer_core.specs.declared.block.flusher.Batch.{Batch}
-use Rattle.foyer_core.specs.declared.block.flusher.Flusher.{Flusher}
+use Rattle.foyer_core.specs.Unchanged.{Seen}
 use Rattle.foyer_core.specs.declared.block.flusher.InvalidStats.{InvalidStats}
 use Rattle.foyer_core.specs.declared.block.flusher.Placed.{Placed}
 use Rattle.foyer_core.specs.declared.block.flusher.Submission.{Submission}
@@ -39,6 +39,7 @@ filled_to at = record { blob = 0; at = at; listed = [] }
 pub record IsRecordOf {K V P : Type 0} (m : Meaning K V P) (at : ℕ) (e : HashedEntryAddress) (piece : Record K V P) (r : plain.Record Content) : Type 0 where
   pub offset : e.address.offset ≡ at
   pub len : e.address.len ≡ length r.bytes
+  pub some : 0 < length r.bytes
   pub hash : e.hash ≡ r.hash
   pub sequence : e.address.sequence ≡ r.sequence
   pub source : r.source ≡ plain.Given (content_of m piece)
@@ -105,13 +106,13 @@ abbrev pub IsThere : ℕ → Option ℕ → Type 0
 IsThere blocks None = Unit {0}
 IsThere blocks (Some b) = b < blocks
 
-pub record IsFlusherAs {K V P A : Type 0} (m : Meaning K V P) (s : Settings) (φ : Flusher K V P A) (it : plainly.Flusher Content) : Type 0 where
-  pub queue : it.queue ≡ map (submission_of m) φ.queue.items
-  pub buffer : AreRecords m 0 φ.records.items φ.pieces.items it.buffer
+pub record IsFlusherAs {K V P A : Type 0} (m : Meaning K V P) (s : Settings) (φ : Seen K V P A) (it : plainly.Flusher Content) : Type 0 where
+  pub queue : it.queue ≡ map (submission_of m) φ.queue
+  pub buffer : AreRecords m 0 φ.records φ.pieces it.buffer
   pub bytes : φ.buffer ≡ packed it.buffer
-  pub marks : it.marks ≡ map mark_of φ.marks.items
-  pub spoils : it.spoils ≡ map spoil_of φ.invalid.items
-  pub waits : it.waits ≡ φ.waits.items
+  pub marks : it.marks ≡ map mark_of φ.marks
+  pub spoils : it.spoils ≡ map spoil_of φ.invalid
+  pub waits : it.waits ≡ φ.waits
   pub own : it.own ≡ φ.own
   pub there : IsThere s.blocks φ.own
   pub ready : it.ready ≡ None

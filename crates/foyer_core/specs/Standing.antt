@@ -1,6 +1,6 @@
 -- The plain states that a core stands for. They differ in what a core doesn't keep: the bytes of writes that were told.
-use Rattle.std.specs.Prelude.{◌≡◌, ℕ, zero, suc, ◌+◌, ◌*◌, ◌^◌, ◌<◌, ◌≤◌, Bool, List, [], ◌∷◌, length, Option, Some, None, slice_get}
-use Rattle.std.specs.FinMap as map
+use Rattle.std.specs.Prelude.{◌≡◌, ℕ, zero, suc, ◌+◌, ◌*◌, ◌^◌, ◌<◌, ◌≤◌, Bool, List, [], ◌∷◌, map, length, Option, Some, None, slice_get}
+use Rattle.std.specs.FinMap as finite
 use Rattle.foyer_block.specs.Index.{IndexMap}
 use Rattle.foyer_block.specs.declared.indexer.EntryAddress.{EntryAddress}
 use Rattle.foyer_block.specs.declared.indexer.Index.{Index}
@@ -11,7 +11,7 @@ use Rattle.foyer_model.specs.State as plainly
 use Rattle.foyer_core.specs.Asked.{address_of}
 use Rattle.foyer_core.specs.Content.{Content, Meaning}
 use Rattle.foyer_core.specs.Flushing.{IsFlusherAs}
-use Rattle.foyer_core.specs.declared.block.flusher.Flusher.{Flusher}
+use Rattle.foyer_core.specs.Unchanged.{Seen, seen}
 use Rattle.foyer_core.specs.declared.settings.Settings.{Settings}
 use Rattle.foyer_core.specs.declared.state.BlockState.{BlockState}
 use Rattle.foyer_core.specs.declared.state.Core.{Core}
@@ -31,8 +31,8 @@ place_of place.Reclaiming = plainly.Reclaims
 
 -- each hash has what the map has for it, and addresses are of blocks that are there
 pub record IsIndexedAs (s : Settings) (index : IndexMap) (slots : ℕ → Option plain.Slot) : Type 0 where
-  pub slot : (hash : ℕ) → slots hash ≡ slot_of (map.get index hash)
-  pub there : (hash : ℕ) (a : EntryAddress) → map.get index hash ≡ Some (Address a) → a.block < s.blocks
+  pub slot : (hash : ℕ) → slots hash ≡ slot_of (finite.get index hash)
+  pub there : (hash : ℕ) (a : EntryAddress) → finite.get index hash ≡ Some (Address a) → a.block < s.blocks
 
 -- what is known of one block
 pub record IsBlockAs (it : BlockState) (its_place : plainly.Place) (its_filling : ℕ) (its_stats : plainly.Stats) : Type 0 where
@@ -56,9 +56,9 @@ pub record AreCleanAs (s : Settings) (ids : List ℕ) (clean : List ℕ) : Type 
   pub once : AreDistinct ids
 
 -- the flushers by their numbers
-pub record AreFlushersAs {K V P A : Type 0} (m : Meaning K V P) (s : Settings) (φs : List (Flusher K V P A)) (its : ℕ → plainly.Flusher Content) : Type 0 where
+pub record AreFlushersAs {K V P A : Type 0} (m : Meaning K V P) (s : Settings) (φs : List (Seen K V P A)) (its : ℕ → plainly.Flusher Content) : Type 0 where
   pub count : length φs ≡ s.flushers
-  pub all : (f : ℕ) (φ : Flusher K V P A) → slice_get φs f ≡ Some φ → IsFlusherAs m s φ (its f)
+  pub all : (f : ℕ) (φ : Seen K V P A) → slice_get φs f ≡ Some φ → IsFlusherAs m s φ (its f)
 
 -- the sizes of a queue's pieces
 abbrev pub size_in : {C : Type 0} → List (plainly.Submission C) → ℕ
@@ -85,7 +85,7 @@ pub record IsStateOf {K V P A : Type 0} (m : Meaning K V P) (s : Settings) (core
   pub next : it.next ≡ core.next
   pub steps : it.steps ≡ core.steps
   pub closed : it.closed ≡ core.closed
-  pub flushers : AreFlushersAs m s core.flushers.items it.flushers
+  pub flushers : AreFlushersAs m s (map seen core.flushers.items) it.flushers
   pub queued : IsSizedAs s core.queued core.next it.flushers
   pub blocks : AreBlocksAs s core.blocks.items it.place it.filling it.stats
   pub clean : AreCleanAs s core.clean.items it.clean
