@@ -1,6 +1,9 @@
 pub mod BlockPlaces
+pub mod Enqueued
 pub mod FlusherLists
 pub mod Opening
 pub mod QueueLemmas
+pub mod SlotLemmas
 pub mod StateLemmas
 pub mod Telling
+pub mod TurnLemmas
