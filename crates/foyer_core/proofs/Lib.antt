@@ -1,4 +1,5 @@
 pub mod BlockPlaces
+pub mod Deleted
 pub mod Enqueued
 pub mod FlusherLists
 pub mod Opening

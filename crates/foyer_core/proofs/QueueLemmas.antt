@@ -40,14 +40,15 @@ module _ {K V P A : Type 0} (m : Meaning K V P) (s : Settings) where
         batch = stands.batch;
       }))
 
-  -- the same, where the number is told in another way
-  pub queue_pushed_at : (φs : List (Flusher K V P A)) (its : ℕ → plainly.Flusher Content) (f k : ℕ) (φ ψ : Flusher K V P A) (x : Submission K V P A)
-      → f ≡ k → AreFlushersAs m s (map seen φs) its → f < length φs → φ ≡ slice_index_or φs f φ
+  -- the same, where number and submission are told in another way
+  pub queue_pushed_at : (φs : List (Flusher K V P A)) (its : ℕ → plainly.Flusher Content) (f k : ℕ) (φ ψ : Flusher K V P A) (x : Submission K V P A) (y : plainly.Submission Content)
+      → f ≡ k → submission_of m x ≡ y → AreFlushersAs m s (map seen φs) its → f < length φs → φ ≡ slice_index_or φs f φ
       → seen ψ ≡ record (seen φ) { queue = φ.queue.items ++ x ∷ [] }
-      → AreFlushersAs m s (map seen (slice_set φs f ψ)) (put its k (with_queued (its k) (submission_of m x)))
-  queue_pushed_at φs its f k φ ψ x at are lt is pushed =
-      subst (λ j. AreFlushersAs m s (map seen (slice_set φs f ψ)) (put its j (with_queued (its j) (submission_of m x)))) at
-      (queue_pushed φs its f φ ψ x are lt is pushed)
+      → AreFlushersAs m s (map seen (slice_set φs f ψ)) (put its k (with_queued (its k) y))
+  queue_pushed_at φs its f k φ ψ x y at same are lt is pushed =
+      subst (λ j. AreFlushersAs m s (map seen (slice_set φs f ψ)) (put its j (with_queued (its j) y))) at
+      (subst (λ z. AreFlushersAs m s (map seen (slice_set φs f ψ)) (put its f (with_queued (its f) z))) same
+      (queue_pushed φs its f φ ψ x are lt is pushed))
 
 -- and the sum of the queued sizes
 pub size_grown : (s : Settings) (its : ℕ → plainly.Flusher Content) (f : ℕ) (x : plainly.Submission Content) (queued next more later : ℕ)

@@ -46,7 +46,7 @@ slot_entered (Some held) next =
 
 there_entered : (blocks : ℕ) (held : Option Index) (next : Index) → IsThereAt blocks next
     → ((a : EntryAddress) → held ≡ Some (Address a) → a.block < blocks) → (a : EntryAddress) → entered held next ≡ Address a → a.block < blocks
-there_entered blocks None next there olds a is = subst (IsThereAt blocks) is there
+there_entered blocks None next there olds a = λ is. subst (IsThereAt blocks) is there
 there_entered blocks (Some held) next there olds a = go (nat_le (sequence_of held) (sequence_of next))
   where
     go : (b : Bool) → (if b then next else held) ≡ Address a → a.block < blocks

@@ -131,8 +131,8 @@ returns-clause-meets g c = λ m ages s sound it stands few.
         next = refl;
         steps = stands.steps;
         closed = stands.closed;
-        flushers = queue_pushed_at m s old.flushers.items it.flushers c.flusher_of-flusher.result f found (record found { queue = c.push_back_reserved.new.self }) (CacheEntry c.args.piece c.args.size old.next)
-            at stands.flushers within c.index_mut.ensures.value
+        flushers = queue_pushed_at m s old.flushers.items it.flushers c.flusher_of-flusher.result f found (record found { queue = c.push_back_reserved.new.self }) (CacheEntry c.args.piece c.args.size old.next) x
+            at refl stands.flushers within c.index_mut.ensures.value
             (ap (λ q. record (seen found) { queue = q }) (c.push_back_reserved.ensures.items ∙ ap (λ q. q ++ CacheEntry c.args.piece c.args.size old.next ∷ []) c.reserve.ensures.items));
         queued = size_grown s it.flushers f x old.queued old.next c.saturating_add-self.result (old.next + 1) stands.queued there more (omega arith);
         blocks = stands.blocks;
