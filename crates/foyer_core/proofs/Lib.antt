@@ -1,7 +1,9 @@
+pub mod BlockLemmas
 pub mod BlockPlaces
 pub mod Deleted
 pub mod Enqueued
 pub mod FlusherLists
+pub mod LoadLemmas
 pub mod Opening
 pub mod QueueLemmas
 pub mod SlotLemmas

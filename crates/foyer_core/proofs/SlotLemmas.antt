@@ -1,16 +1,22 @@
 -- One hash of the index changes.
-use Rattle.std.proofs.Common.{◌≡◌, ℕ, ◌<◌, ◌≤◌, ◌==◌, nat_le, Bool, true, false, if◌then◌else◌, Option, Some, None, refl, sym, ap, subst, ◌∙◌}
+use Rattle.std.proofs.Common.{◌≡◌, ℕ, ◌<◌, ◌≤◌, ◌==◌, nat_le, Bool, true, false, cond, IsTrue, ◌↔◌, option_and_then, if◌then◌else◌, Option, Some, None, refl, sym, ap, subst, ◌∙◌}
+use Rattle.std.proofs.lemmas.Bool.{eq-eqb}
+use Rattle.std.specs.Bool.{OnTrue, OnFalse}
+use Rattle.std.specs.Cmp.{nat_cmp_total, unsigned_tied}
 use Rattle.std.specs.FinMap as finite
+use Rattle.std.specs.FinMap.{get-remove}
 use Rattle.foyer_block.proofs.Indexed.{get-inserted}
-use Rattle.foyer_block.specs.Index.{IndexMap, sequence_of}
+use Rattle.foyer_block.specs.Index.{IndexMap, sequence_of, address_of as block_address}
 use Rattle.foyer_block.specs.Insertion.{entered, inserted, left_out}
 use Rattle.foyer_block.specs.declared.indexer.EntryAddress.{EntryAddress}
 use Rattle.foyer_block.specs.declared.indexer.Index.{Index}
 use Rattle.foyer_block.specs.declared.indexer.Index.TheVariants.{Address, Tombstone}
 use Rattle.foyer_model.specs.Index as plain
 use Rattle.foyer_model.specs.Numbers.{put}
+use Rattle.foyer_model.specs.Record as plain_record
 use Rattle.foyer_model.specs.Record.{Slot, Indexed, Mark}
-use Rattle.foyer_model.proofs.Basics.{put_at, put_same, put_other}
+use Rattle.foyer_model.proofs.Basics.{put_at}
+use Rattle.foyer_model.proofs.CommitSteps.{same_address}
 use Rattle.foyer_core.specs.Asked.{address_of}
 use Rattle.foyer_core.specs.Standing.{slot_of, IsIndexedAs}
 use Rattle.foyer_core.specs.declared.settings.Settings.{Settings}
@@ -74,3 +80,65 @@ module _ (s : Settings) where
           go : (b : Bool) → (if b then Some (entered (finite.get index hash) next) else finite.get index q) ≡ Some (Address a) → a.block < s.blocks
           go true e = there_entered s.blocks (finite.get index hash) next there (is.there hash) a (let g : entered (finite.get index hash) next ≡ Address a = cc in g)
           go false e = is.there q a e
+
+-- a hash that has an address
+pub held_address : (held : Option Index) (a : EntryAddress) → option_and_then block_address held ≡ Some a → held ≡ Some (Address a)
+held_address None a is = absurd (cc)
+held_address (Some (Tombstone sequence)) a is = absurd (cc)
+held_address (Some (Address b)) a is = ap (λ x. Some (Address x)) (let e : b ≡ a = cc in e)
+
+pub same_itself : (a : plain_record.Address) → plain.is_same a a ≡ true
+same_itself a = rw (eq-eqb a.block a.block refl, eq-eqb a.offset a.offset refl, eq-eqb a.len a.len refl, eq-eqb a.sequence a.sequence refl, eq-eqb a.filling a.filling refl)
+
+-- the very address leaves the hash that has it
+pub without_itself : (a : plain_record.Address) (slot : Option Slot) → slot ≡ Some (Indexed a) → plain.without a slot ≡ None
+without_itself a slot is = ap (plain.without a) is ∙ ap (λ b. if b then None else Some (Indexed a)) (same_itself a)
+
+as_told : (a b : EntryAddress) → address_of a ≡ address_of b → a ≡ b
+as_told a b same = λ i. record { block = (same i).block; offset = (same i).offset; len = (same i).len; sequence = (same i).sequence; filling = (same i).filling }
+
+-- and no other
+without_other : (a : EntryAddress) (held : Option Index) → (held ≡ Some (Address a) → ⊥) → plain.without (address_of a) (slot_of held) ≡ slot_of held
+without_other a None ne = refl
+without_other a (Some (Tombstone sequence)) ne = refl
+without_other a (Some (Address b)) ne = go (plain.is_same (address_of a) (address_of b)) refl
+  where
+    go : (t : Bool) → plain.is_same (address_of a) (address_of b) ≡ t → (if t then None else Some (Indexed (address_of b))) ≡ Some (Indexed (address_of b))
+    go true e = absurd (ne (ap (λ x. Some (Address x)) (sym (as_told a b (same_address (address_of a) (address_of b) e)))))
+    go false e = refl
+
+module _ (s : Settings) where
+  pub index_removed : (index next : IndexMap) (slots : ℕ → Option Slot) (hash : ℕ) (a : EntryAddress) (done : Bool)
+      → (IsTrue done ↔ (finite.get index hash ≡ Some (Address a))) → OnTrue done (next ≡ finite.remove index hash) → OnFalse done (next ≡ index)
+      → IsIndexedAs s index slots → IsIndexedAs s next (put slots hash (plain.without (address_of a) (slots hash)))
+  index_removed index next slots hash a true answer removed unchanged is =
+      subst (λ k. IsIndexedAs s k (put slots hash (plain.without (address_of a) (slots hash)))) (sym removed) (record { slot = slot; there = there })
+    where
+      now : (q : ℕ) → finite.get (finite.remove index hash) q ≡ (if q == hash then None else finite.get index q)
+      now q = get-remove nat_cmp_total index hash q ∙ ap (λ b. cond b None (finite.get index q)) (unsigned_tied q hash)
+
+      gone : plain.without (address_of a) (slots hash) ≡ None
+      gone = without_itself (address_of a) (slots hash) (is.slot hash ∙ ap slot_of (answer.0 refl))
+
+      slot : (q : ℕ) → put slots hash (plain.without (address_of a) (slots hash)) q ≡ slot_of (finite.get (finite.remove index hash) q)
+      slot q = go (q == hash) ∙ ap slot_of (sym (now q))
+        where
+          go : (b : Bool) → (if b then plain.without (address_of a) (slots hash) else slots q) ≡ slot_of (if b then None else finite.get index q)
+          go true = gone
+          go false = is.slot q
+
+      there : (q : ℕ) (x : EntryAddress) → finite.get (finite.remove index hash) q ≡ Some (Address x) → x.block < s.blocks
+      there q x at = go (q == hash) (sym (now q) ∙ at)
+        where
+          go : (b : Bool) → (if b then None else finite.get index q) ≡ Some (Address x) → x.block < s.blocks
+          go true e = absurd (cc)
+          go false e = is.there q x e
+  index_removed index next slots hash a false answer removed unchanged is =
+      subst (λ k. IsIndexedAs s k (put slots hash (plain.without (address_of a) (slots hash)))) (sym unchanged) (record {
+        slot = λ q. put_at (λ o. o ≡ slot_of (finite.get index q)) slots hash (plain.without (address_of a) (slots hash)) q
+            (λ same. stays ∙ ap (λ k. slot_of (finite.get index k)) (sym same)) (λ ne. is.slot q);
+        there = is.there;
+      })
+    where
+      stays : plain.without (address_of a) (slots hash) ≡ slot_of (finite.get index hash)
+      stays = ap (plain.without (address_of a)) (is.slot hash) ∙ without_other a (finite.get index hash) (λ e. let f : false ≡ true = answer.1 e in cc)

@@ -1,5 +1,5 @@
 -- Steps that are handed back.
-use Rattle.std.proofs.Common.{◌≡◌, ℕ, ◌^◌, ◌<◌, ◌-◌, Some, refl, arith}
+use Rattle.std.proofs.Common.{◌≡◌, ℕ, ◌^◌, ◌<◌, ◌-◌, Some, refl, sym, subst, arith}
 use Rattle.foyer_device.specs.declared.error.ErrorKind.{ErrorKind}
 use Rattle.foyer_model.specs.Numbers.{last_number}
 use Rattle.foyer_model.specs.Refusal.{MayRefuse}
@@ -63,3 +63,12 @@ module _ {K V P A : Type 0} (m : Meaning K V P) (s : Settings) (sound : IsSound 
     reply = refl;
     turns = (refl, out, refl);
   }
+
+-- the step that comes back is the one that was asked
+pub comes_back : {K V P A : Type 0} (m : Meaning K V P) (s : Settings) (sound : IsSound s) (given back : Step K V P A) (why : ErrorKind) (new : Core K V P A) (it : State Content)
+    → back ≡ given → IsTurned m s sound given (reply.Refused why given) new it → IsTurned m s sound given (reply.Refused why back) new it
+comes_back m s sound given back why new it is turned = subst (λ b. IsTurned m s sound given (reply.Refused why b) new it) (sym is) turned
+
+pub comes_back_late : {K V P A : Type 0} (m : Meaning K V P) (s : Settings) (sound : IsSound s) (given back : Step K V P A) (new : Core K V P A) (it : State Content)
+    → back ≡ given → IsTurned m s sound given (reply.NotNow given) new it → IsTurned m s sound given (reply.NotNow back) new it
+comes_back_late m s sound given back new it is turned = subst (λ b. IsTurned m s sound given (reply.NotNow b) new it) (sym is) turned
