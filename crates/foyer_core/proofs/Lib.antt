@@ -4,9 +4,14 @@ pub mod Deleted
 pub mod Enqueued
 pub mod FlusherLists
 pub mod LoadLemmas
+pub mod OpenedLemmas
 pub mod Opening
+pub mod PlacedLemmas
+pub mod PushLemmas
 pub mod QueueLemmas
+pub mod ReceiveLemmas
 pub mod SlotLemmas
 pub mod StateLemmas
 pub mod Telling
+pub mod TripLemmas
 pub mod TurnLemmas

@@ -1,5 +1,6 @@
 pub mod Answered
 pub mod Asked
+pub mod Begins
 pub mod Content
 pub mod Disk
 pub mod Flushing
@@ -10,5 +11,6 @@ pub mod Plain
 pub mod Replied
 pub mod Sizes
 pub mod Standing
+pub mod Taking
 pub mod Turns
 pub mod Unchanged

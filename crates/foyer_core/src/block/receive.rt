@@ -1,5 +1,13 @@
 //! From a flusher's queue into its buffer.
-ghost use Rattle.std.specs.Prelude.{◌≡◌, ◌<◌, ◌^◌, ◌≤◌, OnOk, OnErr, vec_len, vec_capacity};
+ghost use Rattle.std.specs.Prelude.{◌≡◌, ◌+◌, ◌-◌, ◌<◌, ◌^◌, ℕ, true, min, length, Option, MatchBool, IfOk, OnErr};
+ghost use Rattle.foyer_format.specs.Record.{record_bytes};
+ghost use Rattle.foyer_format.specs.declared.serde.ages.Age.{Age as age};
+ghost use Rattle.foyer_model.specs.State.{State};
+ghost use Rattle.foyer_core.specs.Content.{Content, meaning};
+ghost use Rattle.foyer_core.specs.Flushing.{IsFlusherAs};
+ghost use Rattle.foyer_core.specs.Sizes.{IsSound};
+ghost use Rattle.foyer_core.specs.Taking.{IsPushed, IsLeftOut, Takes};
+ghost use Rattle.foyer_core.specs.declared.settings.Settings.{Settings};
 ghost use Rattle.foyer_core.specs.Unchanged.{seen};
 
 use crate::block::flusher::{Flusher, Submission};
@@ -26,6 +34,7 @@ pub(crate) enum Taken<K, V, P, A: Allocator> {
 }
 
 // Puts a piece's record into the buffer, where it fits into `room` bytes. False where it doesn't.
+#[tactic(auto, using(crate::proofs::PushLemmas::counted))]
 fn push_record<K: Code<A>, V: Code<A>, P, A: Allocator>(
     buffer: &mut Buffer<A>,
     records: &mut Vec<HashedEntryAddress, A>,
@@ -33,15 +42,21 @@ fn push_record<K: Code<A>, V: Code<A>, P, A: Allocator>(
     piece: &Piece<K, V, P, A>,
     sequence: u64,
 ) -> Result<bool>
-    requires { room < 2 ^ 32 }
+    requires room { room < 2 ^ 32 }
+    requires len { length buffer.old < 2 ^ 32 }
+    ensures pushed { IfOk result (λ done. MatchBool done
+        (IsPushed room piece.now.hash sequence ((K.encodes piece.now.key ≡ true) × (V.encodes piece.now.value ≡ true))
+        (length (V.spelling piece.now.value) + length (K.spelling piece.now.key))
+        (record_bytes piece.now.hash sequence (K.spelling piece.now.key) (V.spelling piece.now.value))
+        buffer.old buffer.new records.old.items records.new.items)
+        (IsLeftOut room ((K.encodes piece.now.key ≡ true) × (V.encodes piece.now.value ≡ true))
+        (length (V.spelling piece.now.value) + length (K.spelling piece.now.key))
+        buffer.old buffer.new records.old.items records.new.items)) }
     ensures buffer_kept { OnErr result (buffer.new ≡ buffer.old) }
     ensures records_kept { OnErr result (records.new.items ≡ records.old.items) }
 {
     records.reserve(1)?;
     let offset = buffer.len();
-    if offset > u32::MAX as usize {
-        return Ok(false);
-    }
     if offset == 0 {
         buffer.reserve(room.min(BUFFER_RESERVE))?;
     }
@@ -68,7 +83,7 @@ fn push_record<K: Code<A>, V: Code<A>, P, A: Allocator>(
 impl<K, V, P, A: Allocator + Clone> Flusher<K, V, P, A> {
     // How many bytes of records the flusher's block still takes behind those in the buffer.
     fn room(&self, block_size: usize) -> usize
-        ensures { result < 2 ^ 32 }
+        ensures { result ≡ min (block_size - self.now.next_offset - length self.now.buffer) (2 ^ 32 - 1) }
     {
         block_size
             .saturating_sub(self.next_offset)
@@ -82,6 +97,10 @@ impl<K, V, P, A: Allocator + Clone> Flusher<K, V, P, A> {
         K: Code<A>,
         V: Code<A>,
         ensures refused { OnErr result (seen self.new ≡ seen self.old) }
+        ensures takes { (age_of : P → Option age) (s : Settings) (sound : IsSound s) (st : State Content) (f : ℕ)
+            → block_size ≡ s.block_size
+            → IsFlusherAs (meaning K.spelling V.spelling K.encodes V.encodes K.is_spelling V.is_spelling age_of) s (seen self.old) (st.flushers f)
+            → Takes (meaning K.spelling V.spelling K.encodes V.encodes K.is_spelling V.is_spelling age_of) s sound st f result self.new }
     {
         if self.queue.is_empty() {
             return Ok(Taken::Nothing);
@@ -100,21 +119,26 @@ impl<K, V, P, A: Allocator + Clone> Flusher<K, V, P, A> {
                     estimated_size,
                     sequence,
                 },
-            ) => match push_record(&mut self.buffer, &mut self.records, room, &piece, sequence) {
-                Ok(true) => {
-                    self.pieces.push_reserved(piece);
-                    Ok(Taken::Piece(estimated_size, None))
+            ) => {
+                if self.buffer.len() > u32::MAX as usize {
+                    return Ok(Taken::Piece(estimated_size, Some(piece)));
                 }
-                Ok(false) => Ok(Taken::Piece(estimated_size, Some(piece))),
-                Err(error) => {
-                    self.queue.push_front_reserved(Submission::CacheEntry {
-                        piece,
-                        estimated_size,
-                        sequence,
-                    });
-                    Err(error)
+                match push_record(&mut self.buffer, &mut self.records, room, &piece, sequence) {
+                    Ok(true) => {
+                        self.pieces.push_reserved(piece);
+                        Ok(Taken::Piece(estimated_size, None))
+                    }
+                    Ok(false) => Ok(Taken::Piece(estimated_size, Some(piece))),
+                    Err(error) => {
+                        self.queue.push_front_reserved(Submission::CacheEntry {
+                            piece,
+                            estimated_size,
+                            sequence,
+                        });
+                        Err(error)
+                    }
                 }
-            },
+            }
             Some(Submission::Tombstone(info)) => {
                 self.marks.push_reserved(info.tombstone);
                 if let Some(stats) = info.stats {

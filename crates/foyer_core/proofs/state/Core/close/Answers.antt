@@ -1,5 +1,9 @@
 use Rattle.std.proofs.Common.{true, refl}
 use Rattle.foyer_model.specs.Reply.{Done}
+use Rattle.foyer_core.proofs.PlacedLemmas.{keeps_records, places_all}
+use Rattle.foyer_core.proofs.TripLemmas.{round_trip}
+use Rattle.foyer_core.proofs.ReceiveLemmas.{records_end, packed_end, taken_end, pushed_bytes, has_room, lacks_room}
+use Rattle.foyer_core.proofs.OpenedLemmas.{opened_stands, first_opened}
 use Rattle.foyer_core.proofs.state.Core.close.Goals as goal
 
 pub returns-clause-meets : goal.returns-clause-meets
