@@ -12,6 +12,7 @@ pub mod QueueLemmas
 pub mod ReceiveLemmas
 pub mod SlotLemmas
 pub mod StateLemmas
+pub mod TakenLemmas
 pub mod Telling
 pub mod TripLemmas
 pub mod TurnLemmas

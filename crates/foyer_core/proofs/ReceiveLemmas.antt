@@ -29,9 +29,11 @@ module _ {K V P : Type 0} (m : Meaning K V P) where
   pub records_end : (at : ℕ) (es : List HashedEntryAddress) (ps : List (Record K V P)) (rs : List (plain.Record Content)) (e : HashedEntryAddress) (p : Record K V P) (r : plain.Record Content)
       → AreRecords m at es ps rs → IsRecordOf m (at + bytes_taken page_up rs) e p r → AreRecords m at (es ++ e ∷ []) (ps ++ p ∷ []) (rs ++ r ∷ [])
   records_end at [] [] [] e p r are is = (subst (λ n. IsRecordOf m n e p r) (let same : at + 0 ≡ at = omega arith in same) is, tt)
-  records_end at (d ∷ es) (q ∷ ps) (t ∷ rs) e p r are is =
-      (are.0, records_end (at + page_up (length t.bytes)) es ps rs e p r are.1
-      (subst (λ n. IsRecordOf m n e p r) (let same : at + (page_up (length t.bytes) + bytes_taken page_up rs) ≡ at + page_up (length t.bytes) + bytes_taken page_up rs = omega arith in same) is))
+  records_end at (d ∷ es) (q ∷ ps) (t ∷ rs) e p r are is = (
+    are.0,
+    records_end (at + page_up (length t.bytes)) es ps rs e p r are.1
+        (subst (λ n. IsRecordOf m n e p r) (let same : at + (page_up (length t.bytes) + bytes_taken page_up rs) ≡ at + page_up (length t.bytes) + bytes_taken page_up rs = omega arith in same) is),
+  )
   records_end at [] [] (t ∷ rs) e p r are is = absurd are
   records_end at [] (q ∷ ps) rs e p r are is = absurd are
   records_end at (d ∷ es) [] rs e p r are is = absurd are

@@ -38,23 +38,23 @@ pub record IsLeftOut (room : ℕ) (encodes : Type 0) (n : ℕ) (old new : List �
   pub buffer : new ≡ old
   pub entries : fs ≡ es
 
-module _ {K V P A : Type 0} (m : Meaning K V P) (s : Settings) (sound : IsSound s) (st : plainly.State Content) (f : ℕ) where
-  -- the front was taken, with a piece of this size
-  pub record IsTaken (size : ℕ) (back : Option Content) (new : Flusher K V P A) : Type 0 where
-    pub after : plainly.Flusher Content
-    pub stands : IsFlusherAs m s (seen new) after
-    pub receives : Receives (machine m s sound) st f (replies.Received back) (turned (machine m s sound) st f after)
-    pub size_is : size_in (st.flushers f).queue ≡ size + size_in after.queue
+-- a growth is needed for some reply
+pub record NeedsRoom {K V P : Type 0} (m : Meaning K V P) (s : Settings) (sound : IsSound s) (st : plainly.State Content) (f : ℕ) : Type 0 where
+  pub reply : replies.Reply Content
+  pub after : plainly.State Content
+  pub receives : Receives (machine m s sound) st f reply after
+  pub grows : Grows {C = Content} (plain.Receive f) reply
 
-  -- a growth is needed for some reply
-  pub record NeedsRoom : Type 0 where
-    pub reply : replies.Reply Content
-    pub after : plainly.State Content
-    pub receives : Receives (machine m s sound) st f reply after
-    pub grows : Grows {C = Content} (plain.Receive f) reply
+-- the front was taken, with a piece of this size
+pub record IsTaken {K V P A : Type 0} (m : Meaning K V P) (s : Settings) (sound : IsSound s) (st : plainly.State Content) (f : ℕ) (size : ℕ) (back : Option Content) (new : Flusher K V P A) : Type 0 where
+  pub after : plainly.Flusher Content
+  pub stands : IsFlusherAs m s (seen new) after
+  pub receives : Receives (machine m s sound) st f (replies.Received back) (turned (machine m s sound) st f after)
+  pub size_is : size_in (st.flushers f).queue ≡ size + size_in after.queue
 
-  abbrev pub Takes : Result (Taken K V P A) Error → Flusher K V P A → Type 0
-  Takes (Ok taken.Nothing) new = ((st.flushers f).queue ≡ []) × IsFlusherAs m s (seen new) (st.flushers f)
-  Takes (Ok taken.Other) new = IsTaken 0 None new
-  Takes (Ok (taken.Piece size back)) new = IsTaken size (returned m back) new
-  Takes (Err e) new = NeedsRoom
+-- what a receipt makes of a plain state
+abbrev pub Takes : {K V P A : Type 0} → Meaning K V P → (s : Settings) → IsSound s → plainly.State Content → ℕ → Result (Taken K V P A) Error → Flusher K V P A → Type 0
+Takes m s sound st f (Ok taken.Nothing) new = ((st.flushers f).queue ≡ []) × IsFlusherAs m s (seen new) (st.flushers f)
+Takes m s sound st f (Ok taken.Other) new = IsTaken m s sound st f 0 None new
+Takes m s sound st f (Ok (taken.Piece size back)) new = IsTaken m s sound st f size (returned m back) new
+Takes m s sound st f (Err e) new = NeedsRoom m s sound st f

@@ -1,5 +1,6 @@
 //! From a flusher's queue into its buffer.
-ghost use Rattle.std.specs.Prelude.{◌≡◌, ◌+◌, ◌-◌, ◌<◌, ◌^◌, ℕ, true, min, length, Option, MatchBool, IfOk, OnErr};
+ghost use Rattle.std.specs.Prelude.{◌≡◌, ◌+◌, ◌-◌, ◌<◌, ◌^◌, ℕ, true, min, length, Option, MatchBool, IfOk, OnOk, OnErr, vec_len, vec_capacity};
+ghost use Rattle.std.specs.VecDeque.{deque_len, deque_capacity};
 ghost use Rattle.foyer_format.specs.Record.{record_bytes};
 ghost use Rattle.foyer_format.specs.declared.serde.ages.Age.{Age as age};
 ghost use Rattle.foyer_model.specs.State.{State};
@@ -91,6 +92,23 @@ impl<K, V, P, A: Allocator + Clone> Flusher<K, V, P, A> {
             .min(u32::MAX as usize)
     }
 
+    // Makes room for one more of each list that a submission may go to, and in the queue for one that comes back.
+    fn make_room(&mut self) -> Result<()>
+        ensures kept { seen self.new ≡ seen self.old }
+        ensures queue { OnOk result (deque_len self.new.queue < deque_capacity self.new.queue) }
+        ensures pieces { OnOk result (vec_len self.new.pieces < vec_capacity self.new.pieces) }
+        ensures marks { OnOk result (vec_len self.new.marks < vec_capacity self.new.marks) }
+        ensures invalid { OnOk result (vec_len self.new.invalid < vec_capacity self.new.invalid) }
+        ensures waits { OnOk result (vec_len self.new.waits < vec_capacity self.new.waits) }
+    {
+        self.pieces.reserve(1)?;
+        self.marks.reserve(1)?;
+        self.invalid.reserve(1)?;
+        self.waits.reserve(1)?;
+        self.queue.reserve(1)?;
+        Ok(())
+    }
+
     /// Takes the front of the queue. A refused growth leaves it there: `Memory`.
     pub(crate) fn receive(&mut self, block_size: usize) -> Result<Taken<K, V, P, A>>
     where
@@ -106,11 +124,7 @@ impl<K, V, P, A: Allocator + Clone> Flusher<K, V, P, A> {
             return Ok(Taken::Nothing);
         }
         let room = self.room(block_size);
-        self.pieces.reserve(1)?;
-        self.marks.reserve(1)?;
-        self.invalid.reserve(1)?;
-        self.waits.reserve(1)?;
-        self.queue.reserve(1)?;
+        self.make_room()?;
         match self.queue.pop_front() {
             None => Ok(Taken::Nothing),
             Some(
