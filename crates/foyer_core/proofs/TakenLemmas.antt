@@ -1,7 +1,8 @@
 -- What the front of a queue becomes.
-use Rattle.std.proofs.Common.{◌≡◌, ℕ, ◌+◌, ◌-◌, ◌^◌, ◌<◌, ◌≤◌, nat_le, min, Bool, true, false, ◌&&◌, if◌then◌else◌, ◌⊎◌, inl, inr, List, [], ◌∷◌, ◌++◌, map, length, Option, Some, None, refl, sym, ap, subst, ◌∙◌, arith}
+use Rattle.std.proofs.Common.{◌≡◌, ℕ, ◌+◌, ◌-◌, ◌^◌, ◌<◌, ◌≤◌, nat_le, min, Bool, true, false, ◌&&◌, if◌then◌else◌, ◌⊎◌, inl, inr, List, [], ◌∷◌, ◌++◌, map, length, Option, Some, None, Result, Ok, Err, IsErr, option_to_list, refl, sym, ap, subst, ◌∙◌, arith}
 use Rattle.std.proofs.lemmas.Bool.Decides.{nat_tests}
 use Rattle.foyer_block.specs.declared.indexer.HashedEntryAddress.{HashedEntryAddress}
+use Rattle.foyer_device.specs.declared.error.Error.{Error}
 use Rattle.foyer_format.specs.Page.{page_up}
 use Rattle.foyer_format.specs.Pushing.{FitsRoom, Pushes}
 use Rattle.foyer_format.specs.Record.{record_bytes}
@@ -20,13 +21,14 @@ use Rattle.foyer_core.specs.Plain.{has_record, encoded, page_up_above}
 use Rattle.foyer_core.specs.Replied.{mark_of}
 use Rattle.foyer_core.specs.Sizes.{IsSound}
 use Rattle.foyer_core.specs.Standing.{size_in}
-use Rattle.foyer_core.specs.Taking.{entry_at, IsPushed, IsLeftOut, IsTaken, NeedsRoom}
+use Rattle.foyer_core.specs.Taking.{entry_at, IsPushed, IsTaken, NeedsRoom, Takes}
 use Rattle.foyer_core.specs.Unchanged.{Seen, seen}
 use Rattle.foyer_core.specs.declared.block.flusher.Flusher.{Flusher}
 use Rattle.foyer_core.specs.declared.block.flusher.InvalidStats.{InvalidStats}
 use Rattle.foyer_core.specs.declared.block.flusher.Submission.{Submission}
 use Rattle.foyer_core.specs.declared.block.flusher.Submission.TheVariants as submission
 use Rattle.foyer_core.specs.declared.block.flusher.TombstoneInfo.{TombstoneInfo}
+use Rattle.foyer_core.specs.declared.block.receive.Taken.{Taken}
 use Rattle.foyer_core.specs.declared.settings.Settings.{Settings}
 use Rattle.foyer_core.proofs.Opening.{map-end}
 use Rattle.foyer_core.proofs.PlacedLemmas.{packed-len}
@@ -57,6 +59,7 @@ module _ {K V P A : Type 0} (m : Meaning K V P) (s : Settings) (sound : IsSound 
     where
       queue : (st.flushers f).queue ≡ plainly.Piece p.hash q size (content_of m p) ∷ map (submission_of m) rest
       queue = stands.queue ∙ ap (map (submission_of m)) is
+
       back : ((bytes : List ℕ) → encoded p.hash q (content_of m p) ≡ Some bytes → Fits (machine m s sound) st (st.flushers f) bytes → ⊥) → NeedsRoom m s sound st f
       back not = record {
         reply = replies.Received (Some (content_of m p));
@@ -64,6 +67,7 @@ module _ {K V P A : Type 0} (m : Meaning K V P) (s : Settings) (sound : IsSound 
         receives = at_queue (replies.Received (Some (content_of m p))) _ (plainly.Piece p.hash q size (content_of m p) ∷ map (submission_of m) rest) queue (refl, not, refl);
         grows = tt;
       }
+
       go : (o : Option (List ℕ)) → encoded p.hash q (content_of m p) ≡ o → NeedsRoom m s sound st f
       go None none = back (λ bytes some fits. let e : None ≡ Some bytes = sym none ∙ some in cc)
       go (Some bytes) some = elim (fits_or bytes) [
@@ -152,6 +156,7 @@ module _ {K V P A : Type 0} (m : Meaning K V P) (s : Settings) (sound : IsSound 
     where
       after : plainly.Flusher Content
       after = record (st.flushers f) { queue = map (submission_of m) rest; marks = (st.flushers f).marks ++ (info.tombstone.hash, info.tombstone.sequence) ∷ []; spoils = (st.flushers f).spoils ++ spoils_of info.stats }
+
       map_both : (xs ys : List InvalidStats) → map spoil_of (xs ++ ys) ≡ map spoil_of xs ++ map spoil_of ys
       map_both [] ys = refl
       map_both (x ∷ xs) ys = ap (λ zs. spoil_of x ∷ zs) (map_both xs ys)
@@ -193,20 +198,28 @@ module _ {K V P A : Type 0} (m : Meaning K V P) (s : Settings) (sound : IsSound 
     where
       whole : List ℕ
       whole = record_bytes p.hash sequence (m.key_of p.key) (m.value_of p.value)
+
       r : plain.Record Content
       r = record { hash = p.hash; sequence = sequence; bytes = whole; source = plain.Given (content_of m p) }
+
       after : plainly.Flusher Content
       after = record (st.flushers f) { queue = map (submission_of m) rest; buffer = (st.flushers f).buffer ++ r ∷ [] }
+
       AreRecordsAt : List HashedEntryAddress → Type 0
       AreRecordsAt es = AreRecords m 0 es (φ.pieces ++ p ∷ []) ((st.flushers f).buffer ++ r ∷ [])
+
       len_is : length φ.buffer ≡ bytes_taken page_up (st.flushers f).buffer
       len_is = ap length stands.bytes ∙ packed-len (st.flushers f).buffer
+
       fits : (encoded p.hash sequence (record { key = m.key_of p.key; value = m.value_of p.value; is_encodable = a && b }) ≡ Some whole) × Fits (machine m s sound) st (st.flushers f) whole
       fits = has_room m s sound st φ (st.flushers f) stands (m.key_of p.key) (m.value_of p.value) a b p.hash sequence room room_is pushed.fits
+
       with_flag : Bool → Option (List ℕ)
       with_flag t = encoded p.hash sequence (record { key = m.key_of p.key; value = m.value_of p.value; is_encodable = t })
+
       spelled : encoded p.hash sequence (content_of m p) ≡ Some whole
       spelled = ap with_flag flag ∙ fits.0
+
       within : φ.next_offset + bytes_taken page_up ((st.flushers f).buffer ++ r ∷ []) ≤ s.block_size
       within =
           let end : bytes_taken page_up ((st.flushers f).buffer ++ r ∷ []) ≡ bytes_taken page_up (st.flushers f).buffer + page_up (length whole) = taken_end (st.flushers f).buffer r in
@@ -246,6 +259,7 @@ module _ {K V P A : Type 0} (m : Meaning K V P) (s : Settings) (sound : IsSound 
     where
       after : plainly.Flusher Content
       after = record (st.flushers f) { queue = map (submission_of m) rest }
+
       with_flag : Bool → Option (List ℕ)
       with_flag t = encoded p.hash sequence (record { key = m.key_of p.key; value = m.value_of p.value; is_encodable = t })
 
@@ -258,3 +272,22 @@ module _ {K V P A : Type 0} (m : Meaning K V P) (s : Settings) (sound : IsSound 
       let some : 0 < s.blob_index_size = sound.some_index in
       let told : s.block_size ≤ 2 ^ 32 = sound.told_offsets in
       omega arith
+
+  -- a queue that isn't empty has a front
+  pub some_needs_room : (length φ.queue ≡ 0 → ⊥) → NeedsRoom m s sound st f
+  some_needs_room ne = go φ.queue refl
+    where
+      go : (q : List (Submission K V P A)) → φ.queue ≡ q → NeedsRoom m s sound st f
+      go [] is = absurd (ne (ap length is))
+      go (x ∷ rest) is = needs_room x rest is
+
+-- what a mark made invalid, as a list
+pub spoils_listed : (stats : Option InvalidStats) → map spoil_of (option_to_list stats) ≡ spoils_of stats
+spoils_listed None = refl
+spoils_listed (Some x) = refl
+
+-- a refused growth
+pub takes_err : {K V P A : Type 0} (m : Meaning K V P) (s : Settings) (sound : IsSound s) (st : plainly.State Content) (f : ℕ) (r : Result (Taken K V P A) Error) (new : Flusher K V P A)
+    → IsErr r → NeedsRoom m s sound st f → Takes m s sound st f r new
+takes_err m s sound st f (Ok x) new is_err needs = absurd (cc)
+takes_err m s sound st f (Err e) new is_err needs = needs

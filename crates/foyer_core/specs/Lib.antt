@@ -1,5 +1,6 @@
 pub mod Answered
 pub mod Asked
+pub mod Beginning
 pub mod Begins
 pub mod Content
 pub mod Disk

@@ -1,5 +1,6 @@
 //! A flusher's batch: from its buffer to a block, and into the index.
-ghost use Rattle.std.specs.Prelude.{◌≡◌, ◌↔◌, None, IsTrue, OnErr};
+ghost use Rattle.std.specs.Prelude.{◌≡◌, ◌↔◌, None, IsTrue, IfOk, OnErr};
+ghost use Rattle.foyer_core.specs.Beginning.{IsBegun};
 ghost use Rattle.foyer_core.specs.Turns.{MayBegin, HasBlock, IsWriting, IsWritten};
 ghost use Rattle.foyer_core.specs.Unchanged.{seen};
 
@@ -112,6 +113,7 @@ impl<K, V, P, A: Allocator + Clone> Flusher<K, V, P, A> {
     pub(crate) fn begin(&mut self, alloc: &A) -> Result<Vec<Tombstone, A>>
         requires { MayBegin self.old }
         ensures refused { OnErr result (self.new ≡ self.old) }
+        ensures begins { IfOk result (λ told. IsBegun self.old self.new told.items) }
     {
         let told = Vec::from_slice(alloc.clone()?, self.marks.as_slice())?;
         let mut writes = Vec::with_capacity(alloc.clone()?, 1)?;

@@ -1,5 +1,5 @@
 //! From a flusher's queue into its buffer.
-ghost use Rattle.std.specs.Prelude.{◌≡◌, ◌+◌, ◌-◌, ◌<◌, ◌^◌, ℕ, true, min, length, Option, MatchBool, IfOk, OnOk, OnErr, vec_len, vec_capacity};
+ghost use Rattle.std.specs.Prelude.{◌≡◌, ◌+◌, ◌-◌, ◌<◌, ◌^◌, ◌++◌, ℕ, true, option_to_list, min, length, Option, MatchBool, IfOk, OnOk, OnErr, vec_len, vec_capacity};
 ghost use Rattle.std.specs.VecDeque.{deque_len, deque_capacity};
 ghost use Rattle.foyer_format.specs.Record.{record_bytes};
 ghost use Rattle.foyer_format.specs.declared.serde.ages.Age.{Age as age};
@@ -11,7 +11,7 @@ ghost use Rattle.foyer_core.specs.Taking.{IsPushed, IsLeftOut, Takes};
 ghost use Rattle.foyer_core.specs.declared.settings.Settings.{Settings};
 ghost use Rattle.foyer_core.specs.Unchanged.{seen};
 
-use crate::block::flusher::{Flusher, Submission};
+use crate::block::flusher::{Flusher, InvalidStats, Submission};
 use foyer_block::indexer::{EntryAddress, HashedEntryAddress};
 use foyer_device::error::Result;
 use foyer_format::block::buffer::Buffer;
@@ -78,6 +78,16 @@ fn push_record<K: Code<A>, V: Code<A>, P, A: Allocator>(
             });
             Ok(true)
         }
+    }
+}
+
+// Appends what a mark made invalid, if it did.
+fn keep_spoils<A: Allocator>(invalid: &mut Vec<InvalidStats, A>, stats: Option<InvalidStats>)
+    requires { vec_len invalid.old < vec_capacity invalid.old }
+    ensures { invalid.new.items ≡ invalid.old.items ++ option_to_list stats }
+{
+    if let Some(stats) = stats {
+        invalid.push_reserved(stats);
     }
 }
 
@@ -155,9 +165,7 @@ impl<K, V, P, A: Allocator + Clone> Flusher<K, V, P, A> {
             }
             Some(Submission::Tombstone(info)) => {
                 self.marks.push_reserved(info.tombstone);
-                if let Some(stats) = info.stats {
-                    self.invalid.push_reserved(stats);
-                }
+                keep_spoils(&mut self.invalid, info.stats);
                 Ok(Taken::Other)
             }
             Some(Submission::Wait { id }) => {
