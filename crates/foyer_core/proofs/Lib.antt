@@ -1,3 +1,4 @@
+pub mod BeginLemmas
 pub mod BlockLemmas
 pub mod BlockPlaces
 pub mod Deleted
