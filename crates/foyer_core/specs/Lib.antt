@@ -1,8 +1,10 @@
 pub mod Answered
 pub mod Asked
+pub mod Batches
 pub mod Content
 pub mod Disk
 pub mod Flushing
+pub mod Handing
 pub mod InOneBlock
 pub mod Meets
 pub mod Opened

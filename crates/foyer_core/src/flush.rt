@@ -116,18 +116,7 @@ impl<K, V, P, A: Allocator + Clone> Core<K, V, P, A> {
         if !found.is_written() {
             return Reply::NotNow(Step::FlushEnd { flusher });
         }
-        let Ended {
-            marks,
-            invalid,
-            pieces,
-            waits,
-        } = found.end();
-        self.index.remove_marks(marks.as_slice());
-        for stats in &invalid {
-            if let Some(state) = self.blocks.get_mut(stats.block as usize) {
-                state.invalid = state.invalid.saturating_add(stats.size);
-            }
-        }
+        let Ended { pieces, waits } = found.end(&mut self.index, &mut self.blocks);
         Reply::Ended { pieces, waits }
     }
 }
