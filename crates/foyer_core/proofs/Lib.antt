@@ -1,4 +1,6 @@
 pub mod BlockPlaces
 pub mod FlusherLists
 pub mod Opening
+pub mod QueueLemmas
+pub mod StateLemmas
 pub mod Telling

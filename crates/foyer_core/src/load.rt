@@ -1,6 +1,9 @@
 //! Loads: a look-up that tells a read, and the judgement on what was read.
-ghost use Rattle.std.specs.Prelude.{◌≡◌};
+ghost use Rattle.std.specs.Prelude.{◌≡◌, Option};
+ghost use Rattle.foyer_format.specs.declared.serde.ages.Age.{Age as age};
 ghost use Rattle.foyer_core.specs.Answered.{HandsBack, AnswersPair, Looking};
+ghost use Rattle.foyer_core.specs.Content.{Meaning, meaning};
+ghost use Rattle.foyer_core.specs.Meets.{Turned};
 ghost use Rattle.foyer_core.specs.declared.reply.Reply.TheVariants as reply;
 ghost use Rattle.foyer_core.specs.declared.step.Step.TheVariants as step;
 
@@ -37,6 +40,7 @@ impl<K, V, P, A: Allocator + Clone> Core<K, V, P, A> {
     pub(crate) fn load_begin(&mut self, hash: u64, throttled: bool) -> Reply<K, V, P, A>
         ensures back { HandsBack (step.LoadBegin hash throttled) result self.old self.new }
         ensures looked { Looking (step.LoadBegin hash throttled) result self.old }
+        ensures meets { (m : Meaning K V P) → Turned m (step.LoadBegin hash throttled) result self.old self.new }
     {
         let Some(address) = self.index.get(hash) else {
             return Reply::Miss;
@@ -74,6 +78,9 @@ impl<K, V, P, A: Allocator + Clone> Core<K, V, P, A> {
         ensures back { HandsBack (step.LoadEnd ticket outcome) result self.old self.new }
         ensures pair { AnswersPair K.is_spelling V.is_spelling K.spelling V.spelling
             (step.LoadEnd ticket outcome) result }
+        ensures meets { (age_of : P → Option age)
+            → Turned (meaning K.spelling V.spelling K.encodes V.encodes K.is_spelling V.is_spelling age_of)
+            (step.LoadEnd ticket outcome) result self.old self.new }
     {
         let address = ticket.address;
         let Some(state) = self.blocks.get(address.block as usize) else {

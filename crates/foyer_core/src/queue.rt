@@ -52,6 +52,8 @@ impl<K, V, P, A: Allocator + Clone> Core<K, V, P, A> {
         P: Properties,
         ensures back { HandsBack (step.Enqueue piece size) result self.old self.new }
         ensures queued { Enqueues (step.Enqueue piece size) result self.old self.new }
+        ensures meets { (m : Meaning K V P) → m.age_of ≡ P.age
+            → Turned m (step.Enqueue piece size) result self.old self.new }
     {
         if self.closed {
             return Reply::Refused(ErrorKind::Closed, Step::Enqueue { piece, size });
@@ -85,6 +87,7 @@ impl<K, V, P, A: Allocator + Clone> Core<K, V, P, A> {
     pub(crate) fn delete(&mut self, hash: u64) -> Reply<K, V, P, A>
         ensures back { HandsBack (step.Delete hash) result self.old self.new }
         ensures deleted { Deleting (step.Delete hash) result self.old self.new }
+        ensures meets { (m : Meaning K V P) → Turned m (step.Delete hash) result self.old self.new }
     {
         if self.closed {
             return Reply::Refused(ErrorKind::Closed, Step::Delete { hash });
@@ -118,6 +121,7 @@ impl<K, V, P, A: Allocator + Clone> Core<K, V, P, A> {
     pub(crate) fn wait(&mut self, flusher: u32, id: u64) -> Reply<K, V, P, A>
         ensures back { HandsBack (step.Wait flusher id) result self.old self.new }
         ensures nothing { TellsNothing result }
+        ensures meets { (m : Meaning K V P) → Turned m (step.Wait flusher id) result self.old self.new }
     {
         if flusher as usize >= self.flushers.len() {
             return Reply::NotNow(Step::Wait { flusher, id });

@@ -1,4 +1,11 @@
-use Rattle.std.proofs.Common.{refl, ap}
+use Rattle.std.proofs.Common.{◌≡◌, ◌+◌, ◌*◌, ◌^◌, ◌<◌, ◌≤◌, ◌++◌, ◌∷◌, [], length, refl, ap, sym, ◌∙◌, arith}
+use Rattle.foyer_model.specs.Numbers.{put, last_number}
+use Rattle.foyer_model.specs.Reply.{Memory, Done, Refused}
+use Rattle.foyer_model.specs.State.{Await}
+use Rattle.foyer_model.specs.Step as plain
+use Rattle.foyer_core.specs.declared.block.flusher.Submission.TheVariants.{Wait}
+use Rattle.foyer_core.proofs.QueueLemmas.{with_queued, queue_pushed, size_grown}
+use Rattle.foyer_core.proofs.StateLemmas.{flushers_count, unchanged_stands}
 use Rattle.foyer_core.specs.Unchanged.{seen}
 use Rattle.foyer_core.proofs.FlusherLists.{same_seen}
 use Rattle.foyer_core.proofs.state.Core.wait.Goals as goal
@@ -21,3 +28,50 @@ returns-then-is_err-clause-back g c =
         waiting = refl;
       },
     )
+
+pub returns-then-is_err-clause-meets : goal.returns-then-is_err-clause-meets
+returns-then-is_err-clause-meets g c = λ m s sound it stands few.
+    let count : length c.args.self.now.flushers.items ≡ s.flushers = flushers_count m s c.args.self.now.flushers.items it.flushers stands.flushers in
+    let there : c.args.flusher < s.flushers = omega (arith, c.len.ensures, c.if-flusher-len.false) in
+    let steps : it.steps ≡ c.args.self.now.steps = stands.steps in
+    let early : it.steps < last_number = omega arith in
+    let queued = with_queued (it.flushers c.args.flusher) (Await c.args.id) in
+    record {
+      after = it;
+      it = Refused Memory (plain.Wait c.args.flusher c.args.id);
+      stands = unchanged_stands m s c.args.self.now _ it (returns-then-is_err-clause-back g c).1 stands;
+      reply = (Memory, refl, refl);
+      turns = (refl, (early, (there, (Done, record it { flushers = put it.flushers c.args.flusher queued }, refl, tt))), refl);
+    }
+
+pub returns-clause-meets : goal.returns-clause-meets
+returns-clause-meets g c = λ m s sound it stands few.
+    let found = c.index_mut-found.result.now in
+    let count : length c.args.self.now.flushers.items ≡ s.flushers = flushers_count m s c.args.self.now.flushers.items it.flushers stands.flushers in
+    let within : c.args.flusher < length c.args.self.now.flushers.items = omega (arith, c.len.ensures, c.if-flusher-len.false) in
+    let there : c.args.flusher < s.flushers = omega arith in
+    let more : c.args.self.now.queued ≡ c.args.self.now.queued + 0 = omega arith in
+    let queued = with_queued (it.flushers c.args.flusher) (Await c.args.id) in
+    record {
+      after = record it { flushers = put it.flushers c.args.flusher queued };
+      it = Done;
+      stands = record {
+        sizes = stands.sizes;
+        index = stands.index;
+        next = stands.next;
+        steps = stands.steps;
+        closed = stands.closed;
+        flushers = queue_pushed m s c.args.self.now.flushers.items it.flushers c.args.flusher found (record found { queue = c.push_back_reserved.new.self }) (Wait c.args.id)
+            stands.flushers within c.index_mut-found.ensures.value
+            (ap (λ q. record (seen found) { queue = q }) (c.push_back_reserved.ensures.items ∙ ap (λ q. q ++ Wait c.args.id ∷ []) c.reserve.ensures.items));
+        queued = size_grown s it.flushers c.args.flusher (Await c.args.id) c.args.self.now.queued c.args.self.now.next c.args.self.now.queued c.args.self.now.next
+            stands.queued there more stands.queued.bound;
+        blocks = stands.blocks;
+        clean = stands.clean;
+        waiting = stands.waiting;
+        reclaims = stands.reclaims;
+        destroy = stands.destroy;
+      };
+      reply = refl;
+      turns = (there, refl);
+    }

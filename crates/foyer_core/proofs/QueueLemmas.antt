@@ -1,0 +1,52 @@
+-- A submission at the end of a flusher's queue.
+use Rattle.std.proofs.Common.{◌≡◌, ℕ, ◌+◌, ◌*◌, ◌^◌, ◌<◌, ◌≤◌, List, [], ◌∷◌, ◌++◌, map, length, slice_set, slice_index_or, refl, sym, ap, subst, ◌∙◌, arith}
+use Rattle.foyer_model.specs.Numbers.{put}
+use Rattle.foyer_model.specs.State as plainly
+use Rattle.foyer_core.specs.Content.{Content, Meaning}
+use Rattle.foyer_core.specs.Flushing.{IsFlusherAs, submission_of}
+use Rattle.foyer_core.specs.Standing.{AreFlushersAs, IsSizedAs, size_in, size_of_all}
+use Rattle.foyer_core.specs.Unchanged.{Seen, seen}
+use Rattle.foyer_core.specs.declared.block.flusher.Flusher.{Flusher}
+use Rattle.foyer_core.specs.declared.block.flusher.Submission.{Submission}
+use Rattle.foyer_core.specs.declared.settings.Settings.{Settings}
+use Rattle.foyer_core.proofs.Opening.{map-end}
+use Rattle.foyer_core.proofs.StateLemmas.{flusher_at, flusher_put, size_put, size_pushed}
+
+-- the plain flusher with one submission more
+abbrev pub with_queued : plainly.Flusher Content → plainly.Submission Content → plainly.Flusher Content
+with_queued φ x = record φ { queue = φ.queue ++ x ∷ [] }
+
+module _ {K V P A : Type 0} (m : Meaning K V P) (s : Settings) where
+  pub queue_pushed : (φs : List (Flusher K V P A)) (its : ℕ → plainly.Flusher Content) (f : ℕ) (φ ψ : Flusher K V P A) (x : Submission K V P A)
+      → AreFlushersAs m s (map seen φs) its → f < length φs → φ ≡ slice_index_or φs f φ
+      → seen ψ ≡ record (seen φ) { queue = φ.queue.items ++ x ∷ [] }
+      → AreFlushersAs m s (map seen (slice_set φs f ψ)) (put its f (with_queued (its f) (submission_of m x)))
+  queue_pushed φs its f φ ψ x are lt is pushed =
+      let stands : IsFlusherAs m s (seen φ) (its f) = flusher_at m s φs its f φ are lt is in
+      flusher_put m s φs its f ψ (with_queued (its f) (submission_of m x)) are lt
+      (subst (λ y. IsFlusherAs m s y (with_queued (its f) (submission_of m x))) (sym pushed) (record {
+        queue = ap (λ q. q ++ submission_of m x ∷ []) stands.queue ∙ sym (map-end (submission_of m) φ.queue.items x);
+        buffer = stands.buffer;
+        bytes = stands.bytes;
+        marks = stands.marks;
+        spoils = stands.spoils;
+        waits = stands.waits;
+        own = stands.own;
+        there = stands.there;
+        ready = stands.ready;
+        context = stands.context;
+        behind = stands.behind;
+        within = stands.within;
+        batch = stands.batch;
+      }))
+
+-- and the sum of the queued sizes
+pub size_grown : (s : Settings) (its : ℕ → plainly.Flusher Content) (f : ℕ) (x : plainly.Submission Content) (queued next more later : ℕ)
+    → IsSizedAs s queued next its → f < s.flushers → more ≡ queued + size_in (x ∷ []) → more ≤ later * 2 ^ 64
+    → IsSizedAs s more later (put its f (with_queued (its f) x))
+size_grown s its f x queued next more later sized lt is bound =
+    let put_is : size_of_all s.flushers (put its f (with_queued (its f) x)) + size_in (its f).queue ≡ size_of_all s.flushers its + size_in ((its f).queue ++ x ∷ []) =
+    size_put s.flushers its f (with_queued (its f) x) lt in
+    let pushed : size_in ((its f).queue ++ x ∷ []) ≡ size_in (its f).queue + size_in (x ∷ []) = size_pushed (its f).queue x in
+    let sum : queued ≡ size_of_all s.flushers its = sized.sum in
+    record { sum = omega arith; bound = bound }
