@@ -15,12 +15,12 @@ use Rattle.foyer_core.specs.declared.settings.Settings.{Settings}
 use Rattle.foyer_core.specs.declared.state.Core.{Core}
 
 -- a place of a list that was set, and the others
-set_here : {X : Type 0} (xs : List X) (i : ℕ) (y : X) → i < length xs → slice_get (slice_set xs i y) i ≡ Some y
+pub set_here : {X : Type 0} (xs : List X) (i : ℕ) (y : X) → i < length xs → slice_get (slice_set xs i y) i ≡ Some y
 set_here [] i y lt = absurd (omega arith)
 set_here (x ∷ xs) zero y lt = refl
 set_here (x ∷ xs) (suc i) y lt = set_here xs i y (omega arith)
 
-set_there : {X : Type 0} (xs : List X) (i g : ℕ) (y : X) → (g ≡ i → ⊥) → slice_get (slice_set xs i y) g ≡ slice_get xs g
+pub set_there : {X : Type 0} (xs : List X) (i g : ℕ) (y : X) → (g ≡ i → ⊥) → slice_get (slice_set xs i y) g ≡ slice_get xs g
 set_there [] i g y ne = refl
 set_there (x ∷ xs) zero zero y ne = absurd (ne refl)
 set_there (x ∷ xs) zero (suc g) y ne = refl
@@ -36,12 +36,12 @@ map_count : {X Y : Type 0} (f : X → Y) (xs : List X) → length (map f xs) ≡
 map_count f [] = refl
 map_count f (x ∷ xs) = ap suc (map_count f xs)
 
-set_count : {X : Type 0} (xs : List X) (i : ℕ) (y : X) → length (slice_set xs i y) ≡ length xs
+pub set_count : {X : Type 0} (xs : List X) (i : ℕ) (y : X) → length (slice_set xs i y) ≡ length xs
 set_count [] i y = refl
 set_count (x ∷ xs) zero y = refl
 set_count (x ∷ xs) (suc i) y = ap suc (set_count xs i y)
 
-some_is : {X : Type 0} {x y : X} → Some x ≡ Some y → x ≡ y
+pub some_is : {X : Type 0} {x y : X} → Some x ≡ Some y → x ≡ y
 some_is e = cc
 
 module _ {K V P A : Type 0} (m : Meaning K V P) (s : Settings) where
@@ -128,7 +128,7 @@ size_pushed (plainly.Remove h s spoils ∷ q) x = size_pushed q x
 size_pushed (plainly.Await i ∷ q) x = size_pushed q x
 size_pushed (plainly.Reinsert h bytes a ∷ q) x = size_pushed q x
 
-plus_min : (n a b : ℕ) → b ≡ min a last_number → plus n b ≡ min (n + a) last_number
+pub plus_min : (n a b : ℕ) → b ≡ min a last_number → plus n b ≡ min (n + a) last_number
 plus_min n a b is = go (nat_le (n + b) last_number) refl
   where
     go : (t : Bool) → nat_le (n + b) last_number ≡ t → (if t then n + b else last_number) ≡ min (n + a) last_number

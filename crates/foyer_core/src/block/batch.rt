@@ -1,9 +1,10 @@
 //! A flusher's batch: from its buffer to a block, and into the index.
 ghost use Rattle.std.specs.Prelude.{◌≡◌, ◌≢◌, ◌↔◌, ◌<◌, ℕ, List, [], map, Option, None, Some, IsSome, IsTrue};
-ghost use Rattle.std.specs.Prelude.{IfOk, OnErr, MatchOption, vec_len, vec_capacity};
+ghost use Rattle.std.specs.Prelude.{IfOk, OnErr, MatchOption, vec_len, vec_capacity, nat_lt};
 ghost use Rattle.foyer_block.specs.Index.{IndexMap};
 ghost use Rattle.foyer_model.specs.Flush.{first_usable, released, all_spoiled};
 ghost use Rattle.foyer_model.specs.Ids.{with_id, without_id};
+ghost use Rattle.foyer_model.specs.Numbers.{last_number};
 ghost use Rattle.foyer_model.specs.State as plainly;
 ghost use Rattle.foyer_model.specs.State.{State};
 ghost use Rattle.foyer_model.specs.Step as plain;
@@ -58,6 +59,16 @@ pub(crate) struct Ended<K, V, P, A: Allocator> {
     pub waits: Vec<u64, A>,
 }
 
+// Whether a clean block may still be handed out.
+fn is_usable<A: Allocator>(blocks: &Vec<BlockState, A>, block: BlockId) -> bool
+    ensures { result ≡ nat_lt (filling_in blocks.now.items block) last_number }
+{
+    match blocks.get(block as usize) {
+        Some(state) => state.filling < u64::MAX,
+        None => false,
+    }
+}
+
 // Where the clean block stands that has been clean longest of those that may still be handed out.
 fn first_usable<A: Allocator>(
     clean: &VecDeque<BlockId, A>,
@@ -68,12 +79,8 @@ fn first_usable<A: Allocator>(
         (IsFirstUsable clean.now.items blocks.now.items) }
 {
     for index in 0..clean.len() {
-        if let Some(block) = clean.get(index) {
-            if let Some(state) = blocks.get(*block as usize) {
-                if state.filling < u64::MAX {
-                    return Some(index);
-                }
-            }
+        if is_usable(blocks, clean[index]) {
+            return Some(index);
         }
     }
     None
