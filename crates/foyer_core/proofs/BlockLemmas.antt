@@ -1,15 +1,18 @@
 -- The blocks by their ids, when one of them changes.
-use Rattle.std.proofs.Common.{◌≡◌, ℕ, zero, suc, ◌+◌, ◌<◌, ◌≤◌, ◌-◌, ◌^◌, ◌==◌, List, [], ◌∷◌, length, Option, Some, None, min, nat_le, Bool, true, false, if◌then◌else◌, slice_get, slice_set, slice_index_or, refl, sym, ap, subst, ◌∙◌, arith}
+use Rattle.std.proofs.Common.{◌≡◌, ℕ, zero, suc, ◌+◌, ◌<◌, ◌≤◌, ◌-◌, ◌^◌, ◌==◌, List, [], ◌∷◌, length, Option, Some, None, min, nat_le, Bool, true, false, nat_lt, if◌then◌else◌, slice_index, slice_get, slice_set, slice_index_or, refl, sym, ap, subst, ◌∙◌, arith}
 use Rattle.std.proofs.lemmas.Bool.{eqb-true, eqb-false}
 use Rattle.std.proofs.lemmas.Bool.Decides.{nat_tests}
 use Rattle.std.proofs.lemmas.Option.{slice_get_read, slice_get_past}
-use Rattle.foyer_model.specs.Flush.{released}
+use Rattle.std.specs.List.{remove}
+use Rattle.foyer_model.specs.Flush.{first_usable}
+use Rattle.foyer_model.specs.Ids.{without_id}
 use Rattle.foyer_model.specs.Numbers.{put, plus, last_number}
 use Rattle.foyer_model.specs.State as plainly
 use Rattle.foyer_model.proofs.Basics.{put_same, put_other}
-use Rattle.foyer_core.specs.Handing.{filling_of, filling_in}
-use Rattle.foyer_core.specs.Standing.{IsBlockAs, AreBlocksAs}
+use Rattle.foyer_core.specs.Handing.{filling_of, filling_in, IsFirstUsable, IsHanded}
+use Rattle.foyer_core.specs.Standing.{IsBlockAs, AreBlocksAs, AreCleanAs}
 use Rattle.foyer_core.proofs.StateLemmas.{set_here, set_there, set_count, some_is}
+use Rattle.foyer_core.proofs.WaitLemmas.{first_usable_same, clean_without}
 use Rattle.foyer_core.specs.declared.settings.Settings.{Settings}
 use Rattle.foyer_core.specs.declared.state.BlockState.{BlockState}
 use Rattle.foyer_core.specs.declared.state.Place.TheVariants as place
@@ -20,6 +23,30 @@ plus_is a b = go (nat_le (a + b) last_number) refl
     go : (t : Bool) → nat_le (a + b) last_number ≡ t → (if t then a + b else last_number) ≡ min (a + b) last_number
     go true e = let le : a + b ≤ last_number = grind (arith, nat_tests) in omega arith
     go false e = let lt : last_number < a + b = grind (arith, nat_tests) in omega arith
+
+-- a place is inside or past the end
+pub past_end : (b n : ℕ) → (b < n → false ≡ true) → n ≤ b
+past_end b n out = go (nat_lt b n) refl
+  where
+    go : (t : Bool) → nat_lt b n ≡ t → n ≤ b
+    go true e = let clash : false ≡ true = out (grind (arith, nat_tests)) in absurd cc
+    go false e = grind (arith, nat_tests)
+
+-- the filling of a block that was read
+pub filling_read : (blocks : List BlockState) (b : ℕ) (it : BlockState) → b < length blocks → it ≡ slice_index_or blocks b it
+    → filling_in blocks b ≡ it.filling
+filling_read blocks b it lt is = ap filling_of (slice_get_read blocks (length blocks) b it refl lt is)
+
+-- a usable block is there
+pub usable_there : (blocks : List BlockState) (b : ℕ) → filling_in blocks b < last_number → b < length blocks
+usable_there blocks b below = go (nat_lt b (length blocks)) refl
+  where
+    go : (t : Bool) → nat_lt b (length blocks) ≡ t → b < length blocks
+    go true e = grind (arith, nat_tests)
+    go false e =
+        let le : length blocks ≤ b = grind (arith, nat_tests) in
+        let none : filling_in blocks b ≡ last_number = ap filling_of (slice_get_past blocks b le) in
+        absurd (omega arith)
 
 module _ (s : Settings) (blocks : List BlockState) (places : ℕ → plainly.Place) (fillings : ℕ → ℕ) (stats : ℕ → plainly.Stats)
     (are : AreBlocksAs s blocks places fillings stats) where
@@ -102,10 +129,10 @@ module _ (s : Settings) (blocks : List BlockState) (places : ℕ → plainly.Pla
 
   -- bytes of it became invalid
   pub block_spoiled : (b n size : ℕ) (it : BlockState) → b < length blocks → it ≡ slice_index_or blocks b it
-      → n ≡ min (it.invalid + size) (2 ^ 64 - 1) → it.invalid ≤ last_number
+      → n ≡ min (it.invalid + size) (2 ^ 64 - 1)
       → AreBlocksAs s (slice_set blocks b (record it { invalid = n })) places fillings
       (put stats b (record (stats b) { invalid = plus (stats b).invalid size }))
-  block_spoiled b n size it lt is sum fits =
+  block_spoiled b n size it lt is sum =
       let k : IsBlockAs it (places b) (fillings b) (stats b) = block_at b it lt is in
       let new : plainly.Stats = record (stats b) { invalid = plus (stats b).invalid size } in
       blocks_set b (record it { invalid = n }) places fillings (put stats b new) lt
@@ -128,3 +155,20 @@ module _ (s : Settings) (blocks : List BlockState) (places : ℕ → plainly.Pla
     where
       past : (q : ℕ) (x : BlockState) → slice_get blocks q ≡ Some x → length blocks ≤ q → ⊥
       past q x is le = let none : slice_get blocks q ≡ None = slice_get_past blocks q le in let clash : None ≡ Some x = sym none ∙ is in cc
+
+  -- what is usable, as the plain machine has it
+  pub usable_is : (items ids : List ℕ) → AreCleanAs s items ids → first_usable fillings ids ≡ first_usable (filling_in blocks) items
+  usable_is items ids clean =
+      ap (first_usable fillings) clean.is ∙ sym (first_usable_same (filling_in blocks) fillings s.blocks items filling_at clean.there)
+
+  -- the first usable block is handed out
+  pub handed : (f i b : ℕ) (it : BlockState) (items left ids : List ℕ) → AreCleanAs s items ids → IsFirstUsable items blocks i
+      → b ≡ slice_index items i → left ≡ remove items i → b < length blocks → it ≡ slice_index_or blocks b it
+      → IsHanded s f (slice_set blocks b (record it { place = place.Writing f; filling = it.filling + 1 })) left places fillings stats ids (Some b)
+  handed f i b it items left ids clean first at rest lt is = (
+    usable_is items ids clean ∙ first.first ∙ ap Some (sym at),
+    let count : length blocks ≡ s.blocks = are.count in omega arith,
+    block_handed b f it lt is,
+    subst (λ l. AreCleanAs s l (without_id b ids)) (sym rest)
+        (subst (λ k. AreCleanAs s (remove items i) (without_id k ids)) (sym at) (clean_without s items ids i clean first.within)),
+  )

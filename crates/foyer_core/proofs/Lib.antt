@@ -1,5 +1,6 @@
 pub mod BlockLemmas
 pub mod BlockPlaces
+pub mod FlushLemmas
 pub mod FlusherLists
 pub mod Opening
 pub mod QueueLemmas

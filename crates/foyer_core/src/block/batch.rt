@@ -1,5 +1,5 @@
 //! A flusher's batch: from its buffer to a block, and into the index.
-ghost use Rattle.std.specs.Prelude.{◌≡◌, ◌≢◌, ◌↔◌, ◌<◌, ℕ, List, [], map, Option, None, Some, IsSome, IsTrue};
+ghost use Rattle.std.specs.Prelude.{◌≡◌, ◌≢◌, ◌↔◌, ◌<◌, ℕ, List, [], ◌∷◌, map, Option, None, Some, IsSome, IsTrue};
 ghost use Rattle.std.specs.Prelude.{IfOk, OnErr, MatchOption, vec_len, vec_capacity, nat_lt};
 ghost use Rattle.foyer_block.specs.Index.{IndexMap};
 ghost use Rattle.foyer_model.specs.Flush.{first_usable, released, all_spoiled};
@@ -96,7 +96,9 @@ fn hand_out<A: Allocator>(
         → AreBlocksAs s blocks.old.items places fillings stats → AreCleanAs s clean.old.items ids
         → IsHanded s flusher blocks.new.items clean.new.items places fillings stats ids result }
 {
-    let index = first_usable(clean, blocks)?;
+    let Some(index) = first_usable(clean, blocks) else {
+        return None;
+    };
     let Some(block) = clean.remove(index) else {
         unreachable!()
     };
@@ -154,16 +156,25 @@ fn settle<A: Allocator>(
     }
 }
 
-// Bytes of these blocks became invalid.
-fn spoil<A: Allocator>(blocks: &mut Vec<BlockState, A>, invalid: &[InvalidStats])
-    ensures { (s : Settings) (places : ℕ → plainly.Place) (fillings : ℕ → ℕ) (stats : ℕ → plainly.Stats)
-        → AreBlocksAs s blocks.old.items places fillings stats
-        → AreBlocksAs s blocks.new.items places fillings (all_spoiled (map spoil_of invalid.now) stats) }
+// These bytes of a block became invalid.
+fn invalidate<A: Allocator>(blocks: &mut Vec<BlockState, A>, stats: &InvalidStats)
+    ensures { (s : Settings) (places : ℕ → plainly.Place) (fillings : ℕ → ℕ) (known : ℕ → plainly.Stats)
+        → AreBlocksAs s blocks.old.items places fillings known
+        → AreBlocksAs s blocks.new.items places fillings (all_spoiled (spoil_of stats.now ∷ []) known) }
+{
+    if let Some(state) = blocks.get_mut(stats.block as usize) {
+        state.invalid = state.invalid.saturating_add(stats.size);
+    }
+}
+
+// And these of all blocks.
+fn invalidate_all<A: Allocator>(blocks: &mut Vec<BlockState, A>, invalid: &[InvalidStats])
+    ensures { (s : Settings) (places : ℕ → plainly.Place) (fillings : ℕ → ℕ) (known : ℕ → plainly.Stats)
+        → AreBlocksAs s blocks.old.items places fillings known
+        → AreBlocksAs s blocks.new.items places fillings (all_spoiled (map spoil_of invalid.now) known) }
 {
     for stats in invalid {
-        if let Some(state) = blocks.get_mut(stats.block as usize) {
-            state.invalid = state.invalid.saturating_add(stats.size);
-        }
+        invalidate(blocks, stats);
     }
 }
 
@@ -420,7 +431,7 @@ impl<K, V, P, A: Allocator + Clone> Flusher<K, V, P, A> {
             waits,
         } = batch;
         index.remove_marks(marks.as_slice());
-        spoil(blocks, invalid.as_slice());
+        invalidate_all(blocks, invalid.as_slice());
         Ended { pieces, waits }
     }
 }
