@@ -48,9 +48,11 @@ module _ {K V P A : Type 0} (m : Meaning K V P) (s : Settings) where
   placed_one pieces (y ∷ z ∷ zs) (spread ∷ more) are x rest e = absurd are
 
   -- none is left where none is in the code
-  pub none_placed : (pieces : List (Record K V P)) (spreads : List (Spread Content)) → ArePlacedAs {A = A} m s pieces [] spreads → spreads ≡ []
-  none_placed pieces [] are = refl
-  none_placed pieces (spread ∷ more) are = absurd are
+  pub none_placed : (pieces : List (Record K V P)) (xs : List (Placed A)) (spreads : List (Spread Content)) → ArePlacedAs m s pieces xs spreads
+      → xs ≡ [] → spreads ≡ []
+  none_placed pieces [] [] are e = refl
+  none_placed pieces [] (spread ∷ more) are e = absurd are
+  none_placed pieces (x ∷ xs) spreads are e = absurd (cc)
 
   -- a flusher has a batch where the plain one has
   pub batched : (own : Option ℕ) (o : Option (Batch K V P A)) (p : Option (plainly.Batch Content)) → AreBatched m s own o p
@@ -71,9 +73,11 @@ module _ {K V P A : Type 0} (m : Meaning K V P) (s : Settings) where
       let same : x ≡ w = cc in
       (it, refl, subst (λ z. IsWritingAs m s pieces z it) same are)
 
-  pub none_written : (pieces : List (Record K V P)) (p : Option (plainly.Writing Content)) → AreWriting {A = A} m s pieces None p → p ≡ None
-  none_written pieces None are = refl
-  none_written pieces (Some it) are = absurd are
+  pub none_written : (pieces : List (Record K V P)) (o : Option (Writing A)) (p : Option (plainly.Writing Content)) → AreWriting m s pieces o p
+      → o ≡ None → p ≡ None
+  none_written pieces None None are e = refl
+  none_written pieces None (Some it) are e = absurd are
+  none_written pieces (Some w) p are e = absurd (cc)
 
   nothing_mapped : (ws : List (Write A)) → map write_of ws ≡ [] → ws ≡ []
   nothing_mapped [] e = refl
@@ -87,8 +91,8 @@ module _ {K V P A : Type 0} (m : Meaning K V P) (s : Settings) where
   -- a placing without writes has nothing to wait for
   pub told_nothing : (pieces : List (Record K V P)) (x : Placed A) (spread : Spread Content) (b : ℕ) → IsPlacedAs m s pieces x spread
       → x.writes.items ≡ [] → writing_of b (all_writes spread.parts) (records_in spread.parts) ≡ None
-  told_nothing pieces x spread b placed none = go placed.records placed.writes
-      ∙ ap (λ (z : Spread Content). writing_of b (all_writes z.parts) (records_in z.parts)) (sym placed.is)
+  told_nothing pieces x spread b placed none =
+      ap (λ (z : Spread Content). writing_of b (all_writes z.parts) (records_in z.parts)) placed.is ∙ go placed.records placed.writes
     where
       go : (rs : List (plain.Record Content)) → map write_of x.writes.items ≡ all_writes (parts_of (filled_to x.offset) rs)
           → writing_of b (all_writes (parts_of (filled_to x.offset) rs)) (records_in (parts_of (filled_to x.offset) rs)) ≡ None
@@ -122,3 +126,57 @@ module _ {K V P A : Type 0} (m : Meaning K V P) (s : Settings) where
             left = let e : 1 ≡ n = sym (count ∙ one) in e;
             some = let e : n ≡ 1 = count ∙ one in omega arith;
           }
+
+  -- the first placing of a batch leaves it: without writes it is done, else it is being written
+  tell : (own : Option ℕ) (b : ℕ) (batch left : Batch K V P A) (it : plainly.Batch Content) (x : Placed A)
+      → IsBatchAs m s own batch it → b < s.blocks → batch.blocks.items ≡ x ∷ left.blocks.items
+      → ((pieces : List (Record K V P)) (spread : Spread Content) → IsPlacedAs m s pieces x spread
+      → AreWriting m s pieces left.writing (writing_of b (all_writes spread.parts) (records_in spread.parts)))
+      → left ≡ record batch { blocks = left.blocks; goes_on = false; writing = left.writing }
+      → IsTold m s b x.writes.items left it
+  tell own b batch left it x stands lt front writing is =
+      let one = placed_one batch.pieces.items batch.blocks.items it.blocks stands.blocks x left.blocks.items front in
+      let new : plainly.Batch Content =
+          record it { blocks = []; goes_on = false; writing = writing_of b (all_writes (one.0).parts) (records_in (one.0).parts) } in
+      record {
+        spread = one.0;
+        rest = [];
+        first = one.1;
+        writes = subst (λ z. map write_of x.writes.items ≡ all_writes z.parts) (sym one.3.is) one.3.writes;
+        it = subst (λ z. IsBatchAs m s (Some b) z new) (sym is) (record {
+          blocks = subst (λ xs. ArePlacedAs m s batch.pieces.items xs []) (sym one.2) tt;
+          goes_on = refl;
+          owned = λ e. absurd (cc);
+          writing = writing batch.pieces.items one.0 one.3;
+          marks = stands.marks;
+          spoils = stands.spoils;
+          pieces = stands.pieces;
+          waits = stands.waits;
+          logged = stands.logged;
+        });
+      }
+
+  pub tells_nothing : (own : Option ℕ) (b : ℕ) (batch left : Batch K V P A) (it : plainly.Batch Content) (x : Placed A)
+      → IsBatchAs m s own batch it → b < s.blocks → batch.blocks.items ≡ x ∷ left.blocks.items → length x.writes.items ≡ 0
+      → left ≡ record batch { blocks = left.blocks; goes_on = false; writing = left.writing } → left.writing ≡ None
+      → IsTold m s b x.writes.items left it
+  tells_nothing own b batch left it x stands lt front none is idle =
+      tell own b batch left it x stands lt front
+          (λ pieces spread placed. subst (λ o. AreWriting m s pieces o (writing_of b (all_writes spread.parts) (records_in spread.parts))) (sym idle)
+              (subst (λ p. AreWriting {A = A} m s pieces None p) (sym (told_nothing pieces x spread b placed (no_items x.writes.items none))) tt))
+          is
+    where
+      no_items : (ws : List (Write A)) → length ws ≡ 0 → ws ≡ []
+      no_items [] e = refl
+      no_items (w ∷ ws) e = absurd (omega arith)
+
+  pub tells_some : (own : Option ℕ) (b n : ℕ) (batch left : Batch K V P A) (it : plainly.Batch Content) (x : Placed A)
+      → IsBatchAs m s own batch it → b < s.blocks → batch.blocks.items ≡ x ∷ left.blocks.items → 0 < n → n ≡ length x.writes.items
+      → left ≡ record batch { blocks = left.blocks; goes_on = false; writing = left.writing }
+      → left.writing ≡ Some (record { block = b; left = n; offset = x.offset; records = x.records })
+      → IsTold m s b x.writes.items left it
+  tells_some own b n batch left it x stands lt front some count is writes =
+      tell own b batch left it x stands lt front
+          (λ pieces spread placed. subst (λ o. AreWriting m s pieces o (writing_of b (all_writes spread.parts) (records_in spread.parts))) (sym writes)
+              (told_some pieces x spread b n placed lt (λ e. let zero : length x.writes.items ≡ 0 = ap length e in omega arith) count))
+          is

@@ -2,6 +2,7 @@ pub mod BlockLemmas
 pub mod BlockPlaces
 pub mod FlushLemmas
 pub mod FlusherLists
+pub mod NextLemmas
 pub mod Opening
 pub mod QueueLemmas
 pub mod StateLemmas

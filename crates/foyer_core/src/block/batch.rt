@@ -1,5 +1,5 @@
 //! A flusher's batch: from its buffer to a block, and into the index.
-ghost use Rattle.std.specs.Prelude.{◌≡◌, ◌≢◌, ◌↔◌, ◌<◌, ℕ, List, [], ◌∷◌, map, Option, None, Some, IsSome, IsTrue};
+ghost use Rattle.std.specs.Prelude.{◌≡◌, ◌≢◌, ◌↔◌, ◌<◌, ℕ, List, [], ◌∷◌, map, Option, None, Some, IsSome, IsTrue, true};
 ghost use Rattle.std.specs.Prelude.{IfOk, OnErr, MatchOption, vec_len, vec_capacity, nat_lt};
 ghost use Rattle.foyer_block.specs.Index.{IndexMap};
 ghost use Rattle.foyer_model.specs.Flush.{first_usable, released, all_spoiled};
@@ -179,6 +179,14 @@ fn invalidate_all<A: Allocator>(blocks: &mut Vec<BlockState, A>, invalid: &[Inva
 }
 
 impl<K, V, P, A: Allocator> Batch<K, V, P, A> {
+    // The flusher's own block, if the next placing goes into it.
+    fn goes_on_with(&self, own: Option<BlockId>) -> Option<BlockId>
+        ensures { MatchOption result (self.now.goes_on ≡ true → own ≡ None)
+            (λ b. (self.now.goes_on ≡ true) × (own ≡ Some b)) }
+    {
+        if self.goes_on { own } else { None }
+    }
+
     // The next placing goes into this block: gives its writes.
     fn tell(&mut self, block: BlockId) -> Vec<Write<A>, A>
         requires idle { self.old.writing ≡ None }
@@ -195,13 +203,18 @@ impl<K, V, P, A: Allocator> Batch<K, V, P, A> {
             offset,
             records,
         } = placed;
-        if !writes.is_empty() {
-            self.writing = Some(Writing {
-                block,
-                left: writes.len(),
-                offset,
-                records,
-            });
+        let left = writes.len();
+        if left == 0 {
+            return writes;
+        }
+        match self.writing.replace(Writing {
+            block,
+            left,
+            offset,
+            records,
+        }) {
+            None => {}
+            Some(_) => unreachable!(),
         }
         writes
     }
@@ -291,10 +304,7 @@ impl<K, V, P, A: Allocator + Clone> Flusher<K, V, P, A> {
         let Some(batch) = &mut self.batch else {
             unreachable!()
         };
-        if batch.goes_on {
-            let Some(block) = self.own else {
-                unreachable!()
-            };
+        if let Some(block) = batch.goes_on_with(self.own) {
             end_to_wait(waiting, number);
             return Ok(Next::Block(block, batch.tell(block)));
         }
