@@ -2,6 +2,7 @@ pub mod BlockLemmas
 pub mod BlockPlaces
 pub mod FlushLemmas
 pub mod FlusherLists
+pub mod IndexLemmas
 pub mod NextLemmas
 pub mod Opening
 pub mod QueueLemmas
