@@ -9,3 +9,4 @@ pub mod QueueLemmas
 pub mod StateLemmas
 pub mod Telling
 pub mod WaitLemmas
+pub mod WroteLemmas

@@ -1,7 +1,8 @@
 //! A flusher's batch: from its buffer to a block, and into the index.
-ghost use Rattle.std.specs.Prelude.{◌≡◌, ◌≢◌, ◌↔◌, ◌<◌, ℕ, List, [], ◌∷◌, map, Option, None, Some, IsSome, IsTrue, true};
+ghost use Rattle.std.specs.Prelude.{◌≡◌, ◌≢◌, ◌↔◌, ◌<◌, ℕ, List, [], ◌∷◌, map, Option, None, Some, IsSomeAnd, IsTrue, true, false};
 ghost use Rattle.std.specs.Prelude.{IfOk, OnErr, MatchOption, vec_len, vec_capacity, nat_lt};
 ghost use Rattle.foyer_block.specs.Index.{IndexMap};
+ghost use Rattle.foyer_block.specs.Insertion.{inserted_all};
 ghost use Rattle.foyer_model.specs.Flush.{first_usable, released, all_spoiled};
 ghost use Rattle.foyer_model.specs.Ids.{with_id, without_id};
 ghost use Rattle.foyer_model.specs.Numbers.{last_number};
@@ -59,14 +60,21 @@ pub(crate) struct Ended<K, V, P, A: Allocator> {
     pub waits: Vec<u64, A>,
 }
 
+// How often a block was handed out or destroyed; of one that isn't there the greatest number, so that none hands it out.
+fn filling_of<A: Allocator>(blocks: &Vec<BlockState, A>, block: BlockId) -> u64
+    ensures { result ≡ filling_in blocks.now.items block }
+{
+    match blocks.get(block as usize) {
+        Some(state) => state.filling,
+        None => u64::MAX,
+    }
+}
+
 // Whether a clean block may still be handed out.
 fn is_usable<A: Allocator>(blocks: &Vec<BlockState, A>, block: BlockId) -> bool
     ensures { result ≡ nat_lt (filling_in blocks.now.items block) last_number }
 {
-    match blocks.get(block as usize) {
-        Some(state) => state.filling < u64::MAX,
-        None => false,
-    }
+    filling_of(blocks, block) < u64::MAX
 }
 
 // Where the clean block stands that has been clean longest of those that may still be handed out.
@@ -156,6 +164,26 @@ fn settle<A: Allocator>(
     }
 }
 
+// The records of a block enter the index: gives how many, or None where it can't grow.
+fn commit<A: Allocator + Clone>(
+    mut records: Vec<HashedEntryAddress, A>,
+    block: BlockId,
+    filling: u64,
+    offset: usize,
+    index: &mut Indexer<A>,
+) -> Option<usize>
+    ensures { MatchOption result (index.new ≡ index.old)
+        (λ n. (n ≡ vec_len records) × (index.new ≡ inserted_all index.old (map (settled block filling offset) records.items))) }
+{
+    settle(&mut records, block, filling, offset);
+    let count = records.len();
+    if index.insert_batch(records).is_ok() {
+        Some(count)
+    } else {
+        None
+    }
+}
+
 // These bytes of a block became invalid.
 fn invalidate<A: Allocator>(blocks: &mut Vec<BlockState, A>, stats: &InvalidStats)
     ensures { (s : Settings) (places : ℕ → plainly.Place) (fillings : ℕ → ℕ) (known : ℕ → plainly.Stats)
@@ -185,6 +213,15 @@ impl<K, V, P, A: Allocator> Batch<K, V, P, A> {
             (λ b. (self.now.goes_on ≡ true) × (own ≡ Some b)) }
     {
         if self.goes_on { own } else { None }
+    }
+
+    // What isn't told yet will not be written.
+    fn drop_rest(&mut self)
+        ensures none { self.new.blocks.items ≡ [] }
+        ensures rest { self.new ≡ record self.old { blocks = self.new.blocks; goes_on = false } }
+    {
+        self.blocks.clear();
+        self.goes_on = false;
     }
 
     // The next placing goes into this block: gives its writes.
@@ -362,7 +399,7 @@ impl<K, V, P, A: Allocator + Clone> Flusher<K, V, P, A> {
             block,
             left,
             offset,
-            mut records,
+            records,
         } = writing;
         if left > 1 {
             batch.writing = Some(Writing {
@@ -373,18 +410,15 @@ impl<K, V, P, A: Allocator + Clone> Flusher<K, V, P, A> {
             });
             return Wrote::Next;
         }
-        let filling = blocks[block as usize].filling;
-        settle(&mut records, block, filling, offset);
-        let count = records.len();
-        match index.insert_batch(records) {
-            Ok(_) => Wrote::Committed(count),
-            Err(_) => self.fail(blocks, first_offset),
+        match commit(records, block, filling_of(blocks, block), offset, index) {
+            Some(count) => Wrote::Committed(count),
+            None => self.fail(blocks, first_offset),
         }
     }
 
     // Nothing of the batch's rest is written, and the block isn't written again in this filling.
     fn fail(&mut self, blocks: &mut Vec<BlockState, A>, first_offset: usize) -> Wrote
-        requires { IsSome self.old.batch }
+        requires { IsSomeAnd self.old.batch (λ batch. batch.writing ≡ None) }
         ensures failed { result ≡ wrote.Failed }
         ensures left { (m : Meaning K V P) (s : Settings) (it : plainly.Flusher Content) (batch : plainly.Batch Content)
             → first_offset ≡ s.blob_index_size → IsFlusherAs m s (seen self.old) it → it.batch ≡ Some batch
@@ -396,9 +430,7 @@ impl<K, V, P, A: Allocator + Clone> Flusher<K, V, P, A> {
         let Some(batch) = &mut self.batch else {
             unreachable!()
         };
-        batch.blocks.clear();
-        batch.goes_on = false;
-        batch.writing = None;
+        batch.drop_rest();
         release(&mut self.own, blocks);
         self.next_offset = first_offset;
         Wrote::Failed
