@@ -233,3 +233,53 @@ module _ {K V P A : Type 0} (m : Meaning K V P) (s : Settings) (sound : IsSound 
           → Wrote (machine m s sound) it f ok (Some got.0) replies.Failed new
       fails true new x rest e last is = (at.0, x, rest, at.1, e, last, is)
       fails false new x rest e last is = (at.0, x, rest, at.1, e, last, is)
+
+-- a batch ends
+pub ended : {K V P A : Type 0} (m : Meaning K V P) (s : Settings) (sound : IsSound s) (f : ℕ) (it : plainly.State Content)
+    (φ : Seen K V P A) (slots : IndexMap) (states : List BlockState) (ids waiters : List ℕ) → StandsAt m s f it φ slots states ids waiters
+    → (batch : Batch K V P A) → φ.batch ≡ Some batch → (slots' : IndexMap) (states' : List BlockState)
+    → slots' ≡ without_marks slots batch.marks.items → AreBlocksAs s states' it.place it.filling (all_spoiled (map spoil_of batch.invalid.items) it.stats)
+    → IsDone m s sound (steps.FlushEnd f) f it (replies.Ended (map (content_of m) batch.pieces.items) batch.waits.items) (record φ { batch = None }) slots' states' ids waiters
+ended m s sound f it φ slots states ids waiters stands batch is slots' states' gone blocks =
+    let got = batched m s φ.own φ.batch (it.flushers f).batch (stands.flusher).batch batch is in
+    let φs = stands.flusher in
+    let new : plainly.State Content =
+        record it {
+          flushers = put it.flushers f (record (it.flushers f) { batch = None });
+          index = unmarked (got.0).marks it.index;
+          stats = spoiled_unless (got.0).logged (got.0).spoils it.stats;
+        } in
+    record {
+      after = new;
+      does = subst (λ q. Finishes (machine m s sound) it f q (replies.Ended (map (content_of m) batch.pieces.items) batch.waits.items) new) (sym got.1)
+          (sym (got.2).pieces, sym (got.2).waits, refl);
+      flusher = record (it.flushers f) { batch = None };
+      flushers = refl;
+      it = record {
+        queue = φs.queue;
+        buffer = φs.buffer;
+        bytes = φs.bytes;
+        marks = φs.marks;
+        spoils = φs.spoils;
+        waits = φs.waits;
+        own = φs.own;
+        there = φs.there;
+        ready = φs.ready;
+        context = φs.context;
+        behind = φs.behind;
+        within = φs.within;
+        batch = tt;
+      };
+      queue = refl;
+      index = subst (λ k. IsIndexedAs s slots' (unmarked k it.index)) (sym (got.2).marks)
+          (subst (λ k. IsIndexedAs s k (unmarked (map mark_of batch.marks.items) it.index)) (sym gone) (unmarked_is s slots it.index batch.marks.items stands.index));
+      blocks = subst (λ o. AreBlocksAs s states' it.place it.filling (spoiled_unless o (got.0).spoils it.stats)) (sym (got.2).logged)
+          (subst (λ k. AreBlocksAs s states' it.place it.filling (all_spoiled k it.stats)) (sym (got.2).spoils) blocks);
+      clean = stands.clean;
+      waiting = stands.waiting;
+      next = refl;
+      steps = refl;
+      closed = refl;
+      reclaims = refl;
+      destroy = refl;
+    }
