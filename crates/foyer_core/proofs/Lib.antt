@@ -1,6 +1,7 @@
 pub mod BlockLemmas
 pub mod BlockPlaces
 pub mod FlushLemmas
+pub mod FlushTurns
 pub mod FlusherLists
 pub mod IndexLemmas
 pub mod NextLemmas

@@ -14,17 +14,21 @@ use Rattle.foyer_model.specs.Record as plain
 use Rattle.foyer_model.specs.Reply as replies
 use Rattle.foyer_model.specs.State as plainly
 use Rattle.foyer_model.specs.Step as steps
-use Rattle.foyer_core.specs.Batches.{StandsAt, IsDone, settled, failed_batch}
+use Rattle.foyer_core.specs.Batches.{StandsAt, IsDone, settled, failed_batch, told_wrote}
 use Rattle.foyer_core.specs.Content.{Content, Meaning, content_of}
 use Rattle.foyer_core.specs.Flushing.{ArePlacedAs, IsWritingAs, AreWriting, IsBatchAs, IsFlusherAs, spoil_of}
+use Rattle.foyer_core.specs.Handing.{filling_in}
 use Rattle.foyer_core.specs.InOneBlock.{laid_from}
 use Rattle.foyer_core.specs.Meets.{machine}
 use Rattle.foyer_core.specs.Replied.{mark_of}
 use Rattle.foyer_core.specs.Sizes.{IsSound}
 use Rattle.foyer_core.specs.Standing.{AreBlocksAs, IsIndexedAs}
 use Rattle.foyer_core.specs.Unchanged.{Seen}
+use Rattle.foyer_core.proofs.BlockLemmas.{filling_at}
 use Rattle.foyer_core.proofs.FlushLemmas.{batched, written, none_written, none_placed}
 use Rattle.foyer_core.proofs.IndexLemmas.{committed, puts_all, unmarked_is}
+use Rattle.foyer_core.specs.declared.block.batch.Wrote.{Wrote as Answer}
+use Rattle.foyer_core.specs.declared.block.batch.Wrote.TheVariants as answers
 use Rattle.foyer_core.specs.declared.block.flusher.Batch.{Batch}
 use Rattle.foyer_core.specs.declared.block.flusher.Writing.{Writing}
 use Rattle.foyer_core.specs.declared.settings.Settings.{Settings}
@@ -161,15 +165,16 @@ module _ {K V P A : Type 0} (m : Meaning K V P) (s : Settings) (sound : IsSound 
       }
 
   -- no block is being written
-  pub idle_is : IsFlusherAs m s (record φ { batch = Some (record batch { writing = None }) }) (record (it.flushers f) { batch = Some (record got.0 { writing = None }) })
+  idle_is : IsFlusherAs m s (record φ { batch = Some (record batch { writing = None }) }) (record (it.flushers f) { batch = Some (record got.0 { writing = None }) })
   idle_is = batch_put m s φ (it.flushers f) (record batch { writing = None }) (record got.0 { writing = None }) stands.flusher
       (writing_put m s φ.own batch got.0 None None got.2 tt)
 
   -- the block's records enter the index
-  pub wrote_last : (n filling : ℕ) (slots' : IndexMap) → w.left ≤ 1 → filling ≡ it.filling w.block → n ≡ length w.records.items
+  pub wrote_last : (n filling : ℕ) (slots' : IndexMap) → w.left ≤ 1 → filling ≡ filling_in states w.block → n ≡ length w.records.items
       → slots' ≡ inserted_all slots (map (settled w.block filling w.offset) w.records.items)
       → IsDone m s sound (steps.FlushWrote f true) f it (replies.Committed n) (record φ { batch = Some (record batch { writing = None }) }) slots' states ids waiters
-  wrote_last n filling slots' few fill count new =
+  wrote_last n filling slots' few read count new =
+      let fill : filling ≡ it.filling w.block = read ∙ filling_at s states it.place it.filling it.stats stands.blocks w.block (at.2).there in
       let one = first_left (at.0).left (let e : length (at.0).left ≡ w.left = (at.2).left in let k : 0 < w.left = (at.2).some in omega arith) in
       let last : one.1 ≡ [] = last_left one.0 one.1 (at.0).left one.2 (let e : length (at.0).left ≡ w.left = (at.2).left in omega arith) in
       let rs : List (plain.Record Content) = (at.2).records in
@@ -203,7 +208,7 @@ module _ {K V P A : Type 0} (m : Meaning K V P) (s : Settings) (sound : IsSound 
       }
 
   -- the rest of the batch is dropped
-  pub wrote_failed : (ok : Bool) (first : ℕ) (ψ : Seen K V P A) (states' : List BlockState) → (ok ≡ true → w.left ≤ 1) → first ≡ s.blob_index_size
+  wrote_failed : (ok : Bool) (first : ℕ) (ψ : Seen K V P A) (states' : List BlockState) → (ok ≡ true → w.left ≤ 1) → first ≡ s.blob_index_size
       → IsFlusherAs m s ψ (failed_batch first (record (it.flushers f) { batch = Some (record got.0 { writing = None }) }) (record got.0 { writing = None }))
       → AreBlocksAs s states' (released φ.own it.place) it.filling it.stats
       → IsDone m s sound (steps.FlushWrote f ok) f it replies.Failed ψ slots states' ids waiters
@@ -233,6 +238,21 @@ module _ {K V P A : Type 0} (m : Meaning K V P) (s : Settings) (sound : IsSound 
           → Wrote (machine m s sound) it f ok (Some got.0) replies.Failed new
       fails true new x rest e last is = (at.0, x, rest, at.1, e, last, is)
       fails false new x rest e last is = (at.0, x, rest, at.1, e, last, is)
+
+  -- and so it is where the code fails the batch, once it took the block that was written
+  pub wrote_fails : (ok : Bool) (first : ℕ) (ψ : Seen K V P A) (states' : List BlockState) (idle : Batch K V P A) (answer : Answer) (slots' : IndexMap)
+      → idle ≡ record batch { writing = None } → (ok ≡ true → w.left ≤ 1) → first ≡ s.blob_index_size
+      → ((φ' : plainly.Flusher Content) (p : plainly.Batch Content) → first ≡ s.blob_index_size → IsFlusherAs m s (record φ { batch = Some idle }) φ'
+      → φ'.batch ≡ Some p → IsFlusherAs m s ψ (failed_batch first φ' p))
+      → AreBlocksAs s states' (released φ.own it.place) it.filling it.stats → answer ≡ answers.Failed → slots' ≡ slots
+      → IsDone m s sound (steps.FlushWrote f ok) f it (told_wrote answer) ψ slots' states' ids waiters
+  wrote_fails ok first ψ states' idle answer slots' idle_as few size fails blocks failed same =
+      let as_idle : IsFlusherAs m s (record φ { batch = Some idle }) (record (it.flushers f) { batch = Some (record got.0 { writing = None }) }) =
+          subst (λ b. IsFlusherAs m s (record φ { batch = Some b }) (record (it.flushers f) { batch = Some (record got.0 { writing = None }) })) (sym idle_as) idle_is in
+      subst (λ a. IsDone m s sound (steps.FlushWrote f ok) f it (told_wrote a) ψ slots' states' ids waiters) (sym failed)
+          (subst (λ k. IsDone m s sound (steps.FlushWrote f ok) f it replies.Failed ψ k states' ids waiters) (sym same)
+              (wrote_failed ok first ψ states' few size
+                  (fails (record (it.flushers f) { batch = Some (record got.0 { writing = None }) }) (record got.0 { writing = None }) size as_idle refl) blocks))
 
 -- a batch ends
 pub ended : {K V P A : Type 0} (m : Meaning K V P) (s : Settings) (sound : IsSound s) (f : ℕ) (it : plainly.State Content)

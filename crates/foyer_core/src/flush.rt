@@ -1,5 +1,7 @@
 //! The steps of a flush.
 ghost use Rattle.foyer_core.specs.Answered.{HandsBack, TellsNothing};
+ghost use Rattle.foyer_core.specs.Content.{Meaning};
+ghost use Rattle.foyer_core.specs.Meets.{Turned};
 ghost use Rattle.foyer_core.specs.declared.step.Step.TheVariants as step;
 
 use crate::block::batch::{Ended, Next, Wrote};
@@ -54,6 +56,7 @@ impl<K, V, P, A: Allocator + Clone> Core<K, V, P, A> {
     pub(crate) fn flush_block(&mut self, flusher: u32) -> Reply<K, V, P, A>
         ensures back { HandsBack (step.FlushBlock flusher) result self.old self.new }
         ensures nothing { TellsNothing result }
+        ensures meets { (m : Meaning K V P) → Turned m (step.FlushBlock flusher) result self.old self.new }
     {
         if flusher as usize >= self.flushers.len() {
             return Reply::NotNow(Step::FlushBlock { flusher });
@@ -77,6 +80,7 @@ impl<K, V, P, A: Allocator + Clone> Core<K, V, P, A> {
     pub(crate) fn flush_wrote(&mut self, flusher: u32, outcome: Result<()>) -> Reply<K, V, P, A>
         ensures back { HandsBack (step.FlushWrote flusher outcome) result self.old self.new }
         ensures nothing { TellsNothing result }
+        ensures meets { (m : Meaning K V P) → Turned m (step.FlushWrote flusher outcome) result self.old self.new }
     {
         if flusher as usize >= self.flushers.len() {
             return Reply::NotNow(Step::FlushWrote {
@@ -108,6 +112,7 @@ impl<K, V, P, A: Allocator + Clone> Core<K, V, P, A> {
     pub(crate) fn flush_end(&mut self, flusher: u32) -> Reply<K, V, P, A>
         ensures back { HandsBack (step.FlushEnd flusher) result self.old self.new }
         ensures nothing { TellsNothing result }
+        ensures meets { (m : Meaning K V P) → Turned m (step.FlushEnd flusher) result self.old self.new }
     {
         if flusher as usize >= self.flushers.len() {
             return Reply::NotNow(Step::FlushEnd { flusher });

@@ -215,6 +215,27 @@ impl<K, V, P, A: Allocator> Batch<K, V, P, A> {
         if self.goes_on { own } else { None }
     }
 
+    // The block that is being written.
+    fn take_writing(&mut self) -> Option<Writing<A>>
+        ensures taken { result ≡ self.old.writing }
+        ensures idle { self.new.writing ≡ None }
+        ensures rest { self.new ≡ record self.old { writing = None } }
+    {
+        self.writing.take()
+    }
+
+    // This block is being written.
+    fn put_writing(&mut self, writing: Writing<A>)
+        requires { self.old.writing ≡ None }
+        ensures put { self.new.writing ≡ Some writing }
+        ensures rest { self.new ≡ record self.old { writing = Some writing } }
+    {
+        match self.writing.replace(writing) {
+            None => {}
+            Some(_) => unreachable!(),
+        }
+    }
+
     // What isn't told yet will not be written.
     fn drop_rest(&mut self)
         ensures none { self.new.blocks.items ≡ [] }
@@ -244,15 +265,12 @@ impl<K, V, P, A: Allocator> Batch<K, V, P, A> {
         if left == 0 {
             return writes;
         }
-        match self.writing.replace(Writing {
+        self.put_writing(Writing {
             block,
             left,
             offset,
             records,
-        }) {
-            None => {}
-            Some(_) => unreachable!(),
-        }
+        });
         writes
     }
 }
@@ -389,7 +407,7 @@ impl<K, V, P, A: Allocator + Clone> Flusher<K, V, P, A> {
         let Some(batch) = &mut self.batch else {
             unreachable!()
         };
-        let Some(writing) = batch.writing.take() else {
+        let Some(writing) = batch.take_writing() else {
             unreachable!()
         };
         if !is_done {
@@ -402,7 +420,7 @@ impl<K, V, P, A: Allocator + Clone> Flusher<K, V, P, A> {
             records,
         } = writing;
         if left > 1 {
-            batch.writing = Some(Writing {
+            batch.put_writing(Writing {
                 block,
                 left: left - 1,
                 offset,

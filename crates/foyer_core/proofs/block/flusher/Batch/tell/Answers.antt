@@ -1,4 +1,5 @@
-use Rattle.std.proofs.Common.{◌≡◌, ◌<◌, false, length, refl, ap, ◌∙◌, arith}
+use Rattle.std.proofs.Common.{◌≡◌, ◌<◌, false, length, Some, refl, sym, subst, arith}
+use Rattle.foyer_core.specs.Batches.{IsTold}
 use Rattle.foyer_core.proofs.FlushLemmas.{tells_nothing, tells_some}
 use Rattle.foyer_core.proofs.block.flusher.Batch.tell.Goals as goal
 
@@ -15,7 +16,11 @@ returns g c = record {
   told = λ m s own it stands lt.
       let some : 0 < c.len-left.result = omega arith in
       let count : c.len-left.result ≡ length c.in-Some.placed.writes.items = omega (arith, c.in-Some.placed.writes.ok.0) in
-      tells_some m s own c.args.block c.len-left.result c.args.self.now
-          (record c.args.self.now { blocks = c.pop_front.new.self; goes_on = false; writing = c.replace.new.self }) it c.in-Some.placed stands lt
-          c.in-Some.ensures.items some count refl c.in-None.ensures.after;
+      subst (λ z. IsTold m s c.args.block c.in-Some.placed.writes.items z it) (sym c.put_writing.ensures.rest)
+          (tells_some m s own c.args.block c.len-left.result c.args.self.now
+              (record c.args.self.now {
+                blocks = c.pop_front.new.self;
+                goes_on = false;
+                writing = Some (record { block = c.args.block; left = c.len-left.result; offset = c.in-Some.placed.offset; records = c.in-Some.placed.records });
+              }) it c.in-Some.placed stands lt c.in-Some.ensures.items some count refl refl);
 }
