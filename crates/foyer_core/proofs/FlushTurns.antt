@@ -1,9 +1,11 @@
 -- A flusher's step in the whole core.
 use Rattle.std.proofs.Common.{◌≡◌, ◌≢◌, ℕ, ◌+◌, ◌-◌, ◌*◌, ◌^◌, ◌<◌, ◌≤◌, Bool, true, false, List, [], ◌∷◌, length, map, slice_set, slice_index_or, Option, Some, None, IsSome, IsSomeAnd, Result, Ok, Err, is_ok, inl, refl, sym, ap, subst, ◌∙◌, arith}
+use Rattle.foyer_block.specs.Index.{IndexMap}
 use Rattle.foyer_device.specs.declared.error.Error.{Error}
+use Rattle.foyer_model.specs.Flush.{Tells}
 use Rattle.foyer_model.specs.InTurn as model
 use Rattle.foyer_model.specs.Numbers.{put, last_number}
-use Rattle.foyer_model.specs.Refusal.{Draws}
+use Rattle.foyer_model.specs.Refusal.{Draws, Grows}
 use Rattle.foyer_model.specs.Reply as replies
 use Rattle.foyer_model.specs.State as plainly
 use Rattle.foyer_model.specs.Step as steps
@@ -14,9 +16,10 @@ use Rattle.foyer_core.specs.Flushing.{ArePlacedAs, AreWriting, IsBatchAs, AreBat
 use Rattle.foyer_core.specs.Meets.{machine, IsTurned}
 use Rattle.foyer_core.specs.Sizes.{IsSound}
 use Rattle.foyer_core.specs.Standing.{IsStateOf, AreFlushersAs, IsSizedAs, size_in, size_of_all}
-use Rattle.foyer_core.specs.Turns.{HasBlock, IsWriting, IsWritten}
+use Rattle.foyer_core.specs.Turns.{HasBlock}
 use Rattle.foyer_core.specs.Unchanged.{seen, IsUnchanged}
 use Rattle.foyer_core.proofs.FlushLemmas.{none_placed, none_written}
+use Rattle.foyer_core.proofs.NextLemmas.{would_tell}
 use Rattle.foyer_core.proofs.StateLemmas.{flushers_count, flusher_at, flusher_put, size_put, unchanged_stands}
 use Rattle.foyer_core.specs.declared.block.flusher.Batch.{Batch}
 use Rattle.foyer_core.specs.declared.block.flusher.Flusher.{Flusher}
@@ -24,6 +27,7 @@ use Rattle.foyer_core.specs.declared.block.flusher.Placed.{Placed}
 use Rattle.foyer_core.specs.declared.block.flusher.Writing.{Writing}
 use Rattle.foyer_core.specs.declared.reply.Reply.TheVariants as reply
 use Rattle.foyer_core.specs.declared.settings.Settings.{Settings}
+use Rattle.foyer_core.specs.declared.state.BlockState.{BlockState}
 use Rattle.foyer_core.specs.declared.state.Core.{Core}
 use Rattle.foyer_core.specs.declared.step.Step.{Step}
 use Rattle.foyer_policy.specs.Record.{Record}
@@ -163,3 +167,16 @@ module _ {K V P A : Type 0} (m : Meaning K V P) (s : Settings) where
         reply = refl;
         turns = (refl, (early, (λ d. absurd (draws d)), out), refl);
       }
+
+  -- a flusher that demands a block would get some reply, whatever memory there is
+  pub would_answer : (sound : IsSound s) (it : plainly.State Content) (f : ℕ) (φ : Flusher K V P A) (slots : IndexMap) (states : List BlockState) (ids waiters : List ℕ)
+      → StandsAt m s f it (seen φ) slots states ids waiters → HasBlock φ
+      → (answer : replies.Reply Content) × (new : plainly.State Content)
+      × Tells (machine m s sound) it f (it.flushers f).batch answer new × Grows {C = Content} (steps.FlushBlock f) answer
+  would_answer sound it f φ slots states ids waiters stands has = go φ.batch refl has
+    where
+      go : (o : Option (Batch K V P A)) → φ.batch ≡ o → IsSomeAnd o (λ batch. (batch.writing ≡ None) × (batch.blocks.items ≢ []))
+          → (answer : replies.Reply Content) × (new : plainly.State Content)
+          × Tells (machine m s sound) it f (it.flushers f).batch answer new × Grows {C = Content} (steps.FlushBlock f) answer
+      go None e has = absurd has
+      go (Some batch) e has = would_tell m s sound f it (seen φ) slots states ids waiters stands batch e has.1

@@ -1,7 +1,7 @@
 use Rattle.std.proofs.Common.{◌≡◌, ◌<◌, length, map, refl, arith}
+use Rattle.std.proofs.lemmas.Bool.{false≢true}
 use Rattle.foyer_model.specs.Reply as replies
 use Rattle.foyer_core.specs.Content.{content_of}
-use Rattle.foyer_core.specs.Unchanged.{seen}
 use Rattle.foyer_core.proofs.FlushTurns.{stands_at, flusher_there, core_stands, is_written, was_written, not_now}
 use Rattle.foyer_core.proofs.FlusherLists.{same_seen}
 use Rattle.foyer_core.specs.declared.step.Step.TheVariants as step
@@ -27,7 +27,7 @@ returns-then-not-is_written-clause-meets g c = λ m s sound it stands few.
           clean = refl;
           waiting = refl;
         }) stands few (λ d. d)
-        (λ turn. c.if-not-is_written.ensures.1 (was_written m s found.own found.batch (it.flushers f).batch (at.flusher).batch turn.1))
+        (λ turn. false≢true (c.if-not-is_written.ensures.1 (was_written m s found.own found.batch (it.flushers f).batch (at.flusher).batch turn.1)))
 
 pub returns-clause-meets : goal.returns-clause-meets
 returns-clause-meets g c = λ m s sound it stands few.
@@ -42,5 +42,5 @@ returns-clause-meets g c = λ m s sound it stands few.
       it = replies.Ended (map (content_of m) c.end-pieces.result.pieces.items) c.end-pieces.result.waits.items;
       stands = core_stands m s sound core _ it f c.end-pieces.new.self _ _ stands within done refl refl refl refl refl refl;
       reply = refl;
-      turns = ((flusher_there m s core it f stands within, is_written m s found.own found.batch (it.flushers f).batch (at.flusher).batch (c.if-not-is_written.ensures.0 ?)), done.does);
+      turns = ((flusher_there m s core it f stands within, is_written m s found.own found.batch (it.flushers f).batch (at.flusher).batch (c.if-not-is_written.ensures.0 refl)), done.does);
     }
