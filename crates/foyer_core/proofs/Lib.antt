@@ -1,10 +1,15 @@
+pub mod AccessLemmas
 pub mod BeginLemmas
 pub mod BlockLemmas
 pub mod BlockPlaces
 pub mod Deleted
 pub mod Enqueued
+pub mod FlushLemmas
+pub mod FlushTurns
 pub mod FlusherLists
+pub mod IndexLemmas
 pub mod LoadLemmas
+pub mod NextLemmas
 pub mod OpenedLemmas
 pub mod Opening
 pub mod PlacedLemmas
@@ -17,3 +22,5 @@ pub mod TakenLemmas
 pub mod Telling
 pub mod TripLemmas
 pub mod TurnLemmas
+pub mod WaitLemmas
+pub mod WroteLemmas

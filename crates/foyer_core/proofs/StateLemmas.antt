@@ -138,7 +138,7 @@ size_pushed (plainly.Remove h s spoils ∷ q) x = size_pushed q x
 size_pushed (plainly.Await i ∷ q) x = size_pushed q x
 size_pushed (plainly.Reinsert h bytes a ∷ q) x = size_pushed q x
 
-plus_min : (n a b : ℕ) → b ≡ min a last_number → plus n b ≡ min (n + a) last_number
+pub plus_min : (n a b : ℕ) → b ≡ min a last_number → plus n b ≡ min (n + a) last_number
 plus_min n a b is = go (nat_le (n + b) last_number) refl
   where
     go : (t : Bool) → nat_le (n + b) last_number ≡ t → (if t then n + b else last_number) ≡ min (n + a) last_number

@@ -1,10 +1,12 @@
 pub mod Answered
 pub mod Asked
+pub mod Batches
 pub mod Beginning
 pub mod Begins
 pub mod Content
 pub mod Disk
 pub mod Flushing
+pub mod Handing
 pub mod InOneBlock
 pub mod Meets
 pub mod Opened

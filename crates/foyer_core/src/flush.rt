@@ -62,6 +62,7 @@ impl<K, V, P, A: Allocator + Clone> Core<K, V, P, A> {
     pub(crate) fn flush_block(&mut self, flusher: u32) -> Reply<K, V, P, A>
         ensures back { HandsBack (step.FlushBlock flusher) result self.old self.new }
         ensures nothing { TellsNothing result }
+        ensures meets { (m : Meaning K V P) → Turned m (step.FlushBlock flusher) result self.old self.new }
     {
         if flusher as usize >= self.flushers.len() {
             return Reply::NotNow(Step::FlushBlock { flusher });
@@ -85,6 +86,7 @@ impl<K, V, P, A: Allocator + Clone> Core<K, V, P, A> {
     pub(crate) fn flush_wrote(&mut self, flusher: u32, outcome: Result<()>) -> Reply<K, V, P, A>
         ensures back { HandsBack (step.FlushWrote flusher outcome) result self.old self.new }
         ensures nothing { TellsNothing result }
+        ensures meets { (m : Meaning K V P) → Turned m (step.FlushWrote flusher outcome) result self.old self.new }
     {
         if flusher as usize >= self.flushers.len() {
             return Reply::NotNow(Step::FlushWrote {
@@ -116,6 +118,7 @@ impl<K, V, P, A: Allocator + Clone> Core<K, V, P, A> {
     pub(crate) fn flush_end(&mut self, flusher: u32) -> Reply<K, V, P, A>
         ensures back { HandsBack (step.FlushEnd flusher) result self.old self.new }
         ensures nothing { TellsNothing result }
+        ensures meets { (m : Meaning K V P) → Turned m (step.FlushEnd flusher) result self.old self.new }
     {
         if flusher as usize >= self.flushers.len() {
             return Reply::NotNow(Step::FlushEnd { flusher });
@@ -124,18 +127,7 @@ impl<K, V, P, A: Allocator + Clone> Core<K, V, P, A> {
         if !found.is_written() {
             return Reply::NotNow(Step::FlushEnd { flusher });
         }
-        let Ended {
-            marks,
-            invalid,
-            pieces,
-            waits,
-        } = found.end();
-        self.index.remove_marks(marks.as_slice());
-        for stats in &invalid {
-            if let Some(state) = self.blocks.get_mut(stats.block as usize) {
-                state.invalid = state.invalid.saturating_add(stats.size);
-            }
-        }
+        let Ended { pieces, waits } = found.end(&mut self.index, &mut self.blocks);
         Reply::Ended { pieces, waits }
     }
 }

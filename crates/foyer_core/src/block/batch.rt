@@ -1,8 +1,25 @@
 //! A flusher's batch: from its buffer to a block, and into the index.
-ghost use Rattle.std.specs.Prelude.{◌≡◌, ◌↔◌, None, IsTrue, IfOk, OnErr};
 ghost use Rattle.foyer_core.specs.Beginning.{IsBegun};
+ghost use Rattle.std.specs.Prelude.{◌≡◌, ◌≢◌, ◌↔◌, ◌<◌, ℕ, List, [], ◌∷◌, map, Option, None, Some, IsSomeAnd, IsTrue, true, false};
+ghost use Rattle.std.specs.Prelude.{IfOk, OnErr, MatchOption, vec_len, vec_capacity, nat_lt};
+ghost use Rattle.foyer_block.specs.Index.{IndexMap};
+ghost use Rattle.foyer_block.specs.Insertion.{inserted_all};
+ghost use Rattle.foyer_model.specs.Flush.{first_usable, released, all_spoiled};
+ghost use Rattle.foyer_model.specs.Ids.{with_id, without_id};
+ghost use Rattle.foyer_model.specs.Numbers.{last_number};
+ghost use Rattle.foyer_model.specs.State as plainly;
+ghost use Rattle.foyer_model.specs.State.{State};
+ghost use Rattle.foyer_model.specs.Step as plain;
+ghost use Rattle.foyer_core.specs.Batches.{StandsAt, IsDone, IsTold, told_next, told_wrote, told_ended, settled, failed_batch};
+ghost use Rattle.foyer_core.specs.Content.{Content, Meaning};
+ghost use Rattle.foyer_core.specs.Flushing.{IsFlusherAs, IsBatchAs, spoil_of};
+ghost use Rattle.foyer_core.specs.Handing.{filling_in, IsFirstUsable, IsHanded};
+ghost use Rattle.foyer_core.specs.Sizes.{IsSound};
+ghost use Rattle.foyer_core.specs.Standing.{AreBlocksAs, AreCleanAs};
 ghost use Rattle.foyer_core.specs.Turns.{MayBegin, HasBlock, IsWriting, IsWritten};
 ghost use Rattle.foyer_core.specs.Unchanged.{seen};
+ghost use Rattle.foyer_core.specs.declared.block.batch.Wrote.TheVariants as wrote;
+ghost use Rattle.foyer_core.specs.declared.settings.Settings.{Settings};
 
 use crate::block::flusher::{Batch, Flusher, InvalidStats, Placed, Writing};
 use crate::reply::Write;
@@ -12,6 +29,7 @@ use foyer_block::manager::BlockId;
 use foyer_block::tombstone::Tombstone;
 use foyer_device::error::Result;
 use foyer_format::block::buffer::Buffer;
+use foyer_policy::keeper::Piece;
 use std::alloc::Allocator;
 use std::collections::VecDeque;
 use std::mem;
@@ -39,24 +57,39 @@ pub(crate) enum Wrote {
 /// What a batch gives back.
 #[derive(Drop)]
 pub(crate) struct Ended<K, V, P, A: Allocator> {
-    pub marks: Vec<Tombstone, A>,
-    pub invalid: Vec<InvalidStats, A>,
-    pub pieces: Vec<foyer_policy::keeper::Piece<K, V, P, A>, A>,
+    pub pieces: Vec<Piece<K, V, P, A>, A>,
     pub waits: Vec<u64, A>,
+}
+
+// How often a block was handed out or destroyed; of one that isn't there the greatest number, so that none hands it out.
+fn filling_of<A: Allocator>(blocks: &Vec<BlockState, A>, block: BlockId) -> u64
+    ensures { result ≡ filling_in blocks.now.items block }
+{
+    match blocks.get(block as usize) {
+        Some(state) => state.filling,
+        None => u64::MAX,
+    }
+}
+
+// Whether a clean block may still be handed out.
+fn is_usable<A: Allocator>(blocks: &Vec<BlockState, A>, block: BlockId) -> bool
+    ensures { result ≡ nat_lt (filling_in blocks.now.items block) last_number }
+{
+    filling_of(blocks, block) < u64::MAX
 }
 
 // Where the clean block stands that has been clean longest of those that may still be handed out.
 fn first_usable<A: Allocator>(
     clean: &VecDeque<BlockId, A>,
     blocks: &Vec<BlockState, A>,
-) -> Option<usize> {
+) -> Option<usize>
+    ensures { MatchOption result
+        (first_usable (filling_in blocks.now.items) clean.now.items ≡ None)
+        (IsFirstUsable clean.now.items blocks.now.items) }
+{
     for index in 0..clean.len() {
-        if let Some(block) = clean.get(index) {
-            if let Some(state) = blocks.get(*block as usize) {
-                if state.filling < u64::MAX {
-                    return Some(index);
-                }
-            }
+        if is_usable(blocks, clean[index]) {
+            return Some(index);
         }
     }
     None
@@ -67,22 +100,52 @@ fn hand_out<A: Allocator>(
     clean: &mut VecDeque<BlockId, A>,
     blocks: &mut Vec<BlockState, A>,
     flusher: u32,
-) -> Option<BlockId> {
-    let index = first_usable(clean, blocks)?;
-    let block = clean.remove(index)?;
-    let state = blocks.get_mut(block as usize)?;
-    state.filling = state.filling.checked_add(1)?;
+) -> Option<BlockId>
+    ensures handed { (s : Settings) (places : ℕ → plainly.Place) (fillings : ℕ → ℕ) (stats : ℕ → plainly.Stats) (ids : List ℕ)
+        → AreBlocksAs s blocks.old.items places fillings stats → AreCleanAs s clean.old.items ids
+        → IsHanded s flusher blocks.new.items clean.new.items places fillings stats ids result }
+{
+    let Some(index) = first_usable(clean, blocks) else {
+        return None;
+    };
+    let Some(block) = clean.remove(index) else {
+        unreachable!()
+    };
+    let state = &mut blocks[block as usize];
+    state.filling += 1;
     state.place = Place::Writing(flusher);
     Some(block)
 }
 
 // A block that its flusher leaves may be reclaimed.
-fn release<A: Allocator>(own: &mut Option<BlockId>, blocks: &mut Vec<BlockState, A>) {
+fn release<A: Allocator>(own: &mut Option<BlockId>, blocks: &mut Vec<BlockState, A>)
+    ensures left { own.new ≡ None }
+    ensures released { (s : Settings) (places : ℕ → plainly.Place) (fillings : ℕ → ℕ) (stats : ℕ → plainly.Stats)
+        → AreBlocksAs s blocks.old.items places fillings stats
+        → AreBlocksAs s blocks.new.items (released own.old places) fillings stats }
+{
     if let Some(block) = own.take() {
         if let Some(state) = blocks.get_mut(block as usize) {
             state.place = Place::Evictable;
         }
     }
+}
+
+// A flusher waits behind the others, unless it waits already.
+fn begin_to_wait<A: Allocator>(waiting: &mut Vec<u32, A>, flusher: u32)
+    requires { vec_len waiting.old < vec_capacity waiting.old }
+    ensures { waiting.new.items ≡ with_id flusher waiting.old.items }
+{
+    if !waiting.contains(&flusher) {
+        waiting.push_reserved(flusher);
+    }
+}
+
+// A flusher waits no more.
+fn end_to_wait<A: Allocator>(waiting: &mut Vec<u32, A>, flusher: u32)
+    ensures { waiting.new.items ≡ without_id flusher waiting.old.items }
+{
+    waiting.retain(|waiter| *waiter != flusher);
 }
 
 // The records stand in this block, behind this offset.
@@ -91,12 +154,125 @@ fn settle<A: Allocator>(
     block: BlockId,
     filling: u64,
     offset: usize,
-) {
+)
+    ensures { records.new.items ≡ map (settled block filling offset) records.old.items }
+{
     for record in records.iter_mut() {
         let at = offset.saturating_add(record.address.offset as usize);
         record.address.block = block;
         record.address.filling = filling;
         record.address.offset = at.min(u32::MAX as usize) as u32;
+    }
+}
+
+// The records of a block enter the index: gives how many, or None where it can't grow.
+fn commit<A: Allocator + Clone>(
+    mut records: Vec<HashedEntryAddress, A>,
+    block: BlockId,
+    filling: u64,
+    offset: usize,
+    index: &mut Indexer<A>,
+) -> Option<usize>
+    ensures { MatchOption result (index.new ≡ index.old)
+        (λ n. (n ≡ vec_len records) × (index.new ≡ inserted_all index.old (map (settled block filling offset) records.items))) }
+{
+    settle(&mut records, block, filling, offset);
+    let count = records.len();
+    if index.insert_batch(records).is_ok() {
+        Some(count)
+    } else {
+        None
+    }
+}
+
+// These bytes of a block became invalid.
+fn invalidate<A: Allocator>(blocks: &mut Vec<BlockState, A>, stats: &InvalidStats)
+    ensures { (s : Settings) (places : ℕ → plainly.Place) (fillings : ℕ → ℕ) (known : ℕ → plainly.Stats)
+        → AreBlocksAs s blocks.old.items places fillings known
+        → AreBlocksAs s blocks.new.items places fillings (all_spoiled (spoil_of stats.now ∷ []) known) }
+{
+    if let Some(state) = blocks.get_mut(stats.block as usize) {
+        state.invalid = state.invalid.saturating_add(stats.size);
+    }
+}
+
+// And these of all blocks.
+fn invalidate_all<A: Allocator>(blocks: &mut Vec<BlockState, A>, invalid: &[InvalidStats])
+    ensures { (s : Settings) (places : ℕ → plainly.Place) (fillings : ℕ → ℕ) (known : ℕ → plainly.Stats)
+        → AreBlocksAs s blocks.old.items places fillings known
+        → AreBlocksAs s blocks.new.items places fillings (all_spoiled (map spoil_of invalid.now) known) }
+{
+    for stats in invalid {
+        invalidate(blocks, stats);
+    }
+}
+
+impl<K, V, P, A: Allocator> Batch<K, V, P, A> {
+    // The flusher's own block, if the next placing goes into it.
+    fn goes_on_with(&self, own: Option<BlockId>) -> Option<BlockId>
+        ensures { MatchOption result (self.now.goes_on ≡ true → own ≡ None)
+            (λ b. (self.now.goes_on ≡ true) × (own ≡ Some b)) }
+    {
+        if self.goes_on { own } else { None }
+    }
+
+    // The block that is being written.
+    fn take_writing(&mut self) -> Option<Writing<A>>
+        ensures taken { result ≡ self.old.writing }
+        ensures idle { self.new.writing ≡ None }
+        ensures rest { self.new ≡ record self.old { writing = None } }
+    {
+        self.writing.take()
+    }
+
+    // This block is being written.
+    fn put_writing(&mut self, writing: Writing<A>)
+        requires { self.old.writing ≡ None }
+        ensures put { self.new.writing ≡ Some writing }
+        ensures rest { self.new ≡ record self.old { writing = Some writing } }
+    {
+        match self.writing.replace(writing) {
+            None => {}
+            Some(_) => unreachable!(),
+        }
+    }
+
+    // What isn't told yet will not be written.
+    fn drop_rest(&mut self)
+        ensures none { self.new.blocks.items ≡ [] }
+        ensures rest { self.new ≡ record self.old { blocks = self.new.blocks; goes_on = false } }
+    {
+        self.blocks.clear();
+        self.goes_on = false;
+    }
+
+    // The next placing goes into this block: gives its writes.
+    fn tell(&mut self, block: BlockId) -> Vec<Write<A>, A>
+        requires idle { self.old.writing ≡ None }
+        requires some { self.old.blocks.items ≢ [] }
+        ensures told { (m : Meaning K V P) (s : Settings) (own : Option ℕ) (it : plainly.Batch Content)
+            → IsBatchAs m s own self.old it → block < s.blocks → IsTold m s block result.items self.new it }
+    {
+        self.goes_on = false;
+        let Some(placed) = self.blocks.pop_front() else {
+            unreachable!()
+        };
+        let Placed {
+            writes,
+            offset,
+            records,
+        } = placed;
+        let left = writes.len();
+        if left == 0 {
+            return writes;
+        }
+        self.put_writing(Writing {
+            block,
+            left,
+            offset,
+            records,
+        });
+        writes
     }
 }
 
@@ -175,47 +351,32 @@ impl<K, V, P, A: Allocator + Clone> Flusher<K, V, P, A> {
         ensures clean_kept { OnErr result (clean.new ≡ clean.old) }
         ensures blocks_kept { OnErr result (blocks.new ≡ blocks.old) }
         ensures waiting_kept { OnErr result (waiting.new.items ≡ waiting.old.items) }
+        ensures done { IfOk result (λ next. (m : Meaning K V P) (s : Settings) (sound : IsSound s)
+            (it : State Content) (slots : IndexMap)
+            → StandsAt m s number it (seen self.old) slots blocks.old.items clean.old.items waiting.old.items
+            → IsDone m s sound (plain.FlushBlock number) number it (told_next next)
+            (seen self.new) slots blocks.new.items clean.new.items waiting.new.items) }
     {
         waiting.reserve(1)?;
         let Some(batch) = &mut self.batch else {
             unreachable!()
         };
-        let own = if batch.goes_on { self.own } else { None };
-        let block = match own {
-            Some(block) => block,
-            None => {
-                release(&mut self.own, blocks);
-                match hand_out(clean, blocks, number) {
-                    Some(block) => block,
-                    None => {
-                        if !waiting.contains(&number) {
-                            waiting.push_reserved(number);
-                        }
-                        return Ok(Next::NoBlock);
-                    }
-                }
-            }
-        };
-        self.own = Some(block);
-        waiting.retain(|waiter| *waiter != number);
-        batch.goes_on = false;
-        let Some(placed) = batch.blocks.pop_front() else {
-            unreachable!()
-        };
-        let Placed {
-            writes,
-            offset,
-            records,
-        } = placed;
-        if !writes.is_empty() {
-            batch.writing = Some(Writing {
-                block,
-                left: writes.len(),
-                offset,
-                records,
-            });
+        if let Some(block) = batch.goes_on_with(self.own) {
+            end_to_wait(waiting, number);
+            return Ok(Next::Block(block, batch.tell(block)));
         }
-        Ok(Next::Block(block, writes))
+        release(&mut self.own, blocks);
+        match hand_out(clean, blocks, number) {
+            None => {
+                begin_to_wait(waiting, number);
+                Ok(Next::NoBlock)
+            }
+            Some(block) => {
+                self.own = Some(block);
+                end_to_wait(waiting, number);
+                Ok(Next::Block(block, batch.tell(block)))
+            }
+        }
     }
 
     /// Whether a told write is to be reported.
@@ -239,41 +400,57 @@ impl<K, V, P, A: Allocator + Clone> Flusher<K, V, P, A> {
         first_offset: usize,
     ) -> Wrote
         requires { IsWriting self.old }
+        ensures done { (m : Meaning K V P) (s : Settings) (sound : IsSound s) (f : ℕ) (it : State Content)
+            (ids waiters : List ℕ) → first_offset ≡ s.blob_index_size
+            → StandsAt m s f it (seen self.old) index.old blocks.old.items ids waiters
+            → IsDone m s sound (plain.FlushWrote f is_done) f it (told_wrote result)
+            (seen self.new) index.new blocks.new.items ids waiters }
     {
         let Some(batch) = &mut self.batch else {
             unreachable!()
         };
-        let Some(writing) = batch.writing.take() else {
+        let Some(writing) = batch.take_writing() else {
             unreachable!()
         };
+        if !is_done {
+            return self.fail(blocks, first_offset);
+        }
         let Writing {
             block,
             left,
             offset,
-            mut records,
+            records,
         } = writing;
-        if is_done {
-            if left > 1 {
-                batch.writing = Some(Writing {
-                    block,
-                    left: left - 1,
-                    offset,
-                    records,
-                });
-                return Wrote::Next;
-            }
-            let filling = match blocks.get(block as usize) {
-                Some(state) => state.filling,
-                None => 0,
-            };
-            settle(&mut records, block, filling, offset);
-            let count = records.len();
-            if index.insert_batch(records).is_ok() {
-                return Wrote::Committed(count);
-            }
+        if left > 1 {
+            batch.put_writing(Writing {
+                block,
+                left: left - 1,
+                offset,
+                records,
+            });
+            return Wrote::Next;
         }
-        batch.blocks.clear();
-        batch.goes_on = false;
+        match commit(records, block, filling_of(blocks, block), offset, index) {
+            Some(count) => Wrote::Committed(count),
+            None => self.fail(blocks, first_offset),
+        }
+    }
+
+    // Nothing of the batch's rest is written, and the block isn't written again in this filling.
+    fn fail(&mut self, blocks: &mut Vec<BlockState, A>, first_offset: usize) -> Wrote
+        requires { IsSomeAnd self.old.batch (λ batch. batch.writing ≡ None) }
+        ensures failed { result ≡ wrote.Failed }
+        ensures left { (m : Meaning K V P) (s : Settings) (it : plainly.Flusher Content) (batch : plainly.Batch Content)
+            → first_offset ≡ s.blob_index_size → IsFlusherAs m s (seen self.old) it → it.batch ≡ Some batch
+            → IsFlusherAs m s (seen self.new) (failed_batch first_offset it batch) }
+        ensures released { (s : Settings) (places : ℕ → plainly.Place) (fillings : ℕ → ℕ) (stats : ℕ → plainly.Stats)
+            → AreBlocksAs s blocks.old.items places fillings stats
+            → AreBlocksAs s blocks.new.items (released self.old.own places) fillings stats }
+    {
+        let Some(batch) = &mut self.batch else {
+            unreachable!()
+        };
+        batch.drop_rest();
         release(&mut self.own, blocks);
         self.next_offset = first_offset;
         Wrote::Failed
@@ -289,29 +466,34 @@ impl<K, V, P, A: Allocator + Clone> Flusher<K, V, P, A> {
         }
     }
 
-    /// Ends the batch, and gives back what it has. Takes no memory.
-    pub(crate) fn end(&mut self) -> Ended<K, V, P, A>
+    /// Ends the batch: its marks leave the index, and what it has is given back. Takes no memory.
+    pub(crate) fn end(
+        &mut self,
+        index: &mut Indexer<A>,
+        blocks: &mut Vec<BlockState, A>,
+    ) -> Ended<K, V, P, A>
         requires { IsWritten self.old }
-        ensures { self.new.batch ≡ None }
+        ensures ended { self.new.batch ≡ None }
+        ensures done { (m : Meaning K V P) (s : Settings) (sound : IsSound s) (f : ℕ) (it : State Content)
+            (ids waiters : List ℕ)
+            → StandsAt m s f it (seen self.old) index.old blocks.old.items ids waiters
+            → IsDone m s sound (plain.FlushEnd f) f it (told_ended m result)
+            (seen self.new) index.new blocks.new.items ids waiters }
     {
-        match self.batch.take() {
-            None => unreachable!(),
-            Some(
-                Batch {
-                    blocks: _,
-                    goes_on: _,
-                    writing: _,
-                    marks,
-                    invalid,
-                    pieces,
-                    waits,
-                },
-            ) => Ended {
-                marks,
-                invalid,
-                pieces,
-                waits,
-            },
-        }
+        let Some(batch) = self.batch.take() else {
+            unreachable!()
+        };
+        let Batch {
+            blocks: _,
+            goes_on: _,
+            writing: _,
+            marks,
+            invalid,
+            pieces,
+            waits,
+        } = batch;
+        index.remove_marks(marks.as_slice());
+        invalidate_all(blocks, invalid.as_slice());
+        Ended { pieces, waits }
     }
 }

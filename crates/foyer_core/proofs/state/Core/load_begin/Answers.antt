@@ -11,7 +11,7 @@ use Rattle.foyer_core.specs.Asked.{address_of, ticket_of}
 use Rattle.foyer_core.specs.Meets.{machine}
 use Rattle.foyer_core.specs.Standing.{slot_of, IsBlockAs, IsIndexedAs}
 use Rattle.foyer_core.specs.declared.step.Ticket.{Ticket}
-use Rattle.foyer_core.proofs.BlockLemmas.{blocks_set, more_accessed}
+use Rattle.foyer_core.proofs.AccessLemmas.{blocks_set, more_accessed}
 use Rattle.foyer_core.proofs.SlotLemmas.{held_address, index_removed, without_itself}
 use Rattle.foyer_core.proofs.state.Core.load_begin.Goals as goal
 

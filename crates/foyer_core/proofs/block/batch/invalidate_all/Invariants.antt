@@ -1,0 +1,15 @@
+use Rattle.std.proofs.Common.{◌≡◌, ℕ, map, drop}
+use Rattle.foyer_model.specs.Flush.{all_spoiled}
+use Rattle.foyer_model.specs.State as plainly
+use Rattle.foyer_core.specs.Flushing.{spoil_of}
+use Rattle.foyer_core.specs.Standing.{AreBlocksAs}
+use Rattle.foyer_core.specs.declared.settings.Settings.{Settings}
+use Rattle.foyer_core.proofs.block.batch.invalidate_all.Given as goal
+
+-- what is left to be counted comes onto what stands
+abbrev pub invariant-loop-stats : goal.invariant-loop-stats
+invariant-loop-stats g l =
+    (s : Settings) (places : ℕ → plainly.Place) (fillings : ℕ → ℕ) (stats : ℕ → plainly.Stats)
+    → AreBlocksAs s l.fn.blocks.items places fillings stats
+    → (now : ℕ → plainly.Stats) × AreBlocksAs s l.blocks.items places fillings now
+    × (all_spoiled (map spoil_of (drop l.stats-index l.invalid)) now ≡ all_spoiled (map spoil_of l.invalid) stats)

@@ -1,0 +1,23 @@
+use Rattle.std.proofs.Common.{◌≡◌, ◌<◌, ◌≤◌, length, slice_set, Option, Some, ℕ, sym, subst, refl, arith}
+use Rattle.foyer_model.specs.Flush.{released}
+use Rattle.foyer_core.specs.Standing.{AreBlocksAs}
+use Rattle.foyer_core.specs.declared.state.Place.TheVariants as place
+use Rattle.foyer_core.proofs.BlockLemmas.{block_left, no_block_left, past_end}
+use Rattle.foyer_core.proofs.block.batch.release.Goals as goal
+
+pub returns-in-Some-get_mut-clause-released : goal.returns-in-Some-get_mut-clause-released
+returns-in-Some-get_mut-clause-released g c = λ s places fillings stats are.
+    let blocks = c.args.blocks.now in
+    let own : c.args.own.now ≡ Some c.in-Some.block = cc in
+    let lt : c.in-Some.block < length blocks.items = omega (arith, blocks.ok.0, c.in-Some-get_mut.ensures.variant.0 refl) in
+    subst (λ o. AreBlocksAs s (slice_set blocks.items c.in-Some.block (record c.in-Some-get_mut.state.now { place = place.Evictable })) (released o places) fillings stats) (sym own)
+        (block_left s blocks.items places fillings stats are c.in-Some.block c.in-Some-get_mut.state.now lt c.in-Some-get_mut.ensures.value)
+
+pub returns-in_default-get_mut-clause-released : goal.returns-in_default-get_mut-clause-released
+returns-in_default-get_mut-clause-released g c = λ s places fillings stats are.
+    let blocks = c.args.blocks.now in
+    let own : c.args.own.now ≡ Some c.in-Some.block = cc in
+    let out = past_end c.in-Some.block blocks.len c.in_default-get_mut.ensures.variant.1 in
+    let le : length blocks.items ≤ c.in-Some.block = omega (arith, blocks.ok.0, out) in
+    subst (λ o. AreBlocksAs s blocks.items (released o places) fillings stats) (sym own)
+        (no_block_left s blocks.items places fillings stats are c.in-Some.block le)

@@ -1,0 +1,101 @@
+use Rattle.std.proofs.Common.{◌≡◌, ◌<◌, length, map, refl, ap, subst, arith}
+use Rattle.std.proofs.lemmas.Bool.{false≢true}
+use Rattle.foyer_model.specs.Numbers.{last_number}
+use Rattle.foyer_model.specs.Reply as replies
+use Rattle.foyer_model.specs.Step as steps
+use Rattle.foyer_core.specs.Batches.{IsDone, told_next}
+use Rattle.foyer_core.specs.Replied.{write_of}
+use Rattle.foyer_core.specs.Unchanged.{seen}
+use Rattle.foyer_core.proofs.FlushTurns.{stands_at, flusher_there, core_stands, has_block, wants_block, not_now, would_answer}
+use Rattle.foyer_core.proofs.FlusherLists.{same_seen}
+use Rattle.foyer_core.proofs.StateLemmas.{unchanged_stands}
+use Rattle.foyer_core.specs.declared.block.batch.Next.{Next}
+use Rattle.foyer_core.specs.declared.step.Step.TheVariants as step
+use Rattle.foyer_core.proofs.state.Core.flush_block.Goals as goal
+
+pub returns-then-not-has_block-clause-meets : goal.returns-then-not-has_block-clause-meets
+returns-then-not-has_block-clause-meets g c = λ m s sound it stands few.
+    let core = c.args.self.now in
+    let f = c.args.flusher in
+    let found = c.index_mut-found.result.now in
+    let within : f < length core.flushers.items = omega (arith, c.len.ensures, c.if-flusher-len.false) in
+    let at = stands_at m s core it f found stands within c.index_mut-found.ensures.value in
+    not_now m s sound core _ it (step.FlushBlock f)
+        (record {
+          index = refl;
+          next = refl;
+          steps = refl;
+          closed = refl;
+          queued = refl;
+          settings = refl;
+          flushers = same_seen core.flushers.items f found found c.index_mut-found.ensures.value refl;
+          blocks = refl;
+          clean = refl;
+          waiting = refl;
+        }) stands few (λ d. d)
+        (λ turn. false≢true (c.if-not-has_block.ensures.1 (wants_block m s found.own found.batch (it.flushers f).batch (at.flusher).batch turn.1)))
+
+pub returns-in-Err-clause-meets : goal.returns-in-Err-clause-meets
+returns-in-Err-clause-meets g c = λ m s sound it stands few.
+    let core = c.args.self.now in
+    let f = c.args.flusher in
+    let found = c.index_mut-found.result.now in
+    let within : f < length core.flushers.items = omega (arith, c.len.ensures, c.if-flusher-len.false) in
+    let at = stands_at m s core it f found stands within c.index_mut-found.ensures.value in
+    let counted : it.steps ≡ core.steps = stands.steps in
+    let early : it.steps < last_number = omega arith in
+    let blocks : c.next.new.blocks.items ≡ core.blocks.items = cc c.in-Err.ensures.blocks_kept in
+    let clean : c.next.new.clean.items ≡ core.clean.items = cc c.in-Err.ensures.clean_kept in
+    record {
+      after = it;
+      it = replies.Refused replies.Memory (steps.FlushBlock f);
+      stands = unchanged_stands m s core _ it (record {
+        index = refl;
+        next = refl;
+        steps = refl;
+        closed = refl;
+        queued = refl;
+        settings = refl;
+        flushers = same_seen core.flushers.items f found c.next.new.self c.index_mut-found.ensures.value (ap seen c.in-Err.ensures.refused);
+        blocks = blocks;
+        clean = clean;
+        waiting = c.in-Err.ensures.waiting_kept;
+      }) stands;
+      reply = (replies.Memory, refl, refl);
+      turns = (refl, (early, ((flusher_there m s core it f stands within, has_block m s found.own found.batch (it.flushers f).batch (at.flusher).batch (c.if-not-has_block.ensures.0 refl)),
+        would_answer m s sound it f found core.index core.blocks.items core.clean.items core.waiting.items at (c.if-not-has_block.ensures.0 refl))), refl);
+    }
+
+pub returns-in-Ok-NoBlock-clause-meets : goal.returns-in-Ok-NoBlock-clause-meets
+returns-in-Ok-NoBlock-clause-meets g c = λ m s sound it stands few.
+    let core = c.args.self.now in
+    let f = c.args.flusher in
+    let found = c.index_mut-found.result.now in
+    let within : f < length core.flushers.items = omega (arith, c.len.ensures, c.if-flusher-len.false) in
+    let at = stands_at m s core it f found stands within c.index_mut-found.ensures.value in
+    let done = subst (λ (n : Next g.row.A.Denot). IsDone m s sound (steps.FlushBlock f) f it (told_next n) (seen c.next.new.self) core.index c.next.new.blocks.items
+        c.next.new.clean.items c.next.new.waiting.items) c.in-Ok-NoBlock.field-0-is (c.in-Ok-NoBlock.ensures.done m s sound it core.index at) in
+    record {
+      after = done.after;
+      it = replies.NoBlock;
+      stands = core_stands m s sound core _ it f c.next.new.self _ _ stands within done refl refl refl refl refl refl;
+      reply = refl;
+      turns = ((flusher_there m s core it f stands within, has_block m s found.own found.batch (it.flushers f).batch (at.flusher).batch (c.if-not-has_block.ensures.0 refl)), done.does);
+    }
+
+pub returns-in-Ok-Block-clause-meets : goal.returns-in-Ok-Block-clause-meets
+returns-in-Ok-Block-clause-meets g c = λ m s sound it stands few.
+    let core = c.args.self.now in
+    let f = c.args.flusher in
+    let found = c.index_mut-found.result.now in
+    let within : f < length core.flushers.items = omega (arith, c.len.ensures, c.if-flusher-len.false) in
+    let at = stands_at m s core it f found stands within c.index_mut-found.ensures.value in
+    let done = subst (λ (n : Next g.row.A.Denot). IsDone m s sound (steps.FlushBlock f) f it (told_next n) (seen c.next.new.self) core.index c.next.new.blocks.items
+        c.next.new.clean.items c.next.new.waiting.items) c.in-Ok-Block.field-0-is (c.in-Ok-Block.ensures.done m s sound it core.index at) in
+    record {
+      after = done.after;
+      it = replies.Written c.in-Ok-Block.block (map write_of c.in-Ok-Block.writes.items);
+      stands = core_stands m s sound core _ it f c.next.new.self _ _ stands within done refl refl refl refl refl refl;
+      reply = refl;
+      turns = ((flusher_there m s core it f stands within, has_block m s found.own found.batch (it.flushers f).batch (at.flusher).batch (c.if-not-has_block.ensures.0 refl)), done.does);
+    }

@@ -1,0 +1,46 @@
+use Rattle.std.proofs.Common.{◌≡◌, ◌<◌, length, map, refl, arith}
+use Rattle.std.proofs.lemmas.Bool.{false≢true}
+use Rattle.foyer_model.specs.Reply as replies
+use Rattle.foyer_core.specs.Content.{content_of}
+use Rattle.foyer_core.proofs.FlushTurns.{stands_at, flusher_there, core_stands, is_written, was_written, not_now}
+use Rattle.foyer_core.proofs.FlusherLists.{same_seen}
+use Rattle.foyer_core.specs.declared.step.Step.TheVariants as step
+use Rattle.foyer_core.proofs.state.Core.flush_end.Goals as goal
+
+pub returns-then-not-is_written-clause-meets : goal.returns-then-not-is_written-clause-meets
+returns-then-not-is_written-clause-meets g c = λ m s sound it stands few.
+    let core = c.args.self.now in
+    let f = c.args.flusher in
+    let found = c.index_mut-found.result.now in
+    let within : f < length core.flushers.items = omega (arith, c.len.ensures, c.if-flusher-len.false) in
+    let at = stands_at m s core it f found stands within c.index_mut-found.ensures.value in
+    not_now m s sound core _ it (step.FlushEnd f)
+        (record {
+          index = refl;
+          next = refl;
+          steps = refl;
+          closed = refl;
+          queued = refl;
+          settings = refl;
+          flushers = same_seen core.flushers.items f found found c.index_mut-found.ensures.value refl;
+          blocks = refl;
+          clean = refl;
+          waiting = refl;
+        }) stands few (λ d. d)
+        (λ turn. false≢true (c.if-not-is_written.ensures.1 (was_written m s found.own found.batch (it.flushers f).batch (at.flusher).batch turn.1)))
+
+pub returns-clause-meets : goal.returns-clause-meets
+returns-clause-meets g c = λ m s sound it stands few.
+    let core = c.args.self.now in
+    let f = c.args.flusher in
+    let found = c.index_mut-found.result.now in
+    let within : f < length core.flushers.items = omega (arith, c.len.ensures, c.if-flusher-len.false) in
+    let at = stands_at m s core it f found stands within c.index_mut-found.ensures.value in
+    let done = c.end-pieces.ensures.done m s sound f it core.clean.items core.waiting.items at in
+    record {
+      after = done.after;
+      it = replies.Ended (map (content_of m) c.end-pieces.result.pieces.items) c.end-pieces.result.waits.items;
+      stands = core_stands m s sound core _ it f c.end-pieces.new.self _ _ stands within done refl refl refl refl refl refl;
+      reply = refl;
+      turns = ((flusher_there m s core it f stands within, is_written m s found.own found.batch (it.flushers f).batch (at.flusher).batch (c.if-not-is_written.ensures.0 refl)), done.does);
+    }

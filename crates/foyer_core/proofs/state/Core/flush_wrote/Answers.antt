@@ -1,0 +1,90 @@
+use Rattle.std.proofs.Common.{◌≡◌, ◌<◌, Bool, length, refl, ap, subst, ◌∙◌, arith}
+use Rattle.std.proofs.lemmas.Bool.{false≢true}
+use Rattle.foyer_model.specs.Reply as replies
+use Rattle.foyer_model.specs.Step as steps
+use Rattle.foyer_core.specs.Asked.{went_well}
+use Rattle.foyer_core.specs.Batches.{IsDone}
+use Rattle.foyer_core.specs.Unchanged.{seen}
+use Rattle.foyer_core.proofs.FlushTurns.{stands_at, flusher_there, core_stands, is_writing, must_write, not_now, went_is}
+use Rattle.foyer_core.proofs.FlusherLists.{same_seen}
+use Rattle.foyer_core.specs.declared.step.Step.TheVariants as step
+use Rattle.foyer_core.proofs.state.Core.flush_wrote.Goals as goal
+
+pub returns-then-not-is_writing-clause-meets : goal.returns-then-not-is_writing-clause-meets
+returns-then-not-is_writing-clause-meets g c = λ m s sound it stands few.
+    let core = c.args.self.now in
+    let f = c.args.flusher in
+    let found = c.index_mut-found.result.now in
+    let within : f < length core.flushers.items = omega (arith, c.len.ensures, c.if-flusher-len.false) in
+    let at = stands_at m s core it f found stands within c.index_mut-found.ensures.value in
+    not_now m s sound core _ it (step.FlushWrote f c.args.outcome)
+        (record {
+          index = refl;
+          next = refl;
+          steps = refl;
+          closed = refl;
+          queued = refl;
+          settings = refl;
+          flushers = same_seen core.flushers.items f found found c.index_mut-found.ensures.value refl;
+          blocks = refl;
+          clean = refl;
+          waiting = refl;
+        }) stands few (λ d. d)
+        (λ turn. false≢true (c.if-not-is_writing.ensures.1 (must_write m s found.own found.batch (it.flushers f).batch (at.flusher).batch turn.1)))
+
+pub returns-in-Next-clause-meets : goal.returns-in-Next-clause-meets
+returns-in-Next-clause-meets g c = λ m s sound it stands few.
+    let core = c.args.self.now in
+    let f = c.args.flusher in
+    let found = c.index_mut-found.result.now in
+    let within : f < length core.flushers.items = omega (arith, c.len.ensures, c.if-flusher-len.false) in
+    let at = stands_at m s core it f found stands within c.index_mut-found.ensures.value in
+    let size : core.settings.blob_index_size ≡ s.blob_index_size = ap (λ t. t.blob_index_size) stands.sizes in
+    let ok : c.is_ok.result ≡ went_well c.args.outcome = c.is_ok.ensures.value ∙ went_is c.args.outcome in
+    let done = subst (λ (b : Bool). IsDone m s sound (steps.FlushWrote f b) f it replies.Next (seen c.wrote.new.self) c.wrote.new.index c.wrote.new.blocks.items
+        core.clean.items core.waiting.items) ok (c.in-Next.ensures.done m s sound f it core.clean.items core.waiting.items size at) in
+    record {
+      after = done.after;
+      it = replies.Next;
+      stands = core_stands m s sound core _ it f c.wrote.new.self _ _ stands within done refl refl refl refl refl refl;
+      reply = refl;
+      turns = ((flusher_there m s core it f stands within, is_writing m s found.own found.batch (it.flushers f).batch (at.flusher).batch (c.if-not-is_writing.ensures.0 refl)), done.does);
+    }
+
+pub returns-in-Committed-clause-meets : goal.returns-in-Committed-clause-meets
+returns-in-Committed-clause-meets g c = λ m s sound it stands few.
+    let core = c.args.self.now in
+    let f = c.args.flusher in
+    let found = c.index_mut-found.result.now in
+    let within : f < length core.flushers.items = omega (arith, c.len.ensures, c.if-flusher-len.false) in
+    let at = stands_at m s core it f found stands within c.index_mut-found.ensures.value in
+    let size : core.settings.blob_index_size ≡ s.blob_index_size = ap (λ t. t.blob_index_size) stands.sizes in
+    let ok : c.is_ok.result ≡ went_well c.args.outcome = c.is_ok.ensures.value ∙ went_is c.args.outcome in
+    let done = subst (λ (b : Bool). IsDone m s sound (steps.FlushWrote f b) f it (replies.Committed c.in-Committed.count) (seen c.wrote.new.self) c.wrote.new.index c.wrote.new.blocks.items
+        core.clean.items core.waiting.items) ok (c.in-Committed.ensures.done m s sound f it core.clean.items core.waiting.items size at) in
+    record {
+      after = done.after;
+      it = replies.Committed c.in-Committed.count;
+      stands = core_stands m s sound core _ it f c.wrote.new.self _ _ stands within done refl refl refl refl refl refl;
+      reply = refl;
+      turns = ((flusher_there m s core it f stands within, is_writing m s found.own found.batch (it.flushers f).batch (at.flusher).batch (c.if-not-is_writing.ensures.0 refl)), done.does);
+    }
+
+pub returns-in-Failed-clause-meets : goal.returns-in-Failed-clause-meets
+returns-in-Failed-clause-meets g c = λ m s sound it stands few.
+    let core = c.args.self.now in
+    let f = c.args.flusher in
+    let found = c.index_mut-found.result.now in
+    let within : f < length core.flushers.items = omega (arith, c.len.ensures, c.if-flusher-len.false) in
+    let at = stands_at m s core it f found stands within c.index_mut-found.ensures.value in
+    let size : core.settings.blob_index_size ≡ s.blob_index_size = ap (λ t. t.blob_index_size) stands.sizes in
+    let ok : c.is_ok.result ≡ went_well c.args.outcome = c.is_ok.ensures.value ∙ went_is c.args.outcome in
+    let done = subst (λ (b : Bool). IsDone m s sound (steps.FlushWrote f b) f it replies.Failed (seen c.wrote.new.self) c.wrote.new.index c.wrote.new.blocks.items
+        core.clean.items core.waiting.items) ok (c.in-Failed.ensures.done m s sound f it core.clean.items core.waiting.items size at) in
+    record {
+      after = done.after;
+      it = replies.Failed;
+      stands = core_stands m s sound core _ it f c.wrote.new.self _ _ stands within done refl refl refl refl refl refl;
+      reply = refl;
+      turns = ((flusher_there m s core it f stands within, is_writing m s found.own found.batch (it.flushers f).batch (at.flusher).batch (c.if-not-is_writing.ensures.0 refl)), done.does);
+    }

@@ -1,0 +1,97 @@
+-- What a step of a flush works on, and what it leaves.
+use Rattle.std.specs.Prelude.{◌≡◌, ℕ, ◌+◌, ◌-◌, ◌^◌, min, false, List, [], ◌∷◌, map, Some, None}
+use Rattle.foyer_block.specs.Index.{IndexMap}
+use Rattle.foyer_block.specs.declared.indexer.HashedEntryAddress.{HashedEntryAddress}
+use Rattle.foyer_model.specs.Does.{Does}
+use Rattle.foyer_model.specs.Filling.{Spread, records_in}
+use Rattle.foyer_model.specs.Flush.{writing_of}
+use Rattle.foyer_model.specs.Numbers.{put}
+use Rattle.foyer_model.specs.Reply as replies
+use Rattle.foyer_model.specs.State as plainly
+use Rattle.foyer_model.specs.Step as plain
+use Rattle.foyer_core.specs.Content.{Content, Meaning, content_of}
+use Rattle.foyer_core.specs.Flushing.{IsFlusherAs, IsBatchAs, filled_to}
+use Rattle.foyer_core.specs.InOneBlock.{IsInOneBlock, all_writes}
+use Rattle.foyer_core.specs.Meets.{machine}
+use Rattle.foyer_core.specs.Replied.{write_of}
+use Rattle.foyer_core.specs.Sizes.{IsSound}
+use Rattle.foyer_core.specs.Standing.{IsIndexedAs, AreBlocksAs, AreCleanAs}
+use Rattle.foyer_core.specs.Unchanged.{Seen}
+use Rattle.foyer_core.specs.declared.block.batch.Next.{Next}
+use Rattle.foyer_core.specs.declared.block.batch.Next.TheVariants as next
+use Rattle.foyer_core.specs.declared.block.batch.Wrote.{Wrote}
+use Rattle.foyer_core.specs.declared.block.batch.Wrote.TheVariants as wrote
+use Rattle.foyer_core.specs.declared.block.batch.Ended.{Ended}
+use Rattle.foyer_core.specs.declared.block.flusher.Batch.{Batch}
+use Rattle.foyer_core.specs.declared.reply.Write.{Write}
+use Rattle.foyer_core.specs.declared.settings.Settings.{Settings}
+use Rattle.foyer_core.specs.declared.state.BlockState.{BlockState}
+
+-- a flusher of a plain state, with what a flush changes beside it
+pub record StandsAt {K V P A : Type 0} (m : Meaning K V P) (s : Settings) (f : ℕ) (it : plainly.State Content)
+    (φ : Seen K V P A) (slots : IndexMap) (states : List BlockState) (ids waiters : List ℕ) : Type 0 where
+  pub flusher : IsFlusherAs m s φ (it.flushers f)
+  pub index : IsIndexedAs s slots it.index
+  pub blocks : AreBlocksAs s states it.place it.filling it.stats
+  pub clean : AreCleanAs s ids it.clean
+  pub waiting : it.waiting ≡ waiters
+  pub destroy : it.destroy ≡ plainly.NoDestroy
+
+-- The plain machine does this step with this reply, and leaves this flusher and these beside it, and the rest as it was.
+pub record IsDone {K V P A : Type 0} (m : Meaning K V P) (s : Settings) (sound : IsSound s) (given : plain.Step Content) (f : ℕ)
+    (old : plainly.State Content) (answer : replies.Reply Content)
+    (φ : Seen K V P A) (slots : IndexMap) (states : List BlockState) (ids waiters : List ℕ) : Type 0 where
+  pub after : plainly.State Content
+  pub does : Does (machine m s sound) (IsInOneBlock s.blob_index_size) old given answer after
+  pub flusher : plainly.Flusher Content
+  pub flushers : after.flushers ≡ put old.flushers f flusher
+  pub it : IsFlusherAs m s φ flusher
+  pub queue : flusher.queue ≡ (old.flushers f).queue
+  pub index : IsIndexedAs s slots after.index
+  pub blocks : AreBlocksAs s states after.place after.filling after.stats
+  pub clean : AreCleanAs s ids after.clean
+  pub waiting : after.waiting ≡ waiters
+  pub next : after.next ≡ old.next
+  pub steps : after.steps ≡ old.steps
+  pub closed : after.closed ≡ old.closed
+  pub reclaims : after.reclaims ≡ old.reclaims
+  pub destroy : after.destroy ≡ old.destroy
+
+-- the reply to the demand for a block
+abbrev pub told_next : {A : Type 0} → Next A → replies.Reply Content
+told_next next.NoBlock = replies.NoBlock
+told_next (next.Block block writes) = replies.Written block (map write_of writes.items)
+
+-- the reply to the report of a write
+abbrev pub told_wrote : Wrote → replies.Reply Content
+told_wrote wrote.Next = replies.Next
+told_wrote (wrote.Committed n) = replies.Committed n
+told_wrote wrote.Failed = replies.Failed
+
+-- the reply at a batch's end
+abbrev pub told_ended : {K V P A : Type 0} → Meaning K V P → Ended K V P A → replies.Reply Content
+told_ended m ended = replies.Ended (map (content_of m) ended.pieces.items) ended.waits.items
+
+-- the next block of a batch is told: its first placing leaves the batch, and is being written
+pub record IsTold {K V P A : Type 0} (m : Meaning K V P) (s : Settings) (b : ℕ) (written : List (Write A)) (batch : Batch K V P A)
+    (old : plainly.Batch Content) : Type 0 where
+  pub spread : Spread Content
+  pub rest : List (Spread Content)
+  pub first : old.blocks ≡ spread ∷ rest
+  pub writes : map write_of written ≡ all_writes spread.parts
+  pub it : IsBatchAs m s (Some b) batch
+      (record old { blocks = rest; goes_on = false; writing = writing_of b (all_writes spread.parts) (records_in spread.parts) })
+
+-- the record of a block, where a batch's data begin at an offset
+abbrev pub settled : (block filling offset : ℕ) → HashedEntryAddress → HashedEntryAddress
+settled block filling offset e =
+    record e { address = record e.address { block = block; filling = filling; offset = min (offset + e.address.offset) (2 ^ 32 - 1) } }
+
+-- a flusher whose batch failed: the rest is dropped, and its splitter is fresh
+abbrev pub failed_batch : ℕ → plainly.Flusher Content → plainly.Batch Content → plainly.Flusher Content
+failed_batch first it batch =
+    record it {
+      own = None;
+      context = filled_to first;
+      batch = Some (record batch { blocks = []; goes_on = false; writing = None });
+    }
