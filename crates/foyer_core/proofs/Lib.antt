@@ -8,7 +8,9 @@ pub mod FlushLemmas
 pub mod FlushTurns
 pub mod FlusherLists
 pub mod IndexLemmas
+pub mod LawLemmas
 pub mod LoadLemmas
+pub mod MetLemmas
 pub mod NextLemmas
 pub mod OpenedLemmas
 pub mod Opening

@@ -18,10 +18,31 @@ use Rattle.foyer_core.specs.Replied.{IsReply}
 use Rattle.foyer_core.specs.Sizes.{IsSound}
 use Rattle.foyer_core.specs.Standing.{IsStateOf}
 use Rattle.foyer_core.specs.declared.reply.Reply.{Reply}
+use Rattle.foyer_core.specs.declared.reply.Reply.TheVariants as reply
 use Rattle.foyer_core.specs.declared.settings.Settings.{Settings}
 use Rattle.foyer_core.specs.declared.state.Core.{Core}
 use Rattle.foyer_core.specs.declared.step.Step.{Step}
+use Rattle.foyer_core.specs.declared.step.Step.TheVariants as step
 use Rattle.foyer_core.specs.declared.step.Ticket.{Ticket}
+
+-- The steps that are built: reclaims, destroys and a log come later.
+abbrev pub IsBuilt : {K V P A : Type 0} → Step K V P A → Type 0
+IsBuilt (step.LogWrote flusher outcome) = ⊥
+IsBuilt step.ReclaimBegin = ⊥
+IsBuilt (step.ReclaimRead block outcome) = ⊥
+IsBuilt (step.ReclaimForget block) = ⊥
+IsBuilt (step.ReclaimCleaned block outcome) = ⊥
+IsBuilt step.ReclaimIdle = ⊥
+IsBuilt step.DestroyBegin = ⊥
+IsBuilt step.DestroyClear = ⊥
+IsBuilt (step.DestroyCleaned block outcome) = ⊥
+IsBuilt given = Unit {0}
+
+-- the step comes back, out of turn or refused
+abbrev pub IsHandedBack : {K V P A : Type 0} → Reply K V P A → Type 0
+IsHandedBack (reply.NotNow back) = Unit {0}
+IsHandedBack (reply.Refused why back) = Unit {0}
+IsHandedBack answer = ⊥
 
 -- The relation of the plain machine, but for the count of steps.
 abbrev pub Turns : {C : Type 0} → Rules C → Splitting C → State C → plain.Step C → replies.Reply C → State C → Type 0

@@ -1,5 +1,8 @@
 //! The one call that changes the core.
+ghost use Rattle.std.specs.Prelude.{MatchBool};
 ghost use Rattle.foyer_core.specs.Answered.{HandsBack, Tells};
+ghost use Rattle.foyer_core.specs.Content.{meaning};
+ghost use Rattle.foyer_core.specs.Meets.{IsBuilt, IsHandedBack, Turned, Meets};
 
 use crate::reply::Reply;
 use crate::state::Core;
@@ -11,6 +14,17 @@ use std::alloc::Allocator;
 /// What the core's callers lend it at each step: pickers, conditions and a generator will be here.
 #[derive(Debug, Drop)]
 pub struct Env {}
+
+// Whether a step came back, out of turn or refused.
+fn is_handed_back<K, V, P, A: Allocator>(reply: &Reply<K, V, P, A>) -> bool
+    ensures { MatchBool result (IsHandedBack reply.now) (IsHandedBack reply.now → ⊥) }
+{
+    match reply {
+        Reply::NotNow(_) => true,
+        Reply::Refused(_, _) => true,
+        _ => false,
+    }
+}
 
 impl<K, V, P, A> Core<K, V, P, A>
 where
@@ -27,17 +41,20 @@ where
         ensures back { HandsBack step result self.old self.new }
         ensures told { Tells K.is_spelling V.is_spelling K.spelling V.spelling
             step result self.old self.new }
+        ensures meets { IsBuilt step → Meets
+            (meaning K.spelling V.spelling K.encodes V.encodes K.is_spelling V.is_spelling P.age)
+            step result self.old self.new }
+        ensures later { (IsBuilt step → ⊥) → IsHandedBack result }
     {
         if self.steps == u64::MAX {
             return Reply::Refused(ErrorKind::SequenceEnd, step);
         }
         let steps = self.steps + 1;
         let reply = self.dispatch(step);
-        match &reply {
-            Reply::NotNow(_) => {}
-            Reply::Refused(_, _) => {}
-            _ => self.steps = steps,
+        if is_handed_back(&reply) {
+            return reply;
         }
+        self.steps = steps;
         reply
     }
 
@@ -46,6 +63,10 @@ where
         ensures back { HandsBack step result self.old self.new }
         ensures told { Tells K.is_spelling V.is_spelling K.spelling V.spelling
             step result self.old self.new }
+        ensures meets { IsBuilt step → Turned
+            (meaning K.spelling V.spelling K.encodes V.encodes K.is_spelling V.is_spelling P.age)
+            step result self.old self.new }
+        ensures later { (IsBuilt step → ⊥) → IsHandedBack result }
     {
         match step {
             Step::Enqueue { piece, size } => self.enqueue(piece, size),

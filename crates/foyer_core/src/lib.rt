@@ -9,6 +9,7 @@ pub mod apply;
 pub mod block;
 pub mod disk;
 mod flush;
+pub mod laws;
 mod load;
 pub mod memory;
 pub mod moves;

@@ -1,0 +1,33 @@
+-- The demands of the laws, for every code and all sizes.
+use Rattle.std.proofs.Common.{◌≡◌, ℕ, Bool, false, List, [], None}
+use Rattle.foyer_model.specs.Laws.{Demands}
+use Rattle.foyer_model.specs.Placing.{PlacesAll}
+use Rattle.foyer_core.specs.Content.{Meaning}
+use Rattle.foyer_core.specs.InOneBlock.{IsInOneBlock}
+use Rattle.foyer_core.specs.Plain.{rules_of, IsSpelled}
+use Rattle.foyer_core.specs.Sizes.{IsSound}
+use Rattle.foyer_core.specs.declared.settings.Settings.{Settings}
+use Rattle.foyer_core.proofs.PlacedLemmas.{keeps_records, places_all}
+use Rattle.foyer_core.proofs.TripLemmas.{round_trip}
+
+-- the demands don't depend on the types of keys and values
+abbrev any_meaning : (is_key is_value : List ℕ → Bool) → Meaning ℕ ℕ ℕ
+any_meaning is_key is_value = record {
+  key_of = λ k. [];
+  value_of = λ v. [];
+  is_encodable = λ k v. false;
+  is_key = is_key;
+  is_value = is_value;
+  age_of = λ p. None;
+}
+
+pub demands : (is_key is_value : List ℕ → Bool) (s : Settings) (sound : IsSound s)
+    → Demands (rules_of is_key is_value s sound) (IsInOneBlock s.blob_index_size) (IsSpelled is_key is_value)
+demands is_key is_value s sound = record {
+  trips = round_trip (any_meaning is_key is_value) s sound;
+  places = keeps_records (any_meaning is_key is_value) s sound;
+}
+
+pub places : (is_key is_value : List ℕ → Bool) (s : Settings) (sound : IsSound s)
+    → PlacesAll (rules_of is_key is_value s sound) (IsInOneBlock s.blob_index_size)
+places is_key is_value s sound = places_all (any_meaning is_key is_value) s sound
