@@ -84,7 +84,7 @@ module _ (s : Settings) (blocks : List BlockState) (places : ℕ → plainly.Pla
           let same : q ≡ b = eqb-true q b e in
           let at : slice_get (slice_set blocks b it) b ≡ Some x = subst (λ k. slice_get (slice_set blocks b it) k ≡ Some x) same is in
           subst (λ k. IsBlockAs x (places' k) (fillings' k) (stats' k)) (sym same)
-              (subst (λ y. IsBlockAs y (places' b) (fillings' b) (stats' b)) (some_is (sym (set_here blocks b it lt) ∙ at)) here)
+          (subst (λ y. IsBlockAs y (places' b) (fillings' b) (stats' b)) (some_is (sym (set_here blocks b it lt) ∙ at)) here)
       one q x is false e =
           let ne : q ≡ b → ⊥ = eqb-false q b e in
           let r : (places' q ≡ places q) × (fillings' q ≡ fillings q) × (stats' q ≡ stats q) = others q ne in
@@ -97,8 +97,8 @@ module _ (s : Settings) (blocks : List BlockState) (places : ℕ → plainly.Pla
   block_left b it lt is =
       let k : IsBlockAs it (places b) (fillings b) (stats b) = block_at b it lt is in
       blocks_set b (record it { place = place.Evictable }) (put places b plainly.Evictable) fillings stats lt
-          (record { place = put_same places b plainly.Evictable; filling = k.filling; stats = k.stats })
-          (λ q ne. (put_other places b plainly.Evictable q ne, refl, refl))
+      (record { place = put_same places b plainly.Evictable; filling = k.filling; stats = k.stats })
+      (λ q ne. (put_other places b plainly.Evictable q ne, refl, refl))
 
   -- a block that isn't there
   pub no_block_left : (b : ℕ) → length blocks ≤ b → AreBlocksAs s blocks (put places b plainly.Evictable) fillings stats
@@ -120,12 +120,12 @@ module _ (s : Settings) (blocks : List BlockState) (places : ℕ → plainly.Pla
   block_handed b f it lt is =
       let k : IsBlockAs it (places b) (fillings b) (stats b) = block_at b it lt is in
       blocks_set b (record it { place = place.Writing f; filling = it.filling + 1 }) (put places b (plainly.Writes f)) (put fillings b (fillings b + 1)) stats lt
-          (record {
-            place = put_same places b (plainly.Writes f);
-            filling = put_same fillings b (fillings b + 1) ∙ ap (λ n. n + 1) k.filling;
-            stats = k.stats;
-          })
-          (λ q ne. (put_other places b (plainly.Writes f) q ne, put_other fillings b (fillings b + 1) q ne, refl))
+      (record {
+        place = put_same places b (plainly.Writes f);
+        filling = put_same fillings b (fillings b + 1) ∙ ap (λ n. n + 1) k.filling;
+        stats = k.stats;
+      })
+      (λ q ne. (put_other places b (plainly.Writes f) q ne, put_other fillings b (fillings b + 1) q ne, refl))
 
   -- bytes of it became invalid
   pub block_spoiled : (b n size : ℕ) (it : BlockState) → b < length blocks → it ≡ slice_index_or blocks b it
@@ -136,13 +136,13 @@ module _ (s : Settings) (blocks : List BlockState) (places : ℕ → plainly.Pla
       let k : IsBlockAs it (places b) (fillings b) (stats b) = block_at b it lt is in
       let new : plainly.Stats = record (stats b) { invalid = plus (stats b).invalid size } in
       blocks_set b (record it { invalid = n }) places fillings (put stats b new) lt
-          (record {
-            place = k.place;
-            filling = k.filling;
-            stats = put_same stats b new ∙ ap (λ (t : plainly.Stats). record t { invalid = plus t.invalid size }) k.stats
-                ∙ ap (λ i. record { invalid = i; access = it.access; probation = it.probation }) (plus_is it.invalid size ∙ sym sum);
-          })
-          (λ q ne. (refl, refl, put_other stats b new q ne))
+      (record {
+        place = k.place;
+        filling = k.filling;
+        stats = put_same stats b new ∙ ap (λ (t : plainly.Stats). record t { invalid = plus t.invalid size }) k.stats
+            ∙ ap (λ i. record { invalid = i; access = it.access; probation = it.probation }) (plus_is it.invalid size ∙ sym sum);
+      })
+      (λ q ne. (refl, refl, put_other stats b new q ne))
 
   pub no_block_spoiled : (b : ℕ) (new : plainly.Stats) → length blocks ≤ b → AreBlocksAs s blocks places fillings (put stats b new)
   no_block_spoiled b new le = record {

@@ -106,7 +106,7 @@ module _ {K V P A : Type 0} (m : Meaning K V P) (s : Settings) where
       (writing_of b (all_writes spread.parts) (records_in spread.parts))
   told_some pieces x spread b n placed lt some count =
       subst (λ (z : Spread Content). AreWriting m s pieces (Some (record { block = b; left = n; offset = x.offset; records = x.records }))
-          (writing_of b (all_writes z.parts) (records_in z.parts))) (sym placed.is) (go placed.records placed.writes placed.are placed.within)
+      (writing_of b (all_writes z.parts) (records_in z.parts))) (sym placed.is) (go placed.records placed.writes placed.are placed.within)
     where
       go : (rs : List (plain.Record Content)) → map write_of x.writes.items ≡ all_writes (parts_of (filled_to x.offset) rs)
           → AreRecords m 0 x.records.items pieces rs → x.offset + bytes_taken page_up rs ≤ s.block_size
@@ -137,7 +137,7 @@ module _ {K V P A : Type 0} (m : Meaning K V P) (s : Settings) where
   tell own b batch left it x stands lt front writing is =
       let one = placed_one batch.pieces.items batch.blocks.items it.blocks stands.blocks x left.blocks.items front in
       let new : plainly.Batch Content =
-          record it { blocks = []; goes_on = false; writing = writing_of b (all_writes (one.0).parts) (records_in (one.0).parts) } in
+      record it { blocks = []; goes_on = false; writing = writing_of b (all_writes (one.0).parts) (records_in (one.0).parts) } in
       record {
         spread = one.0;
         rest = [];
@@ -162,9 +162,9 @@ module _ {K V P A : Type 0} (m : Meaning K V P) (s : Settings) where
       → IsTold m s b x.writes.items left it
   tells_nothing own b batch left it x stands lt front none is idle =
       tell own b batch left it x stands lt front
-          (λ pieces spread placed. subst (λ o. AreWriting m s pieces o (writing_of b (all_writes spread.parts) (records_in spread.parts))) (sym idle)
-              (subst (λ p. AreWriting {A = A} m s pieces None p) (sym (told_nothing pieces x spread b placed (no_items x.writes.items none))) tt))
-          is
+      (λ pieces spread placed. subst (λ o. AreWriting m s pieces o (writing_of b (all_writes spread.parts) (records_in spread.parts))) (sym idle)
+      (subst (λ p. AreWriting {A = A} m s pieces None p) (sym (told_nothing pieces x spread b placed (no_items x.writes.items none))) tt))
+      is
     where
       no_items : (ws : List (Write A)) → length ws ≡ 0 → ws ≡ []
       no_items [] e = refl
@@ -177,6 +177,6 @@ module _ {K V P A : Type 0} (m : Meaning K V P) (s : Settings) where
       → IsTold m s b x.writes.items left it
   tells_some own b n batch left it x stands lt front some count is writes =
       tell own b batch left it x stands lt front
-          (λ pieces spread placed. subst (λ o. AreWriting m s pieces o (writing_of b (all_writes spread.parts) (records_in spread.parts))) (sym writes)
-              (told_some pieces x spread b n placed lt (λ e. let zero : length x.writes.items ≡ 0 = ap length e in omega arith) count))
-          is
+      (λ pieces spread placed. subst (λ o. AreWriting m s pieces o (writing_of b (all_writes spread.parts) (records_in spread.parts))) (sym writes)
+      (told_some pieces x spread b n placed lt (λ e. let zero : length x.writes.items ≡ 0 = ap length e in omega arith) count))
+      is

@@ -63,12 +63,12 @@ module _ {K V P A : Type 0} (m : Meaning K V P) (s : Settings) where
   core_stands sound old new it f ψ given answer stands lt done items settings next counted closed queued =
       let there : f < s.flushers = flusher_there old it f stands lt in
       let put_is : AreFlushersAs m s (map seen new.flushers.items) (put it.flushers f done.flusher) =
-          subst (λ xs. AreFlushersAs m s (map seen xs) (put it.flushers f done.flusher)) (sym items)
-              (flusher_put m s old.flushers.items it.flushers f ψ done.flusher stands.flushers lt done.it) in
+      subst (λ xs. AreFlushersAs m s (map seen xs) (put it.flushers f done.flusher)) (sym items)
+      (flusher_put m s old.flushers.items it.flushers f ψ done.flusher stands.flushers lt done.it) in
       let same : size_in (done.flusher).queue ≡ size_in (it.flushers f).queue = ap size_in done.queue in
       let all : size_of_all s.flushers (put it.flushers f done.flusher) ≡ size_of_all s.flushers it.flushers =
-          let e : size_of_all s.flushers (put it.flushers f done.flusher) + size_in (it.flushers f).queue ≡ size_of_all s.flushers it.flushers + size_in (done.flusher).queue =
-              size_put s.flushers it.flushers f done.flusher there in omega arith in
+      let e : size_of_all s.flushers (put it.flushers f done.flusher) + size_in (it.flushers f).queue ≡ size_of_all s.flushers it.flushers + size_in (done.flusher).queue =
+      size_put s.flushers it.flushers f done.flusher there in omega arith in
       let after_all : size_of_all s.flushers (done.after).flushers ≡ size_of_all s.flushers it.flushers = ap (size_of_all s.flushers) done.flushers ∙ all in
       record {
         sizes = settings ∙ stands.sizes;
@@ -100,17 +100,19 @@ module _ {K V P A : Type 0} (m : Meaning K V P) (s : Settings) where
   -- what is in turn for a flusher, and for the plain one
   pub has_block : (own : Option ℕ) (o : Option (Batch K V P A)) (p : Option (plainly.Batch Content)) → AreBatched m s own o p
       → IsSomeAnd o (λ batch. (batch.writing ≡ None) × (batch.blocks.items ≢ [])) → model.WantsBlock p
-  has_block own (Some batch) (Some it) are has =
-      (λ none. has.1 (some_placed batch.pieces.items batch.blocks.items (subst (λ ss. ArePlacedAs m s batch.pieces.items batch.blocks.items ss) none are.blocks)),
-        none_written m s batch.pieces.items batch.writing it.writing are.writing has.0)
+  has_block own (Some batch) (Some it) are has = (
+    λ none. has.1 (some_placed batch.pieces.items batch.blocks.items (subst (λ ss. ArePlacedAs m s batch.pieces.items batch.blocks.items ss) none are.blocks)),
+    none_written m s batch.pieces.items batch.writing it.writing are.writing has.0,
+  )
   has_block own (Some batch) None are has = absurd are
   has_block own None p are has = absurd has
 
   pub wants_block : (own : Option ℕ) (o : Option (Batch K V P A)) (p : Option (plainly.Batch Content)) → AreBatched m s own o p
       → model.WantsBlock p → IsSomeAnd o (λ batch. (batch.writing ≡ None) × (batch.blocks.items ≢ []))
-  wants_block own (Some batch) (Some it) are wants =
-      (none_written_here batch.pieces.items batch.writing (subst (λ v. AreWriting m s batch.pieces.items batch.writing v) wants.1 are.writing),
-        λ none. wants.0 (none_placed m s batch.pieces.items batch.blocks.items it.blocks are.blocks none))
+  wants_block own (Some batch) (Some it) are wants = (
+    none_written_here batch.pieces.items batch.writing (subst (λ v. AreWriting m s batch.pieces.items batch.writing v) wants.1 are.writing),
+    λ none. wants.0 (none_placed m s batch.pieces.items batch.blocks.items it.blocks are.blocks none),
+  )
   wants_block own o None are wants = absurd wants
   wants_block own None (Some it) are wants = absurd are
 
@@ -147,9 +149,10 @@ module _ {K V P A : Type 0} (m : Meaning K V P) (s : Settings) where
 
   pub was_written : (own : Option ℕ) (o : Option (Batch K V P A)) (p : Option (plainly.Batch Content)) → AreBatched m s own o p
       → model.IsWritten false p → IsSomeAnd o (λ batch. (batch.writing ≡ None) × (batch.blocks.items ≡ []))
-  was_written own (Some batch) (Some it) are is =
-      (none_written_here batch.pieces.items batch.writing (subst (λ v. AreWriting m s batch.pieces.items batch.writing v) is.1 are.writing),
-        some_placed batch.pieces.items batch.blocks.items (subst (λ ss. ArePlacedAs m s batch.pieces.items batch.blocks.items ss) is.0 are.blocks))
+  was_written own (Some batch) (Some it) are is = (
+    none_written_here batch.pieces.items batch.writing (subst (λ v. AreWriting m s batch.pieces.items batch.writing v) is.1 are.writing),
+    some_placed batch.pieces.items batch.blocks.items (subst (λ ss. ArePlacedAs m s batch.pieces.items batch.blocks.items ss) is.0 are.blocks),
+  )
   was_written own o None are is = absurd is
   was_written own None (Some it) are is = absurd are
 

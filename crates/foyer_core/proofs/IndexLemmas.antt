@@ -91,24 +91,24 @@ module _ {K V P : Type 0} (m : Meaning K V P) (s : Settings) (block filling offs
       let some : 0 < length r.bytes = one.some in
       let above : length r.bytes ≤ page_up (length r.bytes) = page_up_above (length r.bytes) in
       let place : min (offset + e.address.offset) (2 ^ 32 - 1) ≡ offset + at =
-          let o : e.address.offset ≡ at = one.offset in omega arith in
+      let o : e.address.offset ≡ at = one.offset in omega arith in
       let more : offset + (at + page_up (length r.bytes)) ≡ offset + at + page_up (length r.bytes) = omega arith in
       let a : EntryAddress = (settled block filling offset e).address in
       let same : address_of a ≡ record { block = block; offset = offset + at; len = length r.bytes; sequence = r.sequence; filling = filling } =
-          (λ i. record { block = block; offset = place i; len = one.len i; sequence = one.sequence i; filling = filling }) in
+      (λ i. record { block = block; offset = place i; len = one.len i; sequence = one.sequence i; filling = filling }) in
       let new : IsIndexedAs s (inserted held e.hash (Address a)) (committed_one block filling (offset + at, r) slots) =
-          subst (λ (src : plain.Source Content). IsIndexedAs s (inserted held e.hash (Address a))
-              (put slots r.hash (taken_in src (slots r.hash) (record { block = block; offset = offset + at; len = length r.bytes; sequence = r.sequence; filling = filling }))))
-              (sym one.source)
-              (subst (λ h. IsIndexedAs s (inserted held e.hash (Address a))
-                  (put slots h (index.inserted (slots h) (plain.Indexed (record { block = block; offset = offset + at; len = length r.bytes; sequence = r.sequence; filling = filling })))))
-                  one.hash
-                  (subst (λ x. IsIndexedAs s (inserted held e.hash (Address a)) (put slots e.hash (index.inserted (slots e.hash) (plain.Indexed x)))) same
-                      (entered_at s held slots e.hash a stands lt))) in
+      subst (λ (src : plain.Source Content). IsIndexedAs s (inserted held e.hash (Address a))
+      (put slots r.hash (taken_in src (slots r.hash) (record { block = block; offset = offset + at; len = length r.bytes; sequence = r.sequence; filling = filling }))))
+      (sym one.source)
+      (subst (λ h. IsIndexedAs s (inserted held e.hash (Address a))
+      (put slots h (index.inserted (slots h) (plain.Indexed (record { block = block; offset = offset + at; len = length r.bytes; sequence = r.sequence; filling = filling })))))
+      one.hash
+      (subst (λ x. IsIndexedAs s (inserted held e.hash (Address a)) (put slots e.hash (index.inserted (slots e.hash) (plain.Indexed x)))) same
+      (entered_at s held slots e.hash a stands lt))) in
       subst (λ k. IsIndexedAs s (inserted_all held (map (settled block filling offset) (e ∷ es))) (commit_of block filling (laid_from k rs) (committed_one block filling (offset + at, r) slots)).index)
-          more
-          (committed (at + page_up (length r.bytes)) es ps rs (inserted held e.hash (Address a)) (committed_one block filling (offset + at, r) slots) are.1
-              (omega arith) new)
+      more
+      (committed (at + page_up (length r.bytes)) es ps rs (inserted held e.hash (Address a)) (committed_one block filling (offset + at, r) slots) are.1
+      (omega arith) new)
   committed at [] [] (r ∷ rs) held slots are fits stands = absurd are
   committed at [] (p ∷ ps) rs held slots are fits stands = absurd are
   committed at (e ∷ es) [] rs held slots are fits stands = absurd are
@@ -120,7 +120,7 @@ module _ {K V P : Type 0} (m : Meaning K V P) (s : Settings) (block filling offs
   puts_all at n [] [] [] slots are = refl
   puts_all at n (e ∷ es) (p ∷ ps) (r ∷ rs) slots are =
       subst (λ (src : plain.Source Content). length (e ∷ es) ≡ length (if is_put src (slots r.hash) then r ∷ rest else rest)) (sym (are.0).source)
-          (ap (λ k. suc k) (puts_all (at + page_up (length r.bytes)) (n + page_up (length r.bytes)) es ps rs (committed_one block filling (n, r) slots) are.1))
+      (ap (λ k. suc k) (puts_all (at + page_up (length r.bytes)) (n + page_up (length r.bytes)) es ps rs (committed_one block filling (n, r) slots) are.1))
     where
       rest : List (plain.Record Content)
       rest = (commit_of block filling (laid_from (n + page_up (length r.bytes)) rs) (committed_one block filling (n, r) slots)).puts
@@ -134,8 +134,8 @@ gone : (marks : List Removed) (slots : ℕ → Option plain.Slot) (q : ℕ) → 
 gone [] slots q none = none
 gone (k ∷ marks) slots q none =
     gone marks (put slots k.hash (index.without_mark k.sequence (slots k.hash))) q
-        (put_at (λ o. o ≡ None) slots k.hash (index.without_mark k.sequence (slots k.hash)) q
-            (λ at. ap (index.without_mark k.sequence) (ap slots (sym at) ∙ none)) (λ ne. none))
+    (put_at (λ o. o ≡ None) slots k.hash (index.without_mark k.sequence (slots k.hash)) q
+    (λ at. ap (index.without_mark k.sequence) (ap slots (sym at) ∙ none)) (λ ne. none))
 
 left_is : (marks : List Removed) (slots : ℕ → Option plain.Slot) (q : ℕ) (held : Option Index) → slots q ≡ slot_of held
     → index.unmarked (map mark_of marks) slots q ≡ slot_of (if lists_mark marks q held then None else held)
@@ -158,7 +158,7 @@ left_is (k ∷ marks) slots q held is = go (k.hash == q) refl (has_mark held k.s
     at_it : (t : Bool) → has_mark held k.sequence ≡ t → k.hash ≡ q → next q ≡ index.without_mark k.sequence (slot_of held)
     at_it t f at =
         put_at (λ o. o ≡ index.without_mark k.sequence (slot_of held)) slots k.hash (index.without_mark k.sequence (slots k.hash)) q
-            (λ e. ap (index.without_mark k.sequence) (ap slots at ∙ is)) (λ ne. absurd (ne (sym at)))
+        (λ e. ap (index.without_mark k.sequence) (ap slots at ∙ is)) (λ ne. absurd (ne (sym at)))
 
     go : (t : Bool) → (k.hash == q) ≡ t → (u : Bool) → has_mark held k.sequence ≡ u
         → (next q ≡ slot_of held → index.unmarked (map mark_of marks) next q ≡ slot_of (if lists_mark marks q held then None else held))
@@ -167,7 +167,7 @@ left_is (k ∷ marks) slots q held is = go (k.hash == q) refl (has_mark held k.s
     go true e false f rest = rest (at_it false f (eqb-true k.hash q e) ∙ with_it held f)
     go false e u f rest =
         rest (put_at (λ o. o ≡ slot_of held) slots k.hash (index.without_mark k.sequence (slots k.hash)) q
-            (λ at. absurd (eqb-false k.hash q e (sym at))) (λ ne. is))
+        (λ at. absurd (eqb-false k.hash q e (sym at))) (λ ne. is))
 
 -- The marks of a batch leave the index as the plain machine has it.
 pub unmarked_is : (s : Settings) (held : IndexMap) (slots : ℕ → Option plain.Slot) (marks : List Removed) → IsIndexedAs s held slots

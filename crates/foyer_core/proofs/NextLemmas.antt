@@ -118,16 +118,20 @@ module _ {K V P A : Type 0} (m : Meaning K V P) (s : Settings) (sound : IsSound 
         let lt : b < s.blocks = handed.1 in
         let t = tells φ.own got.0 got.2 lt in
         let new : plainly.State Content =
-            record (block_told (machine m s sound) it f b got.0 t.spread t.rest) {
-              filling = put it.filling b (it.filling b + 1);
-              clean = without_id b it.clean;
-              place = put (released (it.flushers f).own it.place) b (plainly.Writes f);
-            } in
+        record (block_told (machine m s sound) it f b got.0 t.spread t.rest) {
+          filling = put it.filling b (it.filling b + 1);
+          clean = without_id b it.clean;
+          place = put (released (it.flushers f).own it.place) b (plainly.Writes f);
+        } in
         record {
           after = new;
-          does = subst (λ p. Tells (machine m s sound) it f p (replies.Written b (map write_of written)) new) (sym got.1)
-              (t.spread, t.rest, t.first, t.writes ∙ same_writes m s sound (t.spread).parts,
-              inr (inr ((got.2).goes_on ∙ not_going_on batch.goes_on φ.own (got.2).owned goes, (stands.flusher).ready, clean_is m s sound it stands.destroy ∙ handed.0, refl)));
+          does = subst (λ p. Tells (machine m s sound) it f p (replies.Written b (map write_of written)) new) (sym got.1) (
+            t.spread,
+            t.rest,
+            t.first,
+            t.writes ∙ same_writes m s sound (t.spread).parts,
+            inr (inr ((got.2).goes_on ∙ not_going_on batch.goes_on φ.own (got.2).owned goes, (stands.flusher).ready, clean_is m s sound it stands.destroy ∙ handed.0, refl)),
+          );
           flusher = told_flusher m s sound (it.flushers f) b got.0 t.spread t.rest;
           flushers = refl;
           it = told_is φ left b got.0 written stands.flusher lt t;
@@ -198,7 +202,7 @@ module _ {K V P A : Type 0} (m : Meaning K V P) (s : Settings) (sound : IsSound 
         × Tells (machine m s sound) it f (it.flushers f).batch answer new × Grows {C = Content} (steps.FlushBlock f) answer
     would_tell some =
         subst (λ p. (answer : replies.Reply Content) × (new : plainly.State Content) × Tells (machine m s sound) it f p answer new × Grows {C = Content} (steps.FlushBlock f) answer)
-            (sym got.1) (go got.0 (got.2) (placings (batch.blocks.items) refl))
+        (sym got.1) (go got.0 (got.2) (placings (batch.blocks.items) refl))
       where
         got : (p : plainly.Batch Content) × ((it.flushers f).batch ≡ Some p) × IsBatchAs m s φ.own batch p
         got = batched m s φ.own φ.batch (it.flushers f).batch (stands.flusher).batch batch is
@@ -213,21 +217,26 @@ module _ {K V P A : Type 0} (m : Meaning K V P) (s : Settings) (sound : IsSound 
             → (answer : replies.Reply Content) × (new : plainly.State Content) × Tells (machine m s sound) it f (Some p) answer new × Grows {C = Content} (steps.FlushBlock f) answer
         clean p spread first goes None e =
             (replies.NoBlock, waits_for_block (machine m s sound) it f, (goes, (stands.flusher).ready, e, refl), tt)
-        clean p spread first goes (Some b) e =
-            (replies.Written b (writes_in (machine m s sound) spread.parts),
-              record (block_told (machine m s sound) it f b p spread []) {
-                filling = put it.filling b (it.filling b + 1);
-                clean = without_id b it.clean;
-                place = put (released (it.flushers f).own it.place) b (plainly.Writes f);
-              },
-              (spread, [], first, refl, inr (inr (goes, (stands.flusher).ready, e, refl))), tt)
+        clean p spread first goes (Some b) e = (
+          replies.Written b (writes_in (machine m s sound) spread.parts),
+          record (block_told (machine m s sound) it f b p spread []) {
+            filling = put it.filling b (it.filling b + 1);
+            clean = without_id b it.clean;
+            place = put (released (it.flushers f).own it.place) b (plainly.Writes f);
+          },
+          (spread, [], first, refl, inr (inr (goes, (stands.flusher).ready, e, refl))),
+          tt,
+        )
 
         owned : (p : plainly.Batch Content) (spread : Spread Content) → p.blocks ≡ spread ∷ [] → p.goes_on ≡ true → (o : Option ℕ) → (it.flushers f).own ≡ o → HasOwn o
             → (answer : replies.Reply Content) × (new : plainly.State Content) × Tells (machine m s sound) it f (Some p) answer new × Grows {C = Content} (steps.FlushBlock f) answer
         owned p spread first goes None e has = absurd has
-        owned p spread first goes (Some b) e has =
-            (replies.Written b (writes_in (machine m s sound) spread.parts), block_told (machine m s sound) it f b p spread [],
-              (spread, [], first, refl, inl (goes, e, refl)), tt)
+        owned p spread first goes (Some b) e has = (
+          replies.Written b (writes_in (machine m s sound) spread.parts),
+          block_told (machine m s sound) it f b p spread [],
+          (spread, [], first, refl, inl (goes, e, refl)),
+          tt,
+        )
 
         go : (p : plainly.Batch Content) → IsBatchAs m s φ.own batch p → (spread : Spread Content) × (p.blocks ≡ spread ∷ [])
             → (answer : replies.Reply Content) × (new : plainly.State Content) × Tells (machine m s sound) it f (Some p) answer new × Grows {C = Content} (steps.FlushBlock f) answer

@@ -182,21 +182,26 @@ module _ {K V P A : Type 0} (m : Meaning K V P) (s : Settings) (sound : IsSound 
       let zero : w.offset + 0 ≡ w.offset = omega arith in
       let laid : (at.0).records ≡ laid_from (w.offset + 0) rs = (at.2).laid ∙ ap (λ o. laid_from o rs) (sym zero) in
       let commits : commit_of (at.0).block (it.filling (at.0).block) (at.0).records it.index ≡ commit_of w.block filling (laid_from (w.offset + 0) rs) it.index =
-          (λ i. commit_of (block i) (it.filling (block i)) (laid i) it.index) ∙ ap (λ k. commit_of w.block k (laid_from (w.offset + 0) rs) it.index) (sym fill) in
+      (λ i. commit_of (block i) (it.filling (block i)) (laid i) it.index) ∙ ap (λ k. commit_of w.block k (laid_from (w.offset + 0) rs) it.index) (sym fill) in
       let fits : w.offset + 0 + bytes_taken page_up rs ≤ 2 ^ 32 =
-          let a : w.offset + bytes_taken page_up rs ≤ s.block_size = (at.2).within in let b : s.block_size ≤ 2 ^ 32 = sound.told_offsets in omega arith in
+      let a : w.offset + bytes_taken page_up rs ≤ s.block_size = (at.2).within in let b : s.block_size ≤ 2 ^ 32 = sound.told_offsets in omega arith in
       record {
         after = block_done (machine m s sound) it f got.0 at.0;
-        does = subst (λ q. Wrote (machine m s sound) it f true q (replies.Committed n) (block_done (machine m s sound) it f got.0 at.0)) (sym got.1)
-            (at.0, one.0, at.1, one.2 ∙ ap (λ l. one.0 ∷ l) last,
-            count ∙ puts_all m s w.block filling w.offset (at.2).there 0 (w.offset + 0) w.records.items batch.pieces.items rs it.index (at.2).are ∙ ap (λ k. length k.puts) (sym commits), refl);
+        does = subst (λ q. Wrote (machine m s sound) it f true q (replies.Committed n) (block_done (machine m s sound) it f got.0 at.0)) (sym got.1) (
+          at.0,
+          one.0,
+          at.1,
+          one.2 ∙ ap (λ l. one.0 ∷ l) last,
+          count ∙ puts_all m s w.block filling w.offset (at.2).there 0 (w.offset + 0) w.records.items batch.pieces.items rs it.index (at.2).are ∙ ap (λ k. length k.puts) (sym commits),
+          refl,
+        );
         flusher = record (it.flushers f) { batch = Some (record got.0 { writing = None }) };
         flushers = refl;
         it = idle_is;
         queue = refl;
         index = subst (λ k. IsIndexedAs s k (commit_in it at.0).index) (sym new)
             (subst (λ k. IsIndexedAs s (inserted_all slots (map (settled w.block filling w.offset) w.records.items)) k.index) (sym commits)
-                (committed m s w.block filling w.offset (at.2).there 0 w.records.items batch.pieces.items rs slots it.index (at.2).are fits stands.index));
+            (committed m s w.block filling w.offset (at.2).there 0 w.records.items batch.pieces.items rs slots it.index (at.2).are fits stands.index));
         blocks = stands.blocks;
         clean = stands.clean;
         waiting = stands.waiting;
@@ -248,11 +253,11 @@ module _ {K V P A : Type 0} (m : Meaning K V P) (s : Settings) (sound : IsSound 
       → IsDone m s sound (steps.FlushWrote f ok) f it (told_wrote answer) ψ slots' states' ids waiters
   wrote_fails ok first ψ states' idle answer slots' idle_as few size fails blocks failed same =
       let as_idle : IsFlusherAs m s (record φ { batch = Some idle }) (record (it.flushers f) { batch = Some (record got.0 { writing = None }) }) =
-          subst (λ b. IsFlusherAs m s (record φ { batch = Some b }) (record (it.flushers f) { batch = Some (record got.0 { writing = None }) })) (sym idle_as) idle_is in
+      subst (λ b. IsFlusherAs m s (record φ { batch = Some b }) (record (it.flushers f) { batch = Some (record got.0 { writing = None }) })) (sym idle_as) idle_is in
       subst (λ a. IsDone m s sound (steps.FlushWrote f ok) f it (told_wrote a) ψ slots' states' ids waiters) (sym failed)
-          (subst (λ k. IsDone m s sound (steps.FlushWrote f ok) f it replies.Failed ψ k states' ids waiters) (sym same)
-              (wrote_failed ok first ψ states' few size
-                  (fails (record (it.flushers f) { batch = Some (record got.0 { writing = None }) }) (record got.0 { writing = None }) size as_idle refl) blocks))
+      (subst (λ k. IsDone m s sound (steps.FlushWrote f ok) f it replies.Failed ψ k states' ids waiters) (sym same)
+      (wrote_failed ok first ψ states' few size
+      (fails (record (it.flushers f) { batch = Some (record got.0 { writing = None }) }) (record got.0 { writing = None }) size as_idle refl) blocks))
 
 -- a batch ends
 pub ended : {K V P A : Type 0} (m : Meaning K V P) (s : Settings) (sound : IsSound s) (f : ℕ) (it : plainly.State Content)
@@ -264,11 +269,11 @@ ended m s sound f it φ slots states ids waiters stands batch is slots' states' 
     let got = batched m s φ.own φ.batch (it.flushers f).batch (stands.flusher).batch batch is in
     let φs = stands.flusher in
     let new : plainly.State Content =
-        record it {
-          flushers = put it.flushers f (record (it.flushers f) { batch = None });
-          index = unmarked (got.0).marks it.index;
-          stats = spoiled_unless (got.0).logged (got.0).spoils it.stats;
-        } in
+    record it {
+      flushers = put it.flushers f (record (it.flushers f) { batch = None });
+      index = unmarked (got.0).marks it.index;
+      stats = spoiled_unless (got.0).logged (got.0).spoils it.stats;
+    } in
     record {
       after = new;
       does = subst (λ q. Finishes (machine m s sound) it f q (replies.Ended (map (content_of m) batch.pieces.items) batch.waits.items) new) (sym got.1)

@@ -13,7 +13,7 @@ returns-then-is_usable g c =
     let lt : c.loop-index.index < length clean.items = omega (arith, clean.ok.0) in
     let at : c.index.result.now ≡ slice_index clean.items c.loop-index.index = get_or_read clean.items c.loop-index.index c.index.result.now lt c.index.ensures 0 in
     let test : nat_lt (F (slice_index clean.items c.loop-index.index)) last_number ≡ true =
-        ap (λ b. nat_lt (F b) last_number) (sym at) ∙ sym c.is_usable.ensures ∙ c.if-is_usable.true in
+    ap (λ b. nat_lt (F b) last_number) (sym at) ∙ sym c.is_usable.ensures ∙ c.if-is_usable.true in
     record {
       within = lt;
       first = usable_here F clean.items c.loop-index.index lt c.loop-index.invariant test;
@@ -27,7 +27,7 @@ loop-index-preserved g c =
     let lt : c.loop-index.index < length clean.items = omega (arith, clean.ok.0) in
     let at : c.index.result.now ≡ slice_index clean.items c.loop-index.index = get_or_read clean.items c.loop-index.index c.index.result.now lt c.index.ensures 0 in
     let test : nat_lt (F (slice_index clean.items c.loop-index.index)) last_number ≡ false =
-        ap (λ b. nat_lt (F b) last_number) (sym at) ∙ sym c.is_usable.ensures ∙ c.if-is_usable.false in
+    ap (λ b. nat_lt (F b) last_number) (sym at) ∙ sym c.is_usable.ensures ∙ c.if-is_usable.false in
     usable_further F clean.items c.loop-index.index lt c.loop-index.invariant test
 
 pub returns : goal.returns

@@ -1,4 +1,4 @@
-use Rattle.std.proofs.Common.{◌≡◌, ◌<◌, ℕ, List, length, slice_index, slice_index_or, ap, sym, ◌∙◌, subst, arith}
+use Rattle.std.proofs.Common.{◌≡◌, ◌<◌, ℕ, List, length, slice_index, slice_index_or, sym, ◌∙◌, subst, arith}
 use Rattle.std.proofs.lemmas.List.{get_or_read}
 use Rattle.foyer_model.specs.Numbers.{last_number}
 use Rattle.foyer_core.specs.Handing.{filling_in, IsFirstUsable}
@@ -24,20 +24,20 @@ low : (items : List ℕ) (i b : ℕ) (blocks : List BlockState) (it : BlockState
     → it ≡ slice_index_or blocks b it → it.filling < last_number
 low items i b blocks it first is read =
     subst (λ n. n < last_number) (filling_read blocks b it (there items i b blocks first is) read)
-        (subst (λ k. filling_in blocks k < last_number) (sym (at items i b blocks first is)) first.below)
+    (subst (λ k. filling_in blocks k < last_number) (sym (at items i b blocks first is)) first.below)
 
 pub index_mut-state-requires : goal.index_mut-state-requires
 index_mut-state-requires g c =
     let blocks = c.args.blocks.now in
     let lt : c.in-Some-remove.block < length blocks.items =
-        there c.args.clean.now.items c.in-Some.index c.in-Some-remove.block blocks.items c.in-Some.ensures c.in-Some-remove.ensures.value in
+    there c.args.clean.now.items c.in-Some.index c.in-Some-remove.block blocks.items c.in-Some.ensures c.in-Some-remove.ensures.value in
     omega (arith, blocks.ok.0)
 
 pub overflow_add-state : goal.overflow_add-state
 overflow_add-state g c =
     let lt : c.index_mut-state.result.now.filling < last_number =
-        low c.args.clean.now.items c.in-Some.index c.in-Some-remove.block c.args.blocks.now.items c.index_mut-state.result.now c.in-Some.ensures
-            c.in-Some-remove.ensures.value c.index_mut-state.ensures.value in
+    low c.args.clean.now.items c.in-Some.index c.in-Some-remove.block c.args.blocks.now.items c.index_mut-state.result.now c.in-Some.ensures
+    c.in-Some-remove.ensures.value c.index_mut-state.ensures.value in
     omega arith
 
 pub returns : goal.returns
@@ -46,9 +46,9 @@ returns g c = record {
       let items = c.args.clean.now.items in
       let blocks = c.args.blocks.now.items in
       handed s blocks places fillings stats are c.args.flusher c.in-Some.index c.in-Some-remove.block c.index_mut-state.result.now items
-          c.remove.new.self.items ids clean c.in-Some.ensures
-          (at items c.in-Some.index c.in-Some-remove.block blocks c.in-Some.ensures c.in-Some-remove.ensures.value)
-          c.in-Some-remove.ensures.items
-          (there items c.in-Some.index c.in-Some-remove.block blocks c.in-Some.ensures c.in-Some-remove.ensures.value)
-          c.index_mut-state.ensures.value;
+      c.remove.new.self.items ids clean c.in-Some.ensures
+      (at items c.in-Some.index c.in-Some-remove.block blocks c.in-Some.ensures c.in-Some-remove.ensures.value)
+      c.in-Some-remove.ensures.items
+      (there items c.in-Some.index c.in-Some-remove.block blocks c.in-Some.ensures c.in-Some-remove.ensures.value)
+      c.index_mut-state.ensures.value;
 }

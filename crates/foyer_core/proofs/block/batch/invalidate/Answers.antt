@@ -8,7 +8,7 @@ returns-in-Some g c = λ s places fillings known are.
     let blocks = c.args.blocks.now in
     let lt : c.args.stats.now.block < length blocks.items = omega (arith, blocks.ok.0, c.in-Some.ensures.variant.0 refl) in
     block_spoiled s blocks.items places fillings known are c.args.stats.now.block c.saturating_add-state.result c.args.stats.now.size
-        c.in-Some.state.now lt c.in-Some.ensures.value c.saturating_add-state.ensures
+    c.in-Some.state.now lt c.in-Some.ensures.value c.saturating_add-state.ensures
 
 pub returns-in_default : goal.returns-in_default
 returns-in_default g c = λ s places fillings known are.
@@ -16,4 +16,4 @@ returns-in_default g c = λ s places fillings known are.
     let out = past_end c.args.stats.now.block blocks.len c.in_default.ensures.variant.1 in
     let le : length blocks.items ≤ c.args.stats.now.block = omega (arith, blocks.ok.0, out) in
     no_block_spoiled s blocks.items places fillings known are c.args.stats.now.block
-        (record (known c.args.stats.now.block) { invalid = plus (known c.args.stats.now.block).invalid c.args.stats.now.size }) le
+    (record (known c.args.stats.now.block) { invalid = plus (known c.args.stats.now.block).invalid c.args.stats.now.size }) le

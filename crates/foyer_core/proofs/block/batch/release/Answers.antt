@@ -1,4 +1,4 @@
-use Rattle.std.proofs.Common.{◌≡◌, ◌<◌, ◌≤◌, length, slice_set, Option, Some, ℕ, sym, subst, refl, arith}
+use Rattle.std.proofs.Common.{◌≡◌, ◌<◌, ◌≤◌, length, slice_set, Some, sym, subst, refl, arith}
 use Rattle.foyer_model.specs.Flush.{released}
 use Rattle.foyer_core.specs.Standing.{AreBlocksAs}
 use Rattle.foyer_core.specs.declared.state.Place.TheVariants as place
@@ -11,7 +11,7 @@ returns-in-Some-get_mut-clause-released g c = λ s places fillings stats are.
     let own : c.args.own.now ≡ Some c.in-Some.block = cc in
     let lt : c.in-Some.block < length blocks.items = omega (arith, blocks.ok.0, c.in-Some-get_mut.ensures.variant.0 refl) in
     subst (λ o. AreBlocksAs s (slice_set blocks.items c.in-Some.block (record c.in-Some-get_mut.state.now { place = place.Evictable })) (released o places) fillings stats) (sym own)
-        (block_left s blocks.items places fillings stats are c.in-Some.block c.in-Some-get_mut.state.now lt c.in-Some-get_mut.ensures.value)
+    (block_left s blocks.items places fillings stats are c.in-Some.block c.in-Some-get_mut.state.now lt c.in-Some-get_mut.ensures.value)
 
 pub returns-in_default-get_mut-clause-released : goal.returns-in_default-get_mut-clause-released
 returns-in_default-get_mut-clause-released g c = λ s places fillings stats are.
@@ -20,4 +20,4 @@ returns-in_default-get_mut-clause-released g c = λ s places fillings stats are.
     let out = past_end c.in-Some.block blocks.len c.in_default-get_mut.ensures.variant.1 in
     let le : length blocks.items ≤ c.in-Some.block = omega (arith, blocks.ok.0, out) in
     subst (λ o. AreBlocksAs s blocks.items (released o places) fillings stats) (sym own)
-        (no_block_left s blocks.items places fillings stats are c.in-Some.block le)
+    (no_block_left s blocks.items places fillings stats are c.in-Some.block le)

@@ -1,4 +1,4 @@
-use Rattle.std.proofs.Common.{◌≡◌, ◌<◌, ◌+◌, ◌-◌, ◌^◌, ℕ, min, length, slice_index_or, slice_set, sym, ap, ◌∙◌, arith}
+use Rattle.std.proofs.Common.{◌≡◌, ◌<◌, ◌+◌, ◌-◌, ◌^◌, ℕ, min, length, slice_index_or, slice_set, ap, ◌∙◌, arith}
 use Rattle.std.proofs.lemmas.List.{get_or_default}
 use Rattle.std.proofs.lemmas.List.Edits.{map_over_more}
 use Rattle.foyer_block.specs.declared.indexer.HashedEntryAddress.{HashedEntryAddress}
@@ -17,4 +17,4 @@ loop-record-preserved g c =
     let here : i < length items = omega arith in
     ap (λ (o : ℕ). slice_set items i (record x { address = record x.address { block = c.args.block; filling = c.args.filling; offset = o } })) at
     ∙ map_over_more (settled c.args.block c.args.filling c.args.offset) c.args.records.now.items items i x lt c.loop-record.invariant
-        (get_or_default items i none x here)
+    (get_or_default items i none x here)

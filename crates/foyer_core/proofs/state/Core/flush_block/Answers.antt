@@ -21,19 +21,19 @@ returns-then-not-has_block-clause-meets g c = λ m s sound it stands few.
     let within : f < length core.flushers.items = omega (arith, c.len.ensures, c.if-flusher-len.false) in
     let at = stands_at m s core it f found stands within c.index_mut-found.ensures.value in
     not_now m s sound core _ it (step.FlushBlock f)
-        (record {
-          index = refl;
-          next = refl;
-          steps = refl;
-          closed = refl;
-          queued = refl;
-          settings = refl;
-          flushers = same_seen core.flushers.items f found found c.index_mut-found.ensures.value refl;
-          blocks = refl;
-          clean = refl;
-          waiting = refl;
-        }) stands few (λ d. d)
-        (λ turn. false≢true (c.if-not-has_block.ensures.1 (wants_block m s found.own found.batch (it.flushers f).batch (at.flusher).batch turn.1)))
+    (record {
+      index = refl;
+      next = refl;
+      steps = refl;
+      closed = refl;
+      queued = refl;
+      settings = refl;
+      flushers = same_seen core.flushers.items f found found c.index_mut-found.ensures.value refl;
+      blocks = refl;
+      clean = refl;
+      waiting = refl;
+    }) stands few (λ d. d)
+    (λ turn. false≢true (c.if-not-has_block.ensures.1 (wants_block m s found.own found.batch (it.flushers f).batch (at.flusher).batch turn.1)))
 
 pub returns-in-Err-clause-meets : goal.returns-in-Err-clause-meets
 returns-in-Err-clause-meets g c = λ m s sound it stands few.
@@ -62,8 +62,17 @@ returns-in-Err-clause-meets g c = λ m s sound it stands few.
         waiting = c.in-Err.ensures.waiting_kept;
       }) stands;
       reply = (replies.Memory, refl, refl);
-      turns = (refl, (early, ((flusher_there m s core it f stands within, has_block m s found.own found.batch (it.flushers f).batch (at.flusher).batch (c.if-not-has_block.ensures.0 refl)),
-        would_answer m s sound it f found core.index core.blocks.items core.clean.items core.waiting.items at (c.if-not-has_block.ensures.0 refl))), refl);
+      turns = (
+        refl,
+        (
+          early,
+          (
+            (flusher_there m s core it f stands within, has_block m s found.own found.batch (it.flushers f).batch (at.flusher).batch (c.if-not-has_block.ensures.0 refl)),
+            would_answer m s sound it f found core.index core.blocks.items core.clean.items core.waiting.items at (c.if-not-has_block.ensures.0 refl),
+          ),
+        ),
+        refl,
+      );
     }
 
 pub returns-in-Ok-NoBlock-clause-meets : goal.returns-in-Ok-NoBlock-clause-meets
@@ -74,7 +83,7 @@ returns-in-Ok-NoBlock-clause-meets g c = λ m s sound it stands few.
     let within : f < length core.flushers.items = omega (arith, c.len.ensures, c.if-flusher-len.false) in
     let at = stands_at m s core it f found stands within c.index_mut-found.ensures.value in
     let done = subst (λ (n : Next g.row.A.Denot). IsDone m s sound (steps.FlushBlock f) f it (told_next n) (seen c.next.new.self) core.index c.next.new.blocks.items
-        c.next.new.clean.items c.next.new.waiting.items) c.in-Ok-NoBlock.field-0-is (c.in-Ok-NoBlock.ensures.done m s sound it core.index at) in
+    c.next.new.clean.items c.next.new.waiting.items) c.in-Ok-NoBlock.field-0-is (c.in-Ok-NoBlock.ensures.done m s sound it core.index at) in
     record {
       after = done.after;
       it = replies.NoBlock;
@@ -91,7 +100,7 @@ returns-in-Ok-Block-clause-meets g c = λ m s sound it stands few.
     let within : f < length core.flushers.items = omega (arith, c.len.ensures, c.if-flusher-len.false) in
     let at = stands_at m s core it f found stands within c.index_mut-found.ensures.value in
     let done = subst (λ (n : Next g.row.A.Denot). IsDone m s sound (steps.FlushBlock f) f it (told_next n) (seen c.next.new.self) core.index c.next.new.blocks.items
-        c.next.new.clean.items c.next.new.waiting.items) c.in-Ok-Block.field-0-is (c.in-Ok-Block.ensures.done m s sound it core.index at) in
+    c.next.new.clean.items c.next.new.waiting.items) c.in-Ok-Block.field-0-is (c.in-Ok-Block.ensures.done m s sound it core.index at) in
     record {
       after = done.after;
       it = replies.Written c.in-Ok-Block.block (map write_of c.in-Ok-Block.writes.items);

@@ -1,4 +1,4 @@
-use Rattle.std.proofs.Common.{◌≡◌, ◌<◌, length, map, refl, arith}
+use Rattle.std.proofs.Common.{◌<◌, length, map, refl, arith}
 use Rattle.std.proofs.lemmas.Bool.{false≢true}
 use Rattle.foyer_model.specs.Reply as replies
 use Rattle.foyer_core.specs.Content.{content_of}
@@ -15,19 +15,19 @@ returns-then-not-is_written-clause-meets g c = λ m s sound it stands few.
     let within : f < length core.flushers.items = omega (arith, c.len.ensures, c.if-flusher-len.false) in
     let at = stands_at m s core it f found stands within c.index_mut-found.ensures.value in
     not_now m s sound core _ it (step.FlushEnd f)
-        (record {
-          index = refl;
-          next = refl;
-          steps = refl;
-          closed = refl;
-          queued = refl;
-          settings = refl;
-          flushers = same_seen core.flushers.items f found found c.index_mut-found.ensures.value refl;
-          blocks = refl;
-          clean = refl;
-          waiting = refl;
-        }) stands few (λ d. d)
-        (λ turn. false≢true (c.if-not-is_written.ensures.1 (was_written m s found.own found.batch (it.flushers f).batch (at.flusher).batch turn.1)))
+    (record {
+      index = refl;
+      next = refl;
+      steps = refl;
+      closed = refl;
+      queued = refl;
+      settings = refl;
+      flushers = same_seen core.flushers.items f found found c.index_mut-found.ensures.value refl;
+      blocks = refl;
+      clean = refl;
+      waiting = refl;
+    }) stands few (λ d. d)
+    (λ turn. false≢true (c.if-not-is_written.ensures.1 (was_written m s found.own found.batch (it.flushers f).batch (at.flusher).batch turn.1)))
 
 pub returns-clause-meets : goal.returns-clause-meets
 returns-clause-meets g c = λ m s sound it stands few.

@@ -18,19 +18,19 @@ returns-then-not-is_writing-clause-meets g c = λ m s sound it stands few.
     let within : f < length core.flushers.items = omega (arith, c.len.ensures, c.if-flusher-len.false) in
     let at = stands_at m s core it f found stands within c.index_mut-found.ensures.value in
     not_now m s sound core _ it (step.FlushWrote f c.args.outcome)
-        (record {
-          index = refl;
-          next = refl;
-          steps = refl;
-          closed = refl;
-          queued = refl;
-          settings = refl;
-          flushers = same_seen core.flushers.items f found found c.index_mut-found.ensures.value refl;
-          blocks = refl;
-          clean = refl;
-          waiting = refl;
-        }) stands few (λ d. d)
-        (λ turn. false≢true (c.if-not-is_writing.ensures.1 (must_write m s found.own found.batch (it.flushers f).batch (at.flusher).batch turn.1)))
+    (record {
+      index = refl;
+      next = refl;
+      steps = refl;
+      closed = refl;
+      queued = refl;
+      settings = refl;
+      flushers = same_seen core.flushers.items f found found c.index_mut-found.ensures.value refl;
+      blocks = refl;
+      clean = refl;
+      waiting = refl;
+    }) stands few (λ d. d)
+    (λ turn. false≢true (c.if-not-is_writing.ensures.1 (must_write m s found.own found.batch (it.flushers f).batch (at.flusher).batch turn.1)))
 
 pub returns-in-Next-clause-meets : goal.returns-in-Next-clause-meets
 returns-in-Next-clause-meets g c = λ m s sound it stands few.
@@ -42,7 +42,7 @@ returns-in-Next-clause-meets g c = λ m s sound it stands few.
     let size : core.settings.blob_index_size ≡ s.blob_index_size = ap (λ t. t.blob_index_size) stands.sizes in
     let ok : c.is_ok.result ≡ went_well c.args.outcome = c.is_ok.ensures.value ∙ went_is c.args.outcome in
     let done = subst (λ (b : Bool). IsDone m s sound (steps.FlushWrote f b) f it replies.Next (seen c.wrote.new.self) c.wrote.new.index c.wrote.new.blocks.items
-        core.clean.items core.waiting.items) ok (c.in-Next.ensures.done m s sound f it core.clean.items core.waiting.items size at) in
+    core.clean.items core.waiting.items) ok (c.in-Next.ensures.done m s sound f it core.clean.items core.waiting.items size at) in
     record {
       after = done.after;
       it = replies.Next;
@@ -61,7 +61,7 @@ returns-in-Committed-clause-meets g c = λ m s sound it stands few.
     let size : core.settings.blob_index_size ≡ s.blob_index_size = ap (λ t. t.blob_index_size) stands.sizes in
     let ok : c.is_ok.result ≡ went_well c.args.outcome = c.is_ok.ensures.value ∙ went_is c.args.outcome in
     let done = subst (λ (b : Bool). IsDone m s sound (steps.FlushWrote f b) f it (replies.Committed c.in-Committed.count) (seen c.wrote.new.self) c.wrote.new.index c.wrote.new.blocks.items
-        core.clean.items core.waiting.items) ok (c.in-Committed.ensures.done m s sound f it core.clean.items core.waiting.items size at) in
+    core.clean.items core.waiting.items) ok (c.in-Committed.ensures.done m s sound f it core.clean.items core.waiting.items size at) in
     record {
       after = done.after;
       it = replies.Committed c.in-Committed.count;
@@ -80,7 +80,7 @@ returns-in-Failed-clause-meets g c = λ m s sound it stands few.
     let size : core.settings.blob_index_size ≡ s.blob_index_size = ap (λ t. t.blob_index_size) stands.sizes in
     let ok : c.is_ok.result ≡ went_well c.args.outcome = c.is_ok.ensures.value ∙ went_is c.args.outcome in
     let done = subst (λ (b : Bool). IsDone m s sound (steps.FlushWrote f b) f it replies.Failed (seen c.wrote.new.self) c.wrote.new.index c.wrote.new.blocks.items
-        core.clean.items core.waiting.items) ok (c.in-Failed.ensures.done m s sound f it core.clean.items core.waiting.items size at) in
+    core.clean.items core.waiting.items) ok (c.in-Failed.ensures.done m s sound f it core.clean.items core.waiting.items size at) in
     record {
       after = done.after;
       it = replies.Failed;

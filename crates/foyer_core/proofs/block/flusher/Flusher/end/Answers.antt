@@ -17,8 +17,8 @@ returns-clause-done g c = λ m s sound f it ids waiters stands.
     let is : self.batch ≡ Some batch = cc in
     let gone = c.remove_marks.ensures ∙ ap (without_marks c.args.index.now) c.as_slice.ensures.value in
     let blocks = subst (λ xs. AreBlocksAs s c.invalidate_all.new.blocks.items it.place it.filling (all_spoiled (map spoil_of xs) it.stats)) c.as_slice-2.ensures.value
-        (c.invalidate_all.ensures s it.place it.filling it.stats stands.blocks) in
+    (c.invalidate_all.ensures s it.place it.filling it.stats stands.blocks) in
     subst (λ (o : Option (Batch g.row.K.Denot g.row.V.Denot g.row.P.Denot g.row.A.Denot)). IsDone m s sound (steps.FlushEnd f) f it (told_ended m (record { pieces = batch.pieces; waits = batch.waits }))
-        (record (seen self) { batch = o }) c.remove_marks.new.self c.invalidate_all.new.blocks.items ids waiters) (sym c.take.ensures.after)
-        (ended m s sound f it (seen self) c.args.index.now c.args.blocks.now.items ids waiters stands batch is
-            c.remove_marks.new.self c.invalidate_all.new.blocks.items gone blocks)
+    (record (seen self) { batch = o }) c.remove_marks.new.self c.invalidate_all.new.blocks.items ids waiters) (sym c.take.ensures.after)
+    (ended m s sound f it (seen self) c.args.index.now c.args.blocks.now.items ids waiters stands batch is
+    c.remove_marks.new.self c.invalidate_all.new.blocks.items gone blocks)

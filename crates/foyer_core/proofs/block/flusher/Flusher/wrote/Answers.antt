@@ -1,4 +1,4 @@
-use Rattle.std.proofs.Common.{◌≡◌, ◌<◌, ◌≤◌, ◌-◌, ℕ, Bool, true, false, Option, Some, length, sym, ap, subst, ◌∙◌, refl, arith}
+use Rattle.std.proofs.Common.{◌≡◌, ◌≤◌, ◌-◌, Bool, true, false, Some, length, sym, ap, subst, ◌∙◌, refl, arith}
 use Rattle.foyer_model.specs.Reply as replies
 use Rattle.foyer_model.specs.Step as steps
 use Rattle.foyer_core.specs.Batches.{IsDone}
@@ -15,9 +15,9 @@ returns-then-not-is_done g c = record {
       let writes : (c.in-Some.batch).writing ≡ Some w = sym c.take_writing.ensures.taken ∙ c.in-Some-take_writing.is in
       let few : c.args.is_done ≡ true → w.left ≤ 1 = (λ yes. let clash : true ≡ false = sym yes ∙ c.if-not-is_done.true in absurd cc) in
       wrote_fails m s sound f it (seen self) c.args.index.now c.args.blocks.now.items ids waiters stands c.in-Some.batch c.in-Some.is w writes
-          c.args.is_done c.args.first_offset (seen c.fail.new.self) c.fail.new.blocks.items c.take_writing.new.self c.fail.result c.args.index.now
-          c.take_writing.ensures.rest few size (c.fail.ensures.left m s)
-          (c.fail.ensures.released s it.place it.filling it.stats stands.blocks) c.fail.ensures.failed refl;
+      c.args.is_done c.args.first_offset (seen c.fail.new.self) c.fail.new.blocks.items c.take_writing.new.self c.fail.result c.args.index.now
+      c.take_writing.ensures.rest few size (c.fail.ensures.left m s)
+      (c.fail.ensures.released s it.place it.filling it.stats stands.blocks) c.fail.ensures.failed refl;
 }
 
 pub returns-then-left-gt1 : goal.returns-then-left-gt1
@@ -27,13 +27,13 @@ returns-then-left-gt1 g c = record {
       let w = c.in-Some-take_writing.writing in
       let writes : (c.in-Some.batch).writing ≡ Some w = sym c.take_writing.ensures.taken ∙ c.in-Some-take_writing.is in
       let left : c.put_writing.new.self ≡ record c.in-Some.batch { writing = Some (record w { left = w.left - 1 }) } =
-          c.put_writing.ensures.rest ∙ ap (λ (b : Batch g.row.K.Denot g.row.V.Denot g.row.P.Denot g.row.A.Denot). record b { writing = Some (record w { left = w.left - 1 }) }) c.take_writing.ensures.rest in
+      c.put_writing.ensures.rest ∙ ap (λ (b : Batch g.row.K.Denot g.row.V.Denot g.row.P.Denot g.row.A.Denot). record b { writing = Some (record w { left = w.left - 1 }) }) c.take_writing.ensures.rest in
       subst (λ (ok : Bool). IsDone m s sound (steps.FlushWrote f ok) f it replies.Next (record (seen self) { batch = Some c.put_writing.new.self })
-          c.args.index.now c.args.blocks.now.items ids waiters) (sym c.if-not-is_done.false)
-          (subst (λ b. IsDone m s sound (steps.FlushWrote f true) f it replies.Next (record (seen self) { batch = Some b })
-              c.args.index.now c.args.blocks.now.items ids waiters) (sym left)
-              (wrote_next m s sound f it (seen self) c.args.index.now c.args.blocks.now.items ids waiters stands c.in-Some.batch c.in-Some.is w writes
-                  (w.left - 1) c.if-left-gt1.true refl));
+      c.args.index.now c.args.blocks.now.items ids waiters) (sym c.if-not-is_done.false)
+      (subst (λ b. IsDone m s sound (steps.FlushWrote f true) f it replies.Next (record (seen self) { batch = Some b })
+      c.args.index.now c.args.blocks.now.items ids waiters) (sym left)
+      (wrote_next m s sound f it (seen self) c.args.index.now c.args.blocks.now.items ids waiters stands c.in-Some.batch c.in-Some.is w writes
+      (w.left - 1) c.if-left-gt1.true refl));
 }
 
 pub returns-in-Some-commit : goal.returns-in-Some-commit
@@ -44,11 +44,11 @@ returns-in-Some-commit g c = record {
       let writes : (c.in-Some.batch).writing ≡ Some w = sym c.take_writing.ensures.taken ∙ c.in-Some-take_writing.is in
       let count : c.in-Some-commit.count ≡ length w.records.items = omega (arith, w.records.ok.0, c.in-Some-commit.ensures.0) in
       subst (λ (ok : Bool). IsDone m s sound (steps.FlushWrote f ok) f it (replies.Committed c.in-Some-commit.count) (record (seen self) { batch = Some c.take_writing.new.self })
-          c.commit.new.index c.args.blocks.now.items ids waiters) (sym c.if-not-is_done.false)
-          (subst (λ b. IsDone m s sound (steps.FlushWrote f true) f it (replies.Committed c.in-Some-commit.count) (record (seen self) { batch = Some b })
-              c.commit.new.index c.args.blocks.now.items ids waiters) (sym c.take_writing.ensures.rest)
-              (wrote_last m s sound f it (seen self) c.args.index.now c.args.blocks.now.items ids waiters stands c.in-Some.batch c.in-Some.is w writes
-                  c.in-Some-commit.count c.filling_of.result c.commit.new.index c.if-left-gt1.false c.filling_of.ensures count c.in-Some-commit.ensures.1));
+      c.commit.new.index c.args.blocks.now.items ids waiters) (sym c.if-not-is_done.false)
+      (subst (λ b. IsDone m s sound (steps.FlushWrote f true) f it (replies.Committed c.in-Some-commit.count) (record (seen self) { batch = Some b })
+      c.commit.new.index c.args.blocks.now.items ids waiters) (sym c.take_writing.ensures.rest)
+      (wrote_last m s sound f it (seen self) c.args.index.now c.args.blocks.now.items ids waiters stands c.in-Some.batch c.in-Some.is w writes
+      c.in-Some-commit.count c.filling_of.result c.commit.new.index c.if-left-gt1.false c.filling_of.ensures count c.in-Some-commit.ensures.1));
 }
 
 pub returns-in-None : goal.returns-in-None
@@ -59,7 +59,7 @@ returns-in-None g c = record {
       let writes : (c.in-Some.batch).writing ≡ Some w = sym c.take_writing.ensures.taken ∙ c.in-Some-take_writing.is in
       let few : c.args.is_done ≡ true → w.left ≤ 1 = (λ yes. c.if-left-gt1.false) in
       wrote_fails m s sound f it (seen self) c.args.index.now c.args.blocks.now.items ids waiters stands c.in-Some.batch c.in-Some.is w writes
-          c.args.is_done c.args.first_offset (seen c.fail-in-None.new.self) c.fail-in-None.new.blocks.items c.take_writing.new.self c.fail-in-None.result c.commit.new.index
-          c.take_writing.ensures.rest few size (c.fail-in-None.ensures.left m s)
-          (c.fail-in-None.ensures.released s it.place it.filling it.stats stands.blocks) c.fail-in-None.ensures.failed c.in-None.ensures;
+      c.args.is_done c.args.first_offset (seen c.fail-in-None.new.self) c.fail-in-None.new.blocks.items c.take_writing.new.self c.fail-in-None.result c.commit.new.index
+      c.take_writing.ensures.rest few size (c.fail-in-None.ensures.left m s)
+      (c.fail-in-None.ensures.released s it.place it.filling it.stats stands.blocks) c.fail-in-None.ensures.failed c.in-None.ensures;
 }
