@@ -1,5 +1,5 @@
 -- A submission at the end of a flusher's queue.
-use Rattle.std.proofs.Common.{◌≡◌, ℕ, ◌+◌, ◌*◌, ◌^◌, ◌<◌, ◌≤◌, List, [], ◌∷◌, ◌++◌, map, length, slice_set, slice_index_or, refl, sym, ap, subst, ◌∙◌, arith}
+use Rattle.std.proofs.Common.{◌≡◌, ℕ, ◌+◌, ◌-◌, ◌*◌, ◌^◌, ◌<◌, ◌≤◌, List, [], ◌∷◌, ◌++◌, map, length, slice_set, slice_index_or, refl, sym, ap, subst, ◌∙◌, arith}
 use Rattle.foyer_model.specs.Numbers.{put}
 use Rattle.foyer_model.specs.State as plainly
 use Rattle.foyer_core.specs.Content.{Content, Meaning}
@@ -40,6 +40,16 @@ module _ {K V P A : Type 0} (m : Meaning K V P) (s : Settings) where
         batch = stands.batch;
       }))
 
+  -- the same, where number and submission are told in another way
+  pub queue_pushed_at : (φs : List (Flusher K V P A)) (its : ℕ → plainly.Flusher Content) (f k : ℕ) (φ ψ : Flusher K V P A) (x : Submission K V P A) (y : plainly.Submission Content)
+      → f ≡ k → submission_of m x ≡ y → AreFlushersAs m s (map seen φs) its → f < length φs → φ ≡ slice_index_or φs f φ
+      → seen ψ ≡ record (seen φ) { queue = φ.queue.items ++ x ∷ [] }
+      → AreFlushersAs m s (map seen (slice_set φs f ψ)) (put its k (with_queued (its k) y))
+  queue_pushed_at φs its f k φ ψ x y at same are lt is pushed =
+      subst (λ j. AreFlushersAs m s (map seen (slice_set φs f ψ)) (put its j (with_queued (its j) y))) at
+      (subst (λ z. AreFlushersAs m s (map seen (slice_set φs f ψ)) (put its f (with_queued (its f) z))) same
+      (queue_pushed φs its f φ ψ x are lt is pushed))
+
 -- and the sum of the queued sizes
 pub size_grown : (s : Settings) (its : ℕ → plainly.Flusher Content) (f : ℕ) (x : plainly.Submission Content) (queued next more later : ℕ)
     → IsSizedAs s queued next its → f < s.flushers → more ≡ queued + size_in (x ∷ []) → more ≤ later * 2 ^ 64
@@ -50,3 +60,21 @@ size_grown s its f x queued next more later sized lt is bound =
     let pushed : size_in ((its f).queue ++ x ∷ []) ≡ size_in (its f).queue + size_in (x ∷ []) = size_pushed (its f).queue x in
     let sum : queued ≡ size_of_all s.flushers its = sized.sum in
     record { sum = omega arith; bound = bound }
+
+-- a submission leaves a queue, with a size of this much
+pub size_shrunk : (s : Settings) (its : ℕ → plainly.Flusher Content) (f : ℕ) (after : plainly.Flusher Content) (queued size less next : ℕ)
+    → IsSizedAs s queued next its → f < s.flushers → size_in (its f).queue ≡ size + size_in after.queue → less ≡ queued - size
+    → IsSizedAs s less next (put its f after)
+size_shrunk s its f after queued size less next sized lt is now =
+    let put_is : size_of_all s.flushers (put its f after) + size_in (its f).queue ≡ size_of_all s.flushers its + size_in after.queue = size_put s.flushers its f after lt in
+    let sum : queued ≡ size_of_all s.flushers its = sized.sum in
+    let bound : queued ≤ next * 2 ^ 64 = sized.bound in
+    record { sum = omega arith; bound = omega arith }
+
+-- a flusher changes, and its queue has the sizes that it had
+pub size_kept : (s : Settings) (its : ℕ → plainly.Flusher Content) (f : ℕ) (after : plainly.Flusher Content) (queued next : ℕ)
+    → IsSizedAs s queued next its → f < s.flushers → size_in (its f).queue ≡ size_in after.queue → IsSizedAs s queued next (put its f after)
+size_kept s its f after queued next sized lt same =
+    let none : size_in (its f).queue ≡ 0 + size_in after.queue = omega arith in
+    let all : queued ≡ queued - 0 = omega arith in
+    size_shrunk s its f after queued 0 queued next sized lt none all

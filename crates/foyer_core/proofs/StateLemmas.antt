@@ -72,6 +72,16 @@ module _ {K V P A : Type 0} (m : Meaning K V P) (s : Settings) where
           ∙ ap (λ xs. slice_get xs f) (set_map seen φs f ψ)
           ∙ set_here (map seen φs) f (seen ψ) (let e : length (map seen φs) ≡ length φs = map_count seen φs in omega arith)
 
+  -- another flusher that stands for the same
+  pub flusher_kept : (φs : List (Flusher K V P A)) (its : ℕ → plainly.Flusher Content) (f : ℕ) (ψ : Flusher K V P A)
+      → AreFlushersAs m s (map seen φs) its → f < length φs → IsFlusherAs m s (seen ψ) (its f) → AreFlushersAs m s (map seen (slice_set φs f ψ)) its
+  flusher_kept φs its f ψ are lt stands =
+      let changed : AreFlushersAs m s (map seen (slice_set φs f ψ)) (put its f (its f)) = flusher_put φs its f ψ (its f) are lt stands in
+      record {
+        count = changed.count;
+        all = λ g x is. subst (λ k. IsFlusherAs m s x k) (put_at (λ k. k ≡ its g) its f (its f) g (λ e. ap its (sym e)) (λ ne. refl)) (changed.all g x is);
+      }
+
   -- a core that is unchanged stands for the same states
   pub unchanged_stands : (old new : Core K V P A) (it : plainly.State Content)
       → IsUnchanged old new → IsStateOf m s old it → IsStateOf m s new it

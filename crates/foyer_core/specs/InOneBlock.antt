@@ -6,11 +6,15 @@ use Rattle.foyer_model.specs.Record.{Record}
 use Rattle.foyer_model.specs.Receive.{bytes_taken}
 use Rattle.foyer_model.specs.Rules.{Splitting}
 
+-- bytes with zeros behind them, up to whole pages
+abbrev pub padded : List ℕ → List ℕ
+padded bytes = bytes ++ replicate (page_up (length bytes) - length bytes) 0
+
 module _ {C : Type 0} where
   -- the bytes of records one behind another, each padded with zeros to whole pages
   abbrev pub packed : List (Record C) → List ℕ
   packed [] = []
-  packed (r ∷ rs) = (r.bytes ++ replicate (page_up (length r.bytes) - length r.bytes) 0) ++ packed rs
+  packed (r ∷ rs) = padded r.bytes ++ packed rs
 
   -- each record with its offset, where the first stands at n
   abbrev pub laid_from : ℕ → List (Record C) → List (ℕ × Record C)

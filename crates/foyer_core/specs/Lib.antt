@@ -1,6 +1,8 @@
 pub mod Answered
 pub mod Asked
 pub mod Batches
+pub mod Beginning
+pub mod Begins
 pub mod Content
 pub mod Disk
 pub mod Flushing
@@ -12,5 +14,6 @@ pub mod Plain
 pub mod Replied
 pub mod Sizes
 pub mod Standing
+pub mod Taking
 pub mod Turns
 pub mod Unchanged

@@ -8,7 +8,9 @@ use Rattle.foyer_model.specs.Rules.{Rules, Splitting}
 use Rattle.foyer_model.specs.State.{State}
 use Rattle.foyer_model.specs.Step as plain
 use Rattle.foyer_model.specs.Turn.{IsOutOfTurn, Follows}
-use Rattle.foyer_core.specs.Asked.{step_of}
+use Rattle.foyer_model.specs.Index.{without}
+use Rattle.foyer_model.specs.Numbers.{put}
+use Rattle.foyer_core.specs.Asked.{address_of, step_of}
 use Rattle.foyer_core.specs.Content.{Content, Meaning}
 use Rattle.foyer_core.specs.InOneBlock.{IsInOneBlock}
 use Rattle.foyer_core.specs.Plain.{rules_of}
@@ -19,6 +21,7 @@ use Rattle.foyer_core.specs.declared.reply.Reply.{Reply}
 use Rattle.foyer_core.specs.declared.settings.Settings.{Settings}
 use Rattle.foyer_core.specs.declared.state.Core.{Core}
 use Rattle.foyer_core.specs.declared.step.Step.{Step}
+use Rattle.foyer_core.specs.declared.step.Ticket.{Ticket}
 
 -- The relation of the plain machine, but for the count of steps.
 abbrev pub Turns : {C : Type 0} → Rules C → Splitting C → State C → plain.Step C → replies.Reply C → State C → Type 0
@@ -29,6 +32,10 @@ Turns rules Splits old given answer new = InTurn rules old given × Does rules S
 -- the machine of a core
 abbrev pub machine : {K V P : Type 0} → Meaning K V P → (s : Settings) → IsSound s → Rules Content
 machine m s sound = rules_of m.is_key m.is_value s sound
+
+-- the very address of a ticket leaves the index
+abbrev pub missed : State Content → Ticket → State Content
+missed it ticket = record it { index = put it.index ticket.hash (without (address_of ticket.address) (it.index ticket.hash)) }
 
 -- what a step, but for its count, makes of a plain state that the core stands for
 pub record IsTurned {K V P A : Type 0} (m : Meaning K V P) (s : Settings) (sound : IsSound s) (given : Step K V P A) (answer : Reply K V P A) (new : Core K V P A) (old : State Content) : Type 0 where

@@ -1,6 +1,8 @@
 //! The steps of a flush.
+ghost use Rattle.std.specs.Prelude.{Option};
+ghost use Rattle.foyer_format.specs.declared.serde.ages.Age.{Age as age};
 ghost use Rattle.foyer_core.specs.Answered.{HandsBack, TellsNothing};
-ghost use Rattle.foyer_core.specs.Content.{Meaning};
+ghost use Rattle.foyer_core.specs.Content.{Meaning, meaning};
 ghost use Rattle.foyer_core.specs.Meets.{Turned};
 ghost use Rattle.foyer_core.specs.declared.step.Step.TheVariants as step;
 
@@ -20,6 +22,9 @@ impl<K, V, P, A: Allocator + Clone> Core<K, V, P, A> {
         V: Code<A>,
         ensures back { HandsBack (step.Receive flusher) result self.old self.new }
         ensures nothing { TellsNothing result }
+        ensures meets { (age_of : P → Option age)
+            → Turned (meaning K.spelling V.spelling K.encodes V.encodes K.is_spelling V.is_spelling age_of)
+            (step.Receive flusher) result self.old self.new }
     {
         if flusher as usize >= self.flushers.len() {
             return Reply::NotNow(Step::Receive { flusher });
@@ -39,6 +44,7 @@ impl<K, V, P, A: Allocator + Clone> Core<K, V, P, A> {
     pub(crate) fn flush_begin(&mut self, flusher: u32) -> Reply<K, V, P, A>
         ensures back { HandsBack (step.FlushBegin flusher) result self.old self.new }
         ensures nothing { TellsNothing result }
+        ensures meets { (m : Meaning K V P) → Turned m (step.FlushBegin flusher) result self.old self.new }
     {
         if flusher as usize >= self.flushers.len() {
             return Reply::NotNow(Step::FlushBegin { flusher });

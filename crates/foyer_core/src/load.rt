@@ -1,18 +1,20 @@
 //! Loads: a look-up that tells a read, and the judgement on what was read.
-ghost use Rattle.std.specs.Prelude.{◌≡◌, Option};
+ghost use Rattle.std.specs.Prelude.{◌≡◌, Option, slice_get};
 ghost use Rattle.foyer_format.specs.declared.serde.ages.Age.{Age as age};
 ghost use Rattle.foyer_core.specs.Answered.{HandsBack, AnswersPair, Looking};
-ghost use Rattle.foyer_core.specs.Content.{Meaning, meaning};
-ghost use Rattle.foyer_core.specs.Meets.{Turned};
+ghost use Rattle.foyer_model.specs.State.{State};
+ghost use Rattle.foyer_core.specs.Content.{Content, Meaning, meaning};
+ghost use Rattle.foyer_core.specs.Meets.{Turned, missed};
+ghost use Rattle.foyer_core.specs.Standing.{IsStateOf};
+ghost use Rattle.foyer_core.specs.declared.settings.Settings.{Settings};
 ghost use Rattle.foyer_core.specs.declared.reply.Reply.TheVariants as reply;
 ghost use Rattle.foyer_core.specs.declared.step.Step.TheVariants as step;
 
 use crate::reply::Reply;
-use crate::state::Core;
+use crate::state::{BlockState, Core};
 use crate::step::{Step, Ticket};
 use foyer_block::manager::BlockId;
 use foyer_device::error::{ErrorKind, Result};
-use foyer_format::block::buffer::PAGE;
 use foyer_format::block::serde::read_record;
 use foyer_format::serde::{Age, Code};
 use std::alloc::Allocator;
@@ -28,12 +30,11 @@ fn load_end<K, V, P, A: Allocator>(ticket: Ticket, outcome: Result<Vec<u8, A>>) 
 }
 
 impl<K, V, P, A: Allocator + Clone> Core<K, V, P, A> {
-    // How often a block was handed out or destroyed.
-    fn filling_of(&self, block: BlockId) -> u64 {
-        match self.blocks.get(block as usize) {
-            Some(state) => state.filling,
-            None => 0,
-        }
+    // What is known of a block, if it is there.
+    fn known(&self, block: BlockId) -> Option<BlockState>
+        ensures { result ≡ slice_get self.now.blocks.items block }
+    {
+        self.blocks.get(block as usize).copied()
     }
 
     // An address of an older filling leaves the index.
@@ -48,19 +49,22 @@ impl<K, V, P, A: Allocator + Clone> Core<K, V, P, A> {
         if throttled {
             return Reply::Throttled;
         }
-        if self.filling_of(address.block) != address.filling {
+        let Some(state) = self.blocks.get_mut(address.block as usize) else {
+            return Reply::Miss;
+        };
+        if state.filling != address.filling {
             self.index.remove(hash, &address);
             return Reply::Miss;
         }
-        if let Some(state) = self.blocks.get_mut(address.block as usize) {
-            state.access = state.access.saturating_add(1);
-        }
+        state.access = state.access.saturating_add(1);
         Reply::Read(Ticket { hash, address })
     }
 
     // The very address leaves the index.
     fn miss(&mut self, ticket: &Ticket) -> Reply<K, V, P, A>
-        ensures { result ≡ reply.Miss }
+        ensures reply { result ≡ reply.Miss }
+        ensures meets { (m : Meaning K V P) (s : Settings) (it : State Content) → IsStateOf m s self.old it
+            → IsStateOf m s self.new (missed it ticket.now) }
     {
         self.index.remove(ticket.hash, &ticket.address);
         Reply::Miss
@@ -83,14 +87,14 @@ impl<K, V, P, A: Allocator + Clone> Core<K, V, P, A> {
             (step.LoadEnd ticket outcome) result self.old self.new }
     {
         let address = ticket.address;
-        let Some(state) = self.blocks.get(address.block as usize) else {
+        let Some(state) = self.known(address.block) else {
             return Reply::NotNow(load_end(ticket, outcome));
         };
         let bytes = match outcome {
             Ok(bytes) => bytes,
             Err(error) => return Reply::Refused(ErrorKind::Io, load_end(ticket, Err(error))),
         };
-        if bytes.len() != (address.len as usize).div_ceil(PAGE) * PAGE {
+        if bytes.len() != ticket.read_len() {
             return Reply::NotNow(load_end(ticket, Ok(bytes)));
         }
         if state.filling != address.filling {

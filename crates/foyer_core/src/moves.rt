@@ -11,7 +11,6 @@ use crate::state::Core;
 use crate::step::{Step, Ticket};
 use foyer_block::manager::BlockId;
 use foyer_device::error::{Error, Result};
-use foyer_format::block::buffer::PAGE;
 use foyer_format::serde::{Code, Properties};
 use foyer_policy::keeper::Piece;
 use std::alloc::{AllocError, Allocator};
@@ -89,7 +88,6 @@ struct Told {
     next: usize,
 }
 
-#[tactic(auto, unfolding(foyer_format::specs::Page::page_up))]
 /// Does the read that a ticket tells. `Err` is a refused growth; a fault of the disk is the step's result.
 pub fn read_told<A: Allocator, D: Disk>(
     alloc: A,
@@ -102,7 +100,7 @@ pub fn read_told<A: Allocator, D: Disk>(
         vec_len bytes ≡ page_up ticket.now.address.len)) }
     ensures same { D.byte_at disk.new ≡ D.byte_at disk.old }
 {
-    let len = (ticket.address.len as usize).div_ceil(PAGE) * PAGE;
+    let len = ticket.read_len();
     let mut bytes = Vec::with_capacity(alloc, len)?;
     let (block, offset) = (ticket.address.block, ticket.address.offset as usize);
     match disk.read(block, offset, len, &mut bytes) {

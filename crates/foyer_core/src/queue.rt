@@ -7,6 +7,7 @@ ghost use Rattle.foyer_core.specs.Unchanged.{IsUnchanged};
 ghost use Rattle.foyer_core.specs.Content.{Meaning};
 ghost use Rattle.foyer_core.specs.Meets.{Turned};
 ghost use Rattle.foyer_core.specs.declared.step.Step.TheVariants as step;
+ghost use Rattle.foyer_format.specs.Page.{page_up};
 ghost use Rattle.foyer_format.specs.declared.serde.ages.Age.TheVariants as age;
 
 use crate::block::flusher::{InvalidStats, Submission, TombstoneInfo};
@@ -22,7 +23,11 @@ use foyer_policy::keeper::Piece;
 use std::alloc::Allocator;
 
 // The bytes of a block that a mark makes invalid where it pushes this address out.
-fn invalid_stats(address: &EntryAddress) -> InvalidStats {
+#[tactic(auto, unfolding(foyer_format::specs::Page::page_up))]
+fn invalid_stats(address: &EntryAddress) -> InvalidStats
+    ensures block { result.block ≡ address.now.block }
+    ensures size { result.size ≡ page_up address.now.len }
+{
     InvalidStats {
         block: address.block,
         size: (address.len as usize).div_ceil(PAGE) * PAGE,

@@ -1,7 +1,11 @@
 //! What may happen to the core.
+ghost use Rattle.std.specs.Prelude.{◌≡◌, ◌≤◌};
+ghost use Rattle.foyer_format.specs.Page.{page_up};
+
 use foyer_block::indexer::EntryAddress;
 use foyer_block::manager::BlockId;
 use foyer_device::error::Result;
+use foyer_format::block::buffer::PAGE;
 use foyer_policy::keeper::Piece;
 use std::alloc::Allocator;
 
@@ -12,6 +16,17 @@ pub struct Ticket {
     pub hash: u64,
     /// Where the index had it.
     pub address: EntryAddress,
+}
+
+impl Ticket {
+    /// How many bytes are read: the record's, in whole pages.
+    #[tactic(auto, unfolding(foyer_format::specs::Page::page_up))]
+    pub fn read_len(&self) -> usize
+        ensures pages { result ≡ page_up self.now.address.len }
+        ensures all { self.now.address.len ≤ result }
+    {
+        (self.address.len as usize).div_ceil(PAGE) * PAGE
+    }
 }
 
 /// One event of the engine.

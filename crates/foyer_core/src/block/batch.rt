@@ -1,4 +1,5 @@
 //! A flusher's batch: from its buffer to a block, and into the index.
+ghost use Rattle.foyer_core.specs.Beginning.{IsBegun};
 ghost use Rattle.std.specs.Prelude.{◌≡◌, ◌≢◌, ◌↔◌, ◌<◌, ℕ, List, [], ◌∷◌, map, Option, None, Some, IsSomeAnd, IsTrue, true, false};
 ghost use Rattle.std.specs.Prelude.{IfOk, OnErr, MatchOption, vec_len, vec_capacity, nat_lt};
 ghost use Rattle.foyer_block.specs.Index.{IndexMap};
@@ -288,6 +289,7 @@ impl<K, V, P, A: Allocator + Clone> Flusher<K, V, P, A> {
     pub(crate) fn begin(&mut self, alloc: &A) -> Result<Vec<Tombstone, A>>
         requires { MayBegin self.old }
         ensures refused { OnErr result (self.new ≡ self.old) }
+        ensures begins { IfOk result (λ told. IsBegun self.old self.new told.items) }
     {
         let told = Vec::from_slice(alloc.clone()?, self.marks.as_slice())?;
         let mut writes = Vec::with_capacity(alloc.clone()?, 1)?;

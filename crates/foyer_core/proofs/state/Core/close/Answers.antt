@@ -1,5 +1,10 @@
 use Rattle.std.proofs.Common.{true, refl}
 use Rattle.foyer_model.specs.Reply.{Done}
+use Rattle.foyer_core.proofs.PlacedLemmas.{keeps_records, places_all}
+use Rattle.foyer_core.proofs.TripLemmas.{round_trip}
+use Rattle.foyer_core.proofs.ReceiveLemmas.{records_end, packed_end, taken_end, pushed_bytes, has_room, lacks_room}
+use Rattle.foyer_core.proofs.TakenLemmas.{needs_room, wait_kept, mark_kept, piece_kept, piece_back, short_buffer}
+use Rattle.foyer_core.proofs.OpenedLemmas.{opened_stands, first_opened}
 use Rattle.foyer_core.proofs.state.Core.close.Goals as goal
 
 pub returns-clause-meets : goal.returns-clause-meets

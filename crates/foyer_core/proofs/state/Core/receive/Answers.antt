@@ -1,4 +1,18 @@
-use Rattle.std.proofs.Common.{refl}
+use Rattle.std.proofs.Common.{◌≡◌, ◌+◌, ◌-◌, ◌<◌, length, [], Some, None, Ok, refl, ap, sym, subst, ◌∙◌, arith}
+use Rattle.foyer_device.specs.declared.error.ErrorKind.TheVariants as kind
+use Rattle.foyer_model.specs.Numbers.{put}
+use Rattle.foyer_model.specs.Receive.{turned, Takes as TakesOne}
+use Rattle.foyer_model.specs.Reply as replies
+use Rattle.foyer_core.specs.Content.{meaning}
+use Rattle.foyer_core.specs.Flushing.{IsFlusherAs}
+use Rattle.foyer_core.specs.Meets.{machine}
+use Rattle.foyer_core.specs.Replied.{returned}
+use Rattle.foyer_core.specs.Taking.{IsTaken, NeedsRoom, Takes}
+use Rattle.foyer_core.specs.Unchanged.{seen}
+use Rattle.foyer_core.specs.declared.step.Step.TheVariants as step
+use Rattle.foyer_core.proofs.QueueLemmas.{size_shrunk}
+use Rattle.foyer_core.proofs.StateLemmas.{flushers_count, flusher_at, flusher_kept, flusher_put}
+use Rattle.foyer_core.proofs.TurnLemmas.{is_early, same, refused, not_now}
 use Rattle.foyer_core.proofs.FlusherLists.{same_seen}
 use Rattle.foyer_core.proofs.state.Core.receive.Goals as goal
 
@@ -20,3 +34,129 @@ returns-in-Err-clause-back g c =
         waiting = refl;
       },
     )
+
+pub returns-then-flusher-len-clause-meets : goal.returns-then-flusher-len-clause-meets
+returns-then-flusher-len-clause-meets g c = λ age_of s sound it stands few.
+    let m = meaning g.K.Code.spelling g.V.Code.spelling g.K.Code.encodes g.V.Code.encodes g.K.Code.is_spelling g.V.Code.is_spelling age_of in
+    let old = c.args.self.now in
+    let f = c.args.flusher in
+    let count : length old.flushers.items ≡ s.flushers = flushers_count m s old.flushers.items it.flushers stands.flushers in
+    not_now m s sound (step.Receive f) old _ it (same old) stands (is_early m s old it stands few, (λ draws. absurd draws), (λ turn. let lt : f < s.flushers = turn in omega (arith, c.len.ensures, c.if-flusher-len.true)))
+
+pub returns-in-Err-clause-meets : goal.returns-in-Err-clause-meets
+returns-in-Err-clause-meets g c = λ age_of s sound it stands few.
+    let m = meaning g.K.Code.spelling g.V.Code.spelling g.K.Code.encodes g.V.Code.encodes g.K.Code.is_spelling g.V.Code.is_spelling age_of in
+    let old = c.args.self.now in
+    let f = c.args.flusher in
+    let count : length old.flushers.items ≡ s.flushers = flushers_count m s old.flushers.items it.flushers stands.flushers in
+    let within : f < length old.flushers.items = omega (arith, c.len.ensures, c.if-flusher-len.false) in
+    let there : f < s.flushers = omega arith in
+    let found = c.index_mut-found.result.now in
+    let before : IsFlusherAs m s (seen found) (it.flushers f) = flusher_at m s old.flushers.items it.flushers f found stands.flushers within c.index_mut-found.ensures.value in
+    let sizes : old.settings.block_size ≡ s.block_size = ap (λ x. x.block_size) stands.sizes in
+    let needs : NeedsRoom m s sound it f = c.in-Err.ensures.takes age_of s sound it f sizes before in
+    refused m s sound (step.Receive f) old _ it kind.Memory replies.Memory refl (returns-in-Err-clause-back g c).1 stands
+    (is_early m s old it stands few, (there, (needs.reply, needs.after, needs.receives, needs.grows)))
+
+pub returns-in-Ok-Nothing-clause-meets : goal.returns-in-Ok-Nothing-clause-meets
+returns-in-Ok-Nothing-clause-meets g c = λ age_of s sound it stands few.
+    let m = meaning g.K.Code.spelling g.V.Code.spelling g.K.Code.encodes g.V.Code.encodes g.K.Code.is_spelling g.V.Code.is_spelling age_of in
+    let old = c.args.self.now in
+    let f = c.args.flusher in
+    let count : length old.flushers.items ≡ s.flushers = flushers_count m s old.flushers.items it.flushers stands.flushers in
+    let within : f < length old.flushers.items = omega (arith, c.len.ensures, c.if-flusher-len.false) in
+    let there : f < s.flushers = omega arith in
+    let found = c.index_mut-found.result.now in
+    let before : IsFlusherAs m s (seen found) (it.flushers f) = flusher_at m s old.flushers.items it.flushers f found stands.flushers within c.index_mut-found.ensures.value in
+    let sizes : old.settings.block_size ≡ s.block_size = ap (λ x. x.block_size) stands.sizes in
+    let none : ((it.flushers f).queue ≡ []) × IsFlusherAs m s (seen c.receive.new.self) (it.flushers f) =
+    subst (λ x. Takes m s sound it f (Ok x) c.receive.new.self) c.in-Ok-Nothing.field-0-is (c.in-Ok-Nothing.ensures.takes age_of s sound it f sizes before) in
+    record {
+      after = it;
+      it = replies.Empty;
+      stands = record {
+        sizes = stands.sizes;
+        index = stands.index;
+        next = stands.next;
+        steps = stands.steps;
+        closed = stands.closed;
+        flushers = flusher_kept m s old.flushers.items it.flushers f c.receive.new.self stands.flushers within none.1;
+        queued = stands.queued;
+        blocks = stands.blocks;
+        clean = stands.clean;
+        waiting = stands.waiting;
+        reclaims = stands.reclaims;
+        destroy = stands.destroy;
+      };
+      reply = refl;
+      turns = (there, subst (λ q. TakesOne (machine m s sound) it f q replies.Empty it) (sym none.0) refl);
+    }
+
+pub returns-in-Ok-Other-clause-meets : goal.returns-in-Ok-Other-clause-meets
+returns-in-Ok-Other-clause-meets g c = λ age_of s sound it stands few.
+    let m = meaning g.K.Code.spelling g.V.Code.spelling g.K.Code.encodes g.V.Code.encodes g.K.Code.is_spelling g.V.Code.is_spelling age_of in
+    let old = c.args.self.now in
+    let f = c.args.flusher in
+    let count : length old.flushers.items ≡ s.flushers = flushers_count m s old.flushers.items it.flushers stands.flushers in
+    let within : f < length old.flushers.items = omega (arith, c.len.ensures, c.if-flusher-len.false) in
+    let there : f < s.flushers = omega arith in
+    let found = c.index_mut-found.result.now in
+    let before : IsFlusherAs m s (seen found) (it.flushers f) = flusher_at m s old.flushers.items it.flushers f found stands.flushers within c.index_mut-found.ensures.value in
+    let sizes : old.settings.block_size ≡ s.block_size = ap (λ x. x.block_size) stands.sizes in
+    let taken : IsTaken m s sound it f 0 None c.receive.new.self =
+    subst (λ x. Takes m s sound it f (Ok x) c.receive.new.self) c.in-Ok-Other.field-0-is (c.in-Ok-Other.ensures.takes age_of s sound it f sizes before) in
+    let all : old.queued ≡ old.queued - 0 = omega arith in
+    record {
+      after = turned (machine m s sound) it f taken.after;
+      it = replies.Received None;
+      stands = record {
+        sizes = stands.sizes;
+        index = stands.index;
+        next = stands.next;
+        steps = stands.steps;
+        closed = stands.closed;
+        flushers = flusher_put m s old.flushers.items it.flushers f c.receive.new.self taken.after stands.flushers within taken.stands;
+        queued = size_shrunk s it.flushers f taken.after old.queued 0 old.queued old.next stands.queued there taken.size_is all;
+        blocks = stands.blocks;
+        clean = stands.clean;
+        waiting = stands.waiting;
+        reclaims = stands.reclaims;
+        destroy = stands.destroy;
+      };
+      reply = refl;
+      turns = (there, taken.receives);
+    }
+
+pub returns-in-Ok-Piece-clause-meets : goal.returns-in-Ok-Piece-clause-meets
+returns-in-Ok-Piece-clause-meets g c = λ age_of s sound it stands few.
+    let m = meaning g.K.Code.spelling g.V.Code.spelling g.K.Code.encodes g.V.Code.encodes g.K.Code.is_spelling g.V.Code.is_spelling age_of in
+    let old = c.args.self.now in
+    let f = c.args.flusher in
+    let count : length old.flushers.items ≡ s.flushers = flushers_count m s old.flushers.items it.flushers stands.flushers in
+    let within : f < length old.flushers.items = omega (arith, c.len.ensures, c.if-flusher-len.false) in
+    let there : f < s.flushers = omega arith in
+    let found = c.index_mut-found.result.now in
+    let before : IsFlusherAs m s (seen found) (it.flushers f) = flusher_at m s old.flushers.items it.flushers f found stands.flushers within c.index_mut-found.ensures.value in
+    let sizes : old.settings.block_size ≡ s.block_size = ap (λ x. x.block_size) stands.sizes in
+    let taken : IsTaken m s sound it f c.in-Ok-Piece.size (returned m c.in-Ok-Piece.back) c.receive.new.self =
+    subst (λ x. Takes m s sound it f (Ok x) c.receive.new.self) c.in-Ok-Piece.field-0-is (c.in-Ok-Piece.ensures.takes age_of s sound it f sizes before) in
+    record {
+      after = turned (machine m s sound) it f taken.after;
+      it = replies.Received (returned m c.in-Ok-Piece.back);
+      stands = record {
+        sizes = stands.sizes;
+        index = stands.index;
+        next = stands.next;
+        steps = stands.steps;
+        closed = stands.closed;
+        flushers = flusher_put m s old.flushers.items it.flushers f c.receive.new.self taken.after stands.flushers within taken.stands;
+        queued = size_shrunk s it.flushers f taken.after old.queued c.in-Ok-Piece.size c.saturating_sub-self.result old.next stands.queued there taken.size_is c.saturating_sub-self.ensures;
+        blocks = stands.blocks;
+        clean = stands.clean;
+        waiting = stands.waiting;
+        reclaims = stands.reclaims;
+        destroy = stands.destroy;
+      };
+      reply = refl;
+      turns = (there, taken.receives);
+    }

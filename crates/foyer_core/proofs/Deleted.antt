@@ -1,0 +1,33 @@
+-- What a delete's mark pushes out.
+use Rattle.std.proofs.Common.{◌≡◌, ℕ, nat_le, Bool, true, false, if◌then◌else◌, List, [], ◌∷◌, Option, Some, None, refl, sym, ap, ◌∙◌}
+use Rattle.foyer_block.specs.Index.{address_of}
+use Rattle.foyer_block.specs.Insertion.{left_out}
+use Rattle.foyer_block.specs.declared.indexer.EntryAddress.{EntryAddress}
+use Rattle.foyer_block.specs.declared.indexer.Index.{Index}
+use Rattle.foyer_block.specs.declared.indexer.Index.TheVariants.{Address, Tombstone}
+use Rattle.foyer_format.specs.Page.{page_up}
+use Rattle.foyer_model.specs.Queue.{spoiled_by}
+use Rattle.foyer_core.specs.Content.{Meaning}
+use Rattle.foyer_core.specs.Meets.{machine}
+use Rattle.foyer_core.specs.Sizes.{IsSound}
+use Rattle.foyer_core.specs.Standing.{slot_of}
+use Rattle.foyer_core.specs.declared.settings.Settings.{Settings}
+
+-- the bytes of an address, with its block
+abbrev pub bytes_of : Option EntryAddress → List (ℕ × ℕ)
+bytes_of None = []
+bytes_of (Some a) = (a.block, page_up a.len) ∷ []
+
+pub pushed_out : {K V P : Type 0} (m : Meaning K V P) (s : Settings) (sound : IsSound s) (held : Option Index) (sequence : ℕ)
+    → bytes_of (left_out held (Tombstone sequence)) ≡ spoiled_by (machine m s sound) sequence (slot_of held)
+pushed_out m s sound None sequence = refl
+pushed_out m s sound (Some (Tombstone t)) sequence = go (nat_le t sequence)
+  where
+    go : (b : Bool) → bytes_of (address_of (if b then Tombstone t else Tombstone sequence)) ≡ []
+    go true = refl
+    go false = refl
+pushed_out m s sound (Some (Address a)) sequence = go (nat_le a.sequence sequence)
+  where
+    go : (b : Bool) → bytes_of (address_of (if b then Address a else Tombstone sequence)) ≡ (if b then (a.block, page_up a.len) ∷ [] else [])
+    go true = refl
+    go false = refl

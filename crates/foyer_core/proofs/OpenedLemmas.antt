@@ -1,0 +1,154 @@
+-- An opened core stands for the first state, and the first world is opened.
+use Rattle.std.proofs.Common.{◌≡◌, ℕ, zero, suc, ◌+◌, ◌*◌, ◌^◌, ◌<◌, ◌≤◌, ◌==◌, ◌||◌, Bool, true, false, List, [], ◌∷◌, ◌++◌, map, replicate, length, Option, Some, None, slice_get, inl, refl, sym, ap, subst, ◌∙◌, arith}
+use Rattle.std.proofs.lemmas.Bool.{eqb-true}
+use Rattle.std.specs.FinMap.{get-empty}
+use Rattle.std.specs.Ordering.{nat_cmp}
+use Rattle.foyer_block.specs.declared.indexer.Index.TheVariants.{Address}
+use Rattle.foyer_model.specs.Ids.{ids, is_id_in, AreDistinct}
+use Rattle.foyer_model.specs.Opened.{IsOpened as IsOpenedWorld, idle as plain_idle, clean_among}
+use Rattle.foyer_model.specs.Rules.{Rules}
+use Rattle.foyer_model.specs.State as plainly
+use Rattle.foyer_model.proofs.Ids.{distinct_append}
+use Rattle.foyer_core.specs.Begins.{first_state, first_world}
+use Rattle.foyer_core.specs.Content.{Content, Meaning}
+use Rattle.foyer_core.specs.Flushing.{IsFlusherAs}
+use Rattle.foyer_core.specs.Meets.{machine}
+use Rattle.foyer_core.specs.Opened.{IsOpened, idle, unused, numbers_below}
+use Rattle.foyer_core.specs.Sizes.{IsSound}
+use Rattle.foyer_core.specs.Standing.{IsStateOf, IsIndexedAs, AreFlushersAs, AreBlocksAs, AreCleanAs, AllBelow, IsBlockAs, slot_of, size_of_all}
+use Rattle.foyer_core.specs.Unchanged.{Seen, seen}
+use Rattle.foyer_core.specs.declared.settings.Settings.{Settings}
+use Rattle.foyer_core.specs.declared.state.BlockState.{BlockState}
+use Rattle.foyer_core.specs.declared.state.Core.{Core}
+use Rattle.foyer_core.proofs.StateLemmas.{some_is}
+
+replicate_count : {X : Type 0} (n : ℕ) (x : X) → length (replicate n x) ≡ n
+replicate_count zero x = refl
+replicate_count (suc n) x = ap suc (replicate_count n x)
+
+replicate_at : {X : Type 0} (n i : ℕ) (x y : X) → slice_get (replicate n x) i ≡ Some y → x ≡ y
+replicate_at zero i x y is = absurd (cc)
+replicate_at (suc n) zero x y is = some_is is
+replicate_at (suc n) (suc i) x y is = replicate_at n i x y is
+
+numbers_are_ids : (n : ℕ) → numbers_below n ≡ ids n
+unfolding numbers_below
+numbers_are_ids zero = refl
+numbers_are_ids (suc n) = ap (λ xs. xs ++ n ∷ []) (numbers_are_ids n)
+
+below_more : (n k : ℕ) (xs : List ℕ) → n ≤ k → AllBelow n xs → AllBelow k xs
+below_more n k [] le all = tt
+below_more n k (x ∷ xs) le all = let lt : x < n = all.0 in (omega arith, below_more n k xs le all.1)
+
+below_end : (n : ℕ) (xs : List ℕ) (x : ℕ) → AllBelow n xs → x < n → AllBelow n (xs ++ x ∷ [])
+below_end n [] x all lt = (lt, tt)
+below_end n (y ∷ ys) x all lt = (all.0, below_end n ys x all.1 lt)
+
+ids_below : (n : ℕ) → AllBelow n (ids n)
+ids_below zero = tt
+ids_below (suc n) = below_end (suc n) (ids n) n (below_more n (suc n) (ids n) (omega arith) (ids_below n)) (omega arith)
+
+not_among : (n : ℕ) (xs : List ℕ) → AllBelow n xs → is_id_in n xs ≡ false
+not_among n [] all = refl
+not_among n (x ∷ xs) all = go (n == x) refl (not_among n xs all.1)
+  where
+    lt : x < n
+    lt = all.0
+
+    go : (t : Bool) → (n == x) ≡ t → is_id_in n xs ≡ false → (t || is_id_in n xs) ≡ false
+    go true e rest = absurd (let same : n ≡ x = eqb-true n x e in omega arith)
+    go false e rest = rest
+
+distinct_ids : (n : ℕ) → AreDistinct (ids n)
+distinct_ids zero = tt
+distinct_ids (suc n) = distinct_append n (ids n) (not_among n (ids n) (ids_below n)) (distinct_ids n)
+
+no_sizes : (n : ℕ) (rules : Rules Content) → size_of_all n (λ f. plain_idle rules) ≡ 0
+no_sizes zero rules = refl
+no_sizes (suc n) rules = let rest : size_of_all n (λ f. plain_idle rules) ≡ 0 = no_sizes n rules in omega arith
+
+all_clean : (xs : List ℕ) → clean_among (λ b. plainly.Clean) xs ≡ xs
+all_clean [] = refl
+all_clean (x ∷ xs) = ap (λ ys. x ∷ ys) (all_clean xs)
+
+block_stands : (it : BlockState) → unused ≡ it → IsBlockAs it plainly.Clean 0 plainly.no_stats
+block_stands it is = subst (λ x. IsBlockAs x plainly.Clean 0 plainly.no_stats) is (record { place = refl; filling = refl; stats = refl })
+
+module _ {K V P A : Type 0} (m : Meaning K V P) (s : Settings) (sound : IsSound s) where
+  idle_stands : (x : Seen K V P A) → idle s.blob_index_size ≡ x → IsFlusherAs m s x (plain_idle (machine m s sound))
+  idle_stands x is = subst (λ y. IsFlusherAs m s y (plain_idle (machine m s sound))) is (record {
+    queue = refl;
+    buffer = tt;
+    bytes = refl;
+    marks = refl;
+    spoils = refl;
+    waits = refl;
+    own = refl;
+    there = tt;
+    ready = refl;
+    context = refl;
+    behind = let le : s.blob_index_size ≤ s.blob_index_size = omega arith in le;
+    within = let lt : s.blob_index_size < s.block_size = sound.room in omega arith;
+    batch = tt;
+  })
+
+  pub opened_stands : (core : Core K V P A) → IsOpened s core → IsStateOf m s core (first_state (machine m s sound))
+  opened_stands core opened = record {
+    sizes = opened.sizes;
+    index = subst (λ k. IsIndexedAs s k (λ hash. None)) (sym opened.index) (record {
+      slot = λ hash. ap slot_of (sym (get-empty nat_cmp hash));
+      there = λ hash a is. absurd (let e : None ≡ Some (Address a) = sym (get-empty nat_cmp hash) ∙ is in cc);
+    });
+    next = sym opened.next;
+    steps = sym opened.steps;
+    closed = sym opened.closed;
+    flushers = subst (λ xs. AreFlushersAs m s xs (λ f. plain_idle (machine m s sound))) (sym opened.flushers) (record {
+      count = replicate_count s.flushers (idle s.blob_index_size);
+      all = λ f x is. idle_stands x (replicate_at s.flushers f (idle s.blob_index_size) x is);
+    });
+    queued = record {
+      sum = opened.queued ∙ sym (no_sizes s.flushers (machine m s sound));
+      bound = let none : core.queued ≡ 0 = opened.queued in omega arith;
+    };
+    blocks = subst (λ xs. AreBlocksAs s xs (λ b. plainly.Clean) (λ b. 0) (λ b. plainly.no_stats)) (sym opened.blocks) (record {
+      count = replicate_count s.blocks unused;
+      all = λ b it is. block_stands it (replicate_at s.blocks b unused it is);
+    });
+    clean = subst (λ xs. AreCleanAs s xs (ids s.blocks)) (sym (opened.clean ∙ numbers_are_ids s.blocks)) (record {
+      is = refl;
+      there = ids_below s.blocks;
+      once = distinct_ids s.blocks;
+    });
+    waiting = sym opened.waiting;
+    reclaims = λ b. refl;
+    destroy = refl;
+  }
+
+pub first_opened : {C : Type 0} (rules : Rules C) (bytes : ℕ → ℕ → ℕ) → IsOpenedWorld rules (first_world rules bytes)
+first_opened rules bytes = record {
+  found = [];
+  all = tt;
+  index = λ h. refl;
+  history = refl;
+  kept = λ h. refl;
+  place = λ b. inl refl;
+  clean = sym (all_clean (ids rules.blocks));
+  first = let lt : 0 < 1 = omega arith in lt;
+  last = omega arith;
+  steps = refl;
+  closed = refl;
+  flushers = λ f. refl;
+  waiting = refl;
+  filling = λ b. refl;
+  stats = λ b. refl;
+  reclaims = λ b. refl;
+  destroy = refl;
+  filled = λ b. refl;
+  begun_writes = refl;
+  committed = refl;
+  loads = λ n. refl;
+  told = refl;
+  scans = λ b. refl;
+  pens = λ f. refl;
+  wipes = λ b. refl;
+}

@@ -1,0 +1,74 @@
+-- Steps that are handed back.
+use Rattle.std.proofs.Common.{◌≡◌, ℕ, ◌^◌, ◌<◌, ◌-◌, Some, refl, sym, subst, arith}
+use Rattle.foyer_device.specs.declared.error.ErrorKind.{ErrorKind}
+use Rattle.foyer_model.specs.Numbers.{last_number}
+use Rattle.foyer_model.specs.Refusal.{MayRefuse}
+use Rattle.foyer_model.specs.Reply as replies
+use Rattle.foyer_model.specs.State.{State}
+use Rattle.foyer_model.specs.Turn.{IsOutOfTurn}
+use Rattle.foyer_core.specs.Asked.{step_of}
+use Rattle.foyer_core.specs.Content.{Content, Meaning}
+use Rattle.foyer_core.specs.InOneBlock.{IsInOneBlock}
+use Rattle.foyer_core.specs.Meets.{machine, IsTurned}
+use Rattle.foyer_core.specs.Replied.{kind_of}
+use Rattle.foyer_core.specs.Sizes.{IsSound}
+use Rattle.foyer_core.specs.Standing.{IsStateOf}
+use Rattle.foyer_core.specs.Unchanged.{IsUnchanged}
+use Rattle.foyer_core.specs.declared.reply.Reply.TheVariants as reply
+use Rattle.foyer_core.specs.declared.settings.Settings.{Settings}
+use Rattle.foyer_core.specs.declared.state.Core.{Core}
+use Rattle.foyer_core.specs.declared.step.Step.{Step}
+use Rattle.foyer_core.proofs.StateLemmas.{unchanged_stands}
+
+-- the count of steps hasn't ended
+pub is_early : {K V P A : Type 0} (m : Meaning K V P) (s : Settings) (core : Core K V P A) (it : State Content)
+    → IsStateOf m s core it → core.steps < 2 ^ 64 - 1 → it.steps < last_number
+is_early m s core it stands few = let steps : it.steps ≡ core.steps = stands.steps in omega arith
+
+pub same : {K V P A : Type 0} (core : Core K V P A) → IsUnchanged core core
+same core = record {
+  index = refl;
+  next = refl;
+  steps = refl;
+  closed = refl;
+  queued = refl;
+  settings = refl;
+  flushers = refl;
+  blocks = refl;
+  clean = refl;
+  waiting = refl;
+}
+
+module _ {K V P A : Type 0} (m : Meaning K V P) (s : Settings) (sound : IsSound s) (given : Step K V P A) (old new : Core K V P A) (it : State Content) where
+  -- a step is refused for a cause
+  pub refused : (why : ErrorKind) (k : replies.Kind) → kind_of why ≡ Some k → IsUnchanged old new → IsStateOf m s old it
+      → MayRefuse (machine m s sound) (IsInOneBlock s.blob_index_size) it k (step_of m given)
+      → IsTurned m s sound given (reply.Refused why given) new it
+  refused why k is same stands cause = record {
+    after = it;
+    it = replies.Refused k (step_of m given);
+    stands = unchanged_stands m s old new it same stands;
+    reply = (k, is, refl);
+    turns = (refl, cause, refl);
+  }
+
+  -- a step is out of turn
+  pub not_now : IsUnchanged old new → IsStateOf m s old it
+      → IsOutOfTurn (machine m s sound) (IsInOneBlock s.blob_index_size) it (step_of m given)
+      → IsTurned m s sound given (reply.NotNow given) new it
+  not_now same stands out = record {
+    after = it;
+    it = replies.NotNow (step_of m given);
+    stands = unchanged_stands m s old new it same stands;
+    reply = refl;
+    turns = (refl, out, refl);
+  }
+
+-- the step that comes back is the one that was asked
+pub comes_back : {K V P A : Type 0} (m : Meaning K V P) (s : Settings) (sound : IsSound s) (given back : Step K V P A) (why : ErrorKind) (new : Core K V P A) (it : State Content)
+    → back ≡ given → IsTurned m s sound given (reply.Refused why given) new it → IsTurned m s sound given (reply.Refused why back) new it
+comes_back m s sound given back why new it is turned = subst (λ b. IsTurned m s sound given (reply.Refused why b) new it) (sym is) turned
+
+pub comes_back_late : {K V P A : Type 0} (m : Meaning K V P) (s : Settings) (sound : IsSound s) (given back : Step K V P A) (new : Core K V P A) (it : State Content)
+    → back ≡ given → IsTurned m s sound given (reply.NotNow given) new it → IsTurned m s sound given (reply.NotNow back) new it
+comes_back_late m s sound given back new it is turned = subst (λ b. IsTurned m s sound given (reply.NotNow b) new it) (sym is) turned

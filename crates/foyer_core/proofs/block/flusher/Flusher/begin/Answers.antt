@@ -1,0 +1,61 @@
+use Rattle.std.proofs.Common.{ℕ, ◌≡◌, ◌+◌, ◌-◌, ◌^◌, ◌<◌, ◌≤◌, min, length, vec_len, List, [], ◌∷◌, ◌++◌, Some, None, Vec, refl, sym, ap, subst, ◌∙◌, arith}
+use Rattle.foyer_block.specs.declared.indexer.HashedEntryAddress.{HashedEntryAddress}
+use Rattle.foyer_core.specs.Beginning.{HasWrites, IsBegun}
+use Rattle.foyer_core.specs.declared.block.flusher.Batch.{Batch}
+use Rattle.foyer_core.specs.declared.block.flusher.Placed.{Placed}
+use Rattle.foyer_core.specs.declared.reply.Write.{Write}
+use Rattle.foyer_core.proofs.BeginLemmas.{one_write, no_write}
+use Rattle.foyer_core.proofs.block.flusher.Flusher.begin.Goals as goal
+use Rattle.foyer_core.proofs.block.flusher.Flusher.begin.Goals.{then-len-gt0, else-len-gt0}
+
+pub returns-clause-begins : goal.returns-clause-begins
+returns-clause-begins g c =
+    let old = c.args.self.now in
+    let one : Placed g.row.A.Denot = record { writes = c.if-len-gt0.writes; offset = old.next_offset; records = c.replace-2.result } in
+    let all : Batch g.row.K.Denot g.row.V.Denot g.row.P.Denot g.row.A.Denot = record {
+      blocks = c.push_back_reserved.new.self;
+      goes_on = c.is_some.result;
+      writing = None;
+      marks = c.replace-3.result;
+      invalid = c.replace-4.result;
+      pieces = c.replace-5.result;
+      waits = c.replace-6.result;
+    } in
+    let bytes_are : c.into_bytes-bytes.result.items ≡ old.buffer = c.into_bytes-bytes.ensures ∙ c.replace.ensures.value in
+    let same_len : length c.into_bytes-bytes.result.items ≡ length old.buffer = ap length bytes_are in
+    let len_is : c.len.result ≡ length old.buffer = omega (arith, c.len.ensures) in
+    let none : c.in_ok-writes.writes.items ≡ [] = c.in_ok-writes.ensures.items in
+    record {
+      batch = all;
+      placed = one;
+      told = c.in_ok-told.ensures.items ∙ c.as_slice.ensures.value;
+      blocks = c.push_back_reserved.ensures.items ∙ ap (λ xs. xs ++ one ∷ []) c.in_ok-blocks.ensures.items;
+      goes_on = c.is_some.ensures;
+      writing = refl;
+      marks = λ i. (c.replace-3.ensures.value i).items;
+      invalid = λ i. (c.replace-4.ensures.value i).items;
+      pieces = λ i. (c.replace-5.ensures.value i).items;
+      waits = λ i. (c.replace-6.ensures.value i).items;
+      offset = refl;
+      records = λ i. (c.replace-2.ensures.value i).items;
+      writes = elim c.if-len-gt0.branch [
+        | then-len-gt0 w ↦ one_write old.next_offset old.buffer c.if-len-gt0.writes.items (record { offset = old.next_offset; bytes = c.into_bytes-bytes.result })
+            ((λ i. (w.writes-is i).items) ∙ w.push_reserved.ensures.items ∙ ap (λ xs. xs ++ record { offset = old.next_offset; bytes = c.into_bytes-bytes.result } ∷ []) none) refl bytes_are
+            (let some : 0 < vec_len c.into_bytes-bytes.result = omega (arith, w.if-len-gt0.true, c.len-2.ensures) in omega arith)
+        | else-len-gt0 w ↦ no_write old.next_offset old.buffer c.if-len-gt0.writes.items ((λ i. (w.writes-is i).items) ∙ none) c.into_bytes-bytes.result.items bytes_are
+            (let few : vec_len c.into_bytes-bytes.result ≤ 0 = omega (arith, w.if-len-gt0.false, c.len-2.ensures) in omega arith)
+      ];
+      next = c.saturating_add-self.ensures ∙ ap (λ n. min (old.next_offset + n) 18446744073709551615) len_is;
+      left = λ i. record {
+        queue = old.queue.items;
+        buffer = (c.replace.ensures.after ∙ c.new-no_bytes.ensures) i;
+        records = ((λ j. (c.replace-2.ensures.after j).items) ∙ c.new-no_records.ensures.items) i;
+        marks = ((λ j. (c.replace-3.ensures.after j).items) ∙ c.new-no_marks.ensures.items) i;
+        invalid = ((λ j. (c.replace-4.ensures.after j).items) ∙ c.new-no_invalid.ensures.items) i;
+        pieces = ((λ j. (c.replace-5.ensures.after j).items) ∙ c.new-no_pieces.ensures.items) i;
+        waits = ((λ j. (c.replace-6.ensures.after j).items) ∙ c.new-no_waits.ensures.items) i;
+        next_offset = c.saturating_add-self.result;
+        own = old.own;
+        batch = c.replace-7.ensures.after i;
+      };
+    }
