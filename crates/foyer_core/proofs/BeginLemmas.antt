@@ -154,8 +154,10 @@ module _ {K V P A : Type 0} (m : Meaning K V P) (s : Settings) (sound : IsSound 
     where
       AreWritingNone : Option (Writing A) → Type 0
       AreWritingNone w = AreWriting m s (is.batch).pieces.items w None
+
       len : length φ.buffer ≡ bytes_taken page_up (st.flushers f).buffer
       len = ap length stands.bytes ∙ packed-len (st.flushers f).buffer
+
       next : ψ.next_offset ≡ φ.next_offset + bytes_taken page_up (st.flushers f).buffer
       next =
           let told_next : ψ.next_offset ≡ min (φ.next_offset + length φ.buffer) (2 ^ 64 - 1) = is.next in
@@ -166,39 +168,48 @@ module _ {K V P A : Type 0} (m : Meaning K V P) (s : Settings) (sound : IsSound 
 
   -- a batch may begin just where the plain one may
   pub may_begin : MayBegin φ → ((st.flushers f).batch ≡ None) × HasReceived (st.flushers f)
-  may_begin may = (none φ.batch (st.flushers f).batch may.0 stands.batch, elim may.1 [
-    | inl some ↦ inl (λ is. some (no_records φ.records.items φ.pieces.items (subst (AreRecords m 0 φ.records.items φ.pieces.items) is stands.buffer)))
-    | inr rest ↦ elim rest [
-      | inl some ↦ inr (inl (λ is. some (no_map φ.marks.items (sym stands.marks ∙ is))))
-      | inr some ↦ inr (inr (λ is. some (sym stands.waits ∙ is)))
-    ]
-  ])
+  may_begin may = (
+    none φ.batch (st.flushers f).batch may.0 stands.batch,
+    elim may.1 [
+      | inl some ↦ inl (λ is. some (no_records φ.records.items φ.pieces.items (subst (AreRecords m 0 φ.records.items φ.pieces.items) is stands.buffer)))
+      | inr rest ↦ elim rest [
+        | inl some ↦ inr (inl (λ is. some (no_map φ.marks.items (sym stands.marks ∙ is))))
+        | inr some ↦ inr (inr (λ is. some (sym stands.waits ∙ is)))
+      ]
+    ],
+  )
     where
       none : (batch : Option (Batch K V P A)) (it : Option (plainly.Batch Content)) → batch ≡ None → AreBatched m s φ.own batch it → it ≡ None
       none None None is are = refl
       none None (Some it) is are = absurd are
       none (Some b) it is are = absurd (let e : Some b ≡ None = is in cc)
+
       no_records : (es : List HashedEntryAddress) (ps : List (Record K V P)) → AreRecords m 0 es ps [] → es ≡ []
       no_records [] ps are = refl
       no_records (e ∷ es) [] are = absurd are
       no_records (e ∷ es) (p ∷ ps) are = absurd are
+
       no_map : (ms : List Tombstone) → map mark_of ms ≡ [] → ms ≡ []
       no_map [] is = refl
       no_map (x ∷ ms) is = absurd (let e : mark_of x ∷ map mark_of ms ≡ [] = is in cc)
 
   pub may_begin_back : ((st.flushers f).batch ≡ None) × HasReceived (st.flushers f) → MayBegin φ
-  may_begin_back may = (none φ.batch (st.flushers f).batch may.0 stands.batch, elim may.1 [
-    | inl some ↦ inl (λ is. some (no_records φ.pieces.items (st.flushers f).buffer (subst (λ es. AreRecords m 0 es φ.pieces.items (st.flushers f).buffer) is stands.buffer)))
-    | inr rest ↦ elim rest [
-      | inl some ↦ inr (inl (λ is. some (stands.marks ∙ ap (map mark_of) is)))
-      | inr some ↦ inr (inr (λ is. some (stands.waits ∙ is)))
-    ]
-  ])
+  may_begin_back may = (
+    none φ.batch (st.flushers f).batch may.0 stands.batch,
+    elim may.1 [
+      | inl some ↦ inl (λ is. some (no_records φ.pieces.items (st.flushers f).buffer (subst (λ es. AreRecords m 0 es φ.pieces.items (st.flushers f).buffer) is stands.buffer)))
+      | inr rest ↦ elim rest [
+        | inl some ↦ inr (inl (λ is. some (stands.marks ∙ ap (map mark_of) is)))
+        | inr some ↦ inr (inr (λ is. some (stands.waits ∙ is)))
+      ]
+    ],
+  )
     where
       none : (batch : Option (Batch K V P A)) (it : Option (plainly.Batch Content)) → it ≡ None → AreBatched m s φ.own batch it → batch ≡ None
       none None it is are = refl
       none (Some b) None is are = absurd are
       none (Some b) (Some it) is are = absurd (let e : Some it ≡ None = is in cc)
+
       no_records : (ps : List (Record K V P)) (rs : List (plain.Record Content)) → AreRecords m 0 [] ps rs → rs ≡ []
       no_records [] [] are = refl
       no_records [] (r ∷ rs) are = absurd are

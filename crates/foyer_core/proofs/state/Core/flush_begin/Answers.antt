@@ -36,9 +36,11 @@ returns-then-not-may_begin-clause-meets g c = λ m s sound it stands few.
       blocks = refl;
       clean = refl;
       waiting = refl;
-    }) stands
-    (is_early m s old it stands few, (λ draws. absurd draws),
-    (λ turn. let e : false ≡ true = c.if-not-may_begin.ensures.1 (may_begin_back m s sound it f found before (turn.1, turn.2)) in cc))
+    }) stands (
+      is_early m s old it stands few,
+      (λ draws. absurd draws),
+      (λ turn. let e : false ≡ true = c.if-not-may_begin.ensures.1 (may_begin_back m s sound it f found before (turn.1, turn.2)) in cc),
+    )
 
 pub returns-in-Ok-clause-meets : goal.returns-in-Ok-clause-meets
 returns-in-Ok-clause-meets g c = λ m s sound it stands few.
