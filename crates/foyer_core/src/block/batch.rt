@@ -1,29 +1,29 @@
 //! A flusher's batch: from its buffer to a block, and into the index.
 ghost use Rattle.foyer_core.specs.Beginning.{IsBegun};
-ghost use Rattle.std.specs.Prelude.{◌≡◌, ◌≢◌, ◌↔◌, ◌<◌, ℕ, List, [], ◌∷◌, map, Option, None, Some, IsSomeAnd, IsTrue, true, false};
-ghost use Rattle.std.specs.Prelude.{IfOk, OnErr, MatchOption, vec_len, vec_capacity, nat_lt};
+ghost use Rattle.std.specs.Prelude.{◌≡◌, ◌≢◌, ◌↔◌, ◌<◌, ℕ, List, [], map, Option, None, Some, IsSomeAnd, IsTrue, true, false};
+ghost use Rattle.std.specs.Prelude.{IfOk, OnErr, MatchOption, vec_len};
 ghost use Rattle.foyer_block.specs.Index.{IndexMap};
 ghost use Rattle.foyer_block.specs.Insertion.{inserted_all};
-ghost use Rattle.foyer_model.specs.Flush.{first_usable, released, all_spoiled};
-ghost use Rattle.foyer_model.specs.Ids.{with_id, without_id};
-ghost use Rattle.foyer_model.specs.Numbers.{last_number};
+ghost use Rattle.foyer_model.specs.Flush.{released};
 ghost use Rattle.foyer_model.specs.State as plainly;
 ghost use Rattle.foyer_model.specs.State.{State};
 ghost use Rattle.foyer_model.specs.Step as plain;
 ghost use Rattle.foyer_core.specs.Batches.{StandsAt, IsDone, IsTold, told_next, told_wrote, told_ended, settled, failed_batch};
 ghost use Rattle.foyer_core.specs.Content.{Content, Meaning};
-ghost use Rattle.foyer_core.specs.Flushing.{IsFlusherAs, IsBatchAs, spoil_of};
-ghost use Rattle.foyer_core.specs.Handing.{filling_in, IsFirstUsable, IsHanded};
+ghost use Rattle.foyer_core.specs.Flushing.{IsFlusherAs, IsBatchAs};
 ghost use Rattle.foyer_core.specs.Sizes.{IsSound};
-ghost use Rattle.foyer_core.specs.Standing.{AreBlocksAs, AreCleanAs};
+ghost use Rattle.foyer_core.specs.Standing.{AreBlocksAs};
 ghost use Rattle.foyer_core.specs.Turns.{MayBegin, HasBlock, IsWriting, IsWritten};
 ghost use Rattle.foyer_core.specs.Unchanged.{seen};
 ghost use Rattle.foyer_core.specs.declared.block.batch.Wrote.TheVariants as wrote;
 ghost use Rattle.foyer_core.specs.declared.settings.Settings.{Settings};
 
-use crate::block::flusher::{Batch, Flusher, InvalidStats, Placed, Writing};
+use crate::block::flusher::{Batch, Flusher, Placed, Writing};
+use crate::block::manager::{
+    begin_to_wait, end_to_wait, filling_of, hand_out, invalidate_all, release,
+};
 use crate::reply::Write;
-use crate::state::{BlockState, Place};
+use crate::state::BlockState;
 use foyer_block::indexer::{HashedEntryAddress, Indexer};
 use foyer_block::manager::BlockId;
 use foyer_block::tombstone::Tombstone;
@@ -61,93 +61,6 @@ pub(crate) struct Ended<K, V, P, A: Allocator> {
     pub waits: Vec<u64, A>,
 }
 
-// How often a block was handed out or destroyed; of one that isn't there the greatest number, so that none hands it out.
-fn filling_of<A: Allocator>(blocks: &Vec<BlockState, A>, block: BlockId) -> u64
-    ensures { result ≡ filling_in blocks.now.items block }
-{
-    match blocks.get(block as usize) {
-        Some(state) => state.filling,
-        None => u64::MAX,
-    }
-}
-
-// Whether a clean block may still be handed out.
-fn is_usable<A: Allocator>(blocks: &Vec<BlockState, A>, block: BlockId) -> bool
-    ensures { result ≡ nat_lt (filling_in blocks.now.items block) last_number }
-{
-    filling_of(blocks, block) < u64::MAX
-}
-
-// Where the clean block stands that has been clean longest of those that may still be handed out.
-fn first_usable<A: Allocator>(
-    clean: &VecDeque<BlockId, A>,
-    blocks: &Vec<BlockState, A>,
-) -> Option<usize>
-    ensures { MatchOption result
-        (first_usable (filling_in blocks.now.items) clean.now.items ≡ None)
-        (IsFirstUsable clean.now.items blocks.now.items) }
-{
-    for index in 0..clean.len() {
-        if is_usable(blocks, clean[index]) {
-            return Some(index);
-        }
-    }
-    None
-}
-
-// The block that has been clean longest is handed out to a flusher, in a new filling.
-fn hand_out<A: Allocator>(
-    clean: &mut VecDeque<BlockId, A>,
-    blocks: &mut Vec<BlockState, A>,
-    flusher: u32,
-) -> Option<BlockId>
-    ensures handed { (s : Settings) (places : ℕ → plainly.Place) (fillings : ℕ → ℕ) (stats : ℕ → plainly.Stats) (ids : List ℕ)
-        → AreBlocksAs s blocks.old.items places fillings stats → AreCleanAs s clean.old.items ids
-        → IsHanded s flusher blocks.new.items clean.new.items places fillings stats ids result }
-{
-    let Some(index) = first_usable(clean, blocks) else {
-        return None;
-    };
-    let Some(block) = clean.remove(index) else {
-        unreachable!()
-    };
-    let state = &mut blocks[block as usize];
-    state.filling += 1;
-    state.place = Place::Writing(flusher);
-    Some(block)
-}
-
-// A block that its flusher leaves may be reclaimed.
-fn release<A: Allocator>(own: &mut Option<BlockId>, blocks: &mut Vec<BlockState, A>)
-    ensures left { own.new ≡ None }
-    ensures released { (s : Settings) (places : ℕ → plainly.Place) (fillings : ℕ → ℕ) (stats : ℕ → plainly.Stats)
-        → AreBlocksAs s blocks.old.items places fillings stats
-        → AreBlocksAs s blocks.new.items (released own.old places) fillings stats }
-{
-    if let Some(block) = own.take() {
-        if let Some(state) = blocks.get_mut(block as usize) {
-            state.place = Place::Evictable;
-        }
-    }
-}
-
-// A flusher waits behind the others, unless it waits already.
-fn begin_to_wait<A: Allocator>(waiting: &mut Vec<u32, A>, flusher: u32)
-    requires { vec_len waiting.old < vec_capacity waiting.old }
-    ensures { waiting.new.items ≡ with_id flusher waiting.old.items }
-{
-    if !waiting.contains(&flusher) {
-        waiting.push_reserved(flusher);
-    }
-}
-
-// A flusher waits no more.
-fn end_to_wait<A: Allocator>(waiting: &mut Vec<u32, A>, flusher: u32)
-    ensures { waiting.new.items ≡ without_id flusher waiting.old.items }
-{
-    waiting.retain(|waiter| *waiter != flusher);
-}
-
 // The records stand in this block, behind this offset.
 fn settle<A: Allocator>(
     records: &mut Vec<HashedEntryAddress, A>,
@@ -174,7 +87,8 @@ fn commit<A: Allocator + Clone>(
     index: &mut Indexer<A>,
 ) -> Option<usize>
     ensures { MatchOption result (index.new ≡ index.old)
-        (λ n. (n ≡ vec_len records) × (index.new ≡ inserted_all index.old (map (settled block filling offset) records.items))) }
+        (λ n. (n ≡ vec_len records)
+        × (index.new ≡ inserted_all index.old (map (settled block filling offset) records.items))) }
 {
     settle(&mut records, block, filling, offset);
     let count = records.len();
@@ -182,28 +96,6 @@ fn commit<A: Allocator + Clone>(
         Some(count)
     } else {
         None
-    }
-}
-
-// These bytes of a block became invalid.
-fn invalidate<A: Allocator>(blocks: &mut Vec<BlockState, A>, stats: &InvalidStats)
-    ensures { (s : Settings) (places : ℕ → plainly.Place) (fillings : ℕ → ℕ) (known : ℕ → plainly.Stats)
-        → AreBlocksAs s blocks.old.items places fillings known
-        → AreBlocksAs s blocks.new.items places fillings (all_spoiled (spoil_of stats.now ∷ []) known) }
-{
-    if let Some(state) = blocks.get_mut(stats.block as usize) {
-        state.invalid = state.invalid.saturating_add(stats.size);
-    }
-}
-
-// And these of all blocks.
-fn invalidate_all<A: Allocator>(blocks: &mut Vec<BlockState, A>, invalid: &[InvalidStats])
-    ensures { (s : Settings) (places : ℕ → plainly.Place) (fillings : ℕ → ℕ) (known : ℕ → plainly.Stats)
-        → AreBlocksAs s blocks.old.items places fillings known
-        → AreBlocksAs s blocks.new.items places fillings (all_spoiled (map spoil_of invalid.now) known) }
-{
-    for stats in invalid {
-        invalidate(blocks, stats);
     }
 }
 
@@ -443,7 +335,8 @@ impl<K, V, P, A: Allocator + Clone> Flusher<K, V, P, A> {
         ensures left { (m : Meaning K V P) (s : Settings) (it : plainly.Flusher Content) (batch : plainly.Batch Content)
             → first_offset ≡ s.blob_index_size → IsFlusherAs m s (seen self.old) it → it.batch ≡ Some batch
             → IsFlusherAs m s (seen self.new) (failed_batch first_offset it batch) }
-        ensures released { (s : Settings) (places : ℕ → plainly.Place) (fillings : ℕ → ℕ) (stats : ℕ → plainly.Stats)
+        ensures released { (s : Settings) (places : ℕ → plainly.Place) (fillings : ℕ → ℕ)
+            (stats : ℕ → plainly.Stats)
             → AreBlocksAs s blocks.old.items places fillings stats
             → AreBlocksAs s blocks.new.items (released self.old.own places) fillings stats }
     {

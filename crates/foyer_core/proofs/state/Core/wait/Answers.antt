@@ -1,4 +1,4 @@
-use Rattle.std.proofs.Common.{◌≡◌, ◌+◌, ◌*◌, ◌^◌, ◌<◌, ◌≤◌, ◌++◌, ◌∷◌, [], length, refl, ap, sym, ◌∙◌, arith}
+use Rattle.std.proofs.Common.{◌≡◌, ◌+◌, ◌<◌, ◌++◌, ◌∷◌, [], length, refl, ap, ◌∙◌, arith}
 use Rattle.foyer_model.specs.Numbers.{put, last_number}
 use Rattle.foyer_model.specs.Reply.{Memory, Done, Refused}
 use Rattle.foyer_model.specs.State.{Await}

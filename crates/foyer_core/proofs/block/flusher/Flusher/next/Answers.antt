@@ -1,4 +1,4 @@
-use Rattle.std.proofs.Common.{◌≡◌, ℕ, Option, Some, map, sym, ap, subst, ◌∙◌}
+use Rattle.std.proofs.Common.{ℕ, Option, Some, map, sym, ap, subst, ◌∙◌}
 use Rattle.foyer_model.specs.Flush.{released}
 use Rattle.foyer_model.specs.Ids.{with_id, without_id}
 use Rattle.foyer_model.specs.Reply as replies

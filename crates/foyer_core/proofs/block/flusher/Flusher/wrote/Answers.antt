@@ -1,4 +1,4 @@
-use Rattle.std.proofs.Common.{◌≡◌, ◌<◌, ◌≤◌, ◌-◌, ℕ, Bool, true, false, Option, Some, length, sym, ap, subst, ◌∙◌, refl, arith}
+use Rattle.std.proofs.Common.{◌≡◌, ◌≤◌, ◌-◌, Bool, true, false, Some, length, sym, ap, subst, ◌∙◌, refl, arith}
 use Rattle.foyer_model.specs.Reply as replies
 use Rattle.foyer_model.specs.Step as steps
 use Rattle.foyer_core.specs.Batches.{IsDone}

@@ -1,8 +1,8 @@
 use Rattle.std.proofs.Common.{◌≡◌, true, false, if◌then◌else◌, ◌++◌, ◌∷◌, [], List, ℕ, sym, ap, ◌∙◌, ◌==◌}
 use Rattle.std.specs.List.{list_any}
-use Rattle.foyer_model.specs.Ids.{is_id_in, with_id}
+use Rattle.foyer_model.specs.Ids.{is_id_in}
 use Rattle.foyer_core.proofs.WaitLemmas.{is_id_in_any}
-use Rattle.foyer_core.proofs.block.batch.begin_to_wait.Goals as goal
+use Rattle.foyer_core.proofs.block.manager.begin_to_wait.Goals as goal
 
 pub returns-then-not-contains : goal.returns-then-not-contains
 returns-then-not-contains g c =

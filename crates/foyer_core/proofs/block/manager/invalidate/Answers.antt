@@ -1,7 +1,7 @@
 use Rattle.std.proofs.Common.{◌<◌, ◌≤◌, length, arith, refl}
 use Rattle.foyer_model.specs.Numbers.{plus}
 use Rattle.foyer_core.proofs.BlockLemmas.{block_spoiled, no_block_spoiled, past_end}
-use Rattle.foyer_core.proofs.block.batch.invalidate.Goals as goal
+use Rattle.foyer_core.proofs.block.manager.invalidate.Goals as goal
 
 pub returns-in-Some : goal.returns-in-Some
 returns-in-Some g c = λ s places fillings known are.

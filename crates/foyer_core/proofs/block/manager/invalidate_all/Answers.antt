@@ -1,11 +1,11 @@
-use Rattle.std.proofs.Common.{◌≡◌, ℕ, ◌<◌, length, map, ◌∷◌, [], slice_index_or, refl, sym, ap, ◌∙◌, subst, arith}
+use Rattle.std.proofs.Common.{◌≡◌, ℕ, ◌<◌, length, map, ◌∷◌, [], slice_index_or, refl, sym, ◌∙◌, subst}
 use Rattle.std.proofs.lemmas.List.{at_drop_more, at_drop_all}
 use Rattle.foyer_model.specs.Flush.{all_spoiled}
 use Rattle.foyer_model.specs.State as plainly
 use Rattle.foyer_core.specs.Flushing.{spoil_of}
 use Rattle.foyer_core.specs.Standing.{AreBlocksAs}
 use Rattle.foyer_core.specs.declared.block.flusher.InvalidStats.{InvalidStats}
-use Rattle.foyer_core.proofs.block.batch.invalidate_all.Goals as goal
+use Rattle.foyer_core.proofs.block.manager.invalidate_all.Goals as goal
 
 pub loop-stats-init : goal.loop-stats-init
 loop-stats-init g c = λ s places fillings stats are. (stats, are, refl)

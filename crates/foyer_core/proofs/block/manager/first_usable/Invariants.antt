@@ -1,7 +1,7 @@
 use Rattle.std.proofs.Common.{◌≡◌, drop}
 use Rattle.foyer_model.specs.Flush.{first_usable}
 use Rattle.foyer_core.specs.Handing.{filling_in}
-use Rattle.foyer_core.proofs.block.batch.first_usable.Given as goal
+use Rattle.foyer_core.proofs.block.manager.first_usable.Given as goal
 
 abbrev pub invariant-loop-index : goal.invariant-loop-index
 invariant-loop-index g l =

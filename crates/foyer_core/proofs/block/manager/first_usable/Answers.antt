@@ -4,7 +4,7 @@ use Rattle.std.proofs.lemmas.List.{get_or_read}
 use Rattle.foyer_model.specs.Numbers.{last_number}
 use Rattle.foyer_core.specs.Handing.{filling_in}
 use Rattle.foyer_core.proofs.WaitLemmas.{usable_here, usable_further, none_usable}
-use Rattle.foyer_core.proofs.block.batch.first_usable.Goals as goal
+use Rattle.foyer_core.proofs.block.manager.first_usable.Goals as goal
 
 pub returns-then-is_usable : goal.returns-then-is_usable
 returns-then-is_usable g c =

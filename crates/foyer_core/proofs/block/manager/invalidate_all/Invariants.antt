@@ -4,7 +4,7 @@ use Rattle.foyer_model.specs.State as plainly
 use Rattle.foyer_core.specs.Flushing.{spoil_of}
 use Rattle.foyer_core.specs.Standing.{AreBlocksAs}
 use Rattle.foyer_core.specs.declared.settings.Settings.{Settings}
-use Rattle.foyer_core.proofs.block.batch.invalidate_all.Given as goal
+use Rattle.foyer_core.proofs.block.manager.invalidate_all.Given as goal
 
 -- what is left to be counted comes onto what stands
 abbrev pub invariant-loop-stats : goal.invariant-loop-stats

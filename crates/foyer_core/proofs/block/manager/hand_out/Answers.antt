@@ -1,10 +1,10 @@
-use Rattle.std.proofs.Common.{◌≡◌, ◌<◌, ℕ, List, length, slice_index, slice_index_or, ap, sym, ◌∙◌, subst, arith}
+use Rattle.std.proofs.Common.{◌≡◌, ◌<◌, ℕ, List, length, slice_index, slice_index_or, sym, ◌∙◌, subst, arith}
 use Rattle.std.proofs.lemmas.List.{get_or_read}
 use Rattle.foyer_model.specs.Numbers.{last_number}
 use Rattle.foyer_core.specs.Handing.{filling_in, IsFirstUsable}
 use Rattle.foyer_core.specs.declared.state.BlockState.{BlockState}
 use Rattle.foyer_core.proofs.BlockLemmas.{usable_there, usable_is, handed, filling_read}
-use Rattle.foyer_core.proofs.block.batch.hand_out.Goals as goal
+use Rattle.foyer_core.proofs.block.manager.hand_out.Goals as goal
 
 pub returns-in_default : goal.returns-in_default
 returns-in_default g c = record {

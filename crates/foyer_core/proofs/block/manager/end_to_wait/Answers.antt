@@ -1,6 +1,6 @@
 use Rattle.std.proofs.Common.{◌≡◌, ◌==◌, not, ◌∙◌, rules, refl}
 use Rattle.foyer_core.proofs.WaitLemmas.{filtered_is, without_id_filter}
-use Rattle.foyer_core.proofs.block.batch.end_to_wait.Goals as goal
+use Rattle.foyer_core.proofs.block.manager.end_to_wait.Goals as goal
 
 pub returns : goal.returns
 returns g c =
