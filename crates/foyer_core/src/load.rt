@@ -52,7 +52,7 @@ impl<K, V, P, A: Allocator + Clone> Core<K, V, P, A> {
         let Some(state) = self.blocks.get_mut(address.block as usize) else {
             return Reply::Miss;
         };
-        if state.filling != address.filling {
+        if address.filling != state.filling {
             self.index.remove(hash, &address);
             return Reply::Miss;
         }

@@ -15,8 +15,8 @@ use Rattle.foyer_core.proofs.AccessLemmas.{blocks_set, more_accessed}
 use Rattle.foyer_core.proofs.SlotLemmas.{held_address, index_removed, without_itself}
 use Rattle.foyer_core.proofs.state.Core.load_begin.Goals as goal
 
-pub returns-then-state-address-clause-meets : goal.returns-then-state-address-clause-meets
-returns-then-state-address-clause-meets g c = λ m s sound it stands few.
+pub returns-then-address-state-clause-meets : goal.returns-then-address-state-clause-meets
+returns-then-address-state-clause-meets g c = λ m s sound it stands few.
     let old = c.args.self.now in
     let a = c.in-Some.address in
     let held : finite.get old.index c.args.hash ≡ Some (Address a) = held_address (finite.get old.index c.args.hash) a (sym c.in-Some.ensures) in
@@ -48,7 +48,7 @@ returns-then-state-address-clause-meets g c = λ m s sound it stands few.
       turns = (
         tt,
         subst (λ o. Looks (machine m s sound) it c.args.hash c.args.throttled o replies.Miss (record it { index = put it.index c.args.hash None })) (sym slot)
-            (c.if-throttled.false, (λ same. c.if-state-address.true (sym known.filling ∙ sym same)), refl),
+            (c.if-throttled.false, (λ same. c.if-address-state.true (same ∙ known.filling)), refl),
       );
     }
 
@@ -94,6 +94,6 @@ returns-clause-meets g c = λ m s sound it stands few.
       turns = (
         tt,
         subst (λ o. Looks (machine m s sound) it c.args.hash c.args.throttled o (replies.Read (ticket_of ticket)) (record it { stats = accessed (machine m s sound) it a.block })) (sym slot)
-            (c.if-throttled.false, (sym c.if-state-address.false ∙ sym known.filling), refl, refl),
+            (c.if-throttled.false, (c.if-address-state.false ∙ sym known.filling), refl, refl),
       );
     }
