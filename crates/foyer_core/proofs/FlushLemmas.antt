@@ -1,35 +1,23 @@
 -- What a flusher tells and leaves, as the plain machine does it.
-use Rattle.std.proofs.Common.{◌≡◌, ◌≢◌, ℕ, ◌+◌, ◌<◌, ◌≤◌, Bool, true, false, List, [], ◌∷◌, ◌++◌, map, length, Option, Some, None, inl, inr, refl, sym, ap, subst, ◌∙◌, arith}
+use Rattle.std.proofs.Common.{◌≡◌, ℕ, ◌+◌, ◌<◌, ◌≤◌, false, List, [], ◌∷◌, map, length, Option, Some, None, refl, sym, ap, subst, ◌∙◌, arith}
 use Rattle.std.proofs.lemmas.List.{append-nil}
-use Rattle.foyer_block.specs.Index.{IndexMap}
 use Rattle.foyer_policy.specs.Record.{Record}
-use Rattle.foyer_model.specs.Filling.{Part, Spread, Write as PlainWrite, records_in}
-use Rattle.foyer_model.specs.Flush.{writing_of, block_told, waits_for_block, clean_block, first_usable, released, is_cleaning, Tells}
-use Rattle.foyer_model.specs.Ids.{without_id, with_id}
-use Rattle.foyer_model.specs.Numbers.{put}
-use Rattle.foyer_model.specs.Placing.{writes_in}
+use Rattle.foyer_model.specs.Filling.{Spread, Write as PlainWrite, records_in}
+use Rattle.foyer_model.specs.Flush.{writing_of}
 use Rattle.foyer_format.specs.Page.{page_up}
 use Rattle.foyer_model.specs.Receive.{bytes_taken}
 use Rattle.foyer_model.specs.Record as plain
-use Rattle.foyer_model.specs.Reply as replies
 use Rattle.foyer_model.specs.State as plainly
-use Rattle.foyer_model.specs.Step as steps
-use Rattle.foyer_core.specs.Batches.{StandsAt, IsDone, IsTold}
+use Rattle.foyer_core.specs.Batches.{IsTold}
 use Rattle.foyer_core.specs.Content.{Content, Meaning}
-use Rattle.foyer_core.specs.Flushing.{AreRecords, IsPlacedAs, ArePlacedAs, IsWritingAs, AreWriting, IsBatchAs, AreBatched, IsThere, IsFlusherAs, filled_to}
-use Rattle.foyer_core.specs.Handing.{IsHanded}
+use Rattle.foyer_core.specs.Flushing.{AreRecords, IsPlacedAs, ArePlacedAs, IsWritingAs, AreWriting, IsBatchAs, AreBatched, filled_to}
 use Rattle.foyer_core.specs.InOneBlock.{laid_from, parts_of, all_writes}
-use Rattle.foyer_core.specs.Meets.{machine}
 use Rattle.foyer_core.specs.Replied.{write_of}
-use Rattle.foyer_core.specs.Sizes.{IsSound}
-use Rattle.foyer_core.specs.Standing.{AreBlocksAs, AreCleanAs}
-use Rattle.foyer_core.specs.Unchanged.{Seen}
 use Rattle.foyer_core.specs.declared.block.flusher.Batch.{Batch}
 use Rattle.foyer_core.specs.declared.block.flusher.Placed.{Placed}
 use Rattle.foyer_core.specs.declared.block.flusher.Writing.{Writing}
 use Rattle.foyer_core.specs.declared.reply.Write.{Write}
 use Rattle.foyer_core.specs.declared.settings.Settings.{Settings}
-use Rattle.foyer_core.specs.declared.state.BlockState.{BlockState}
 
 module _ {K V P A : Type 0} (m : Meaning K V P) (s : Settings) where
   -- a batch holds one placing at most

@@ -1,5 +1,5 @@
 -- A flusher's step in the whole core.
-use Rattle.std.proofs.Common.{◌≡◌, ◌≢◌, ℕ, ◌+◌, ◌-◌, ◌*◌, ◌^◌, ◌<◌, ◌≤◌, Bool, true, false, List, [], ◌∷◌, length, map, slice_set, slice_index_or, Option, Some, None, IsSome, IsSomeAnd, Result, Ok, Err, is_ok, inl, refl, sym, ap, subst, ◌∙◌, arith}
+use Rattle.std.proofs.Common.{◌≡◌, ◌≢◌, ℕ, ◌+◌, ◌-◌, ◌*◌, ◌^◌, ◌<◌, ◌≤◌, false, List, [], ◌∷◌, length, map, slice_set, slice_index_or, Option, Some, None, IsSome, IsSomeAnd, Result, Ok, Err, is_ok, inl, refl, sym, ap, subst, ◌∙◌, arith}
 use Rattle.foyer_block.specs.Index.{IndexMap}
 use Rattle.foyer_device.specs.declared.error.Error.{Error}
 use Rattle.foyer_model.specs.Flush.{Tells}
@@ -12,10 +12,10 @@ use Rattle.foyer_model.specs.Step as steps
 use Rattle.foyer_core.specs.Asked.{went_well, step_of}
 use Rattle.foyer_core.specs.Batches.{StandsAt, IsDone}
 use Rattle.foyer_core.specs.Content.{Content, Meaning}
-use Rattle.foyer_core.specs.Flushing.{ArePlacedAs, AreWriting, IsBatchAs, AreBatched, IsFlusherAs}
+use Rattle.foyer_core.specs.Flushing.{ArePlacedAs, AreWriting, AreBatched}
 use Rattle.foyer_core.specs.Meets.{machine, IsTurned}
 use Rattle.foyer_core.specs.Sizes.{IsSound}
-use Rattle.foyer_core.specs.Standing.{IsStateOf, AreFlushersAs, IsSizedAs, size_in, size_of_all}
+use Rattle.foyer_core.specs.Standing.{IsStateOf, AreFlushersAs, size_in, size_of_all}
 use Rattle.foyer_core.specs.Turns.{HasBlock}
 use Rattle.foyer_core.specs.Unchanged.{seen, IsUnchanged}
 use Rattle.foyer_core.proofs.FlushLemmas.{none_placed, none_written}

@@ -1,8 +1,8 @@
 -- The index after a commit and after the marks of a batch left it, as the plain machine has it.
-use Rattle.std.proofs.Common.{◌≡◌, ℕ, suc, ◌+◌, ◌-◌, ◌*◌, ◌^◌, ◌<◌, ◌≤◌, ◌==◌, min, nat_le, Bool, true, false, not, ◌&&◌, ◌||◌, if◌then◌else◌, List, [], ◌∷◌, map, length, Option, Some, None, refl, sym, ap, subst, ◌∙◌, arith}
+use Rattle.std.proofs.Common.{◌≡◌, ℕ, suc, ◌+◌, ◌-◌, ◌^◌, ◌<◌, ◌≤◌, ◌==◌, min, nat_le, Bool, true, false, ◌&&◌, ◌||◌, if◌then◌else◌, List, [], ◌∷◌, map, length, Option, Some, None, refl, sym, ap, subst, ◌∙◌, arith}
 use Rattle.std.specs.FinMap as finite
 use Rattle.std.proofs.lemmas.Bool.{eqb-true, eqb-false}
-use Rattle.foyer_block.specs.Index.{IndexMap, sequence_of}
+use Rattle.foyer_block.specs.Index.{IndexMap}
 use Rattle.foyer_block.specs.Insertion.{entered, inserted, inserted_all}
 use Rattle.foyer_block.specs.Removal.{has_mark, lists_mark, without_marks}
 use Rattle.foyer_block.proofs.Indexed.{get-inserted, get-without_marks}

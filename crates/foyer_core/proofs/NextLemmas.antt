@@ -1,7 +1,6 @@
 -- The demand for the next block of a batch, as the plain machine answers it.
 use Rattle.std.proofs.Common.{◌≡◌, ◌≢◌, ℕ, ◌+◌, ◌<◌, Bool, true, false, if◌then◌else◌, List, [], ◌∷◌, ◌++◌, map, Option, Some, None, inl, inr, refl, sym, ap, subst, ◌∙◌}
 use Rattle.foyer_block.specs.Index.{IndexMap}
-use Rattle.foyer_model.specs.Does.{Does}
 use Rattle.foyer_model.specs.Filling.{Part, Spread, records_in}
 use Rattle.foyer_model.specs.Flush.{writing_of, block_told, waits_for_block, clean_block, first_usable, released, is_cleaning, Tells}
 use Rattle.foyer_model.specs.Ids.{without_id, with_id}
@@ -19,7 +18,7 @@ use Rattle.foyer_core.specs.InOneBlock.{all_writes}
 use Rattle.foyer_core.specs.Meets.{machine}
 use Rattle.foyer_core.specs.Replied.{write_of}
 use Rattle.foyer_core.specs.Sizes.{IsSound}
-use Rattle.foyer_core.specs.Standing.{AreBlocksAs, AreCleanAs}
+use Rattle.foyer_core.specs.Standing.{AreBlocksAs}
 use Rattle.foyer_core.specs.Unchanged.{Seen}
 use Rattle.foyer_core.proofs.FlushLemmas.{batched, placed_one}
 use Rattle.foyer_core.specs.declared.block.flusher.Batch.{Batch}

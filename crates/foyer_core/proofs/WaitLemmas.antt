@@ -1,12 +1,12 @@
 -- Clean blocks and waiting flushers, as the plain machine has them.
-use Rattle.std.proofs.Common.{◌≡◌, ℕ, zero, suc, ◌+◌, ◌<◌, ◌≤◌, ◌==◌, nat_lt, Bool, true, false, not, ◌||◌, if◌then◌else◌, List, [], ◌∷◌, ◌++◌, length, take, drop, Option, Some, None, slice_get, slice_index, slice_index_or, refl, sym, ap, subst, ◌∙◌, arith}
+use Rattle.std.proofs.Common.{◌≡◌, ℕ, zero, suc, ◌+◌, ◌<◌, ◌≤◌, ◌==◌, nat_lt, Bool, true, false, not, ◌||◌, if◌then◌else◌, List, [], ◌∷◌, length, drop, Option, Some, None, slice_index, refl, sym, ap, subst, ◌∙◌, arith}
 use Rattle.std.specs.List.{list_any, filter, remove, items_where_true}
 use Rattle.std.specs.List.Retain.{ReturnsInTurn, IsFiltered}
 use Rattle.std.proofs.lemmas.Bool.{eqb-true, eqb-false, eq-eqb, ne_eqb}
 use Rattle.std.proofs.lemmas.Bool.Decides.{nat_tests}
 use Rattle.std.proofs.lemmas.List.{at_drop_more, at_drop_all}
 use Rattle.foyer_model.specs.Flush.{first_usable}
-use Rattle.foyer_model.specs.Ids.{is_id_in, without_id, with_id, AreDistinct}
+use Rattle.foyer_model.specs.Ids.{is_id_in, without_id, AreDistinct}
 use Rattle.foyer_model.specs.Numbers.{last_number}
 use Rattle.foyer_model.proofs.Ids.{distinct_without, not_in_cases, same_in, later_in, in_not_in}
 use Rattle.foyer_core.specs.Standing.{AllBelow, AreCleanAs}

@@ -1,5 +1,5 @@
 -- The report of a write, and the end of a batch, as the plain machine takes them.
-use Rattle.std.proofs.Common.{◌≡◌, ℕ, ◌+◌, ◌-◌, ◌*◌, ◌^◌, ◌<◌, ◌≤◌, Bool, true, false, List, [], ◌∷◌, map, length, Option, Some, None, inl, refl, sym, ap, subst, ◌∙◌, arith}
+use Rattle.std.proofs.Common.{◌≡◌, ℕ, ◌+◌, ◌-◌, ◌^◌, ◌<◌, ◌≤◌, Bool, true, false, List, [], ◌∷◌, map, length, Option, Some, None, refl, sym, ap, subst, ◌∙◌, arith}
 use Rattle.foyer_block.specs.Index.{IndexMap}
 use Rattle.foyer_block.specs.Insertion.{inserted_all}
 use Rattle.foyer_block.specs.Removal.{without_marks}
@@ -25,7 +25,7 @@ use Rattle.foyer_core.specs.Sizes.{IsSound}
 use Rattle.foyer_core.specs.Standing.{AreBlocksAs, IsIndexedAs}
 use Rattle.foyer_core.specs.Unchanged.{Seen}
 use Rattle.foyer_core.proofs.BlockLemmas.{filling_at}
-use Rattle.foyer_core.proofs.FlushLemmas.{batched, written, none_written, none_placed}
+use Rattle.foyer_core.proofs.FlushLemmas.{batched, written}
 use Rattle.foyer_core.proofs.IndexLemmas.{committed, puts_all, unmarked_is}
 use Rattle.foyer_core.specs.declared.block.batch.Wrote.{Wrote as Answer}
 use Rattle.foyer_core.specs.declared.block.batch.Wrote.TheVariants as answers
