@@ -9,14 +9,12 @@ use crate::block::serde::{EntryHeader, Sequence};
 use crate::compress::Compression;
 use crate::serde::{Code, EntrySerializer};
 use foyer_device::error::Result;
+pub use foyer_device::io::bytes::PAGE;
 use reserved::Reserved;
 use std::alloc::Allocator;
 use std::marker::Model;
 
 mod reserved;
-
-/// The bytes of a page of the device.
-pub const PAGE: usize = 4096;
 
 /// Where a record stands in a buffer: its first byte, and its length without the padding.
 #[derive(Clone, Debug, Drop)]
@@ -37,7 +35,7 @@ impl BufferEntryInfo {
     }
 }
 
-#[tactic(auto, unfolding(crate::specs::Page::page_up))]
+#[tactic(auto, unfolding(foyer_device::specs::Page::page_up))]
 fn whole_pages(len: usize) -> usize
     requires { page_up len < 2 ^ 64 }
     ensures { result ≡ page_up len }
