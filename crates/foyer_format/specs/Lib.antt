@@ -2,7 +2,7 @@ pub mod CodeLaws
 pub mod Codes
 pub mod Compression
 pub mod Header
-pub use Rattle.foyer_device.specs.Page
+pub mod Page
 pub mod Pushing
 pub mod Record
 pub mod Refusals

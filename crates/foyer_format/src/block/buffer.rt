@@ -35,7 +35,7 @@ impl BufferEntryInfo {
     }
 }
 
-#[tactic(auto, unfolding(foyer_device::specs::Page::page_up))]
+#[tactic(auto, unfolding(crate::specs::Page::page_up))]
 fn whole_pages(len: usize) -> usize
     requires { page_up len < 2 ^ 64 }
     ensures { result ≡ page_up len }
