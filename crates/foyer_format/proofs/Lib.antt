@@ -1,3 +1,4 @@
+pub mod BlobLemmas
 pub mod CodeLemmas
 pub mod CompressionLemmas
 pub mod HeaderLemmas

@@ -1,11 +1,16 @@
+pub mod Blob
 pub mod CodeLaws
 pub mod Codes
 pub mod Compression
+pub mod Filling
 pub mod Header
+pub mod OpenIndex
 pub mod Page
+pub mod Placing
 pub mod Pushing
 pub mod Record
 pub mod Refusals
+pub mod Splitting
 pub mod Tracked
 pub mod Vectors
 pub mod Writing

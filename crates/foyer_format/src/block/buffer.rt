@@ -14,7 +14,13 @@ use reserved::Reserved;
 use std::alloc::Allocator;
 use std::marker::Model;
 
+mod blob;
 mod reserved;
+mod split;
+mod splitting;
+
+pub use blob::{BlobEntryIndex, BlobIndex, BlobIndexReader};
+pub use split::{Batch, BlobPart, Block};
 
 /// Where a record stands in a buffer: its first byte, and its length without the padding.
 #[derive(Clone, Debug, Drop)]
