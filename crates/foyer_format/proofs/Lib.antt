@@ -6,4 +6,5 @@ pub mod PageLaws
 pub mod PushLemmas
 pub mod RecordLemmas
 pub mod RefusalLemmas
+pub mod SplitLemmas
 pub mod WritingLemmas

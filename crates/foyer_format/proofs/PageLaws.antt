@@ -36,3 +36,5 @@ unfolding page_up
 even-page_up n = omega arith
 
 pub ruleset pages = (page_up-holds, page_up-fewest)
+
+pub ruleset page_laws = (page_up-holds, even-page_up)

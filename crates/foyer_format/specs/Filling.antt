@@ -33,6 +33,10 @@ pub record Context : Type 0 where
   pub sizes : Sizes
   pub filling : Filling
 
+-- at the start of a block
+abbrev pub fresh_context : Sizes → Context
+fresh_context s = record { sizes = s; filling = fresh s }
+
 -- how many bytes records take, each padded to whole pages
 unfoldable pub taken : List BufferEntryInfo → ℕ
 taken [] = 0

@@ -1,6 +1,7 @@
 -- What a splitter keeps while it goes over the records of a batch.
 use Rattle.std.specs.Prelude.{◌≡◌, ℕ, ◌+◌, ◌<◌, ◌≤◌, List, [], ◌∷◌, ◌++◌, length, map}
 use Rattle.foyer_device.specs.Section.{Section}
+use Rattle.foyer_format.specs.Blob.{capacity_of}
 use Rattle.foyer_format.specs.OpenIndex.{entries_of}
 use Rattle.foyer_format.specs.Filling.{Sizes, Filling, Context, taken, entries_from}
 use Rattle.foyer_format.specs.Placing.{Placed, Left, Places, parts_of}
@@ -52,3 +53,14 @@ module _ {A : Type 0} where
     pub block_size : new.block_size ≡ old.block_size
     pub index_size : new.index_size ≡ old.index_size
     pub sum : new.start + new.size ≡ old.start + old.size + bytes
+
+  -- a split begins where the context says, and nothing is collected
+  pub record IsBegun (c : Context) (w : Splitting A) : Type 0 where
+    pub sizes : sizes_of w ≡ c.sizes
+    pub filling : filling_of w ≡ c.filling
+    pub start : w.start ≡ 0
+    pub size : w.size ≡ 0
+    pub indices : w.indices.items ≡ []
+    pub parts : w.parts.items ≡ []
+    pub blocks : w.blocks.items ≡ []
+    pub room : w.index.count < capacity_of w.index_size

@@ -20,7 +20,7 @@ mod split;
 mod splitting;
 
 pub use blob::{BlobEntryIndex, BlobIndex, BlobIndexReader};
-pub use split::{Batch, BlobPart, Block};
+pub use split::{Batch, BlobPart, Block, SplitCtx, Splitter};
 
 /// Where a record stands in a buffer: its first byte, and its length without the padding.
 #[derive(Clone, Debug, Drop)]

@@ -171,6 +171,19 @@ impl<A: Allocator> BlobIndex<A> {
         Ok(sealed)
     }
 
+    // The same index over bytes of its own.
+    pub(super) fn copy(&self, alloc: A) -> Result<BlobIndex<A>>
+        ensures same { IfOk result (λ i. i ≡ self.now) }
+        ensures memory { IfErr result (λ e. e ≡ error.Memory) }
+    {
+        let bytes = copy_of(alloc, &self.bytes)?;
+        Ok(BlobIndex {
+            bytes,
+            count: self.count,
+            capacity: self.capacity,
+        })
+    }
+
     /// Begins again without entries; the bytes stay.
     pub fn reset(&mut self)
         ensures bytes { self.new.bytes ≡ self.old.bytes }
@@ -182,7 +195,7 @@ impl<A: Allocator> BlobIndex<A> {
 
 // The same bytes in memory of their own.
 #[tactic(auto, using(crate::proofs::PageLaws::pages))]
-pub(super) fn copy_of<A: Allocator>(alloc: A, bytes: &IoSliceMut<A>) -> Result<IoSliceMut<A>>
+fn copy_of<A: Allocator>(alloc: A, bytes: &IoSliceMut<A>) -> Result<IoSliceMut<A>>
     requires { length bytes.now ≤ 2 ^ 32 }
     ensures same { IfOk result (λ b. b ≡ bytes.now) }
     ensures memory { IfErr result (λ e. e ≡ error.Memory) }
