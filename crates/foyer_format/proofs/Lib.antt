@@ -1,8 +1,10 @@
 pub mod BlobLemmas
 pub mod CodeLemmas
 pub mod CompressionLemmas
+pub mod EntriesLemmas
 pub mod HeaderLemmas
 pub mod PageLaws
+pub mod PagesLemmas
 pub mod PushLemmas
 pub mod RecordLemmas
 pub mod RefusalLemmas

@@ -35,6 +35,10 @@ pub even-page_up : (n : ℕ) → page_up n % 4096 ≡ 0
 unfolding page_up
 even-page_up n = omega arith
 
+pub page_up-least : (n m : ℕ) → n ≤ m → m % 4096 ≡ 0 → page_up n ≤ m
+unfolding page_up
+page_up-least n m le even = omega arith
+
 pub ruleset pages = (page_up-holds, page_up-fewest)
 
 pub ruleset page_laws = (page_up-holds, even-page_up)

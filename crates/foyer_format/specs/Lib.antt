@@ -2,6 +2,7 @@ pub mod Blob
 pub mod CodeLaws
 pub mod Codes
 pub mod Compression
+pub mod Entries
 pub mod Filling
 pub mod Header
 pub mod OpenIndex

@@ -15,6 +15,8 @@ use std::alloc::Allocator;
 use std::marker::Model;
 
 mod blob;
+pub mod entries;
+mod pages;
 mod reserved;
 mod split;
 mod splitting;
