@@ -1,7 +1,7 @@
 -- Entries one behind another.
 use Rattle.std.proofs.Common.{◌≡◌, ℕ, ◌+◌, ◌-◌, ◌%◌, ◌≤◌, List, [], ◌∷◌, ◌++◌, take, drop, length, refl, sym, ap, ◌∙◌, arith}
 use Rattle.std.specs.Prelude.{IsTrue, true, false}
-use Rattle.std.proofs.lemmas.List.{length-append, length-drop, length-take-le, drop-take, take-take}
+use Rattle.std.proofs.lemmas.List.{length-drop, length-take-le, drop-take, take-take}
 use Rattle.foyer_format.specs.Page.{page_up}
 use Rattle.foyer_format.specs.Filling.{taken}
 use Rattle.foyer_format.specs.Entries.{Entry, Entries, entries_at, IsPacked, EachTakes, size_of, left_of}

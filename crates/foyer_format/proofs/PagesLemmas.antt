@@ -1,6 +1,6 @@
 -- A record between the bytes before it and those behind it.
 use Rattle.std.proofs.Common.{◌≡◌, ℕ, ◌+◌, ◌-◌, ◌≤◌, List, ◌++◌, take, drop, length, sym, ap, ◌∙◌, arith}
-use Rattle.std.proofs.lemmas.List.{length-append, length-take-le, drop_at, drop-drop, take-take, take-append-le, take_at}
+use Rattle.std.proofs.lemmas.List.{length-append, length-take-le, drop_at, drop-drop, take-take, take-append-le}
 use Rattle.std.proofs.Math.Seq.{take-append-add}
 use borrow.Rule.Slice.PartMut.{put_mid}
 

@@ -1,7 +1,7 @@
 -- The steps of the splitter.
 use Rattle.std.proofs.Common.{◌≡◌, ℕ, suc, ◌+◌, ◌<◌, ◌≤◌, List, [], ◌∷◌, ◌++◌, length, refl, sym, ap, ◌∙◌, arith}
 use Rattle.std.specs.Prelude.{map}
-use Rattle.std.proofs.lemmas.List.{length-append, append-nil, append_assoc, map-append}
+use Rattle.std.proofs.lemmas.List.{append-nil, append_assoc, map-append}
 use Rattle.foyer_device.specs.Section.{Section, part_of}
 use Rattle.foyer_format.specs.Page.{page_up}
 use Rattle.foyer_format.specs.Blob.{capacity_of, IsSealed}
@@ -16,7 +16,7 @@ use Rattle.foyer_format.specs.declared.block.buffer.blob.BlobEntryIndex.{BlobEnt
 use Rattle.foyer_format.specs.declared.block.buffer.split.BlobPart.{BlobPart}
 use Rattle.foyer_format.specs.declared.block.buffer.split.Block.{Block}
 use Rattle.foyer_format.specs.declared.block.buffer.splitting.Splitting.{Splitting}
-use Rattle.foyer_format.proofs.BlobLemmas.{length-entries_in, entries_none}
+use Rattle.foyer_format.proofs.BlobLemmas.{length-entries_in, entries_none as none_in}
 
 pub length-entries_from : (at : ℕ) (is : List BufferEntryInfo) → length (entries_from at is) ≡ length is
 unfolding entries_from
@@ -47,9 +47,14 @@ pub taken_none : taken [] ≡ 0
 unfolding taken
 taken_none = refl
 
-no_entries : (at : ℕ) → entries_from at [] ≡ []
+pub entries_none : (at : ℕ) → entries_from at [] ≡ []
 unfolding entries_from
-no_entries at = refl
+entries_none at = refl
+
+pub entries_cons : (at : ℕ) (i : BufferEntryInfo) (is : List BufferEntryInfo) → entries_from at (i ∷ is)
+    ≡ record { hash = i.hash; sequence = i.sequence; offset = at; len = i.len } ∷ entries_from (at + page_up i.len) is
+unfolding entries_from
+entries_cons at i is = refl
 
 one_entry : (at : ℕ) (i : BufferEntryInfo)
     → entries_from at (i ∷ []) ≡ record { hash = i.hash; sequence = i.sequence; offset = at; len = i.len } ∷ []
@@ -134,8 +139,8 @@ module _ {A : Type 0} where
         blob = omega (arith, o.blob, o.at);
         at = sym ats;
         size = taken_none ∙ sym size;
-        indices = indices ∙ o.none ∙ sym (no_entries x.at);
-        listed = ap (λ n. entries_of (record { bytes = x.index.bytes; count = n })) count ∙ entries_none x.index.bytes ∙ sym (indices ∙ o.none);
+        indices = indices ∙ o.none ∙ sym (entries_none x.at);
+        listed = ap (λ n. entries_of (record { bytes = x.index.bytes; count = n })) count ∙ none_in x.index.bytes ∙ sym (indices ∙ o.none);
         within = λ h. absurd (omega (arith, h));
       }
 
@@ -168,8 +173,8 @@ module _ {A : Type 0} where
         blob = sym blobs;
         at = sym ats;
         size = taken_none ∙ sym size;
-        indices = indices ∙ o.none ∙ sym (no_entries x.at);
-        listed = ap (λ n. entries_of (record { bytes = x.index.bytes; count = n })) count ∙ entries_none x.index.bytes ∙ sym (indices ∙ o.none);
+        indices = indices ∙ o.none ∙ sym (entries_none x.at);
+        listed = ap (λ n. entries_of (record { bytes = x.index.bytes; count = n })) count ∙ none_in x.index.bytes ∙ sym (indices ∙ o.none);
         within = λ h. absurd (omega (arith, h));
       }
 
@@ -214,7 +219,7 @@ module _ {A : Type 0} where
     blob = refl;
     at = refl;
     size = taken_none ∙ sym size;
-    indices = none_yet ∙ sym (no_entries w.at);
+    indices = none_yet ∙ sym (entries_none w.at);
     listed = sym (ap (λ t. entries_of w.index ++ t) none_yet ∙ append-nil (entries_of w.index));
     within = λ h. absurd (omega (arith, h));
   }

@@ -1,5 +1,5 @@
 -- What a buffer holds: entries one behind another, each padded to whole pages.
-use Rattle.std.specs.Prelude.{◌≡◌, ℕ, ◌+◌, ◌-◌, ◌≤◌, List, [], ◌∷◌, ◌++◌, length, take, drop, map, All}
+use Rattle.std.specs.Prelude.{◌≡◌, ℕ, ◌+◌, ◌-◌, ◌≤◌, List, [], ◌∷◌, ◌++◌, length, take, drop}
 use Rattle.foyer_format.specs.Page.{page_up}
 use Rattle.foyer_format.specs.Filling.{taken}
 use Rattle.foyer_format.specs.declared.block.buffer.BufferEntryInfo.{BufferEntryInfo}

@@ -1,5 +1,5 @@
 -- How far a block is filled, and the entries of records that stand one behind another.
-use Rattle.std.specs.Prelude.{◌≡◌, ℕ, ◌+◌, ◌<◌, ◌≤◌, List, [], ◌∷◌, ◌++◌}
+use Rattle.std.specs.Prelude.{ℕ, ◌+◌, ◌<◌, ◌≤◌, List, [], ◌∷◌, ◌++◌}
 use Rattle.foyer_format.specs.Page.{page_up}
 use Rattle.foyer_format.specs.declared.block.buffer.BufferEntryInfo.{BufferEntryInfo}
 use Rattle.foyer_format.specs.declared.block.buffer.blob.BlobEntryIndex.{BlobEntryIndex}

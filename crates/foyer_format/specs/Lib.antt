@@ -1,13 +1,17 @@
 pub mod Blob
+pub mod BlockBytes
 pub mod CodeLaws
 pub mod Codes
 pub mod Compression
 pub mod Entries
 pub mod Filling
+pub mod Fills
 pub mod Header
+pub mod Listing
 pub mod OpenIndex
 pub mod Page
 pub mod Placing
+pub mod PlacingLaws
 pub mod Pushing
 pub mod Record
 pub mod Refusals

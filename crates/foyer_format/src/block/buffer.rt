@@ -16,12 +16,17 @@ use std::marker::Model;
 
 mod blob;
 pub mod entries;
+mod laws;
 mod pages;
 mod reserved;
 mod split;
 mod splitting;
 
 pub use blob::{BlobEntryIndex, BlobIndex, BlobIndexReader};
+pub use laws::{
+    batch_is_blocks, block_is_laid, finished_fits, fresh_holds, held_is_listed, listing_vectors,
+    one_list, written_holds,
+};
 pub use split::{Batch, BlobPart, Block, SplitCtx, Splitter};
 
 /// Where a record stands in a buffer: its first byte, and its length without the padding.

@@ -1,4 +1,4 @@
-use Rattle.std.proofs.Common.{arith, ap, sym, ◌∙◌, length}
+use Rattle.std.proofs.Common.{ap, sym, ◌∙◌, length}
 use Rattle.std.proofs.lemmas.List.{length-replicate}
 use Rattle.foyer_format.proofs.PageLaws.{page_up-even}
 use Rattle.foyer_format.proofs.block.buffer.blob.copy_of.Goals as goal

@@ -1,5 +1,5 @@
-use Rattle.std.proofs.Common.{◌≡◌, ℕ, List, ◌++◌, ◌≤◌, ◌<◌, ◌^◌, ◌+◌, drop, take, length, arith, rules, refl, sym, ap, ◌∙◌}
-use Rattle.std.proofs.lemmas.List.{drop_at, drop-drop, length-take-le, take_all, length-append, length-drop}
+use Rattle.std.proofs.Common.{◌≡◌, ℕ, List, ◌++◌, drop, take, length, arith, ap, ◌∙◌}
+use Rattle.std.proofs.lemmas.List.{drop_at, drop-drop, length-take-le}
 use Rattle.foyer_checksum.specs.Xxh64.{xxh64}
 use borrow.Rule.Slice.PartMut.{put_mid}
 use Rattle.foyer_format.proofs.BlobLemmas.{sealed_by}

@@ -1,5 +1,4 @@
-use Rattle.std.proofs.Common.{◌≡◌, arith, drop, ap, ◌∙◌, ◌+◌, ◌*◌, ◌++◌, take, List, ℕ, rules}
-use Rattle.foyer_format.specs.Blob.{entries_in, entry_bytes, FitsEntry}
+use Rattle.std.proofs.Common.{arith}
 use Rattle.foyer_format.proofs.BlobLemmas.{entry_put}
 use Rattle.foyer_format.proofs.block.buffer.blob.write_entry.Goals as goal
 

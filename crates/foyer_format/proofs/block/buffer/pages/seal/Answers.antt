@@ -1,6 +1,5 @@
-use Rattle.std.proofs.Common.{◌≡◌, ℕ, ◌+◌, ◌-◌, List, ◌++◌, take, drop, length, refl, sym, ap, ◌∙◌, arith}
+use Rattle.std.proofs.Common.{◌≡◌, ℕ, ◌+◌, ◌-◌, List, ◌++◌, take, drop, length, ap, ◌∙◌, arith}
 use Rattle.std.proofs.lemmas.List.{length-drop, length-take-le, drop-take}
-use Rattle.foyer_format.specs.Record.{record_bytes}
 use Rattle.foyer_format.proofs.HeaderLemmas.{length-header_bytes}
 use Rattle.foyer_format.proofs.PushLemmas.{whole_record}
 use Rattle.foyer_format.proofs.PagesLemmas.{written_part}

@@ -1,5 +1,4 @@
-use Rattle.std.proofs.Common.{◌≡◌, arith, rules, sym, ◌∙◌}
-use Rattle.std.proofs.lemmas.Grind.{common_steps}
+use Rattle.std.proofs.Common.{arith, rules}
 use Rattle.foyer_format.proofs.BlobLemmas.{sealed_from}
 use Rattle.foyer_format.proofs.block.buffer.blob.BlobIndexReader.read.Goals as goal
 

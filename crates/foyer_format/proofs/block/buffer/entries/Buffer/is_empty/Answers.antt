@@ -1,7 +1,7 @@
 use Rattle.std.proofs.Common.{◌≡◌, ℕ, [], ◌∷◌, List, length, refl, ap, arith}
 use Rattle.std.proofs.lemmas.Bool.Decides.{nat_tests}
 use Rattle.std.specs.Prelude.{IsTrue, ◌==◌, ◌↔◌}
-use Rattle.foyer_format.specs.Entries.{Entries, entries_at}
+use Rattle.foyer_format.specs.Entries.{entries_at}
 use Rattle.foyer_format.specs.declared.block.buffer.BufferEntryInfo.{BufferEntryInfo}
 use Rattle.foyer_format.proofs.block.buffer.entries.Buffer.is_empty.Goals as goal
 

@@ -1,11 +1,9 @@
-use Rattle.std.proofs.Common.{◌≡◌, suc, ◌+◌, ◌<◌, ◌≤◌, ℕ, List, [], ◌∷◌, drop, length, get_or, refl, sym, ap, subst, ◌∙◌, arith}
-use Rattle.std.specs.Prelude.{map}
+use Rattle.std.proofs.Common.{◌≡◌, suc, ◌+◌, ◌<◌, ◌≤◌, ℕ, List, [], ◌∷◌, drop, length, get_or, refl, ap, subst, ◌∙◌, arith}
 use Rattle.std.proofs.Math.Seq.{drop-cons}
 use Rattle.std.proofs.Math.ListN.{drop_of_length-le}
 use Rattle.foyer_device.specs.Section.{bytes_of}
 use Rattle.foyer_format.specs.Page.{page_up}
 use Rattle.foyer_format.specs.Filling.{taken}
-use Rattle.foyer_format.specs.Placing.{Places, parts_of}
 use Rattle.foyer_format.specs.Splitting.{Going, sizes_of}
 use Rattle.foyer_format.specs.declared.block.buffer.BufferEntryInfo.{BufferEntryInfo}
 use Rattle.foyer_format.proofs.SplitLemmas.{begins, taken_cons}

@@ -1,4 +1,4 @@
-use Rattle.std.proofs.Common.{◌≡◌, ◌+◌, ◌<◌, ℕ, drop}
+use Rattle.std.proofs.Common.{◌≡◌, ◌+◌, ◌<◌, drop}
 use Rattle.foyer_format.specs.Blob.{capacity_of}
 use Rattle.foyer_format.specs.Filling.{taken}
 use Rattle.foyer_format.specs.Splitting.{Going, sizes_of}

@@ -1,5 +1,4 @@
-use Rattle.std.proofs.Common.{rules, ◌≡◌, ◌<◌, ◌+◌, ℕ, [], length, refl, ap, sym, ◌∙◌, arith}
-use Rattle.std.proofs.lemmas.Grind.{common_steps}
+use Rattle.std.proofs.Common.{◌+◌, ℕ, refl, ap, ◌∙◌, arith}
 use Rattle.foyer_format.proofs.PageLaws.{even-page_up}
 use Rattle.foyer_format.proofs.SplitLemmas.{appends}
 use Rattle.foyer_format.proofs.block.buffer.splitting.Splitting.append.Goals as goal

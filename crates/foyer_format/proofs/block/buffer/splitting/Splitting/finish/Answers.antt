@@ -1,4 +1,4 @@
-use Rattle.std.proofs.Common.{◌<◌, refl}
+use Rattle.std.proofs.Common.{◌<◌}
 use Rattle.foyer_format.specs.Blob.{capacity_of}
 use Rattle.foyer_format.proofs.SplitLemmas.{finishes}
 use Rattle.foyer_format.proofs.block.buffer.splitting.Splitting.finish.Goals as goal

@@ -1,5 +1,4 @@
-use Rattle.std.proofs.Common.{rules, ◌≡◌, ◌<◌, [], length, refl, ap, sym, ◌∙◌, arith}
-use Rattle.std.proofs.lemmas.Grind.{common_steps}
+use Rattle.std.proofs.Common.{refl, ap, ◌∙◌}
 use Rattle.foyer_format.proofs.SplitLemmas.{begins_block}
 use Rattle.foyer_format.proofs.block.buffer.splitting.Splitting.next_block.Goals as goal
 
