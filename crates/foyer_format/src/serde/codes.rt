@@ -1,10 +1,10 @@
 //! The codes of `u64` and `String`.
 ghost use Rattle.std.specs.Prelude.{◌≡◌, ◌<◌, ◌^◌, ℕ, drop, length, true, false, Some, MatchOption, string_bytes};
-ghost use Rattle.std.specs.Int.{w64, to_le_bytes};
+ghost use Rattle.std.specs.Int.{w64};
 ghost use Rattle.std.specs.Str.{IsUtf8};
-ghost use Rattle.foyer_format.specs.Codes.{is_number, number_read, counted, is_counted, is_counted_text, text_read};
+ghost use Rattle.foyer_format.specs.Codes.{number_bytes, is_number, number_read, counted, is_counted, is_counted_text, text_read};
 ghost use Rattle.foyer_format.specs.Vectors.{NumberVector, TextVector};
-ghost use Rattle.foyer_format.specs.CodeLaws.{one_number, number_spelled, one_list, text_spelled};
+ghost use Rattle.foyer_format.specs.CodeLaws.{one_number, number_spelled, number_coded, one_list, text_spelled, text_coded};
 
 use super::coding::{Code, StorageKey, StorageValue};
 use super::sinks::Sink;
@@ -12,21 +12,23 @@ use foyer_device::error::{Error, Result};
 use std::alloc::{Allocator, Global};
 
 impl<A: Allocator> Code<A> for u64 {
-    ghost spelling = { λ n. to_le_bytes w64 n };
+    ghost spelling = { number_bytes w64 };
 
     ghost encodes = { λ n. n < 2 ^ 64 };
 
-    ghost is_spelling = { is_number };
+    ghost is_spelling = { is_number w64 };
 
     ghost same = { λ n m. n ≡ m };
 
     ghost takes_memory = { λ _. ⊥ };
 
+    #[tactic(auto, using(crate::specs::CodeLaws::numbers))]
     fn encode_into<W: Sink>(&self, writer: &mut W) -> Result<()> {
         let value = *self;
         writer.put(&value.to_le_bytes())
     }
 
+    #[tactic(auto, using(crate::specs::CodeLaws::numbers))]
     fn decode(_alloc: A, bytes: &[u8]) -> Result<u64> {
         if bytes.len() != 8 {
             return Err(Error::Parse);
@@ -36,13 +38,16 @@ impl<A: Allocator> Code<A> for u64 {
         ]))
     }
 
+    #[tactic(auto, using(crate::specs::CodeLaws::numbers))]
     fn estimated_size(&self) -> usize {
         8
     }
 
-    ghost spelled = { number_spelled };
+    ghost spelled = { number_spelled w64 };
 
     ghost one_value = { one_number };
+
+    ghost coded = { number_coded w64 };
 }
 
 impl<A: Allocator> StorageKey<A> for u64 {}
@@ -106,6 +111,8 @@ impl<A: Allocator> Code<A> for String<A> {
     ghost spelled = { λ s fits. text_spelled (string_bytes s) fits.0 fits.1 };
 
     ghost one_value = { λ s t a b same. one_list (string_bytes s) (string_bytes t) same };
+
+    ghost coded = { λ s. text_coded (string_bytes s) };
 }
 
 impl<A: Allocator + Send + Sync + 'static> StorageKey<A> for String<A> {}
@@ -113,6 +120,7 @@ impl<A: Allocator + Send + Sync + 'static> StorageKey<A> for String<A> {}
 impl<A: Allocator + Send + Sync + 'static> StorageValue<A> for String<A> {}
 
 /// The spellings of a number and of a text, in bytes.
+#[tactic(auto, unfolding(crate::specs::Codes::number_bytes))]
 pub fn code_vectors()
     ensures number { NumberVector }
     ensures text { TextVector }
@@ -121,7 +129,7 @@ pub fn code_vectors()
 /// Each number of 64 bits is what its spelling reads as.
 #[tactic(auto, using(crate::proofs::CodeLemmas::number_read_back))]
 pub fn u64_read_back()
-    ensures { (n : ℕ) → n < 2 ^ 64 → number_read (⟦<u64 as Code<Global>>⟧.spelling n) ≡ Some n }
+    ensures { (n : ℕ) → n < 2 ^ 64 → number_read w64 (⟦<u64 as Code<Global>>⟧.spelling n) ≡ Some n }
 {}
 
 /// Each text is what its spelling reads as.
