@@ -1,12 +1,16 @@
 pub mod Blob
+pub mod BlobVectors
 pub mod BlockBytes
+pub mod Bytes
 pub mod CodeLaws
 pub mod Codes
 pub mod Compression
 pub mod Entries
 pub mod Filling
 pub mod Fills
+pub mod FlagLaws
 pub mod Header
+pub mod IntLaws
 pub mod Listing
 pub mod OpenIndex
 pub mod Page
@@ -18,5 +22,6 @@ pub mod Refusals
 pub mod Splitting
 pub mod Tracked
 pub mod Vectors
+pub mod WideBytes
 pub mod Writing
 pub mod Written

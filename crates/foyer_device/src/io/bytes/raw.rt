@@ -85,7 +85,7 @@ impl<A: Allocator + Clone> Clone for Raw<A> {
     /// was refused.
     fn clone(&self) -> std::result::Result<Raw<A>, AllocError> {
         let alloc = self.bytes.allocator().clone()?;
-        let bytes = Vec::from_slice(alloc, self.bytes.as_slice())?;
+        let bytes = Vec::from_slice(alloc, self.as_slice())?;
         Ok(Raw { bytes })
     }
 }
@@ -96,7 +96,7 @@ impl<A: Allocator> PartialEq for Raw<A> {
     ghost laws = { partial_equiv_from_equiv nat_list_eq_equiv };
 
     fn eq(&self, other: &Raw<A>) -> bool {
-        self.bytes.as_slice() == other.bytes.as_slice()
+        self.as_slice() == other.as_slice()
     }
 }
 
@@ -108,7 +108,7 @@ impl<A: Allocator> AsSlice<u8> for Raw<A> {
     ghost items = { λ r. r };
 
     fn as_slice(&self) -> &[u8] {
-        self.bytes.as_slice()
+        self.as_slice()
     }
 }
 
@@ -116,7 +116,7 @@ impl<A: Allocator> IoB for Raw<A> {
     ghost bytes = { λ r. r };
 
     fn as_slice(&self) -> &[u8] {
-        self.bytes.as_slice()
+        self.as_slice()
     }
 }
 
@@ -132,7 +132,7 @@ impl<A: Allocator> IoBufMut for Raw<A> {
     ghost fills = { refilled-same };
 
     fn as_mut_slice(&mut self) -> &mut [u8] {
-        self.bytes.as_mut_slice()
+        self.as_mut_slice()
     }
 
     fn into_iob(self) -> Raw<A> {

@@ -115,7 +115,7 @@ impl<A: Allocator> AsSlice<u8> for IoSliceMut<A> {
     ghost items = { λ m. m };
 
     fn as_slice(&self) -> &[u8] {
-        self.raw.as_slice()
+        self.as_slice()
     }
 }
 
@@ -123,7 +123,7 @@ impl<A: Allocator> IoB for IoSliceMut<A> {
     ghost bytes = { λ m. m };
 
     fn as_slice(&self) -> &[u8] {
-        self.raw.as_slice()
+        self.as_slice()
     }
 }
 
@@ -139,7 +139,7 @@ impl<A: Allocator> IoBufMut for IoSliceMut<A> {
     ghost fills = { refilled-same };
 
     fn as_mut_slice(&mut self) -> &mut [u8] {
-        self.raw.as_mut_slice()
+        self.as_mut_slice()
     }
 
     fn into_iob(self) -> IoSliceMut<A> {

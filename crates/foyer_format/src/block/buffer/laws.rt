@@ -1,5 +1,5 @@
 //! What holds of every placing, for whoever writes blocks and reads them again.
-ghost use Rattle.foyer_format.specs.Vectors.{EntryVector, KeptVector};
+ghost use Rattle.foyer_format.specs.BlobVectors.{EntryVector, CapacityVector, KeptVector};
 ghost use Rattle.foyer_format.specs.PlacingLaws.{OneList, FinishedFits, BatchIsBlocks, BlockIsLaid, FreshHolds, WrittenHolds, HeldIsListed};
 
 use std::alloc::Allocator;
@@ -41,9 +41,10 @@ pub fn held_is_listed()
     ensures { HeldIsListed }
 {}
 
-/// An entry of an index in bytes; and what is kept of a list whose third sequence steps back.
+/// An entry of an index in bytes, how many an index has room for, and what is kept of a list.
 #[tactic(auto, unfolding(crate::specs::Blob::entry_bytes))]
 pub fn listing_vectors()
     ensures entry { EntryVector }
+    ensures capacity { CapacityVector }
     ensures kept { KeptVector }
 {}
