@@ -74,7 +74,8 @@ impl<A: Allocator> Buffer<A> {
     pub fn written(&self) -> usize
         ensures { result ≡ size_of self.now.entries }
     {
-        self.pages.written
+        let Pages { written, .. } = &self.pages;
+        *written
     }
 
     /// Appends the record of a key and a value; false where it doesn't fit or a code fails. Memory
@@ -141,8 +142,8 @@ impl<A: Allocator> Buffer<A> {
         if room < len {
             return Ok(false);
         }
-        let padded = whole_pages(len);
-        if room < padded {
+        let aligned = whole_pages(len);
+        if room < aligned {
             return Ok(false);
         }
         self.pages.put_slice(slice);
@@ -153,7 +154,7 @@ impl<A: Allocator> Buffer<A> {
             offset,
             len,
         })?;
-        self.pages.written = offset + padded;
+        self.pages.written = offset + aligned;
         Ok(true)
     }
 

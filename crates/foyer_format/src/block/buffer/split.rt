@@ -184,3 +184,6 @@ impl Splitter {
         Ok(Batch { blocks, bytes })
     }
 }
+
+#[cfg(test)]
+mod tests;

@@ -11,20 +11,20 @@ returns-then-room-len-clause-fits g c =
     let s = shown c.args.self.now i.pages.bytes i.entry_infos.items i.pages.written i.max_entry_size c.self.view_is inv.0 inv.1 i.pages.within inv.3 in
     (λ e. absurd (never e), λ fits. absurd (omega (arith, fits.0, fits.1, page_up-holds (length c.args.slice.now), s.greatest, s.left, c.left.ensures, c.min-room.ensures, c.if-room-len.true)))
 
-pub whole_pages-padded-requires : goal.whole_pages-padded-requires
-whole_pages-padded-requires g c =
+pub whole_pages-aligned-requires : goal.whole_pages-aligned-requires
+whole_pages-aligned-requires g c =
     omega (arith, page_up-fewest (length c.args.slice.now), c.if-room-len.false, c.min-room.ensures, c.self.invariant.4)
 
-pub returns-then-room-padded-clause-fits : goal.returns-then-room-padded-clause-fits
-returns-then-room-padded-clause-fits g c =
+pub returns-then-room-aligned-clause-fits : goal.returns-then-room-aligned-clause-fits
+returns-then-room-aligned-clause-fits g c =
     let i = c.self.inside in
     let inv = c.self.invariant in
     let s = shown c.args.self.now i.pages.bytes i.entry_infos.items i.pages.written i.max_entry_size c.self.view_is inv.0 inv.1 i.pages.within inv.3 in
-    (λ e. absurd (never e), λ fits. absurd (omega (arith, fits.0, fits.1, s.greatest, s.left, c.left.ensures, c.min-room.ensures, c.whole_pages-padded.ensures, c.if-room-padded.true)))
+    (λ e. absurd (never e), λ fits. absurd (omega (arith, fits.0, fits.1, s.greatest, s.left, c.left.ensures, c.min-room.ensures, c.whole_pages-aligned.ensures, c.if-room-aligned.true)))
 
 pub put_slice-requires : goal.put_slice-requires
 put_slice-requires g c =
-    omega (arith, page_up-holds (length c.args.slice.now), c.left.ensures, c.min-room.ensures, c.whole_pages-padded.ensures, c.if-room-padded.false, c.self.inside.pages.within)
+    omega (arith, page_up-holds (length c.args.slice.now), c.left.ensures, c.min-room.ensures, c.whole_pages-aligned.ensures, c.if-room-aligned.false, c.self.inside.pages.within)
 
 pub returns-in_err-push-clause-refused : goal.returns-in_err-push-clause-refused
 returns-in_err-push-clause-refused g c =
@@ -39,8 +39,8 @@ invariant_of-self-2 g c =
     let i = c.self.inside in
     let inv = c.self.invariant in
     let put = c.put_slice.ensures in
-    let kept = keeps i.entry_infos.items c.push.new.self.items _ i.pages.written c.whole_pages-padded.result i.max_entry_size c.in_ok-push.ensures.items
-    inv.0 inv.1 inv.2 put.written c.whole_pages-padded.ensures (omega (arith, c.min-room.ensures, c.if-room-padded.false)) in
+    let kept = keeps i.entry_infos.items c.push.new.self.items _ i.pages.written c.whole_pages-aligned.result i.max_entry_size c.in_ok-push.ensures.items
+    inv.0 inv.1 inv.2 put.written c.whole_pages-aligned.ensures (omega (arith, c.min-room.ensures, c.if-room-aligned.false)) in
     (kept.0, rw put.written kept.1, kept.2, rw put.size inv.3, inv.4)
 
 pub returns-clause-pushed : goal.returns-clause-pushed
@@ -59,8 +59,8 @@ returns-clause-fits g c =
     let s = shown c.args.self.now i.pages.bytes i.entry_infos.items i.pages.written i.max_entry_size c.self.view_is inv.0 inv.1 i.pages.within inv.3 in
     let room = c.min-room.ensures in (
       λ _. (
-        omega (arith, s.left, c.left.ensures, room, c.whole_pages-padded.ensures, c.if-room-padded.false),
-        omega (arith, s.greatest, room, c.whole_pages-padded.ensures, c.if-room-padded.false),
+        omega (arith, s.left, c.left.ensures, room, c.whole_pages-aligned.ensures, c.if-room-aligned.false),
+        omega (arith, s.greatest, room, c.whole_pages-aligned.ensures, c.if-room-aligned.false),
       ),
       λ _. refl,
     )
