@@ -4,7 +4,7 @@ use Rattle.std.proofs.Common.{◌≡◌, ℕ, zero, suc, ◌+◌, ◌-◌, ◌<�
 use Rattle.std.proofs.lemmas.List.{length-append}
 use Rattle.foyer_format.specs.Page.{page_up}
 use Rattle.foyer_format.specs.BlockBytes.{Write, laid, all_laid, read, IsBeside, AllWithin}
-use Rattle.foyer_format.specs.Fills.{Stored, AllStand, AllOutside}
+use Rattle.foyer_format.specs.Stored.{Stored, AllStand, AllOutside}
 use Rattle.foyer_format.proofs.PageLaws.{page_up-holds}
 
 pub beside_or : (w : Write) (o : ℕ) → IsBeside w o ⊎ (IsBeside w o → ⊥)

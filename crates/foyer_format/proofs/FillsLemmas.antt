@@ -5,7 +5,8 @@ use Rattle.foyer_device.specs.Section.{Section, bytes_of}
 use Rattle.foyer_format.specs.BlockBytes.{laid, all_laid, IsBeside, Each}
 use Rattle.foyer_format.specs.Filling.{Sizes, Filling, end_of, next_blob, taken, entries_from, with_records}
 use Rattle.foyer_format.specs.Placing.{IsPart}
-use Rattle.foyer_format.specs.Fills.{MayWrite, Stored, stored_at, AllStand, AllOutside, AreRecords, data_write, index_write, writes_of, records_in, data_end, ComesBehind, Fills, IsLaid}
+use Rattle.foyer_format.specs.Fills.{MayWrite, data_write, index_write, writes_of, records_in, data_end, ComesBehind, Fills, IsLaid}
+use Rattle.foyer_format.specs.Stored.{Stored, stored_at, AllStand, AllOutside, AreRecords}
 use Rattle.foyer_format.specs.Fills.Fills.{stays, part, blob}
 use Rattle.foyer_format.specs.declared.block.buffer.BufferEntryInfo.{BufferEntryInfo}
 use Rattle.foyer_format.specs.declared.block.buffer.split.BlobPart.{BlobPart}

@@ -11,9 +11,11 @@ use Rattle.foyer_format.specs.BlockBytes.{read, laid, all_laid, Each}
 use Rattle.foyer_format.specs.Filling.{Sizes, Filling, FitsBlock, end_of, fresh, next_blob, taken, entries_from, with_records}
 use Rattle.foyer_format.specs.Listing.{Fits, IsIndex, behind, placed, Chain, Lists}
 use Rattle.foyer_format.specs.Placing.{IsPart}
-use Rattle.foyer_format.specs.Fills.{AreSizes, all_read, Stored, entry_of, stored_at, data_write, index_write, writes_of, records_in, Fills, Leads, Holds}
+use Rattle.foyer_format.specs.Fills.{AreSizes, data_write, index_write, writes_of, records_in, Fills}
+use Rattle.foyer_format.specs.Stored.{Stored, entry_of, stored_at}
+use Rattle.foyer_format.specs.Holding.{all_read, Leads, Holds}
 use Rattle.foyer_format.specs.Fills.Fills.{stays, part, blob}
-use Rattle.foyer_format.specs.Fills.Leads.{here, over}
+use Rattle.foyer_format.specs.Holding.Leads.{here, over}
 use Rattle.foyer_format.specs.declared.block.buffer.BufferEntryInfo.{BufferEntryInfo}
 use Rattle.foyer_format.specs.declared.block.buffer.blob.BlobEntryIndex.{BlobEntryIndex}
 use Rattle.foyer_format.specs.declared.block.buffer.split.BlobPart.{BlobPart}

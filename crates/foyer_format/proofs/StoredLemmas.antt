@@ -7,7 +7,7 @@ use Rattle.foyer_format.specs.Page.{page_up}
 use Rattle.foyer_format.specs.BlockBytes.{laid, read}
 use Rattle.foyer_format.specs.Filling.{taken, entries_from}
 use Rattle.foyer_format.specs.Listing.{placed}
-use Rattle.foyer_format.specs.Fills.{Stored, entry_of, stored_at, AllStand, AllOutside, AreRecords}
+use Rattle.foyer_format.specs.Stored.{Stored, entry_of, stored_at, AllStand, AllOutside, AreRecords}
 use Rattle.foyer_format.specs.declared.block.buffer.BufferEntryInfo.{BufferEntryInfo}
 use Rattle.foyer_format.proofs.PageLaws.{page_up-holds}
 use Rattle.foyer_format.proofs.SplitLemmas.{taken_cons, taken_none, entries_cons, entries_none}

@@ -11,7 +11,7 @@ pub record Entry : Type 0 where
   pub sequence : ℕ
   pub bytes : List ℕ
 
--- the entries, the bytes that there are in all, and the most that an entry may take with its padding
+-- the entries, the bytes that there are in all, and the most that an entry may take, padded
 pub record Entries : Type 0 where
   pub entries : List Entry
   pub room : ℕ
@@ -29,7 +29,9 @@ left_of b = b.room - size_of b.entries
 -- one entry more
 abbrev pub with_entry : Entries → (hash sequence : ℕ) → List ℕ → Entries
 with_entry b hash sequence bytes =
-    record b { entries = b.entries ++ record { hash = hash; sequence = sequence; bytes = bytes } ∷ [] }
+    record b {
+      entries = b.entries ++ record { hash = hash; sequence = sequence; bytes = bytes } ∷ [];
+    }
 
 -- the entries that stand where these say
 abbrev pub entries_at : List ℕ → List BufferEntryInfo → List Entry

@@ -1,14 +1,12 @@
--- What goes into one block, and what stands there then.
-use Rattle.std.specs.Prelude.{◌≡◌, ℕ, ◌+◌, ◌-◌, ◌<◌, ◌≤◌, ◌%◌, false, Bool, List, [], ◌∷◌, ◌++◌, length, take, drop, ◌⊎◌}
+-- What goes into one block, and what that makes of it.
+use Rattle.std.specs.Prelude.{◌≡◌, ℕ, ◌+◌, ◌<◌, ◌≤◌, ◌%◌, List, [], ◌∷◌, ◌++◌, length, ◌⊎◌}
 use Rattle.foyer_device.specs.Section.{Section, bytes_of}
-use Rattle.foyer_format.specs.Page.{page_up}
-use Rattle.foyer_format.specs.Blob.{IsSealed, capacity_of}
-use Rattle.foyer_format.specs.BlockBytes.{Write, read, all_laid, AllWithin, Each}
+use Rattle.foyer_format.specs.Blob.{capacity_of}
+use Rattle.foyer_format.specs.BlockBytes.{Write, all_laid, AllWithin, Each}
 use Rattle.foyer_format.specs.Filling.{Sizes, Filling, end_of, fresh, next_blob, taken, with_records}
-use Rattle.foyer_format.specs.Listing.{Fits, IsIndex, behind, placed}
 use Rattle.foyer_format.specs.Placing.{IsPart}
+use Rattle.foyer_format.specs.Stored.{Stored, stored_at, AllStand, AllOutside, AreRecords}
 use Rattle.foyer_format.specs.declared.block.buffer.BufferEntryInfo.{BufferEntryInfo}
-use Rattle.foyer_format.specs.declared.block.buffer.blob.BlobEntryIndex.{BlobEntryIndex}
 use Rattle.foyer_format.specs.declared.block.buffer.split.BlobPart.{BlobPart}
 
 -- whole pages, an index, and room for data behind it
@@ -17,59 +15,15 @@ pub record AreSizes (s : Sizes) : Type 0 where
   pub some : 0 < s.index
   pub order : s.index < s.block
 
--- no read failed
-abbrev pub all_read : ℕ → Bool
-all_read p = false
-
 -- where later writes of a filling may fall: behind its data, or into the index of its present blob
 abbrev pub MayWrite : Sizes → Filling → ℕ → Type 0
 MayWrite s f o = (end_of f ≤ o) ⊎ ((f.blob ≤ o) × (o < f.blob + s.index))
 
--- a record that stands at an offset of a block
-pub record Stored : Type 0 where
-  pub hash : ℕ
-  pub sequence : ℕ
-  pub offset : ℕ
-  pub bytes : List ℕ
-
-abbrev pub entry_of : Stored → BlobEntryIndex
-entry_of r = record { hash = r.hash; sequence = r.sequence; offset = r.offset; len = length r.bytes }
-
--- the records of these entries of a blob, whose data begin at this offset of the blob
-abbrev pub stored_at : (blob at : ℕ) → List ℕ → List BlobEntryIndex → List Stored
-stored_at blob at content [] = []
-stored_at blob at content (e ∷ es) =
-    record {
-      hash = e.hash;
-      sequence = e.sequence;
-      offset = blob + e.offset;
-      bytes = take e.len (drop (e.offset - at) content);
-    } ∷ stored_at blob at content es
-
--- the records stand at their offsets
-abbrev pub AllStand : (ℕ → ℕ) → List Stored → Type 0
-AllStand g [] = Unit {0}
-AllStand g (r ∷ rs) = (read g r.offset (length r.bytes) ≡ r.bytes) × AllStand g rs
-
--- no byte of these records' pages has the property
-abbrev pub AllOutside : (ℕ → Type 0) → List Stored → Type 0
-AllOutside P [] = Unit {0}
-AllOutside P (r ∷ rs) =
-    ((o : ℕ) → r.offset ≤ o → o < r.offset + page_up (length r.bytes) → P o → ⊥) × AllOutside P rs
-
--- these are the records of a batch from byte start on, in order, each with its padding
-abbrev pub AreRecords : List ℕ → (start : ℕ) → List BufferEntryInfo → List Stored → Type 0
-AreRecords whole start [] [] = Unit {0}
-AreRecords whole start [] (r ∷ rs) = ⊥
-AreRecords whole start (i ∷ is) [] = ⊥
-AreRecords whole start (i ∷ is) (r ∷ rs) =
-    (r.hash ≡ i.hash) × (r.sequence ≡ i.sequence) × (r.bytes ≡ take i.len (drop start whole))
-    × (length r.bytes ≡ i.len) × AreRecords whole (start + page_up i.len) is rs
-
 module _ {A : Type 0} where
   -- the data of a part
   abbrev pub data_write : BlobPart A → Write
-  data_write p = record { offset = p.blob_block_offset + p.part_blob_offset; bytes = bytes_of p.part_data }
+  data_write p =
+      record { offset = p.blob_block_offset + p.part_blob_offset; bytes = bytes_of p.part_data }
 
   -- the index of a part, at its blob's start
   abbrev pub index_write : BlobPart A → Write
@@ -84,7 +38,8 @@ module _ {A : Type 0} where
   abbrev pub records_in : List (BlobPart A) → List Stored
   records_in [] = []
   records_in (p ∷ ps) =
-      stored_at p.blob_block_offset p.part_blob_offset (bytes_of p.part_data) p.indices.items ++ records_in ps
+      stored_at p.blob_block_offset p.part_blob_offset (bytes_of p.part_data) p.indices.items
+      ++ records_in ps
 
   -- where the data of a part end in the block
   abbrev pub data_end : BlobPart A → ℕ
@@ -106,13 +61,15 @@ module _ {A : Type 0} where
   InOrder s [] = Unit {0}
   InOrder s (p ∷ ps) = LiesWithin s p × Each (ComesBehind p) ps × InOrder s ps
 
-  -- from a filling on, and from byte start of the batch on, these records go into these parts of one
-  -- block, and a filling is left
+  -- from a filling on, and from byte start of the batch on, these records go into these parts of
+  -- one block, and a filling is left
   pub data Fills (s : Sizes) (whole : Section) : (start : ℕ) → Filling → List BufferEntryInfo
       → List (BlobPart A) → Filling → Type 0 where
     stays : {start : ℕ} {f : Filling} → Fills s whole start f [] [] f
-    part : {start : ℕ} {f g : Filling} {now rest : List BufferEntryInfo} {p : BlobPart A} {parts : List (BlobPart A)}
-        → IsPart s whole start f now p → Fills s whole (start + taken now) (with_records f now) rest parts g
+    part : {start : ℕ} {f g : Filling} {now rest : List BufferEntryInfo} {p : BlobPart A}
+        {parts : List (BlobPart A)}
+        → IsPart s whole start f now p
+        → Fills s whole (start + taken now) (with_records f now) rest parts g
         → Fills s whole start f (now ++ rest) (p ∷ parts) g
     blob : {start : ℕ} {f g : Filling} {infos : List BufferEntryInfo} {parts : List (BlobPart A)}
         → length f.listed ≡ capacity_of s.index → Fills s whole start (next_blob s f) infos parts g
@@ -123,16 +80,17 @@ module _ {A : Type 0} where
       → List (List (BlobPart A)) → Filling → Type 0 where
     last : {start : ℕ} {f g : Filling} {infos : List BufferEntryInfo} {parts : List (BlobPart A)}
         → Fills s whole start f infos parts g → Blocks s whole start f infos (parts ∷ []) g
-    more : {start : ℕ} {f g h : Filling} {now rest : List BufferEntryInfo} {parts : List (BlobPart A)}
-        {blocks : List (List (BlobPart A))}
-        → Fills s whole start f now parts h → Blocks s whole (start + taken now) (fresh s) rest blocks g
+    more : {start : ℕ} {f g h : Filling} {now rest : List BufferEntryInfo}
+        {parts : List (BlobPart A)} {blocks : List (List (BlobPart A))}
+        → Fills s whole start f now parts h
+        → Blocks s whole (start + taken now) (fresh s) rest blocks g
         → Blocks s whole start f (now ++ rest) (parts ∷ blocks) g
 
   -- What the parts of one block make of it. Nothing overlaps; every write falls behind all that the
   -- filling had, or into the index of its present blob, and so will later ones; after the writes,
   -- over any bytes, each record stands at its offset, and no later write falls into its pages.
-  pub record IsLaid (s : Sizes) (whole : Section) (start : ℕ) (f : Filling) (infos : List BufferEntryInfo)
-      (parts : List (BlobPart A)) (g : Filling) : Type 0 where
+  pub record IsLaid (s : Sizes) (whole : Section) (start : ℕ) (f : Filling)
+      (infos : List BufferEntryInfo) (parts : List (BlobPart A)) (g : Filling) : Type 0 where
     pub order : InOrder s parts
     pub within : AllWithin (MayWrite s f) (writes_of parts)
     pub shrinks : (o : ℕ) → MayWrite s g o → MayWrite s f o
@@ -140,21 +98,3 @@ module _ {A : Type 0} where
     pub records : AreRecords (bytes_of whole) start infos (records_in parts)
     pub stand : (B : ℕ → ℕ) → AllStand (all_laid (writes_of parts) B) (records_in parts)
     pub outside : AllOutside (MayWrite s g) (records_in parts)
-
--- From place p the chain begins with indices that list these, and comes to place q.
-pub data Leads (s : Sizes) (B : ℕ → ℕ) : ℕ → List BlobEntryIndex → ℕ → Type 0 where
-  here : {p : ℕ} → Leads s B p [] p
-  over : {p q : ℕ} {e : BlobEntryIndex} {es rest : List BlobEntryIndex} → IsIndex s B all_read p (e ∷ es)
-      → Leads s B (behind s p (e ∷ es)) rest q → Leads s B p (placed p (e ∷ es) ++ rest) q
-
--- In a block of these bytes the chain begins with what a filling has put so far: these entries.
-pub record Holds (s : Sizes) (B : ℕ → ℕ) (f : Filling) (es : List BlobEntryIndex) : Type 0 where
-  pub before : List BlobEntryIndex  -- those of the blobs that were left
-  pub front : Leads s B 0 before f.blob
-  pub past : s.index ≤ f.at
-  pub aligned : f.at % 4096 ≡ 0
-  pub fits : Each (Fits s f.blob) f.listed
-  pub room : 0 < length f.listed → f.blob + s.index ≤ s.block
-  pub sealed : 0 < length f.listed → IsSealed (read B f.blob s.index) f.listed
-  pub end : 0 < length f.listed → behind s f.blob f.listed ≡ end_of f
-  pub all : es ≡ before ++ placed f.blob f.listed

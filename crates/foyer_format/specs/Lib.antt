@@ -10,6 +10,7 @@ pub mod Filling
 pub mod Fills
 pub mod FlagLaws
 pub mod Header
+pub mod Holding
 pub mod IntLaws
 pub mod Listing
 pub mod OpenIndex
@@ -20,6 +21,7 @@ pub mod Pushing
 pub mod Record
 pub mod Refusals
 pub mod Splitting
+pub mod Stored
 pub mod Tracked
 pub mod Vectors
 pub mod WideBytes

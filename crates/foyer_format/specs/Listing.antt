@@ -14,8 +14,8 @@ pub record Fits (s : Sizes) (p : ℕ) (e : BlobEntryIndex) : Type 0 where
   pub aligned : e.offset % 4096 ≡ 0
   pub within : p + e.offset + page_up e.len ≤ s.block
 
--- At place p of a block of these bytes stands an index with these entries: there is room for it, its
--- read didn't fail, it is sealed, and each entry fits.
+-- At place p of a block of these bytes stands an index with these entries: there is room for it,
+-- its read didn't fail, it is sealed, and each entry fits.
 pub record IsIndex (s : Sizes) (B : ℕ → ℕ) (failed : ℕ → Bool) (p : ℕ) (es : List BlobEntryIndex)
     : Type 0 where
   pub room : p + s.index ≤ s.block
@@ -33,17 +33,21 @@ behind s p (e ∷ d ∷ es) = behind s p (d ∷ es)
 abbrev pub placed : ℕ → List BlobEntryIndex → List BlobEntryIndex
 placed p [] = []
 placed p (e ∷ es) =
-    record { hash = e.hash; sequence = e.sequence; offset = p + e.offset; len = e.len } ∷ placed p es
+    record { hash = e.hash; sequence = e.sequence; offset = p + e.offset; len = e.len }
+    ∷ placed p es
 
 -- The chain of indices from a place on lists these entries, and ends at a place where no index
 -- stands.
-pub data Chain (s : Sizes) (B : ℕ → ℕ) (failed : ℕ → Bool) : ℕ → List BlobEntryIndex → ℕ → Type 0 where
-  ends : {p : ℕ} → ((es : List BlobEntryIndex) → IsIndex s B failed p es → ⊥) → Chain s B failed p [] p
+pub data Chain (s : Sizes) (B : ℕ → ℕ) (failed : ℕ → Bool)
+    : ℕ → List BlobEntryIndex → ℕ → Type 0 where
+  ends : {p : ℕ} → ((es : List BlobEntryIndex) → IsIndex s B failed p es → ⊥)
+      → Chain s B failed p [] p
   goes : {p q : ℕ} {es rest : List BlobEntryIndex} → IsIndex s B failed p es
       → Chain s B failed (behind s p es) rest q → Chain s B failed p (placed p es ++ rest) q
 
 -- A block of these bytes lists these entries, where reads of these places failed.
-pub record Lists (s : Sizes) (B : ℕ → ℕ) (failed : ℕ → Bool) (es : List BlobEntryIndex) : Type 0 where
+pub record Lists (s : Sizes) (B : ℕ → ℕ) (failed : ℕ → Bool) (es : List BlobEntryIndex)
+    : Type 0 where
   pub end : ℕ
   pub chain : Chain s B failed 0 es end
 

@@ -30,8 +30,8 @@ pub record IsPart {A : Type 0} (s : Sizes) (whole : Section) (start : ℕ) (f : 
 -- into these parts of the block and into these further blocks, and a filling is left.
 -- Left says the same where the present part takes no more of the batch.
 mutual
-  pub data Placed {A : Type 0} (s : Sizes) (whole : Section) : (start : ℕ) → Filling → List BufferEntryInfo
-      → List (BlobPart A) → List (List (BlobPart A)) → Filling → Type 0 where
+  pub data Placed {A : Type 0} (s : Sizes) (whole : Section) : (start : ℕ) → Filling
+      → List BufferEntryInfo → List (BlobPart A) → List (List (BlobPart A)) → Filling → Type 0 where
     -- the next records make a part
     part : {start : ℕ} {f g : Filling} {now rest : List BufferEntryInfo} {p : BlobPart A}
         {parts : List (BlobPart A)} {blocks : List (List (BlobPart A))}
@@ -43,8 +43,8 @@ mutual
         {blocks : List (List (BlobPart A))}
         → Left s whole start f infos parts blocks g → Placed s whole start f infos parts blocks g
 
-  pub data Left {A : Type 0} (s : Sizes) (whole : Section) : (start : ℕ) → Filling → List BufferEntryInfo
-      → List (BlobPart A) → List (List (BlobPart A)) → Filling → Type 0 where
+  pub data Left {A : Type 0} (s : Sizes) (whole : Section) : (start : ℕ) → Filling
+      → List BufferEntryInfo → List (BlobPart A) → List (List (BlobPart A)) → Filling → Type 0 where
     -- the batch ends, and the next one goes on in the same blob
     done : {start : ℕ} {f : Filling} → length f.listed < capacity_of s.index
         → Left s whole start f [] [] [] f

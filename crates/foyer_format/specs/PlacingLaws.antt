@@ -4,7 +4,9 @@ use Rattle.foyer_device.specs.Section.{Section, bytes_of}
 use Rattle.foyer_format.specs.BlockBytes.{all_laid, Each}
 use Rattle.foyer_format.specs.Entries.{Entries, IsFinished}
 use Rattle.foyer_format.specs.Filling.{Sizes, Filling, FitsBlock, fresh, taken}
-use Rattle.foyer_format.specs.Fills.{AreSizes, all_read, entry_of, writes_of, records_in, Fills, Blocks, IsLaid, Holds}
+use Rattle.foyer_format.specs.Fills.{AreSizes, writes_of, records_in, Fills, Blocks, IsLaid}
+use Rattle.foyer_format.specs.Stored.{entry_of}
+use Rattle.foyer_format.specs.Holding.{all_read, Holds}
 use Rattle.foyer_format.specs.Listing.{Lists}
 use Rattle.foyer_format.specs.Placing.{IsPlaced, parts_of}
 use Rattle.foyer_format.specs.declared.block.buffer.BufferEntryInfo.{BufferEntryInfo}
@@ -36,7 +38,8 @@ BatchIsBlocks A =
 -- the parts of a block overlap nothing, and their records stand where their indices say
 abbrev pub BlockIsLaid : Type 0 → Type 0
 BlockIsLaid A =
-    (s : Sizes) (whole : Section) (start : ℕ) (f g : Filling) (infos : List BufferEntryInfo) (parts : List (BlobPart A))
+    (s : Sizes) (whole : Section) (start : ℕ) (f g : Filling)
+    (infos : List BufferEntryInfo) (parts : List (BlobPart A))
     → s.index ≤ f.at → start + taken infos ≤ length (bytes_of whole)
     → Fills s whole start f infos parts g → IsLaid s whole start f infos parts g
 

@@ -17,7 +17,8 @@ module _ {A : Type 0} where
   filling_of w = record { blob = w.blob; at = w.at; listed = entries_of w.index }
 
   -- the batch's blocks, where these parts and blocks follow
-  abbrev pub blocks_with : Splitting A → List (BlobPart A) → List (List (BlobPart A)) → List (List (BlobPart A))
+  abbrev pub blocks_with : Splitting A → List (BlobPart A) → List (List (BlobPart A))
+      → List (List (BlobPart A))
   blocks_with w parts blocks = map parts_of w.blocks.items ++ (w.parts.items ++ parts) ∷ blocks
 
   -- Whatever places the collected records and the rest completes the batch.
