@@ -58,6 +58,10 @@ bytes_read b = if is_counted b then Some (drop 8 b) else None
 abbrev pub is_counted_text : List ℕ → Bool
 is_counted_text b = is_counted b && is_utf8 (drop 8 b)
 
+-- a text whose length has 64 bits
+abbrev pub is_sized_text : List ℕ → Bool
+is_sized_text bytes = nat_lt (length bytes) (2 ^ 64) && is_utf8 bytes
+
 -- the text that the bytes spell
 abbrev pub text_read : List ℕ → Option (List ℕ)
 text_read b = if is_counted_text b then Some (drop 8 b) else None

@@ -1,17 +1,17 @@
 -- What a signed number is encoded as is a spelling, of no other number, and a number with a spelling fits.
-use Rattle.std.specs.Prelude.{◌≡◌, ℕ, ℤ, pos, negsuc, ◌<◌, ◌^◌, Bool, List, [], length, true, false, refl, if◌then◌else◌}
+use Rattle.std.specs.Prelude.{◌≡◌, ℕ, ℤ, pos, negsuc, ◌<◌, ◌^◌, Bool, List, [], length, true, if◌then◌else◌}
 use Rattle.std.specs.Int.{Width, byte_len, to_le_bytes, from_le_bytes, cast_signed, cast_unsigned}
 use Rattle.std.specs.Int.RustNames.{FitsSigned}
 use Rattle.std.proofs.Common.{sym, ◌∙◌, ap, get_or}
 use Rattle.std.proofs.Math.Facts.{Fits-of_z}
-use Rattle.std.proofs.lemmas.Bool.{lt-ltb, ltb-true, eqb-true, both_ways}
+use Rattle.std.proofs.lemmas.Bool.{lt-ltb, ltb-true, eqb-true}
 use Rattle.std.proofs.lemmas.Int.{to_z-of_z, of_z-to_z}
-use mir.Val.{bits, hbits}
+use mir.Val.{hbits}
 use Rattle.foyer_format.specs.Bytes.{read_written, written_read, read_fits}
-use Rattle.foyer_format.specs.CodeLaws.{full_length, not_empty}
+use Rattle.foyer_format.specs.CodeLaws.{full_length, not_empty, fits_if}
 use Rattle.foyer_format.specs.Codes.{int_fits, int_bytes, is_number}
 
-does_fit : (w : Width) (z : ℤ) → FitsSigned w z → int_fits w z ≡ true
+pub does_fit : (w : Width) (z : ℤ) → FitsSigned w z → int_fits w z ≡ true
 does_fit w (pos n) fits = lt-ltb n (2 ^ hbits w) fits.sfits
 does_fit w (negsuc n) fits = lt-ltb n (2 ^ hbits w) fits.sfits
 
@@ -29,20 +29,19 @@ pub int_length : (w : Width) (z : ℤ) → FitsSigned w z → length (int_bytes 
 int_length w z fits =
     ap length (bytes_of_int w z fits) ∙ eqb-true _ _ (full_length w (cast_unsigned w z))
 
-pub ruleset ints = (bytes_of_int, int_length)
+pub int_size : (w : Width) (z : ℤ) → int_fits w z ≡ true → length (int_bytes w z) ≡ byte_len w
+int_size w z fits = int_length w z (so_fits w z fits)
 
-pub int_spelled : (w : Width) (z : ℤ) → FitsSigned w z → is_number w (int_bytes w z) ≡ true
-int_spelled w z fits = ap (is_number w) (bytes_of_int w z fits) ∙ full_length w (cast_unsigned w z)
+pub ruleset ints = (bytes_of_int, int_length, does_fit, int_size)
 
-fits_if : (w : Width) (p : List ℕ → Bool) (bytes : List ℕ) (z : ℤ) (b : Bool) → int_fits w z ≡ b
-    → p [] ≡ false → p (if b then bytes else []) ≡ true → FitsSigned w z
-fits_if w p bytes z true fits none is = so_fits w z fits
-fits_if w p bytes z false fits none is = absurd (both_ways (p []) none is)
+pub int_spelled : (w : Width) (z : ℤ) → int_fits w z ≡ true → is_number w (int_bytes w z) ≡ true
+int_spelled w z fits =
+    ap (is_number w) (bytes_of_int w z (so_fits w z fits)) ∙ full_length w (cast_unsigned w z)
 
-pub int_coded : (w : Width) (z : ℤ) → is_number w (int_bytes w z) ≡ true → FitsSigned w z
+pub int_coded : (w : Width) (z : ℤ) → is_number w (int_bytes w z) ≡ true → int_fits w z ≡ true
 unfolding int_bytes
 int_coded w z is =
-    fits_if w (is_number w) (to_le_bytes w (cast_unsigned w z)) z (int_fits w z) refl (not_empty w) is
+    fits_if (is_number w) (to_le_bytes w (cast_unsigned w z)) (int_fits w z) (not_empty w) is
 
 pub int_again : (w : Width) (z : ℤ) → FitsSigned w z
     → cast_signed w (from_le_bytes w (int_bytes w z)) ≡ z
@@ -51,11 +50,11 @@ int_again w z fits =
     ap (λ b. cast_signed w (from_le_bytes w b)) (bytes_of_int w z fits)
     ∙ ap (cast_signed w) (read_written w (cast_unsigned w z) below.fits) ∙ to_z-of_z w z fits
 
-pub one_int : (w : Width) (z y : ℤ) → FitsSigned w z → FitsSigned w y
+pub one_int : (w : Width) (z y : ℤ) → int_fits w z ≡ true → int_fits w y ≡ true
     → int_bytes w z ≡ int_bytes w y → z ≡ y
 one_int w z y a b same =
-    sym (int_again w z a) ∙ ap (λ bytes. cast_signed w (from_le_bytes w bytes)) same
-    ∙ int_again w y b
+    sym (int_again w z (so_fits w z a)) ∙ ap (λ bytes. cast_signed w (from_le_bytes w bytes)) same
+    ∙ int_again w y (so_fits w y b)
 
 -- what was read is spelled as the bytes that it was read from
 pub int_found : (w : Width) (bytes : List ℕ) (z : ℤ) → length bytes ≡ byte_len w

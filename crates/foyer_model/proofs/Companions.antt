@@ -39,7 +39,7 @@ pieces_put {C} b n (q ∷ ps) m p c is given =
 module _ {C : Type 0} (rules : Rules C) (Splits : Splitting C) where
   takes_back : (old done : State C) (f : ℕ) (queue : List (Submission C)) (d : C) → Takes rules old f queue (Received (Some d)) done
       → (h : ℕ) × (s : ℕ) × (n : ℕ) × (rest : List (Submission C)) × (queue ≡ Piece h s n d ∷ rest)
-      × ((bytes : List ℕ) → rules.encode h s d ≡ Some bytes → Fits rules old (old.flushers f).buffer bytes → ⊥)
+      × ((bytes : List ℕ) → rules.encode h s d ≡ Some bytes → Fits rules old (old.flushers f) bytes → ⊥)
   takes_back old done f [] d ok = absurd ok
   takes_back old done f (Piece h s n c ∷ rest) d ok =
       (h, s, n, rest, (λ i. Piece h s n (sym ok.0 i) ∷ rest), λ bytes is. ok.1 bytes (ap (λ k. rules.encode h s k) (sym ok.0) ∙ is))

@@ -6,7 +6,7 @@ use Rattle.foyer_model.specs.Numbers.{put, last_number}
 use Rattle.foyer_model.specs.Ids.{ids, without_id}
 use Rattle.foyer_model.specs.Record.{Address, Slot, Indexed, Mark, Outcome, NoRecord, NotSupported, Undecodable, Holds, IndexEntry, Record}
 use Rattle.foyer_model.specs.Filling.{Write, Spread}
-use Rattle.foyer_model.specs.State.{Submission, Piece, Remove, Await, Reinsert, Writing, Batch, Place, no_stats, Stage, AtIndex, AtRecord, AllListed, ToClean, Reclaim, Destroy, NoDestroy, Begun, Cleaning, State}
+use Rattle.foyer_model.specs.State.{Submission, Piece, Remove, Await, Reinsert, Writing, Batch, Flusher, Place, no_stats, Stage, AtIndex, AtRecord, AllListed, ToClean, Reclaim, Destroy, NoDestroy, Begun, Cleaning, State}
 use Rattle.foyer_model.specs.Rules.{Rules, flusher_of, Splitting}
 use Rattle.foyer_model.specs.Step.{Came, Bytes, Fault, Age, Fresh, Young, Old, Ticket, Step, Enqueue, Delete, Wait, MayContains, LoadBegin, LoadEnd, Receive, FlushBegin, FlushBlock, FlushWrote, LogWrote, FlushEnd, ReclaimBegin, ReclaimRead, ReclaimForget, ReclaimCleaned, ReclaimIdle, DestroyBegin, DestroyClear, DestroyCleaned, Close}
 use Rattle.foyer_model.specs.Reply.{Kind, Io, Parse, Closed, Unsupported, SequenceEnd, Reply, NotNow, Refused, Ignored, Queued, Deleted, Done, Answer, Miss, Throttled, Read, Entry, Empty, Received, Began, Written, NoBlock, Next, Committed, Failed, Ended, Picked, Listed, Cleans, Destroying, Cleared}
@@ -95,8 +95,8 @@ module _ {C : Type 0} (rules : Rules C) (Splits : Splitting C) where
       go true e = inl (grind (arith, nat_tests))
       go false e = inr (λ le. grind (arith, nat_tests))
 
-  fits_or : (c : State C) (buffer : List (Record C)) (bytes : List ℕ) → Fits rules c buffer bytes ⊎ (Fits rules c buffer bytes → ⊥)
-  fits_or c buffer bytes = elim (le_or (bytes_taken rules.page_up buffer + rules.page_up (length bytes)) rules.room) [
+  fits_or : (c : State C) (φ : Flusher C) (bytes : List ℕ) → Fits rules c φ bytes ⊎ (Fits rules c φ bytes → ⊥)
+  fits_or c φ bytes = elim (le_or (bytes_taken rules.page_up φ.buffer + rules.page_up (length bytes)) (rules.room φ.context)) [
     | inl room ↦ elim (le_or (rules.index_size + rules.page_up (length bytes)) rules.block_size) [ inl fits ↦ inl (room, fits) | inr not ↦ inr (λ f. not f.1) ]
     | inr not ↦ inr (λ f. not f.0)
   ]
@@ -191,15 +191,15 @@ module _ {C : Type 0} (rules : Rules C) (Splits : Splitting C) where
       piece : (h s n : ℕ) (k : C) (rest : List (Submission C)) → (c.flushers f).queue ≡ Piece h s n k ∷ rest → (bytes : Option (List ℕ)) → rules.encode h s k ≡ bytes → HasReply c (Receive f)
       piece h s n k rest is None none = at_queue (Received (Some k)) _ (Piece h s n k ∷ rest) is tt
           (refl, (λ bs some fits. let e : None ≡ Some bs = sym none ∙ some in cc), refl)
-      piece h s n k rest is (Some bytes) some = elim (fits_or c (c.flushers f).buffer bytes) [
+      piece h s n k rest is (Some bytes) some = elim (fits_or c (c.flushers f) bytes) [
         | inl fits ↦ at_queue (Received None) _ (Piece h s n k ∷ rest) is tt (bytes, some, fits, refl)
         | inr not ↦ at_queue (Received (Some k)) _ (Piece h s n k ∷ rest) is tt
-            (refl, (λ bs other fits. not (subst (Fits rules c (c.flushers f).buffer) (let e : Some bs ≡ Some bytes = sym other ∙ some in let g : bs ≡ bytes = cc in g) fits)), refl)
+            (refl, (λ bs other fits. not (subst (Fits rules c (c.flushers f)) (let e : Some bs ≡ Some bytes = sym other ∙ some in let g : bs ≡ bytes = cc in g) fits)), refl)
       ]
 
       again : (h : ℕ) (bytes : List ℕ) (a : Address) (rest : List (Submission C)) → (c.flushers f).queue ≡ Reinsert h bytes a ∷ rest → (t : Bool) → holds a (c.index h) ≡ t → HasReply c (Receive f)
       again h bytes a rest is false not = at_queue (Received None) _ (Reinsert h bytes a ∷ rest) is tt (inr ((λ held fits. let e : false ≡ true = sym not ∙ held in cc), refl))
-      again h bytes a rest is true held = elim (fits_or c (c.flushers f).buffer bytes) [
+      again h bytes a rest is true held = elim (fits_or c (c.flushers f) bytes) [
         | inl fits ↦ at_queue (Received None) _ (Reinsert h bytes a ∷ rest) is tt (inl (held, fits, refl))
         | inr not ↦ at_queue (Received None) _ (Reinsert h bytes a ∷ rest) is tt (inr ((λ _ fits. not fits), refl))
       ]

@@ -34,7 +34,7 @@ module _ {C : Type 0} (rules : Rules C) (Splits : Splitting C) where
     pub ignored : (old new : State C) (h n : ℕ) (age : Age) (c d : C) → Follows rules Splits old (Enqueue h n age c) (Ignored d) new → (d ≡ c) × IsIgnored rules old age
     pub returned : (old new : State C) (f : ℕ) (d : C) → Follows rules Splits old (Receive f) (Received (Some d)) new
         → (h : ℕ) × (s : ℕ) × (n : ℕ) × (rest : List (Submission C)) × ((old.flushers f).queue ≡ Piece h s n d ∷ rest)
-        × ((bytes : List ℕ) → rules.encode h s d ≡ Some bytes → Fits rules old (old.flushers f).buffer bytes → ⊥)
+        × ((bytes : List ℕ) → rules.encode h s d ≡ Some bytes → Fits rules old (old.flushers f) bytes → ⊥)
 
   -- FlushBegin places all that was received since the batch before; FlushBlock tells the writes of a block's parts.
   -- Where the last write of a block is reported, every piece of it is put and the puts are counted; where it fails,

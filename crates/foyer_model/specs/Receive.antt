@@ -37,8 +37,8 @@ module _ {C : Type 0} (rules : Rules C) (old : State C) where
   turned f φ = record old { flushers = put old.flushers f φ }
 
   -- a record fits into the room that is left, and into a block
-  abbrev pub Fits : List (Record C) → List ℕ → Type 0
-  Fits buffer bytes = (bytes_taken rules.page_up buffer + rules.page_up (length bytes) ≤ rules.room) × FitsBlock rules bytes
+  abbrev pub Fits : Flusher C → List ℕ → Type 0
+  Fits φ bytes = (bytes_taken rules.page_up φ.buffer + rules.page_up (length bytes) ≤ rules.room φ.context) × FitsBlock rules bytes
 
   -- a record is put behind the others of the buffer
   abbrev pub pushed_to : ℕ → List (Submission C) → Record C → State C
@@ -49,19 +49,19 @@ module _ {C : Type 0} (rules : Rules C) (old : State C) where
   abbrev pub Takes : ℕ → List (Submission C) → Reply C → State C → Type 0
   Takes f [] Empty new = new ≡ old
   Takes f (Piece h s n c ∷ rest) (Received None) new =
-      (bytes : List ℕ) × (rules.encode h s c ≡ Some bytes) × Fits (flusher f).buffer bytes
+      (bytes : List ℕ) × (rules.encode h s c ≡ Some bytes) × Fits (flusher f) bytes
       × (new ≡ pushed_to f rest (record { hash = h; sequence = s; bytes = bytes; source = Given c }))
   Takes f (Piece h s n c ∷ rest) (Received (Some d)) new =
-      (d ≡ c) × ((bytes : List ℕ) → rules.encode h s c ≡ Some bytes → Fits (flusher f).buffer bytes → ⊥)
+      (d ≡ c) × ((bytes : List ℕ) → rules.encode h s c ≡ Some bytes → Fits (flusher f) bytes → ⊥)
       × (new ≡ turned f (record (flusher f) { queue = rest }))
   Takes f (Remove h s spoils ∷ rest) (Received None) new =
       new ≡ turned f (record (flusher f) { queue = rest; marks = (flusher f).marks ++ (h, s) ∷ []; spoils = (flusher f).spoils ++ spoils })
   Takes f (Await i ∷ rest) (Received None) new =
       new ≡ turned f (record (flusher f) { queue = rest; waits = (flusher f).waits ++ i ∷ [] })
   Takes f (Reinsert h bytes a ∷ rest) (Received None) new =
-      ((holds a (old.index h) ≡ true) × Fits (flusher f).buffer bytes
+      ((holds a (old.index h) ≡ true) × Fits (flusher f) bytes
       × (new ≡ pushed_to f rest (record { hash = h; sequence = a.sequence; bytes = bytes; source = Reread a })))
-      ⊎ (((holds a (old.index h) ≡ true) → Fits (flusher f).buffer bytes → ⊥) × (new ≡ turned f (record (flusher f) { queue = rest })))
+      ⊎ (((holds a (old.index h) ≡ true) → Fits (flusher f) bytes → ⊥) × (new ≡ turned f (record (flusher f) { queue = rest })))
   Takes f queue reply new = ⊥
 
   -- the front of a flusher's queue

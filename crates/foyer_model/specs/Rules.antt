@@ -12,7 +12,7 @@ pub record Rules (C : Type 0) : Type 0 where
   pub pickers : ℕ
   pub index_size : ℕ
   pub block_size : ℕ
-  pub room : ℕ  -- of a flusher's buffer, in bytes
+  pub room : Filling → ℕ  -- of a flusher's buffer, in bytes, from where its splitter goes on
   pub threshold : ℕ  -- of the sizes of all queued pieces
   pub clean_threshold : ℕ  -- of clean blocks
   pub has_log : Bool

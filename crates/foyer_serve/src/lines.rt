@@ -1,6 +1,7 @@
 //! The lines of a reader, in one buffer that is used again.
 ghost use Rattle.std.specs.Prelude.{◌≤◌, ◌<◌, vec_len};
 
+use memchr::memchr;
 use std::alloc::{AllocError, Allocator};
 use std::io;
 use std::io::Read;
@@ -44,7 +45,7 @@ impl<R: Read + Drop, A: Allocator> Lines<R, A> {
     /// The next line that was read whole already.
     pub fn next_whole(&mut self) -> Option<Line> {
         let rest = &self.buffer.as_slice()[self.searched..self.end];
-        match rest.iter().position(|byte| *byte == b'\n') {
+        match memchr(b'\n', rest) {
             Some(place) => {
                 let line = Line {
                     start: self.start,

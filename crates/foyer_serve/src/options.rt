@@ -27,8 +27,8 @@ impl Options {
         }
         Some(Options {
             is_memory: words[0].as_str() == MEMORY,
-            capacity: number(words[1].as_str())?,
-            block_size: number(words[2].as_str())?,
+            capacity: number(words[1].as_bytes())?,
+            block_size: number(words[2].as_bytes())?,
         })
     }
 

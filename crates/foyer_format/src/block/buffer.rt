@@ -1,5 +1,5 @@
 //! The buffer that records are written into, one behind another, each padded to whole pages.
-ghost use Rattle.std.specs.Prelude.{◌≡◌, ◌+◌, ◌^◌, ◌<◌, ◌≤◌, ◌↔◌, [], ℕ, List, length, IsTrue, OnErr, IfOk, IfErr, IfSome, IfNone, OnSome};
+ghost use Rattle.std.specs.Prelude.{◌≡◌, ◌+◌, ◌^◌, ◌<◌, ◌≤◌, ◌↔◌, [], ℕ, List, length, IsTrue, OnErr, IfOk, IfErr, IfSome, IfNone, OnSome, true};
 ghost use Rattle.foyer_device.specs.declared.error.Error.{Error as error};
 ghost use Rattle.foyer_format.specs.Page.{page_up};
 ghost use Rattle.foyer_format.specs.Pushing.{FitsRoom, Pushes};
@@ -130,10 +130,10 @@ impl<A: Allocator> Buffer<A> {
         ensures pushed { IfOk result (λ r. IfSome r (Pushes self.old self.new
             (record_bytes hash sequence (K.spelling key.now) (V.spelling value.now)))) }
         ensures fits { IfOk result (λ r. OnSome r (FitsRoom room compression
-            (K.encodes key.now × V.encodes value.now)
+            ((K.encodes key.now ≡ true) × (V.encodes value.now ≡ true))
             (length (V.spelling value.now) + length (K.spelling key.now)))) }
         ensures lacks { IfOk result (λ r. IfNone r (FitsRoom room compression
-            (K.encodes key.now × V.encodes value.now)
+            ((K.encodes key.now ≡ true) × (V.encodes value.now ≡ true))
             (length (V.spelling value.now) + length (K.spelling key.now)) → ⊥)) }
         ensures kept { IfOk result (λ r. IfNone r (self.new ≡ self.old)) }
         ensures within { IfOk result (λ r. IfSome r (λ len. len ≤ room)) }

@@ -123,7 +123,7 @@ pub fn record_read_back()
 /// right, Memory where a growth was refused; nothing else is refused.
 #[tactic(auto, using(crate::proofs::RefusalLemmas::record_answers))]
 pub fn read_record<A: Allocator + Clone, K: Code<A> + Drop, V: Code<A> + Drop>(
-    alloc: A,
+    alloc: &A,
     bytes: &[u8],
     hash: u64,
     sequence: Sequence,
@@ -131,7 +131,7 @@ pub fn read_record<A: Allocator + Clone, K: Code<A> + Drop, V: Code<A> + Drop>(
     ensures pair { IfOk result (λ r. IfSome r (λ p.
         pair_of K.is_spelling V.is_spelling bytes.now hash sequence
         ≡ outcome.Pair (K.spelling p.0) (V.spelling p.1))) }
-    ensures encodes { IfOk result (λ r. IfSome r (λ p. K.encodes p.0 × V.encodes p.1)) }
+    ensures encodes { IfOk result (λ r. IfSome r (λ p. (K.encodes p.0 ≡ true) × (V.encodes p.1 ≡ true))) }
     ensures absent { (result ≡ Ok None)
         ↔ (pair_of K.is_spelling V.is_spelling bytes.now hash sequence ≡ outcome.NoRecord) }
     ensures unsupported { (result ≡ Err error.Unsupported)
@@ -145,7 +145,7 @@ pub fn read_record<A: Allocator + Clone, K: Code<A> + Drop, V: Code<A> + Drop>(
 // The same, by the answer alone.
 #[tactic(auto, using(crate::proofs::RecordLemmas::outcomes))]
 fn find_record<A: Allocator + Clone, K: Code<A> + Drop, V: Code<A> + Drop>(
-    alloc: A,
+    alloc: &A,
     bytes: &[u8],
     hash: u64,
     sequence: Sequence,
@@ -153,7 +153,7 @@ fn find_record<A: Allocator + Clone, K: Code<A> + Drop, V: Code<A> + Drop>(
     ensures pair { IfOk result (λ r. IfSome r (λ p.
         pair_of K.is_spelling V.is_spelling bytes.now hash sequence
         ≡ outcome.Pair (K.spelling p.0) (V.spelling p.1))) }
-    ensures encodes { IfOk result (λ r. IfSome r (λ p. K.encodes p.0 × V.encodes p.1)) }
+    ensures encodes { IfOk result (λ r. IfSome r (λ p. (K.encodes p.0 ≡ true) × (V.encodes p.1 ≡ true))) }
     ensures absent { IfOk result (λ r. IfNone r
         (pair_of K.is_spelling V.is_spelling bytes.now hash sequence ≡ outcome.NoRecord)) }
     ensures fault { IfErr result
@@ -168,14 +168,14 @@ fn find_record<A: Allocator + Clone, K: Code<A> + Drop, V: Code<A> + Drop>(
 // The pair of the bytes behind this header.
 #[tactic(auto, using(crate::proofs::RecordLemmas::bodies))]
 fn read_body<A: Allocator + Clone, K: Code<A> + Drop, V: Code<A> + Drop>(
-    alloc: A,
+    alloc: &A,
     header: &EntryHeader,
     body: &[u8],
 ) -> Result<Option<(K, V)>>
     ensures pair { IfOk result (λ r. IfSome r (λ p.
         body_outcome K.is_spelling V.is_spelling header.now body.now
         ≡ outcome.Pair (K.spelling p.0) (V.spelling p.1))) }
-    ensures encodes { IfOk result (λ r. IfSome r (λ p. K.encodes p.0 × V.encodes p.1)) }
+    ensures encodes { IfOk result (λ r. IfSome r (λ p. (K.encodes p.0 ≡ true) × (V.encodes p.1 ≡ true))) }
     ensures absent { IfOk result (λ r. IfNone r
         (body_outcome K.is_spelling V.is_spelling header.now body.now ≡ outcome.NoRecord)) }
     ensures fault { IfErr result

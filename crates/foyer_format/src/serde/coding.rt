@@ -17,8 +17,8 @@ pub trait Code<A: Allocator> {
     // The bytes of a value.
     ghost spelling: { Self → List ℕ };
 
-    // The value can be encoded.
-    ghost encodes: { Self → Type 0 };
+    // Whether the value can be encoded.
+    ghost encodes: { Self → Bool };
 
     // Some value is spelled so.
     ghost is_spelling: { List ℕ → Bool };
@@ -38,11 +38,11 @@ pub trait Code<A: Allocator> {
             (Takes (W.room writer.old) (W.room writer.new) (length (spelling self.now))) }
         ensures taken { OnOk result
             (W.taken writer.new ≡ counted_on (W.taken writer.old) (length (spelling self.now))) }
-        ensures encoded { OnOk result (encodes self.now) }
+        ensures encoded { OnOk result (encodes self.now ≡ true) }
         ensures borrow { W.borrow writer.new ≡ W.borrow writer.old }
         ensures kept { OnErr result (Extends (W.room writer.old) (W.room writer.new)
             (W.contents writer.old) (W.contents writer.new)) }
-        ensures refused { IfErr result (λ e. (encodes self.now → ⊥)
+        ensures refused { IfErr result (λ e. (encodes self.now ≡ true → ⊥)
             ⊎ IsWriteFault (W.room writer.old) (length (spelling self.now)) e) };
 
     /// Writes the value's bytes to any writer. Io where the writer failed, BufferSizeLimit where it
@@ -53,8 +53,8 @@ pub trait Code<A: Allocator> {
         Self: Sized,
         ensures bytes { OnOk result
             (Appends (W.contents writer.old) (W.contents writer.new) (spelling self.now)) }
-        ensures encoded { OnOk result (encodes self.now) }
-        ensures refused { IfErr result (λ e. (encodes self.now → ⊥) ⊎ IsFaultAt None e) }
+        ensures encoded { OnOk result (encodes self.now ≡ true) }
+        ensures refused { IfErr result (λ e. (encodes self.now ≡ true → ⊥) ⊎ IsFaultAt None e) }
     {
         let mut lent = Lent {
             inner: writer,
@@ -69,7 +69,7 @@ pub trait Code<A: Allocator> {
     where
         Self: Sized,
         ensures found { IfOk result (λ v. spelling v ≡ bytes.now) }
-        ensures encodes { IfOk result encodes }
+        ensures encodes { IfOk result (λ v. encodes v ≡ true) }
         ensures is_spelling { OnOk result (is_spelling bytes.now ≡ true) }
         ensures refused { IfErr result (λ e. e ≢ Memory → is_spelling bytes.now ≡ false) }
         ensures memory { IfErr result (λ e. e ≡ Memory → takes_memory bytes.now) }
@@ -77,16 +77,16 @@ pub trait Code<A: Allocator> {
 
     /// How many bytes the value takes, at most `usize::MAX`.
     fn estimated_size(&self) -> usize
-        ensures { encodes self.now → result ≡ min (length (spelling self.now)) (2 ^ 64 - 1) };
+        ensures { encodes self.now ≡ true → result ≡ min (length (spelling self.now)) (2 ^ 64 - 1) };
 
     // What a value is encoded as is a spelling.
-    ghost spelled: { (v : Self) → encodes v → is_spelling (spelling v) ≡ true };
+    ghost spelled: { (v : Self) → encodes v ≡ true → is_spelling (spelling v) ≡ true };
 
     // Bytes spell one value at most.
-    ghost one_value: { (v w : Self) → encodes v → encodes w → spelling v ≡ spelling w → same v w };
+    ghost one_value: { (v w : Self) → encodes v ≡ true → encodes w ≡ true → spelling v ≡ spelling w → same v w };
 
     // A value whose spelling is one can be encoded.
-    ghost coded: { (v : Self) → is_spelling (spelling v) ≡ true → encodes v };
+    ghost coded: { (v : Self) → is_spelling (spelling v) ≡ true → encodes v ≡ true };
 }
 
 // A writer that is lent for one encoding, and counts.

@@ -1,5 +1,5 @@
 //! The bytes of an entry: the value's, and then the key's.
-ghost use Rattle.std.specs.Prelude.{◌≡◌, ◌+◌, ◌-◌, ◌^◌, ◌++◌, ◌⊎◌, min, length, take, drop, None, OnOk, OnErr, IfOk, IfErr};
+ghost use Rattle.std.specs.Prelude.{◌≡◌, ◌+◌, ◌-◌, ◌^◌, ◌++◌, ◌⊎◌, min, length, take, drop, None, OnOk, OnErr, IfOk, IfErr, true};
 ghost use Rattle.std.specs.Io.KnownBytes.{Appends};
 ghost use Rattle.foyer_device.specs.declared.error.Error.TheVariants.{Memory};
 ghost use Rattle.foyer_format.specs.declared.compress.Compression.TheVariants as compression_of;
@@ -41,14 +41,14 @@ impl EntrySerializer {
         ensures lens { IfOk result (λ info. IsWritten (W.taken writer.old)
             (V.spelling value.now) (K.spelling key.now) info) }
         ensures plain { OnOk result (compression ≡ compression_of.None) }
-        ensures encoded { OnOk result (V.encodes value.now × K.encodes key.now) }
+        ensures encoded { OnOk result ((V.encodes value.now ≡ true) × (K.encodes key.now ≡ true)) }
         ensures room { OnOk result (Takes (W.room writer.old) (W.room writer.new)
             (length (V.spelling value.now) + length (K.spelling key.now))) }
         ensures borrow { W.borrow writer.new ≡ W.borrow writer.old }
         ensures kept { OnErr result (Extends (W.room writer.old) (W.room writer.new)
             (W.contents writer.old) (W.contents writer.new)) }
         ensures refused { IfErr result (IsSerializeFault compression
-            (V.encodes value.now × K.encodes key.now) (W.room writer.old)
+            ((V.encodes value.now ≡ true) × (K.encodes key.now ≡ true)) (W.room writer.old)
             (length (V.spelling value.now) + length (K.spelling key.now))) }
     {
         if compression != Compression::None {
@@ -67,7 +67,7 @@ impl EntrySerializer {
 
     /// How many bytes both codes take together, at most `usize::MAX`.
     pub fn estimated_size<A: Allocator, K: Code<A>, V: Code<A>>(key: &K, value: &V) -> usize
-        ensures { K.encodes key.now → V.encodes value.now → result
+        ensures { K.encodes key.now ≡ true → V.encodes value.now ≡ true → result
             ≡ min (length (V.spelling value.now) + length (K.spelling key.now)) (2 ^ 64 - 1) }
     {
         key.estimated_size().saturating_add(value.estimated_size())
@@ -84,7 +84,7 @@ impl EntryDeserializer {
     /// refuses them. Memory where a growth, or a clone of the allocator, was refused.
     #[tactic(auto, unfolding(crate::specs::Record::entry_fault), using(crate::proofs::RefusalLemmas::decode_fault))]
     pub fn deserialize<A: Allocator + Clone, K: Code<A> + Drop, V: Code<A> + Drop>(
-        alloc: A,
+        alloc: &A,
         bytes: &[u8],
         key_len: usize,
         value_len: usize,
@@ -93,7 +93,7 @@ impl EntryDeserializer {
     ) -> Result<(K, V)>
         ensures value { IfOk result (λ p. V.spelling p.1 ≡ take value_len bytes.now) }
         ensures key { IfOk result (λ p. K.spelling p.0 ≡ take key_len (drop value_len bytes.now)) }
-        ensures encodes { IfOk result (λ p. V.encodes p.1 × K.encodes p.0) }
+        ensures encodes { IfOk result (λ p. (V.encodes p.1 ≡ true) × (K.encodes p.0 ≡ true)) }
         ensures sound { OnOk result (entry_fault K.is_spelling V.is_spelling
             bytes.now key_len value_len compression checksum ≡ None) }
         ensures fault { IfErr result (IsEntryFault (entry_fault K.is_spelling V.is_spelling
@@ -101,7 +101,7 @@ impl EntryDeserializer {
         ensures memory { IfErr result (λ e. e ≡ Memory
             → V.takes_memory (take value_len bytes.now)
             ⊎ K.takes_memory (take key_len (drop value_len bytes.now))
-            ⊎ (A.is_infallible alloc → ⊥)) }
+            ⊎ (A.is_infallible alloc.now → ⊥)) }
     {
         if bytes.len() < value_len || bytes.len() - value_len < key_len {
             return Err(Error::OutOfRange);
@@ -115,7 +115,7 @@ impl EntryDeserializer {
             return Err(Error::Unsupported);
         };
         let value = V::decode(alloc.clone()?, &bytes[..value_len])?;
-        let key = K::decode(alloc, &bytes[value_len..value_len + key_len])?;
+        let key = K::decode(alloc.clone()?, &bytes[value_len..value_len + key_len])?;
         Ok((key, value))
     }
 }

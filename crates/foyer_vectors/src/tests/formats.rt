@@ -70,7 +70,7 @@ fn a_record_is_read_back(rt: HostRuntime) -> Result<(), Fail> {
     let bytes = buffer.into_bytes();
     assert_eq!(rt; bytes.len(), 4096);
     let record = bytes.get(..53).ok_or("too short")?;
-    let pair: Option<(u64, String)> = read_record(alloc, record, 1, 1)?;
+    let pair: Option<(u64, String)> = read_record(&alloc, record, 1, 1)?;
     let (found, text) = pair.ok_or("no record")?;
     assert_eq!(rt; found, 1);
     assert_eq!(rt; text.as_str(), "a");
@@ -83,7 +83,7 @@ fn a_record_is_read_back(rt: HostRuntime) -> Result<(), Fail> {
         (1, 1, 0),
     ] {
         let part = bytes.get(..len).ok_or("too short")?;
-        let other: Option<(u64, String)> = read_record(alloc, part, hash, sequence)?;
+        let other: Option<(u64, String)> = read_record(&alloc, part, hash, sequence)?;
         assert!(rt;
             other.is_none(),
             "hash {hash}, sequence {sequence}, {len} bytes"
@@ -107,7 +107,7 @@ fn an_entry_is_written_and_read(rt: HostRuntime) -> Result<(), Fail> {
     assert_eq!(rt; info.key_len, 8);
     let sum = Checksummer::checksum64(bytes.as_slice());
     let (found, text): (u64, String) = EntryDeserializer::deserialize(
-        alloc,
+        &alloc,
         bytes.as_slice(),
         8,
         9,
@@ -117,7 +117,7 @@ fn an_entry_is_written_and_read(rt: HostRuntime) -> Result<(), Fail> {
     assert_eq!(rt; found, 1);
     assert_eq!(rt; text.as_str(), "a");
     let other: Result<(u64, String), Error> = EntryDeserializer::deserialize(
-        alloc,
+        &alloc,
         bytes.as_slice(),
         8,
         9,

@@ -1,6 +1,6 @@
 //! A buffer of entries one behind another, each padded to whole pages, with a list of where they
 //! stand.
-ghost use Rattle.std.specs.Prelude.{◌≡◌, ◌+◌, ◌^◌, ◌<◌, ◌≤◌, ◌↔◌, [], length, IsTrue, MatchBool, OnErr, IfOk, IfErr};
+ghost use Rattle.std.specs.Prelude.{◌≡◌, ◌+◌, ◌^◌, ◌<◌, ◌≤◌, ◌↔◌, [], length, IsTrue, MatchBool, OnErr, IfOk, IfErr, true};
 ghost use Rattle.std.specs.Bool.{OnTrue, OnFalse};
 ghost use Rattle.foyer_device.specs.declared.error.Error.{Error as error};
 ghost use Rattle.foyer_format.specs.Page.{page_up};
@@ -92,7 +92,7 @@ impl<A: Allocator> Buffer<A> {
         ensures pushed { IfOk result (λ done. OnTrue done (self.new ≡ with_entry self.old hash
             sequence (record_bytes hash sequence (K.spelling key.now) (V.spelling value.now)))) }
         ensures fits { IfOk result (λ done. IsTrue done ↔ FitsBuffer self.old compression
-            (K.encodes key.now × V.encodes value.now)
+            ((K.encodes key.now ≡ true) × (V.encodes value.now ≡ true))
             (length (V.spelling value.now) + length (K.spelling key.now))) }
         ensures kept { IfOk result (λ done. OnFalse done (self.new ≡ self.old)) }
         ensures memory { IfErr result (λ e. e ≡ error.Memory) }

@@ -1,5 +1,5 @@
 //! Pages that are written from their front, as a writer that takes exactly as much as there is.
-ghost use Rattle.std.specs.Prelude.{◌≡◌, ◌+◌, ◌-◌, ◌^◌, ◌<◌, ◌≤◌, ◌++◌, length, take, drop, Some, MatchBool};
+ghost use Rattle.std.specs.Prelude.{◌≡◌, ◌+◌, ◌-◌, ◌^◌, ◌<◌, ◌≤◌, ◌++◌, length, take, drop, Some, MatchBool, true};
 ghost use Rattle.std.specs.Bool.{OnTrue};
 ghost use Rattle.foyer_format.specs.Record.{record_bytes};
 
@@ -91,10 +91,10 @@ impl<A: Allocator> Pages<A> {
         sequence: Sequence,
     ) -> bool
         requires header { self.old.written + 36 ≤ length self.old.bytes }
-        requires room { K.encodes key.now → V.encodes value.now
+        requires room { K.encodes key.now ≡ true → V.encodes value.now ≡ true
             → self.old.written + 36 + length (V.spelling value.now)
             + length (K.spelling key.now) ≤ length self.old.bytes }
-        requires lens { K.encodes key.now → V.encodes value.now
+        requires lens { K.encodes key.now ≡ true → V.encodes value.now ≡ true
             → length (V.spelling value.now) + length (K.spelling key.now) < 2 ^ 32 }
         ensures size { length self.new.bytes ≡ length self.old.bytes }
         ensures written { self.new.written ≡ self.old.written }
@@ -105,8 +105,8 @@ impl<A: Allocator> Pages<A> {
             self.new.bytes)
             ≡ record_bytes hash sequence (K.spelling key.now) (V.spelling value.now)) }
         ensures encoded { MatchBool result
-            (K.encodes key.now × V.encodes value.now)
-            (K.encodes key.now → V.encodes value.now → ⊥) }
+            ((K.encodes key.now ≡ true) × (V.encodes value.now ≡ true))
+            (K.encodes key.now ≡ true → V.encodes value.now ≡ true → ⊥) }
     {
         let start = self.written;
         self.written = start + 36;

@@ -1,5 +1,5 @@
 //! Memory that was reserved, as a writer that takes exactly as much as there is.
-ghost use Rattle.std.specs.Prelude.{◌≡◌, ◌+◌, ◌-◌, ◌^◌, ◌<◌, ◌≤◌, ◌++◌, length, take, drop, Some, OnErr, IfOk, IfErr, MatchBool, vec_len, vec_capacity};
+ghost use Rattle.std.specs.Prelude.{◌≡◌, ◌+◌, ◌-◌, ◌^◌, ◌<◌, ◌≤◌, ◌++◌, length, take, drop, Some, OnErr, IfOk, IfErr, MatchBool, vec_len, vec_capacity, true};
 ghost use Rattle.std.specs.Bool.{OnTrue};
 ghost use Rattle.foyer_device.specs.declared.error.Error.{Error as error};
 ghost use Rattle.foyer_format.specs.Record.{record_bytes};
@@ -62,18 +62,18 @@ impl<A: Allocator> Reserved<A> {
         sequence: Sequence,
     ) -> Result<bool>
         requires header { vec_len self.old.bytes + 36 ≤ vec_capacity self.old.bytes }
-        requires room { K.encodes key.now → V.encodes value.now
+        requires room { K.encodes key.now ≡ true → V.encodes value.now ≡ true
             → vec_len self.old.bytes + 36 + length (V.spelling value.now)
             + length (K.spelling key.now) ≤ vec_capacity self.old.bytes }
-        requires lens { K.encodes key.now → V.encodes value.now
+        requires lens { K.encodes key.now ≡ true → V.encodes value.now ≡ true
             → length (V.spelling value.now) + length (K.spelling key.now) < 2 ^ 32 }
         ensures appended { IfOk result (λ done. MatchBool done
             (self.new.bytes.items ≡ self.old.bytes.items
             ++ record_bytes hash sequence (K.spelling key.now) (V.spelling value.now))
             (self.new.bytes.items ≡ self.old.bytes.items)) }
         ensures encoded { IfOk result (λ done. MatchBool done
-            (K.encodes key.now × V.encodes value.now)
-            (K.encodes key.now → V.encodes value.now → ⊥)) }
+            ((K.encodes key.now ≡ true) × (V.encodes value.now ≡ true))
+            (K.encodes key.now ≡ true → V.encodes value.now ≡ true → ⊥)) }
         ensures capacity { IfOk result (λ done. OnTrue done
             (vec_capacity self.old.bytes ≤ vec_capacity self.new.bytes)) }
         ensures memory { IfErr result (λ e. e ≡ error.Memory) }

@@ -1,8 +1,7 @@
 //! The codes of bytes and of texts: the length as a number of 64 bits, and then the bytes.
-ghost use Rattle.std.specs.Prelude.{◌≡◌, ◌<◌, ◌^◌, ℕ, List, drop, length, true, false, Some, MatchOption, string_bytes};
-ghost use Rattle.std.specs.Str.{IsUtf8};
-ghost use Rattle.foyer_format.specs.Codes.{counted, is_counted, is_counted_text, bytes_read, text_read};
-ghost use Rattle.foyer_format.specs.CodeLaws.{one_list, counted_spelled, counted_coded, text_spelled, text_coded};
+ghost use Rattle.std.specs.Prelude.{◌≡◌, ◌^◌, nat_lt, drop, length, true, false, Some, MatchOption, string_bytes};
+ghost use Rattle.foyer_format.specs.Codes.{counted, is_counted, is_sized_text, is_counted_text, bytes_read, text_read};
+ghost use Rattle.foyer_format.specs.CodeLaws.{one_list, bytes_spelled, bytes_coded, text_spelled, text_coded};
 
 use crate::serde::coding::{Code, StorageKey, StorageValue};
 use crate::serde::sinks::Sink;
@@ -32,7 +31,7 @@ fn counted_bytes(bytes: &[u8]) -> Option<&[u8]>
 impl<A: Allocator> Code<A> for Vec<u8, A> {
     ghost spelling = { λ v. counted v.items };
 
-    ghost encodes = { λ v. length v.items < 2 ^ 64 };
+    ghost encodes = { λ v. nat_lt (length v.items) (2 ^ 64) };
 
     ghost is_spelling = { is_counted };
 
@@ -40,7 +39,7 @@ impl<A: Allocator> Code<A> for Vec<u8, A> {
 
     ghost takes_memory = { λ b. is_counted b ≡ true };
 
-    #[tactic(auto, using(crate::proofs::WritingLemmas::two_writes))]
+    #[tactic(auto, using(crate::proofs::WritingLemmas::two_writes, crate::specs::CodeLaws::sized_number))]
     fn encode_into<W: Sink>(&self, writer: &mut W) -> Result<()> {
         let len = self.len() as u64;
         writer.put(&len.to_le_bytes())?;
@@ -58,11 +57,11 @@ impl<A: Allocator> Code<A> for Vec<u8, A> {
         8usize.saturating_add(self.len())
     }
 
-    ghost spelled = { λ v. counted_spelled v.items };
+    ghost spelled = { λ v. bytes_spelled v.items };
 
     ghost one_value = { λ v w _ _ same. one_list v.items w.items same };
 
-    ghost coded = { λ v. counted_coded v.items };
+    ghost coded = { λ v. bytes_coded v.items };
 }
 
 impl<A: Allocator + Send + Sync + 'static> StorageKey<A> for Vec<u8, A> {}
@@ -72,7 +71,7 @@ impl<A: Allocator + Send + Sync + 'static> StorageValue<A> for Vec<u8, A> {}
 impl<A: Allocator> Code<A> for String<A> {
     ghost spelling = { λ s. counted (string_bytes s) };
 
-    ghost encodes = { λ s. (length (string_bytes s) < 2 ^ 64) × IsUtf8 (string_bytes s) };
+    ghost encodes = { λ s. is_sized_text (string_bytes s) };
 
     ghost is_spelling = { is_counted_text };
 
@@ -80,7 +79,7 @@ impl<A: Allocator> Code<A> for String<A> {
 
     ghost takes_memory = { λ b. is_counted_text b ≡ true };
 
-    #[tactic(auto, using(crate::proofs::WritingLemmas::two_writes))]
+    #[tactic(auto, using(crate::proofs::WritingLemmas::two_writes, crate::proofs::CodeLemmas::text_lemmas))]
     fn encode_into<W: Sink>(&self, writer: &mut W) -> Result<()> {
         let bytes = self.as_str().as_bytes();
         let count = bytes.len() as u64;
@@ -103,7 +102,7 @@ impl<A: Allocator> Code<A> for String<A> {
         self.len().saturating_add(8)
     }
 
-    ghost spelled = { λ s fits. text_spelled (string_bytes s) fits.0 fits.1 };
+    ghost spelled = { λ s. text_spelled (string_bytes s) };
 
     ghost one_value = { λ s t a b same. one_list (string_bytes s) (string_bytes t) same };
 
@@ -117,13 +116,13 @@ impl<A: Allocator + Send + Sync + 'static> StorageValue<A> for String<A> {}
 /// Bytes are what their spelling reads as.
 #[tactic(auto, using(crate::proofs::CodeLemmas::bytes_read_back))]
 pub fn bytes_read_back()
-    ensures { (v : _) → ⟦<Vec<u8> as Code<Global>>⟧.encodes v
+    ensures { (v : _) → ⟦<Vec<u8> as Code<Global>>⟧.encodes v ≡ true
         → bytes_read (⟦<Vec<u8> as Code<Global>>⟧.spelling v) ≡ Some v.items }
 {}
 
 /// Each text is what its spelling reads as.
 #[tactic(auto, using(crate::proofs::CodeLemmas::text_read_back))]
 pub fn string_read_back()
-    ensures { (s : _) → ⟦<String as Code<Global>>⟧.encodes s
+    ensures { (s : _) → ⟦<String as Code<Global>>⟧.encodes s ≡ true
         → text_read (⟦<String as Code<Global>>⟧.spelling s) ≡ Some (string_bytes s) }
 {}

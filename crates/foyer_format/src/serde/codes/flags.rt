@@ -1,5 +1,5 @@
 //! The code of a flag: one byte, 0 or 1.
-ghost use Rattle.std.specs.Prelude.{◌≡◌, Bool, Some};
+ghost use Rattle.std.specs.Prelude.{◌≡◌, Bool, Some, true, refl};
 ghost use Rattle.foyer_format.specs.Codes.{flag_bytes, is_flag, flag_read};
 ghost use Rattle.foyer_format.specs.FlagLaws.{one_flag, flag_spelled};
 
@@ -11,7 +11,7 @@ use std::alloc::{Allocator, Global};
 impl<A: Allocator> Code<A> for bool {
     ghost spelling = { flag_bytes };
 
-    ghost encodes = { λ _. Unit {0} };
+    ghost encodes = { λ _. true };
 
     ghost is_spelling = { is_flag };
 
@@ -40,7 +40,7 @@ impl<A: Allocator> Code<A> for bool {
 
     ghost one_value = { λ a b _ _ same. one_flag a b same };
 
-    ghost coded = { λ _ _. tt };
+    ghost coded = { λ _ _. refl };
 }
 
 impl<A: Allocator> StorageKey<A> for bool {}

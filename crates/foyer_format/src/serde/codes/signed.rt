@@ -2,7 +2,7 @@
 ghost use Rattle.std.specs.Prelude.{◌≡◌, ℤ, Some};
 ghost use Rattle.std.specs.Int.{w8, w16, w32, w64, w128};
 ghost use Rattle.std.specs.Int.RustNames.{FitsSigned};
-ghost use Rattle.foyer_format.specs.Codes.{int_bytes, is_number, int_read};
+ghost use Rattle.foyer_format.specs.Codes.{int_fits, int_bytes, is_number, int_read};
 ghost use Rattle.foyer_format.specs.IntLaws.{one_int, int_spelled, int_coded};
 
 use super::exactly;
@@ -15,7 +15,7 @@ use std::alloc::{Allocator, Global};
 impl<A: Allocator> Code<A> for i8 {
     ghost spelling = { int_bytes w8 };
 
-    ghost encodes = { FitsSigned w8 };
+    ghost encodes = { int_fits w8 };
 
     ghost is_spelling = { is_number w8 };
 
@@ -57,7 +57,7 @@ pub fn i8_read_back()
 impl<A: Allocator> Code<A> for i16 {
     ghost spelling = { int_bytes w16 };
 
-    ghost encodes = { FitsSigned w16 };
+    ghost encodes = { int_fits w16 };
 
     ghost is_spelling = { is_number w16 };
 
@@ -99,7 +99,7 @@ pub fn i16_read_back()
 impl<A: Allocator> Code<A> for i32 {
     ghost spelling = { int_bytes w32 };
 
-    ghost encodes = { FitsSigned w32 };
+    ghost encodes = { int_fits w32 };
 
     ghost is_spelling = { is_number w32 };
 
@@ -141,7 +141,7 @@ pub fn i32_read_back()
 impl<A: Allocator> Code<A> for i64 {
     ghost spelling = { int_bytes w64 };
 
-    ghost encodes = { FitsSigned w64 };
+    ghost encodes = { int_fits w64 };
 
     ghost is_spelling = { is_number w64 };
 
@@ -183,7 +183,7 @@ pub fn i64_read_back()
 impl<A: Allocator> Code<A> for i128 {
     ghost spelling = { int_bytes w128 };
 
-    ghost encodes = { FitsSigned w128 };
+    ghost encodes = { int_fits w128 };
 
     ghost is_spelling = { is_number w128 };
 
@@ -225,7 +225,7 @@ pub fn i128_read_back()
 impl<A: Allocator> Code<A> for isize {
     ghost spelling = { int_bytes w64 };
 
-    ghost encodes = { FitsSigned w64 };
+    ghost encodes = { int_fits w64 };
 
     ghost is_spelling = { is_number w64 };
 

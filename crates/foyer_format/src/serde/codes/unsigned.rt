@@ -1,5 +1,5 @@
 //! The codes of unsigned numbers: the bytes of the type, the lowest first.
-ghost use Rattle.std.specs.Prelude.{◌≡◌, ◌<◌, ◌^◌, ℕ, Some};
+ghost use Rattle.std.specs.Prelude.{◌≡◌, ◌<◌, ◌^◌, ℕ, Some, nat_lt};
 ghost use Rattle.std.specs.Int.{w8, w16, w32, w64, w128};
 ghost use Rattle.foyer_format.specs.Codes.{number_bytes, is_number, number_read};
 ghost use Rattle.foyer_format.specs.CodeLaws.{one_number, number_spelled, number_coded};
@@ -14,7 +14,7 @@ use std::alloc::{Allocator, Global};
 impl<A: Allocator> Code<A> for u8 {
     ghost spelling = { number_bytes w8 };
 
-    ghost encodes = { λ n. n < 2 ^ 8 };
+    ghost encodes = { λ n. nat_lt n (2 ^ 8) };
 
     ghost is_spelling = { is_number w8 };
 
@@ -56,7 +56,7 @@ pub fn u8_read_back()
 impl<A: Allocator> Code<A> for u16 {
     ghost spelling = { number_bytes w16 };
 
-    ghost encodes = { λ n. n < 2 ^ 16 };
+    ghost encodes = { λ n. nat_lt n (2 ^ 16) };
 
     ghost is_spelling = { is_number w16 };
 
@@ -98,7 +98,7 @@ pub fn u16_read_back()
 impl<A: Allocator> Code<A> for u32 {
     ghost spelling = { number_bytes w32 };
 
-    ghost encodes = { λ n. n < 2 ^ 32 };
+    ghost encodes = { λ n. nat_lt n (2 ^ 32) };
 
     ghost is_spelling = { is_number w32 };
 
@@ -140,7 +140,7 @@ pub fn u32_read_back()
 impl<A: Allocator> Code<A> for u64 {
     ghost spelling = { number_bytes w64 };
 
-    ghost encodes = { λ n. n < 2 ^ 64 };
+    ghost encodes = { λ n. nat_lt n (2 ^ 64) };
 
     ghost is_spelling = { is_number w64 };
 
@@ -182,7 +182,7 @@ pub fn u64_read_back()
 impl<A: Allocator> Code<A> for u128 {
     ghost spelling = { number_bytes w128 };
 
-    ghost encodes = { λ n. n < 2 ^ 128 };
+    ghost encodes = { λ n. nat_lt n (2 ^ 128) };
 
     ghost is_spelling = { is_number w128 };
 
@@ -224,7 +224,7 @@ pub fn u128_read_back()
 impl<A: Allocator> Code<A> for usize {
     ghost spelling = { number_bytes w64 };
 
-    ghost encodes = { λ n. n < 2 ^ 64 };
+    ghost encodes = { λ n. nat_lt n (2 ^ 64) };
 
     ghost is_spelling = { is_number w64 };
 

@@ -8,7 +8,7 @@ returns-clause-pushed g c =
     let done : c.in_ok-append_record.field-0 ≡ true = search rules in
     let appended : c.append_record.new.self.bytes.items ≡ c.reserve.new.self.items ++ record_bytes c.args.hash c.args.sequence (g.K.Code.spelling c.args.key.now) (g.V.Code.spelling c.args.value.now) =
     rw done at c.in_ok-append_record.ensures.appended in
-    let encoded : g.K.Code.encodes c.args.key.now × g.V.Code.encodes c.args.value.now = rw done at c.in_ok-append_record.ensures.encoded in
+    let encoded : (g.K.Code.encodes c.args.key.now ≡ true) × (g.V.Code.encodes c.args.value.now ≡ true) = rw done at c.in_ok-append_record.ensures.encoded in
     let size : c.estimated_size-estimated.result ≡ min (length (g.V.Code.spelling c.args.value.now) + length (g.K.Code.spelling c.args.key.now)) (2 ^ 64 - 1) = c.estimated_size-estimated.ensures encoded.0 encoded.1 in
     let count = length-record_bytes c.args.hash c.args.sequence (g.K.Code.spelling c.args.key.now) (g.V.Code.spelling c.args.value.now) in
     let before : c.reserve.new.self.items ≡ c.args.self.now = c.reserve.ensures.items ∙ c.self.view_is in

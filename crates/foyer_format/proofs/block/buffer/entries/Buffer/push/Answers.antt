@@ -92,7 +92,7 @@ returns-clause-pushed g c =
     let k : List ℕ = g.K.Code.spelling c.args.key.now in
     let put = c.put_record.ensures in
     let done : c.put_record.result ≡ true = search rules in
-    let encoded : g.K.Code.encodes c.args.key.now × g.V.Code.encodes c.args.value.now = rw done at put.encoded in
+    let encoded : (g.K.Code.encodes c.args.key.now ≡ true) × (g.V.Code.encodes c.args.value.now ≡ true) = rw done at put.encoded in
     let size = c.estimated_size-estimated.ensures encoded.0 encoded.1 in
     let len : i.pages.written + 36 + length v + length k ≡ i.pages.written + (c.serialized_len.result + c.estimated_size-estimated.result) =
     omega (arith, c.serialized_len.ensures, size, c.if-room-estimated.false, c.min-room.ensures, inv.4) in
@@ -112,7 +112,7 @@ returns-clause-fits g c =
     let v : List ℕ = g.V.Code.spelling c.args.value.now in
     let k : List ℕ = g.K.Code.spelling c.args.key.now in
     let done : c.put_record.result ≡ true = search rules in
-    let encoded : g.K.Code.encodes c.args.key.now × g.V.Code.encodes c.args.value.now = rw done at c.put_record.ensures.encoded in
+    let encoded : (g.K.Code.encodes c.args.key.now ≡ true) × (g.V.Code.encodes c.args.value.now ≡ true) = rw done at c.put_record.ensures.encoded in
     let size = c.estimated_size-estimated.ensures encoded.0 encoded.1 in
     let room = c.min-room.ensures in
     let same : c.serialized_len.result + c.estimated_size-estimated.result ≡ 36 + (length v + length k) =
