@@ -1,5 +1,5 @@
 //! The index of a blob: a checksum, a count, and an entry for each record.
-ghost use Rattle.std.specs.Prelude.{◌≡◌, ◌≢◌, ◌+◌, ◌-◌, ◌*◌, ◌<◌, ◌≤◌, ◌^◌, ◌↔◌, [], ◌∷◌, ◌++◌, List, length, drop, IsTrue, IfOk, IfErr, IfSome, IfNone};
+ghost use Rattle.std.specs.Prelude.{◌≡◌, ◌+◌, ◌-◌, ◌*◌, ◌<◌, ◌≤◌, ◌^◌, ◌↔◌, [], ◌∷◌, ◌++◌, List, length, drop, IsTrue, IfOk, IfErr, IfSome, IfNone};
 ghost use Rattle.foyer_checksum.specs.Xxh64.{xxh64};
 ghost use Rattle.foyer_device.specs.declared.error.Error.{Error as error};
 ghost use Rattle.foyer_format.specs.Header.{number_at};

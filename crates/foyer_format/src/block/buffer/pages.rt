@@ -1,5 +1,5 @@
 //! Pages that are written from their front, as a writer that takes exactly as much as there is.
-ghost use Rattle.std.specs.Prelude.{◌≡◌, ◌+◌, ◌-◌, ◌^◌, ◌<◌, ◌≤◌, ◌++◌, length, take, drop, Some, MatchBool, true};
+ghost use Rattle.std.specs.Prelude.{◌≡◌, ◌+◌, ◌-◌, ◌^◌, ◌<◌, ◌≤◌, length, take, drop, Some, MatchBool, true};
 ghost use Rattle.std.specs.Bool.{OnTrue};
 ghost use Rattle.foyer_format.specs.Record.{record_bytes};
 

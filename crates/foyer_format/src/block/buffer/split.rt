@@ -3,7 +3,6 @@ ghost use Rattle.std.specs.Prelude.{◌≡◌, ◌<◌, ◌≤◌, ◌%◌, ◌^
 ghost use Rattle.foyer_device.specs.declared.error.Error.{Error as error};
 ghost use Rattle.foyer_device.specs.Section.{bytes_of};
 ghost use Rattle.foyer_format.specs.Filling.{FitsBlock, fresh_context, taken};
-ghost use Rattle.foyer_format.specs.Page.{page_up};
 
 use super::BufferEntryInfo;
 use super::blob::{BlobEntryIndex, BlobIndex};

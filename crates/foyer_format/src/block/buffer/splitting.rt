@@ -1,5 +1,5 @@
 //! A split under way.
-ghost use Rattle.std.specs.Prelude.{◌≡◌, ◌+◌, ◌<◌, ◌≤◌, ◌%◌, ◌^◌, List, length, IfOk, OnOk, IfErr, IsTrue, ◌↔◌, vec_len, [], ◌∷◌};
+ghost use Rattle.std.specs.Prelude.{◌≡◌, ◌+◌, ◌<◌, ◌≤◌, ◌%◌, ◌^◌, List, length, OnOk, IfErr, IsTrue, vec_len, [], ◌∷◌};
 ghost use Rattle.foyer_device.specs.declared.error.Error.{Error as error};
 ghost use Rattle.foyer_format.specs.Blob.{capacity_of};
 
@@ -7,7 +7,7 @@ use super::BufferEntryInfo;
 use super::blob::{BlobEntryIndex, BlobIndex};
 use super::split::{BlobPart, Block};
 use foyer_device::error::Result;
-use foyer_device::io::bytes::{IoSlice, IoSliceMut};
+use foyer_device::io::bytes::IoSlice;
 use std::alloc::Allocator;
 use std::mem;
 
