@@ -13,7 +13,7 @@ use Rattle.foyer_format.specs.Pushing.{Pushes}
 use Rattle.foyer_format.proofs.HeaderLemmas.{length-header_bytes}
 
 -- a body's header, with the value and the key
-whole_record : (hash sequence vl kl : ℕ) (body : List ℕ) → length body ≡ vl + kl
+pub whole_record : (hash sequence vl kl : ℕ) (body : List ℕ) → length body ≡ vl + kl
     → header_bytes (record { key_len = kl; value_len = vl; hash = hash; sequence = sequence; checksum = xxh64 body; compression = compression.None }) ++ body
     ≡ record_bytes hash sequence (drop vl body) (take vl body)
 unfolding record_bytes

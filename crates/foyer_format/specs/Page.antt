@@ -1,6 +1,2 @@
--- Pages of 4096 bytes.
-use Rattle.std.specs.Prelude.{ℕ, ◌+◌, ◌*◌, ◌/◌}
-
--- n rounded up to a multiple of 4096
-unfoldable pub page_up : ℕ → ℕ
-page_up n = (n + 4095) / 4096 * 4096
+-- Pages of 4096 bytes, as buffers have them.
+unfoldable pub use Rattle.foyer_device.specs.Page.{page_up}

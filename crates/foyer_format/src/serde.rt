@@ -7,7 +7,11 @@ mod entries;
 mod sinks;
 
 pub use ages::{Age, Properties};
-pub use codes::{code_vectors, string_read_back, u64_read_back};
+pub use codes::{
+    bool_read_back, bytes_read_back, code_vectors, i8_read_back, i16_read_back, i32_read_back,
+    i64_read_back, i128_read_back, isize_read_back, string_read_back, u8_read_back, u16_read_back,
+    u32_read_back, u64_read_back, u128_read_back, usize_read_back,
+};
 pub use coding::{Code, StorageKey, StorageValue};
 pub use entries::{EntryDeserializer, EntrySerializer, KvInfo};
 pub use foyer_checksum::Checksummer;

@@ -9,14 +9,25 @@ use crate::block::serde::{EntryHeader, Sequence};
 use crate::compress::Compression;
 use crate::serde::{Code, EntrySerializer};
 use foyer_device::error::Result;
+pub use foyer_device::io::bytes::PAGE;
 use reserved::Reserved;
 use std::alloc::Allocator;
 use std::marker::Model;
 
+mod blob;
+pub mod entries;
+mod laws;
+mod pages;
 mod reserved;
+mod split;
+mod splitting;
 
-/// The bytes of a page of the device.
-pub const PAGE: usize = 4096;
+pub use blob::{BlobEntryIndex, BlobIndex, BlobIndexReader};
+pub use laws::{
+    batch_is_blocks, block_is_laid, finished_fits, fresh_holds, held_is_listed, listing_vectors,
+    one_list, written_holds,
+};
+pub use split::{Batch, BlobPart, Block, SplitCtx, Splitter};
 
 /// Where a record stands in a buffer: its first byte, and its length without the padding.
 #[derive(Clone, Debug, Drop)]

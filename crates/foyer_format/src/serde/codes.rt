@@ -1,132 +1,40 @@
-//! The codes of `u64` and `String`.
-ghost use Rattle.std.specs.Prelude.{◌≡◌, ◌<◌, ◌^◌, ℕ, drop, length, true, false, Some, MatchOption, string_bytes, nat_lt};
-ghost use Rattle.std.specs.Int.{w64, to_le_bytes};
-ghost use Rattle.foyer_format.specs.Codes.{is_sized_text, is_number, number_read, counted, is_counted, is_counted_text, text_read};
-ghost use Rattle.foyer_format.specs.Vectors.{NumberVector, TextVector};
-ghost use Rattle.foyer_format.specs.CodeLaws.{one_number, number_spelled, one_list, text_spelled};
+//! The codes of the types that most keys and values are made of.
+ghost use Rattle.std.specs.Prelude.{◌≡◌, ◌≢◌, length, MatchResult};
+ghost use Rattle.foyer_device.specs.declared.error.Error.TheVariants.{Parse};
+ghost use Rattle.foyer_format.specs.Vectors.{NumberVector, IntVector, FlagVector, TextVector};
 
-use super::coding::{Code, StorageKey, StorageValue};
-use super::sinks::Sink;
 use foyer_device::error::{Error, Result};
-use std::alloc::{Allocator, Global};
 
-impl<A: Allocator> Code<A> for u64 {
-    ghost spelling = { λ n. to_le_bytes w64 n };
+mod counted;
+mod flags;
+mod signed;
+mod unsigned;
 
-    ghost encodes = { λ n. nat_lt n (2 ^ 64) };
+pub use counted::{bytes_read_back, string_read_back};
+pub use flags::bool_read_back;
+pub use signed::{
+    i8_read_back, i16_read_back, i32_read_back, i64_read_back, i128_read_back, isize_read_back,
+};
+pub use unsigned::{
+    u8_read_back, u16_read_back, u32_read_back, u64_read_back, u128_read_back, usize_read_back,
+};
 
-    ghost is_spelling = { is_number };
-
-    ghost same = { λ n m. n ≡ m };
-
-    ghost takes_memory = { λ _. ⊥ };
-
-    #[tactic(auto, using(crate::proofs::CodeLemmas::sized_number))]
-    fn encode_into<W: Sink>(&self, writer: &mut W) -> Result<()> {
-        let value = *self;
-        writer.put(&value.to_le_bytes())
-    }
-
-    fn decode(_alloc: A, bytes: &[u8]) -> Result<u64> {
-        if bytes.len() != 8 {
-            return Err(Error::Parse);
-        }
-        Ok(u64::from_le_bytes([
-            bytes[0], bytes[1], bytes[2], bytes[3], bytes[4], bytes[5], bytes[6], bytes[7],
-        ]))
-    }
-
-    fn estimated_size(&self) -> usize {
-        8
-    }
-
-    ghost spelled = { number_spelled };
-
-    ghost one_value = { one_number };
-}
-
-impl<A: Allocator> StorageKey<A> for u64 {}
-
-impl<A: Allocator> StorageValue<A> for u64 {}
-
-// The bytes behind a length of eight bytes, if they are as many.
-fn counted_bytes(bytes: &[u8]) -> Option<&[u8]>
-    ensures { MatchOption result (is_counted bytes.now ≡ false)
-        (λ b. (is_counted bytes.now ≡ true) × (b.now ≡ drop 8 bytes.now)
-        × (counted b.now ≡ bytes.now)) }
+// The bytes, if they are exactly as many.
+fn exactly<const N: usize>(bytes: &[u8]) -> Result<[u8; N]>
+    ensures { MatchResult result (λ all. (all ≡ bytes.now) × (length bytes.now ≡ N))
+        (λ e. (e ≡ Parse) × (length bytes.now ≢ N)) }
 {
-    if bytes.len() < 8 {
-        return None;
-    }
-    let count = u64::from_le_bytes([
-        bytes[0], bytes[1], bytes[2], bytes[3], bytes[4], bytes[5], bytes[6], bytes[7],
-    ]);
-    let rest = &bytes[8..];
-    if count == rest.len() as u64 {
-        Some(rest)
-    } else {
-        None
+    match <[u8; N]>::try_from(bytes) {
+        Ok(all) => Ok(all),
+        Err(_) => Err(Error::Parse),
     }
 }
 
-impl<A: Allocator> Code<A> for String<A> {
-    ghost spelling = { λ s. counted (string_bytes s) };
-
-    ghost encodes = { λ s. is_sized_text (string_bytes s) };
-
-    ghost is_spelling = { is_counted_text };
-
-    ghost same = { λ s t. string_bytes s ≡ string_bytes t };
-
-    ghost takes_memory = { λ b. is_counted_text b ≡ true };
-
-    #[tactic(auto, using(crate::proofs::WritingLemmas::two_writes, crate::proofs::CodeLemmas::text_lemmas))]
-    fn encode_into<W: Sink>(&self, writer: &mut W) -> Result<()> {
-        let bytes = self.as_str().as_bytes();
-        let count = bytes.len() as u64;
-        writer.put(&count.to_le_bytes())?;
-        writer.put(bytes)
-    }
-
-    #[tactic(auto, using(crate::proofs::CodeLemmas::text_lemmas))]
-    fn decode(alloc: A, bytes: &[u8]) -> Result<String<A>> {
-        match counted_bytes(bytes) {
-            None => Err(Error::Parse),
-            Some(rest) => match str::from_utf8(rest) {
-                Err(_) => Err(Error::Parse),
-                Ok(text) => Ok(String::from_str(alloc, text)?),
-            },
-        }
-    }
-
-    fn estimated_size(&self) -> usize {
-        self.len().saturating_add(8)
-    }
-
-    ghost spelled = { λ s. text_spelled (string_bytes s) };
-
-    ghost one_value = { λ s t a b same. one_list (string_bytes s) (string_bytes t) same };
-}
-
-impl<A: Allocator + Send + Sync + 'static> StorageKey<A> for String<A> {}
-
-impl<A: Allocator + Send + Sync + 'static> StorageValue<A> for String<A> {}
-
-/// The spellings of a number and of a text, in bytes.
+/// Numbers, a flag and a text with their spellings, in bytes.
+#[tactic(auto, unfolding(crate::specs::Codes::number_bytes, crate::specs::Codes::int_bytes))]
 pub fn code_vectors()
     ensures number { NumberVector }
+    ensures int { IntVector }
+    ensures flag { FlagVector }
     ensures text { TextVector }
-{}
-
-/// Each number of 64 bits is what its spelling reads as.
-#[tactic(auto, using(crate::proofs::CodeLemmas::number_read_back))]
-pub fn u64_read_back()
-    ensures { (n : ℕ) → n < 2 ^ 64 → number_read (⟦<u64 as Code<Global>>⟧.spelling n) ≡ Some n }
-{}
-
-/// Each text is what its spelling reads as.
-#[tactic(auto, using(crate::proofs::CodeLemmas::text_read_back))]
-pub fn string_read_back()
-    ensures { (s : _) → ⟦<String as Code<Global>>⟧.encodes s ≡ true
-        → text_read (⟦<String as Code<Global>>⟧.spelling s) ≡ Some (string_bytes s) }
 {}

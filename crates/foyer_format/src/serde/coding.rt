@@ -84,6 +84,9 @@ pub trait Code<A: Allocator> {
 
     // Bytes spell one value at most.
     ghost one_value: { (v w : Self) → encodes v ≡ true → encodes w ≡ true → spelling v ≡ spelling w → same v w };
+
+    // A value whose spelling is one can be encoded.
+    ghost coded: { (v : Self) → is_spelling (spelling v) ≡ true → encodes v ≡ true };
 }
 
 // A writer that is lent for one encoding, and counts.

@@ -1,0 +1,3 @@
+//! What the device and its engines are made of.
+
+pub mod bytes;

@@ -1,0 +1,37 @@
+-- A block's bytes by their offsets, and what writes make of them.
+use Rattle.std.specs.Prelude.{ℕ, zero, suc, ◌+◌, ◌-◌, ◌<◌, ◌≤◌, nat_le, nat_lt, ◌&&◌, if◌then◌else◌, List, [], ◌∷◌, length, slice_index, ◌⊎◌}
+
+-- bytes to be written at an offset of a block
+pub record Write : Type 0 where
+  pub offset : ℕ
+  pub bytes : List ℕ
+
+-- a block's bytes after a write
+abbrev pub laid : Write → (ℕ → ℕ) → ℕ → ℕ
+laid w g o =
+    if nat_le w.offset o && nat_lt o (w.offset + length w.bytes)
+    then slice_index w.bytes (o - w.offset) else g o
+
+-- a block's bytes after these writes, the first of them first
+abbrev pub all_laid : List Write → (ℕ → ℕ) → ℕ → ℕ
+all_laid [] g = g
+all_laid (w ∷ ws) g = all_laid ws (laid w g)
+
+-- the n bytes from o on
+abbrev pub read : (ℕ → ℕ) → ℕ → ℕ → List ℕ
+read g o zero = []
+read g o (suc n) = g o ∷ read g (o + 1) n
+
+-- an offset is outside of the bytes of a write
+abbrev pub IsBeside : Write → ℕ → Type 0
+IsBeside w o = (o < w.offset) ⊎ (w.offset + length w.bytes ≤ o)
+
+-- each byte that these writes touch has the property
+abbrev pub AllWithin : (ℕ → Type 0) → List Write → Type 0
+AllWithin P [] = Unit {0}
+AllWithin P (w ∷ ws) = ((o : ℕ) → (IsBeside w o → ⊥) → P o) × AllWithin P ws
+
+-- every element has the property
+abbrev pub Each : {X : Type 0} → (X → Type 0) → List X → Type 0
+Each P [] = Unit {0}
+Each P (x ∷ xs) = P x × Each P xs
