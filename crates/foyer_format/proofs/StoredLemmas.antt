@@ -7,7 +7,8 @@ use Rattle.foyer_format.specs.Page.{page_up}
 use Rattle.foyer_format.specs.BlockBytes.{laid, read}
 use Rattle.foyer_format.specs.Filling.{taken, entries_from}
 use Rattle.foyer_format.specs.Listing.{placed}
-use Rattle.foyer_format.specs.Stored.{Stored, entry_of, stored_at, AllStand, AllOutside, AreRecords}
+use Rattle.foyer_format.specs.Entries.{IsPacked, entries_at}
+use Rattle.foyer_format.specs.Stored.{Stored, entry_of, stored_at, AllStand, AllOutside, AreRecords, content_of}
 use Rattle.foyer_format.specs.declared.block.buffer.BufferEntryInfo.{BufferEntryInfo}
 use Rattle.foyer_format.proofs.PageLaws.{page_up-holds}
 use Rattle.foyer_format.proofs.SplitLemmas.{taken_cons, taken_none, entries_cons, entries_none}
@@ -149,3 +150,14 @@ records-append W start (i ∷ is) js (r ∷ rs) qs a b = (
   a.3,
   records-append W (start + page_up i.len) is js rs qs a.4 (subst (λ n. AreRecords W n js qs) (omega (arith, taken_cons i is)) b),
 )
+
+-- without their places they are what stands in the batch
+pub records_entries : (W : List ℕ) (start : ℕ) (is : List BufferEntryInfo) (rs : List Stored) → IsPacked start is → AreRecords W start is rs
+    → map content_of rs ≡ entries_at W is
+records_entries W start [] [] packed are = refl
+records_entries W start [] (r ∷ rs) packed are = absurd are
+records_entries W start (i ∷ is) [] packed are = absurd are
+records_entries W start (i ∷ is) (r ∷ rs) packed are =
+    let there : take i.len (drop start W) ≡ take i.len (drop i.offset W) = ap (λ n. take i.len (drop n W)) (sym packed.0) in
+    let later = records_entries W (start + page_up i.len) is rs packed.1 are.4 in
+    rw (are.0, are.1, are.2, there, later) refl

@@ -6,6 +6,7 @@ use Rattle.foyer_format.specs.declared.block.buffer.BufferEntryInfo.{BufferEntry
 use Rattle.foyer_format.specs.declared.compress.Compression.{Compression}
 use Rattle.foyer_format.specs.declared.compress.Compression.TheVariants as compression
 
+-- a record of this hash and this sequence, or a slice that was taken for one
 pub record Entry : Type 0 where
   pub hash : ℕ
   pub sequence : ℕ

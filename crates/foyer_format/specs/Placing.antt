@@ -9,6 +9,7 @@ use Rattle.foyer_format.specs.declared.block.buffer.split.BlobPart.{BlobPart}
 use Rattle.foyer_format.specs.declared.block.buffer.split.Block.{Block}
 use Rattle.foyer_format.specs.declared.block.buffer.split.Batch.{Batch}
 
+-- what goes into a block
 abbrev pub parts_of : {A : Type 0} → Block A → List (BlobPart A)
 parts_of b = b.blob_parts.items
 

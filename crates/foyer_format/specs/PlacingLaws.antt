@@ -2,10 +2,10 @@
 use Rattle.std.specs.Prelude.{◌≡◌, ℕ, ◌+◌, ◌<◌, ◌≤◌, Bool, List, [], ◌++◌, length, map, All}
 use Rattle.foyer_device.specs.Section.{Section, bytes_of}
 use Rattle.foyer_format.specs.BlockBytes.{all_laid, Each}
-use Rattle.foyer_format.specs.Entries.{Entries, IsFinished}
+use Rattle.foyer_format.specs.Entries.{Entries, IsFinished, IsPacked, entries_at}
 use Rattle.foyer_format.specs.Filling.{Sizes, Filling, FitsBlock, fresh, taken}
 use Rattle.foyer_format.specs.Fills.{AreSizes, writes_of, records_in, Fills, Blocks, IsLaid}
-use Rattle.foyer_format.specs.Stored.{entry_of}
+use Rattle.foyer_format.specs.Stored.{Stored, AreRecords, content_of, entry_of}
 use Rattle.foyer_format.specs.Holding.{all_read, Holds}
 use Rattle.foyer_format.specs.Listing.{Lists}
 use Rattle.foyer_format.specs.Placing.{IsPlaced, parts_of}
@@ -42,6 +42,13 @@ BlockIsLaid A =
     (infos : List BufferEntryInfo) (parts : List (BlobPart A))
     → s.index ≤ f.at → start + taken infos ≤ length (bytes_of whole)
     → Fills s whole start f infos parts g → IsLaid s whole start f infos parts g
+
+-- the records of a batch that stand in blocks are the entries of the buffer that it came from
+abbrev pub RecordsAreEntries : Type 0
+RecordsAreEntries =
+    (whole : List ℕ) (start : ℕ) (infos : List BufferEntryInfo) (records : List Stored)
+    → IsPacked start infos → AreRecords whole start infos records
+    → map content_of records ≡ entries_at whole infos
 
 -- a new filling holds nothing, whatever the block's bytes are
 abbrev pub FreshHolds : Type 0

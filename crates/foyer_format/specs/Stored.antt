@@ -2,6 +2,7 @@
 use Rattle.std.specs.Prelude.{◌≡◌, ℕ, ◌+◌, ◌-◌, ◌<◌, ◌≤◌, List, [], ◌∷◌, length, take, drop}
 use Rattle.foyer_format.specs.Page.{page_up}
 use Rattle.foyer_format.specs.BlockBytes.{read}
+use Rattle.foyer_format.specs.Entries.{Entry}
 use Rattle.foyer_format.specs.declared.block.buffer.BufferEntryInfo.{BufferEntryInfo}
 use Rattle.foyer_format.specs.declared.block.buffer.blob.BlobEntryIndex.{BlobEntryIndex}
 
@@ -15,6 +16,10 @@ pub record Stored : Type 0 where
 abbrev pub entry_of : Stored → BlobEntryIndex
 entry_of r =
     record { hash = r.hash; sequence = r.sequence; offset = r.offset; len = length r.bytes }
+
+-- the same without its place
+abbrev pub content_of : Stored → Entry
+content_of r = record { hash = r.hash; sequence = r.sequence; bytes = r.bytes }
 
 -- the records of these entries of a blob, whose data begin at this offset of the blob
 abbrev pub stored_at : (blob at : ℕ) → List ℕ → List BlobEntryIndex → List Stored

@@ -25,7 +25,7 @@ mod splitting;
 pub use blob::{BlobEntryIndex, BlobIndex, BlobIndexReader};
 pub use laws::{
     batch_is_blocks, block_is_laid, finished_fits, fresh_holds, held_is_listed, listing_vectors,
-    one_list, written_holds,
+    one_list, records_are_entries, written_holds,
 };
 pub use split::{Batch, BlobPart, Block, SplitCtx, Splitter};
 

@@ -1,6 +1,6 @@
 //! What holds of every placing, for whoever writes blocks and reads them again.
 ghost use Rattle.foyer_format.specs.BlobVectors.{EntryVector, CapacityVector, KeptVector};
-ghost use Rattle.foyer_format.specs.PlacingLaws.{OneList, FinishedFits, BatchIsBlocks, BlockIsLaid, FreshHolds, WrittenHolds, HeldIsListed};
+ghost use Rattle.foyer_format.specs.PlacingLaws.{OneList, FinishedFits, BatchIsBlocks, BlockIsLaid, RecordsAreEntries, FreshHolds, WrittenHolds, HeldIsListed};
 
 use std::alloc::Allocator;
 
@@ -24,6 +24,11 @@ pub fn batch_is_blocks<A: Allocator>()
 /// bytes, each record stands at its offset, untouched by later writes.
 pub fn block_is_laid<A: Allocator>()
     ensures { BlockIsLaid A }
+{}
+
+/// The records of a batch that stand in blocks are the entries of the buffer that it came from.
+pub fn records_are_entries()
+    ensures { RecordsAreEntries }
 {}
 
 /// A new filling of a block holds nothing, whatever its bytes are.
