@@ -99,3 +99,6 @@ fn split(
         None => IoSliceMut::new(alloc, BLOCK),
     }
 }
+
+#[cfg(test)]
+mod tests;

@@ -1,6 +1,6 @@
-use Rattle.std.proofs.Common.{◌≡◌, ◌+◌, length, ap, sym, subst, ◌∙◌, arith}
+use Rattle.std.proofs.Common.{ap, sym, subst, ◌∙◌, arith}
 use Rattle.foyer_format.specs.Filling.{Sizes}
-use Rattle.foyer_ffi.proofs.PlacedLemmas.{AreTaken, not_empty, none_taken, taken_more, are_records, too_long}
+use Rattle.foyer_ffi.proofs.PlacedLemmas.{AreTaken, not_empty, taken_more, are_records, too_long}
 use Rattle.foyer_ffi.proofs.placing.place.Goals as goal
 
 pub returns-in_default-checked_add-clause-records : goal.returns-in_default-checked_add-clause-records
