@@ -12,7 +12,7 @@ use Rattle.foyer_format.specs.Record.{record_bytes}
 use Rattle.foyer_format.proofs.EntriesLemmas.{size_none, size_cons}
 use Rattle.foyer_format.proofs.PushLemmas.{length-record_bytes}
 use Rattle.foyer_format.specs.declared.compress.Compression.{Compression}
-use Rattle.foyer_ffi.specs.Placed.{AreRecords, record_len}
+use Rattle.foyer_ffi.specs.Placed.{AreRecords, record_len, greatest}
 
 -- each entry has so many bytes
 abbrev pub AreLong : ℕ → List Entry → Type 0
@@ -23,13 +23,13 @@ length-counted value =
     let len : length (to_le_bytes w64 (length value)) ≡ 8 = eqb-true _ _ (full_length w64 (length value)) in
     omega (arith, length-append (to_le_bytes w64 (length value)) value, len)
 
-pub length-record : (hash sequence key : ℕ) (value : List ℕ) → key < 2 ^ 64
+length-record : (hash sequence key : ℕ) (value : List ℕ) → key < 2 ^ 64
     → length (record_bytes hash sequence (number_bytes w64 key) (counted value)) ≡ record_len (length value)
 length-record hash sequence key value fits =
     let len : length (number_bytes w64 key) ≡ 8 = number_length w64 key fits in
     length-record_bytes hash sequence (number_bytes w64 key) (counted value) ∙ omega (arith, len, length-counted value)
 
-pub long_more : (n : ℕ) (es : List Entry) (e : Entry) → AreLong n es → length e.bytes ≡ n → AreLong n (es ++ e ∷ [])
+long_more : (n : ℕ) (es : List Entry) (e : Entry) → AreLong n es → length e.bytes ≡ n → AreLong n (es ++ e ∷ [])
 long_more n [] e long is = (is, tt)
 long_more n (f ∷ es) e long is = (long.0, long_more n es e long.1 is)
 
@@ -37,7 +37,7 @@ pub not_empty : (n : ℕ) (es : List Entry) → 0 < n → AreLong n es → Each 
 not_empty n [] some long = tt
 not_empty n (e ∷ es) some long = (omega (arith, long.0), not_empty n es some long.1)
 
-pub size_long : (n : ℕ) (es : List Entry) → AreLong n es → size_of es ≡ length es * page_up n
+size_long : (n : ℕ) (es : List Entry) → AreLong n es → size_of es ≡ length es * page_up n
 size_long n [] long = size_none ∙ omega arith
 size_long n (e ∷ es) long =
     size_cons e es ∙ omega (arith, ap page_up long.0, size_long n es long.1)
@@ -73,10 +73,7 @@ pushed old new key value c encodes word long is fits =
 pub record AreTaken (value : List ℕ) (records key bytes : ℕ) : Type 0 where
   pub sum : bytes ≡ key * page_up (record_len (length value))
   pub few : key ≤ records
-  pub short : 0 < key → page_up (record_len (length value)) ≤ 16773120
-
-pub none_taken : (value : List ℕ) (records : ℕ) → AreTaken value records 0 0
-none_taken value records = record { sum = omega arith; few = omega arith; short = λ some. absurd (omega (arith, some)) }
+  pub fits : 0 < key → page_up (record_len (length value)) ≤ greatest
 
 -- either part shows that the page is short
 either : (key n page most : ℕ) → (0 < key → page ≤ most) → (0 < n → page ≤ most) → 0 < key + n → page ≤ most
@@ -85,7 +82,7 @@ either (suc key) n page most before now some = before (omega arith)
 
 pub taken_more : (value items : List ℕ) (es : List Entry) (records key bytes sum most : ℕ) → items ≡ value
     → AreTaken value records key bytes → AreLong (record_len (length items)) es
-    → (0 < length es → page_up (record_len (length items)) ≤ most) → most ≡ 16773120
+    → (0 < length es → page_up (record_len (length items)) ≤ most) → most ≡ greatest
     → key + length es ≤ records → sum ≡ bytes + size_of es → AreTaken value records (key + length es) sum
 taken_more value items es records key bytes sum most same taken long fits is few more =
     let len : ℕ = record_len (length value) in
@@ -94,17 +91,8 @@ taken_more value items es records key bytes sum most same taken long fits is few
     record {
       sum = omega (arith, more, taken.sum, size_long len es each);
       few = few;
-      short = either key (length es) (page_up len) 16773120 taken.short (λ some. omega (arith, fits some, is, page));
+      fits = either key (length es) (page_up len) greatest taken.fits (λ some. omega (arith, fits some, is, page));
     }
 
 pub are_records : (value : List ℕ) (records key bytes : ℕ) → AreTaken value records key bytes → AreRecords (length value) records bytes
-are_records value records key bytes taken = record { count = key; few = taken.few; sum = taken.sum }
-
-zero_of : (key page : ℕ) → (0 < key → page ≤ 16773120) → 16773120 < page → key ≡ 0
-zero_of zero page short long = refl
-zero_of (suc key) page short long = absurd (omega (arith, short (omega arith), long))
-
-pub too_long : (value : List ℕ) (records key bytes : ℕ) → AreTaken value records key bytes
-    → 16773120 < page_up (record_len (length value)) → bytes ≡ 0
-too_long value records key bytes taken long =
-    taken.sum ∙ ap (λ n. n * page_up (record_len (length value))) (zero_of key _ taken.short long) ∙ omega arith
+are_records value records key bytes taken = record { count = key; few = taken.few; fits = taken.fits; sum = taken.sum }

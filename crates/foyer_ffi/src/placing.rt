@@ -22,8 +22,7 @@ const GREATEST: usize = BLOCK - INDEX;
 
 /// Lays out so many records of a value, and gives the bytes that they take with their padding.
 pub(crate) fn place(alloc: Global, value: &[u8], records: u64) -> u64
-    ensures records { AreRecords (length value.now) records result }
-    ensures too_long { 16773120 < page_up (record_len (length value.now)) → result ≡ 0 }
+    ensures { AreRecords (length value.now) records result }
 {
     let Ok(value) = Vec::from_slice(alloc, value) else {
         return 0;

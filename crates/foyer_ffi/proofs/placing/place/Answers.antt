@@ -1,54 +1,29 @@
 use Rattle.std.proofs.Common.{ap, sym, subst, ◌∙◌, arith}
 use Rattle.foyer_format.specs.Filling.{Sizes}
-use Rattle.foyer_ffi.proofs.PlacedLemmas.{AreTaken, not_empty, taken_more, are_records, too_long}
+use Rattle.foyer_ffi.proofs.PlacedLemmas.{AreTaken, not_empty, taken_more, are_records}
 use Rattle.foyer_ffi.proofs.placing.place.Goals as goal
 
-pub returns-in_default-checked_add-clause-records : goal.returns-in_default-checked_add-clause-records
-returns-in_default-checked_add-clause-records c =
+pub returns-in_default-checked_add : goal.returns-in_default-checked_add
+returns-in_default-checked_add c =
     are_records c.args.value.now c.args.records c.buffers.key c.buffers.taken c.buffers.invariant.taken
 
-pub returns-in_default-checked_add-clause-too_long : goal.returns-in_default-checked_add-clause-too_long
-returns-in_default-checked_add-clause-too_long c =
-    too_long c.args.value.now c.args.records c.buffers.key c.buffers.taken c.buffers.invariant.taken
-
-pub returns-in_default-filled-clause-records : goal.returns-in_default-filled-clause-records
-returns-in_default-filled-clause-records c =
+pub returns-in_default-filled : goal.returns-in_default-filled
+returns-in_default-filled c =
     are_records c.args.value.now c.args.records _ c.in-Some.sum
     (taken_more c.args.value.now c.in-Ok.value.items c.fill-filled.new.buffer.entries c.args.records c.buffers.key c.buffers.taken c.in-Some.sum
     c.new-buffer.result.greatest c.buffers.invariant.value c.buffers.invariant.taken c.fill-filled.ensures.each c.fill-filled.ensures.within
     c.new-buffer.ensures.greatest c.fill-filled.ensures.few (omega (arith, c.in-Some.ensures, c.written.ensures)))
 
-pub returns-in_default-filled-clause-too_long : goal.returns-in_default-filled-clause-too_long
-returns-in_default-filled-clause-too_long c =
-    too_long c.args.value.now c.args.records _ c.in-Some.sum
-    (taken_more c.args.value.now c.in-Ok.value.items c.fill-filled.new.buffer.entries c.args.records c.buffers.key c.buffers.taken c.in-Some.sum
-    c.new-buffer.result.greatest c.buffers.invariant.value c.buffers.invariant.taken c.fill-filled.ensures.each c.fill-filled.ensures.within
-    c.new-buffer.ensures.greatest c.fill-filled.ensures.few (omega (arith, c.in-Some.ensures, c.written.ensures)))
-
-pub returns-then-next-key-clause-records : goal.returns-then-next-key-clause-records
-returns-then-next-key-clause-records c =
+pub returns-then-next-key : goal.returns-then-next-key
+returns-then-next-key c =
     are_records c.args.value.now c.args.records _ c.in-Some.sum
     (taken_more c.args.value.now c.in-Ok.value.items c.fill-filled.new.buffer.entries c.args.records c.buffers.key c.buffers.taken c.in-Some.sum
     c.new-buffer.result.greatest c.buffers.invariant.value c.buffers.invariant.taken c.fill-filled.ensures.each c.fill-filled.ensures.within
     c.new-buffer.ensures.greatest c.fill-filled.ensures.few (omega (arith, c.in-Some.ensures, c.written.ensures)))
 
-pub returns-then-next-key-clause-too_long : goal.returns-then-next-key-clause-too_long
-returns-then-next-key-clause-too_long c =
-    too_long c.args.value.now c.args.records _ c.in-Some.sum
-    (taken_more c.args.value.now c.in-Ok.value.items c.fill-filled.new.buffer.entries c.args.records c.buffers.key c.buffers.taken c.in-Some.sum
-    c.new-buffer.result.greatest c.buffers.invariant.value c.buffers.invariant.taken c.fill-filled.ensures.each c.fill-filled.ensures.within
-    c.new-buffer.ensures.greatest c.fill-filled.ensures.few (omega (arith, c.in-Some.ensures, c.written.ensures)))
-
-pub returns-in_default-split-clause-records : goal.returns-in_default-split-clause-records
-returns-in_default-split-clause-records c =
+pub returns-in_default-split : goal.returns-in_default-split
+returns-in_default-split c =
     are_records c.args.value.now c.args.records _ c.in-Some.sum
-    (taken_more c.args.value.now c.in-Ok.value.items c.fill-filled.new.buffer.entries c.args.records c.buffers.key c.buffers.taken c.in-Some.sum
-    c.new-buffer.result.greatest c.buffers.invariant.value c.buffers.invariant.taken c.fill-filled.ensures.each c.fill-filled.ensures.within
-    c.new-buffer.ensures.greatest c.fill-filled.ensures.few (omega (arith, c.in-Some.ensures, c.written.ensures)))
-
-pub returns-in_default-split-clause-too_long : goal.returns-in_default-split-clause-too_long
-returns-in_default-split-clause-too_long c =
-    too_long c.args.value.now c.args.records _ c.in-Some.sum
     (taken_more c.args.value.now c.in-Ok.value.items c.fill-filled.new.buffer.entries c.args.records c.buffers.key c.buffers.taken c.in-Some.sum
     c.new-buffer.result.greatest c.buffers.invariant.value c.buffers.invariant.taken c.fill-filled.ensures.each c.fill-filled.ensures.within
     c.new-buffer.ensures.greatest c.fill-filled.ensures.few (omega (arith, c.in-Some.ensures, c.written.ensures)))
@@ -69,10 +44,6 @@ buffers-preserved c =
       taken = subst (λ key. AreTaken c.args.value.now c.args.records key c.in-Some.sum) (sym c.in-Ok-filled.ensures.next) taken;
     }
 
-pub returns-clause-records : goal.returns-clause-records
-returns-clause-records c =
+pub returns : goal.returns
+returns c =
     are_records c.args.value.now c.args.records c.buffers.key c.buffers.taken c.buffers.invariant.taken
-
-pub returns-clause-too_long : goal.returns-clause-too_long
-returns-clause-too_long c =
-    too_long c.args.value.now c.args.records c.buffers.key c.buffers.taken c.buffers.invariant.taken
