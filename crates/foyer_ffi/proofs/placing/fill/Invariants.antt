@@ -1,0 +1,13 @@
+use Rattle.std.proofs.Common.{◌≡◌, ◌+◌, ◌<◌, ◌≤◌, length}
+use Rattle.foyer_format.specs.Page.{page_up}
+use Rattle.foyer_ffi.specs.Placed.{record_len}
+use Rattle.foyer_ffi.proofs.PlacedLemmas.{AreLong}
+use Rattle.foyer_ffi.proofs.placing.fill.Given as goal
+
+abbrev pub invariant-keys : goal.invariant-keys
+invariant-keys l = record {
+  each : AreLong (record_len (length l.value.items)) l.buffer.entries;
+  within : 0 < length l.buffer.entries → page_up (record_len (length l.value.items)) ≤ l.buffer.greatest;
+  greatest : l.buffer.greatest ≡ l.fn.buffer.greatest;
+  count : l.key-counter ≡ l.first + length l.buffer.entries;
+}

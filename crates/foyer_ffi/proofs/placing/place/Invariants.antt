@@ -1,0 +1,14 @@
+use Rattle.std.proofs.Common.{◌≡◌, ◌-◌}
+use Rattle.foyer_ffi.proofs.PlacedLemmas.{AreTaken}
+use Rattle.foyer_ffi.proofs.placing.place.Given as goal
+
+abbrev pub invariant-buffers : goal.invariant-buffers
+invariant-buffers l = record {
+  value : l.value.items ≡ l.fn.value;
+  block : l.ctx.sizes.block ≡ 16777216;
+  index : l.ctx.sizes.index ≡ 4096;
+  taken : AreTaken l.fn.value l.records l.key l.taken;
+}
+
+abbrev pub decreases-buffers : goal.decreases-buffers
+decreases-buffers l = l.records - l.key
