@@ -11,6 +11,8 @@ use foyer_device::io::bytes::{IoSlice, IoSliceMut, Raw};
 use std::alloc::Global;
 use std::test::Fail;
 
+mod lists;
+
 // Records of these hashes and lengths, one behind another, are split.
 #[tactic(auto, using(crate::proofs::PageLaws::pages))]
 fn split(
