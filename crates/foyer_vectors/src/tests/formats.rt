@@ -63,6 +63,7 @@ fn a_record_is_read_back(rt: HostRuntime) -> Result<(), Fail> {
     assert!(rt; buffer.is_empty());
     let pushed = buffer.push(8192, &key, &value, 1, Compression::None, 1)?;
     assert_eq!(rt; pushed, Some(53));
+    assert_eq!(rt; buffer.len(), 4096);
     let zstd = buffer.push(8192, &key, &value, 1, Compression::Zstd, 1)?;
     assert_eq!(rt; zstd, None);
     let full = buffer.push(4095, &key, &value, 1, Compression::None, 1)?;
