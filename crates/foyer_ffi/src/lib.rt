@@ -27,11 +27,12 @@ pub extern "C" fn foyer_ffi_xxh32(bytes: &[u8]) -> u32
     Checksummer::checksum32(bytes)
 }
 
-/// Lays out records of this value under the keys 0, 1 and so on, in buffers of 16 MiB, and splits
-/// each buffer into blocks of 16 MiB with indices of 4 KiB. Gives the bytes that the buffers took,
-/// padding included: those of all records, unless a block has no room for one, a growth was refused,
-/// or they pass `u64::MAX`; then those of the first of them. C passes a pointer, a length and a
-/// number; the memory is its own `malloc`'s.
+/// Lays out records of this value under the keys 0, 1 and so on, in one buffer after another, and
+/// splits each into blocks of 16 MiB with indices of 4 KiB. A buffer has 512 KiB, or 16 MiB for a
+/// value of more than 100 KiB. Gives the bytes that the buffers took, padding included: those of all
+/// records, unless a block has no room for one, a growth was refused, or they pass `u64::MAX`; then
+/// those of the first of them. C passes a pointer, a length and a number; the memory is its own
+/// `malloc`'s.
 #[unsafe(no_mangle)]
 pub extern "C" fn foyer_ffi_place(alloc: Global, value: &[u8], records: u64) -> u64
     ensures { AreRecords (length value.now) records result }

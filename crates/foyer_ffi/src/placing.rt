@@ -11,8 +11,14 @@ use foyer_format::block::buffer::{Batch, SplitCtx, Splitter};
 use foyer_format::compress::Compression;
 use std::alloc::Global;
 
-/// The bytes of a buffer, and of a block.
+/// The bytes of a block.
 const BLOCK: usize = 16 * 1024 * 1024;
+
+/// The bytes of a buffer of short values: few, since they are cleared once, and the cache keeps them.
+const BUFFER: usize = 512 * 1024;
+
+/// The longest value that such a buffer is for, in bytes.
+const SHORT: usize = 100 * 1024;
 
 /// The bytes of a blob's index.
 const INDEX: usize = 4096;
@@ -30,7 +36,8 @@ pub(crate) fn place(alloc: Global, value: &[u8], records: u64) -> u64
     let Ok(mut ctx) = SplitCtx::new(alloc, BLOCK, INDEX) else {
         return 0;
     };
-    let Ok(mut pages) = IoSliceMut::new(alloc, BLOCK) else {
+    let size = if value.len() <= SHORT { BUFFER } else { BLOCK };
+    let Ok(mut pages) = IoSliceMut::new(alloc, size) else {
         return 0;
     };
     let mut key = 0u64;
@@ -49,7 +56,7 @@ pub(crate) fn place(alloc: Global, value: &[u8], records: u64) -> u64
         if next == key {
             return taken;
         }
-        let Ok(emptied) = split(alloc, &mut ctx, buffer) else {
+        let Ok(emptied) = split(alloc, &mut ctx, buffer, size) else {
             return taken;
         };
         pages = emptied;
@@ -83,6 +90,7 @@ fn split(
     alloc: Global,
     ctx: &mut SplitCtx<Global>,
     buffer: Buffer<Global>,
+    size: usize,
 ) -> Result<IoSliceMut<Global>>
     requires greatest { ctx.old.sizes.index + buffer.greatest ≤ ctx.old.sizes.block }
     requires each { Each (λ e. 0 < length e.bytes) buffer.entries }
@@ -95,7 +103,7 @@ fn split(
     drop(blocks);
     match bytes.try_into_io_slice_mut() {
         Some(pages) => Ok(pages),
-        None => IoSliceMut::new(alloc, BLOCK),
+        None => IoSliceMut::new(alloc, size),
     }
 }
 

@@ -1,5 +1,5 @@
 //! What the buffers take where memory is ample.
-use super::{BLOCK, place};
+use super::{BLOCK, SHORT, place};
 use std::test::Fail;
 
 #[test]
@@ -19,6 +19,17 @@ fn a_full_buffer_is_split_and_a_new_one_begun(rt: HostRuntime) -> Result<(), Fai
     let alloc = rt.alloc();
     let value = vec![in alloc; 7u8; 1_000_000]?;
     assert_eq!(rt; place(alloc, value.as_slice(), 40), 40 * 1_003_520);
+    Ok(())
+}
+
+#[test]
+fn short_values_take_many_buffers(rt: HostRuntime) -> Result<(), Fail> {
+    let alloc = rt.alloc();
+    assert_eq!(rt; place(alloc, b"value", 1000), 1000 * 4096);
+    let short = vec![in alloc; 7u8; SHORT]?;
+    assert_eq!(rt; place(alloc, short.as_slice(), 20), 20 * 106_496);
+    let longer = vec![in alloc; 7u8; SHORT + 1]?;
+    assert_eq!(rt; place(alloc, longer.as_slice(), 20), 20 * 106_496);
     Ok(())
 }
 
