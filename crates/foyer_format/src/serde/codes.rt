@@ -38,3 +38,6 @@ pub fn code_vectors()
     ensures flag { FlagVector }
     ensures text { TextVector }
 {}
+
+#[cfg(test)]
+mod tests;
