@@ -1,17 +1,18 @@
 -- What equally long records take.
-use Rattle.std.proofs.Common.{◌≡◌, ℕ, ◌+◌, ◌*◌, ◌<◌, ◌≤◌, ◌^◌, List, [], ◌∷◌, ◌++◌, length, zero, suc, refl, ap, sym, subst, ◌∙◌, arith}
+use Rattle.std.proofs.Common.{◌≡◌, ℕ, ◌+◌, ◌-◌, ◌*◌, ◌<◌, ◌≤◌, ◌^◌, List, [], ◌∷◌, ◌++◌, length, zero, suc, refl, ap, sym, subst, ◌∙◌, arith}
 use Rattle.std.proofs.lemmas.List.{length-append}
 use Rattle.std.proofs.lemmas.Bool.{eqb-true}
 use Rattle.std.specs.Int.{w64, to_le_bytes}
 use Rattle.foyer_format.specs.BlockBytes.{Each}
 use Rattle.foyer_format.specs.CodeLaws.{full_length, number_length}
 use Rattle.foyer_format.specs.Codes.{number_bytes, counted}
-use Rattle.foyer_format.specs.Entries.{Entry, Entries, FitsBuffer, with_entry, size_of}
+use Rattle.foyer_format.specs.Entries.{Entry, Entries, FitsBuffer, with_entry, left_of, size_of}
 use Rattle.foyer_format.specs.Page.{page_up}
 use Rattle.foyer_format.specs.Record.{record_bytes}
 use Rattle.foyer_format.proofs.EntriesLemmas.{size_none, size_cons}
 use Rattle.foyer_format.proofs.PushLemmas.{length-record_bytes}
 use Rattle.foyer_format.specs.declared.compress.Compression.{Compression}
+use Rattle.foyer_format.specs.declared.compress.Compression.TheVariants as compression
 use Rattle.foyer_ffi.specs.Placed.{AreRecords, record_len, greatest}
 
 -- each entry has so many bytes
@@ -37,7 +38,7 @@ pub not_empty : (n : ℕ) (es : List Entry) → 0 < n → AreLong n es → Each 
 not_empty n [] some long = tt
 not_empty n (e ∷ es) some long = (omega (arith, long.0), not_empty n es some long.1)
 
-size_long : (n : ℕ) (es : List Entry) → AreLong n es → size_of es ≡ length es * page_up n
+pub size_long : (n : ℕ) (es : List Entry) → AreLong n es → size_of es ≡ length es * page_up n
 size_long n [] long = size_none ∙ omega arith
 size_long n (e ∷ es) long =
     size_cons e es ∙ omega (arith, ap page_up long.0, size_long n es long.1)
@@ -47,6 +48,7 @@ pub record IsPushed (value : List ℕ) (old new : Entries) : Type 0 where
   pub each : AreLong (record_len (length value)) new.entries
   pub fits : page_up (record_len (length value)) ≤ old.greatest
   pub greatest : new.greatest ≡ old.greatest
+  pub room : new.room ≡ old.room
   pub count : length new.entries ≡ length old.entries + 1
 
 pub pushed : (old new : Entries) (key : ℕ) (value : List ℕ) (c : Compression) (encodes : Type 0) → key < 2 ^ 64
@@ -66,7 +68,23 @@ pushed old new key value c encodes word long is fits =
       each = long_more (record_len (length value)) old.entries entry long (length-record key key key value word);
       fits = subst (λ n. page_up n ≤ old.greatest) total fits.greatest;
       greatest = refl;
+      room = refl;
       count = length-append old.entries (entry ∷ []);
+    })
+
+-- what a push refuses takes more than there is, or than it may
+pub not_pushed : (b : Entries) (key : ℕ) (value : List ℕ) (c : Compression) (encodes : Type 0) → key < 2 ^ 64 → c ≡ compression.None
+    → encodes → (FitsBuffer b c encodes (length (counted value) + length (number_bytes w64 key)) → ⊥)
+    → record_len (length value) ≤ left_of b → page_up (record_len (length value)) ≤ b.greatest → ⊥
+not_pushed b key value c encodes word plain coded refuses room most =
+    let len : length (number_bytes w64 key) ≡ 8 = number_length w64 key word in
+    let total : 36 + (length (counted value) + length (number_bytes w64 key)) ≡ record_len (length value) =
+    omega (arith, len, length-counted value) in
+    refuses (record {
+      plain = plain;
+      encoded = coded;
+      room = omega (arith, room, total);
+      greatest = subst (λ n. page_up n ≤ b.greatest) (sym total) most;
     })
 
 -- Records of the value under all keys below this one were taken, in so many bytes.
@@ -96,3 +114,12 @@ taken_more value items es records key bytes sum most same taken long fits is few
 
 pub are_records : (value : List ℕ) (records key bytes : ℕ) → AreTaken value records key bytes → AreRecords (length value) records bytes
 are_records value records key bytes taken = record { count = key; few = taken.few; fits = taken.fits; sum = taken.sum }
+
+-- as many records or more pass what these pass
+pub passes : (most page key len records : ℕ) → key + len ≤ records → most ≤ key * page + len * page → most ≤ records * page
+passes most page key len records few over =
+    let all : key + len + (records - (key + len)) ≡ records = omega (arith, few) in
+    subst (λ n. most ≤ n * page) all (omega (arith, over))
+
+pub too_long : (page most : ℕ) → (page ≤ most → ⊥) → most < page
+too_long page most over = grind (arith, over)

@@ -1,5 +1,7 @@
 -- What records of one value, with numbers as keys, take in buffers.
-use Rattle.std.specs.Prelude.{◌≡◌, ℕ, ◌+◌, ◌*◌, ◌<◌, ◌≤◌}
+use Rattle.std.specs.Prelude.{◌≡◌, ◌⊎◌, ℕ, ◌+◌, ◌*◌, ◌^◌, ◌<◌, ◌≤◌}
+use Rattle.foyer_device.specs.declared.error.Error.{Error}
+use Rattle.foyer_device.specs.declared.error.Error.TheVariants as error
 use Rattle.foyer_format.specs.Page.{page_up}
 
 -- the length of a record: its header, a value of n bytes behind its length, and a number
@@ -17,3 +19,10 @@ pub record AreRecords (n records bytes : ℕ) : Type 0 where
   pub few : count ≤ records
   pub fits : 0 < count → page_up (record_len n) ≤ greatest
   pub sum : bytes ≡ count * page_up (record_len n)
+
+-- Why not all records were laid out: a growth was refused, one takes more than it may, or all of them
+-- take more than 64 bits count.
+abbrev pub IsStop : (n records : ℕ) → Error → Type 0
+IsStop n records e =
+    (e ≡ error.Memory) ⊎ (((e ≡ error.BufferSizeLimit) × (greatest < page_up (record_len n)))
+    ⊎ ((e ≡ error.OutOfRange) × (2 ^ 64 ≤ records * page_up (record_len n))))

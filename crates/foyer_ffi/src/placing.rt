@@ -1,10 +1,12 @@
 //! Records of one value, laid out one behind another.
-ghost use Rattle.std.specs.Prelude.{◌≡◌, ◌+◌, ◌<◌, ◌≤◌, [], length, IfOk};
+ghost use Rattle.std.specs.Prelude.{◌≡◌, ◌+◌, ◌*◌, ◌^◌, ◌<◌, ◌≤◌, [], length, IfOk, IfErr, OnOk};
+ghost use Rattle.foyer_device.specs.declared.error.Error.{Error as error};
 ghost use Rattle.foyer_format.specs.BlockBytes.{Each};
 ghost use Rattle.foyer_format.specs.Page.{page_up};
-ghost use Rattle.foyer_ffi.specs.Placed.{AreRecords, record_len};
+ghost use Rattle.foyer_format.specs.Entries.{left_of};
+ghost use Rattle.foyer_ffi.specs.Placed.{AreRecords, IsStop, greatest, record_len};
 
-use foyer_device::error::Result;
+use foyer_device::error::{Error, Result};
 use foyer_device::io::bytes::IoSliceMut;
 use foyer_format::block::buffer::entries::Buffer;
 use foyer_format::block::buffer::{Batch, SplitCtx, Splitter};
@@ -30,39 +32,53 @@ const GREATEST: usize = BLOCK - INDEX;
 pub(crate) fn place(alloc: Global, value: &[u8], records: u64) -> u64
     ensures { AreRecords (length value.now) records result }
 {
-    let Ok(value) = Vec::from_slice(alloc, value) else {
-        return 0;
-    };
-    let Ok(mut ctx) = SplitCtx::new(alloc, BLOCK, INDEX) else {
-        return 0;
-    };
-    let size = if value.len() <= SHORT { BUFFER } else { BLOCK };
+    let mut taken = 0u64;
+    // The bytes alone tell C how far it came.
+    let _ = lay_out(alloc, value, records, &mut taken);
+    taken
+}
+
+// Lays the records out, and counts their bytes. It stops where a growth is refused, a block has no
+// room for a record, or the count passes `u64::MAX`.
+fn lay_out(alloc: Global, value: &[u8], records: u64, taken: &mut u64) -> Result<()>
+    requires { taken.old ≡ 0 }
+    ensures some { AreRecords (length value.now) records taken.new }
+    ensures all { OnOk result (taken.new ≡ records * page_up (record_len (length value.now))) }
+    ensures stopped { IfErr result (IsStop (length value.now) records) }
+{
+    let value = Vec::from_slice(alloc, value)?;
+    let mut ctx = SplitCtx::new(alloc, BLOCK, INDEX)?;
+    let size = buffer_size(value.len());
     let Ok(mut pages) = IoSliceMut::new(alloc, size) else {
-        return 0;
+        return Err(Error::Memory);
     };
     let mut key = 0u64;
-    let mut taken = 0u64;
     'buffers: while key < records {
         let mut buffer = Buffer::new(alloc, pages, GREATEST);
         let filled = fill(&mut buffer, &value, key, records);
         let Some(sum) = taken.checked_add(buffer.written() as u64) else {
-            return taken;
+            return Err(Error::OutOfRange);
         };
-        taken = sum;
-        let Ok(next) = filled else {
-            return taken;
-        };
+        *taken = sum;
+        let next = filled?;
         // A record that an empty buffer doesn't take fits into no buffer.
         if next == key {
-            return taken;
+            return Err(Error::BufferSizeLimit);
         }
-        let Ok(emptied) = split(alloc, &mut ctx, buffer, size) else {
-            return taken;
-        };
-        pages = emptied;
+        pages = split(alloc, &mut ctx, buffer, size)?;
         key = next;
     }
-    taken
+    Ok(())
+}
+
+// The bytes of a buffer for values of this length, which takes a record of them if a block does.
+#[tactic(auto, unfolding(foyer_format::specs::Page::page_up))]
+fn buffer_size(len: usize) -> usize
+    ensures room { page_up (record_len len) ≤ greatest → record_len len ≤ result }
+    ensures pages { page_up result ≡ result }
+    ensures small { result ≤ 2 ^ 32 }
+{
+    if len <= SHORT { BUFFER } else { BLOCK }
 }
 
 // Appends the records of these keys until one doesn't fit, and gives the first key that is left.
@@ -76,6 +92,11 @@ fn fill(buffer: &mut Buffer<Global>, value: &Vec<u8, Global>, first: u64, end: u
     ensures greatest { buffer.new.greatest ≡ buffer.old.greatest }
     ensures few { first + length buffer.new.entries ≤ end }
     ensures next { IfOk result (λ key. key ≡ first + length buffer.new.entries) }
+    ensures room { buffer.new.room ≡ buffer.old.room }
+    ensures full { IfOk result (λ key. key < end
+        → record_len (length value.now.items) ≤ left_of buffer.new
+        → page_up (record_len (length value.now.items)) ≤ buffer.new.greatest → ⊥) }
+    ensures memory { IfErr result (λ e. e ≡ error.Memory) }
 {
     'keys: for key in first..end {
         if !buffer.push(&key, value, key, Compression::None, key)? {
@@ -94,7 +115,11 @@ fn split(
 ) -> Result<IoSliceMut<Global>>
     requires greatest { ctx.old.sizes.index + buffer.greatest ≤ ctx.old.sizes.block }
     requires each { Each (λ e. 0 < length e.bytes) buffer.entries }
-    ensures { ctx.new.sizes ≡ ctx.old.sizes }
+    requires room { buffer.room ≡ page_up size }
+    requires small { size ≤ 2 ^ 32 }
+    ensures sizes { ctx.new.sizes ≡ ctx.old.sizes }
+    ensures room { IfOk result (λ pages. length pages ≡ page_up size) }
+    ensures memory { IfErr result (λ e. e ≡ error.Memory) }
 {
     let (pages, infos) = buffer.finish();
     let bytes = pages.into_io_slice(alloc)?;
@@ -103,7 +128,10 @@ fn split(
     drop(blocks);
     match bytes.try_into_io_slice_mut() {
         Some(pages) => Ok(pages),
-        None => IoSliceMut::new(alloc, size),
+        None => match IoSliceMut::new(alloc, size) {
+            Ok(pages) => Ok(pages),
+            Err(_) => Err(Error::Memory),
+        },
     }
 }
 

@@ -9,5 +9,6 @@ invariant-keys l = record {
   each : AreLong (record_len (length l.value.items)) l.buffer.entries;
   within : 0 < length l.buffer.entries → page_up (record_len (length l.value.items)) ≤ l.buffer.greatest;
   greatest : l.buffer.greatest ≡ l.fn.buffer.greatest;
+  room : l.buffer.room ≡ l.fn.buffer.room;
   count : l.key-counter ≡ l.first + length l.buffer.entries;
 }

@@ -1,12 +1,14 @@
-use Rattle.std.proofs.Common.{◌≡◌, ◌-◌}
+use Rattle.std.proofs.Common.{◌≡◌, ◌-◌, length}
+use Rattle.foyer_format.specs.Page.{page_up}
 use Rattle.foyer_ffi.proofs.PlacedLemmas.{AreTaken}
-use Rattle.foyer_ffi.proofs.placing.place.Given as goal
+use Rattle.foyer_ffi.proofs.placing.lay_out.Given as goal
 
 abbrev pub invariant-buffers : goal.invariant-buffers
 invariant-buffers l = record {
   value : l.value.items ≡ l.fn.value;
   block : l.ctx.sizes.block ≡ 16777216;
   index : l.ctx.sizes.index ≡ 4096;
+  room : length l.pages ≡ page_up l.size;
   taken : AreTaken l.fn.value l.records l.key l.taken;
 }
 
