@@ -165,26 +165,31 @@ fn split_again<A: Allocator + Clone>(
     }
 }
 
-// Fills a buffer with ten entries, and tries one that is too long; then splits it.
+// Fills a buffer with nine entries, and tries one that is too long; then splits it. With the long
+// entry in front the list of them grows at a slice, with it at the end at a record.
 fn flush<A: Allocator + Clone>(
     told: &mut Told,
     heap: &A,
     ctx: &mut SplitCtx<A>,
     slices: &Slices,
-    first: u64,
+    is_long_first: bool,
 ) -> Result<()>
     requires room { ctx.old.sizes.index + 12288 ≤ ctx.old.sizes.block }
     ensures { ctx.new.sizes ≡ ctx.old.sizes }
 {
     let pages = pages_again(heap, ROOM)?;
     let mut buffer = Buffer::new(heap.clone()?, pages, GREATEST);
-    push_slice_again(told, &mut buffer, slices.long.as_slice(), first)?;
-    for key in first..first.saturating_add(4) {
+    if is_long_first {
+        push_slice_again(told, &mut buffer, slices.long.as_slice(), 7)?;
+    }
+    for key in 0..4 {
         push_again(told, &mut buffer, key)?;
         push_slice_again(told, &mut buffer, b"record", key)?;
     }
-    push_slice_again(told, &mut buffer, slices.too_long.as_slice(), first)?;
-    push_slice_again(told, &mut buffer, slices.long.as_slice(), first)?;
+    push_slice_again(told, &mut buffer, slices.too_long.as_slice(), 8)?;
+    if !is_long_first {
+        push_slice_again(told, &mut buffer, slices.long.as_slice(), 7)?;
+    }
     let (pages, infos) = buffer.finish();
     tell_infos(told, pages.as_slice(), infos.as_slice())?;
     let bytes = match pages.into_io_slice(heap.clone()?) {
@@ -195,15 +200,15 @@ fn flush<A: Allocator + Clone>(
     tell_batch(told, &batch)
 }
 
-// Two flushes of one context, which the second goes on from.
+// Two flushes; the second goes on in the block of the first.
 fn flushes<A: Allocator + Clone>(told: &mut Told, heap: &A, slices: &Slices) -> Result<()> {
     let made = match SplitCtx::new(heap.clone()?, 16384, 4096) {
         Err(Error::Memory) => SplitCtx::new(heap.clone()?, 16384, 4096),
         other => other,
     };
     let mut ctx = made?;
-    flush(told, heap, &mut ctx, slices, 1)?;
-    flush(told, heap, &mut ctx, slices, 11)
+    flush(told, heap, &mut ctx, slices, true)?;
+    flush(told, heap, &mut ctx, slices, false)
 }
 
 // What was refused is as good as what never came: tried again, it gives what a run without a refusal gives.
