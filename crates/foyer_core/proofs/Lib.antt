@@ -1,7 +1,6 @@
 pub mod AccessLemmas
 pub mod BeginLemmas
 pub mod BlockLemmas
-pub mod BlockPlaces
 pub mod Deleted
 pub mod Enqueued
 pub mod FlushLemmas

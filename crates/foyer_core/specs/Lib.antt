@@ -4,7 +4,6 @@ pub mod Batches
 pub mod Beginning
 pub mod Begins
 pub mod Content
-pub mod Disk
 pub mod Flushing
 pub mod Handing
 pub mod InOneBlock

@@ -7,12 +7,9 @@
 
 pub mod apply;
 pub mod block;
-pub mod disk;
 mod flush;
 pub mod laws;
 mod load;
-pub mod memory;
-pub mod moves;
 mod open;
 mod queue;
 pub mod reply;

@@ -1,5 +1,5 @@
 //! The state of the core.
-ghost use Rattle.std.specs.Prelude.{◌<◌, vec_len};
+ghost use Rattle.std.specs.Prelude.{◌≡◌, ◌<◌, vec_len};
 
 use crate::block::flusher::Flusher;
 use crate::settings::Settings;
@@ -55,4 +55,20 @@ pub struct Core<K, V, P, A: Allocator> {
     /// The flushers that wait for a block, the one that began last at the end.
     pub(crate) waiting: Vec<u32, A>,
     ghost some_flusher: { 0 < vec_len flushers },
+}
+
+impl<K, V, P, A: Allocator> Core<K, V, P, A> {
+    /// The sizes that it was opened with.
+    pub fn settings(&self) -> Settings
+        ensures { result ≡ self.now.settings }
+    {
+        self.settings
+    }
+
+    /// Where its memory comes from.
+    pub fn allocator(&self) -> &A
+        ensures { result.now ≡ self.now.alloc }
+    {
+        &self.alloc
+    }
 }

@@ -2,9 +2,6 @@
 ghost use Rattle.std.specs.Prelude.{None};
 
 use foyer_core::apply::Env;
-use foyer_core::disk::Disk;
-use foyer_core::memory::MemoryDisk;
-use foyer_core::moves::{read_told, write_told};
 use foyer_core::reply::{Reply, Write};
 use foyer_core::settings::Settings;
 use foyer_core::state::Core;
@@ -12,6 +9,9 @@ use foyer_core::step::Step;
 use foyer_device::error::{ErrorKind, Result};
 use foyer_format::serde::{Age, EntrySerializer, Properties};
 use foyer_policy::keeper::Piece;
+use foyer_run::disk::Disk;
+use foyer_run::memory::MemoryDisk;
+use foyer_run::moves::{read_told, write_told};
 use std::alloc::Allocator;
 
 /// Entries of this program have no age of their own.

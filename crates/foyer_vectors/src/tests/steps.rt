@@ -4,14 +4,15 @@ ghost use Rattle.foyer_format.specs.declared.serde.ages.Age.TheVariants.{Young};
 
 use crate::failing::Failing;
 use foyer_core::apply::Env;
-use foyer_core::memory::MemoryDisk;
-use foyer_core::moves::{Move, run};
 use foyer_core::reply::Reply;
 use foyer_core::settings::Settings;
 use foyer_core::state::Core;
 use foyer_device::error::Result;
 use foyer_format::serde::{Age, Properties};
 use foyer_policy::keeper::Piece;
+use foyer_run::memory::MemoryDisk;
+use foyer_run::moves::{Move, run};
+use foyer_run::opened::run_texts;
 use std::alloc::{AllocError, Allocator, Global};
 use std::process::Abort;
 use std::test::Fail;
@@ -240,4 +241,21 @@ fn where_no_block_is_clean_the_flusher_waits(rt: HostRuntime) -> std::result::Re
         "put 1 a\nreceive 0\nbegin 0\nblock 0\nwrote 0\nend 0\nput 1 b\nreceive 0\nbegin 0\nblock 0\nend 0\nblock 0\n",
         "queued\nreceived\nbegan\nwrite\nfailed\nended\nqueued\nreceived\nbegan\nno block\nnot now\nno block\n",
     )
+}
+
+#[test]
+fn texts_are_run_from_an_opening(rt: HostRuntime) -> std::result::Result<(), Fail> {
+    let alloc = rt.alloc();
+    let mut moves = Vec::new(alloc);
+    for line in "put 1 a\nreceive 0\nbegin 0\nblock 0\nwrote 0\nend 0\nlook 1\nread 0\nread 0\nwrote 0\n".lines()
+    {
+        moves.push(move_of(&alloc, line)?)?;
+    }
+    let replies = run_texts(alloc, Settings::new(1, 16384), moves)?;
+    let words = words_of(alloc, replies.as_slice())?;
+    assert_eq!(&rt;
+        words.as_str(),
+        "queued\nreceived\nbegan\nwrite\ncommitted\nended\nread\nentry a\n"
+    );
+    Ok(())
 }

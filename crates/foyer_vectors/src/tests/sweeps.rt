@@ -3,14 +3,14 @@ use crate::refusing::Refusing;
 use crate::tests::program::told;
 use crate::tests::steps::{TestCore, TestReply, Told, check, word_of};
 use foyer_core::apply::Env;
-use foyer_core::memory::MemoryDisk;
-use foyer_core::moves::{read_told, write_told};
 use foyer_core::reply::Reply;
 use foyer_core::settings::Settings;
 use foyer_core::state::Core;
 use foyer_core::step::Step;
 use foyer_device::error::{Error, ErrorKind};
 use foyer_policy::keeper::Piece;
+use foyer_run::memory::MemoryDisk;
+use foyer_run::moves::{read_told, write_told};
 use std::alloc::Allocator;
 use std::test::Fail;
 

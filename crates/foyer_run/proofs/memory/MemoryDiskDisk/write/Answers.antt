@@ -1,6 +1,6 @@
 use Rattle.std.proofs.Common.{refl}
-use Rattle.foyer_core.proofs.BlockPlaces.{stand_in_block, stays_in_block}
-use Rattle.foyer_core.proofs.memory.MemoryDiskDisk.write.Goals as goal
+use Rattle.foyer_run.proofs.BlockPlaces.{stand_in_block, stays_in_block}
+use Rattle.foyer_run.proofs.memory.MemoryDiskDisk.write.Goals as goal
 
 pub returns-clause-wrote : goal.returns-clause-wrote
 returns-clause-wrote g c =

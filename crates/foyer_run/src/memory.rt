@@ -1,6 +1,6 @@
 //! A disk in memory.
 ghost use Rattle.std.specs.Prelude.{◌≡◌, ℕ, ◌+◌, ◌*◌, ◌^◌, ◌<◌, ◌≤◌, ◌⊎◌, ◌↔◌, length, vec_len, vec_capacity, slice_index, nat_lt, if◌then◌else◌, IfOk, IfErr, IsOk, IsSome, IfSome, OnOk, OnErr};
-ghost use Rattle.foyer_core.specs.Disk.{IsRead, IsWritten, IsTorn, IsWithin};
+ghost use Rattle.foyer_run.specs.Disk.{IsRead, IsWritten, IsTorn, IsWithin};
 ghost use Rattle.foyer_device.specs.declared.error.Error.TheVariants.{Memory, OutOfRange};
 
 use crate::disk::Disk;

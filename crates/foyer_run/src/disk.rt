@@ -1,6 +1,6 @@
 //! What the core's accesses go to.
 ghost use Rattle.std.specs.Prelude.{◌≡◌, ◌≤◌, ℕ, length, vec_len, vec_capacity, IsOk, OnOk, OnErr};
-ghost use Rattle.foyer_core.specs.Disk.{IsRead, IsWritten, IsTorn};
+ghost use Rattle.foyer_run.specs.Disk.{IsRead, IsWritten, IsTorn};
 
 use foyer_block::manager::BlockId;
 use foyer_device::error::Result;

@@ -3,7 +3,7 @@ use Rattle.std.proofs.Common.{◌≡◌, ◌≢◌, ℕ, ◌+◌, ◌*◌, ◌<�
 use Rattle.std.proofs.lemmas.Bool.Decides.{nat_tests}
 use Rattle.std.specs.Prelude.{Bool, true, false, nat_lt, if◌then◌else◌, slice_index, List, length, refl}
 use Rattle.std.proofs.Math.Nat.{mul-le-mul_left}
-use Rattle.foyer_core.specs.Disk.{IsOutside}
+use Rattle.foyer_run.specs.Disk.{IsOutside}
 
 before : (size a b o p : ℕ) → a < b → o < size → a * size + o < b * size + p
 before size a b o p lt within =

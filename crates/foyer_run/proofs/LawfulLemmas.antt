@@ -1,0 +1,104 @@
+-- The laws of a run that began with an opened core.
+use Rattle.std.proofs.Common.{ℕ, false, List, [], ◌∷◌, ◌++◌, inl, inr, refl, subst}
+use Rattle.foyer_model.specs.Laws.{Demands, IsReached}
+use Rattle.foyer_model.specs.Reply as replies
+use Rattle.foyer_model.specs.Rules.{Rules, Splitting}
+use Rattle.foyer_model.specs.Step.{LoadBegin, LoadEnd}
+use Rattle.foyer_model.specs.World.{World, WorldEvent, Applies, MayAllHappen, after, after_all}
+use Rattle.foyer_model.proofs.Promises.{answers_newest_lem, missed_newest_lem}
+use Rattle.foyer_model.proofs.PutsQueued.{puts_are_queued_lem}
+use Rattle.foyer_core.specs.Begins.{first_world}
+use Rattle.foyer_core.specs.Content.{Content, Meaning}
+use Rattle.foyer_core.specs.InOneBlock.{IsInOneBlock}
+use Rattle.foyer_core.specs.Meets.{machine}
+use Rattle.foyer_core.specs.Plain.{IsSpelled}
+use Rattle.foyer_core.specs.Sizes.{IsSound}
+use Rattle.foyer_core.specs.declared.reply.Reply.{Reply}
+use Rattle.foyer_core.specs.declared.settings.Settings.{Settings}
+use Rattle.foyer_core.specs.declared.state.Core.{Core}
+use Rattle.foyer_core.proofs.LawLemmas.{demands}
+use Rattle.foyer_core.proofs.OpenedLemmas.{first_opened}
+use Rattle.foyer_run.specs.Lawful.{EntriesAreNewest, NewestAreAnswered, PutsWereQueued, IsLawful}
+use Rattle.foyer_run.specs.Runs.{IsRun}
+use Rattle.foyer_run.specs.declared.moves.Move.{Move}
+
+happen_front : {C : Type 0} (rules : Rules C) (Splits : Splitting C) (is_value : C → Type 0) (w : World C) (xs ys : List (WorldEvent C))
+    → MayAllHappen rules Splits is_value w (xs ++ ys) → MayAllHappen rules Splits is_value w xs
+happen_front rules Splits is_value w [] ys all = tt
+happen_front rules Splits is_value w (x ∷ xs) ys all = (all.0, happen_front rules Splits is_value (after rules w x) xs ys all.1)
+
+happen_rest : {C : Type 0} (rules : Rules C) (Splits : Splitting C) (is_value : C → Type 0) (w : World C) (xs ys : List (WorldEvent C))
+    → MayAllHappen rules Splits is_value w (xs ++ ys) → MayAllHappen rules Splits is_value (after_all rules w xs) ys
+happen_rest rules Splits is_value w [] ys all = all
+happen_rest rules Splits is_value w (x ∷ xs) ys all = happen_rest rules Splits is_value (after rules w x) xs ys all.1
+
+module _ {K V P : Type 0} (m : Meaning K V P) (s : Settings) (sound : IsSound s) (bytes : ℕ → ℕ → ℕ) where
+  abbrev rules : Rules Content
+  rules = machine m s sound
+
+  abbrev Splits : Splitting Content
+  Splits = IsInOneBlock s.blob_index_size
+
+  abbrev is_value : Content → Type 0
+  is_value = IsSpelled m.is_key m.is_value
+
+  abbrev first : World Content
+  first = first_world rules bytes
+
+  met : Demands rules Splits is_value
+  met = demands m.is_key m.is_value s sound
+
+  reached : (before : List (WorldEvent Content)) → MayAllHappen rules Splits is_value first before → IsReached rules Splits is_value (after_all rules first before)
+  reached before happened = record { first = first; events = before; opened = first_opened rules bytes; happened = happened; is = refl }
+
+  module _ (events : List (WorldEvent Content)) (happened : MayAllHappen rules Splits is_value first events) where
+    entries : EntriesAreNewest rules first events
+    entries before between rest h throttled t looked result c age ended l is at phase =
+        let begin : WorldEvent Content = Applies (LoadBegin h throttled) (replies.Read t) looked in
+        let end : WorldEvent Content = Applies (LoadEnd t result) (replies.Entry c age) ended in
+        let all : MayAllHappen rules Splits is_value first (before ++ ((begin ∷ between) ++ end ∷ rest)) = subst (λ es. MayAllHappen rules Splits is_value first es) is happened in
+        let w : World Content = after_all rules first before in
+        let later : MayAllHappen rules Splits is_value w ((begin ∷ between) ++ end ∷ rest) = happen_rest rules Splits is_value first before ((begin ∷ between) ++ end ∷ rest) all in
+        answers_newest_lem rules Splits is_value w h throttled t looked between result c age ended l met
+        (reached before (happen_front rules Splits is_value first before ((begin ∷ between) ++ end ∷ rest) all))
+        (happen_front rules Splits is_value w (begin ∷ between) (end ∷ rest) later)
+        (happen_rest rules Splits is_value w (begin ∷ between) (end ∷ rest) later).0 at phase
+
+    misses : NewestAreAnswered rules first events
+    misses before others h reply looked b q x is few kept newer some =
+        let w : World Content = after_all rules first before in
+        let all : MayAllHappen rules Splits is_value first (before ++ Applies (LoadBegin h false) reply looked ∷ others) = subst (λ es. MayAllHappen rules Splits is_value first es) is happened in
+        let later : MayAllHappen rules Splits is_value w (Applies (LoadBegin h false) reply looked ∷ others) = happen_rest rules Splits is_value first before (Applies (LoadBegin h false) reply looked ∷ others) all in
+        let found = missed_newest_lem rules Splits is_value w h reply looked b q x met
+        (reached before (happen_front rules Splits is_value first before (Applies (LoadBegin h false) reply looked ∷ others) all)) later.0 few kept newer some in
+        let begin : WorldEvent Content = Applies (LoadBegin h false) (replies.Read found.0) looked in (
+          found.0,
+          found.1,
+          λ between rest result answer ended l d split early at phase left.
+              let end : WorldEvent Content = Applies (LoadEnd found.0 result) answer ended in
+              let run : MayAllHappen rules Splits is_value w ((begin ∷ between) ++ end ∷ rest) =
+              subst (λ es. MayAllHappen rules Splits is_value w (begin ∷ es)) split
+              (subst (λ r. MayAllHappen rules Splits is_value w (Applies (LoadBegin h false) r looked ∷ others)) found.1 later) in
+              found.2 between result answer ended l d
+              (happen_front rules Splits is_value w (begin ∷ between) (end ∷ rest) run)
+              (happen_rest rules Splits is_value w (begin ∷ between) (end ∷ rest) run).0 early at phase left,
+        )
+
+    puts : PutsWereQueued rules first events
+    puts h q x among =
+        elim (puts_are_queued_lem rules Splits is_value first events h q x met (first_opened rules bytes) happened among) [
+          | inl none ↦ absurd none
+          | inr queued ↦ queued
+        ]
+
+  -- a run from the first world is lawful
+  pub lawful : {A : Type 0} (moves : List (Move K V P A)) (said : List (Reply K V P A)) (core : Core K V P A) (bytes' : ℕ → ℕ → ℕ)
+      → IsRun m s sound first moves said core bytes' → IsLawful m s sound bytes moves said
+  lawful moves said core bytes' run = record {
+    events = run.events;
+    happened = run.happened;
+    made = run.made;
+    entries = entries run.events run.happened;
+    misses = misses run.events run.happened;
+    puts = puts run.events run.happened;
+  }

@@ -1,0 +1,10 @@
+pub mod BlockLemmas
+pub mod BlockPlaces
+pub mod DueLemmas
+pub mod LawfulLemmas
+pub mod ListLemmas
+pub mod LoadLemmas
+pub mod ReplyLemmas
+pub mod RunLemmas
+pub mod StepLemmas
+pub mod WriteLemmas

@@ -1,0 +1,122 @@
+-- Replies that tell accesses, in the core and in the plain machine.
+use Rattle.std.proofs.Common.{◌≡◌, ℕ, Some, None, refl, sym, ap, ◌∙◌}
+use Rattle.foyer_model.specs.Reply as replies
+use Rattle.foyer_core.specs.Asked.{ticket_of}
+use Rattle.foyer_core.specs.Content.{Content, Meaning}
+use Rattle.foyer_core.specs.Meets.{IsHandedBack}
+use Rattle.foyer_core.specs.Replied.{IsReply}
+use Rattle.foyer_core.specs.declared.reply.Reply.{Reply}
+use Rattle.foyer_core.specs.declared.reply.Reply.TheVariants as reply
+use Rattle.foyer_core.specs.declared.reply.Write.{Write}
+use Rattle.foyer_core.specs.declared.step.Ticket.{Ticket}
+use Rattle.std.specs.declared.vec.Vec.{Vec}
+use Rattle.foyer_run.specs.Running.{ticket_in, block_in}
+use Rattle.foyer_run.proofs.DueLemmas.{TellsNoRead, TellsNoWrite, EndsWrites}
+
+-- which access a reply is about
+data Sort : Type 0 where
+  Reads : Sort
+  Writes : Sort
+  GoesOn : Sort
+  Other : Sort
+
+abbrev sort : replies.Reply Content → Sort
+sort (replies.Read t) = Reads
+sort (replies.Written b ws) = Writes
+sort replies.Next = GoesOn
+sort it = Other
+
+abbrev sort_of : {K V P A : Type 0} → Reply K V P A → Sort
+sort_of (reply.Read t) = Reads
+sort_of (reply.Write b ws) = Writes
+sort_of reply.Next = GoesOn
+sort_of answer = Other
+
+reads_none : (it : replies.Reply Content) → (sort it ≡ Reads → ⊥) → TellsNoRead it
+reads_none (replies.Read t) ne = absurd (ne refl)
+reads_none it ne = tt
+
+writes_none : (it : replies.Reply Content) → (sort it ≡ Writes → ⊥) → TellsNoWrite it
+writes_none (replies.Written b ws) ne = absurd (ne refl)
+writes_none it ne = tt
+
+goes_on : (it : replies.Reply Content) → (sort it ≡ GoesOn → ⊥) → EndsWrites it
+goes_on replies.Next ne = absurd (ne refl)
+goes_on it ne = tt
+
+module _ {K V P A : Type 0} (m : Meaning K V P) where
+  sorted : (answer : Reply K V P A) (it : replies.Reply Content) → IsReply m answer it → sort it ≡ sort_of answer
+  sorted (reply.NotNow back) it is = ap sort is
+  sorted (reply.Refused why back) it is = ap sort is.2
+  sorted (reply.Ignored piece) it is = ap sort is
+  sorted (reply.Queued q) it is = ap sort is
+  sorted (reply.Deleted q) it is = ap sort is
+  sorted reply.Done it is = ap sort is
+  sorted (reply.Answer b) it is = ap sort is
+  sorted reply.Miss it is = ap sort is
+  sorted reply.Throttled it is = ap sort is
+  sorted (reply.Read t) it is = ap sort is
+  sorted (reply.Entry key value age) it is = ap sort is
+  sorted reply.Empty it is = ap sort is
+  sorted (reply.Received back) it is = ap sort is
+  sorted (reply.Began blocks marks) it is = ap sort is.2
+  sorted (reply.Write block writes) it is = ap sort is
+  sorted reply.NoBlock it is = ap sort is
+  sorted reply.Next it is = ap sort is
+  sorted (reply.Committed n) it is = ap sort is
+  sorted reply.Failed it is = ap sort is
+  sorted (reply.Ended pieces waits) it is = ap sort is
+  sorted (reply.Scan block offset len) it is = absurd is
+  sorted reply.Listed it is = absurd is
+  sorted (reply.Clean block) it is = absurd is
+  sorted (reply.Destroying q) it is = absurd is
+  sorted reply.Cleared it is = absurd is
+  sorted (reply.Destroyed ok) it is = absurd is
+
+  not_read : (answer : Reply K V P A) → ticket_in answer ≡ None → sort_of answer ≡ Reads → ⊥
+  not_read (reply.Read t) none e = let f : Some t ≡ None = none in cc
+  not_read (reply.Write b ws) none e = let f : Writes ≡ Reads = e in cc
+  not_read reply.Next none e = let f : GoesOn ≡ Reads = e in cc
+  not_read answer none e = let f : Other ≡ Reads = e in cc
+
+  not_write : (answer : Reply K V P A) → block_in answer ≡ None → sort_of answer ≡ Writes → ⊥
+  not_write (reply.Read t) none e = let f : Reads ≡ Writes = e in cc
+  not_write (reply.Write b ws) none e = let f : Some b ≡ None = none in cc
+  not_write reply.Next none e = let f : GoesOn ≡ Writes = e in cc
+  not_write answer none e = let f : Other ≡ Writes = e in cc
+
+  not_next : (answer : Reply K V P A) → (answer ≡ reply.Next → ⊥) → sort_of answer ≡ GoesOn → ⊥
+  not_next (reply.Read t) none e = let f : Reads ≡ GoesOn = e in cc
+  not_next (reply.Write b ws) none e = let f : Writes ≡ GoesOn = e in cc
+  not_next reply.Next none e = none refl
+  not_next answer none e = let f : Other ≡ GoesOn = e in cc
+
+  pub no_read : (answer : Reply K V P A) (it : replies.Reply Content) → ticket_in answer ≡ None → IsReply m answer it → TellsNoRead it
+  no_read answer it none is = reads_none it (λ e. not_read answer none (sym (sorted answer it is) ∙ e))
+
+  pub no_write : (answer : Reply K V P A) (it : replies.Reply Content) → block_in answer ≡ None → IsReply m answer it → TellsNoWrite it
+  no_write answer it none is = writes_none it (λ e. not_write answer none (sym (sorted answer it is) ∙ e))
+
+  pub no_next : (answer : Reply K V P A) (it : replies.Reply Content) → (answer ≡ reply.Next → ⊥) → IsReply m answer it → EndsWrites it
+  no_next answer it none is = goes_on it (λ e. not_next answer none (sym (sorted answer it is) ∙ e))
+
+  pub reads : (answer : Reply K V P A) (it : replies.Reply Content) (t : Ticket) → ticket_in answer ≡ Some t → IsReply m answer it → it ≡ replies.Read (ticket_of t)
+  reads (reply.Read u) it t e is = let f : Some u ≡ Some t = e in let same : u ≡ t = cc in is ∙ ap (λ k. replies.Read (ticket_of k)) same
+  reads answer it t e is = absurd (let f : None ≡ Some t = e in cc)
+
+-- a step that comes back tells nothing
+pub back_told : {K V P A : Type 0} (answer : Reply K V P A) → IsHandedBack answer → ticket_in answer ≡ None
+back_told (reply.NotNow back) handed = refl
+back_told (reply.Refused why back) handed = refl
+back_told answer handed = absurd handed
+
+pub back_block : {K V P A : Type 0} (answer : Reply K V P A) → IsHandedBack answer → block_in answer ≡ None
+back_block (reply.NotNow back) handed = refl
+back_block (reply.Refused why back) handed = refl
+back_block answer handed = absurd handed
+
+-- a reply into whose block writes are told
+pub writes_are : {K V P A : Type 0} (answer : Reply K V P A) (b : ℕ) → block_in answer ≡ Some b
+    → (writes : Vec (Write A) A) × (answer ≡ reply.Write b writes)
+writes_are (reply.Write c writes) b e = let f : Some c ≡ Some b = e in let same : c ≡ b = cc in (writes, ap (λ k. reply.Write k writes) same)
+writes_are answer b e = absurd (let f : None ≡ Some b = e in cc)

@@ -1,0 +1,12 @@
+use Rattle.std.proofs.Common.{sym, ◌∙◌}
+use Rattle.foyer_core.specs.Content.{meaning}
+use Rattle.foyer_run.specs.Moves.{asked}
+use Rattle.foyer_run.proofs.RunLemmas.{nothing_moves}
+use Rattle.foyer_run.proofs.moves.make.Goals as goal
+
+pub returns-in-Nothing-clause-moved : goal.returns-in-Nothing-clause-moved
+returns-in-Nothing-clause-moved g c = λ s sound first pens w running.
+    nothing_moves (meaning g.K.Code.spelling g.V.Code.spelling g.K.Code.encodes g.V.Code.encodes g.K.Code.is_spelling g.V.Code.is_spelling g.P.Properties.age)
+    s sound first pens (asked c.args.x) c.args.kept.now.tickets.items c.reserve.new.self.items c.args.kept.now.told.items
+    c.args.kept.now.replies.items c.reserve-2.new.self.items c.args.core.now (g.D.Disk.byte_at c.args.disk.now) w running
+    (sym c.ask.ensures.asked ∙ c.in-Nothing.is) c.reserve.ensures.items c.reserve-2.ensures.items

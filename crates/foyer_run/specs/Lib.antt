@@ -1,0 +1,7 @@
+pub mod Disk
+pub mod Due
+pub mod Lawful
+pub mod Moves
+pub mod Running
+pub mod Runs
+pub mod Texts

@@ -1,0 +1,103 @@
+-- What moves make: the events of the world that they name, and the replies of these.
+use Rattle.std.specs.Prelude.{◌≡◌, ℕ, ◌+◌, ◌≤◌, ◌⊎◌, Bool, List, [], ◌∷◌, ◌++◌, Some, None}
+use Rattle.foyer_model.specs.Access.{Pen}
+use Rattle.foyer_model.specs.Reply as replies
+use Rattle.foyer_model.specs.State.{State}
+use Rattle.foyer_model.specs.Step as plain
+use Rattle.foyer_model.specs.World.{World, WorldEvent, Applies, ReadBegins, ReadEnds, WriteBegins, WriteEnds, after_all}
+use Rattle.foyer_core.specs.Asked.{step_of}
+use Rattle.foyer_core.specs.Content.{Content, Meaning}
+use Rattle.foyer_core.specs.Meets.{IsBuilt, IsHandedBack, machine}
+use Rattle.foyer_core.specs.Replied.{IsReply}
+use Rattle.foyer_core.specs.Sizes.{IsSound}
+use Rattle.foyer_core.specs.declared.reply.Reply.{Reply}
+use Rattle.foyer_core.specs.declared.settings.Settings.{Settings}
+use Rattle.foyer_core.specs.declared.step.Step.{Step}
+use Rattle.foyer_core.specs.declared.step.Step.TheVariants as step
+use Rattle.foyer_run.specs.Due.{unread, due}
+use Rattle.foyer_run.specs.declared.moves.Asked.{Asked}
+use Rattle.foyer_run.specs.declared.moves.Asked.TheVariants as asks
+use Rattle.foyer_run.specs.declared.moves.Move.{Move}
+use Rattle.foyer_run.specs.declared.moves.Move.TheVariants as move
+
+-- what a move asks for
+abbrev pub asked : {K V P A : Type 0} → Move K V P A → Asked K V P A
+asked (move.Enqueue piece size) = asks.Step (step.Enqueue piece size)
+asked (move.Delete hash) = asks.Step (step.Delete hash)
+asked (move.Wait flusher id) = asks.Step (step.Wait flusher id)
+asked (move.MayContains hash) = asks.Step (step.MayContains hash)
+asked (move.LoadBegin hash throttled) = asks.Step (step.LoadBegin hash throttled)
+asked (move.LoadEnd ticket) = asks.LoadEnd ticket
+asked (move.Receive flusher) = asks.Step (step.Receive flusher)
+asked (move.FlushBegin flusher) = asks.Step (step.FlushBegin flusher)
+asked (move.FlushBlock flusher) = asks.FlushBlock flusher
+asked (move.FlushWrote flusher) = asks.FlushWrote flusher
+asked (move.LogWrote flusher outcome) = asks.Step (step.LogWrote flusher outcome)
+asked (move.FlushEnd flusher) = asks.Step (step.FlushEnd flusher)
+asked move.ReclaimBegin = asks.Step step.ReclaimBegin
+asked (move.ReclaimRead block) = asks.Nothing
+asked (move.ReclaimForget block) = asks.Step (step.ReclaimForget block)
+asked (move.ReclaimCleaned block) = asks.Nothing
+asked move.ReclaimIdle = asks.Step step.ReclaimIdle
+asked move.DestroyBegin = asks.Step step.DestroyBegin
+asked move.DestroyClear = asks.Step step.DestroyClear
+asked (move.DestroyCleaned block) = asks.Nothing
+asked move.Close = asks.Step step.Close
+
+module _ {K V P A : Type 0} (m : Meaning K V P) where
+  -- these accesses, then this step, with the one reply of it
+  pub record IsApplied (accesses : List (WorldEvent Content)) (given : plain.Step Content) (events : List (WorldEvent Content)) (said : List (Reply K V P A)) : Type 0 where
+    pub it : replies.Reply Content
+    pub after : State Content
+    pub answer : Reply K V P A
+    pub is : events ≡ accesses ++ Applies given it after ∷ []
+    pub said_is : said ≡ answer ∷ []
+    pub reply : IsReply m answer it
+
+  -- nothing happens and nothing is said
+  abbrev pub IsPassed : List (WorldEvent Content) → List (Reply K V P A) → Type 0
+  IsPassed events said = (events ≡ []) × (said ≡ [])
+
+  -- a step that isn't built: nothing happens, and it comes back
+  pub record IsLater (given : Step K V P A) (events : List (WorldEvent Content)) (said : List (Reply K V P A)) : Type 0 where
+    pub answer : Reply K V P A
+    pub later : IsBuilt given → ⊥
+    pub is : events ≡ []
+    pub said_is : said ≡ answer ∷ []
+    pub back : IsHandedBack answer
+
+  abbrev pub IsStepped : Step K V P A → List (WorldEvent Content) → List (Reply K V P A) → Type 0
+  IsStepped given events said = (IsBuilt given × IsApplied [] (step_of m given) events said) ⊎ IsLater given events said
+
+  -- What a move makes in a world, in a run whose first ticket has this number, and that began with these pens. A load
+  -- ends where its read was told and hasn't begun, with that read before it. A write is reported where one is due, with
+  -- that write before it: it is passed over only where none is due, or none was told in this run.
+  abbrev pub Makes : (first : ℕ) → (ℕ → Pen) → World Content → Asked K V P A → List (WorldEvent Content) → List (Reply K V P A) → Type 0
+  Makes first pens w (asks.Step given) events said = IsStepped given events said
+  Makes first pens w (asks.FlushBlock f) events said = IsStepped (step.FlushBlock f) events said
+  Makes first pens w (asks.LoadEnd n) events said =
+      (IsPassed events said × ((unread (w.loads (first + n)) ≡ None) ⊎ (w.told ≤ first + n)))
+      ⊎ ((t : plain.Ticket) × (came : plain.Came) × (unread (w.loads (first + n)) ≡ Some t)
+      × IsApplied (ReadBegins (first + n) ∷ ReadEnds (first + n) came ∷ []) (plain.LoadEnd t came) events said)
+  Makes first pens w (asks.FlushWrote f) events said =
+      (IsPassed events said × ((due (w.pens f) ≡ None) ⊎ (w.pens f ≡ pens f)))
+      ⊎ ((ok : Bool) × (torn : ℕ → ℕ) × (due (w.pens f) ≡ None → ⊥)
+      × IsApplied (WriteBegins f ∷ WriteEnds f ok torn ∷ []) (plain.FlushWrote f ok) events said)
+  Makes first pens w asks.Nothing events said = IsPassed events said
+
+module _ {K V P A : Type 0} (m : Meaning K V P) (s : Settings) (sound : IsSound s) (first : ℕ) (pens : ℕ → Pen) where
+  -- what the first move makes, and what those after it make
+  pub record IsMadeFirst (w : World Content) (x : Move K V P A) (rest : World Content → List (WorldEvent Content) → List (Reply K V P A) → Type 0) (events : List (WorldEvent Content)) (said : List (Reply K V P A)) : Type 0 where
+    pub now : List (WorldEvent Content)
+    pub later : List (WorldEvent Content)
+    pub answers : List (Reply K V P A)
+    pub others : List (Reply K V P A)
+    pub is : events ≡ now ++ later
+    pub said_is : said ≡ answers ++ others
+    pub made : Makes m first pens w (asked x) now answers
+    pub more : rest (after_all (machine m s sound) w now) later others
+
+  -- what moves make, one after the other
+  abbrev pub AreMade : World Content → List (Move K V P A) → List (WorldEvent Content) → List (Reply K V P A) → Type 0
+  AreMade w [] events said = (events ≡ []) × (said ≡ [])
+  AreMade w (x ∷ xs) events said = IsMadeFirst w x (λ v later others. AreMade v xs later others) events said

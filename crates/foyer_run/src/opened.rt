@@ -1,0 +1,62 @@
+//! Runs that begin with an opened core, and what the laws say of them.
+ghost use Rattle.std.specs.Prelude.{◌≡◌, ℕ, IfOk};
+ghost use Rattle.foyer_core.specs.Content.{meaning};
+ghost use Rattle.foyer_core.specs.Sizes.{IsSound};
+ghost use Rattle.foyer_run.specs.Lawful.{IsLawful};
+ghost use Rattle.foyer_run.specs.Texts.{of_texts};
+
+use crate::disk::Disk;
+use crate::memory::MemoryDisk;
+use crate::moves::{Move, run};
+use foyer_core::apply::Env;
+use foyer_core::reply::Reply;
+use foyer_core::settings::Settings;
+use foyer_core::state::Core;
+use foyer_device::error::Result;
+use foyer_format::serde::{Code, Properties};
+use std::alloc::{Allocator, Global};
+
+/// Opens a core that finds nothing, runs the moves over a disk, and gives their replies. `Config` where the settings
+/// don't go together, else `Memory` alone.
+///
+/// The replies are those of events of a world that began with that core over the disk's bytes: what a load answers was
+/// newest of its hash at its look-up; what was newest is answered, or missed for a named cause; and what was put is what
+/// was enqueued.
+pub fn open_and_run<K, V, P, A, D>(
+    alloc: A,
+    settings: Settings,
+    disk: &mut D,
+    moves: Vec<Move<K, V, P, A>, A>,
+) -> Result<Vec<Reply<K, V, P, A>, A>>
+where
+    K: Code<A> + Drop,
+    V: Code<A> + Drop,
+    P: Properties + Drop,
+    A: Allocator + Clone,
+    D: Disk,
+    ensures sound { IfOk result (λ _. IsSound settings) }
+    ensures lawful { IfOk result (λ replies. (sound : IsSound settings) (bytes : ℕ → ℕ → ℕ)
+        → ((b o : ℕ) → bytes b o ≡ D.byte_at disk.old b o) → IsLawful
+        (meaning K.spelling V.spelling K.encodes V.encodes K.is_spelling V.is_spelling P.age)
+        settings sound bytes moves.items replies.items) }
+{
+    let mut core = Core::open(alloc, settings)?;
+    let replies = run(&mut core, &mut Env {}, disk, moves)?;
+    Ok(replies)
+}
+
+/// The same over zeroed memory, for keys that are numbers and values that are texts. `OutOfRange` too, where the sizes'
+/// product passes the type's end.
+pub fn run_texts<P: Properties + Drop>(
+    alloc: Global,
+    settings: Settings,
+    moves: Vec<Move<u64, String<Global>, P, Global>, Global>,
+) -> Result<Vec<Reply<u64, String<Global>, P, Global>, Global>>
+    ensures sound { IfOk result (λ _. IsSound settings) }
+    ensures lawful { IfOk result (λ replies. (sound : IsSound settings)
+        → IsLawful (of_texts P.age) settings sound (λ b o. 0) moves.items replies.items) }
+{
+    let mut disk = MemoryDisk::new(alloc, settings.blocks, settings.block_size)?;
+    let replies = open_and_run(alloc, settings, &mut disk, moves)?;
+    Ok(replies)
+}
