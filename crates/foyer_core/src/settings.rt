@@ -1,5 +1,5 @@
 //! The sizes that a core is opened with.
-ghost use Rattle.std.specs.Prelude.{◌↔◌, IsOk, IsOkUnless};
+ghost use Rattle.std.specs.Prelude.{◌≡◌, ◌^◌, ◌↔◌, IsOk, IsOkUnless};
 ghost use Rattle.foyer_core.specs.Sizes.{IsSound};
 
 use foyer_device::error::{Error, Result};
@@ -39,7 +39,11 @@ pub struct Settings {
 
 impl Settings {
     /// So many blocks of this size; all else at its default.
-    pub fn new(blocks: u32, block_size: usize) -> Settings {
+    pub fn new(blocks: u32, block_size: usize) -> Settings
+        ensures sizes { (result.blocks ≡ blocks) × (result.block_size ≡ block_size) }
+        ensures defaults { (result.blob_index_size ≡ 4096) × (result.flushers ≡ 1) × (result.indexer_shards ≡ 64)
+            × (result.submit_queue_size_threshold ≡ 2 ^ 24) }
+    {
         Settings {
             blocks,
             block_size,

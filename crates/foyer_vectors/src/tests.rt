@@ -1,3 +1,4 @@
+mod every_step;
 mod formats;
 mod program;
 mod steps;
