@@ -1,5 +1,5 @@
 //! Runs of the core over a disk.
-ghost use Rattle.std.specs.Prelude.{◌≡◌, [], replicate, ◌+◌, ◌<◌, ◌≤◌, ℕ, length, vec_len, vec_capacity, slice_get, slice_set, true, false, Some, None, ◌⊎◌, ◌^◌, MatchBool, MatchOption, IfSome, OnOk, OnErr, IfOk, IfErr};
+ghost use Rattle.std.specs.Prelude.{◌≡◌, [], replicate, ◌+◌, ◌<◌, ◌≤◌, ℕ, length, vec_len, vec_capacity, slice_get, slice_set, true, false, Some, None, ◌⊎◌, ◌^◌, MatchBool, MatchOption, IfSome, IsOk, OnOk, OnErr, IfOk, IfErr};
 ghost use Rattle.foyer_device.specs.declared.error.Error.TheVariants.{Memory};
 ghost use Rattle.foyer_format.specs.Page.{page_up};
 ghost use Rattle.foyer_core.specs.Content.{meaning};
@@ -111,6 +111,8 @@ pub fn read_told<A: Allocator, D: Disk>(
         IsRead (D.byte_at disk.old) ticket.now.address.block ticket.now.address.offset bytes.items)) }
     ensures len { IfOk result (λ outcome. IfOk outcome (λ bytes.
         vec_len bytes ≡ page_up ticket.now.address.len)) }
+    ensures succeeds { D.surely_has disk.old ticket.now.address.block ticket.now.address.offset (page_up ticket.now.address.len)
+        → IfOk result IsOk }
     ensures same { D.byte_at disk.new ≡ D.byte_at disk.old }
 {
     let len = ticket.read_len();
@@ -132,6 +134,7 @@ pub fn write_told<A: Allocator, D: Disk>(
         (IsWritten (D.byte_at disk.old) block write.now.offset write.now.bytes.items (D.byte_at disk.new)) }
     ensures torn { OnErr result
         (IsTorn (D.byte_at disk.old) block write.now.offset (vec_len write.now.bytes) (D.byte_at disk.new)) }
+    ensures succeeds { D.surely_has disk.old block write.now.offset (vec_len write.now.bytes) → IsOk result }
 {
     disk.write(block, write.offset, write.bytes.as_slice())
 }
