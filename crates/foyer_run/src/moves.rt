@@ -497,8 +497,9 @@ fn begin<K, V, P, A: Allocator + Clone>(
 /// Runs the moves in order, and gives the replies of those that were steps.
 ///
 /// An access that a reply told is done when its move comes, once, and a fault of the disk is the step's result. A move
-/// whose access wasn't told in this run, or is done, is passed over. `Memory` where the result of an access, or the
-/// list of replies, couldn't be had: then some front of the moves was run, and the others are dropped.
+/// whose access wasn't told in this run, or is done, is passed over; so is a write behind one that failed, or behind one
+/// whose report came back. `Memory` where the result of an access, or the list of replies, couldn't be had: then some
+/// front of the moves was run, and the others are dropped.
 pub fn run<K, V, P, A, D>(
     core: &mut Core<K, V, P, A>,
     env: &mut Env,
