@@ -1,5 +1,5 @@
 -- The laws of a run that began with an opened core.
-use Rattle.std.proofs.Common.{ℕ, false, List, [], ◌∷◌, ◌++◌, inl, inr, refl, subst}
+use Rattle.std.proofs.Common.{◌≡◌, ℕ, false, List, [], ◌∷◌, ◌++◌, inl, inr, Some, refl, sym, ap, subst, ◌∙◌}
 use Rattle.foyer_model.specs.Laws.{Demands, IsReached}
 use Rattle.foyer_model.specs.Reply as replies
 use Rattle.foyer_model.specs.Rules.{Rules, Splitting}
@@ -18,9 +18,12 @@ use Rattle.foyer_core.specs.declared.settings.Settings.{Settings}
 use Rattle.foyer_core.specs.declared.state.Core.{Core}
 use Rattle.foyer_core.proofs.LawLemmas.{demands}
 use Rattle.foyer_core.proofs.OpenedLemmas.{first_opened}
-use Rattle.foyer_run.specs.Lawful.{EntriesAreNewest, NewestAreAnswered, PutsWereQueued, IsLawful}
+use Rattle.foyer_run.specs.Lawful.{AnswersAreNewest, EntriesAreNewest, NewestAreAnswered, PutsWereQueued, IsLawful}
 use Rattle.foyer_run.specs.Runs.{IsRun}
 use Rattle.foyer_run.specs.declared.moves.Move.{Move}
+use Rattle.foyer_run.proofs.ListLemmas.{append_twice}
+use Rattle.foyer_run.proofs.LookUpLemmas.{IsLookedUp, all_looked_up}
+use Rattle.foyer_run.proofs.RunLemmas.{after_more}
 
 happen_front : {C : Type 0} (rules : Rules C) (Splits : Splitting C) (is_value : C → Type 0) (w : World C) (xs ys : List (WorldEvent C))
     → MayAllHappen rules Splits is_value w (xs ++ ys) → MayAllHappen rules Splits is_value w xs
@@ -64,6 +67,30 @@ module _ {K V P : Type 0} (m : Meaning K V P) (s : Settings) (sound : IsSound s)
         (happen_front rules Splits is_value w (begin ∷ between) (end ∷ rest) later)
         (happen_rest rules Splits is_value w (begin ∷ between) (end ∷ rest) later).0 at phase
 
+    answers : AnswersAreNewest rules first events
+    answers before rest t result c age ended is =
+        let end : WorldEvent Content = Applies (LoadEnd t result) (replies.Entry c age) ended in
+        let all : MayAllHappen rules Splits is_value first (before ++ end ∷ rest) = subst (λ es. MayAllHappen rules Splits is_value first es) is happened in
+        let fed = (happen_rest rules Splits is_value first before (end ∷ rest) all).0.0 in
+        let found = subst (λ u. IsLookedUp rules Splits is_value first before fed.0 u) fed.3
+        (all_looked_up rules Splits is_value first before (λ n. refl) (happen_front rules Splits is_value first before (end ∷ rest) all) fed.0 fed.1 fed.2) in
+        let look : WorldEvent Content = Applies (LoadBegin found.hash found.throttled) (replies.Read t) found.looked in
+        let w : World Content = after_all rules first found.earlier in
+        let here : (after_all rules w (look ∷ found.between)).loads w.told ≡ Some fed.1 =
+        ap (λ n. (after_all rules w (look ∷ found.between)).loads n) found.number
+        ∙ ap (λ v. v.loads fed.0) (sym (after_more rules first found.earlier (look ∷ found.between)) ∙ ap (after_all rules first) (sym found.is)) ∙ fed.2 in
+        record {
+          earlier = found.earlier;
+          between = found.between;
+          hash = found.hash;
+          throttled = found.throttled;
+          looked = found.looked;
+          is = found.is;
+          put =
+              entries found.earlier found.between rest found.hash found.throttled t found.looked result c age ended fed.1
+              (is ∙ ap (λ es. es ++ end ∷ rest) found.is ∙ append_twice found.earlier (look ∷ found.between) (end ∷ rest)) here fed.4;
+        }
+
     misses : NewestAreAnswered rules first events
     misses before others h reply looked b q x is few kept newer some =
         let w : World Content = after_all rules first before in
@@ -98,6 +125,7 @@ module _ {K V P : Type 0} (m : Meaning K V P) (s : Settings) (sound : IsSound s)
     events = run.events;
     happened = run.happened;
     made = run.made;
+    answers = answers run.events run.happened;
     entries = entries run.events run.happened;
     misses = misses run.events run.happened;
     puts = puts run.events run.happened;

@@ -4,6 +4,7 @@ pub mod DueLemmas
 pub mod LawfulLemmas
 pub mod ListLemmas
 pub mod LoadLemmas
+pub mod LookUpLemmas
 pub mod ReplyLemmas
 pub mod RunLemmas
 pub mod StepLemmas

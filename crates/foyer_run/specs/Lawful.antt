@@ -32,6 +32,22 @@ module _ {C : Type 0} (rules : Rules C) (first : World C) (events : List (WorldE
       → l.phase ≡ HasRead result
       → newest h (after_all rules first before).history ≡ Some (Put h t.address.sequence (Holds c))
 
+  -- a look-up in these events told the read of this ticket, and this content was newest of its hash at that look-up
+  pub record WasNewest (before : List (WorldEvent C)) (t : Ticket) (c : C) : Type 0 where
+    pub earlier : List (WorldEvent C)
+    pub between : List (WorldEvent C)
+    pub hash : ℕ
+    pub throttled : Bool
+    pub looked : State C
+    pub is : before ≡ earlier ++ Applies (LoadBegin hash throttled) (replies.Read t) looked ∷ between
+    pub put : newest hash (after_all rules first earlier).history ≡ Some (Put hash t.address.sequence (Holds c))
+
+  -- whatever a load ends with was newest of its hash at its look-up
+  abbrev pub AnswersAreNewest : Type 0
+  AnswersAreNewest =
+      (before rest : List (WorldEvent C)) (t : Ticket) (result : Came) (c : C) (age : Age) (ended : State C)
+      → events ≡ before ++ Applies (LoadEnd t result) (replies.Entry c age) ended ∷ rest → WasNewest before t c
+
   -- Where the newest event of a hash was the put of a record, the look-up told a read, and the load by the bytes of that
   -- read was answered by that record, or by the cause that is named for it.
   abbrev pub NewestAreAnswered : Type 0
@@ -60,6 +76,7 @@ pub record IsLawful {K V P A : Type 0} (m : Meaning K V P) (s : Settings) (sound
   pub events : List (WorldEvent Content)
   pub happened : MayAllHappen (machine m s sound) (IsInOneBlock s.blob_index_size) (IsSpelled m.is_key m.is_value) (first_world (machine m s sound) bytes) events
   pub made : AreMade m s sound 0 (λ f. Rest) (first_world (machine m s sound) bytes) moves events said
+  pub answers : AnswersAreNewest (machine m s sound) (first_world (machine m s sound) bytes) events
   pub entries : EntriesAreNewest (machine m s sound) (first_world (machine m s sound) bytes) events
   pub misses : NewestAreAnswered (machine m s sound) (first_world (machine m s sound) bytes) events
   pub puts : PutsWereQueued (machine m s sound) (first_world (machine m s sound) bytes) events
