@@ -1,15 +1,14 @@
 //! Records of one value, laid out one behind another.
 ghost use Rattle.std.specs.Prelude.{◌≡◌, ◌+◌, ◌*◌, ◌^◌, ◌<◌, ◌≤◌, [], length, IfOk, IfErr, OnOk};
 ghost use Rattle.foyer_device.specs.declared.error.Error.{Error as error};
-ghost use Rattle.foyer_format.specs.BlockBytes.{Each};
+ghost use Rattle.foyer_buffer.specs.BlockBytes.{Each};
 ghost use Rattle.foyer_format.specs.Page.{page_up};
-ghost use Rattle.foyer_format.specs.Entries.{left_of};
+ghost use Rattle.foyer_buffer.specs.Entries.{left_of};
 ghost use Rattle.foyer_ffi.specs.Placed.{AreRecords, IsStop, greatest, record_len};
 
+use foyer_buffer::{Batch, Buffer, SplitCtx, Splitter};
 use foyer_device::error::{Error, Result};
 use foyer_device::io::bytes::IoSliceMut;
-use foyer_format::block::buffer::entries::Buffer;
-use foyer_format::block::buffer::{Batch, SplitCtx, Splitter};
 use foyer_format::compress::Compression;
 use std::alloc::Global;
 

@@ -1,5 +1,4 @@
 mod every_step;
-mod formats;
 mod program;
 mod steps;
 mod sweeps;

@@ -9,6 +9,3 @@ pub use raw::{PAGE, Raw};
 pub use slices::IoSlice;
 pub use slices_mut::IoSliceMut;
 pub use views::{IoB, IoBuf, IoBufMut};
-
-#[cfg(test)]
-mod tests;

@@ -14,42 +14,11 @@ use reserved::Reserved;
 use std::alloc::Allocator;
 use std::marker::Model;
 
-mod blob;
-pub mod entries;
-mod laws;
-mod pages;
 mod reserved;
-mod split;
-mod splitting;
 
-pub use blob::{BlobEntryIndex, BlobIndex, BlobIndexReader};
-pub use laws::{
-    batch_is_blocks, block_is_laid, finished_fits, fresh_holds, held_is_listed, listing_vectors,
-    one_list, records_are_entries, written_holds,
-};
-pub use split::{Batch, BlobPart, Block, SplitCtx, Splitter};
-
-/// Where a record stands in a buffer: its first byte, and its length without the padding.
-#[derive(Clone, Debug, Drop)]
-pub struct BufferEntryInfo {
-    pub hash: u64,
-    pub sequence: Sequence,
-    pub offset: usize,
-    pub len: usize,
-}
-
-impl BufferEntryInfo {
-    /// The bytes that the record takes with its padding.
-    pub fn aligned(&self) -> usize
-        requires { page_up self.now.len < 2 ^ 64 }
-        ensures { result ≡ page_up self.now.len }
-    {
-        whole_pages(self.len)
-    }
-}
-
+/// The least whole number of pages that has so many bytes, in bytes.
 #[tactic(auto, unfolding(crate::specs::Page::page_up))]
-fn whole_pages(len: usize) -> usize
+pub fn whole_pages(len: usize) -> usize
     requires { page_up len < 2 ^ 64 }
     ensures { result ≡ page_up len }
 {

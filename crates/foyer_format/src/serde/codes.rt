@@ -38,6 +38,3 @@ pub fn code_vectors()
     ensures flag { FlagVector }
     ensures text { TextVector }
 {}
-
-#[cfg(test)]
-mod tests;

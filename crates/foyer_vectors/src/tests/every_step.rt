@@ -1,6 +1,5 @@
 //! A script of every step that is built: each allocation refused in turn, and each call of its disk failed in turn.
 use crate::failing::Failing;
-use crate::refusing::Refusing;
 use crate::tests::steps::{TestCore, TestReply, Told, Value, word_of};
 use foyer_core::apply::Env;
 use foyer_core::reply::Reply;
@@ -8,6 +7,7 @@ use foyer_core::settings::Settings;
 use foyer_core::state::Core;
 use foyer_core::step::{Step, Ticket};
 use foyer_device::error::{Error, Result};
+use foyer_format_vectors::refusing::Refusing;
 use foyer_policy::keeper::Piece;
 use foyer_run::memory::MemoryDisk;
 use foyer_run::moves::{read_told, write_told};

@@ -1,5 +1,4 @@
 //! Each allocation refused in turn, and each read and write failed in turn.
-use crate::refusing::Refusing;
 use crate::tests::program::told;
 use crate::tests::steps::{TestCore, TestReply, Told, check, word_of};
 use foyer_core::apply::Env;
@@ -8,6 +7,7 @@ use foyer_core::settings::Settings;
 use foyer_core::state::Core;
 use foyer_core::step::Step;
 use foyer_device::error::{Error, ErrorKind};
+use foyer_format_vectors::refusing::Refusing;
 use foyer_policy::keeper::Piece;
 use foyer_run::memory::MemoryDisk;
 use foyer_run::moves::{read_told, write_told};

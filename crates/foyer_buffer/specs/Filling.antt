@@ -1,0 +1,60 @@
+-- How far a block is filled, and the entries of records that stand one behind another.
+use Rattle.std.specs.Prelude.{ℕ, ◌+◌, ◌<◌, ◌≤◌, List, [], ◌∷◌, ◌++◌}
+use Rattle.foyer_format.specs.Page.{page_up}
+use Rattle.foyer_buffer.specs.declared.BufferEntryInfo.{BufferEntryInfo}
+use Rattle.foyer_buffer.specs.declared.blob.BlobEntryIndex.{BlobEntryIndex}
+
+-- of a block and of a blob's index, in bytes
+pub record Sizes : Type 0 where
+  pub block : ℕ
+  pub index : ℕ
+
+-- How far a filling of a block has come: its present blob begins at blob, the next data stand at
+-- this offset of the blob, and its index lists these.
+pub record Filling : Type 0 where
+  pub blob : ℕ
+  pub at : ℕ
+  pub listed : List BlobEntryIndex
+
+-- where its data end in the block
+abbrev pub end_of : Filling → ℕ
+end_of f = f.blob + f.at
+
+-- of a block into which nothing was written
+abbrev pub fresh : Sizes → Filling
+fresh s = record { blob = 0; at = s.index; listed = [] }
+
+-- the next blob begins where the data of the blob before it end
+abbrev pub next_blob : Sizes → Filling → Filling
+next_blob s f = record { blob = end_of f; at = s.index; listed = [] }
+
+-- where a splitter goes on
+pub record Context : Type 0 where
+  pub sizes : Sizes
+  pub filling : Filling
+
+-- at the start of a block
+abbrev pub fresh_context : Sizes → Context
+fresh_context s = record { sizes = s; filling = fresh s }
+
+-- how many bytes records take, each padded to whole pages
+unfoldable pub taken : List BufferEntryInfo → ℕ
+taken [] = 0
+taken (i ∷ is) = page_up i.len + taken is
+
+-- the entries of records that stand one behind another, the first at this offset
+unfoldable pub entries_from : ℕ → List BufferEntryInfo → List BlobEntryIndex
+entries_from at [] = []
+entries_from at (i ∷ is) =
+    record { hash = i.hash; sequence = i.sequence; offset = at; len = i.len }
+    ∷ entries_from (at + page_up i.len) is
+
+-- the filling with these records behind it
+abbrev pub with_records : Filling → List BufferEntryInfo → Filling
+with_records f now =
+    record { blob = f.blob; at = f.at + taken now; listed = f.listed ++ entries_from f.at now }
+
+-- the record isn't empty, and fits into a block into which nothing was written
+pub record FitsBlock (s : Sizes) (i : BufferEntryInfo) : Type 0 where
+  pub some : 0 < i.len
+  pub room : s.index + page_up i.len ≤ s.block

@@ -1,0 +1,13 @@
+pub mod Blob
+pub mod BlobVectors
+pub mod BlockBytes
+pub mod Entries
+pub mod Filling
+pub mod Fills
+pub mod Holding
+pub mod Listing
+pub mod OpenIndex
+pub mod Placing
+pub mod PlacingLaws
+pub mod Splitting
+pub mod Stored

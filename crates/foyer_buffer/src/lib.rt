@@ -1,0 +1,43 @@
+//! A flush's records in memory and over blocks: the buffer that they are written into, the index that a blob begins with,
+//! and the splitter that lays them out over blocks, blobs and parts.
+#![tactic(auto)]
+
+ghost use Rattle.std.specs.Prelude.{◌≡◌, ◌<◌, ◌^◌};
+ghost use Rattle.foyer_format.specs.Page.{page_up};
+
+use foyer_format::block::buffer::whole_pages;
+use foyer_format::block::serde::Sequence;
+
+mod blob;
+mod entries;
+mod laws;
+mod pages;
+mod split;
+mod splitting;
+
+pub use blob::{BlobEntryIndex, BlobIndex, BlobIndexReader};
+pub use entries::Buffer;
+pub use laws::{
+    batch_is_blocks, block_is_laid, finished_fits, fresh_holds, held_is_listed, listing_vectors,
+    one_list, records_are_entries, written_holds,
+};
+pub use split::{Batch, BlobPart, Block, SplitCtx, Splitter};
+
+/// Where a record stands in a buffer: its first byte, and its length without the padding.
+#[derive(Clone, Debug, Drop)]
+pub struct BufferEntryInfo {
+    pub hash: u64,
+    pub sequence: Sequence,
+    pub offset: usize,
+    pub len: usize,
+}
+
+impl BufferEntryInfo {
+    /// The bytes that the record takes with its padding.
+    pub fn aligned(&self) -> usize
+        requires { page_up self.now.len < 2 ^ 64 }
+        ensures { result ≡ page_up self.now.len }
+    {
+        whole_pages(self.len)
+    }
+}

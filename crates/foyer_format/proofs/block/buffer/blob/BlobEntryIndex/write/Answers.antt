@@ -1,5 +1,0 @@
-use Rattle.std.proofs.Common.{arith}
-use Rattle.foyer_format.proofs.block.buffer.blob.BlobEntryIndex.write.Goals as goal
-
-pub returns-clause-fits : goal.returns-clause-fits
-returns-clause-fits c = record { hash = omega arith; sequence = omega arith; offset = omega arith; len = omega arith }

@@ -1,7 +1,0 @@
-use Rattle.std.proofs.Common.{arith, ap, ℕ, ◌-◌, ◌/◌}
-use Rattle.foyer_format.proofs.block.buffer.blob.BlobIndex.new.Goals as goal
-
-pub invariant_of-result : goal.invariant_of-result
-invariant_of-result g c =
-    let len = c.len.ensures in
-    (omega (arith, len.value, len.pages, c.requires.some), c.requires.small, ap (λ (n : ℕ). (n - 12) / 24) len.value, omega arith)

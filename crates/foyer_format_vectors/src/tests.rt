@@ -1,0 +1,4 @@
+mod batches;
+mod buffers;
+mod codes;
+mod formats;

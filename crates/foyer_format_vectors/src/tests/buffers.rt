@@ -1,0 +1,59 @@
+//! Buffers of pages, shared and written.
+use foyer_device::error::Error;
+use foyer_device::io::bytes::{IoB, IoBuf, IoBufMut, IoSliceMut, PAGE, Raw};
+use std::test::Fail;
+
+fn fill<B: IoBufMut>(buffer: &mut B, byte: u8) {
+    for b in buffer.as_mut_slice() {
+        *b = byte;
+    }
+}
+
+fn sum<B: IoBuf>(buffer: B) -> u64 {
+    let mut all = 0u64;
+    for b in buffer.into_iob().as_slice() {
+        all = all.saturating_add(u64::from(*b));
+    }
+    all
+}
+
+#[test]
+fn a_buffer_is_written_by_its_only_owner(rt: HostRuntime) -> Result<(), Fail> {
+    let mut buffer = IoSliceMut::new(rt.alloc(), PAGE + 1)?;
+    assert_eq!(rt; buffer.len(), 2 * PAGE);
+    if let Some(b) = buffer.as_mut_slice().get_mut(PAGE) {
+        *b = 7;
+    }
+    let all = buffer.into_io_slice(rt.alloc()).map_err(Error::from)?;
+    assert_eq!(rt; all.len(), 2 * PAGE);
+    let second = all.slice(PAGE..2 * PAGE)?;
+    assert_eq!(rt; second.len(), PAGE);
+    assert_eq!(rt; second.as_slice().first(), Some(&7));
+    let again = all.slice(PAGE..2 * PAGE)?;
+    assert!(rt; second == again);
+    let first = all.slice(0..PAGE)?;
+    assert!(rt; second != first);
+    drop(again);
+    drop(first);
+    assert!(rt; second.try_into_io_slice_mut().is_none());
+    match all.try_into_io_slice_mut() {
+        None => assert!(rt; false, "the last owner"),
+        Some(mut buffer) => {
+            fill(&mut buffer, 1);
+            assert_eq!(rt; sum(buffer), 8192);
+        }
+    }
+    Ok(())
+}
+
+#[test]
+fn a_clone_is_apart(rt: HostRuntime) -> Result<(), Fail> {
+    let mut raw = Raw::new(rt.alloc(), PAGE)?;
+    let copy = raw.clone()?;
+    assert!(rt; raw == copy);
+    fill(&mut raw, 2);
+    assert!(rt; raw != copy);
+    assert_eq!(rt; sum(raw), 8192);
+    assert_eq!(rt; sum(copy), 0);
+    Ok(())
+}
