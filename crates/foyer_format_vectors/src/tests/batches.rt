@@ -164,8 +164,36 @@ fn split_again<A: Allocator + Clone>(
     }
 }
 
-// Fills a buffer with nine entries, and tries one that is too long; then splits it. With the long
-// entry in front the list of them grows at a slice, with it at the end at a record.
+// Fills a buffer with nine entries, and tries one that is too long. With the long entry in front
+// the list of them grows at a slice, with it at the end at a record.
+fn fill<A: Allocator>(
+    told: &mut Told,
+    buffer: &mut Buffer<A>,
+    slices: &Slices,
+    is_long_first: bool,
+) -> Result<()> {
+    if is_long_first {
+        push_slice_again(told, buffer, slices.long.as_slice(), 7)?;
+    }
+    for key in 0..4 {
+        push_again(told, buffer, key)?;
+        push_slice_again(told, buffer, b"record", key)?;
+    }
+    push_slice_again(told, buffer, slices.too_long.as_slice(), 8)?;
+    if !is_long_first {
+        push_slice_again(told, buffer, slices.long.as_slice(), 7)?;
+    }
+    Ok(())
+}
+
+fn share_again<A: Allocator + Clone>(heap: &A, pages: IoSliceMut<A>) -> Result<IoSlice<A>> {
+    match pages.into_io_slice(heap.clone()?) {
+        Ok(bytes) => Ok(bytes),
+        Err(back) => Ok(back.value.into_io_slice(heap.clone()?)?),
+    }
+}
+
+// Fills a buffer, and splits what it has.
 fn flush<A: Allocator + Clone>(
     told: &mut Told,
     heap: &A,
@@ -176,25 +204,11 @@ fn flush<A: Allocator + Clone>(
     requires room { ctx.old.sizes.index + 12288 ≤ ctx.old.sizes.block }
     ensures { ctx.new.sizes ≡ ctx.old.sizes }
 {
-    let pages = pages_again(heap, ROOM)?;
-    let mut buffer = Buffer::new(heap.clone()?, pages, GREATEST);
-    if is_long_first {
-        push_slice_again(told, &mut buffer, slices.long.as_slice(), 7)?;
-    }
-    for key in 0..4 {
-        push_again(told, &mut buffer, key)?;
-        push_slice_again(told, &mut buffer, b"record", key)?;
-    }
-    push_slice_again(told, &mut buffer, slices.too_long.as_slice(), 8)?;
-    if !is_long_first {
-        push_slice_again(told, &mut buffer, slices.long.as_slice(), 7)?;
-    }
+    let mut buffer = Buffer::new(heap.clone()?, pages_again(heap, ROOM)?, GREATEST);
+    fill(told, &mut buffer, slices, is_long_first)?;
     let (pages, infos) = buffer.finish();
     tell_infos(told, pages.as_slice(), infos.as_slice())?;
-    let bytes = match pages.into_io_slice(heap.clone()?) {
-        Ok(bytes) => bytes,
-        Err(back) => back.value.into_io_slice(heap.clone()?)?,
-    };
+    let bytes = share_again(heap, pages)?;
     let batch = split_again(heap, ctx, &bytes, infos.as_slice())?;
     tell_batch(told, &batch)
 }
