@@ -111,3 +111,12 @@ module _ {K V P A : Type 0} (m : Meaning K V P) (s : Settings) (sound : IsSound 
                 (subst (λ r. IsDue (pens g) (said ++ reply.Write b written.0 ∷ []) (at (slice_get (slice_set told f (Some (first_told b (length said)))) g)) (pens_after r (plain.FlushBlock f) w.pens g)) (sym it_is)
                 (told_due f b pens w.pens told said written.0 within running.writes g))),
           )
+
+  -- a flusher that is told writes is there
+  pub flusher_there : (f b : ℕ) (answer : Reply K V P A) (new : Core K V P A) (w : World Content) → IsMet m s sound (step.FlushBlock f) answer new w.core → block_in answer ≡ Some b → f < s.flushers
+  flusher_there f b answer new w met is =
+      let written = writes_are answer b is in
+      let it_is : met.it ≡ replies.Written b (map write_of (written.0).items) = subst (λ r. IsReply m r met.it) written.1 met.reply in
+      let follows : Follows (machine m s sound) (IsInOneBlock s.blob_index_size) w.core (plain.FlushBlock f) (replies.Written b (map write_of (written.0).items)) met.after =
+      subst (λ r. Follows (machine m s sound) (IsInOneBlock s.blob_index_size) w.core (plain.FlushBlock f) r met.after) it_is met.follows in
+      (follows.1).0

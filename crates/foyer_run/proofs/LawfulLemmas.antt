@@ -25,7 +25,7 @@ use Rattle.foyer_run.proofs.ListLemmas.{append_twice}
 use Rattle.foyer_run.proofs.LookUpLemmas.{IsLookedUp, all_looked_up}
 use Rattle.foyer_run.proofs.RunLemmas.{after_more}
 
-happen_front : {C : Type 0} (rules : Rules C) (Splits : Splitting C) (is_value : C → Type 0) (w : World C) (xs ys : List (WorldEvent C))
+pub happen_front : {C : Type 0} (rules : Rules C) (Splits : Splitting C) (is_value : C → Type 0) (w : World C) (xs ys : List (WorldEvent C))
     → MayAllHappen rules Splits is_value w (xs ++ ys) → MayAllHappen rules Splits is_value w xs
 happen_front rules Splits is_value w [] ys all = tt
 happen_front rules Splits is_value w (x ∷ xs) ys all = (all.0, happen_front rules Splits is_value (after rules w x) xs ys all.1)

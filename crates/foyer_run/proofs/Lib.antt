@@ -1,3 +1,4 @@
+pub mod AccessLemmas
 pub mod BlockLemmas
 pub mod BlockPlaces
 pub mod DueLemmas
@@ -5,6 +6,7 @@ pub mod LawfulLemmas
 pub mod ListLemmas
 pub mod LoadLemmas
 pub mod LookUpLemmas
+pub mod NewestLemmas
 pub mod ReplyLemmas
 pub mod RunLemmas
 pub mod StepLemmas

@@ -66,20 +66,20 @@ module _ {K V P : Type 0} (m : Meaning K V P) (s : Settings) (sound : IsSound s)
       go None is e = inr (let past : length tickets ≤ n = past_end tickets n is in let count : w.told ≡ first + length tickets = running.count in omega arith)
 
   -- the world when the read has begun, and when it has ended
-  abbrev begins : World Content → ℕ → World Content
+  abbrev pub begins : World Content → ℕ → World Content
   begins w k = after rules w (ReadBegins k)
 
-  abbrev ends : World Content → ℕ → plain.Came → World Content
+  abbrev pub ends : World Content → ℕ → plain.Came → World Content
   ends w k result = after rules (begins w k) (ReadEnds k result)
 
-  abbrev load_at : plain.Ticket → Option (history.Event Content) → Option ℕ → Phase → Load Content
+  abbrev pub load_at : plain.Ticket → Option (history.Event Content) → Option ℕ → Phase → Load Content
   load_at t p k phase = record { ticket = t; promise = p; phase = phase; kept = k }
 
-  began : (w : World Content) (k : ℕ) (t : plain.Ticket) (p : Option (history.Event Content)) (kept : Option ℕ) → w.loads k ≡ Some (load_at t p kept Unread)
+  pub began : (w : World Content) (k : ℕ) (t : plain.Ticket) (p : Option (history.Event Content)) (kept : Option ℕ) → w.loads k ≡ Some (load_at t p kept Unread)
       → (begins w k).loads k ≡ Some (load_at t p kept (Reading (covers rules w t.address.block)))
   began w k t p kept is = put_same w.loads k (at_load (begun (covers rules w)) (w.loads k)) ∙ ap (at_load (begun (covers rules w))) is
 
-  ended : (w : World Content) (k : ℕ) (result : plain.Came) (t : plain.Ticket) (p : Option (history.Event Content)) (kept : Option ℕ) → w.loads k ≡ Some (load_at t p kept Unread)
+  pub ended : (w : World Content) (k : ℕ) (result : plain.Came) (t : plain.Ticket) (p : Option (history.Event Content)) (kept : Option ℕ) → w.loads k ≡ Some (load_at t p kept Unread)
       → (ends w k result).loads k ≡ Some (load_at t p kept (HasRead result))
   ended w k result t p kept is =
       put_same (begins w k).loads k (at_load (λ _. came result) ((begins w k).loads k)) ∙ ap (at_load (λ _. came result)) (began w k t p kept is)
@@ -90,7 +90,7 @@ module _ {K V P : Type 0} (m : Meaning K V P) (s : Settings) (sound : IsSound s)
       ∙ put_other w.loads k (at_load (begun (covers rules w)) (w.loads k)) j ne
 
   -- the disk's bytes are what the world's read gives
-  gives : {A : Type 0} (w : World Content) (bytes : ℕ → ℕ → ℕ) (ticket : Ticket) (outcome : Result (Vec ℕ A) Error) (seen : ℕ → Bool) → ((b o : ℕ) → w.bytes b o ≡ bytes b o) → IsCome bytes ticket outcome
+  pub gives : {A : Type 0} (w : World Content) (bytes : ℕ → ℕ → ℕ) (ticket : Ticket) (outcome : Result (Vec ℕ A) Error) (seen : ℕ → Bool) → ((b o : ℕ) → w.bytes b o ≡ bytes b o) → IsCome bytes ticket outcome
       → IsReadFrom (w.bytes ticket.address.block) ticket.address.offset (page_up ticket.address.len) (Reading seen) (came_of outcome)
   gives w bytes ticket (Ok got) seen same is =
       (is.1, λ i lt free. is.0 i lt ∙ sym (same ticket.address.block (ticket.address.offset + i)))

@@ -1,7 +1,9 @@
+pub mod Accesses
 pub mod Disk
 pub mod Due
 pub mod Lawful
 pub mod Moves
+pub mod Newest
 pub mod Running
 pub mod Runs
 pub mod Texts

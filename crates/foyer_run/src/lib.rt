@@ -1,6 +1,7 @@
 //! Runs of the core over a disk: each access that a reply tells is done once, and its true result is brought.
 #![tactic(auto)]
 
+pub mod accesses;
 pub mod disk;
 pub mod memory;
 pub mod moves;

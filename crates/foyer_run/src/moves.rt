@@ -190,7 +190,7 @@ fn ask<K, V, P, A: Allocator>(x: Move<K, V, P, A>) -> Asked<K, V, P, A>
 }
 
 // The ticket that a reply tells.
-fn told_ticket<K, V, P, A: Allocator>(reply: &Reply<K, V, P, A>) -> Option<Ticket>
+pub(crate) fn told_ticket<K, V, P, A: Allocator>(reply: &Reply<K, V, P, A>) -> Option<Ticket>
     ensures { result ≡ ticket_in reply.now }
 {
     match reply {
@@ -200,7 +200,7 @@ fn told_ticket<K, V, P, A: Allocator>(reply: &Reply<K, V, P, A>) -> Option<Ticke
 }
 
 // The block into which a reply tells writes.
-fn told_block<K, V, P, A: Allocator>(reply: &Reply<K, V, P, A>) -> Option<BlockId>
+pub(crate) fn told_block<K, V, P, A: Allocator>(reply: &Reply<K, V, P, A>) -> Option<BlockId>
     ensures { result ≡ block_in reply.now }
 {
     match reply {
@@ -224,7 +224,7 @@ fn note_ticket<K, V, P, A: Allocator>(
 }
 
 // Whether a write went well, and the block has another.
-fn goes_on<K, V, P, A: Allocator>(went_well: bool, reply: &Reply<K, V, P, A>) -> bool
+pub(crate) fn goes_on<K, V, P, A: Allocator>(went_well: bool, reply: &Reply<K, V, P, A>) -> bool
     ensures { MatchBool result
         ((went_well ≡ true) × (reply.now ≡ Reply.Next))
         ((went_well ≡ false) ⊎ (reply.now ≡ Reply.Next → ⊥)) }

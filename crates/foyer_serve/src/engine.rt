@@ -1,17 +1,18 @@
 //! The engine that the program keeps: a core over a disk in memory, driven on one thread.
 ghost use Rattle.std.specs.Prelude.{None};
+ghost use Rattle.foyer_serve.specs.Texts.{IsNewestText};
 
 use foyer_core::apply::Env;
-use foyer_core::reply::{Reply, Write};
+use foyer_core::reply::Reply;
 use foyer_core::settings::Settings;
 use foyer_core::state::Core;
 use foyer_core::step::Step;
 use foyer_device::error::{ErrorKind, Result};
 use foyer_format::serde::{Age, EntrySerializer, Properties};
 use foyer_policy::keeper::Piece;
+use foyer_run::accesses::{load, write_block};
 use foyer_run::disk::Disk;
 use foyer_run::memory::MemoryDisk;
-use foyer_run::moves::{read_told, write_told};
 use std::alloc::Allocator;
 
 /// Entries of this program have no age of their own.
@@ -85,35 +86,20 @@ impl<A: Allocator + Clone> Engine<A> {
         }
     }
 
-    pub fn get(&mut self, key: u64) -> Answer<A> {
-        let begin = Step::LoadBegin {
-            hash: key,
-            throttled: false,
-        };
-        let ticket = match self.core.apply(&mut self.env, begin) {
-            Reply::Read(ticket) => ticket,
-            Reply::Throttled => return Answer::Throttled,
-            Reply::Refused(kind, _) => return Answer::Fault(kind),
-            _ => return Answer::Miss,
-        };
-        let Ok(alloc) = self.alloc.clone() else {
-            return Answer::Fault(ErrorKind::Memory);
-        };
-        let Ok(outcome) = read_told(alloc, &mut self.disk, &ticket) else {
-            return Answer::Fault(ErrorKind::Memory);
-        };
-        let end = Step::LoadEnd {
-            ticket,
-            result: outcome,
-        };
-        match self.core.apply(&mut self.env, end) {
-            Reply::Entry {
+    /// The text of a key: the newest that was put, whatever came before.
+    pub fn get(&mut self, key: u64) -> Answer<A>
+        ensures newest { IsNewestText key self.old.core (⟦<MemoryDisk<A> as Disk>⟧.byte_at self.old.disk) result }
+    {
+        match load(&mut self.core, &mut self.env, &mut self.disk, key, false) {
+            Ok(Reply::Entry {
                 key: _,
                 value,
                 age: _,
-            } => Answer::Entry(value),
-            Reply::Refused(kind, _) => Answer::Fault(kind),
-            _ => Answer::Miss,
+            }) => Answer::Entry(value),
+            Ok(Reply::Throttled) => Answer::Throttled,
+            Ok(Reply::Refused(kind, _)) => Answer::Fault(kind),
+            Ok(_) => Answer::Miss,
+            Err(_) => Answer::Fault(ErrorKind::Memory),
         }
     }
 
@@ -192,27 +178,11 @@ impl<A: Allocator + Clone> Engine<A> {
     // Writes the blocks of the batch.
     fn write_all(&mut self, flusher: u32) -> std::result::Result<(), ErrorKind> {
         for _ in 0..u64::MAX {
-            match self.core.apply(&mut self.env, Step::FlushBlock { flusher }) {
-                Reply::Write { block, writes } => {
-                    for write in &writes {
-                        let outcome = write_told(&mut self.disk, block, write);
-                        let is_written = outcome.is_ok();
-                        let wrote = Step::FlushWrote {
-                            flusher,
-                            result: outcome,
-                        };
-                        match self.core.apply(&mut self.env, wrote) {
-                            Reply::Refused(kind, _) => return Err(kind),
-                            _ => {}
-                        }
-                        if !is_written {
-                            break;
-                        }
-                    }
-                }
-                Reply::NoBlock => return Err(ErrorKind::NoSpace),
-                Reply::Refused(kind, _) => return Err(kind),
-                _ => return Ok(()),
+            match write_block(&mut self.core, &mut self.env, &mut self.disk, flusher) {
+                Some(Reply::NoBlock) => return Err(ErrorKind::NoSpace),
+                Some(Reply::Refused(kind, _)) => return Err(kind),
+                Some(Reply::NotNow(_)) => return Ok(()),
+                _ => {}
             }
         }
         Ok(())

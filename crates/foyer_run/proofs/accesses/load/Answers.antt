@@ -1,0 +1,91 @@
+use Rattle.std.proofs.Common.{[], ◌∷◌, None, refl, sym, ap, subst}
+use Rattle.foyer_core.specs.Content.{meaning}
+use Rattle.foyer_core.specs.Meets.{IsMet}
+use Rattle.foyer_core.specs.declared.step.Step.TheVariants as step
+use Rattle.foyer_run.specs.Accesses.{load_of}
+use Rattle.foyer_run.specs.Running.{ticket_in, with_ticket}
+use Rattle.foyer_run.specs.Runs.{IsFront}
+use Rattle.foyer_run.specs.declared.moves.Move.TheVariants as move
+use Rattle.foyer_run.proofs.AccessLemmas.{Goes, front_is, load_alone, load_whole, no_ticket, says_last, step_alone}
+use Rattle.foyer_run.proofs.LoadLemmas.{come_is}
+use Rattle.foyer_run.proofs.NewestLemmas.{load_newest, look_up_newest}
+use Rattle.foyer_run.proofs.RunLemmas.{err_is}
+use Rattle.foyer_run.proofs.StepLemmas.{spells_of}
+use Rattle.foyer_run.proofs.accesses.load.Goals as goal
+
+pub returns-in_default : goal.returns-in_default
+returns-in_default g c =
+    let m = meaning g.K.Code.spelling g.V.Code.spelling g.K.Code.encodes g.V.Code.encodes g.K.Code.is_spelling g.V.Code.is_spelling g.P.Properties.age in
+    let spells = spells_of g.K.Code.spelling g.V.Code.spelling g.K.Code.encodes g.V.Code.encodes g.K.Code.is_spelling g.V.Code.is_spelling g.P.Properties.age g.met.K.Code.spelled g.met.V.Code.spelled in
+    let bytes = g.D.Disk.byte_at c.args.disk.now in
+    let h = c.args.hash in
+    let throttled = c.args.throttled in
+    let answer = c.apply.result in record {
+      runs = says_last m (load_of h throttled) [] [] answer c.args.core.now c.apply.new.self bytes bytes
+          (λ s sound w stands same.
+          load_alone m s sound w h throttled answer c.apply.new.self bytes
+          (step_alone m s sound spells w (move.LoadBegin h throttled) (step.LoadBegin h throttled) answer c.args.core.now c.apply.new.self bytes stands same refl tt
+          c.apply.ensures.back (λ v at built. c.apply.ensures.meets built s sound v.core at) c.apply.ensures.later)
+          (no_ticket answer c.in_default.not-Read));
+      newest = look_up_newest m h throttled answer c.args.core.now c.apply.new.self bytes (λ s sound v at. c.apply.ensures.meets tt s sound v.core at);
+      front = tt;
+      same = refl;
+    }
+
+pub returns-in_err-clone-clause-front : goal.returns-in_err-clone-clause-front
+returns-in_err-clone-clause-front g c =
+    let m = meaning g.K.Code.spelling g.V.Code.spelling g.K.Code.encodes g.V.Code.encodes g.K.Code.is_spelling g.V.Code.is_spelling g.P.Properties.age in
+    let spells = spells_of g.K.Code.spelling g.V.Code.spelling g.K.Code.encodes g.V.Code.encodes g.K.Code.is_spelling g.V.Code.is_spelling g.P.Properties.age g.met.K.Code.spelled g.met.V.Code.spelled in
+    let bytes = g.D.Disk.byte_at c.args.disk.now in
+    let h = c.args.hash in
+    let throttled = c.args.throttled in
+    let answer = c.apply.result in
+    err_is c.from_residual.result
+    (front_is m (move.LoadBegin h throttled ∷ []) (move.LoadEnd 0 ∷ []) (with_ticket (ticket_in answer) []) (answer ∷ []) c.args.core.now c.apply.new.self bytes bytes
+    (λ s sound w stands same.
+    step_alone m s sound spells w (move.LoadBegin h throttled) (step.LoadBegin h throttled) answer c.args.core.now c.apply.new.self bytes stands same refl tt
+    c.apply.ensures.back (λ v at built. c.apply.ensures.meets built s sound v.core at) c.apply.ensures.later))
+
+pub returns-in_err-came-clause-front : goal.returns-in_err-came-clause-front
+returns-in_err-came-clause-front g c =
+    let m = meaning g.K.Code.spelling g.V.Code.spelling g.K.Code.encodes g.V.Code.encodes g.K.Code.is_spelling g.V.Code.is_spelling g.P.Properties.age in
+    let spells = spells_of g.K.Code.spelling g.V.Code.spelling g.K.Code.encodes g.V.Code.encodes g.K.Code.is_spelling g.V.Code.is_spelling g.P.Properties.age g.met.K.Code.spelled g.met.V.Code.spelled in
+    let bytes = g.D.Disk.byte_at c.args.disk.now in
+    let h = c.args.hash in
+    let throttled = c.args.throttled in
+    let answer = c.apply.result in
+    err_is c.from_residual-in_err-came.result
+    (subst (λ new. IsFront m (load_of h throttled) c.args.core.now c.apply.new.self bytes new) (sym c.in_err-came.ensures.same)
+    (front_is m (move.LoadBegin h throttled ∷ []) (move.LoadEnd 0 ∷ []) (with_ticket (ticket_in answer) []) (answer ∷ []) c.args.core.now c.apply.new.self bytes bytes
+    (λ s sound w stands same.
+    step_alone m s sound spells w (move.LoadBegin h throttled) (step.LoadBegin h throttled) answer c.args.core.now c.apply.new.self bytes stands same refl tt
+    c.apply.ensures.back (λ v at built. c.apply.ensures.meets built s sound v.core at) c.apply.ensures.later)))
+
+pub returns-clause-runs : goal.returns-clause-runs
+returns-clause-runs g c =
+    let m = meaning g.K.Code.spelling g.V.Code.spelling g.K.Code.encodes g.V.Code.encodes g.K.Code.is_spelling g.V.Code.is_spelling g.P.Properties.age in
+    let spells = spells_of g.K.Code.spelling g.V.Code.spelling g.K.Code.encodes g.V.Code.encodes g.K.Code.is_spelling g.V.Code.is_spelling g.P.Properties.age g.met.K.Code.spelled g.met.V.Code.spelled in
+    let bytes = g.D.Disk.byte_at c.args.disk.now in
+    let h = c.args.hash in
+    let throttled = c.args.throttled in
+    let told = c.apply.result in
+    let answer = c.apply-2.result in
+    let tickets = with_ticket (ticket_in answer) (None ∷ []) in
+    says_last m (load_of h throttled) tickets (told ∷ []) answer c.args.core.now c.apply-2.new.self bytes (g.D.Disk.byte_at c.read_told.new.disk)
+    (subst (λ new. Goes m (load_of h throttled) tickets (told ∷ answer ∷ []) c.args.core.now c.apply-2.new.self bytes new) (sym c.in_ok-came.ensures.same)
+    (λ s sound w stands same.
+    load_whole m s sound w h throttled c.in-Read.ticket c.in_ok-came.came told answer c.apply.new.self c.apply-2.new.self bytes
+    (step_alone m s sound spells w (move.LoadBegin h throttled) (step.LoadBegin h throttled) told c.args.core.now c.apply.new.self bytes stands same refl tt
+    c.apply.ensures.back (λ v at built. c.apply.ensures.meets built s sound v.core at) c.apply.ensures.later)
+    (ap ticket_in c.in-Read.is)
+    (come_is bytes c.in-Read.ticket c.in_ok-came.came c.in_ok-came.ensures.read c.in_ok-came.ensures.len)
+    (λ v at. c.apply-2.ensures.meets tt s sound v.core at)))
+
+pub returns-clause-newest : goal.returns-clause-newest
+returns-clause-newest g c =
+    let m = meaning g.K.Code.spelling g.V.Code.spelling g.K.Code.encodes g.V.Code.encodes g.K.Code.is_spelling g.V.Code.is_spelling g.P.Properties.age in
+    let bytes = g.D.Disk.byte_at c.args.disk.now in
+    load_newest m c.args.hash c.args.throttled c.in-Read.ticket c.in_ok-came.came c.apply-2.result c.args.core.now c.apply.new.self c.apply-2.new.self bytes
+    (λ s sound v at. subst (λ r. IsMet m s sound (step.LoadBegin c.args.hash c.args.throttled) r c.apply.new.self v.core) c.in-Read.is (c.apply.ensures.meets tt s sound v.core at))
+    (come_is bytes c.in-Read.ticket c.in_ok-came.came c.in_ok-came.ensures.read c.in_ok-came.ensures.len)
+    (λ s sound v at. c.apply-2.ensures.meets tt s sound v.core at)

@@ -1,0 +1,32 @@
+-- A load and a block's writes, each with its accesses in their place: as runs of moves.
+use Rattle.std.specs.Prelude.{◌≡◌, ℕ, Bool, List, [], ◌∷◌, ◌++◌, replicate, Option, Some, None}
+use Rattle.foyer_core.specs.Content.{Meaning}
+use Rattle.foyer_core.specs.declared.reply.Reply.{Reply}
+use Rattle.foyer_core.specs.declared.state.Core.{Core}
+use Rattle.foyer_run.specs.Runs.{Runs}
+use Rattle.foyer_run.specs.declared.moves.Move.{Move}
+use Rattle.foyer_run.specs.declared.moves.Move.TheVariants as move
+
+-- a look-up, and the end of its load: the run's first ticket is the look-up's
+abbrev pub load_of : {K V P A : Type 0} → ℕ → Bool → List (Move K V P A)
+load_of hash throttled = move.LoadBegin hash throttled ∷ move.LoadEnd 0 ∷ []
+
+-- a block of a flusher, and so many of its writes
+abbrev pub writes_of : {K V P A : Type 0} → ℕ → ℕ → List (Move K V P A)
+writes_of flusher n = move.FlushBlock flusher ∷ replicate n (move.FlushWrote flusher)
+
+-- these moves were run, and this was said last
+pub record Says {K V P A : Type 0} (m : Meaning K V P) (moves : List (Move K V P A)) (last : Reply K V P A) (old new : Core K V P A) (old_bytes new_bytes : ℕ → ℕ → ℕ) : Type 0 where
+  pub before : List (Reply K V P A)
+  pub runs : Runs m moves (before ++ last ∷ []) old new old_bytes new_bytes
+
+-- what was said last, if it is told
+abbrev pub last_of : {K V P A : Type 0} → Option (Reply K V P A) → List (Reply K V P A)
+last_of None = []
+last_of (Some answer) = answer ∷ []
+
+-- a block of the flusher was asked for, and some of its writes were done and reported
+pub record Writes {K V P A : Type 0} (m : Meaning K V P) (flusher : ℕ) (last : Option (Reply K V P A)) (old new : Core K V P A) (old_bytes new_bytes : ℕ → ℕ → ℕ) : Type 0 where
+  pub count : ℕ
+  pub before : List (Reply K V P A)
+  pub runs : Runs m (writes_of flusher count) (before ++ last_of last) old new old_bytes new_bytes

@@ -1,0 +1,95 @@
+//! A load and a block's writes, each with its accesses in their place.
+ghost use Rattle.std.specs.Prelude.{◌≡◌, ◌∷◌, [], OnErr, IfOk};
+ghost use Rattle.foyer_core.specs.Content.{meaning};
+ghost use Rattle.foyer_run.specs.Accesses.{Says, Writes, load_of};
+ghost use Rattle.foyer_run.specs.Newest.{IsNewest};
+ghost use Rattle.foyer_run.specs.Runs.{IsFront};
+
+use crate::disk::Disk;
+use crate::moves::{goes_on, read_told, write_told};
+use foyer_core::apply::Env;
+use foyer_core::reply::Reply;
+use foyer_core::state::Core;
+use foyer_core::step::Step;
+use foyer_format::serde::{Code, Properties};
+use std::alloc::{AllocError, Allocator};
+
+/// Looks a hash up, does the read that this tells, and brings what came of it: what the load answers. An entry is the
+/// newest put of the hash, whatever led here. `Err` is a refused growth: then nothing was read, and the load never ends.
+pub fn load<K, V, P, A, D>(
+    core: &mut Core<K, V, P, A>,
+    env: &mut Env,
+    disk: &mut D,
+    hash: u64,
+    throttled: bool,
+) -> std::result::Result<Reply<K, V, P, A>, AllocError>
+where
+    K: Code<A> + Drop,
+    V: Code<A> + Drop,
+    P: Properties + Drop,
+    A: Allocator + Clone,
+    D: Disk,
+    ensures runs { IfOk result (λ last. Says
+        (meaning K.spelling V.spelling K.encodes V.encodes K.is_spelling V.is_spelling P.age)
+        (load_of hash throttled) last core.old core.new (D.byte_at disk.old) (D.byte_at disk.new)) }
+    ensures newest { IfOk result (IsNewest
+        (meaning K.spelling V.spelling K.encodes V.encodes K.is_spelling V.is_spelling P.age)
+        hash core.old (D.byte_at disk.old)) }
+    ensures front { OnErr result (IsFront
+        (meaning K.spelling V.spelling K.encodes V.encodes K.is_spelling V.is_spelling P.age)
+        (load_of hash throttled) core.old core.new (D.byte_at disk.old) (D.byte_at disk.new)) }
+    ensures same { D.byte_at disk.new ≡ D.byte_at disk.old }
+{
+    let ticket = match core.apply(env, Step::LoadBegin { hash, throttled }) {
+        Reply::Read(ticket) => ticket,
+        other => return Ok(other),
+    };
+    let came = read_told(core.allocator().clone()?, disk, &ticket)?;
+    Ok(core.apply(
+        env,
+        Step::LoadEnd {
+            ticket,
+            result: came,
+        },
+    ))
+}
+
+/// Asks a flusher for a block, does the writes that this tells in their order, and reports each: what was answered last,
+/// `None` where the block has no write or none that ended it. After a write that failed, and after a report that didn't
+/// ask for the next, the block's others aren't done.
+pub fn write_block<K, V, P, A, D>(
+    core: &mut Core<K, V, P, A>,
+    env: &mut Env,
+    disk: &mut D,
+    flusher: u32,
+) -> Option<Reply<K, V, P, A>>
+where
+    K: Code<A> + Drop,
+    V: Code<A> + Drop,
+    P: Properties + Drop,
+    A: Allocator + Clone,
+    D: Disk,
+    ensures writes { Writes
+        (meaning K.spelling V.spelling K.encodes V.encodes K.is_spelling V.is_spelling P.age)
+        flusher result core.old core.new (D.byte_at disk.old) (D.byte_at disk.new) }
+{
+    let (block, writes) = match core.apply(env, Step::FlushBlock { flusher }) {
+        Reply::Write { block, writes } => (block, writes),
+        other => return Some(other),
+    };
+    'writes: for write in &writes {
+        let wrote = write_told(disk, block, write);
+        let went_well = wrote.is_ok();
+        let reply = core.apply(
+            env,
+            Step::FlushWrote {
+                flusher,
+                result: wrote,
+            },
+        );
+        if !goes_on(went_well, &reply) {
+            return Some(reply);
+        }
+    }
+    None
+}
