@@ -1,6 +1,7 @@
 pub mod AccessLemmas
 pub mod BlockLemmas
 pub mod BlockPlaces
+pub mod DriveLemmas
 pub mod DueLemmas
 pub mod LawfulLemmas
 pub mod ListLemmas

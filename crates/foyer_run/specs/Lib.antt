@@ -1,5 +1,6 @@
 pub mod Accesses
 pub mod Disk
+pub mod Driven
 pub mod Due
 pub mod Lawful
 pub mod Moves

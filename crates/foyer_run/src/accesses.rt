@@ -1,8 +1,13 @@
 //! A load and a block's writes, each with its accesses in their place.
-ghost use Rattle.std.specs.Prelude.{◌≡◌, ◌∷◌, [], OnErr, IfOk};
+ghost use Rattle.std.specs.Prelude.{ℕ, ◌≡◌, ◌∷◌, [], OnErr, IfOk};
 ghost use Rattle.foyer_core.specs.Content.{meaning};
 ghost use Rattle.foyer_run.specs.Accesses.{Says, Writes, load_of};
+ghost use Rattle.foyer_run.specs.Driven.{Drives};
+ghost use Rattle.foyer_run.specs.Moves.{asked};
 ghost use Rattle.foyer_run.specs.Newest.{IsNewest};
+ghost use Rattle.foyer_run.specs.declared.moves.Asked.TheVariants as asks;
+ghost use Rattle.foyer_run.specs.declared.moves.Move.{Move};
+ghost use Rattle.foyer_run.specs.Running.{IsFree};
 ghost use Rattle.foyer_run.specs.Runs.{IsFront};
 
 use crate::disk::Disk;
@@ -13,6 +18,28 @@ use foyer_core::state::Core;
 use foyer_core::step::Step;
 use foyer_format::serde::{Code, Properties};
 use std::alloc::{AllocError, Allocator};
+
+/// Applies a step that brings no result of an access and tells no write: a run of the move that is this step.
+pub fn step<K, V, P, A>(
+    core: &mut Core<K, V, P, A>,
+    env: &mut Env,
+    given: Step<K, V, P, A>,
+) -> Reply<K, V, P, A>
+where
+    K: Code<A> + Drop,
+    V: Code<A> + Drop,
+    P: Properties + Drop,
+    A: Allocator + Clone,
+    requires free { IsFree given }
+    ensures runs { (x : Move K V P A) → asked x ≡ asks.Step given → (bytes : ℕ → ℕ → ℕ) → Says
+        (meaning K.spelling V.spelling K.encodes V.encodes K.is_spelling V.is_spelling P.age)
+        (x ∷ []) result core.old core.new bytes bytes }
+    ensures drives { (bytes : ℕ → ℕ → ℕ) → Drives
+        (meaning K.spelling V.spelling K.encodes V.encodes K.is_spelling V.is_spelling P.age)
+        core.old core.new bytes bytes }
+{
+    core.apply(env, given)
+}
 
 /// Looks a hash up, does the read that this tells, and brings what came of it: what the load answers. An entry is the
 /// newest put of the hash, whatever led here. `Err` is a refused growth: then nothing was read, and the load never ends.
@@ -32,6 +59,9 @@ where
     ensures runs { IfOk result (λ last. Says
         (meaning K.spelling V.spelling K.encodes V.encodes K.is_spelling V.is_spelling P.age)
         (load_of hash throttled) last core.old core.new (D.byte_at disk.old) (D.byte_at disk.new)) }
+    ensures drives { Drives
+        (meaning K.spelling V.spelling K.encodes V.encodes K.is_spelling V.is_spelling P.age)
+        core.old core.new (D.byte_at disk.old) (D.byte_at disk.new) }
     ensures newest { IfOk result (IsNewest
         (meaning K.spelling V.spelling K.encodes V.encodes K.is_spelling V.is_spelling P.age)
         hash core.old (D.byte_at disk.old)) }
@@ -72,6 +102,9 @@ where
     ensures writes { Writes
         (meaning K.spelling V.spelling K.encodes V.encodes K.is_spelling V.is_spelling P.age)
         flusher result core.old core.new (D.byte_at disk.old) (D.byte_at disk.new) }
+    ensures drives { Drives
+        (meaning K.spelling V.spelling K.encodes V.encodes K.is_spelling V.is_spelling P.age)
+        core.old core.new (D.byte_at disk.old) (D.byte_at disk.new) }
 {
     let (block, writes) = match core.apply(env, Step::FlushBlock { flusher }) {
         Reply::Write { block, writes } => (block, writes),

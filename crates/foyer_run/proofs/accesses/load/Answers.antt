@@ -3,10 +3,12 @@ use Rattle.foyer_core.specs.Content.{meaning}
 use Rattle.foyer_core.specs.Meets.{IsMet}
 use Rattle.foyer_core.specs.declared.step.Step.TheVariants as step
 use Rattle.foyer_run.specs.Accesses.{load_of}
+use Rattle.foyer_run.specs.Driven.{Drives}
 use Rattle.foyer_run.specs.Running.{ticket_in, with_ticket}
 use Rattle.foyer_run.specs.Runs.{IsFront}
 use Rattle.foyer_run.specs.declared.moves.Move.TheVariants as move
 use Rattle.foyer_run.proofs.AccessLemmas.{Goes, front_is, load_alone, load_whole, no_ticket, says_last, step_alone}
+use Rattle.foyer_run.proofs.DriveLemmas.{says_drive, step_drives}
 use Rattle.foyer_run.proofs.LoadLemmas.{come_is}
 use Rattle.foyer_run.proofs.NewestLemmas.{load_newest, look_up_newest}
 use Rattle.foyer_run.proofs.RunLemmas.{err_is}
@@ -20,13 +22,15 @@ returns-in_default g c =
     let bytes = g.D.Disk.byte_at c.args.disk.now in
     let h = c.args.hash in
     let throttled = c.args.throttled in
-    let answer = c.apply.result in record {
-      runs = says_last m (load_of h throttled) [] [] answer c.args.core.now c.apply.new.self bytes bytes
+    let answer = c.apply.result in
+    let says = says_last m (load_of h throttled) [] [] answer c.args.core.now c.apply.new.self bytes bytes
           (λ s sound w stands same.
           load_alone m s sound w h throttled answer c.apply.new.self bytes
           (step_alone m s sound spells w (move.LoadBegin h throttled) (step.LoadBegin h throttled) answer c.args.core.now c.apply.new.self bytes stands same refl tt
           c.apply.ensures.back (λ v at built. c.apply.ensures.meets built s sound v.core at) c.apply.ensures.later)
-          (no_ticket answer c.in_default.not-Read));
+          (no_ticket answer c.in_default.not-Read)) in record {
+      runs = says;
+      drives = says_drive m (load_of h throttled) answer c.args.core.now c.apply.new.self bytes bytes says;
       newest = look_up_newest m h throttled answer c.args.core.now c.apply.new.self bytes (λ s sound v at. c.apply.ensures.meets tt s sound v.core at);
       front = tt;
       same = refl;
@@ -46,6 +50,14 @@ returns-in_err-clone-clause-front g c =
     step_alone m s sound spells w (move.LoadBegin h throttled) (step.LoadBegin h throttled) answer c.args.core.now c.apply.new.self bytes stands same refl tt
     c.apply.ensures.back (λ v at built. c.apply.ensures.meets built s sound v.core at) c.apply.ensures.later))
 
+pub returns-in_err-clone-clause-drives : goal.returns-in_err-clone-clause-drives
+returns-in_err-clone-clause-drives g c =
+    let m = meaning g.K.Code.spelling g.V.Code.spelling g.K.Code.encodes g.V.Code.encodes g.K.Code.is_spelling g.V.Code.is_spelling g.P.Properties.age in
+    let spells = spells_of g.K.Code.spelling g.V.Code.spelling g.K.Code.encodes g.V.Code.encodes g.K.Code.is_spelling g.V.Code.is_spelling g.P.Properties.age g.met.K.Code.spelled g.met.V.Code.spelled in
+    let bytes = g.D.Disk.byte_at c.args.disk.now in
+    step_drives m spells (step.LoadBegin c.args.hash c.args.throttled) c.apply.result c.args.core.now c.apply.new.self bytes tt c.apply.ensures.back
+    (λ s sound v at built. c.apply.ensures.meets built s sound v.core at) c.apply.ensures.later
+
 pub returns-in_err-came-clause-front : goal.returns-in_err-came-clause-front
 returns-in_err-came-clause-front g c =
     let m = meaning g.K.Code.spelling g.V.Code.spelling g.K.Code.encodes g.V.Code.encodes g.K.Code.is_spelling g.V.Code.is_spelling g.P.Properties.age in
@@ -60,6 +72,15 @@ returns-in_err-came-clause-front g c =
     (λ s sound w stands same.
     step_alone m s sound spells w (move.LoadBegin h throttled) (step.LoadBegin h throttled) answer c.args.core.now c.apply.new.self bytes stands same refl tt
     c.apply.ensures.back (λ v at built. c.apply.ensures.meets built s sound v.core at) c.apply.ensures.later)))
+
+pub returns-in_err-came-clause-drives : goal.returns-in_err-came-clause-drives
+returns-in_err-came-clause-drives g c =
+    let m = meaning g.K.Code.spelling g.V.Code.spelling g.K.Code.encodes g.V.Code.encodes g.K.Code.is_spelling g.V.Code.is_spelling g.P.Properties.age in
+    let spells = spells_of g.K.Code.spelling g.V.Code.spelling g.K.Code.encodes g.V.Code.encodes g.K.Code.is_spelling g.V.Code.is_spelling g.P.Properties.age g.met.K.Code.spelled g.met.V.Code.spelled in
+    let bytes = g.D.Disk.byte_at c.args.disk.now in
+    subst (λ new. Drives m c.args.core.now c.apply.new.self bytes new) (sym c.in_err-came.ensures.same)
+    (step_drives m spells (step.LoadBegin c.args.hash c.args.throttled) c.apply.result c.args.core.now c.apply.new.self bytes tt c.apply.ensures.back
+    (λ s sound v at built. c.apply.ensures.meets built s sound v.core at) c.apply.ensures.later)
 
 pub returns-clause-runs : goal.returns-clause-runs
 returns-clause-runs g c =
@@ -89,3 +110,9 @@ returns-clause-newest g c =
     (λ s sound v at. subst (λ r. IsMet m s sound (step.LoadBegin c.args.hash c.args.throttled) r c.apply.new.self v.core) c.in-Read.is (c.apply.ensures.meets tt s sound v.core at))
     (come_is bytes c.in-Read.ticket c.in_ok-came.came c.in_ok-came.ensures.read c.in_ok-came.ensures.len)
     (λ s sound v at. c.apply-2.ensures.meets tt s sound v.core at)
+
+pub returns-clause-drives : goal.returns-clause-drives
+returns-clause-drives g c =
+    let m = meaning g.K.Code.spelling g.V.Code.spelling g.K.Code.encodes g.V.Code.encodes g.K.Code.is_spelling g.V.Code.is_spelling g.P.Properties.age in
+    says_drive m (load_of c.args.hash c.args.throttled) c.apply-2.result c.args.core.now c.apply-2.new.self (g.D.Disk.byte_at c.args.disk.now) (g.D.Disk.byte_at c.read_told.new.disk)
+    (returns-clause-runs g c)

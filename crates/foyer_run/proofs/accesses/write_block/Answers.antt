@@ -1,19 +1,22 @@
-use Rattle.std.proofs.Common.{[], inl, inr, sym, ap, subst, ◌∙◌}
+use Rattle.std.proofs.Common.{[], None, Some, inl, inr, sym, ap, subst, ◌∙◌}
 use Rattle.foyer_block.proofs.Found.{slice_get_at}
 use Rattle.foyer_core.specs.Content.{meaning}
 use Rattle.foyer_core.specs.Meets.{IsMet}
 use Rattle.foyer_core.specs.declared.step.Step.TheVariants as step
 use Rattle.foyer_core.proofs.FlushTurns.{went_is}
 use Rattle.foyer_run.proofs.AccessLemmas.{no_block, writing_first, written_all, written_ends, written_none, written_on}
+use Rattle.foyer_run.proofs.DriveLemmas.{writes_drive}
 use Rattle.foyer_run.proofs.WriteLemmas.{done_is}
 use Rattle.foyer_run.proofs.accesses.write_block.Goals as goal
 
 pub returns-in_default : goal.returns-in_default
 returns-in_default g c =
-    let m = meaning g.K.Code.spelling g.V.Code.spelling g.K.Code.encodes g.V.Code.encodes g.K.Code.is_spelling g.V.Code.is_spelling g.P.Properties.age in record {
-      writes = written_none m c.args.flusher c.apply.result c.args.core.now c.apply.new.self (g.D.Disk.byte_at c.args.disk.now)
-          (λ s sound v at. c.apply.ensures.meets tt s sound v.core at) (no_block c.apply.result c.in_default.not-Write);
-    }
+    let m = meaning g.K.Code.spelling g.V.Code.spelling g.K.Code.encodes g.V.Code.encodes g.K.Code.is_spelling g.V.Code.is_spelling g.P.Properties.age in
+    let bytes = g.D.Disk.byte_at c.args.disk.now in
+    let writes =
+    written_none m c.args.flusher c.apply.result c.args.core.now c.apply.new.self bytes
+    (λ s sound v at. c.apply.ensures.meets tt s sound v.core at) (no_block c.apply.result c.in_default.not-Write) in
+    record { writes = writes; drives = writes_drive m c.args.flusher (Some c.apply.result) c.args.core.now c.apply.new.self bytes bytes writes }
 
 pub writes-init : goal.writes-init
 writes-init g c =
@@ -35,13 +38,14 @@ returns-then-not-goes_on g c =
     let write = c.write-item.result in
     let outcome = c.write_told-wrote.result in
     let at = slice_get_at c.deref-write-items.result.now c.writes.write-index write c.writes-test.true c.write-item.is in
-    let ok = c.is_ok-went_well.ensures.value ∙ went_is outcome in record {
-      writes = written_ends m c.args.flusher b c.writes.write-index c.deref-write-items.result.now write outcome c.apply-reply.result c.args.core.now c.writes.core c.apply-reply.new.self
+    let ok = c.is_ok-went_well.ensures.value ∙ went_is outcome in
+    let writes =
+    written_ends m c.args.flusher b c.writes.write-index c.deref-write-items.result.now write outcome c.apply-reply.result c.args.core.now c.writes.core c.apply-reply.new.self
           (g.D.Disk.byte_at c.args.disk.now) before after c.writes.invariant at
           (done_is before after b write outcome c.write_told-wrote.ensures.wrote c.write_told-wrote.ensures.torn)
           (λ s sound v at. c.apply-reply.ensures.meets tt s sound v.core at)
-          (elim c.if-not-goes_on.ensures [ inl failed ↦ inl (sym ok ∙ failed) | inr last ↦ inr last ]);
-    }
+          (elim c.if-not-goes_on.ensures [ inl failed ↦ inl (sym ok ∙ failed) | inr last ↦ inr last ]) in
+    record { writes = writes; drives = writes_drive m c.args.flusher (Some c.apply-reply.result) c.args.core.now c.apply-reply.new.self (g.D.Disk.byte_at c.args.disk.now) after writes }
 
 pub writes-preserved : goal.writes-preserved
 writes-preserved g c =
@@ -61,6 +65,8 @@ writes-preserved g c =
 
 pub returns : goal.returns
 returns g c =
-    let m = meaning g.K.Code.spelling g.V.Code.spelling g.K.Code.encodes g.V.Code.encodes g.K.Code.is_spelling g.V.Code.is_spelling g.P.Properties.age in record {
-      writes = written_all m c.args.flusher c.in-Write.block c.writes.write-index c.deref-write-items.result.now c.args.core.now c.writes.core (g.D.Disk.byte_at c.args.disk.now) (g.D.Disk.byte_at c.writes.disk) c.writes.invariant;
-    }
+    let m = meaning g.K.Code.spelling g.V.Code.spelling g.K.Code.encodes g.V.Code.encodes g.K.Code.is_spelling g.V.Code.is_spelling g.P.Properties.age in
+    let bytes = g.D.Disk.byte_at c.args.disk.now in
+    let after = g.D.Disk.byte_at c.writes.disk in
+    let writes = written_all m c.args.flusher c.in-Write.block c.writes.write-index c.deref-write-items.result.now c.args.core.now c.writes.core bytes after c.writes.invariant in
+    record { writes = writes; drives = writes_drive m c.args.flusher None c.args.core.now c.writes.core bytes after writes }

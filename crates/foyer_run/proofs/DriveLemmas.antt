@@ -1,0 +1,81 @@
+-- What drives a core: runs, fronts of runs, single steps, and one after the other.
+use Rattle.std.proofs.Common.{◌≡◌, ℕ, List, [], ◌∷◌, ◌++◌, Option, refl, sym, ap, subst, ◌∙◌}
+use Rattle.foyer_model.specs.World.{World, WorldEvent, after_all}
+use Rattle.foyer_core.specs.Answered.{HandsBack}
+use Rattle.foyer_core.specs.Content.{Content, Meaning}
+use Rattle.foyer_core.specs.InOneBlock.{IsInOneBlock}
+use Rattle.foyer_core.specs.Meets.{IsBuilt, IsHandedBack, IsMet, machine}
+use Rattle.foyer_core.specs.Plain.{IsSpelled}
+use Rattle.foyer_core.specs.Sizes.{IsSound}
+use Rattle.foyer_core.specs.Standing.{IsStateOf}
+use Rattle.foyer_core.specs.declared.reply.Reply.{Reply}
+use Rattle.foyer_core.specs.declared.settings.Settings.{Settings}
+use Rattle.foyer_core.specs.declared.state.Core.{Core}
+use Rattle.foyer_core.specs.declared.step.Step.{Step}
+use Rattle.foyer_run.specs.Accesses.{Says, Writes, last_of, writes_of}
+use Rattle.foyer_run.specs.Driven.{Drives, IsDriven}
+use Rattle.foyer_run.specs.Moves.{asked}
+use Rattle.foyer_run.specs.Running.{IsFree, ticket_in, with_ticket}
+use Rattle.foyer_run.specs.Runs.{IsFront, Runs}
+use Rattle.foyer_run.specs.declared.moves.Asked.TheVariants as asks
+use Rattle.foyer_run.specs.declared.moves.Move.{Move}
+use Rattle.foyer_run.proofs.AccessLemmas.{says_last, step_alone, unnoted}
+use Rattle.foyer_run.proofs.RunLemmas.{after_more, going_first, happen_more}
+use Rattle.foyer_run.proofs.StepLemmas.{Spells, step_moves}
+
+module _ {K V P A : Type 0} (m : Meaning K V P) where
+  -- nothing happens
+  pub drives_none : (core : Core K V P A) (bytes : ℕ → ℕ → ℕ) → Drives m core core bytes bytes
+  drives_none core bytes s sound w stands same = record { events = []; happened = tt; stands = stands; same = same }
+
+  -- one after the other
+  pub drives_more : (a b c : Core K V P A) (x y z : ℕ → ℕ → ℕ) → Drives m a b x y → Drives m b c y z → Drives m a c x z
+  drives_more a b c x y z first then s sound w stands same =
+      let one = first s sound w stands same in
+      let rules = machine m s sound in
+      let v = after_all rules w one.events in
+      let two = then s sound v one.stands one.same in record {
+        events = one.events ++ two.events;
+        happened = happen_more rules (IsInOneBlock s.blob_index_size) (IsSpelled m.is_key m.is_value) w one.events two.events one.happened two.happened;
+        stands = subst (λ u. IsStateOf m s c u.core) (sym (after_more rules w one.events two.events)) two.stands;
+        same = λ b o. ap (λ u. u.bytes b o) (after_more rules w one.events two.events) ∙ two.same b o;
+      }
+
+  pub runs_drive : (moves : List (Move K V P A)) (said : List (Reply K V P A)) (a b : Core K V P A) (x y : ℕ → ℕ → ℕ) → Runs m moves said a b x y → Drives m a b x y
+  runs_drive moves said a b x y runs s sound w stands same =
+      let run = runs s sound w stands same in record { events = run.events; happened = run.happened; stands = run.stands; same = run.same }
+
+  pub front_drives : (moves : List (Move K V P A)) (a b : Core K V P A) (x y : ℕ → ℕ → ℕ) → IsFront m moves a b x y → Drives m a b x y
+  front_drives moves a b x y is = runs_drive is.front is.said a b x y is.runs
+
+  pub says_drive : (moves : List (Move K V P A)) (last : Reply K V P A) (a b : Core K V P A) (x y : ℕ → ℕ → ℕ) → Says m moves last a b x y → Drives m a b x y
+  says_drive moves last a b x y says = runs_drive moves (says.before ++ last ∷ []) a b x y says.runs
+
+  pub writes_drive : (f : ℕ) (last : Option (Reply K V P A)) (a b : Core K V P A) (x y : ℕ → ℕ → ℕ) → Writes m f last a b x y → Drives m a b x y
+  writes_drive f last a b x y writes = runs_drive (writes_of f writes.count) (writes.before ++ last_of last) a b x y writes.runs
+
+  -- a step that brings no result and tells no write
+  pub step_drives : (spells : Spells m) (given : Step K V P A) (answer : Reply K V P A) (old new : Core K V P A) (bytes : ℕ → ℕ → ℕ)
+      → IsFree given → HandsBack given answer old new
+      → ((s : Settings) (sound : IsSound s) (v : World Content) → IsStateOf m s old v.core → IsBuilt given → IsMet m s sound given answer new v.core) → ((IsBuilt given → ⊥) → IsHandedBack answer)
+      → Drives m old new bytes bytes
+  step_drives spells given answer old new bytes free back meets later s sound w stands same =
+      let going = going_first m s sound w (unnoted s) old bytes stands same refl in
+      let rules = machine m s sound in
+      let v = after_all rules w going.events in
+      let moved = step_moves m s sound spells w.told w.pens given answer [] (with_ticket (ticket_in answer) []) (unnoted s) [] (answer ∷ []) old new bytes v going.running free back
+      (meets s sound v (going.running).stands) later refl refl in record {
+        events = going.events ++ moved.events;
+        happened = happen_more rules (IsInOneBlock s.blob_index_size) (IsSpelled m.is_key m.is_value) w going.events moved.events going.happened moved.happened;
+        stands = subst (λ u. IsStateOf m s new u.core) (sym (after_more rules w going.events moved.events)) (moved.running).stands;
+        same = λ b o. ap (λ u. u.bytes b o) (after_more rules w going.events moved.events) ∙ (moved.running).same b o;
+      }
+
+  -- the same, as a run of the move that is this step
+  pub step_says : (spells : Spells m) (x : Move K V P A) (given : Step K V P A) (answer : Reply K V P A) (old new : Core K V P A) (bytes : ℕ → ℕ → ℕ)
+      → asked x ≡ asks.Step given → IsFree given → HandsBack given answer old new
+      → ((s : Settings) (sound : IsSound s) (v : World Content) → IsStateOf m s old v.core → IsBuilt given → IsMet m s sound given answer new v.core) → ((IsBuilt given → ⊥) → IsHandedBack answer)
+      → Says m (x ∷ []) answer old new bytes bytes
+  step_says spells x given answer old new bytes is free back meets later =
+      says_last m (x ∷ []) (with_ticket (ticket_in answer) []) [] answer old new bytes bytes
+      (λ s sound w stands same. step_alone m s sound spells w x given answer old new bytes stands same is free back (meets s sound) later)
