@@ -2,6 +2,7 @@
 use Rattle.std.proofs.Common.{◌≡◌, ℕ, List, [], ◌∷◌, ◌++◌, Option, refl, sym, ap, subst, ◌∙◌}
 use Rattle.foyer_model.specs.World.{World, WorldEvent, after_all}
 use Rattle.foyer_core.specs.Answered.{HandsBack}
+use Rattle.foyer_core.specs.Begins.{first_world}
 use Rattle.foyer_core.specs.Content.{Content, Meaning}
 use Rattle.foyer_core.specs.InOneBlock.{IsInOneBlock}
 use Rattle.foyer_core.specs.Meets.{IsBuilt, IsHandedBack, IsMet, machine}
@@ -15,6 +16,7 @@ use Rattle.foyer_core.specs.declared.step.Step.{Step}
 use Rattle.foyer_run.specs.Accesses.{Says, Writes, last_of, writes_of}
 use Rattle.foyer_run.specs.Driven.{Drives, IsDriven}
 use Rattle.foyer_run.specs.Moves.{asked}
+use Rattle.foyer_run.specs.Newest.{IsHistory}
 use Rattle.foyer_run.specs.Running.{IsFree, ticket_in, with_ticket}
 use Rattle.foyer_run.specs.Runs.{IsFront, Runs}
 use Rattle.foyer_run.specs.declared.moves.Asked.TheVariants as asks
@@ -79,3 +81,19 @@ module _ {K V P A : Type 0} (m : Meaning K V P) where
   step_says spells x given answer old new bytes is free back meets later =
       says_last m (x ∷ []) (with_ticket (ticket_in answer) []) [] answer old new bytes bytes
       (λ s sound w stands same. step_alone m s sound spells w x given answer old new bytes stands same is free back (meets s sound) later)
+
+  -- a history goes on
+  pub history_more : (s : Settings) (sound : IsSound s) (first : ℕ → ℕ → ℕ) (events : List (WorldEvent Content)) (old new : Core K V P A) (bytes bytes' : ℕ → ℕ → ℕ)
+      → IsHistory m s sound first events old bytes → Drives m old new bytes bytes' → (more : List (WorldEvent Content)) × IsHistory m s sound first (events ++ more) new bytes'
+  history_more s sound first events old new bytes bytes' history drives =
+      let rules = machine m s sound in
+      let begun = first_world rules first in
+      let w = after_all rules begun events in
+      let driven = drives s sound w history.stands history.same in (
+        driven.events,
+        record {
+          happened = happen_more rules (IsInOneBlock s.blob_index_size) (IsSpelled m.is_key m.is_value) begun events driven.events history.happened driven.happened;
+          stands = subst (λ u. IsStateOf m s new u.core) (sym (after_more rules begun events driven.events)) driven.stands;
+          same = λ b o. ap (λ u. u.bytes b o) (after_more rules begun events driven.events) ∙ driven.same b o;
+        },
+      )

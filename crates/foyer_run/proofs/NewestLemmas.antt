@@ -79,13 +79,12 @@ module _ {K V P A : Type 0} (m : Meaning K V P) where
       let has = load_at m s sound t (newest t.hash w.history) (w.kept t.hash) (HasRead result) in
       let stands_read =
       subst (λ o. IsReadAt rules v.bytes o result) (sym (began m s sound v k t (newest t.hash w.history) (w.kept t.hash) told))
-      (gives m s sound v bytes ticket outcome (covers rules v t.address.block) history.same come) in
-      (
+      (gives m s sound v bytes ticket outcome (covers rules v t.address.block) history.same come) in (
         t.address.sequence,
         answers_newest_lem rules Splits is_value w h throttled t looked.after (ReadBegins k ∷ ReadEnds k result ∷ []) result (content m key value) (age_of age) met.after has
-        (demands m.is_key m.is_value s sound)
-        (record { first = first_world rules first; events = events; opened = first_opened rules first; happened = history.happened; is = refl })
-        ((tt, told_follows), (tt, (stands_read, tt)))
-        ((k, has, read, refl, refl), end_follows) read refl,
+            (demands m.is_key m.is_value s sound)
+            (record { first = first_world rules first; events = events; opened = first_opened rules first; happened = history.happened; is = refl })
+            ((tt, told_follows), (tt, (stands_read, tt)))
+            ((k, has, read, refl, refl), end_follows) read refl,
       )
   load_newest h throttled ticket outcome answer old mid new bytes looks come loads = tt

@@ -1,10 +1,14 @@
 //! A load and a block's writes, each with its accesses in their place.
-ghost use Rattle.std.specs.Prelude.{ℕ, ◌≡◌, ◌∷◌, [], OnErr, IfOk};
-ghost use Rattle.foyer_core.specs.Content.{meaning};
+ghost use Rattle.std.specs.Prelude.{ℕ, List, ◌++◌, ◌≡◌, ◌∷◌, [], OnErr, IfOk};
+ghost use Rattle.foyer_model.specs.World.{WorldEvent};
+ghost use Rattle.foyer_core.specs.Content.{Content, Meaning, meaning};
+ghost use Rattle.foyer_core.specs.Sizes.{IsSound};
+ghost use Rattle.foyer_core.specs.declared.settings.Settings.{Settings};
+ghost use Rattle.foyer_core.specs.declared.state.Core.{Core};
 ghost use Rattle.foyer_run.specs.Accesses.{Says, Writes, load_of};
 ghost use Rattle.foyer_run.specs.Driven.{Drives};
 ghost use Rattle.foyer_run.specs.Moves.{asked};
-ghost use Rattle.foyer_run.specs.Newest.{IsNewest};
+ghost use Rattle.foyer_run.specs.Newest.{IsHistory, IsNewest};
 ghost use Rattle.foyer_run.specs.declared.moves.Asked.TheVariants as asks;
 ghost use Rattle.foyer_run.specs.declared.moves.Move.{Move};
 ghost use Rattle.foyer_run.specs.Running.{IsFree};
@@ -126,3 +130,11 @@ where
     }
     None
 }
+
+/// A history that led to a core and bytes goes on to those that they are driven to: so it does from an opening on, over
+/// any calls that drive a core, one after the other.
+pub fn histories_go_on<K, V, P, A>()
+    ensures { (m : Meaning K V P) (s : Settings) (sound : IsSound s) (first : ℕ → ℕ → ℕ) (events : List (WorldEvent Content))
+        (old new : Core K V P A) (bytes bytes' : ℕ → ℕ → ℕ) → IsHistory m s sound first events old bytes → Drives m old new bytes bytes'
+        → (more : List (WorldEvent Content)) × IsHistory m s sound first (events ++ more) new bytes' }
+{}

@@ -1,6 +1,9 @@
 //! The engine that the program keeps: a core over a disk in memory, driven on one thread.
-ghost use Rattle.std.specs.Prelude.{None};
-ghost use Rattle.foyer_serve.specs.Texts.{IsNewestText};
+ghost use Rattle.std.specs.Prelude.{◌≡◌, [], None, IfOk};
+ghost use Rattle.foyer_core.specs.Sizes.{IsSound};
+ghost use Rattle.foyer_run.specs.Driven.{Drives};
+ghost use Rattle.foyer_run.specs.Newest.{IsHistory};
+ghost use Rattle.foyer_serve.specs.Texts.{IsNewestText, plain};
 
 use foyer_core::apply::Env;
 use foyer_core::reply::Reply;
@@ -10,7 +13,7 @@ use foyer_core::step::Step;
 use foyer_device::error::{ErrorKind, Result};
 use foyer_format::serde::{Age, EntrySerializer, Properties};
 use foyer_policy::keeper::Piece;
-use foyer_run::accesses::{load, write_block};
+use foyer_run::accesses::{load, step, write_block};
 use foyer_run::disk::Disk;
 use foyer_run::memory::MemoryDisk;
 use std::alloc::Allocator;
@@ -54,7 +57,11 @@ pub struct Engine<A: Allocator> {
 
 impl<A: Allocator + Clone> Engine<A> {
     /// Opens an engine that finds nothing, over zeroed memory.
-    pub fn open(alloc: A, settings: Settings) -> Result<Engine<A>> {
+    pub fn open(alloc: A, settings: Settings) -> Result<Engine<A>>
+        ensures sound { IfOk result (λ _. IsSound settings) }
+        ensures begins { IfOk result (λ engine. (sound : IsSound settings) → IsHistory plain settings sound (λ b o. 0) []
+            engine.core (⟦<MemoryDisk<A> as Disk>⟧.byte_at engine.disk)) }
+    {
         Ok(Engine {
             core: Core::open(alloc.clone()?, settings)?,
             env: Env {},
@@ -65,21 +72,23 @@ impl<A: Allocator + Clone> Engine<A> {
         })
     }
 
-    fn piece(&self, key: u64, text: &str) -> Result<Piece<Key, String<A>, NoProperties, A>> {
+    fn piece(&self, key: u64, text: &str) -> Result<Piece<Key, String<A>, NoProperties, A>>
+        ensures { IfOk result (λ piece. piece.hash ≡ key) }
+    {
         let value = String::from_str(self.alloc.clone()?, text)?;
         Piece::new(self.alloc.clone()?, key, value, key, NoProperties)
     }
 
-    pub fn put(&mut self, key: u64, text: &str) -> Answer<A> {
+    pub fn put(&mut self, key: u64, text: &str) -> Answer<A>
+        ensures driven { Drives plain self.old.core self.new.core
+            (⟦<MemoryDisk<A> as Disk>⟧.byte_at self.old.disk) (⟦<MemoryDisk<A> as Disk>⟧.byte_at self.new.disk) }
+    {
         let piece = match self.piece(key, text) {
             Ok(piece) => piece,
             Err(error) => return Answer::Fault(error.kind()),
         };
         let size = EntrySerializer::estimated_size::<A, Key, String<A>>(piece.key(), piece.value());
-        match self
-            .core
-            .apply(&mut self.env, Step::Enqueue { piece, size })
-        {
+        match step(&mut self.core, &mut self.env, Step::Enqueue { piece, size }) {
             Reply::Queued(_) => Answer::Queued,
             Reply::Refused(kind, _) => Answer::Fault(kind),
             _ => Answer::Ignored,
@@ -89,13 +98,17 @@ impl<A: Allocator + Clone> Engine<A> {
     /// The text of a key: the newest that was put, whatever came before.
     pub fn get(&mut self, key: u64) -> Answer<A>
         ensures newest { IsNewestText key self.old.core (⟦<MemoryDisk<A> as Disk>⟧.byte_at self.old.disk) result }
+        ensures driven { Drives plain self.old.core self.new.core
+            (⟦<MemoryDisk<A> as Disk>⟧.byte_at self.old.disk) (⟦<MemoryDisk<A> as Disk>⟧.byte_at self.new.disk) }
     {
         match load(&mut self.core, &mut self.env, &mut self.disk, key, false) {
-            Ok(Reply::Entry {
-                key: _,
-                value,
-                age: _,
-            }) => Answer::Entry(value),
+            Ok(
+                Reply::Entry {
+                    key: _,
+                    value,
+                    age: _,
+                },
+            ) => Answer::Entry(value),
             Ok(Reply::Throttled) => Answer::Throttled,
             Ok(Reply::Refused(kind, _)) => Answer::Fault(kind),
             Ok(_) => Answer::Miss,
@@ -103,18 +116,24 @@ impl<A: Allocator + Clone> Engine<A> {
         }
     }
 
-    pub fn delete(&mut self, key: u64) -> Answer<A> {
-        match self.core.apply(&mut self.env, Step::Delete { hash: key }) {
+    pub fn delete(&mut self, key: u64) -> Answer<A>
+        ensures driven { Drives plain self.old.core self.new.core
+            (⟦<MemoryDisk<A> as Disk>⟧.byte_at self.old.disk) (⟦<MemoryDisk<A> as Disk>⟧.byte_at self.new.disk) }
+    {
+        match step(&mut self.core, &mut self.env, Step::Delete { hash: key }) {
             Reply::Refused(kind, _) => Answer::Fault(kind),
             _ => Answer::Ok,
         }
     }
 
     /// Queues a wait at each flusher, and flushes until no flusher has anything left to do.
-    pub fn wait(&mut self) -> Answer<A> {
+    pub fn wait(&mut self) -> Answer<A>
+        ensures driven { Drives plain self.old.core self.new.core
+            (⟦<MemoryDisk<A> as Disk>⟧.byte_at self.old.disk) (⟦<MemoryDisk<A> as Disk>⟧.byte_at self.new.disk) }
+    {
         for flusher in 0..self.flushers {
             let id = self.next_wait;
-            match self.core.apply(&mut self.env, Step::Wait { flusher, id }) {
+            match step(&mut self.core, &mut self.env, Step::Wait { flusher, id }) {
                 Reply::Refused(kind, _) => return Answer::Fault(kind),
                 _ => {}
             }
@@ -124,14 +143,20 @@ impl<A: Allocator + Clone> Engine<A> {
     }
 
     /// Takes no more puts, deletes and destroys, and waits.
-    pub fn close(&mut self) -> Answer<A> {
-        match self.core.apply(&mut self.env, Step::Close) {
+    pub fn close(&mut self) -> Answer<A>
+        ensures driven { Drives plain self.old.core self.new.core
+            (⟦<MemoryDisk<A> as Disk>⟧.byte_at self.old.disk) (⟦<MemoryDisk<A> as Disk>⟧.byte_at self.new.disk) }
+    {
+        match step(&mut self.core, &mut self.env, Step::Close) {
             Reply::Refused(kind, _) => Answer::Fault(kind),
             _ => self.wait(),
         }
     }
 
-    fn flush_all(&mut self) -> Answer<A> {
+    fn flush_all(&mut self) -> Answer<A>
+        ensures driven { Drives plain self.old.core self.new.core
+            (⟦<MemoryDisk<A> as Disk>⟧.byte_at self.old.disk) (⟦<MemoryDisk<A> as Disk>⟧.byte_at self.new.disk) }
+    {
         for flusher in 0..self.flushers {
             match self.flush(flusher) {
                 Ok(()) => {}
@@ -142,16 +167,23 @@ impl<A: Allocator + Clone> Engine<A> {
     }
 
     // Flushes until nothing is queued or received at a flusher.
-    fn flush(&mut self, flusher: u32) -> std::result::Result<(), ErrorKind> {
+    fn flush(&mut self, flusher: u32) -> std::result::Result<(), ErrorKind>
+        ensures driven { Drives plain self.old.core self.new.core
+            (⟦<MemoryDisk<A> as Disk>⟧.byte_at self.old.disk) (⟦<MemoryDisk<A> as Disk>⟧.byte_at self.new.disk) }
+    {
         for _ in 0..u64::MAX {
             self.receive_all(flusher)?;
-            let has_begun = match self.core.apply(&mut self.env, Step::FlushBegin { flusher }) {
+            let has_begun = match step(
+                &mut self.core,
+                &mut self.env,
+                Step::FlushBegin { flusher },
+            ) {
                 Reply::Refused(kind, _) => return Err(kind),
                 Reply::NotNow(_) => false,
                 _ => true,
             };
             self.write_all(flusher)?;
-            let has_ended = match self.core.apply(&mut self.env, Step::FlushEnd { flusher }) {
+            let has_ended = match step(&mut self.core, &mut self.env, Step::FlushEnd { flusher }) {
                 Reply::Refused(kind, _) => return Err(kind),
                 Reply::NotNow(_) => false,
                 _ => true,
@@ -164,9 +196,12 @@ impl<A: Allocator + Clone> Engine<A> {
     }
 
     // Takes all that is queued. A piece that is handed back doesn't fit, and is dropped.
-    fn receive_all(&mut self, flusher: u32) -> std::result::Result<(), ErrorKind> {
+    fn receive_all(&mut self, flusher: u32) -> std::result::Result<(), ErrorKind>
+        ensures driven { Drives plain self.old.core self.new.core
+            (⟦<MemoryDisk<A> as Disk>⟧.byte_at self.old.disk) (⟦<MemoryDisk<A> as Disk>⟧.byte_at self.new.disk) }
+    {
         for _ in 0..u64::MAX {
-            match self.core.apply(&mut self.env, Step::Receive { flusher }) {
+            match step(&mut self.core, &mut self.env, Step::Receive { flusher }) {
                 Reply::Received(_) => {}
                 Reply::Refused(kind, _) => return Err(kind),
                 _ => return Ok(()),
@@ -176,7 +211,10 @@ impl<A: Allocator + Clone> Engine<A> {
     }
 
     // Writes the blocks of the batch.
-    fn write_all(&mut self, flusher: u32) -> std::result::Result<(), ErrorKind> {
+    fn write_all(&mut self, flusher: u32) -> std::result::Result<(), ErrorKind>
+        ensures driven { Drives plain self.old.core self.new.core
+            (⟦<MemoryDisk<A> as Disk>⟧.byte_at self.old.disk) (⟦<MemoryDisk<A> as Disk>⟧.byte_at self.new.disk) }
+    {
         for _ in 0..u64::MAX {
             match write_block(&mut self.core, &mut self.env, &mut self.disk, flusher) {
                 Some(Reply::NoBlock) => return Err(ErrorKind::NoSpace),

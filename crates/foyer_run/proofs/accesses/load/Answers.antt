@@ -24,11 +24,11 @@ returns-in_default g c =
     let throttled = c.args.throttled in
     let answer = c.apply.result in
     let says = says_last m (load_of h throttled) [] [] answer c.args.core.now c.apply.new.self bytes bytes
-          (λ s sound w stands same.
-          load_alone m s sound w h throttled answer c.apply.new.self bytes
-          (step_alone m s sound spells w (move.LoadBegin h throttled) (step.LoadBegin h throttled) answer c.args.core.now c.apply.new.self bytes stands same refl tt
-          c.apply.ensures.back (λ v at built. c.apply.ensures.meets built s sound v.core at) c.apply.ensures.later)
-          (no_ticket answer c.in_default.not-Read)) in record {
+    (λ s sound w stands same.
+    load_alone m s sound w h throttled answer c.apply.new.self bytes
+    (step_alone m s sound spells w (move.LoadBegin h throttled) (step.LoadBegin h throttled) answer c.args.core.now c.apply.new.self bytes stands same refl tt
+    c.apply.ensures.back (λ v at built. c.apply.ensures.meets built s sound v.core at) c.apply.ensures.later)
+    (no_ticket answer c.in_default.not-Read)) in record {
       runs = says;
       drives = says_drive m (load_of h throttled) answer c.args.core.now c.apply.new.self bytes bytes says;
       newest = look_up_newest m h throttled answer c.args.core.now c.apply.new.self bytes (λ s sound v at. c.apply.ensures.meets tt s sound v.core at);

@@ -41,10 +41,10 @@ returns-then-not-goes_on g c =
     let ok = c.is_ok-went_well.ensures.value ∙ went_is outcome in
     let writes =
     written_ends m c.args.flusher b c.writes.write-index c.deref-write-items.result.now write outcome c.apply-reply.result c.args.core.now c.writes.core c.apply-reply.new.self
-          (g.D.Disk.byte_at c.args.disk.now) before after c.writes.invariant at
-          (done_is before after b write outcome c.write_told-wrote.ensures.wrote c.write_told-wrote.ensures.torn)
-          (λ s sound v at. c.apply-reply.ensures.meets tt s sound v.core at)
-          (elim c.if-not-goes_on.ensures [ inl failed ↦ inl (sym ok ∙ failed) | inr last ↦ inr last ]) in
+    (g.D.Disk.byte_at c.args.disk.now) before after c.writes.invariant at
+    (done_is before after b write outcome c.write_told-wrote.ensures.wrote c.write_told-wrote.ensures.torn)
+    (λ s sound v at. c.apply-reply.ensures.meets tt s sound v.core at)
+    (elim c.if-not-goes_on.ensures [ inl failed ↦ inl (sym ok ∙ failed) | inr last ↦ inr last ]) in
     record { writes = writes; drives = writes_drive m c.args.flusher (Some c.apply-reply.result) c.args.core.now c.apply-reply.new.self (g.D.Disk.byte_at c.args.disk.now) after writes }
 
 pub writes-preserved : goal.writes-preserved

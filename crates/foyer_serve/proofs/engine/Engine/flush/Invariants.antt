@@ -1,0 +1,5 @@
+use Rattle.foyer_serve.proofs.EngineLemmas.{Drove}
+use Rattle.foyer_serve.proofs.engine.Engine.flush.Given as goal
+
+abbrev pub invariant-loop : goal.invariant-loop
+invariant-loop g l = Drove l.fn.self l.self

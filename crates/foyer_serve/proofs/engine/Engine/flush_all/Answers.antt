@@ -1,0 +1,16 @@
+use Rattle.foyer_run.proofs.DriveLemmas.{drives_more, drives_none}
+use Rattle.foyer_serve.specs.Texts.{plain}
+use Rattle.foyer_serve.proofs.EngineLemmas.{bytes_of}
+use Rattle.foyer_serve.proofs.engine.Engine.flush_all.Goals as goal
+
+pub loop-flusher-init : goal.loop-flusher-init
+loop-flusher-init g c = drives_none plain c.args.self.now.core (bytes_of c.args.self.now.disk)
+
+pub returns-in-Err : goal.returns-in-Err
+returns-in-Err g c = record { driven = drives_more plain c.args.self.now.core c.loop-flusher.self.core c.flush.new.self.core (bytes_of c.args.self.now.disk) (bytes_of c.loop-flusher.self.disk) (bytes_of c.flush.new.self.disk) c.loop-flusher.invariant (c.flush.ensures.driven) }
+
+pub loop-flusher-preserved : goal.loop-flusher-preserved
+loop-flusher-preserved g c = drives_more plain c.args.self.now.core c.loop-flusher.self.core c.flush.new.self.core (bytes_of c.args.self.now.disk) (bytes_of c.loop-flusher.self.disk) (bytes_of c.flush.new.self.disk) c.loop-flusher.invariant (c.flush.ensures.driven)
+
+pub returns : goal.returns
+returns g c = record { driven = c.loop-flusher.invariant }
