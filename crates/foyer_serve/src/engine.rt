@@ -1,9 +1,9 @@
 //! The engine that the program keeps: a core over a disk in memory, driven on one thread.
-ghost use Rattle.std.specs.Prelude.{◌≡◌, [], None, IfOk};
+ghost use Rattle.std.specs.Prelude.{◌≡◌, [], None, IfOk, string_bytes};
 ghost use Rattle.foyer_core.specs.Sizes.{IsSound};
 ghost use Rattle.foyer_run.specs.Driven.{Drives};
 ghost use Rattle.foyer_run.specs.Newest.{IsHistory};
-ghost use Rattle.foyer_serve.specs.Texts.{IsNewestText, plain};
+ghost use Rattle.foyer_serve.specs.Texts.{IsDeleted, IsNewestText, IsPut, plain};
 
 use foyer_core::apply::Env;
 use foyer_core::reply::Reply;
@@ -73,13 +73,16 @@ impl<A: Allocator + Clone> Engine<A> {
     }
 
     fn piece(&self, key: u64, text: &str) -> Result<Piece<Key, String<A>, NoProperties, A>>
-        ensures { IfOk result (λ piece. piece.hash ≡ key) }
+        ensures { IfOk result (λ piece. (piece.key ≡ key) × (piece.hash ≡ key) × (string_bytes piece.value ≡ text.now)) }
     {
         let value = String::from_str(self.alloc.clone()?, text)?;
         Piece::new(self.alloc.clone()?, key, value, key, NoProperties)
     }
 
+    /// Queues a text under a key.
     pub fn put(&mut self, key: u64, text: &str) -> Answer<A>
+        ensures queues { IsPut key text.now self.old.core self.new.core
+            (⟦<MemoryDisk<A> as Disk>⟧.byte_at self.old.disk) (⟦<MemoryDisk<A> as Disk>⟧.byte_at self.new.disk) result }
         ensures driven { Drives plain self.old.core self.new.core
             (⟦<MemoryDisk<A> as Disk>⟧.byte_at self.old.disk) (⟦<MemoryDisk<A> as Disk>⟧.byte_at self.new.disk) }
     {
@@ -116,7 +119,10 @@ impl<A: Allocator + Clone> Engine<A> {
         }
     }
 
+    /// Deletes what a key has, at once.
     pub fn delete(&mut self, key: u64) -> Answer<A>
+        ensures deletes { IsDeleted key self.old.core self.new.core
+            (⟦<MemoryDisk<A> as Disk>⟧.byte_at self.old.disk) (⟦<MemoryDisk<A> as Disk>⟧.byte_at self.new.disk) }
         ensures driven { Drives plain self.old.core self.new.core
             (⟦<MemoryDisk<A> as Disk>⟧.byte_at self.old.disk) (⟦<MemoryDisk<A> as Disk>⟧.byte_at self.new.disk) }
     {
