@@ -1,5 +1,5 @@
 -- A step, a load and a block's writes, as runs of moves.
-use Rattle.std.proofs.Common.{◌≡◌, ℕ, zero, suc, ◌+◌, ◌<◌, Bool, true, false, List, [], ◌∷◌, ◌++◌, ◌⊎◌, inl, inr, length, replicate, Option, Some, None, Result, slice_get, slice_set, refl, sym, ap, subst, ◌∙◌, arith}
+use Rattle.std.proofs.Common.{◌≡◌, ℕ, zero, suc, ◌+◌, ◌<◌, ◌≤◌, Bool, true, false, List, [], ◌∷◌, ◌++◌, ◌⊎◌, inl, inr, length, replicate, Option, Some, None, Result, slice_get, slice_set, refl, sym, ap, subst, ◌∙◌, arith}
 use Rattle.std.specs.declared.vec.Vec.{Vec}
 use Rattle.foyer_device.specs.declared.error.Error.{Error}
 use Rattle.foyer_model.specs.World.{World, after_all}
@@ -19,16 +19,15 @@ use Rattle.foyer_core.specs.declared.step.Step.TheVariants as step
 use Rattle.foyer_core.specs.declared.step.Ticket.{Ticket}
 use Rattle.foyer_core.proofs.Opening.{replicate-end}
 use Rattle.foyer_core.proofs.StateLemmas.{set_count, set_here}
-use Rattle.foyer_run.specs.Accesses.{Says, Writes, last_of, load_of, writes_of}
+use Rattle.foyer_run.specs.Accesses.{Says, WritesAll, WritesUntil, load_of, writes_of}
 use Rattle.foyer_run.specs.Moves.{asked}
 use Rattle.foyer_run.specs.Running.{IsFree, IsMoved, at, block_in, ticket_in, with_ticket}
-use Rattle.foyer_run.specs.Runs.{IsFront}
+use Rattle.foyer_run.specs.Runs.{IsFront, IsRun}
 use Rattle.foyer_run.specs.declared.moves.Asked.TheVariants as asks
 use Rattle.foyer_run.specs.declared.moves.Move.{Move}
 use Rattle.foyer_run.specs.declared.moves.Move.TheVariants as move
 use Rattle.foyer_run.specs.declared.moves.Told.{Told}
 use Rattle.foyer_run.proofs.BlockLemmas.{block_moves, first_told, flusher_there}
-use Rattle.foyer_run.proofs.ListLemmas.{append_none}
 use Rattle.foyer_run.proofs.LoadLemmas.{IsCome, load_moves, load_passes}
 use Rattle.foyer_run.proofs.RunLemmas.{IsGoing, going_first, going_on, gone}
 use Rattle.foyer_run.proofs.StepLemmas.{Spells, step_moves}
@@ -191,37 +190,47 @@ module _ {K V P A : Type 0} (m : Meaning K V P) where
   pub record AreWritten (f b k : ℕ) (items : List (Write A)) (old core : Core K V P A) (bytes bytes' : ℕ → ℕ → ℕ) : Type 0 where
     pub ws : Vec (Write A) A
     pub rest : List (Reply K V P A)
+    pub rest_is : rest ≡ replicate k reply.Next
+    pub within : k ≤ length items
     pub items_are : ws.items ≡ items
     pub writing : (s : Settings) (sound : IsSound s) (w : World Content) → IsStateOf m s old w.core → ((b o : ℕ) → w.bytes b o ≡ bytes b o)
         → IsWriting m s sound w f b k (reply.Write b ws ∷ rest) core bytes'
 
   pub written_none : (f : ℕ) (answer : Reply K V P A) (old new : Core K V P A) (bytes : ℕ → ℕ → ℕ)
       → ((s : Settings) (sound : IsSound s) (v : World Content) → IsStateOf m s old v.core → IsMet m s sound (step.FlushBlock f) answer new v.core) → block_in answer ≡ None
-      → Writes m f (Some answer) old new bytes bytes
+      → WritesUntil m f answer old new bytes bytes
   written_none f answer old new bytes meets none = record {
     count = 0;
-    before = [];
-    runs = λ s sound w stands same. gone m s sound w (writes_of f 0) (with_ticket (ticket_in answer) []) (unnoted s) (answer ∷ []) new bytes
-        (writing_none m s sound w f answer old new bytes stands same (meets s sound) none);
+    says = record {
+      before = [];
+      runs = λ s sound w stands same. gone m s sound w (writes_of f 0) (with_ticket (ticket_in answer) []) (unnoted s) (answer ∷ []) new bytes
+          (writing_none m s sound w f answer old new bytes stands same (meets s sound) none);
+    };
   }
 
-  pub written_all : (f b k : ℕ) (items : List (Write A)) (old core : Core K V P A) (bytes bytes' : ℕ → ℕ → ℕ) → AreWritten f b k items old core bytes bytes' → Writes m f None old core bytes bytes'
-  written_all f b k items old core bytes bytes' are = record {
-    count = k;
-    before = reply.Write b are.ws ∷ are.rest;
-    runs = λ s sound w stands same.
-        let writing = are.writing s sound w stands same in
-        gone m s sound w (writes_of f k) [] writing.told (reply.Write b are.ws ∷ (are.rest ++ [])) core bytes'
-        (subst (λ xs. IsGoing m s sound w (writes_of f k) [] writing.told (reply.Write b are.ws ∷ xs) core bytes') (sym (append_none are.rest)) writing.going);
-  }
+  pub written_all : (f b k : ℕ) (items : List (Write A)) (old core : Core K V P A) (bytes bytes' : ℕ → ℕ → ℕ) → AreWritten f b k items old core bytes bytes' → length items ≤ k → WritesAll m f old core bytes bytes'
+  written_all f b k items old core bytes bytes' are over =
+      let bound : k ≤ length items = are.within in
+      let counted : length are.ws.items ≡ length items = ap length are.items_are in
+      let all : k ≡ length are.ws.items = omega arith in record {
+        block = b;
+        writes = are.ws;
+        runs = λ s sound w stands same.
+            let writing = are.writing s sound w stands same in
+            let run = gone m s sound w (writes_of f k) [] writing.told (reply.Write b are.ws ∷ are.rest) core bytes' writing.going in
+            subst (λ n. IsRun m s sound w (writes_of f n) (reply.Write b are.ws ∷ replicate n reply.Next) core bytes') all
+            (subst (λ xs. IsRun m s sound w (writes_of f k) (reply.Write b are.ws ∷ xs) core bytes') are.rest_is run);
+      }
 
   pub written_on : (f b k : ℕ) (items : List (Write A)) (write : Write A) (outcome : _) (answer : Reply K V P A) (old core new : Core K V P A) (bytes bytes' bytes'' : ℕ → ℕ → ℕ)
-      → AreWritten f b k items old core bytes bytes' → slice_get items k ≡ Some write → IsDone bytes' bytes'' b write (went_well outcome)
+      → AreWritten f b k items old core bytes bytes' → k < length items → slice_get items k ≡ Some write → IsDone bytes' bytes'' b write (went_well outcome)
       → ((s : Settings) (sound : IsSound s) (v : World Content) → IsStateOf m s core v.core → IsMet m s sound (step.FlushWrote f outcome) answer new v.core)
       → went_well outcome ≡ true → answer ≡ reply.Next → AreWritten f b (k + 1) items old new bytes bytes''
-  written_on f b k items write outcome answer old core new bytes bytes' bytes'' are is done meets well next = record {
+  written_on f b k items write outcome answer old core new bytes bytes' bytes'' are lt is done meets well next = record {
     ws = are.ws;
     rest = are.rest ++ answer ∷ [];
+    rest_is = ap (λ xs. xs ++ answer ∷ []) are.rest_is ∙ ap (λ r. replicate k reply.Next ++ r ∷ []) next ∙ replicate-end k reply.Next;
+    within = omega (arith, lt);
     items_are = are.items_are;
     writing = λ s sound w stands same.
         writing_on m s sound w f b k are.ws are.rest write outcome answer core new bytes' bytes'' (are.writing s sound w stands same)
@@ -231,13 +240,15 @@ module _ {K V P A : Type 0} (m : Meaning K V P) where
   pub written_ends : (f b k : ℕ) (items : List (Write A)) (write : Write A) (outcome : _) (answer : Reply K V P A) (old core new : Core K V P A) (bytes bytes' bytes'' : ℕ → ℕ → ℕ)
       → AreWritten f b k items old core bytes bytes' → slice_get items k ≡ Some write → IsDone bytes' bytes'' b write (went_well outcome)
       → ((s : Settings) (sound : IsSound s) (v : World Content) → IsStateOf m s core v.core → IsMet m s sound (step.FlushWrote f outcome) answer new v.core)
-      → ((went_well outcome ≡ false) ⊎ (answer ≡ reply.Next → ⊥)) → Writes m f (Some answer) old new bytes bytes''
+      → ((went_well outcome ≡ false) ⊎ (answer ≡ reply.Next → ⊥)) → WritesUntil m f answer old new bytes bytes''
   written_ends f b k items write outcome answer old core new bytes bytes' bytes'' are is done meets why = record {
     count = k + 1;
-    before = reply.Write b are.ws ∷ are.rest;
-    runs = λ s sound w stands same.
-        let writing = are.writing s sound w stands same in
-        gone m s sound w (writes_of f (k + 1)) (with_ticket (ticket_in answer) []) (slice_set writing.told f None) (reply.Write b are.ws ∷ (are.rest ++ answer ∷ [])) new bytes''
-        (writing_ends m s sound w f b k are.ws are.rest write outcome answer core new bytes' bytes'' writing
-        (ap (λ xs. slice_get xs k) are.items_are ∙ is) done (meets s sound) why);
+    says = record {
+      before = reply.Write b are.ws ∷ are.rest;
+      runs = λ s sound w stands same.
+          let writing = are.writing s sound w stands same in
+          gone m s sound w (writes_of f (k + 1)) (with_ticket (ticket_in answer) []) (slice_set writing.told f None) (reply.Write b are.ws ∷ (are.rest ++ answer ∷ [])) new bytes''
+          (writing_ends m s sound w f b k are.ws are.rest write outcome answer core new bytes' bytes'' writing
+          (ap (λ xs. slice_get xs k) are.items_are ∙ is) done (meets s sound) why);
+    };
   }

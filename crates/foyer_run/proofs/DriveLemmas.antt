@@ -1,5 +1,5 @@
 -- What drives a core: runs, fronts of runs, single steps, and one after the other.
-use Rattle.std.proofs.Common.{◌≡◌, ℕ, List, [], ◌∷◌, ◌++◌, Option, refl, sym, ap, subst, ◌∙◌}
+use Rattle.std.proofs.Common.{◌≡◌, ℕ, List, [], ◌∷◌, ◌++◌, length, replicate, Option, Some, None, refl, sym, ap, subst, ◌∙◌}
 use Rattle.foyer_model.specs.World.{World, WorldEvent, after_all}
 use Rattle.foyer_core.specs.Answered.{HandsBack}
 use Rattle.foyer_core.specs.Begins.{first_world}
@@ -10,10 +10,11 @@ use Rattle.foyer_core.specs.Plain.{IsSpelled}
 use Rattle.foyer_core.specs.Sizes.{IsSound}
 use Rattle.foyer_core.specs.Standing.{IsStateOf}
 use Rattle.foyer_core.specs.declared.reply.Reply.{Reply}
+use Rattle.foyer_core.specs.declared.reply.Reply.TheVariants as reply
 use Rattle.foyer_core.specs.declared.settings.Settings.{Settings}
 use Rattle.foyer_core.specs.declared.state.Core.{Core}
 use Rattle.foyer_core.specs.declared.step.Step.{Step}
-use Rattle.foyer_run.specs.Accesses.{Says, Writes, last_of, writes_of}
+use Rattle.foyer_run.specs.Accesses.{Says, Writes, writes_of}
 use Rattle.foyer_run.specs.Driven.{Drives, IsDriven}
 use Rattle.foyer_run.specs.Moves.{asked}
 use Rattle.foyer_run.specs.Newest.{IsHistory}
@@ -54,7 +55,8 @@ module _ {K V P A : Type 0} (m : Meaning K V P) where
   says_drive moves last a b x y says = runs_drive moves (says.before ++ last ∷ []) a b x y says.runs
 
   pub writes_drive : (f : ℕ) (last : Option (Reply K V P A)) (a b : Core K V P A) (x y : ℕ → ℕ → ℕ) → Writes m f last a b x y → Drives m a b x y
-  writes_drive f last a b x y writes = runs_drive (writes_of f writes.count) (writes.before ++ last_of last) a b x y writes.runs
+  writes_drive f None a b x y all = runs_drive (writes_of f (length all.writes.items)) (reply.Write all.block all.writes ∷ replicate (length all.writes.items) reply.Next) a b x y all.runs
+  writes_drive f (Some last) a b x y until = says_drive (writes_of f until.count) last a b x y until.says
 
   -- a step that brings no result and tells no write
   pub step_drives : (spells : Spells m) (given : Step K V P A) (answer : Reply K V P A) (old new : Core K V P A) (bytes : ℕ → ℕ → ℕ)

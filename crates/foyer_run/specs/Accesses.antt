@@ -1,7 +1,10 @@
 -- A load and a block's writes, each with its accesses in their place: as runs of moves.
-use Rattle.std.specs.Prelude.{◌≡◌, ℕ, Bool, List, [], ◌∷◌, ◌++◌, replicate, Option, Some, None}
+use Rattle.std.specs.Prelude.{◌≡◌, ℕ, Bool, List, [], ◌∷◌, ◌++◌, length, replicate, Option, Some, None}
+use Rattle.std.specs.declared.vec.Vec.{Vec}
 use Rattle.foyer_core.specs.Content.{Meaning}
 use Rattle.foyer_core.specs.declared.reply.Reply.{Reply}
+use Rattle.foyer_core.specs.declared.reply.Reply.TheVariants as reply
+use Rattle.foyer_core.specs.declared.reply.Write.{Write}
 use Rattle.foyer_core.specs.declared.state.Core.{Core}
 use Rattle.foyer_run.specs.Runs.{Runs}
 use Rattle.foyer_run.specs.declared.moves.Move.{Move}
@@ -20,13 +23,17 @@ pub record Says {K V P A : Type 0} (m : Meaning K V P) (moves : List (Move K V P
   pub before : List (Reply K V P A)
   pub runs : Runs m moves (before ++ last ∷ []) old new old_bytes new_bytes
 
--- what was said last, if it is told
-abbrev pub last_of : {K V P A : Type 0} → Option (Reply K V P A) → List (Reply K V P A)
-last_of None = []
-last_of (Some answer) = answer ∷ []
-
--- a block of the flusher was asked for, and some of its writes were done and reported
-pub record Writes {K V P A : Type 0} (m : Meaning K V P) (flusher : ℕ) (last : Option (Reply K V P A)) (old new : Core K V P A) (old_bytes new_bytes : ℕ → ℕ → ℕ) : Type 0 where
+-- a block of the flusher was asked for, and so many of its writes were done and reported, of which the last was answered so
+pub record WritesUntil {K V P A : Type 0} (m : Meaning K V P) (flusher : ℕ) (last : Reply K V P A) (old new : Core K V P A) (old_bytes new_bytes : ℕ → ℕ → ℕ) : Type 0 where
   pub count : ℕ
-  pub before : List (Reply K V P A)
-  pub runs : Runs m (writes_of flusher count) (before ++ last_of last) old new old_bytes new_bytes
+  pub says : Says m (writes_of flusher count) last old new old_bytes new_bytes
+
+-- a block was asked for, and all of its writes were done and reported, each of them asking for the next
+pub record WritesAll {K V P A : Type 0} (m : Meaning K V P) (flusher : ℕ) (old new : Core K V P A) (old_bytes new_bytes : ℕ → ℕ → ℕ) : Type 0 where
+  pub block : ℕ
+  pub writes : Vec (Write A) A
+  pub runs : Runs m (writes_of flusher (length writes.items)) (reply.Write block writes ∷ replicate (length writes.items) reply.Next) old new old_bytes new_bytes
+
+abbrev pub Writes : {K V P A : Type 0} → Meaning K V P → ℕ → Option (Reply K V P A) → (old new : Core K V P A) → (old_bytes new_bytes : ℕ → ℕ → ℕ) → Type 0
+Writes m flusher None old new old_bytes new_bytes = WritesAll m flusher old new old_bytes new_bytes
+Writes m flusher (Some last) old new old_bytes new_bytes = WritesUntil m flusher last old new old_bytes new_bytes

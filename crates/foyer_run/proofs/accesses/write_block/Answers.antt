@@ -1,4 +1,4 @@
-use Rattle.std.proofs.Common.{[], None, Some, inl, inr, sym, ap, subst, ◌∙◌}
+use Rattle.std.proofs.Common.{[], arith, None, Some, inl, inr, refl, sym, ap, subst, ◌∙◌}
 use Rattle.foyer_block.proofs.Found.{slice_get_at}
 use Rattle.foyer_core.specs.Content.{meaning}
 use Rattle.foyer_core.specs.Meets.{IsMet}
@@ -23,6 +23,8 @@ writes-init g c =
     let m = meaning g.K.Code.spelling g.V.Code.spelling g.K.Code.encodes g.V.Code.encodes g.K.Code.is_spelling g.V.Code.is_spelling g.P.Properties.age in record {
       ws = c.in-Write.writes;
       rest = [];
+      rest_is = refl;
+      within = omega arith;
       items_are = sym c.deref-write-items.ensures.value;
       writing = λ s sound w stands same.
           writing_first m s sound w c.args.flusher c.in-Write.block c.in-Write.writes c.args.core.now c.apply.new.self (g.D.Disk.byte_at c.args.disk.now) stands same
@@ -58,7 +60,7 @@ writes-preserved g c =
     let at = slice_get_at c.deref-write-items.result.now c.writes.write-index write c.writes-test.true c.write-item.is in
     let ok = c.is_ok-went_well.ensures.value ∙ went_is outcome in
     written_on m c.args.flusher b c.writes.write-index c.deref-write-items.result.now write outcome c.apply-reply.result c.args.core.now c.writes.core c.apply-reply.new.self
-    (g.D.Disk.byte_at c.args.disk.now) before after c.writes.invariant at
+    (g.D.Disk.byte_at c.args.disk.now) before after c.writes.invariant c.writes-test.true at
     (done_is before after b write outcome c.write_told-wrote.ensures.wrote c.write_told-wrote.ensures.torn)
     (λ s sound v at. c.apply-reply.ensures.meets tt s sound v.core at)
     (sym ok ∙ c.if-not-goes_on.ensures.0) c.if-not-goes_on.ensures.1
@@ -68,5 +70,5 @@ returns g c =
     let m = meaning g.K.Code.spelling g.V.Code.spelling g.K.Code.encodes g.V.Code.encodes g.K.Code.is_spelling g.V.Code.is_spelling g.P.Properties.age in
     let bytes = g.D.Disk.byte_at c.args.disk.now in
     let after = g.D.Disk.byte_at c.writes.disk in
-    let writes = written_all m c.args.flusher c.in-Write.block c.writes.write-index c.deref-write-items.result.now c.args.core.now c.writes.core bytes after c.writes.invariant in
+    let writes = written_all m c.args.flusher c.in-Write.block c.writes.write-index c.deref-write-items.result.now c.args.core.now c.writes.core bytes after c.writes.invariant c.writes-test.false in
     record { writes = writes; drives = writes_drive m c.args.flusher None c.args.core.now c.writes.core bytes after writes }
