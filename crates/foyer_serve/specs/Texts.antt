@@ -1,14 +1,16 @@
 -- What the program's engine answers, of keys that are numbers and values that are texts without an age of their own.
-use Rattle.std.specs.Prelude.{◌≡◌, ℕ, List, [], ◌∷◌, None, string_bytes}
+use Rattle.std.specs.Prelude.{◌≡◌, ◌⊎◌, ℕ, false, List, [], ◌∷◌, None, string_bytes}
 use Rattle.std.specs.declared.string.String.{String}
+use Rattle.foyer_device.specs.declared.error.ErrorKind.TheVariants as kind
 use Rattle.foyer_format.specs.declared.serde.ages.Age.{Age}
 use Rattle.foyer_policy.specs.Record.{Record}
 use Rattle.foyer_core.specs.Content.{Meaning}
 use Rattle.foyer_core.specs.declared.reply.Reply.{Reply}
 use Rattle.foyer_core.specs.declared.reply.Reply.TheVariants as reply
 use Rattle.foyer_core.specs.declared.state.Core.{Core}
-use Rattle.foyer_run.specs.Accesses.{Says}
+use Rattle.foyer_run.specs.Accesses.{Says, load_of}
 use Rattle.foyer_run.specs.Newest.{IsNewest}
+use Rattle.foyer_run.specs.Runs.{IsFront}
 use Rattle.foyer_run.specs.Texts.{of_texts}
 use Rattle.foyer_run.specs.declared.moves.Move.TheVariants as move
 use Rattle.foyer_serve.specs.declared.engine.Answer.{Answer}
@@ -24,22 +26,53 @@ abbrev pub IsNewestText : {A : Type 0} → ℕ → Core ℕ (String A) NoPropert
 IsNewestText key core bytes (answer.Entry text) = (other : ℕ) × (age : Age) × IsNewest plain key core bytes (reply.Entry other text age)
 IsNewestText key core bytes said = Unit {0}
 
--- an Enqueue of this key and text was queued, and nothing else happened
-pub record IsEnqueued {A : Type 0} (key : ℕ) (text : List ℕ) (old new : Core ℕ (String A) NoProperties A) (old_bytes new_bytes : ℕ → ℕ → ℕ) : Type 0 where
+-- what a load's reply is told as
+abbrev pub got : {A : Type 0} → Reply ℕ (String A) NoProperties A → Answer A
+got (reply.Entry key text age) = answer.Entry text
+got reply.Throttled = answer.Throttled
+got (reply.Refused kind back) = answer.Fault kind
+got said = answer.Miss
+
+-- a load of this key was answered so, and nothing else happened
+pub record IsLoaded {A : Type 0} (key : ℕ) (old new : Core ℕ (String A) NoProperties A) (old_bytes new_bytes : ℕ → ℕ → ℕ) (told : Answer A) : Type 0 where
+  pub last : Reply ℕ (String A) NoProperties A
+  pub is : told ≡ got last
+  pub says : Says plain (load_of key false) last old new old_bytes new_bytes
+
+-- or memory for it was refused, and a front of it happened
+abbrev pub IsGot : {A : Type 0} → ℕ → (old new : Core ℕ (String A) NoProperties A) → (old_bytes new_bytes : ℕ → ℕ → ℕ) → Answer A → Type 0
+IsGot key old new old_bytes new_bytes told =
+    IsLoaded key old new old_bytes new_bytes told ⊎ ((told ≡ answer.Fault kind.Memory) × IsFront plain (load_of key false) old new old_bytes new_bytes)
+
+-- what an enqueue's reply is told as
+abbrev pub put_as : {A : Type 0} → Reply ℕ (String A) NoProperties A → Answer A
+put_as (reply.Queued sequence) = answer.Queued
+put_as (reply.Refused kind back) = answer.Fault kind
+put_as said = answer.Ignored
+
+-- an Enqueue of this key and text was answered so, and nothing else happened
+pub record IsEnqueued {A : Type 0} (key : ℕ) (text : List ℕ) (old new : Core ℕ (String A) NoProperties A) (old_bytes new_bytes : ℕ → ℕ → ℕ) (told : Answer A) : Type 0 where
   pub piece : Record ℕ (String A) NoProperties
   pub size : ℕ
-  pub sequence : ℕ
+  pub last : Reply ℕ (String A) NoProperties A
   pub key_is : piece.key ≡ key
   pub hash_is : piece.hash ≡ key
   pub value_is : string_bytes piece.value ≡ text
-  pub says : Says plain (move.Enqueue piece size ∷ []) (reply.Queued sequence) old new old_bytes new_bytes
+  pub is : told ≡ put_as last
+  pub says : Says plain (move.Enqueue piece size ∷ []) last old new old_bytes new_bytes
 
--- what a put that is answered so did
+-- or memory for its piece was refused, and nothing happened
 abbrev pub IsPut : {A : Type 0} → ℕ → List ℕ → (old new : Core ℕ (String A) NoProperties A) → (old_bytes new_bytes : ℕ → ℕ → ℕ) → Answer A → Type 0
-IsPut key text old new old_bytes new_bytes answer.Queued = IsEnqueued key text old new old_bytes new_bytes
-IsPut key text old new old_bytes new_bytes said = Unit {0}
+IsPut key text old new old_bytes new_bytes told =
+    IsEnqueued key text old new old_bytes new_bytes told ⊎ ((told ≡ answer.Fault kind.Memory) × (new ≡ old) × (new_bytes ≡ old_bytes))
 
--- a Delete of this key was answered, and nothing else happened
-pub record IsDeleted {A : Type 0} (key : ℕ) (old new : Core ℕ (String A) NoProperties A) (old_bytes new_bytes : ℕ → ℕ → ℕ) : Type 0 where
+-- what a delete's reply is told as
+abbrev pub deleted_as : {A : Type 0} → Reply ℕ (String A) NoProperties A → Answer A
+deleted_as (reply.Refused kind back) = answer.Fault kind
+deleted_as said = answer.Ok
+
+-- a Delete of this key was answered so, and nothing else happened
+pub record IsDeleted {A : Type 0} (key : ℕ) (old new : Core ℕ (String A) NoProperties A) (old_bytes new_bytes : ℕ → ℕ → ℕ) (told : Answer A) : Type 0 where
   pub last : Reply ℕ (String A) NoProperties A
+  pub is : told ≡ deleted_as last
   pub says : Says plain (move.Delete key ∷ []) last old new old_bytes new_bytes

@@ -1,9 +1,10 @@
 //! The engine that the program keeps: a core over a disk in memory, driven on one thread.
-ghost use Rattle.std.specs.Prelude.{◌≡◌, [], None, IfOk, string_bytes};
+ghost use Rattle.std.specs.Prelude.{◌≡◌, [], None, IfOk, IfErr, string_bytes};
+ghost use Rattle.foyer_device.specs.declared.error.Error.TheVariants.{Memory};
 ghost use Rattle.foyer_core.specs.Sizes.{IsSound};
 ghost use Rattle.foyer_run.specs.Driven.{Drives};
 ghost use Rattle.foyer_run.specs.Newest.{IsHistory};
-ghost use Rattle.foyer_serve.specs.Texts.{IsDeleted, IsNewestText, IsPut, plain};
+ghost use Rattle.foyer_serve.specs.Texts.{IsDeleted, IsGot, IsNewestText, IsPut, deleted_as, got, plain, put_as};
 
 use foyer_core::apply::Env;
 use foyer_core::reply::Reply;
@@ -44,6 +45,42 @@ pub enum Answer<A: Allocator> {
     Fault(ErrorKind),
 }
 
+type Told<A> = Reply<Key, String<A>, NoProperties, A>;
+
+fn tell_put<A: Allocator>(last: Told<A>) -> Answer<A>
+    ensures { result ≡ put_as last }
+{
+    match last {
+        Reply::Queued(_) => Answer::Queued,
+        Reply::Refused(kind, _) => Answer::Fault(kind),
+        _ => Answer::Ignored,
+    }
+}
+
+fn tell_load<A: Allocator>(last: Told<A>) -> Answer<A>
+    ensures { result ≡ got last }
+{
+    match last {
+        Reply::Entry {
+            key: _,
+            value,
+            age: _,
+        } => Answer::Entry(value),
+        Reply::Throttled => Answer::Throttled,
+        Reply::Refused(kind, _) => Answer::Fault(kind),
+        _ => Answer::Miss,
+    }
+}
+
+fn tell_delete<A: Allocator>(last: Told<A>) -> Answer<A>
+    ensures { result ≡ deleted_as last }
+{
+    match last {
+        Reply::Refused(kind, _) => Answer::Fault(kind),
+        _ => Answer::Ok,
+    }
+}
+
 /// A core with its disk.
 #[derive(Drop)]
 pub struct Engine<A: Allocator> {
@@ -73,7 +110,8 @@ impl<A: Allocator + Clone> Engine<A> {
     }
 
     fn piece(&self, key: u64, text: &str) -> Result<Piece<Key, String<A>, NoProperties, A>>
-        ensures { IfOk result (λ piece. (piece.key ≡ key) × (piece.hash ≡ key) × (string_bytes piece.value ≡ text.now)) }
+        ensures memory { IfErr result (λ e. e ≡ Memory) }
+        ensures ok { IfOk result (λ piece. (piece.key ≡ key) × (piece.hash ≡ key) × (string_bytes piece.value ≡ text.now)) }
     {
         let value = String::from_str(self.alloc.clone()?, text)?;
         Piece::new(self.alloc.clone()?, key, value, key, NoProperties)
@@ -81,7 +119,7 @@ impl<A: Allocator + Clone> Engine<A> {
 
     /// Queues a text under a key.
     pub fn put(&mut self, key: u64, text: &str) -> Answer<A>
-        ensures queues { IsPut key text.now self.old.core self.new.core
+        ensures says { IsPut key text.now self.old.core self.new.core
             (⟦<MemoryDisk<A> as Disk>⟧.byte_at self.old.disk) (⟦<MemoryDisk<A> as Disk>⟧.byte_at self.new.disk) result }
         ensures driven { Drives plain self.old.core self.new.core
             (⟦<MemoryDisk<A> as Disk>⟧.byte_at self.old.disk) (⟦<MemoryDisk<A> as Disk>⟧.byte_at self.new.disk) }
@@ -91,45 +129,31 @@ impl<A: Allocator + Clone> Engine<A> {
             Err(error) => return Answer::Fault(error.kind()),
         };
         let size = EntrySerializer::estimated_size::<A, Key, String<A>>(piece.key(), piece.value());
-        match step(&mut self.core, &mut self.env, Step::Enqueue { piece, size }) {
-            Reply::Queued(_) => Answer::Queued,
-            Reply::Refused(kind, _) => Answer::Fault(kind),
-            _ => Answer::Ignored,
-        }
+        tell_put(step(&mut self.core, &mut self.env, Step::Enqueue { piece, size }))
     }
 
     /// The text of a key: the newest that was put, whatever came before.
     pub fn get(&mut self, key: u64) -> Answer<A>
         ensures newest { IsNewestText key self.old.core (⟦<MemoryDisk<A> as Disk>⟧.byte_at self.old.disk) result }
+        ensures says { IsGot key self.old.core self.new.core
+            (⟦<MemoryDisk<A> as Disk>⟧.byte_at self.old.disk) (⟦<MemoryDisk<A> as Disk>⟧.byte_at self.new.disk) result }
         ensures driven { Drives plain self.old.core self.new.core
             (⟦<MemoryDisk<A> as Disk>⟧.byte_at self.old.disk) (⟦<MemoryDisk<A> as Disk>⟧.byte_at self.new.disk) }
     {
         match load(&mut self.core, &mut self.env, &mut self.disk, key, false) {
-            Ok(
-                Reply::Entry {
-                    key: _,
-                    value,
-                    age: _,
-                },
-            ) => Answer::Entry(value),
-            Ok(Reply::Throttled) => Answer::Throttled,
-            Ok(Reply::Refused(kind, _)) => Answer::Fault(kind),
-            Ok(_) => Answer::Miss,
+            Ok(last) => tell_load(last),
             Err(_) => Answer::Fault(ErrorKind::Memory),
         }
     }
 
     /// Deletes what a key has, at once.
     pub fn delete(&mut self, key: u64) -> Answer<A>
-        ensures deletes { IsDeleted key self.old.core self.new.core
-            (⟦<MemoryDisk<A> as Disk>⟧.byte_at self.old.disk) (⟦<MemoryDisk<A> as Disk>⟧.byte_at self.new.disk) }
+        ensures says { IsDeleted key self.old.core self.new.core
+            (⟦<MemoryDisk<A> as Disk>⟧.byte_at self.old.disk) (⟦<MemoryDisk<A> as Disk>⟧.byte_at self.new.disk) result }
         ensures driven { Drives plain self.old.core self.new.core
             (⟦<MemoryDisk<A> as Disk>⟧.byte_at self.old.disk) (⟦<MemoryDisk<A> as Disk>⟧.byte_at self.new.disk) }
     {
-        match step(&mut self.core, &mut self.env, Step::Delete { hash: key }) {
-            Reply::Refused(kind, _) => Answer::Fault(kind),
-            _ => Answer::Ok,
-        }
+        tell_delete(step(&mut self.core, &mut self.env, Step::Delete { hash: key }))
     }
 
     /// Queues a wait at each flusher, and flushes until no flusher has anything left to do.
