@@ -93,11 +93,13 @@ pub struct Engine<A: Allocator> {
 }
 
 impl<A: Allocator + Clone> Engine<A> {
-    /// Opens an engine that finds nothing, over zeroed memory.
+    /// Opens an engine that finds nothing, over zeroed memory that has every block.
     pub fn open(alloc: A, settings: Settings) -> Result<Engine<A>>
         ensures sound { IfOk result (λ _. IsSound settings) }
         ensures begins { IfOk result (λ engine. (sound : IsSound settings) → IsHistory plain settings sound (λ b o. 0) []
             engine.core (⟦<MemoryDisk<A> as Disk>⟧.byte_at engine.disk)) }
+        ensures disk { IfOk result (λ engine. (engine.disk.blocks ≡ settings.blocks)
+            × (engine.disk.block_size ≡ settings.block_size)) }
     {
         Ok(Engine {
             core: Core::open(alloc.clone()?, settings)?,
