@@ -76,3 +76,9 @@ pub record IsDeleted {A : Type 0} (key : ℕ) (old new : Core ℕ (String A) NoP
   pub last : Reply ℕ (String A) NoProperties A
   pub is : told ≡ deleted_as last
   pub says : Says plain (move.Delete key ∷ []) last old new old_bytes new_bytes
+
+-- what a wait and a close are told as
+abbrev pub IsOkOrFault : {A : Type 0} → Answer A → Type 0
+IsOkOrFault answer.Ok = Unit {0}
+IsOkOrFault (answer.Fault kind) = Unit {0}
+IsOkOrFault told = ⊥

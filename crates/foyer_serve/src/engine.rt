@@ -1,10 +1,10 @@
 //! The engine that the program keeps: a core over a disk in memory, driven on one thread.
-ghost use Rattle.std.specs.Prelude.{◌≡◌, [], None, IfOk, IfErr, string_bytes};
-ghost use Rattle.foyer_device.specs.declared.error.Error.TheVariants.{Memory};
+ghost use Rattle.std.specs.Prelude.{◌≡◌, ◌⊎◌, ◌≤◌, ◌*◌, ◌^◌, [], None, IfOk, IfErr, string_bytes};
+ghost use Rattle.foyer_device.specs.declared.error.Error.TheVariants.{Config, Memory, OutOfRange};
 ghost use Rattle.foyer_core.specs.Sizes.{IsSound};
 ghost use Rattle.foyer_run.specs.Driven.{Drives};
 ghost use Rattle.foyer_run.specs.Newest.{IsHistory};
-ghost use Rattle.foyer_serve.specs.Texts.{IsDeleted, IsGot, IsNewestText, IsPut, deleted_as, got, plain, put_as};
+ghost use Rattle.foyer_serve.specs.Texts.{IsDeleted, IsGot, IsNewestText, IsOkOrFault, IsPut, deleted_as, got, plain, put_as};
 
 use foyer_core::apply::Env;
 use foyer_core::reply::Reply;
@@ -88,7 +88,6 @@ pub struct Engine<A: Allocator> {
     core: Core<Key, String<A>, NoProperties, A>,
     env: Env,
     disk: MemoryDisk<A>,
-    flushers: u32,
     next_wait: u64,
 }
 
@@ -98,6 +97,8 @@ impl<A: Allocator + Clone> Engine<A> {
         ensures sound { IfOk result (λ _. IsSound settings) }
         ensures begins { IfOk result (λ engine. (sound : IsSound settings) → IsHistory plain settings sound (λ b o. 0) []
             engine.core (⟦<MemoryDisk<A> as Disk>⟧.byte_at engine.disk)) }
+        ensures refused { IfErr result (λ e. (e ≡ Memory) ⊎ ((e ≡ Config) × (IsSound settings → ⊥))
+            ⊎ ((e ≡ OutOfRange) × (2 ^ 64 ≤ settings.blocks * settings.block_size))) }
         ensures disk { IfOk result (λ engine. (engine.disk.blocks ≡ settings.blocks)
             × (engine.disk.block_size ≡ settings.block_size)) }
     {
@@ -105,7 +106,6 @@ impl<A: Allocator + Clone> Engine<A> {
             core: Core::open(alloc.clone()?, settings)?,
             env: Env {},
             disk: MemoryDisk::new(alloc.clone()?, settings.blocks, settings.block_size)?,
-            flushers: settings.flushers,
             next_wait: 0,
             alloc,
         })
@@ -121,6 +121,7 @@ impl<A: Allocator + Clone> Engine<A> {
 
     /// Queues a text under a key.
     pub fn put(&mut self, key: u64, text: &str) -> Answer<A>
+        ensures waits { self.new.next_wait ≡ self.old.next_wait }
         ensures says { IsPut key text.now self.old.core self.new.core
             (⟦<MemoryDisk<A> as Disk>⟧.byte_at self.old.disk) (⟦<MemoryDisk<A> as Disk>⟧.byte_at self.new.disk) result }
         ensures driven { Drives plain self.old.core self.new.core
@@ -136,6 +137,7 @@ impl<A: Allocator + Clone> Engine<A> {
 
     /// The text of a key: the newest that was put, whatever came before.
     pub fn get(&mut self, key: u64) -> Answer<A>
+        ensures waits { self.new.next_wait ≡ self.old.next_wait }
         ensures newest { IsNewestText key self.old.core (⟦<MemoryDisk<A> as Disk>⟧.byte_at self.old.disk) result }
         ensures says { IsGot key self.old.core self.new.core
             (⟦<MemoryDisk<A> as Disk>⟧.byte_at self.old.disk) (⟦<MemoryDisk<A> as Disk>⟧.byte_at self.new.disk) result }
@@ -150,6 +152,7 @@ impl<A: Allocator + Clone> Engine<A> {
 
     /// Deletes what a key has, at once.
     pub fn delete(&mut self, key: u64) -> Answer<A>
+        ensures waits { self.new.next_wait ≡ self.old.next_wait }
         ensures says { IsDeleted key self.old.core self.new.core
             (⟦<MemoryDisk<A> as Disk>⟧.byte_at self.old.disk) (⟦<MemoryDisk<A> as Disk>⟧.byte_at self.new.disk) result }
         ensures driven { Drives plain self.old.core self.new.core
@@ -160,10 +163,11 @@ impl<A: Allocator + Clone> Engine<A> {
 
     /// Queues a wait at each flusher, and flushes until no flusher has anything left to do.
     pub fn wait(&mut self) -> Answer<A>
+        ensures told { IsOkOrFault result }
         ensures driven { Drives plain self.old.core self.new.core
             (⟦<MemoryDisk<A> as Disk>⟧.byte_at self.old.disk) (⟦<MemoryDisk<A> as Disk>⟧.byte_at self.new.disk) }
     {
-        for flusher in 0..self.flushers {
+        for flusher in 0..self.core.settings().flushers {
             let id = self.next_wait;
             match step(&mut self.core, &mut self.env, Step::Wait { flusher, id }) {
                 Reply::Refused(kind, _) => return Answer::Fault(kind),
@@ -176,6 +180,7 @@ impl<A: Allocator + Clone> Engine<A> {
 
     /// Takes no more puts, deletes and destroys, and waits.
     pub fn close(&mut self) -> Answer<A>
+        ensures told { IsOkOrFault result }
         ensures driven { Drives plain self.old.core self.new.core
             (⟦<MemoryDisk<A> as Disk>⟧.byte_at self.old.disk) (⟦<MemoryDisk<A> as Disk>⟧.byte_at self.new.disk) }
     {
@@ -186,10 +191,11 @@ impl<A: Allocator + Clone> Engine<A> {
     }
 
     fn flush_all(&mut self) -> Answer<A>
+        ensures told { IsOkOrFault result }
         ensures driven { Drives plain self.old.core self.new.core
             (⟦<MemoryDisk<A> as Disk>⟧.byte_at self.old.disk) (⟦<MemoryDisk<A> as Disk>⟧.byte_at self.new.disk) }
     {
-        for flusher in 0..self.flushers {
+        for flusher in 0..self.core.settings().flushers {
             match self.flush(flusher) {
                 Ok(()) => {}
                 Err(kind) => return Answer::Fault(kind),

@@ -6,11 +6,13 @@ use Rattle.foyer_serve.proofs.engine.Engine.flush_all.Goals as goal
 pub loop-flusher-init : goal.loop-flusher-init
 loop-flusher-init g c = drives_none plain c.args.self.now.core (bytes_of c.args.self.now.disk)
 
-pub returns-in-Err : goal.returns-in-Err
-returns-in-Err g c = record { driven = drives_more plain c.args.self.now.core c.loop-flusher.self.core c.flush.new.self.core (bytes_of c.args.self.now.disk) (bytes_of c.loop-flusher.self.disk) (bytes_of c.flush.new.self.disk) c.loop-flusher.invariant (c.flush.ensures.driven) }
+pub returns-in-Err-clause-driven : goal.returns-in-Err-clause-driven
+returns-in-Err-clause-driven g c =
+    drives_more plain c.args.self.now.core c.loop-flusher.self.core c.flush.new.self.core (bytes_of c.args.self.now.disk) (bytes_of c.loop-flusher.self.disk) (bytes_of c.flush.new.self.disk) c.loop-flusher.invariant (c.flush.ensures.driven)
 
 pub loop-flusher-preserved : goal.loop-flusher-preserved
 loop-flusher-preserved g c = drives_more plain c.args.self.now.core c.loop-flusher.self.core c.flush.new.self.core (bytes_of c.args.self.now.disk) (bytes_of c.loop-flusher.self.disk) (bytes_of c.flush.new.self.disk) c.loop-flusher.invariant (c.flush.ensures.driven)
 
-pub returns : goal.returns
-returns g c = record { driven = c.loop-flusher.invariant }
+pub returns-clause-driven : goal.returns-clause-driven
+returns-clause-driven g c =
+    c.loop-flusher.invariant
