@@ -1,6 +1,7 @@
 pub mod CodeLemmas
 pub mod CompressionLemmas
 pub mod HeaderLemmas
+pub mod OuterFault
 pub mod PageLaws
 pub mod PushLemmas
 pub mod RecordLemmas

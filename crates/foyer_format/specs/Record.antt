@@ -29,6 +29,15 @@ abbrev pub is_plain : Compression → Bool
 is_plain compression.None = true
 is_plain _ = false
 
+-- the first fault of the bytes of a value and a key that shows before their codes are asked
+unfoldable pub outer_fault : List ℕ → (key_len value_len : ℕ) → Compression → Option ℕ → Option Error
+outer_fault b key_len value_len c told =
+    if nat_lt (length b) (value_len + key_len) then Some error.OutOfRange
+    else if is_other_sum told (xxh64 (take (value_len + key_len) b))
+    then Some error.ChecksumMismatch
+    else if not (is_plain c) then Some error.Unsupported
+    else None
+
 -- the first fault of the bytes of a value and a key
 unfoldable pub entry_fault : (is_key is_value : List ℕ → Bool) → List ℕ → (key_len value_len : ℕ)
     → Compression → Option ℕ → Option Error

@@ -1,9 +1,9 @@
 //! The bytes of an entry: the value's, and then the key's.
-ghost use Rattle.std.specs.Prelude.{◌≡◌, ◌+◌, ◌-◌, ◌^◌, ◌++◌, ◌⊎◌, min, length, take, drop, None, OnOk, OnErr, IfOk, IfErr, true};
+ghost use Rattle.std.specs.Prelude.{◌≡◌, ◌≤◌, ◌+◌, ◌-◌, ◌^◌, ◌++◌, ◌⊎◌, min, length, take, drop, None, Some, OnOk, OnErr, IfOk, IfErr, true};
 ghost use Rattle.std.specs.Io.KnownBytes.{Appends};
 ghost use Rattle.foyer_device.specs.declared.error.Error.TheVariants.{Memory};
 ghost use Rattle.foyer_format.specs.declared.compress.Compression.TheVariants as compression_of;
-ghost use Rattle.foyer_format.specs.Record.{entry_fault};
+ghost use Rattle.foyer_format.specs.Record.{entry_fault, outer_fault};
 ghost use Rattle.foyer_format.specs.Refusals.{IsSerializeFault, IsEntryFault};
 ghost use Rattle.foyer_format.specs.Written.{IsWritten};
 ghost use Rattle.foyer_format.specs.Writing.{Takes, Extends};
@@ -74,6 +74,34 @@ impl EntrySerializer {
     }
 }
 
+// Refuses the bytes of an entry by the first fault that shows before its codes are asked.
+#[tactic(auto, unfolding(crate::specs::Record::outer_fault))]
+fn check_entry(
+    bytes: &[u8],
+    key_len: usize,
+    value_len: usize,
+    compression: Compression,
+    checksum: Option<u64>,
+) -> Result<()>
+    ensures within { OnOk result (value_len + key_len ≤ length bytes.now) }
+    ensures sound { OnOk result (outer_fault bytes.now key_len value_len compression checksum ≡ None) }
+    ensures fault { IfErr result (λ e. outer_fault bytes.now key_len value_len compression checksum ≡ Some e) }
+    ensures kind { IfErr result (λ e. e ≡ Memory → ⊥) }
+{
+    if bytes.len() < value_len || bytes.len() - value_len < key_len {
+        return Err(Error::OutOfRange);
+    }
+    if let Some(expected) = checksum {
+        if Checksummer::checksum64(&bytes[..value_len + key_len]) != expected {
+            return Err(Error::ChecksumMismatch);
+        }
+    }
+    let Compression::None = compression else {
+        return Err(Error::Unsupported);
+    };
+    Ok(())
+}
+
 /// Reads entries.
 pub struct EntryDeserializer;
 
@@ -82,7 +110,7 @@ impl EntryDeserializer {
     /// there are fewer bytes than both lengths together, ChecksumMismatch where a checksum was told
     /// and isn't theirs, Unsupported for another compression than `None`, Parse where a code
     /// refuses them. Memory where a growth, or a clone of the allocator, was refused.
-    #[tactic(auto, unfolding(crate::specs::Record::entry_fault), using(crate::proofs::RefusalLemmas::decode_fault))]
+    #[tactic(auto, using(crate::proofs::RefusalLemmas::decode_fault, crate::proofs::OuterFault::outer_faults))]
     pub fn deserialize<A: Allocator + Clone, K: Code<A> + Drop, V: Code<A> + Drop>(
         alloc: &A,
         bytes: &[u8],
@@ -103,17 +131,7 @@ impl EntryDeserializer {
             ⊎ K.takes_memory (take key_len (drop value_len bytes.now))
             ⊎ (A.is_infallible alloc.now → ⊥)) }
     {
-        if bytes.len() < value_len || bytes.len() - value_len < key_len {
-            return Err(Error::OutOfRange);
-        }
-        if let Some(expected) = checksum {
-            if Checksummer::checksum64(&bytes[..value_len + key_len]) != expected {
-                return Err(Error::ChecksumMismatch);
-            }
-        }
-        let Compression::None = compression else {
-            return Err(Error::Unsupported);
-        };
+        check_entry(bytes, key_len, value_len, compression, checksum)?;
         let value = V::decode(alloc.clone()?, &bytes[..value_len])?;
         let key = K::decode(alloc.clone()?, &bytes[value_len..value_len + key_len])?;
         Ok((key, value))
