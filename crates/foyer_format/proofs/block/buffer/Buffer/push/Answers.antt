@@ -1,6 +1,7 @@
 use Rattle.std.proofs.Common.{◌≡◌, ◌+◌, ◌-◌, ◌++◌, ◌^◌, length, true, min, arith, rules, ap, ◌∙◌}
 use Rattle.foyer_format.specs.Record.{record_bytes}
 use Rattle.foyer_format.proofs.PushLemmas.{pushes, length-record_bytes}
+use Rattle.foyer_format.proofs.PageLaws.{pages}
 use Rattle.foyer_format.proofs.block.buffer.Buffer.push.Goals as goal
 
 pub returns-clause-pushed : goal.returns-clause-pushed
@@ -18,3 +19,6 @@ returns-clause-pushed g c =
     (omega (arith, c.len.ensures, c.whole_pages-padded.ensures, c.reserve.new.self.ok.0, ap length before))
     c.append_record.new.self.bytes.ok.0
     c.in_ok-resize.ensures.items
+
+pub returns-clause-fits : goal.returns-clause-fits
+returns-clause-fits g c = search (rules, pages) depth 1

@@ -1,0 +1,18 @@
+use Rattle.std.proofs.Common.{rules}
+use Rattle.foyer_format.proofs.WritingLemmas.{two_writes}
+use Rattle.foyer_format.proofs.serde.entries.EntrySerializer.serialize.Goals as goal
+
+pub returns-in_err-encode_into-clause-refused : goal.returns-in_err-encode_into-clause-refused
+returns-in_err-encode_into-clause-refused g c = search (rules, two_writes) depth 1
+
+pub returns-in_err-encode_into-2-clause-refused : goal.returns-in_err-encode_into-2-clause-refused
+returns-in_err-encode_into-2-clause-refused g c = search (rules, two_writes) depth 1
+
+pub returns-clause-plain : goal.returns-clause-plain
+returns-clause-plain g c = search (rules, two_writes) depth 1
+
+pub returns-clause-bytes : goal.returns-clause-bytes
+returns-clause-bytes g c = search (rules, two_writes) depth 1
+
+pub returns-clause-lens : goal.returns-clause-lens
+returns-clause-lens g c = search (rules, two_writes) depth 1
