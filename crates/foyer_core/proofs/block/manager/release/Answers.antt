@@ -1,8 +1,8 @@
-use Rattle.std.proofs.Common.{◌≡◌, ◌<◌, ◌≤◌, length, slice_set, Some, sym, subst, refl, arith}
+use Rattle.std.proofs.Common.{◌≡◌, ◌<◌, ◌≤◌, length, slice_set, Some, sym, subst, refl, arith, rules}
 use Rattle.foyer_model.specs.Flush.{released}
 use Rattle.foyer_core.specs.Standing.{AreBlocksAs}
-use Rattle.foyer_core.specs.declared.state.Place.TheVariants as place
 use Rattle.foyer_core.proofs.BlockLemmas.{block_left, no_block_left, past_end}
+use Rattle.foyer_core.specs.declared.state.Place.TheVariants as place
 use Rattle.foyer_core.proofs.block.manager.release.Goals as goal
 
 pub returns-in-Some-get_mut-clause-released : goal.returns-in-Some-get_mut-clause-released
@@ -21,3 +21,9 @@ returns-in_default-get_mut-clause-released g c = λ s places fillings stats are.
     let le : length blocks.items ≤ c.in-Some.block = omega (arith, blocks.ok.0, out) in
     subst (λ o. AreBlocksAs s blocks.items (released o places) fillings stats) (sym own)
     (no_block_left s blocks.items places fillings stats are c.in-Some.block le)
+
+pub returns-in-Some-get_mut-clause-left : goal.returns-in-Some-get_mut-clause-left
+returns-in-Some-get_mut-clause-left g c = search rules depth 1
+
+pub returns-in_default-get_mut-clause-left : goal.returns-in_default-get_mut-clause-left
+returns-in_default-get_mut-clause-left g c = search rules depth 1
