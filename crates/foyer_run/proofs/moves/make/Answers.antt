@@ -1,4 +1,4 @@
-use Rattle.std.proofs.Common.{sym, ◌∙◌}
+use Rattle.std.proofs.Common.{sym, ◌∙◌, rules}
 use Rattle.foyer_core.specs.Content.{meaning}
 use Rattle.foyer_run.specs.Moves.{asked}
 use Rattle.foyer_run.proofs.RunLemmas.{nothing_moves}
@@ -10,3 +10,6 @@ returns-in-Nothing-clause-moved g c = λ s sound first pens w running.
     s sound first pens (asked c.args.x) c.args.kept.now.tickets.items c.reserve.new.self.items c.args.kept.now.told.items
     c.args.kept.now.replies.items c.reserve-2.new.self.items c.args.core.now (g.D.Disk.byte_at c.args.disk.now) w running
     (sym c.ask.ensures.asked ∙ c.in-Nothing.is) c.reserve.ensures.items c.reserve-2.ensures.items
+
+pub returns-in-FlushBlock-clause-moved : goal.returns-in-FlushBlock-clause-moved
+returns-in-FlushBlock-clause-moved g c = search rules depth 1

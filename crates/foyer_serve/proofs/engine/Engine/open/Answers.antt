@@ -1,4 +1,4 @@
-use Rattle.std.proofs.Common.{sym}
+use Rattle.std.proofs.Common.{sym, rules}
 use Rattle.foyer_core.proofs.OpenedLemmas.{opened_stands}
 use Rattle.foyer_serve.specs.Texts.{plain}
 use Rattle.foyer_serve.proofs.engine.Engine.open.Goals as goal
@@ -9,3 +9,6 @@ returns-clause-begins g c = λ sound. record {
   stands = opened_stands plain c.args.settings sound c.in_ok-open.field-0 c.in_ok-open.ensures.opened;
   same = λ b o. sym (c.in_ok-new.ensures.zeros b o);
 }
+
+pub returns-clause-disk : goal.returns-clause-disk
+returns-clause-disk g c = search rules depth 1
