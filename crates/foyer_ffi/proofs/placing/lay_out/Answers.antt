@@ -1,4 +1,4 @@
-use Rattle.std.proofs.Common.{◌≡◌, ℕ, List, length, ◌≤◌, ◌*◌, ap, sym, subst, refl, inl, inr, ◌∙◌, arith}
+use Rattle.std.proofs.Common.{◌≡◌, ℕ, List, length, ◌≤◌, ◌*◌, ap, sym, subst, refl, inl, inr, ◌∙◌, arith, rules}
 use Rattle.foyer_buffer.specs.Filling.{Sizes}
 use Rattle.foyer_buffer.specs.Entries.{left_of}
 use Rattle.foyer_format.specs.Page.{page_up}
@@ -92,3 +92,6 @@ buffers-preserved c =
       room = c.in_ok-pages.ensures.room;
       taken = subst (λ key. AreTaken c.args.value.now c.args.records key c.in-Some.sum) (sym c.in_ok-next.ensures.next) taken;
     }
+
+pub returns-clause-all : goal.returns-clause-all
+returns-clause-all c = search rules depth 1

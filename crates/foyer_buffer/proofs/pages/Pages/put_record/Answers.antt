@@ -1,4 +1,4 @@
-use Rattle.std.proofs.Common.{◌≡◌, ◌+◌, length, take, drop, ap, ◌∙◌, arith}
+use Rattle.std.proofs.Common.{◌≡◌, ◌+◌, length, take, drop, ap, ◌∙◌, arith, rules}
 use Rattle.std.proofs.lemmas.List.{length-append, take_at}
 use Rattle.foyer_buffer.proofs.PagesLemmas.{appended_len, front_kept}
 use Rattle.foyer_buffer.proofs.pages.Pages.put_record.Goals as goal
@@ -34,3 +34,6 @@ returns-in-Ok-clause-front g c =
     let sealed = take_at c.seal.new.bytes (drop (length c.seal.new.bytes) new.bytes) (length new.bytes) (omega (arith, c.seal.auto.bytes, same)) in
     ap (take w) sealed ∙ c.seal.ensures.before ∙ ap (take w) c.as_mut_slice-bytes.ensures.value
     ∙ front_kept c.args.self.now.bytes new.bytes _ w (w + 36) new.written c.in-Ok.ensures.bytes (omega arith) c.requires.header new.within
+
+pub returns-in-Err-clause-encoded : goal.returns-in-Err-clause-encoded
+returns-in-Err-clause-encoded g c = search rules depth 1

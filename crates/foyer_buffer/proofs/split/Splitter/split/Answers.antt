@@ -1,4 +1,4 @@
-use Rattle.std.proofs.Common.{◌≡◌, suc, ◌+◌, ◌<◌, ◌≤◌, ℕ, List, [], ◌∷◌, drop, length, get_or, refl, ap, subst, ◌∙◌, arith}
+use Rattle.std.proofs.Common.{◌≡◌, suc, ◌+◌, ◌<◌, ◌≤◌, ℕ, List, [], ◌∷◌, drop, length, get_or, refl, ap, subst, ◌∙◌, arith, rules}
 use Rattle.std.proofs.Math.Seq.{drop-cons}
 use Rattle.std.proofs.Math.ListN.{drop_of_length-le}
 use Rattle.foyer_device.specs.Section.{bytes_of}
@@ -76,3 +76,9 @@ returns-clause-placed g c =
       bytes = refl;
       placed = rw (← sizes, ← c.deref-info-items.ensures.value, c.commit-blocks.ensures.blocks, c.commit-blocks.ensures.filling) placed;
     }
+
+pub returns-in_err-place-clause-unchanged : goal.returns-in_err-place-clause-unchanged
+returns-in_err-place-clause-unchanged g c = search rules depth 1
+
+pub returns-in_err-finish-clause-unchanged : goal.returns-in_err-finish-clause-unchanged
+returns-in_err-finish-clause-unchanged g c = search rules depth 1
