@@ -1,7 +1,7 @@
 //! Opening.
-ghost use Rattle.std.specs.Prelude.{◌≡◌, ◌⊎◌, IfOk, IfErr, IsOkUnless};
+ghost use Rattle.std.specs.Prelude.{◌≡◌, ◌⊎◌, IfOk, IfErr, IsOkUnless, map, replicate, vec_len};
 ghost use Rattle.foyer_device.specs.declared.error.Error.TheVariants.{Memory, Config};
-ghost use Rattle.foyer_core.specs.Opened.{IsOpened, idle};
+ghost use Rattle.foyer_core.specs.Opened.{IsOpened, idle, unused, numbers_below};
 ghost use Rattle.foyer_core.specs.Sizes.{IsSound};
 ghost use Rattle.foyer_core.specs.Unchanged.{seen};
 
@@ -9,6 +9,7 @@ use crate::block::flusher::Flusher;
 use crate::settings::Settings;
 use crate::state::{BlockState, Core, Place};
 use foyer_block::indexer::Indexer;
+use foyer_block::manager::BlockId;
 use foyer_device::error::Result;
 use foyer_format::block::buffer::Buffer;
 use std::alloc::Allocator;
@@ -44,6 +45,47 @@ impl<K, V, P, A: Allocator> Flusher<K, V, P, A> {
     }
 }
 
+// So many flushers that have nothing.
+fn idle_flushers<K: Drop, V: Drop, P: Drop, A: Allocator + Clone>(
+    alloc: &A,
+    count: u32,
+    first_offset: usize,
+) -> Result<Vec<Flusher<K, V, P, A>, A>>
+    ensures idle { IfOk result (λ φs. map seen φs.items ≡ replicate count (idle first_offset)) }
+    ensures count { IfOk result (λ φs. vec_len φs ≡ count) }
+    ensures refused { IsOkUnless result Memory }
+{
+    let mut flushers = Vec::with_capacity(alloc.clone()?, count as usize)?;
+    'each_flusher: for _ in 0..count {
+        flushers.push(Flusher::new(alloc, first_offset)?)?;
+    }
+    Ok(flushers)
+}
+
+// So many blocks that were never handed out, and their ids in order.
+fn clean_blocks<A: Allocator + Clone>(
+    alloc: &A,
+    count: u32,
+) -> Result<(Vec<BlockState, A>, VecDeque<BlockId, A>)>
+    ensures blocks { IfOk result (λ p. p.0.items ≡ replicate count unused) }
+    ensures clean { IfOk result (λ p. p.1.items ≡ numbers_below count) }
+    ensures refused { IsOkUnless result Memory }
+{
+    let mut blocks = Vec::with_capacity(alloc.clone()?, count as usize)?;
+    let mut clean = VecDeque::with_capacity(alloc.clone()?, count as usize)?;
+    'each_block: for block in 0..count {
+        blocks.push(BlockState {
+            place: Place::Clean,
+            filling: 0,
+            invalid: 0,
+            access: 0,
+            probation: false,
+        })?;
+        clean.push_back(block)?;
+    }
+    Ok((blocks, clean))
+}
+
 impl<K: Drop, V: Drop, P: Drop, A: Allocator + Clone> Core<K, V, P, A> {
     /// Opens a core that finds nothing: no block is read, every block is clean, in the order of their ids, and the
     /// first sequence is 1. `Config` where the settings don't go together, else `Memory` alone.
@@ -54,22 +96,8 @@ impl<K: Drop, V: Drop, P: Drop, A: Allocator + Clone> Core<K, V, P, A> {
     {
         settings.check()?;
         let index = Indexer::new(alloc.clone()?, settings.indexer_shards)?;
-        let mut flushers = Vec::with_capacity(alloc.clone()?, settings.flushers as usize)?;
-        'each_flusher: for _ in 0..settings.flushers {
-            flushers.push(Flusher::new(&alloc, settings.blob_index_size)?)?;
-        }
-        let mut blocks = Vec::with_capacity(alloc.clone()?, settings.blocks as usize)?;
-        let mut clean = VecDeque::with_capacity(alloc.clone()?, settings.blocks as usize)?;
-        'each_block: for block in 0..settings.blocks {
-            blocks.push(BlockState {
-                place: Place::Clean,
-                filling: 0,
-                invalid: 0,
-                access: 0,
-                probation: false,
-            })?;
-            clean.push_back(block)?;
-        }
+        let flushers = idle_flushers(&alloc, settings.flushers, settings.blob_index_size)?;
+        let (blocks, clean) = clean_blocks(&alloc, settings.blocks)?;
         Ok(Core {
             waiting: Vec::new(alloc.clone()?),
             alloc,
