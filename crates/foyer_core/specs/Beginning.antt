@@ -2,6 +2,7 @@
 use Rattle.std.specs.Prelude.{◌≡◌, ℕ, ◌+◌, ◌-◌, ◌^◌, ◌<◌, min, List, [], ◌∷◌, length, Option, Some, None, is_some}
 use Rattle.foyer_block.specs.declared.tombstone.Tombstone.{Tombstone}
 use Rattle.foyer_core.specs.Unchanged.{Seen, seen}
+use Rattle.foyer_core.specs.declared.block.batch.Received.{Received}
 use Rattle.foyer_core.specs.declared.block.flusher.Batch.{Batch}
 use Rattle.foyer_core.specs.declared.block.flusher.Flusher.{Flusher}
 use Rattle.foyer_core.specs.declared.block.flusher.Placed.{Placed}
@@ -12,6 +13,15 @@ abbrev pub HasWrites : {A : Type 0} → ℕ → List ℕ → List (Write A) → 
 HasWrites at bytes [] = bytes ≡ []
 HasWrites at bytes (w ∷ []) = (w.offset ≡ at) × (w.bytes.items ≡ bytes) × (0 < length bytes)
 HasWrites at bytes ws = ⊥
+
+-- nothing was received
+pub record HasNothing {K V P A : Type 0} (r : Received K V P A) : Type 0 where
+  pub buffer : r.buffer ≡ []
+  pub records : r.records.items ≡ []
+  pub marks : r.marks.items ≡ []
+  pub invalid : r.invalid.items ≡ []
+  pub pieces : r.pieces.items ≡ []
+  pub waits : r.waits.items ≡ []
 
 pub record IsBegun {K V P A : Type 0} (old new : Flusher K V P A) (marks_told : List Tombstone) : Type 0 where
   pub batch : Batch K V P A

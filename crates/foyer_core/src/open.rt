@@ -5,13 +5,13 @@ ghost use Rattle.foyer_core.specs.Opened.{IsOpened, idle, unused, numbers_below}
 ghost use Rattle.foyer_core.specs.Sizes.{IsSound};
 ghost use Rattle.foyer_core.specs.Unchanged.{seen};
 
+use crate::block::batch::{Received, nothing_received};
 use crate::block::flusher::Flusher;
 use crate::settings::Settings;
 use crate::state::{BlockState, Core, Place};
 use foyer_block::indexer::Indexer;
 use foyer_block::manager::BlockId;
 use foyer_device::error::Result;
-use foyer_format::block::buffer::Buffer;
 use std::alloc::Allocator;
 use std::collections::VecDeque;
 
@@ -23,20 +23,22 @@ impl<K, V, P, A: Allocator> Flusher<K, V, P, A> {
         ensures idle { IfOk result (λ φ. seen φ ≡ idle first_offset) }
         ensures refused { IsOkUnless result Memory }
     {
-        let records = Vec::new(alloc.clone()?);
-        let marks = Vec::new(alloc.clone()?);
-        let invalid = Vec::new(alloc.clone()?);
-        let waits = Vec::new(alloc.clone()?);
-        let buffer = Buffer::new(alloc.clone()?);
         let queue_alloc = alloc.clone()?;
-        let pieces_alloc = alloc.clone()?;
+        let Received {
+            buffer,
+            records,
+            marks,
+            invalid,
+            pieces,
+            waits,
+        } = nothing_received(alloc)?;
         Ok(Flusher {
             queue: VecDeque::new(queue_alloc),
             buffer,
             records,
             marks,
             invalid,
-            pieces: Vec::new(pieces_alloc),
+            pieces,
             waits,
             next_offset: first_offset,
             own: None,

@@ -1,7 +1,9 @@
 //! A flusher's batch: from its buffer to a block, and into the index.
-ghost use Rattle.foyer_core.specs.Beginning.{IsBegun};
+ghost use Rattle.foyer_core.specs.Beginning.{HasNothing, IsBegun};
 ghost use Rattle.std.specs.Prelude.{◌≡◌, ◌≢◌, ◌↔◌, ◌<◌, ℕ, List, [], map, Option, None, Some, IsSomeAnd, IsTrue, true, false};
-ghost use Rattle.std.specs.Prelude.{IfOk, OnErr, MatchOption, vec_len};
+ghost use Rattle.std.specs.Prelude.{IfOk, OnErr, IsOkUnless, MatchOption, vec_len, vec_capacity};
+ghost use Rattle.std.specs.VecDeque.{deque_len, deque_capacity};
+ghost use Rattle.foyer_device.specs.declared.error.Error.TheVariants.{Memory};
 ghost use Rattle.foyer_block.specs.Index.{IndexMap};
 ghost use Rattle.foyer_block.specs.Insertion.{inserted_all};
 ghost use Rattle.foyer_model.specs.Flush.{released};
@@ -18,7 +20,7 @@ ghost use Rattle.foyer_core.specs.Unchanged.{seen};
 ghost use Rattle.foyer_core.specs.declared.block.batch.Wrote.TheVariants as wrote;
 ghost use Rattle.foyer_core.specs.declared.settings.Settings.{Settings};
 
-use crate::block::flusher::{Batch, Flusher, Placed, Writing};
+use crate::block::flusher::{Batch, Flusher, InvalidStats, Placed, Writing};
 use crate::block::manager::{
     begin_to_wait, end_to_wait, filling_of, hand_out, invalidate_all, release,
 };
@@ -97,6 +99,52 @@ fn commit<A: Allocator + Clone>(
     } else {
         None
     }
+}
+
+/// What a flusher received since its batch before.
+pub(crate) struct Received<K, V, P, A: Allocator> {
+    pub buffer: Buffer<A>,
+    pub records: Vec<HashedEntryAddress, A>,
+    pub marks: Vec<Tombstone, A>,
+    pub invalid: Vec<InvalidStats, A>,
+    pub pieces: Vec<Piece<K, V, P, A>, A>,
+    pub waits: Vec<u64, A>,
+}
+
+/// Nothing received, which takes no memory.
+pub(crate) fn nothing_received<K, V, P, A: Allocator + Clone>(
+    alloc: &A,
+) -> Result<Received<K, V, P, A>>
+    ensures nothing { IfOk result (λ r. HasNothing r) }
+    ensures refused { IsOkUnless result Memory }
+{
+    let buffer = Buffer::new(alloc.clone()?);
+    let records = Vec::new(alloc.clone()?);
+    let marks = Vec::new(alloc.clone()?);
+    let invalid = Vec::new(alloc.clone()?);
+    let waits = Vec::new(alloc.clone()?);
+    let pieces = Vec::new(alloc.clone()?);
+    Ok(Received {
+        buffer,
+        records,
+        marks,
+        invalid,
+        pieces,
+        waits,
+    })
+}
+
+// Room for one block's placing, with one write.
+fn room_for_one<A: Allocator + Clone>(
+    alloc: &A,
+) -> Result<(Vec<Write<A>, A>, VecDeque<Placed<A>, A>)>
+    ensures writes { IfOk result (λ p. (p.0.items ≡ []) × (0 < vec_capacity p.0) × (vec_len p.0 ≡ 0)) }
+    ensures blocks { IfOk result (λ p. (p.1.items ≡ []) × (0 < deque_capacity p.1) × (deque_len p.1 ≡ 0)) }
+    ensures refused { IsOkUnless result Memory }
+{
+    let writes = Vec::with_capacity(alloc.clone()?, 1)?;
+    let blocks = VecDeque::with_capacity(alloc.clone()?, 1)?;
+    Ok((writes, blocks))
 }
 
 impl<K, V, P, A: Allocator> Batch<K, V, P, A> {
@@ -184,14 +232,15 @@ impl<K, V, P, A: Allocator + Clone> Flusher<K, V, P, A> {
         ensures begins { IfOk result (λ told. IsBegun self.old self.new told.items) }
     {
         let told = Vec::from_slice(alloc.clone()?, self.marks.as_slice())?;
-        let mut writes = Vec::with_capacity(alloc.clone()?, 1)?;
-        let mut blocks = VecDeque::with_capacity(alloc.clone()?, 1)?;
-        let no_bytes = Buffer::new(alloc.clone()?);
-        let no_records = Vec::new(alloc.clone()?);
-        let no_marks = Vec::new(alloc.clone()?);
-        let no_invalid = Vec::new(alloc.clone()?);
-        let no_waits = Vec::new(alloc.clone()?);
-        let no_pieces = Vec::new(alloc.clone()?);
+        let (mut writes, mut blocks) = room_for_one(alloc)?;
+        let Received {
+            buffer: no_bytes,
+            records: no_records,
+            marks: no_marks,
+            invalid: no_invalid,
+            pieces: no_pieces,
+            waits: no_waits,
+        } = nothing_received(alloc)?;
         let bytes = mem::replace(&mut self.buffer, no_bytes).into_bytes();
         let offset = self.next_offset;
         self.next_offset = offset.saturating_add(bytes.len());
