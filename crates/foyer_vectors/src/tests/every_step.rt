@@ -1,6 +1,6 @@
 //! A script of every step that is built: each allocation refused in turn, and each call of its disk failed in turn.
 use crate::failing::Failing;
-use crate::tests::steps::{TestCore, TestReply, Told, Value, word_of};
+use crate::tests::steps::{TestCore, TestReply, Told, Value, piece_of, word_of};
 use foyer_core::apply::Env;
 use foyer_core::reply::Reply;
 use foyer_core::settings::Settings;
@@ -114,16 +114,6 @@ struct Driven<A: Allocator + Clone> {
     next: usize,
 }
 
-fn piece_of<A: Allocator + Clone>(
-    heap: &A,
-    key: u64,
-    text: &str,
-    is_young: bool,
-) -> Result<Piece<u64, Value<A>, Told, A>> {
-    let value = String::from_str(heap.clone()?, text)?;
-    Ok(Piece::new(heap.clone()?, key, value, key, Told(is_young))?)
-}
-
 fn is_among(word: &str, words: &[&str]) -> bool {
     for other in words {
         if *other == word {
@@ -135,6 +125,34 @@ fn is_among(word: &str, words: &[&str]) -> bool {
 
 fn word_in(line: &str) -> &str {
     line.split_once(' ').unwrap_or((line, "")).0
+}
+
+// The end of the load that was told, with its read.
+fn load_of<A: Allocator + Clone>(driven: &mut Driven<A>, heap: &A) -> Option<Life<A>> {
+    let ticket = driven.ticket.take()?;
+    let outcome = read_told(heap.clone().ok()?, &mut driven.disk, &ticket).ok()?;
+    Some(Step::LoadEnd {
+        ticket,
+        result: outcome,
+    })
+}
+
+// The next write that was told, done.
+fn wrote_of<A: Allocator + Clone>(driven: &mut Driven<A>) -> Option<Life<A>> {
+    let Reply::Write { block, writes } = driven.replies.get(driven.told)? else {
+        return None;
+    };
+    let write = writes.get(driven.next)?;
+    let outcome = write_told(&mut driven.disk, *block, write);
+    driven.next = if outcome.is_ok() {
+        driven.next.saturating_add(1)
+    } else {
+        NO_LINE
+    };
+    Some(Step::FlushWrote {
+        flusher: 0,
+        result: outcome,
+    })
 }
 
 // The step of a line, with the result of the access that was told. None where none was told, or the driver's own growth
@@ -166,36 +184,36 @@ fn step_of<A: Allocator + Clone>(driven: &mut Driven<A>, heap: &A, line: &str) -
             hash: number,
             throttled: true,
         },
-        "load" => {
-            let ticket = driven.ticket.take()?;
-            let outcome = read_told(heap.clone().ok()?, &mut driven.disk, &ticket).ok()?;
-            Step::LoadEnd {
-                ticket,
-                result: outcome,
-            }
-        }
+        "load" => load_of(driven, heap)?,
         "receive" => Step::Receive { flusher: 0 },
         "begin" => Step::FlushBegin { flusher: 0 },
         "block" => Step::FlushBlock { flusher: 0 },
-        "wrote" => {
-            let Reply::Write { block, writes } = driven.replies.get(driven.told)? else {
-                return None;
-            };
-            let write = writes.get(driven.next)?;
-            let outcome = write_told(&mut driven.disk, *block, write);
-            driven.next = if outcome.is_ok() {
-                driven.next.saturating_add(1)
-            } else {
-                NO_LINE
-            };
-            Step::FlushWrote {
-                flusher: 0,
-                result: outcome,
-            }
-        }
+        "wrote" => wrote_of(driven)?,
         "end" => Step::FlushEnd { flusher: 0 },
         _ => Step::Close,
     })
+}
+
+// A number behind a blank.
+fn push_number(text: &mut String, number: u64) -> std::result::Result<(), AllocError> {
+    write!(text, " {number}")?;
+    Ok(())
+}
+
+// The keys of the pieces, and the waits.
+fn push_ended<A: Allocator>(
+    text: &mut String,
+    pieces: &[Piece<u64, Value<A>, Told, A>],
+    waits: &[u64],
+) -> std::result::Result<(), AllocError> {
+    for piece in pieces {
+        push_number(text, *piece.key())?;
+    }
+    text.push_str(" /")?;
+    for id in waits {
+        push_number(text, *id)?;
+    }
+    Ok(())
 }
 
 // A reply in words, with what it carries.
@@ -206,24 +224,21 @@ fn told<A: Allocator>(
     let mut text = String::from_str(alloc, word_of(reply))?;
     match reply {
         Reply::Refused(kind, _) => write!(text, " {kind:?}")?,
-        Reply::Queued(sequence) => write!(text, " {sequence}")?,
-        Reply::Deleted(sequence) => write!(text, " {sequence}")?,
+        Reply::Queued(sequence) => push_number(&mut text, *sequence)?,
+        Reply::Deleted(sequence) => push_number(&mut text, *sequence)?,
         Reply::Entry {
             key: _,
             value,
             age: _,
         } => write!(text, " {value}")?,
-        Reply::Began { blocks, marks } => write!(text, " {blocks} {}", marks.len())?,
-        Reply::Write { block, writes: _ } => write!(text, " {block}")?,
-        Reply::Committed(count) => write!(text, " {count}")?,
+        Reply::Began { blocks, marks } => {
+            push_number(&mut text, *blocks as u64)?;
+            push_number(&mut text, marks.len() as u64)?;
+        }
+        Reply::Write { block, writes: _ } => push_number(&mut text, *block as u64)?,
+        Reply::Committed(count) => push_number(&mut text, *count as u64)?,
         Reply::Ended { pieces, waits } => {
-            for piece in pieces {
-                write!(text, " {}", piece.key())?;
-            }
-            text.push_str(" /")?;
-            for id in waits {
-                write!(text, " {id}")?;
-            }
+            push_ended(&mut text, pieces.as_slice(), waits.as_slice())?;
         }
         _ => {}
     }
@@ -335,6 +350,24 @@ fn each_failed_call_of_the_disk_is_told(rt: HostRuntime) -> std::result::Result<
     Ok(())
 }
 
+// The run without a refusal that answers as one does whose line of this word had this answer. None where a refusal
+// gives no such answer.
+fn run_as(
+    alloc: Global,
+    ample: &Refusing<Global>,
+    at: usize,
+    word: &str,
+    text: &str,
+) -> Result<Option<Run>> {
+    let (call, omitted) = match text {
+        "failed" if word == "wrote" => (call_at(at), NO_LINE),
+        "refused Memory" if is_among(word, &GROWING) => (0, at),
+        "left out" if word == "put" || word == "young" || word == "load" => (0, at),
+        _ => return Ok(None),
+    };
+    Ok(Some(live(alloc, ample, call, omitted)?))
+}
+
 // A refused step is as good as one that is left out, and a refused growth of the index as good as a failed write: all
 // that is answered afterwards is what a run answers in which this happened, and no allocation is refused.
 #[test]
@@ -366,23 +399,8 @@ fn each_refused_allocation_is_told(rt: HostRuntime) -> std::result::Result<(), F
             return Err(Fail::new("no answer"));
         };
         let word = word_in(line);
-        let after = match text.as_str() {
-            "failed" => {
-                assert_eq!(rt; word, "wrote");
-                live(alloc, &ample, call_at(at), NO_LINE)?
-            }
-            "refused Memory" => {
-                assert!(rt; is_among(word, &GROWING), "allocation {n} at {line}");
-                live(alloc, &ample, 0, at)?
-            }
-            other => {
-                assert_eq!(rt; other, "left out", "allocation {n} at {line}");
-                assert!(rt;
-                    word == "put" || word == "young" || word == "load",
-                    "at {line}"
-                );
-                live(alloc, &ample, 0, at)?
-            }
+        let Some(after) = run_as(alloc, &ample, at, word, text)? else {
+            return Err(Fail::new("an answer that no refusal gives"));
         };
         let other = first_other(run.answers.as_slice(), after.answers.as_slice(), at);
         assert_eq!(rt; other, NO_LINE, "allocation {n} at {line}");

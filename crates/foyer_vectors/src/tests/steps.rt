@@ -37,17 +37,26 @@ pub type TestReply<A> = Reply<u64, Value<A>, Told, A>;
 
 pub type TestCore<A> = Core<u64, Value<A>, Told, A>;
 
-// A put of a key, which is its hash.
+// A piece of a key, which is its hash.
+pub fn piece_of<A: Allocator + Clone>(
+    heap: &A,
+    key: u64,
+    text: &str,
+    is_young: bool,
+) -> Result<Piece<u64, Value<A>, Told, A>> {
+    let value = String::from_str(heap.clone()?, text)?;
+    Ok(Piece::new(heap.clone()?, key, value, key, Told(is_young))?)
+}
+
+// A put of a key.
 fn put<A: Allocator + Clone>(
     alloc: &A,
     key: u64,
     text: &str,
     is_young: bool,
 ) -> Result<TestMove<A>> {
-    let value = String::from_str(alloc.clone()?, text)?;
-    let piece = Piece::new(alloc.clone()?, key, value, key, Told(is_young))?;
     Ok(Move::Enqueue {
-        piece,
+        piece: piece_of(alloc, key, text, is_young)?,
         size: text.len(),
     })
 }
@@ -152,7 +161,27 @@ pub fn words_of<A: Allocator, B: Allocator>(
     Ok(words)
 }
 
-// Runs a script over a core of so many blocks of 16 KiB, whose disk fails its n-th call, and checks the replies.
+// The moves that the lines of a script name.
+fn moves_of(alloc: Global, script: &str) -> Result<Vec<TestMove<Global>>> {
+    let mut moves = Vec::new(alloc);
+    for line in script.lines() {
+        moves.push(move_of(&alloc, line)?)?;
+    }
+    Ok(moves)
+}
+
+// Runs a script over a core of so many blocks of 16 KiB, whose disk fails its n-th call: the replies in words, and
+// whether it failed one.
+fn run_over(alloc: Global, blocks: u32, fails_at: u64, script: &str) -> Result<(String, bool)> {
+    let settings = Settings::new(blocks, 16384);
+    let mut core = Core::open(alloc, settings)?;
+    let memory = MemoryDisk::new(alloc, settings.blocks, settings.block_size)?;
+    let mut disk = Failing::new(memory, fails_at, 100);
+    let replies = run(&mut core, &mut Env {}, &mut disk, moves_of(alloc, script)?)?;
+    Ok((words_of(alloc, replies.as_slice())?, disk.has_failed()))
+}
+
+// Runs a script as above, and checks the replies.
 pub fn check(
     rt: &(impl Abort + AllocGlobal),
     blocks: u32,
@@ -160,19 +189,9 @@ pub fn check(
     script: &str,
     wanted: &str,
 ) -> std::result::Result<(), Fail> {
-    let alloc = rt.alloc();
-    let settings = Settings::new(blocks, 16384);
-    let mut core = Core::open(alloc, settings)?;
-    let memory = MemoryDisk::new(alloc, settings.blocks, settings.block_size)?;
-    let mut disk = Failing::new(memory, fails_at, 100);
-    let mut moves = Vec::new(alloc);
-    for line in script.lines() {
-        moves.push(move_of(&alloc, line)?)?;
-    }
-    let replies = run(&mut core, &mut Env {}, &mut disk, moves)?;
-    let words = words_of(alloc, replies.as_slice())?;
+    let (words, has_failed) = run_over(rt.alloc(), blocks, fails_at, script)?;
     assert_eq!(rt; words.as_str(), wanted, "where call {fails_at} fails");
-    assert!(rt; fails_at == 0 || disk.has_failed());
+    assert!(rt; fails_at == 0 || has_failed);
     Ok(())
 }
 
@@ -246,11 +265,9 @@ fn where_no_block_is_clean_the_flusher_waits(rt: HostRuntime) -> std::result::Re
 #[test]
 fn texts_are_run_from_an_opening(rt: HostRuntime) -> std::result::Result<(), Fail> {
     let alloc = rt.alloc();
-    let mut moves = Vec::new(alloc);
-    for line in "put 1 a\nreceive 0\nbegin 0\nblock 0\nwrote 0\nend 0\nlook 1\nread 0\nread 0\nwrote 0\n".lines()
-    {
-        moves.push(move_of(&alloc, line)?)?;
-    }
+    let script =
+        "put 1 a\nreceive 0\nbegin 0\nblock 0\nwrote 0\nend 0\nlook 1\nread 0\nread 0\nwrote 0\n";
+    let moves = moves_of(alloc, script)?;
     let replies = run_texts(alloc, Settings::new(1, 16384), moves)?;
     let words = words_of(alloc, replies.as_slice())?;
     assert_eq!(&rt;
