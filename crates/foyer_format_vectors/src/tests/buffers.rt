@@ -1,6 +1,7 @@
 //! Buffers of pages, shared and written.
 use foyer_device::error::Error;
-use foyer_device::io::bytes::{IoB, IoBuf, IoBufMut, IoSliceMut, PAGE, Raw};
+use foyer_device::io::bytes::{IoB, IoBuf, IoBufMut, IoSlice, IoSliceMut, PAGE, Raw};
+use std::alloc::Global;
 use std::test::Fail;
 
 fn fill<B: IoBufMut>(buffer: &mut B, byte: u8) {
@@ -17,32 +18,36 @@ fn sum<B: IoBuf>(buffer: B) -> u64 {
     all
 }
 
-#[test]
-fn a_buffer_is_written_by_its_only_owner(rt: HostRuntime) -> Result<(), Fail> {
-    let mut buffer = IoSliceMut::new(rt.alloc(), PAGE + 1)?;
-    assert_eq!(rt; buffer.len(), 2 * PAGE);
+// Two pages that can be shared, the second of which begins with 7.
+fn two_pages(alloc: Global) -> Result<IoSlice<Global>, Error> {
+    let mut buffer = IoSliceMut::new(alloc, PAGE + 1)?;
     if let Some(b) = buffer.as_mut_slice().get_mut(PAGE) {
         *b = 7;
     }
-    let all = buffer.into_io_slice(rt.alloc()).map_err(Error::from)?;
+    Ok(buffer.into_io_slice(alloc).map_err(Error::from)?)
+}
+
+#[test]
+fn a_slice_is_its_part_of_the_buffer(rt: HostRuntime) -> Result<(), Fail> {
+    let all = two_pages(rt.alloc())?;
     assert_eq!(rt; all.len(), 2 * PAGE);
     let second = all.slice(PAGE..2 * PAGE)?;
     assert_eq!(rt; second.len(), PAGE);
     assert_eq!(rt; second.as_slice().first(), Some(&7));
-    let again = all.slice(PAGE..2 * PAGE)?;
-    assert!(rt; second == again);
-    let first = all.slice(0..PAGE)?;
-    assert!(rt; second != first);
-    drop(again);
-    drop(first);
+    assert!(rt; second == all.slice(PAGE..2 * PAGE)?);
+    assert!(rt; second != all.slice(0..PAGE)?);
+    Ok(())
+}
+
+#[test]
+fn a_buffer_is_written_by_its_only_owner(rt: HostRuntime) -> Result<(), Fail> {
+    let all = two_pages(rt.alloc())?;
+    assert_eq!(rt; all.len(), 2 * PAGE);
+    let second = all.slice(PAGE..2 * PAGE)?;
     assert!(rt; second.try_into_io_slice_mut().is_none());
-    match all.try_into_io_slice_mut() {
-        None => assert!(rt; false, "the last owner"),
-        Some(mut buffer) => {
-            fill(&mut buffer, 1);
-            assert_eq!(rt; sum(buffer), 8192);
-        }
-    }
+    let mut buffer = all.try_into_io_slice_mut().ok_or("the last owner")?;
+    fill(&mut buffer, 1);
+    assert_eq!(rt; sum(buffer), 8192);
     Ok(())
 }
 

@@ -4,7 +4,8 @@ use foyer_device::error::Error;
 use foyer_format::block::buffer::Buffer;
 use foyer_format::block::serde::{EntryHeader, read_record};
 use foyer_format::compress::Compression;
-use foyer_format::serde::{Code, EntryDeserializer, EntrySerializer, TrackedWriter};
+use foyer_format::serde::{Code, EntryDeserializer, EntrySerializer, KvInfo, TrackedWriter};
+use std::alloc::Global;
 use std::test::Fail;
 
 const HEADER: [u8; 36] = [
@@ -52,29 +53,67 @@ fn a_text_has_its_bytes(rt: HostRuntime) -> Result<(), Fail> {
     Ok(())
 }
 
-// Key 1, value `a`, hash 1, sequence 1: 53 bytes on one page.
-#[test]
-fn a_record_is_read_back(rt: HostRuntime) -> Result<(), Fail> {
-    let alloc = rt.alloc();
-    let key = 1u64;
+// Puts the record of key 1, value `a`, hash 1 and sequence 1.
+fn push(
+    alloc: Global,
+    buffer: &mut Buffer<Global>,
+    room: usize,
+    compression: Compression,
+) -> Result<Option<usize>, Error> {
+    if buffer.len() > 65536 || room > 65536 {
+        return Err(Error::OutOfRange);
+    }
     let value = String::from_str(alloc, "a")?;
+    buffer.push(room, &1u64, &value, 1, compression, 1)
+}
+
+// It has 53 bytes, on one page.
+#[test]
+fn a_record_takes_whole_pages(rt: HostRuntime) -> Result<(), Fail> {
+    let alloc = rt.alloc();
     let mut buffer = Buffer::new(alloc);
     buffer.reserve(4096)?;
     assert!(rt; buffer.is_empty());
-    let pushed = buffer.push(8192, &key, &value, 1, Compression::None, 1)?;
-    assert_eq!(rt; pushed, Some(53));
+    assert_eq!(rt;
+        push(alloc, &mut buffer, 8192, Compression::None)?,
+        Some(53)
+    );
     assert_eq!(rt; buffer.len(), 4096);
-    let zstd = buffer.push(8192, &key, &value, 1, Compression::Zstd, 1)?;
-    assert_eq!(rt; zstd, None);
-    let full = buffer.push(4095, &key, &value, 1, Compression::None, 1)?;
-    assert_eq!(rt; full, None);
-    let bytes = buffer.into_bytes();
-    assert_eq!(rt; bytes.len(), 4096);
-    let record = bytes.get(..53).ok_or("too short")?;
-    let pair: Option<(u64, String)> = read_record(&alloc, record, 1, 1)?;
-    let (found, text) = pair.ok_or("no record")?;
+    assert_eq!(rt; push(alloc, &mut buffer, 8192, Compression::Zstd)?, None);
+    assert_eq!(rt; push(alloc, &mut buffer, 4095, Compression::None)?, None);
+    assert_eq!(rt; buffer.into_bytes().len(), 4096);
+    Ok(())
+}
+
+// So many bytes of that record's page.
+fn record(alloc: Global, len: usize) -> Result<Vec<u8>, Error> {
+    let mut buffer = Buffer::new(alloc);
+    push(alloc, &mut buffer, 8192, Compression::None)?;
+    let mut bytes = buffer.into_bytes();
+    bytes.truncate(len);
+    Ok(bytes)
+}
+
+// The pair of hash and sequence in so many of these bytes.
+fn read(
+    alloc: Global,
+    hash: u64,
+    sequence: u64,
+    len: usize,
+) -> Result<Option<(u64, String)>, Error> {
+    read_record(&alloc, record(alloc, len)?.as_slice(), hash, sequence)
+}
+
+#[test]
+fn a_record_is_read_back(rt: HostRuntime) -> Result<(), Fail> {
+    let (found, text) = read(rt.alloc(), 1, 1, 53)?.ok_or("no record")?;
     assert_eq!(rt; found, 1);
     assert_eq!(rt; text.as_str(), "a");
+    Ok(())
+}
+
+#[test]
+fn no_other_record_is_read(rt: HostRuntime) -> Result<(), Fail> {
     for (hash, sequence, len) in [
         (2, 1, 53),
         (1, 2, 53),
@@ -83,8 +122,7 @@ fn a_record_is_read_back(rt: HostRuntime) -> Result<(), Fail> {
         (1, 1, 35),
         (1, 1, 0),
     ] {
-        let part = bytes.get(..len).ok_or("too short")?;
-        let other: Option<(u64, String)> = read_record(&alloc, part, hash, sequence)?;
+        let other = read(rt.alloc(), hash, sequence, len)?;
         assert!(rt;
             other.is_none(),
             "hash {hash}, sequence {sequence}, {len} bytes"
@@ -93,38 +131,41 @@ fn a_record_is_read_back(rt: HostRuntime) -> Result<(), Fail> {
     Ok(())
 }
 
-#[test]
-fn an_entry_is_written_and_read(rt: HostRuntime) -> Result<(), Fail> {
-    let alloc = rt.alloc();
-    let key = 1u64;
+// The bytes of key 1 and value `a`.
+fn entry(alloc: Global) -> Result<(Vec<u8>, KvInfo), Error> {
     let value = String::from_str(alloc, "a")?;
-    let size = EntrySerializer::estimated_size(&key, &value);
-    assert_eq!(rt; size, 17);
     let mut bytes = Vec::new(alloc);
     let mut writer = TrackedWriter::new(&mut bytes);
-    let info = EntrySerializer::serialize(&key, &value, Compression::None, &mut writer)?;
-    assert_eq!(rt; writer.written(), 17);
+    let info = EntrySerializer::serialize(&1u64, &value, Compression::None, &mut writer)?;
+    if writer.written() != EntrySerializer::estimated_size(&1u64, &value) {
+        return Err(Error::Parse);
+    }
+    Ok((bytes, info))
+}
+
+#[test]
+fn an_entry_is_written(rt: HostRuntime) -> Result<(), Fail> {
+    let (bytes, info) = entry(rt.alloc())?;
+    assert_eq!(rt; bytes.len(), 17);
     assert_eq!(rt; info.value_len, 9);
     assert_eq!(rt; info.key_len, 8);
+    Ok(())
+}
+
+// The pair of an entry's bytes, where this checksum is told.
+fn pair(alloc: Global, bytes: &[u8], sum: u64) -> Result<(u64, String), Error> {
+    EntryDeserializer::deserialize(&alloc, bytes, 8, 9, Compression::None, Some(sum))
+}
+
+#[test]
+fn an_entry_is_read(rt: HostRuntime) -> Result<(), Fail> {
+    let alloc = rt.alloc();
+    let (bytes, _) = entry(alloc)?;
     let sum = Checksummer::checksum64(bytes.as_slice());
-    let (found, text): (u64, String) = EntryDeserializer::deserialize(
-        &alloc,
-        bytes.as_slice(),
-        8,
-        9,
-        Compression::None,
-        Some(sum),
-    )?;
+    let (found, text) = pair(alloc, bytes.as_slice(), sum)?;
     assert_eq!(rt; found, 1);
     assert_eq!(rt; text.as_str(), "a");
-    let other: Result<(u64, String), Error> = EntryDeserializer::deserialize(
-        &alloc,
-        bytes.as_slice(),
-        8,
-        9,
-        Compression::None,
-        Some(7),
-    );
+    let other = pair(alloc, bytes.as_slice(), 7);
     assert!(rt; matches!(other, Err(Error::ChecksumMismatch)));
     Ok(())
 }
