@@ -81,6 +81,24 @@ fn tell_delete<A: Allocator>(last: Told<A>) -> Answer<A>
     }
 }
 
+// Whether a step did anything: none did that was out of turn, or found nothing.
+fn tell_step<A: Allocator>(last: Told<A>) -> std::result::Result<bool, ErrorKind> {
+    match last {
+        Reply::Refused(kind, _) => Err(kind),
+        Reply::NotNow(_) | Reply::Empty => Ok(false),
+        _ => Ok(true),
+    }
+}
+
+// Whether a block was written: none was that was out of turn.
+fn tell_block<A: Allocator>(last: Option<Told<A>>) -> std::result::Result<bool, ErrorKind> {
+    match last {
+        Some(Reply::NoBlock) => Err(ErrorKind::NoSpace),
+        Some(last) => tell_step(last),
+        None => Ok(true),
+    }
+}
+
 /// A core with its disk.
 #[derive(Drop)]
 pub struct Engine<A: Allocator> {
@@ -211,21 +229,11 @@ impl<A: Allocator + Clone> Engine<A> {
     {
         for _ in 0..u64::MAX {
             self.receive_all(flusher)?;
-            let has_begun = match step(
-                &mut self.core,
-                &mut self.env,
-                Step::FlushBegin { flusher },
-            ) {
-                Reply::Refused(kind, _) => return Err(kind),
-                Reply::NotNow(_) => false,
-                _ => true,
-            };
+            let begin = step(&mut self.core, &mut self.env, Step::FlushBegin { flusher });
+            let has_begun = tell_step(begin)?;
             self.write_all(flusher)?;
-            let has_ended = match step(&mut self.core, &mut self.env, Step::FlushEnd { flusher }) {
-                Reply::Refused(kind, _) => return Err(kind),
-                Reply::NotNow(_) => false,
-                _ => true,
-            };
+            let end = step(&mut self.core, &mut self.env, Step::FlushEnd { flusher });
+            let has_ended = tell_step(end)?;
             if !has_begun && !has_ended {
                 return Ok(());
             }
@@ -239,10 +247,9 @@ impl<A: Allocator + Clone> Engine<A> {
             (⟦<MemoryDisk<A> as Disk>⟧.byte_at self.old.disk) (⟦<MemoryDisk<A> as Disk>⟧.byte_at self.new.disk) }
     {
         for _ in 0..u64::MAX {
-            match step(&mut self.core, &mut self.env, Step::Receive { flusher }) {
-                Reply::Received(_) => {}
-                Reply::Refused(kind, _) => return Err(kind),
-                _ => return Ok(()),
+            let received = step(&mut self.core, &mut self.env, Step::Receive { flusher });
+            if !tell_step(received)? {
+                return Ok(());
             }
         }
         Ok(())
@@ -254,11 +261,9 @@ impl<A: Allocator + Clone> Engine<A> {
             (⟦<MemoryDisk<A> as Disk>⟧.byte_at self.old.disk) (⟦<MemoryDisk<A> as Disk>⟧.byte_at self.new.disk) }
     {
         for _ in 0..u64::MAX {
-            match write_block(&mut self.core, &mut self.env, &mut self.disk, flusher) {
-                Some(Reply::NoBlock) => return Err(ErrorKind::NoSpace),
-                Some(Reply::Refused(kind, _)) => return Err(kind),
-                Some(Reply::NotNow(_)) => return Ok(()),
-                _ => {}
+            let wrote = write_block(&mut self.core, &mut self.env, &mut self.disk, flusher);
+            if !tell_block(wrote)? {
+                return Ok(());
             }
         }
         Ok(())

@@ -11,41 +11,41 @@ returns-in_err-receive_all g c =
     let received = drives_more plain c.args.self.now.core c.loop.self.core c.receive_all.new.self.core (bytes_of c.args.self.now.disk) (bytes_of c.loop.self.disk) (bytes_of c.receive_all.new.self.disk) c.loop.invariant (c.in_err-receive_all.ensures.driven) in
     record { driven = received }
 
-pub returns-in-Refused : goal.returns-in-Refused
-returns-in-Refused g c =
+pub returns-in_err-has_begun : goal.returns-in_err-has_begun
+returns-in_err-has_begun g c =
     let received = drives_more plain c.args.self.now.core c.loop.self.core c.receive_all.new.self.core (bytes_of c.args.self.now.disk) (bytes_of c.loop.self.disk) (bytes_of c.receive_all.new.self.disk) c.loop.invariant (c.receive_all.ensures.driven) in
-    let begun = drives_more plain c.args.self.now.core c.receive_all.new.self.core c.step.new.core (bytes_of c.args.self.now.disk) (bytes_of c.receive_all.new.self.disk) (bytes_of c.receive_all.new.self.disk) received (c.step.ensures.drives (bytes_of c.receive_all.new.self.disk)) in
+    let begun = drives_more plain c.args.self.now.core c.receive_all.new.self.core c.step-begin.new.core (bytes_of c.args.self.now.disk) (bytes_of c.receive_all.new.self.disk) (bytes_of c.receive_all.new.self.disk) received (c.step-begin.ensures.drives (bytes_of c.receive_all.new.self.disk)) in
     record { driven = begun }
 
 pub returns-in_err-write_all : goal.returns-in_err-write_all
 returns-in_err-write_all g c =
     let received = drives_more plain c.args.self.now.core c.loop.self.core c.receive_all.new.self.core (bytes_of c.args.self.now.disk) (bytes_of c.loop.self.disk) (bytes_of c.receive_all.new.self.disk) c.loop.invariant (c.receive_all.ensures.driven) in
-    let begun = drives_more plain c.args.self.now.core c.receive_all.new.self.core c.step.new.core (bytes_of c.args.self.now.disk) (bytes_of c.receive_all.new.self.disk) (bytes_of c.receive_all.new.self.disk) received (c.step.ensures.drives (bytes_of c.receive_all.new.self.disk)) in
-    let written = drives_more plain c.args.self.now.core c.step.new.core c.write_all.new.self.core (bytes_of c.args.self.now.disk) (bytes_of c.receive_all.new.self.disk) (bytes_of c.write_all.new.self.disk) begun (c.write_all.ensures.driven) in
+    let begun = drives_more plain c.args.self.now.core c.receive_all.new.self.core c.step-begin.new.core (bytes_of c.args.self.now.disk) (bytes_of c.receive_all.new.self.disk) (bytes_of c.receive_all.new.self.disk) received (c.step-begin.ensures.drives (bytes_of c.receive_all.new.self.disk)) in
+    let written = drives_more plain c.args.self.now.core c.step-begin.new.core c.write_all.new.self.core (bytes_of c.args.self.now.disk) (bytes_of c.receive_all.new.self.disk) (bytes_of c.write_all.new.self.disk) begun (c.write_all.ensures.driven) in
     record { driven = written }
 
-pub returns-in-Refused-step : goal.returns-in-Refused-step
-returns-in-Refused-step g c =
+pub returns-in_err-has_ended : goal.returns-in_err-has_ended
+returns-in_err-has_ended g c =
     let received = drives_more plain c.args.self.now.core c.loop.self.core c.receive_all.new.self.core (bytes_of c.args.self.now.disk) (bytes_of c.loop.self.disk) (bytes_of c.receive_all.new.self.disk) c.loop.invariant (c.receive_all.ensures.driven) in
-    let begun = drives_more plain c.args.self.now.core c.receive_all.new.self.core c.step.new.core (bytes_of c.args.self.now.disk) (bytes_of c.receive_all.new.self.disk) (bytes_of c.receive_all.new.self.disk) received (c.step.ensures.drives (bytes_of c.receive_all.new.self.disk)) in
-    let written = drives_more plain c.args.self.now.core c.step.new.core c.write_all.new.self.core (bytes_of c.args.self.now.disk) (bytes_of c.receive_all.new.self.disk) (bytes_of c.write_all.new.self.disk) begun (c.write_all.ensures.driven) in
-    let over = drives_more plain c.args.self.now.core c.write_all.new.self.core c.step-in-loop.new.core (bytes_of c.args.self.now.disk) (bytes_of c.write_all.new.self.disk) (bytes_of c.write_all.new.self.disk) written (c.step-in-loop.ensures.drives (bytes_of c.write_all.new.self.disk)) in
+    let begun = drives_more plain c.args.self.now.core c.receive_all.new.self.core c.step-begin.new.core (bytes_of c.args.self.now.disk) (bytes_of c.receive_all.new.self.disk) (bytes_of c.receive_all.new.self.disk) received (c.step-begin.ensures.drives (bytes_of c.receive_all.new.self.disk)) in
+    let written = drives_more plain c.args.self.now.core c.step-begin.new.core c.write_all.new.self.core (bytes_of c.args.self.now.disk) (bytes_of c.receive_all.new.self.disk) (bytes_of c.write_all.new.self.disk) begun (c.write_all.ensures.driven) in
+    let over = drives_more plain c.args.self.now.core c.write_all.new.self.core c.step-end.new.core (bytes_of c.args.self.now.disk) (bytes_of c.write_all.new.self.disk) (bytes_of c.write_all.new.self.disk) written (c.step-end.ensures.drives (bytes_of c.write_all.new.self.disk)) in
     record { driven = over }
 
 pub returns-then-not-has_ended : goal.returns-then-not-has_ended
 returns-then-not-has_ended g c =
     let received = drives_more plain c.args.self.now.core c.loop.self.core c.receive_all.new.self.core (bytes_of c.args.self.now.disk) (bytes_of c.loop.self.disk) (bytes_of c.receive_all.new.self.disk) c.loop.invariant (c.receive_all.ensures.driven) in
-    let begun = drives_more plain c.args.self.now.core c.receive_all.new.self.core c.step.new.core (bytes_of c.args.self.now.disk) (bytes_of c.receive_all.new.self.disk) (bytes_of c.receive_all.new.self.disk) received (c.step.ensures.drives (bytes_of c.receive_all.new.self.disk)) in
-    let written = drives_more plain c.args.self.now.core c.step.new.core c.write_all.new.self.core (bytes_of c.args.self.now.disk) (bytes_of c.receive_all.new.self.disk) (bytes_of c.write_all.new.self.disk) begun (c.write_all.ensures.driven) in
-    let over = drives_more plain c.args.self.now.core c.write_all.new.self.core c.step-in-loop.new.core (bytes_of c.args.self.now.disk) (bytes_of c.write_all.new.self.disk) (bytes_of c.write_all.new.self.disk) written (c.step-in-loop.ensures.drives (bytes_of c.write_all.new.self.disk)) in
+    let begun = drives_more plain c.args.self.now.core c.receive_all.new.self.core c.step-begin.new.core (bytes_of c.args.self.now.disk) (bytes_of c.receive_all.new.self.disk) (bytes_of c.receive_all.new.self.disk) received (c.step-begin.ensures.drives (bytes_of c.receive_all.new.self.disk)) in
+    let written = drives_more plain c.args.self.now.core c.step-begin.new.core c.write_all.new.self.core (bytes_of c.args.self.now.disk) (bytes_of c.receive_all.new.self.disk) (bytes_of c.write_all.new.self.disk) begun (c.write_all.ensures.driven) in
+    let over = drives_more plain c.args.self.now.core c.write_all.new.self.core c.step-end.new.core (bytes_of c.args.self.now.disk) (bytes_of c.write_all.new.self.disk) (bytes_of c.write_all.new.self.disk) written (c.step-end.ensures.drives (bytes_of c.write_all.new.self.disk)) in
     record { driven = over }
 
 pub loop-preserved : goal.loop-preserved
 loop-preserved g c =
     let received = drives_more plain c.args.self.now.core c.loop.self.core c.receive_all.new.self.core (bytes_of c.args.self.now.disk) (bytes_of c.loop.self.disk) (bytes_of c.receive_all.new.self.disk) c.loop.invariant (c.receive_all.ensures.driven) in
-    let begun = drives_more plain c.args.self.now.core c.receive_all.new.self.core c.step.new.core (bytes_of c.args.self.now.disk) (bytes_of c.receive_all.new.self.disk) (bytes_of c.receive_all.new.self.disk) received (c.step.ensures.drives (bytes_of c.receive_all.new.self.disk)) in
-    let written = drives_more plain c.args.self.now.core c.step.new.core c.write_all.new.self.core (bytes_of c.args.self.now.disk) (bytes_of c.receive_all.new.self.disk) (bytes_of c.write_all.new.self.disk) begun (c.write_all.ensures.driven) in
-    let over = drives_more plain c.args.self.now.core c.write_all.new.self.core c.step-in-loop.new.core (bytes_of c.args.self.now.disk) (bytes_of c.write_all.new.self.disk) (bytes_of c.write_all.new.self.disk) written (c.step-in-loop.ensures.drives (bytes_of c.write_all.new.self.disk)) in
+    let begun = drives_more plain c.args.self.now.core c.receive_all.new.self.core c.step-begin.new.core (bytes_of c.args.self.now.disk) (bytes_of c.receive_all.new.self.disk) (bytes_of c.receive_all.new.self.disk) received (c.step-begin.ensures.drives (bytes_of c.receive_all.new.self.disk)) in
+    let written = drives_more plain c.args.self.now.core c.step-begin.new.core c.write_all.new.self.core (bytes_of c.args.self.now.disk) (bytes_of c.receive_all.new.self.disk) (bytes_of c.write_all.new.self.disk) begun (c.write_all.ensures.driven) in
+    let over = drives_more plain c.args.self.now.core c.write_all.new.self.core c.step-end.new.core (bytes_of c.args.self.now.disk) (bytes_of c.write_all.new.self.disk) (bytes_of c.write_all.new.self.disk) written (c.step-end.ensures.drives (bytes_of c.write_all.new.self.disk)) in
     over
 
 pub returns : goal.returns
