@@ -6,7 +6,7 @@ use Rattle.std.proofs.lemmas.List.Elements.{All-nil, All-cons}
 use Rattle.foyer_buffer.specs.Entries.{Entries, IsFinished, EachTakes, entries_at}
 use Rattle.foyer_device.specs.Section.{Section, bytes_of}
 use Rattle.foyer_format.specs.Page.{page_up}
-use Rattle.foyer_buffer.specs.Blob.{IsSealed}
+use Rattle.foyer_blob.specs.Blob.{IsSealed}
 use Rattle.foyer_buffer.specs.BlockBytes.{read, laid, all_laid, Each}
 use Rattle.foyer_buffer.specs.Filling.{Sizes, Filling, FitsBlock, end_of, fresh, next_blob, taken, entries_from, with_records}
 use Rattle.foyer_buffer.specs.Listing.{Fits, IsIndex, behind, placed, Chain, Lists}
@@ -17,7 +17,7 @@ use Rattle.foyer_buffer.specs.Holding.{all_read, Leads, Holds}
 use Rattle.foyer_buffer.specs.Fills.Fills.{stays, part, blob}
 use Rattle.foyer_buffer.specs.Holding.Leads.{here, over}
 use Rattle.foyer_buffer.specs.declared.BufferEntryInfo.{BufferEntryInfo}
-use Rattle.foyer_buffer.specs.declared.blob.BlobEntryIndex.{BlobEntryIndex}
+use Rattle.foyer_blob.specs.declared.blob.BlobEntryIndex.{BlobEntryIndex}
 use Rattle.foyer_buffer.specs.declared.split.BlobPart.{BlobPart}
 use Rattle.foyer_format.proofs.PageLaws.{even-page_up}
 use Rattle.foyer_buffer.proofs.SplitLemmas.{taken_cons, taken_none, taken-append, entries_cons, entries_none}

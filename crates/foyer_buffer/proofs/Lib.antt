@@ -1,4 +1,3 @@
-pub mod BlobLemmas
 pub mod BlockBytesLemmas
 pub mod EntriesLemmas
 pub mod FillsLemmas

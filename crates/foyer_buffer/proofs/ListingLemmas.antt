@@ -1,11 +1,11 @@
 -- The chain of a block.
 use Rattle.std.proofs.Common.{◌≡◌, ℕ, Bool, List, [], ◌++◌, length, refl, sym, ap, subst, ◌∙◌}
-use Rattle.foyer_buffer.specs.Blob.{IsSealed, entries_in}
+use Rattle.foyer_blob.specs.Blob.{IsSealed, entries_in}
 use Rattle.foyer_buffer.specs.BlockBytes.{read}
 use Rattle.foyer_buffer.specs.Filling.{Sizes}
 use Rattle.foyer_buffer.specs.Listing.{IsIndex, behind, placed, Chain, Lists}
 use Rattle.foyer_buffer.specs.Listing.Chain.{ends, goes}
-use Rattle.foyer_buffer.specs.declared.blob.BlobEntryIndex.{BlobEntryIndex}
+use Rattle.foyer_blob.specs.declared.blob.BlobEntryIndex.{BlobEntryIndex}
 
 -- bytes are a sealed index of one list at most
 pub sealed_one : (b : List ℕ) (xs ys : List BlobEntryIndex) → IsSealed b xs → IsSealed b ys → xs ≡ ys

@@ -2,7 +2,7 @@
 use Rattle.std.proofs.Common.{◌≡◌, ℕ, ◌+◌, List, [], ◌∷◌, ◌++◌, length, subst, arith, append_assoc}
 use Rattle.foyer_device.specs.Section.{Section}
 use Rattle.foyer_buffer.specs.Filling.{Sizes, Filling, fresh, next_blob, taken, with_records}
-use Rattle.foyer_buffer.specs.Blob.{capacity_of}
+use Rattle.foyer_blob.specs.Blob.{capacity_of}
 use Rattle.foyer_buffer.specs.Placing.{IsPart, Placed, Left, Places}
 use Rattle.foyer_buffer.specs.Placing.Placed.{part, none}
 use Rattle.foyer_buffer.specs.Placing.Left.{done, blob, block}

@@ -4,19 +4,19 @@ use Rattle.std.specs.Prelude.{map}
 use Rattle.std.proofs.lemmas.List.{append-nil, append_assoc, map-append}
 use Rattle.foyer_device.specs.Section.{Section, part_of}
 use Rattle.foyer_format.specs.Page.{page_up}
-use Rattle.foyer_buffer.specs.Blob.{capacity_of, IsSealed}
-use Rattle.foyer_buffer.specs.OpenIndex.{OpenIndex, entries_of}
+use Rattle.foyer_blob.specs.Blob.{capacity_of, IsSealed}
+use Rattle.foyer_blob.specs.OpenIndex.{OpenIndex, entries_of}
 use Rattle.foyer_buffer.specs.Filling.{Filling, end_of, fresh, next_blob, taken, entries_from, with_records}
 use Rattle.foyer_buffer.specs.Placing.{IsPart, Placed, Left, Places, parts_of}
 use Rattle.foyer_buffer.specs.Placing.Placed.{part, none}
 use Rattle.foyer_buffer.specs.Placing.Left.{done, blob, block}
 use Rattle.foyer_buffer.specs.Splitting.{Going, Closed, sizes_of, filling_of, blocks_with}
 use Rattle.foyer_buffer.specs.declared.BufferEntryInfo.{BufferEntryInfo}
-use Rattle.foyer_buffer.specs.declared.blob.BlobEntryIndex.{BlobEntryIndex}
+use Rattle.foyer_blob.specs.declared.blob.BlobEntryIndex.{BlobEntryIndex}
 use Rattle.foyer_buffer.specs.declared.split.BlobPart.{BlobPart}
 use Rattle.foyer_buffer.specs.declared.split.Block.{Block}
 use Rattle.foyer_buffer.specs.declared.splitting.Splitting.{Splitting}
-use Rattle.foyer_buffer.proofs.BlobLemmas.{length-entries_in, entries_none as none_in}
+use Rattle.foyer_blob.proofs.BlobLemmas.{length-entries_in, entries_none as none_in}
 
 pub length-entries_from : (at : ℕ) (is : List BufferEntryInfo) → length (entries_from at is) ≡ length is
 unfolding entries_from

@@ -1,9 +1,9 @@
 -- Worked examples: an index's entry in bytes, how many entries an index has room for, and what is
 -- kept of a list.
 use Rattle.std.specs.Prelude.{◌≡◌, ℕ, [], ◌∷◌}
-use Rattle.foyer_buffer.specs.Blob.{capacity_of, entry_bytes}
+use Rattle.foyer_blob.specs.Blob.{capacity_of, entry_bytes}
 use Rattle.foyer_buffer.specs.Listing.{kept}
-use Rattle.foyer_buffer.specs.declared.blob.BlobEntryIndex.{BlobEntryIndex}
+use Rattle.foyer_blob.specs.declared.blob.BlobEntryIndex.{BlobEntryIndex}
 
 -- hash 1, sequence 1, offset 4096, len 53
 abbrev pub EntryVector : Type 0

@@ -2,7 +2,7 @@
 use Rattle.std.specs.Prelude.{ℕ, ◌+◌, ◌<◌, ◌≤◌, List, [], ◌∷◌, ◌++◌}
 use Rattle.foyer_format.specs.Page.{page_up}
 use Rattle.foyer_buffer.specs.declared.BufferEntryInfo.{BufferEntryInfo}
-use Rattle.foyer_buffer.specs.declared.blob.BlobEntryIndex.{BlobEntryIndex}
+use Rattle.foyer_blob.specs.declared.blob.BlobEntryIndex.{BlobEntryIndex}
 
 -- of a block and of a blob's index, in bytes
 pub record Sizes : Type 0 where

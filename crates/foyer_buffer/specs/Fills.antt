@@ -1,7 +1,7 @@
 -- What goes into one block, and what that makes of it.
 use Rattle.std.specs.Prelude.{◌≡◌, ℕ, ◌+◌, ◌<◌, ◌≤◌, ◌%◌, List, [], ◌∷◌, ◌++◌, length, ◌⊎◌}
 use Rattle.foyer_device.specs.Section.{Section, bytes_of}
-use Rattle.foyer_buffer.specs.Blob.{capacity_of}
+use Rattle.foyer_blob.specs.Blob.{capacity_of}
 use Rattle.foyer_buffer.specs.BlockBytes.{Write, all_laid, AllWithin, Each}
 use Rattle.foyer_buffer.specs.Filling.{Sizes, Filling, end_of, fresh, next_blob, taken, with_records}
 use Rattle.foyer_buffer.specs.Placing.{IsPart}

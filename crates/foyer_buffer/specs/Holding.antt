@@ -1,10 +1,10 @@
 -- What a filling of a block has put, as the front of what the block lists.
 use Rattle.std.specs.Prelude.{◌≡◌, ℕ, ◌+◌, ◌%◌, ◌<◌, ◌≤◌, false, Bool, List, [], ◌∷◌, ◌++◌, length}
-use Rattle.foyer_buffer.specs.Blob.{IsSealed}
+use Rattle.foyer_blob.specs.Blob.{IsSealed}
 use Rattle.foyer_buffer.specs.BlockBytes.{read, Each}
 use Rattle.foyer_buffer.specs.Filling.{Sizes, Filling, end_of}
 use Rattle.foyer_buffer.specs.Listing.{Fits, IsIndex, behind, placed}
-use Rattle.foyer_buffer.specs.declared.blob.BlobEntryIndex.{BlobEntryIndex}
+use Rattle.foyer_blob.specs.declared.blob.BlobEntryIndex.{BlobEntryIndex}
 
 -- no read failed
 abbrev pub all_read : ℕ → Bool

@@ -1,4 +1,3 @@
-pub mod Blob
 pub mod BlobVectors
 pub mod BlockBytes
 pub mod Entries
@@ -6,7 +5,6 @@ pub mod Filling
 pub mod Fills
 pub mod Holding
 pub mod Listing
-pub mod OpenIndex
 pub mod Placing
 pub mod PlacingLaws
 pub mod Splitting

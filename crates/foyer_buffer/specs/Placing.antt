@@ -2,7 +2,7 @@
 use Rattle.std.specs.Prelude.{◌≡◌, ℕ, ◌+◌, ◌<◌, ◌≤◌, List, [], ◌∷◌, ◌++◌, length, map}
 use Rattle.foyer_format.specs.Page.{page_up}
 use Rattle.foyer_device.specs.Section.{Section, part_of}
-use Rattle.foyer_buffer.specs.Blob.{IsSealed, capacity_of}
+use Rattle.foyer_blob.specs.Blob.{IsSealed, capacity_of}
 use Rattle.foyer_buffer.specs.Filling.{Sizes, Filling, end_of, fresh, next_blob, taken, entries_from, with_records}
 use Rattle.foyer_buffer.specs.declared.BufferEntryInfo.{BufferEntryInfo}
 use Rattle.foyer_buffer.specs.declared.split.BlobPart.{BlobPart}

@@ -10,7 +10,7 @@ use Rattle.foyer_buffer.specs.Holding.{all_read, Holds}
 use Rattle.foyer_buffer.specs.Listing.{Lists}
 use Rattle.foyer_buffer.specs.Placing.{IsPlaced, parts_of}
 use Rattle.foyer_buffer.specs.declared.BufferEntryInfo.{BufferEntryInfo}
-use Rattle.foyer_buffer.specs.declared.blob.BlobEntryIndex.{BlobEntryIndex}
+use Rattle.foyer_blob.specs.declared.blob.BlobEntryIndex.{BlobEntryIndex}
 use Rattle.foyer_buffer.specs.declared.split.BlobPart.{BlobPart}
 use Rattle.foyer_buffer.specs.declared.split.Batch.{Batch}
 

@@ -1,8 +1,8 @@
 -- What a splitter keeps while it goes over the records of a batch.
 use Rattle.std.specs.Prelude.{◌≡◌, ℕ, ◌+◌, ◌<◌, ◌≤◌, List, [], ◌∷◌, ◌++◌, length, map}
 use Rattle.foyer_device.specs.Section.{Section}
-use Rattle.foyer_buffer.specs.Blob.{capacity_of}
-use Rattle.foyer_buffer.specs.OpenIndex.{entries_of}
+use Rattle.foyer_blob.specs.Blob.{capacity_of}
+use Rattle.foyer_blob.specs.OpenIndex.{entries_of}
 use Rattle.foyer_buffer.specs.Filling.{Sizes, Filling, Context, taken, entries_from}
 use Rattle.foyer_buffer.specs.Placing.{Placed, Left, Places, parts_of}
 use Rattle.foyer_buffer.specs.declared.BufferEntryInfo.{BufferEntryInfo}

@@ -4,7 +4,7 @@ use Rattle.foyer_format.specs.Page.{page_up}
 use Rattle.foyer_buffer.specs.BlockBytes.{read}
 use Rattle.foyer_buffer.specs.Entries.{Entry}
 use Rattle.foyer_buffer.specs.declared.BufferEntryInfo.{BufferEntryInfo}
-use Rattle.foyer_buffer.specs.declared.blob.BlobEntryIndex.{BlobEntryIndex}
+use Rattle.foyer_blob.specs.declared.blob.BlobEntryIndex.{BlobEntryIndex}
 
 -- a record that stands at an offset of a block
 pub record Stored : Type 0 where

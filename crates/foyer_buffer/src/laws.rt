@@ -47,7 +47,7 @@ pub fn held_is_listed()
 {}
 
 /// An entry of an index in bytes, how many an index has room for, and what is kept of a list.
-#[tactic(auto, unfolding(crate::specs::Blob::entry_bytes))]
+#[tactic(auto, unfolding(foyer_blob::specs::Blob::entry_bytes))]
 pub fn listing_vectors()
     ensures entry { EntryVector }
     ensures capacity { CapacityVector }

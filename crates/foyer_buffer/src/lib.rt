@@ -8,15 +8,14 @@ ghost use Rattle.foyer_format.specs.Page.{page_up};
 use foyer_format::block::buffer::whole_pages;
 use foyer_format::block::serde::Sequence;
 
-mod blob;
 mod entries;
 mod laws;
 mod pages;
 mod split;
 mod splitting;
 
-pub use blob::{BlobEntryIndex, BlobIndex, BlobIndexReader};
 pub use entries::Buffer;
+pub use foyer_blob::{BlobEntryIndex, BlobIndex, BlobIndexReader};
 pub use laws::{
     batch_is_blocks, block_is_laid, finished_fits, fresh_holds, held_is_listed, listing_vectors,
     one_list, records_are_entries, written_holds,

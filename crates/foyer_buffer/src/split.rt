@@ -5,8 +5,8 @@ ghost use Rattle.foyer_device.specs.Section.{bytes_of};
 ghost use Rattle.foyer_buffer.specs.Filling.{FitsBlock, fresh_context, taken};
 
 use super::BufferEntryInfo;
-use super::blob::{BlobEntryIndex, BlobIndex};
 use super::splitting::Splitting;
+use foyer_blob::{BlobEntryIndex, BlobIndex};
 use foyer_device::error::Result;
 use foyer_device::io::bytes::{IoSlice, IoSliceMut};
 use std::alloc::Allocator;
@@ -55,8 +55,8 @@ pub struct SplitCtx<A: Allocator> {
 
 impl<A: Allocator> Model for SplitCtx<A> {
     ghost use Rattle.std.specs.Prelude.{◌≡◌, ◌+◌, ◌<◌, ◌≤◌, ◌^◌, length};
-    ghost use Rattle.foyer_buffer.specs.Blob.{capacity_of};
-    ghost use Rattle.foyer_buffer.specs.OpenIndex.{entries_of};
+    ghost use Rattle.foyer_blob.specs.Blob.{capacity_of};
+    ghost use Rattle.foyer_blob.specs.OpenIndex.{entries_of};
     ghost use Rattle.foyer_buffer.specs.Filling.{Context};
 
     ghost Value = { Context };
@@ -81,7 +81,7 @@ impl<A: Allocator> Model for SplitCtx<A> {
 }
 
 impl<A: Allocator> SplitCtx<A> {
-    ghost use Rattle.foyer_buffer.specs.Blob.{capacity_of};
+    ghost use Rattle.foyer_blob.specs.Blob.{capacity_of};
     ghost use Rattle.foyer_buffer.specs.Splitting.{IsBegun, sizes_of, filling_of};
 
     /// At the start of a block, with an index without entries. Memory where it was refused.

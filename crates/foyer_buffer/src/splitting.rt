@@ -1,11 +1,11 @@
 //! A split under way.
 ghost use Rattle.std.specs.Prelude.{◌≡◌, ◌+◌, ◌<◌, ◌≤◌, ◌%◌, ◌^◌, List, length, OnOk, IfErr, IsTrue, vec_len, [], ◌∷◌};
 ghost use Rattle.foyer_device.specs.declared.error.Error.{Error as error};
-ghost use Rattle.foyer_buffer.specs.Blob.{capacity_of};
+ghost use Rattle.foyer_blob.specs.Blob.{capacity_of};
 
 use super::BufferEntryInfo;
-use super::blob::{BlobEntryIndex, BlobIndex};
 use super::split::{BlobPart, Block};
+use foyer_blob::{BlobEntryIndex, BlobIndex};
 use foyer_device::error::Result;
 use foyer_device::io::bytes::IoSlice;
 use std::alloc::Allocator;

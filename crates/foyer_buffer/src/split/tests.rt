@@ -1,8 +1,8 @@
 //! Worked placings: blocks of 16 KiB with indices of one page, unless a test says otherwise.
 ghost use Rattle.std.specs.Prelude.{◌≡◌, ◌+◌, ◌≤◌, length, IfOk};
 
-use super::{Batch, BlobIndex, Block, SplitCtx, Splitter};
-use crate::{BlobEntryIndex, BlobIndexReader, Buffer, BufferEntryInfo};
+use super::{Batch, Block, SplitCtx, Splitter};
+use crate::{BlobEntryIndex, BlobIndex, BlobIndexReader, Buffer, BufferEntryInfo};
 use foyer_device::error::{Error, Result};
 use foyer_device::io::bytes::{IoSlice, IoSliceMut, Raw};
 use foyer_format::compress::Compression;

@@ -1,9 +1,9 @@
 use Rattle.std.proofs.Common.{◌≡◌, ℕ, List, [], length, ap, ◌∙◌, arith}
 use Rattle.std.proofs.lemmas.List.{length-replicate}
 use Rattle.foyer_buffer.specs.Filling.{Context}
-use Rattle.foyer_buffer.specs.OpenIndex.{entries_of}
-use Rattle.foyer_buffer.specs.declared.blob.BlobEntryIndex.{BlobEntryIndex}
-use Rattle.foyer_buffer.proofs.BlobLemmas.{entries_none}
+use Rattle.foyer_blob.specs.OpenIndex.{entries_of}
+use Rattle.foyer_blob.specs.declared.blob.BlobEntryIndex.{BlobEntryIndex}
+use Rattle.foyer_blob.proofs.BlobLemmas.{entries_none}
 use Rattle.foyer_format.proofs.PageLaws.{page_up-even}
 use Rattle.foyer_buffer.proofs.split.SplitCtx.new.Goals as goal
 

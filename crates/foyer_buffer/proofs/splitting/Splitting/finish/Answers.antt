@@ -1,5 +1,5 @@
 use Rattle.std.proofs.Common.{◌<◌}
-use Rattle.foyer_buffer.specs.Blob.{capacity_of}
+use Rattle.foyer_blob.specs.Blob.{capacity_of}
 use Rattle.foyer_buffer.proofs.SplitLemmas.{finishes}
 use Rattle.foyer_buffer.proofs.splitting.Splitting.finish.Goals as goal
 

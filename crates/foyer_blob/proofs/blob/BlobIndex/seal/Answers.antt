@@ -1,0 +1,6 @@
+use Rattle.std.proofs.Common.{arith}
+use Rattle.std.proofs.lemmas.Grind.{common_steps}
+use Rattle.foyer_blob.proofs.blob.BlobIndex.seal.Goals as goal
+
+pub returns-clause-sealed : goal.returns-clause-sealed
+returns-clause-sealed g c = grind (arith, common_steps)

@@ -1,0 +1,6 @@
+//! The index that a blob begins with: where each of its records lies.
+#![tactic(auto)]
+
+mod blob;
+
+pub use blob::{BlobEntryIndex, BlobIndex, BlobIndexReader};

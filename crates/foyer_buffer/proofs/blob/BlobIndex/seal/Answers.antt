@@ -1,6 +1,0 @@
-use Rattle.std.proofs.Common.{arith}
-use Rattle.std.proofs.lemmas.Grind.{common_steps}
-use Rattle.foyer_buffer.proofs.blob.BlobIndex.seal.Goals as goal
-
-pub returns-clause-sealed : goal.returns-clause-sealed
-returns-clause-sealed g c = grind (arith, common_steps)
