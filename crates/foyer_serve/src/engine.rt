@@ -187,9 +187,9 @@ impl<A: Allocator + Clone> Engine<A> {
     {
         for flusher in 0..self.core.settings().flushers {
             let id = self.next_wait;
-            match step(&mut self.core, &mut self.env, Step::Wait { flusher, id }) {
-                Reply::Refused(kind, _) => return Answer::Fault(kind),
-                _ => {}
+            let queued = step(&mut self.core, &mut self.env, Step::Wait { flusher, id });
+            if let Err(kind) = tell_step(queued) {
+                return Answer::Fault(kind);
             }
             self.next_wait = id.wrapping_add(1);
         }
@@ -202,9 +202,10 @@ impl<A: Allocator + Clone> Engine<A> {
         ensures driven { Drives plain self.old.core self.new.core
             (⟦<MemoryDisk<A> as Disk>⟧.byte_at self.old.disk) (⟦<MemoryDisk<A> as Disk>⟧.byte_at self.new.disk) }
     {
-        match step(&mut self.core, &mut self.env, Step::Close) {
-            Reply::Refused(kind, _) => Answer::Fault(kind),
-            _ => self.wait(),
+        let closed = step(&mut self.core, &mut self.env, Step::Close);
+        match tell_step(closed) {
+            Err(kind) => Answer::Fault(kind),
+            Ok(_) => self.wait(),
         }
     }
 

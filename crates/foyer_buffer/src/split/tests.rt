@@ -77,40 +77,68 @@ fn has_rows(batch: &Batch<Global>, blocks: usize, rows: &[Row]) -> bool {
     left.is_empty() && batch.blocks.len() == blocks
 }
 
+// Whether these records, split so, are in so many blocks and stand so.
+fn stand(
+    alloc: Global,
+    ctx: &mut SplitCtx<Global>,
+    records: &[(u64, usize)],
+    blocks: usize,
+    rows: &[Row],
+) -> Result<bool>
+    requires room { ctx.old.sizes.index + 12288 ≤ ctx.old.sizes.block }
+    requires few { length records.now ≤ 1000 }
+    ensures { ctx.new.sizes ≡ ctx.old.sizes }
+{
+    let batch = split(alloc, ctx, records)?;
+    Ok(has_rows(&batch, blocks, rows))
+}
+
 #[test]
 fn records_go_on_in_a_blob_and_in_the_next_block(rt: HostRuntime) -> std::result::Result<(), Fail> {
     let alloc = rt.alloc();
     let mut ctx = SplitCtx::new(alloc, 16384, 4096)?;
-    let first = split(alloc, &mut ctx, &[(1, 3124), (3, 3124)])?;
     let rows = [
         Row(0, 0, 4096, 8192, 1, 4096, 3124),
         Row(0, 0, 4096, 8192, 3, 8192, 3124),
     ];
-    assert!(rt; has_rows(&first, 1, &rows));
-    let second = split(alloc, &mut ctx, &[(4, 3124), (5, 7220), (6, 7220)])?;
+    assert!(rt; stand(alloc, &mut ctx, &[(1, 3124), (3, 3124)], 1, &rows)?);
     let rows = [
         Row(0, 0, 12288, 4096, 4, 12288, 3124),
         Row(1, 0, 4096, 8192, 5, 4096, 7220),
         Row(2, 0, 4096, 8192, 6, 4096, 7220),
     ];
-    assert!(rt; has_rows(&second, 3, &rows));
+    assert!(rt;
+        stand(
+            alloc,
+            &mut ctx,
+            &[(4, 3124), (5, 7220), (6, 7220)],
+            3,
+            &rows
+        )?
+    );
     // The first block has no part.
-    let third = split(alloc, &mut ctx, &[(7, 7220)])?;
-    assert!(rt; has_rows(&third, 2, &[Row(1, 0, 4096, 8192, 7, 4096, 7220)]));
+    let rows = [Row(1, 0, 4096, 8192, 7, 4096, 7220)];
+    assert!(rt; stand(alloc, &mut ctx, &[(7, 7220)], 2, &rows)?);
     Ok(())
+}
+
+// What was put: two values that fit with one between them that doesn't, and six bytes.
+fn filled(alloc: Global) -> Result<(IoSliceMut<Global>, Vec<BufferEntryInfo, Global>)> {
+    let small = vec![in alloc; 0u8; 3072]?;
+    let large = vec![in alloc; 0u8; 13312]?;
+    let mut buffer = Buffer::new(alloc, IoSliceMut::new(alloc, 65536)?, 12288);
+    let first = buffer.push(&0u64, &small, 1, Compression::None, 1)?;
+    let second = buffer.push(&0u64, &large, 2, Compression::None, 2)?;
+    let third = buffer.push(&0u64, &small, 3, Compression::None, 3)?;
+    if !first || second || !third || !buffer.push_slice(b"record", 4, 4)? {
+        return Err(Error::OutOfRange);
+    }
+    Ok(buffer.finish())
 }
 
 #[test]
 fn a_buffer_takes_what_fits_and_lists_it(rt: HostRuntime) -> std::result::Result<(), Fail> {
-    let alloc = rt.alloc();
-    let small = vec![in alloc; 0u8; 3072]?;
-    let large = vec![in alloc; 0u8; 13312]?;
-    let mut buffer = Buffer::new(alloc, IoSliceMut::new(alloc, 65536)?, 12288);
-    assert!(rt; buffer.push(&0u64, &small, 1, Compression::None, 1)?);
-    assert!(rt; !buffer.push(&0u64, &large, 2, Compression::None, 2)?);
-    assert!(rt; buffer.push(&0u64, &small, 3, Compression::None, 3)?);
-    assert!(rt; buffer.push_slice(b"record", 4, 4)?);
-    let (bytes, infos) = buffer.finish();
+    let (bytes, infos) = filled(rt.alloc())?;
     let mut stand = [(1, 0, 3124), (3, 4096, 3124), (4, 8192, 6)].iter();
     for info in &infos {
         assert!(rt; stand.next() == Some(&(info.hash, info.offset, info.len)));
@@ -154,12 +182,11 @@ fn nearly_full(alloc: Global) -> Result<SplitCtx<Global>>
 fn a_full_index_ends_its_blob_and_the_block(rt: HostRuntime) -> std::result::Result<(), Fail> {
     let alloc = rt.alloc();
     let mut ctx = nearly_full(alloc)?;
-    let batch = split(alloc, &mut ctx, &[(1, 1234), (2, 1234)])?;
     let rows = [
         Row(0, 40960, 16384, 4096, 1, 16384, 1234),
         Row(1, 0, 4096, 4096, 2, 4096, 1234),
     ];
-    assert!(rt; has_rows(&batch, 2, &rows));
+    assert!(rt; stand(alloc, &mut ctx, &[(1, 1234), (2, 1234)], 2, &rows)?);
     Ok(())
 }
 

@@ -54,7 +54,7 @@ fn each_refused_allocation_of_the_program_is_told(rt: HostRuntime) -> Result<(),
     let words = [":memory:", "32768", "16384"];
     for n in 1..MOST_ALLOCATIONS {
         let heap = Refusing::new(rt.alloc(), n);
-        let (output, _, status) = told(rt.alloc(), &heap, &words, SCRIPT)?;
+        let (output, _, status) = told(rt.alloc(), &heap, &words, SCRIPT.as_bytes())?;
         let text = str::from_utf8(output.as_slice()).map_err(|_| Fail::new("no text"))?;
         if !heap.has_refused() {
             assert_eq!(rt; text, ANSWERS);
