@@ -1,5 +1,5 @@
-//! A flush's records in memory and over blocks: the buffer that they are written into, the index that a blob begins with,
-//! and the splitter that lays them out over blocks, blobs and parts.
+//! A flush's records in memory and over blocks: the buffer that they are written into, and the splitter that lays them
+//! out over blocks, blobs and parts. A blob's index is `foyer_blob`'s, under its names here too.
 #![tactic(auto)]
 
 ghost use Rattle.std.specs.Prelude.{◌≡◌, ◌<◌, ◌^◌};
