@@ -2,7 +2,7 @@
 ghost use Rattle.std.specs.Prelude.{◌≡◌, ◌+◌, ◌≤◌};
 
 use crate::refusing::Refusing;
-use foyer_buffer::{Batch, Buffer, BufferEntryInfo, SplitCtx, Splitter};
+use foyer_buffer::{Batch, BlobPart, Buffer, BufferEntryInfo, SplitCtx, Splitter};
 use foyer_checksum::Checksummer;
 use foyer_device::error::{Error, Result};
 use foyer_device::io::bytes::{IoSlice, IoSliceMut};
@@ -19,8 +19,27 @@ const ROOM: usize = 65536;
 // More allocations than two flushes make.
 const MOST_ALLOCATIONS: u64 = 1000;
 
-// What was answered, as numbers.
-type Told = Vec<u64, Global>;
+// What was answered, as numbers, and whether there was no memory to tell it.
+#[derive(PartialEq, Drop)]
+struct Told {
+    numbers: Vec<u64, Global>,
+    is_short: bool,
+}
+
+impl Told {
+    fn new(alloc: Global) -> Told {
+        Told {
+            numbers: Vec::new(alloc),
+            is_short: false,
+        }
+    }
+
+    fn tell(&mut self, number: u64) {
+        if self.numbers.push(number).is_err() {
+            self.is_short = true;
+        }
+    }
+}
 
 // Slices that are pushed, of which one is too long.
 #[derive(Drop)]
@@ -29,35 +48,37 @@ struct Slices {
     too_long: Vec<u8, Global>,
 }
 
-fn tell_infos(told: &mut Told, bytes: &[u8], infos: &[BufferEntryInfo]) -> Result<()> {
-    told.push(Checksummer::checksum64(bytes))?;
+fn tell_infos(told: &mut Told, bytes: &[u8], infos: &[BufferEntryInfo]) {
+    told.tell(Checksummer::checksum64(bytes));
     for info in infos {
-        told.push(info.hash)?;
-        told.push(info.sequence)?;
-        told.push(info.offset as u64)?;
-        told.push(info.len as u64)?;
+        told.tell(info.hash);
+        told.tell(info.sequence);
+        told.tell(info.offset as u64);
+        told.tell(info.len as u64);
     }
-    Ok(())
 }
 
-fn tell_batch<A: Allocator>(told: &mut Told, batch: &Batch<A>) -> Result<()> {
-    told.push(batch.blocks.len() as u64)?;
+fn tell_part<A: Allocator>(told: &mut Told, part: &BlobPart<A>) {
+    told.tell(part.blob_block_offset as u64);
+    told.tell(part.part_blob_offset as u64);
+    told.tell(part.part_data.len() as u64);
+    told.tell(Checksummer::checksum64(part.part_data.as_slice()));
+    told.tell(Checksummer::checksum64(part.index.as_slice()));
+    for entry in &part.indices {
+        told.tell(entry.hash);
+        told.tell(u64::from(entry.offset));
+        told.tell(u64::from(entry.len));
+    }
+}
+
+fn tell_batch<A: Allocator>(told: &mut Told, batch: &Batch<A>) {
+    told.tell(batch.blocks.len() as u64);
     for block in &batch.blocks {
-        told.push(block.blob_parts.len() as u64)?;
+        told.tell(block.blob_parts.len() as u64);
         for part in &block.blob_parts {
-            told.push(part.blob_block_offset as u64)?;
-            told.push(part.part_blob_offset as u64)?;
-            told.push(part.part_data.len() as u64)?;
-            told.push(Checksummer::checksum64(part.part_data.as_slice()))?;
-            told.push(Checksummer::checksum64(part.index.as_slice()))?;
-            for entry in &part.indices {
-                told.push(entry.hash)?;
-                told.push(u64::from(entry.offset))?;
-                told.push(u64::from(entry.len))?;
-            }
+            tell_part(told, part);
         }
     }
-    Ok(())
 }
 
 // Tells what a push answered. One that was refused leaves what was written, and is to come again.
@@ -71,8 +92,8 @@ fn is_answered<A: Allocator>(
         Err(Error::Memory) if buffer.written() == written => Ok(false),
         Err(_) => Err(Error::Io),
         Ok(done) => {
-            told.push(u64::from(done))?;
-            told.push(buffer.written() as u64)?;
+            told.tell(u64::from(done));
+            told.tell(buffer.written() as u64);
             Ok(true)
         }
     }
@@ -207,10 +228,11 @@ fn flush<A: Allocator + Clone>(
     let mut buffer = Buffer::new(heap.clone()?, pages_again(heap, ROOM)?, GREATEST);
     fill(told, &mut buffer, slices, is_long_first)?;
     let (pages, infos) = buffer.finish();
-    tell_infos(told, pages.as_slice(), infos.as_slice())?;
+    tell_infos(told, pages.as_slice(), infos.as_slice());
     let bytes = share_again(heap, pages)?;
     let batch = split_again(heap, ctx, &bytes, infos.as_slice())?;
-    tell_batch(told, &batch)
+    tell_batch(told, &batch);
+    Ok(())
 }
 
 // Two flushes; the second goes on in the block of the first.
@@ -232,11 +254,12 @@ fn what_is_refused_may_come_again(rt: HostRuntime) -> std::result::Result<(), Fa
         long: vec![in alloc; 7u8; 5000]?,
         too_long: vec![in alloc; 7u8; GREATEST + 1]?,
     };
-    let mut wanted = Vec::new(alloc);
+    let mut wanted = Told::new(alloc);
     flushes(&mut wanted, &alloc, &slices)?;
+    assert!(rt; !wanted.is_short);
     for n in 1..MOST_ALLOCATIONS {
         let heap = Refusing::new(alloc, n);
-        let mut told = Vec::new(alloc);
+        let mut told = Told::new(alloc);
         let outcome = flushes(&mut told, &&heap, &slices);
         assert!(rt; outcome.is_ok(), "allocation {n}");
         assert!(rt; told == wanted, "allocation {n}");

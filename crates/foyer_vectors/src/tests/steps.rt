@@ -48,37 +48,19 @@ pub fn piece_of<A: Allocator + Clone>(
     Ok(Piece::new(heap.clone()?, key, value, key, Told(is_young))?)
 }
 
-// A put of a key.
-fn put<A: Allocator + Clone>(
-    alloc: &A,
-    key: u64,
-    text: &str,
-    is_young: bool,
-) -> Result<TestMove<A>> {
-    Ok(Move::Enqueue {
-        piece: piece_of(alloc, key, text, is_young)?,
-        size: text.len(),
-    })
-}
-
-// The move that a line of a script names: a word, a number, and for a put a text.
-fn move_of<A: Allocator + Clone>(alloc: &A, line: &str) -> Result<TestMove<A>> {
-    let (word, rest) = line.split_once(' ').unwrap_or((line, ""));
-    let (first, text) = rest.split_once(' ').unwrap_or((rest, ""));
-    let hash = first.parse::<u64>().unwrap_or(0);
-    let flusher = first.parse::<u32>().unwrap_or(0);
-    Ok(match word {
-        "put" => put(alloc, hash, text, false)?,
-        "young" => put(alloc, hash, text, true)?,
-        "delete" => Move::Delete { hash },
+// The move of a word and a number, which carries nothing else.
+fn plain_move<A: Allocator>(word: &str, number: u64) -> TestMove<A> {
+    let flusher = number.min(u64::from(u32::MAX)) as u32;
+    match word {
+        "delete" => Move::Delete { hash: number },
         "wait" => Move::Wait { flusher, id: 3 },
-        "ask" => Move::MayContains { hash },
+        "ask" => Move::MayContains { hash: number },
         "look" => Move::LoadBegin {
-            hash,
+            hash: number,
             throttled: false,
         },
         "throttled" => Move::LoadBegin {
-            hash,
+            hash: number,
             throttled: true,
         },
         "read" => Move::LoadEnd {
@@ -94,7 +76,21 @@ fn move_of<A: Allocator + Clone>(alloc: &A, line: &str) -> Result<TestMove<A>> {
         "destroy" => Move::DestroyBegin,
         "clear" => Move::DestroyClear,
         _ => Move::Close,
-    })
+    }
+}
+
+// The move that a line of a script names: a word, a number, and for a put a text.
+fn move_of<A: Allocator + Clone>(alloc: &A, line: &str) -> Result<TestMove<A>> {
+    let (word, rest) = line.split_once(' ').unwrap_or((line, ""));
+    let (first, text) = rest.split_once(' ').unwrap_or((rest, ""));
+    let number = first.parse::<u64>().unwrap_or(0);
+    if word == "put" || word == "young" {
+        return Ok(Move::Enqueue {
+            piece: piece_of(alloc, number, text, word == "young")?,
+            size: text.len(),
+        });
+    }
+    Ok(plain_move(word, number))
 }
 
 // A reply in words.

@@ -7,3 +7,12 @@ loop-i-preserved g c = grind (arith, common_steps)
 
 pub loop-i-init : goal.loop-i-init
 loop-i-init g c = search rules depth 1
+
+pub unwrap-requires : goal.unwrap-requires
+unwrap-requires g c = grind (arith, common_steps)
+
+pub returns-clause-inserted : goal.returns-clause-inserted
+returns-clause-inserted g c = grind (arith, common_steps)
+
+pub returns-clause-answers : goal.returns-clause-answers
+returns-clause-answers g c = grind (arith, common_steps)

@@ -1,3 +1,4 @@
+use Rattle.std.proofs.lemmas.Grind.{common_steps}
 use Rattle.std.proofs.Common.{◌≡◌, ◌∙◌, ap, arith}
 use Rattle.std.specs.Prelude.{replicate}
 use Rattle.foyer_core.specs.Opened.{idle}
@@ -7,3 +8,6 @@ pub returns-clause-idle : goal.returns-clause-idle
 returns-clause-idle g c =
     let all : c.each_flusher.counter ≡ c.args.count = omega arith in
     c.each_flusher.invariant.idle ∙ ap (λ n. replicate n (idle c.args.first_offset)) all
+
+pub each_flusher-preserved : goal.each_flusher-preserved
+each_flusher-preserved g c = grind (arith, common_steps)

@@ -7,3 +7,9 @@ returns-clause-sealed g c = sealed_from c.args.bytes.now c.entries.entries.items
 
 pub returns-then-count-bytes-clause-none : goal.returns-then-count-bytes-clause-none
 returns-then-count-bytes-clause-none g c = search (rules, entry_lemmas) depth 1
+
+pub entries-init : goal.entries-init
+entries-init g c = grind (arith, entry_lemmas)
+
+pub entries-preserved : goal.entries-preserved
+entries-preserved g c = grind (arith, entry_lemmas)

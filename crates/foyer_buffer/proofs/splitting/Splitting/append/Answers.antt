@@ -1,5 +1,5 @@
+use Rattle.foyer_format.proofs.PageLaws.{page_laws, even-page_up}
 use Rattle.std.proofs.Common.{◌+◌, ℕ, refl, ap, ◌∙◌, arith}
-use Rattle.foyer_format.proofs.PageLaws.{even-page_up}
 use Rattle.foyer_buffer.proofs.SplitLemmas.{appends}
 use Rattle.foyer_buffer.proofs.splitting.Splitting.append.Goals as goal
 
@@ -23,3 +23,9 @@ invariant_of-self-2 g c =
       part_pages = omega (arith, w.part_pages, c.aligned.ensures, even-page_up c.args.info.now.len);
       counted = omega (arith, c.requires.sum, c.aligned.ensures);
     }
+
+pub overflow_cast-entry : goal.overflow_cast-entry
+overflow_cast-entry g c = grind (arith, page_laws)
+
+pub overflow_cast-entry-2 : goal.overflow_cast-entry-2
+overflow_cast-entry-2 g c = grind (arith, page_laws)

@@ -1,3 +1,4 @@
+use Rattle.std.proofs.lemmas.Grind.{common_steps}
 use Rattle.std.proofs.Common.{true, false, ◌≡◌, ◌<◌, ◌∷◌, [], map, length, Some, None, refl, ap, sym, subst, ◌∙◌, arith}
 use Rattle.foyer_device.specs.declared.error.ErrorKind.TheVariants as kind
 use Rattle.foyer_model.specs.Receive.{HasReceived, turned}
@@ -98,3 +99,12 @@ returns-in-Err-clause-meets g c = λ m s sound it stands few.
       waiting = refl;
     }) stands
     (is_early m s old it stands few, ((there, turn.0, turn.1), (replies.Began (spread_of (it.flushers f).context (it.flushers f).buffer ∷ []) (it.flushers f).marks, turned (machine m s sound) it f (begun m s sound it f found before), begins m s sound it f found before, tt)))
+
+pub returns-then-flusher-len-clause-meets : goal.returns-then-flusher-len-clause-meets
+returns-then-flusher-len-clause-meets g c = grind (arith, common_steps)
+
+pub returns-then-not-may_begin-clause-back : goal.returns-then-not-may_begin-clause-back
+returns-then-not-may_begin-clause-back g c = grind (arith, common_steps)
+
+pub returns-in-Err-clause-back : goal.returns-in-Err-clause-back
+returns-in-Err-clause-back g c = grind (arith, common_steps)

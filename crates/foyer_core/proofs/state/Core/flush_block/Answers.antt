@@ -1,3 +1,4 @@
+use Rattle.std.proofs.lemmas.Grind.{common_steps}
 use Rattle.std.proofs.Common.{◌≡◌, ◌<◌, length, map, refl, ap, subst, arith}
 use Rattle.std.proofs.lemmas.Bool.{false≢true}
 use Rattle.foyer_model.specs.Numbers.{last_number}
@@ -108,3 +109,12 @@ returns-in-Ok-Block-clause-meets g c = λ m s sound it stands few.
       reply = refl;
       turns = ((flusher_there m s core it f stands within, has_block m s found.own found.batch (it.flushers f).batch (at.flusher).batch (c.if-not-has_block.ensures.0 refl)), done.does);
     }
+
+pub returns-then-flusher-len-clause-meets : goal.returns-then-flusher-len-clause-meets
+returns-then-flusher-len-clause-meets g c = grind (arith, common_steps)
+
+pub returns-then-not-has_block-clause-back : goal.returns-then-not-has_block-clause-back
+returns-then-not-has_block-clause-back g c = grind (arith, common_steps)
+
+pub returns-in-Err-clause-back : goal.returns-in-Err-clause-back
+returns-in-Err-clause-back g c = grind (arith, common_steps)

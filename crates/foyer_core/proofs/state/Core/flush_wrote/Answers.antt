@@ -1,3 +1,4 @@
+use Rattle.std.proofs.lemmas.Grind.{common_steps}
 use Rattle.std.proofs.Common.{◌≡◌, ◌<◌, Bool, length, refl, ap, subst, ◌∙◌, arith}
 use Rattle.std.proofs.lemmas.Bool.{false≢true}
 use Rattle.foyer_model.specs.Reply as replies
@@ -88,3 +89,9 @@ returns-in-Failed-clause-meets g c = λ m s sound it stands few.
       reply = refl;
       turns = ((flusher_there m s core it f stands within, is_writing m s found.own found.batch (it.flushers f).batch (at.flusher).batch (c.if-not-is_writing.ensures.0 refl)), done.does);
     }
+
+pub returns-then-flusher-len-clause-meets : goal.returns-then-flusher-len-clause-meets
+returns-then-flusher-len-clause-meets g c = grind (arith, common_steps)
+
+pub returns-then-not-is_writing-clause-back : goal.returns-then-not-is_writing-clause-back
+returns-then-not-is_writing-clause-back g c = grind (arith, common_steps)

@@ -1,3 +1,4 @@
+use Rattle.std.proofs.lemmas.Grind.{common_steps}
 use Rattle.std.proofs.Common.{rules, option_to_list, ◌≡◌, ◌+◌, ◌-◌, ◌<◌, ◌^◌, ℕ, Bool, true, false, min, length, List, [], ◌∷◌, ◌++◌, map, Some, None, refl, sym, ap, subst, ◌∙◌, arith}
 use Rattle.std.proofs.lemmas.Bool.{eq-eqb}
 use Rattle.std.specs.VecDeque.{deque_len}
@@ -94,3 +95,6 @@ returns-in-Some-Wait-clause-takes g c = λ age_of s sound st f size stands.
     let is : φ.queue ≡ Wait c.in-Some-Wait.id ∷ rest = c.in-Some-Wait.ensures.items ∙ ap (λ x. x ∷ rest) c.in-Some-Wait.field-0-is in
     wait_kept m s sound st f φ there c.in-Some-Wait.id rest _ is
     (ap (λ xs. record φ { queue = rest; waits = xs }) c.push_reserved-in-Some-Wait.ensures.items)
+
+pub returns-then-is_empty-clause-takes : goal.returns-then-is_empty-clause-takes
+returns-then-is_empty-clause-takes g c = grind (arith, common_steps)

@@ -22,3 +22,18 @@ returns-clause-pushed g c =
 
 pub returns-clause-fits : goal.returns-clause-fits
 returns-clause-fits g c = search (rules, pages) depth 1
+
+pub returns-then-room-estimated-clause-lacks : goal.returns-then-room-estimated-clause-lacks
+returns-then-room-estimated-clause-lacks g c = grind (arith, pages)
+
+pub whole_pages-padded-requires : goal.whole_pages-padded-requires
+whole_pages-padded-requires g c = grind (arith, pages)
+
+pub append_record-requires-clause-header : goal.append_record-requires-clause-header
+append_record-requires-clause-header g c = grind (arith, pages)
+
+pub append_record-requires-clause-room : goal.append_record-requires-clause-room
+append_record-requires-clause-room g c = grind (arith, pages)
+
+pub returns-clause-within : goal.returns-clause-within
+returns-clause-within g c = grind (arith, pages)

@@ -1,4 +1,5 @@
-use Rattle.std.proofs.Common.{rules}
+use Rattle.std.proofs.Common.{arith, rules}
+use Rattle.std.proofs.lemmas.Grind.{common_steps}
 use Rattle.foyer_format.proofs.WritingLemmas.{two_writes}
 use Rattle.foyer_format.proofs.serde.entries.EntrySerializer.serialize.Goals as goal
 
@@ -16,3 +17,6 @@ returns-clause-bytes g c = search (rules, two_writes) depth 1
 
 pub returns-clause-lens : goal.returns-clause-lens
 returns-clause-lens g c = search (rules, two_writes) depth 1
+
+pub returns-in_err-encode_into-2-clause-kept : goal.returns-in_err-encode_into-2-clause-kept
+returns-in_err-encode_into-2-clause-kept g c = grind (arith, common_steps)

@@ -9,3 +9,9 @@ returns-clause-bytes g c = grind (arith, common_steps, two_writes, text_lemmas)
 
 pub returns-clause-taken : goal.returns-clause-taken
 returns-clause-taken g c = search (rules, two_writes, text_lemmas) depth 1
+
+pub returns-clause-encoded : goal.returns-clause-encoded
+returns-clause-encoded g c = grind (arith, two_writes, text_lemmas)
+
+pub returns-clause-kept : goal.returns-clause-kept
+returns-clause-kept g c = grind (arith, common_steps)

@@ -9,3 +9,6 @@ returns-clause-bytes g c = grind (arith, common_steps, two_writes, sized_number)
 
 pub returns-clause-taken : goal.returns-clause-taken
 returns-clause-taken g c = search (rules, two_writes, sized_number) depth 1
+
+pub returns-clause-kept : goal.returns-clause-kept
+returns-clause-kept g c = grind (arith, common_steps)
