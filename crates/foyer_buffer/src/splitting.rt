@@ -1,5 +1,5 @@
 //! A split under way.
-ghost use Rattle.std.specs.Prelude.{◌≡◌, ◌+◌, ◌<◌, ◌≤◌, ◌%◌, ◌^◌, List, length, OnOk, IfErr, IsTrue, vec_len, [], ◌∷◌};
+ghost use Rattle.std.specs.Prelude.{◌≡◌, ◌+◌, ◌<◌, ◌≤◌, ◌%◌, ◌^◌, List, length, OnOk, IfErr, IsTrue, vec_len, [], ◌∷◌, ◌++◌};
 ghost use Rattle.foyer_device.specs.declared.error.Error.{Error as error};
 ghost use Rattle.foyer_blob.specs.Blob.{capacity_of};
 
@@ -36,6 +36,22 @@ pub(super) struct Splitting<A: Allocator> {
     ghost pages: { start % 4096 ≡ 0 },
     ghost part_pages: { size % 4096 ≡ 0 },
     ghost counted: { start + size < 2 ^ 64 },
+}
+
+// Ends the block of these parts.
+fn end_block<A: Allocator + Clone>(
+    alloc: &A,
+    parts: &mut Vec<BlobPart<A>, A>,
+    blocks: &mut Vec<Block<A>, A>,
+) -> Result<()>
+    ensures blocks { OnOk result (blocks.new.items
+        ≡ blocks.old.items ++ (record { blob_parts = parts.old }) ∷ []) }
+    ensures parts { OnOk result (parts.new.items ≡ []) }
+    ensures memory { IfErr result (λ e. e ≡ error.Memory) }
+{
+    let blob_parts = mem::replace(parts, Vec::new(alloc.clone()?));
+    blocks.push(Block { blob_parts })?;
+    Ok(())
 }
 
 impl<A: Allocator + Clone> Splitting<A> {
@@ -108,8 +124,7 @@ impl<A: Allocator + Clone> Splitting<A> {
             × (self.new.blob ≡ 0) × (self.new.at ≡ self.new.index_size)) }
         ensures memory { IfErr result (λ e. e ≡ error.Memory) }
     {
-        let blob_parts = mem::replace(&mut self.parts, Vec::new(alloc.clone()?));
-        self.blocks.push(Block { blob_parts })?;
+        end_block(alloc, &mut self.parts, &mut self.blocks)?;
         self.blob = 0;
         self.at = self.index_size;
         self.index.reset();
@@ -214,8 +229,7 @@ impl<A: Allocator + Clone> Splitting<A> {
         ensures memory { IfErr result (λ e. e ≡ error.Memory) }
     {
         self.close(alloc, bytes)?;
-        let blob_parts = mem::replace(&mut self.parts, Vec::new(alloc.clone()?));
-        self.blocks.push(Block { blob_parts })?;
+        end_block(alloc, &mut self.parts, &mut self.blocks)?;
         Ok(())
     }
 }

@@ -1,4 +1,4 @@
-use Rattle.std.proofs.Common.{◌<◌}
+use Rattle.std.proofs.Common.{◌<◌, refl}
 use Rattle.foyer_blob.specs.Blob.{capacity_of}
 use Rattle.foyer_buffer.proofs.SplitLemmas.{finishes}
 use Rattle.foyer_buffer.proofs.splitting.Splitting.finish.Goals as goal
@@ -8,4 +8,4 @@ returns-clause-placed g c = λ f all going.
     let closed = c.in_ok-close.ensures.closed f all _ going in
     let room : c.close.new.self.index.count < capacity_of c.close.new.self.index_size =
     rw (c.in_ok-close.ensures.index, c.in_ok-close.ensures.moves.index_size) c.requires.open in
-    finishes c.args.bytes.now f all _ c.close.new.self _ room c.replace-blob_parts.ensures.value c.in_ok-push.ensures.items closed
+    finishes c.args.bytes.now f all (record { blob_parts = c.close.new.self.parts }) c.close.new.self _ room refl c.in_ok-end_block.ensures.blocks closed
