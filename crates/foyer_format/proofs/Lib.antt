@@ -1,4 +1,3 @@
-pub mod CodeLemmas
 pub mod CompressionLemmas
 pub mod HeaderLemmas
 pub mod OuterFault
@@ -6,4 +5,3 @@ pub mod PageLaws
 pub mod PushLemmas
 pub mod RecordLemmas
 pub mod RefusalLemmas
-pub mod WritingLemmas

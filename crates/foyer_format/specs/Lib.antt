@@ -1,16 +1,8 @@
-pub mod Bytes
-pub mod CodeLaws
-pub mod Codes
 pub mod Compression
-pub mod FlagLaws
 pub mod Header
-pub mod IntLaws
 pub mod Page
 pub mod Pushing
 pub mod Record
 pub mod Refusals
-pub mod Tracked
 pub mod Vectors
-pub mod WideBytes
-pub mod Writing
 pub mod Written

@@ -6,7 +6,7 @@ use Rattle.foyer_format.specs.declared.compress.Compression.{Compression}
 use Rattle.foyer_format.specs.declared.compress.Compression.TheVariants as compression
 use Rattle.foyer_format.specs.Record.{Outcome}
 use Rattle.foyer_format.specs.Record.{Outcome as outcome}
-use Rattle.foyer_format.specs.Writing.{IsWriteFault}
+use Rattle.foyer_code.specs.Writing.{IsWriteFault}
 
 -- Serializing n bytes is refused for another compression than None; else where a code can't encode
 -- its value, or the writer, of this room, fails.

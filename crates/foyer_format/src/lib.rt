@@ -1,5 +1,5 @@
-//! The bytes of entries: codes of keys and values, records, and the buffer that records are
-//! written into.
+//! The bytes of entries: records, and the buffer that they are written into. The codes of keys and values are
+//! `foyer_code`'s.
 #![tactic(auto)]
 
 pub mod block;

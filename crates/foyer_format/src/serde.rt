@@ -1,18 +1,14 @@
-//! Keys and values as bytes, and the bytes of an entry.
+//! Keys and values as bytes, and the bytes of an entry. The codes are `foyer_code`'s, under their names here too.
 
 mod ages;
-mod codes;
-mod coding;
 mod entries;
-mod sinks;
 
 pub use ages::{Age, Properties};
-pub use codes::{
-    bool_read_back, bytes_read_back, code_vectors, i8_read_back, i16_read_back, i32_read_back,
-    i64_read_back, i128_read_back, isize_read_back, string_read_back, u8_read_back, u16_read_back,
-    u32_read_back, u64_read_back, u128_read_back, usize_read_back,
-};
-pub use coding::{Code, StorageKey, StorageValue};
 pub use entries::{EntryDeserializer, EntrySerializer, KvInfo};
 pub use foyer_checksum::Checksummer;
-pub use sinks::{Sink, TrackedWriter};
+pub use foyer_code::{
+    Code, Sink, StorageKey, StorageValue, TrackedWriter, bool_read_back, bytes_read_back,
+    code_vectors, i8_read_back, i16_read_back, i32_read_back, i64_read_back, i128_read_back,
+    isize_read_back, string_read_back, u8_read_back, u16_read_back, u32_read_back, u64_read_back,
+    u128_read_back, usize_read_back,
+};

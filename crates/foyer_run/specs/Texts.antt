@@ -2,7 +2,7 @@
 use Rattle.std.specs.Prelude.{ℕ, ◌^◌, nat_lt, Option, string_bytes}
 use Rattle.std.specs.declared.string.String.{String}
 use Rattle.std.specs.Int.{w64}
-use Rattle.foyer_format.specs.Codes.{number_bytes, is_number, counted, is_counted_text, is_sized_text}
+use Rattle.foyer_code.specs.Codes.{number_bytes, is_number, counted, is_counted_text, is_sized_text}
 use Rattle.foyer_format.specs.declared.serde.ages.Age.{Age}
 use Rattle.foyer_core.specs.Content.{Meaning, meaning}
 

@@ -6,12 +6,11 @@ ghost use Rattle.foyer_format.specs.declared.compress.Compression.TheVariants as
 ghost use Rattle.foyer_format.specs.Record.{entry_fault, outer_fault};
 ghost use Rattle.foyer_format.specs.Refusals.{IsSerializeFault, IsEntryFault};
 ghost use Rattle.foyer_format.specs.Written.{IsWritten};
-ghost use Rattle.foyer_format.specs.Writing.{Takes, Extends};
+ghost use Rattle.foyer_code.specs.Writing.{Takes, Extends};
 
-use super::coding::Code;
-use super::sinks::Sink;
 use crate::compress::Compression;
 use foyer_checksum::Checksummer;
+use foyer_code::{Code, Sink};
 use foyer_device::error::{Error, Result};
 use std::alloc::Allocator;
 
@@ -29,7 +28,7 @@ impl EntrySerializer {
     /// Writes the value and then the key. Unsupported for another compression than `None`; else
     /// BufferSizeLimit where room is missing, Io where the writer failed, or a code's own error.
     /// After an `Err` some of the bytes may have been written.
-    #[tactic(auto, using(crate::proofs::WritingLemmas::two_writes))]
+    #[tactic(auto, using(foyer_code::proofs::WritingLemmas::two_writes))]
     pub fn serialize<A: Allocator, K: Code<A>, V: Code<A>, W: Sink>(
         key: &K,
         value: &V,

@@ -1,6 +1,6 @@
 use Rattle.std.proofs.Common.{arith, rules}
 use Rattle.std.proofs.lemmas.Grind.{common_steps}
-use Rattle.foyer_format.proofs.WritingLemmas.{two_writes}
+use Rattle.foyer_code.proofs.WritingLemmas.{two_writes}
 use Rattle.foyer_format.proofs.serde.entries.EntrySerializer.serialize.Goals as goal
 
 pub returns-in_err-encode_into-clause-refused : goal.returns-in_err-encode_into-clause-refused

@@ -1,0 +1,9 @@
+pub mod Bytes
+pub mod CodeLaws
+pub mod Codes
+pub mod FlagLaws
+pub mod IntLaws
+pub mod Tracked
+pub mod Vectors
+pub mod WideBytes
+pub mod Writing

@@ -1,0 +1,14 @@
+//! Codes of keys and values: types whose values are spelled as bytes, and the writers that take the bytes.
+#![tactic(auto)]
+
+mod codes;
+mod coding;
+mod sinks;
+
+pub use codes::{
+    bool_read_back, bytes_read_back, code_vectors, i8_read_back, i16_read_back, i32_read_back,
+    i64_read_back, i128_read_back, isize_read_back, string_read_back, u8_read_back, u16_read_back,
+    u32_read_back, u64_read_back, u128_read_back, usize_read_back,
+};
+pub use coding::{Code, StorageKey, StorageValue};
+pub use sinks::{Sink, TrackedWriter};
