@@ -6,7 +6,7 @@ use foyer_core::reply::Reply;
 use foyer_core::settings::Settings;
 use foyer_core::state::Core;
 use foyer_core::step::{Step, Ticket};
-use foyer_device::error::{ErrorKind, Result};
+use foyer_device::error::{Error, ErrorKind, Result};
 use foyer_format_vectors::refusing::Refusing;
 use foyer_policy::keeper::Piece;
 use foyer_run::memory::MemoryDisk;
@@ -108,14 +108,30 @@ fn word_in(line: &str) -> &str {
     line.split_once(' ').unwrap_or((line, "")).0
 }
 
-// The end of the load that was told, with its read.
-fn load_of<A: Allocator + Clone>(driven: &mut Driven<A>, heap: &A) -> Option<Life<A>> {
-    let ticket = driven.ticket.take()?;
-    let outcome = read_told(heap.clone().ok()?, &mut driven.disk, &ticket).ok()?;
-    Some(Step::LoadEnd {
+// The end of the load that was told, with its read. `Err` where its bytes can't be had.
+fn load_of<A: Allocator + Clone>(driven: &mut Driven<A>, heap: &A) -> Result<Option<Life<A>>> {
+    let Some(ticket) = driven.ticket.take() else {
+        return Ok(None);
+    };
+    let outcome = read_told(heap.clone()?, &mut driven.disk, &ticket)?;
+    Ok(Some(Step::LoadEnd {
         ticket,
         result: outcome,
-    })
+    }))
+}
+
+// A put. `Err` where its piece can't be had.
+fn put_of<A: Allocator + Clone>(
+    heap: &A,
+    number: u64,
+    text: &str,
+    is_young: bool,
+) -> Result<Option<Life<A>>> {
+    let piece = piece_of(heap, number, text, is_young)?;
+    Ok(Some(Step::Enqueue {
+        piece,
+        size: text.len(),
+    }))
 }
 
 // The next write that was told, done.
@@ -161,20 +177,21 @@ fn plain_step<A: Allocator + Clone>(word: &str, number: u64) -> Life<A> {
     }
 }
 
-// The step of a line, with the result of the access that was told. None where none was told, or the driver's own growth
-// is refused.
-fn step_of<A: Allocator + Clone>(driven: &mut Driven<A>, heap: &A, line: &str) -> Option<Life<A>> {
+// The step of a line, with the result of the access that was told. None where none was told, `Err` where a growth of the
+// driver itself fails.
+fn step_of<A: Allocator + Clone>(
+    driven: &mut Driven<A>,
+    heap: &A,
+    line: &str,
+) -> Result<Option<Life<A>>> {
     let (word, rest) = line.split_once(' ').unwrap_or((line, ""));
     let (first, text) = rest.split_once(' ').unwrap_or((rest, ""));
     let number = first.parse::<u64>().unwrap_or(0);
     match word {
         "load" => load_of(driven, heap),
-        "wrote" => wrote_of(driven),
-        "put" | "young" => Some(Step::Enqueue {
-            piece: piece_of(heap, number, text, word == "young").ok()?,
-            size: text.len(),
-        }),
-        _ => Some(plain_step(word, number)),
+        "wrote" => Ok(wrote_of(driven)),
+        "put" | "young" => put_of(heap, number, text, word == "young"),
+        _ => Ok(Some(plain_step(word, number))),
     }
 }
 
@@ -239,6 +256,12 @@ fn apply<A: Allocator + Clone>(driven: &mut Driven<A>, step: Life<A>) -> TestRep
     }
 }
 
+// The driver had no step, for this.
+fn push_fault(text: &mut String, error: &Error) -> std::result::Result<(), AllocError> {
+    write!(text, "no step {:?}", error.kind())?;
+    Ok(())
+}
+
 // Applies the step of a line, and tells its answer.
 fn answer<A: Allocator + Clone>(
     text: &mut String,
@@ -246,8 +269,10 @@ fn answer<A: Allocator + Clone>(
     heap: &A,
     line: &str,
 ) -> std::result::Result<(), AllocError> {
-    let Some(step) = step_of(driven, heap, line) else {
-        return text.push_str("left out");
+    let step = match step_of(driven, heap, line) {
+        Ok(Some(step)) => step,
+        Ok(None) => return text.push_str("left out"),
+        Err(error) => return push_fault(text, &error),
     };
     let reply = apply(driven, step);
     tell(text, &reply)?;
@@ -330,6 +355,15 @@ fn live(alloc: Global, heap: &Refusing<Global>, script: &str, way: Way) -> Resul
         answers.push_str("\n")?;
     }
     Ok(Run { answers, refused })
+}
+
+// A run on a heap that may refuse a growth. None where this is what failed the opening.
+fn lived(alloc: Global, heap: &Refusing<Global>, script: &str, way: Way) -> Result<Option<Run>> {
+    match live(alloc, heap, script, way) {
+        Ok(run) => Ok(Some(run)),
+        Err(Error::Memory) if heap.has_refused() => Ok(None),
+        Err(other) => Err(other),
+    }
 }
 
 // The first line, but for one, that two runs answer otherwise.
@@ -421,7 +455,7 @@ fn run_as(
     let (fails_at, omitted) = match text {
         "failed" if word == "wrote" => (call_at(at), NO_LINE),
         "refused Memory" if is_among(word, GROWING) => (0, at),
-        "left out" if word == "put" || word == "young" || word == "load" => (0, at),
+        "no step Memory" if word == "put" || word == "young" || word == "load" => (0, at),
         _ => return Ok(None),
     };
     let way = Way {
@@ -448,7 +482,7 @@ fn is_as_another(
     let Some(after) = run_as(alloc, ample, at, word, text)? else {
         return Ok(false);
     };
-    if text != "left out" {
+    if text != "no step Memory" {
         words.push_str(word)?;
         words.push_str(" ")?;
     }
@@ -465,8 +499,7 @@ fn each_refused_allocation_is_told(rt: HostRuntime) -> std::result::Result<(), F
     let mut words = String::new(alloc);
     for n in 1..MOST_ALLOCATIONS {
         let heap = Refusing::new(alloc, n);
-        let Ok(run) = live(alloc, &heap, SCRIPT, PLAIN) else {
-            assert!(rt; heap.has_refused(), "allocation {n}");
+        let Some(run) = lived(alloc, &heap, SCRIPT, PLAIN)? else {
             continue;
         };
         if !heap.has_refused() {
@@ -492,13 +525,22 @@ const FAILED: &str =
 const WHOLE: &str =
     "queued 1\nreceived\nbegan 1 0\nwrite 0\ncommitted 1\nended 1 /\nread\nentry a\ndeleted 2\nno\n";
 
-// Whether the driver's own growth was refused, for a piece or for a read.
-fn has_no_step(answers: &str) -> bool {
-    answers.starts_with("left out") || answers.contains("read\nleft out")
+// The answers where the driver has no room for its piece.
+const NO_PIECE: &str =
+    "no step Memory\nempty\nnot now\nnot now\nleft out\nnot now\nmiss\nleft out\ndeleted 1\nno\n";
+
+// The answers where the driver has no room for what it reads.
+const NO_READ: &str =
+    "queued 1\nreceived\nbegan 1 0\nwrite 0\ncommitted 1\nended 1 /\nread\nno step Memory\ndeleted 2\nno\n";
+
+// Whether a life may be answered so in which a growth was refused.
+fn is_allowed(answers: &str) -> bool {
+    answers == WHOLE || answers == FAILED || answers == NO_PIECE || answers == NO_READ
 }
 
 // A refused step is as good as one that never came: applied again it gives what the run without a refusal gives. Only
-// a refused growth of the index at the end of a block fails its batch.
+// a refused growth of the index at the end of a block fails its batch, and only a refused growth of the driver itself
+// leaves a step out.
 #[test]
 fn a_refused_step_may_come_again(rt: HostRuntime) -> std::result::Result<(), Fail> {
     let alloc = rt.alloc();
@@ -508,8 +550,7 @@ fn a_refused_step_may_come_again(rt: HostRuntime) -> std::result::Result<(), Fai
     };
     for n in 1..MOST_ALLOCATIONS {
         let heap = Refusing::new(alloc, n);
-        let Ok(run) = live(alloc, &heap, LIFE, way) else {
-            assert!(rt; heap.has_refused(), "allocation {n}");
+        let Some(run) = lived(alloc, &heap, LIFE, way)? else {
             continue;
         };
         let answers = run.answers.as_str();
@@ -518,10 +559,7 @@ fn a_refused_step_may_come_again(rt: HostRuntime) -> std::result::Result<(), Fai
             assert!(rt; n > 20);
             return Ok(());
         }
-        assert!(rt;
-            answers == WHOLE || answers == FAILED || has_no_step(answers),
-            "allocation {n}"
-        );
+        assert!(rt; is_allowed(answers), "allocation {n}");
     }
     Err(Fail::new("the life makes more allocations"))
 }
