@@ -7,6 +7,7 @@ pub mod LawfulLemmas
 pub mod ListLemmas
 pub mod LoadLemmas
 pub mod LookUpLemmas
+pub mod MissedLemmas
 pub mod NewestLemmas
 pub mod ReplyLemmas
 pub mod RunLemmas

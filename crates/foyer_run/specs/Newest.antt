@@ -1,6 +1,8 @@
 -- What a load answers, whatever led to the core and the bytes that it began with.
-use Rattle.std.specs.Prelude.{◌≡◌, ℕ, List, Some}
+use Rattle.std.specs.Prelude.{◌≡◌, ℕ, ◌+◌, ◌<◌, ◌⊎◌, List, Some}
+use Rattle.foyer_device.specs.declared.error.ErrorKind.TheVariants as kind
 use Rattle.foyer_model.specs.Event.{Put, newest}
+use Rattle.foyer_model.specs.Numbers.{last_number}
 use Rattle.foyer_model.specs.Record.{Holds}
 use Rattle.foyer_model.specs.World.{WorldEvent, MayAllHappen, after_all}
 use Rattle.foyer_core.specs.Begins.{first_world}
@@ -27,3 +29,23 @@ IsNewest m h core bytes (reply.Entry key value age) =
     (s : Settings) (sound : IsSound s) (first : ℕ → ℕ → ℕ) (events : List (WorldEvent Content)) → IsHistory m s sound first events core bytes
     → (sequence : ℕ) × (newest h (after_all (machine m s sound) (first_world (machine m s sound) first) events).history ≡ Some (Put h sequence (Holds (content m key value))))
 IsNewest m h core bytes answer = Unit {0}
+
+-- the content that was put, or the fault for which it isn't answered: its read failed, or memory was refused
+abbrev pub IsPutOrFault : {K V P A : Type 0} → Meaning K V P → Content → Reply K V P A → Type 0
+IsPutOrFault m c (reply.Entry key value age) = content m key value ≡ c
+IsPutOrFault m c (reply.Refused why back) = (why ≡ kind.Io) ⊎ (why ≡ kind.Memory)
+IsPutOrFault m c answer = ⊥
+
+-- What holds, in every history that led here, of the content whose put is the newest event of the hash, where neither a
+-- reclaim of its block nor a destroy began since; two steps more are to be had.
+abbrev pub OfPut : {K V P A : Type 0} → Meaning K V P → ℕ → Core K V P A → (ℕ → ℕ → ℕ) → (Content → Type 0) → Type 0
+OfPut m h core bytes Is =
+    (s : Settings) (sound : IsSound s) (first : ℕ → ℕ → ℕ) (events : List (WorldEvent Content)) → IsHistory m s sound first events core bytes
+    → core.steps + 1 < last_number → (b sequence : ℕ) (c : Content)
+    → (after_all (machine m s sound) (first_world (machine m s sound) first) events).kept h ≡ Some b
+    → newest h (after_all (machine m s sound) (first_world (machine m s sound) first) events).history ≡ Some (Put h sequence (Holds c))
+    → Is c
+
+-- such a put, or a fault, is answered: no miss
+abbrev pub IsMissedOnly : {K V P A : Type 0} → Meaning K V P → ℕ → Core K V P A → (ℕ → ℕ → ℕ) → Reply K V P A → Type 0
+IsMissedOnly m h core bytes answer = OfPut m h core bytes (λ c. IsPutOrFault m c answer)

@@ -1,5 +1,5 @@
 //! A load and a block's writes, each with its accesses in their place.
-ghost use Rattle.std.specs.Prelude.{ℕ, List, ◌++◌, ◌≡◌, ◌∷◌, [], OnErr, IfOk};
+ghost use Rattle.std.specs.Prelude.{ℕ, List, ◌++◌, ◌≡◌, ◌∷◌, [], false, OnErr, IfOk};
 ghost use Rattle.foyer_model.specs.World.{WorldEvent};
 ghost use Rattle.foyer_core.specs.Content.{Content, Meaning, meaning};
 ghost use Rattle.foyer_core.specs.Sizes.{IsSound};
@@ -8,7 +8,7 @@ ghost use Rattle.foyer_core.specs.declared.state.Core.{Core};
 ghost use Rattle.foyer_run.specs.Accesses.{Says, Writes, load_of};
 ghost use Rattle.foyer_run.specs.Driven.{Drives};
 ghost use Rattle.foyer_run.specs.Moves.{asked};
-ghost use Rattle.foyer_run.specs.Newest.{IsHistory, IsNewest};
+ghost use Rattle.foyer_run.specs.Newest.{IsHistory, IsMissedOnly, IsNewest};
 ghost use Rattle.foyer_run.specs.declared.moves.Asked.TheVariants as asks;
 ghost use Rattle.foyer_run.specs.declared.moves.Move.{Move};
 ghost use Rattle.foyer_run.specs.Running.{IsFree};
@@ -46,7 +46,9 @@ where
 }
 
 /// Looks a hash up, does the read that this tells, and brings what came of it: what the load answers. An entry is the
-/// newest put of the hash, whatever led here. `Err` is a refused growth: then nothing was read, and the load never ends.
+/// newest put of the hash, whatever led here; and where that put was written, it is answered, or `Refused` for a failed
+/// read or for memory, unless the caller throttles. `Err` is a refused growth: then nothing was read, and the load never
+/// ends.
 pub fn load<K, V, P, A, D>(
     core: &mut Core<K, V, P, A>,
     env: &mut Env,
@@ -69,6 +71,9 @@ where
     ensures newest { IfOk result (IsNewest
         (meaning K.spelling V.spelling K.encodes V.encodes K.is_spelling V.is_spelling P.age)
         hash core.old (D.byte_at disk.old)) }
+    ensures missed { IfOk result (λ last. throttled ≡ false → IsMissedOnly
+        (meaning K.spelling V.spelling K.encodes V.encodes K.is_spelling V.is_spelling P.age)
+        hash core.old (D.byte_at disk.old) last) }
     ensures front { OnErr result (IsFront
         (meaning K.spelling V.spelling K.encodes V.encodes K.is_spelling V.is_spelling P.age)
         (load_of hash throttled) core.old core.new (D.byte_at disk.old) (D.byte_at disk.new)) }

@@ -1,14 +1,15 @@
 -- An engine that is driven.
 use Rattle.std.proofs.Common.{ℕ}
 use Rattle.std.specs.declared.string.String.{String}
+use Rattle.foyer_core.specs.Content.{Content}
 use Rattle.foyer_core.specs.declared.reply.Reply.{Reply}
 use Rattle.foyer_core.specs.declared.reply.Reply.TheVariants as reply
 use Rattle.foyer_core.specs.declared.state.Core.{Core}
 use Rattle.foyer_run.specs.Driven.{Drives}
-use Rattle.foyer_run.specs.Newest.{IsNewest}
+use Rattle.foyer_run.specs.Newest.{IsMissedOnly, IsNewest, IsPutOrFault}
 use Rattle.foyer_run.specs.declared.memory.MemoryDisk.{MemoryDisk}
 use Rattle.std.specs.Prelude.{◌+◌, ◌*◌, nat_lt, if◌then◌else◌, slice_index}
-use Rattle.foyer_serve.specs.Texts.{IsNewestText, got, plain}
+use Rattle.foyer_serve.specs.Texts.{IsMissedText, IsNewestText, IsTextOrFault, got, plain}
 use Rattle.foyer_serve.specs.declared.engine.Engine.{Engine}
 use Rattle.foyer_serve.specs.declared.engine.NoProperties.{NoProperties}
 
@@ -26,3 +27,13 @@ newest_got key core bytes (reply.Entry other text age) newest = (other, age, new
 newest_got key core bytes reply.Throttled newest = tt
 newest_got key core bytes (reply.Refused kind back) newest = tt
 newest_got key core bytes last newest = tt
+
+put_got : {A : Type 0} (c : Content) (last : Reply ℕ (String A) NoProperties A) → IsPutOrFault plain c last → IsTextOrFault c (got last)
+put_got c (reply.Entry other text age) is = (other, is)
+put_got c (reply.Refused kind back) is = is
+put_got c last is = absurd is
+
+-- and it is told of each put that is answered
+pub missed_got : {A : Type 0} (key : ℕ) (core : Core ℕ (String A) NoProperties A) (bytes : ℕ → ℕ → ℕ) (last : Reply ℕ (String A) NoProperties A) → IsMissedOnly plain key core bytes last → IsMissedText key core bytes (got last)
+missed_got key core bytes last missed = λ s sound first events history few b sequence c kept newer.
+    put_got c last (missed s sound first events history few b sequence c kept newer)

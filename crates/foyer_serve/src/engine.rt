@@ -4,7 +4,7 @@ ghost use Rattle.foyer_device.specs.declared.error.Error.TheVariants.{Config, Me
 ghost use Rattle.foyer_core.specs.Sizes.{IsSound};
 ghost use Rattle.foyer_run.specs.Driven.{Drives};
 ghost use Rattle.foyer_run.specs.Newest.{IsHistory};
-ghost use Rattle.foyer_serve.specs.Texts.{IsDeleted, IsGot, IsNewestText, IsOkOrFault, IsPut, deleted_as, got, plain, put_as};
+ghost use Rattle.foyer_serve.specs.Texts.{IsDeleted, IsGot, IsMissedText, IsNewestText, IsOkOrFault, IsPut, deleted_as, got, plain, put_as};
 
 use foyer_core::apply::Env;
 use foyer_core::reply::Reply;
@@ -153,10 +153,12 @@ impl<A: Allocator + Clone> Engine<A> {
         tell_put(step(&mut self.core, &mut self.env, Step::Enqueue { piece, size }))
     }
 
-    /// The text of a key: the newest that was put, whatever came before.
+    /// The text of a key: the newest that was put, whatever came before. Where that text was written, it is answered, or
+    /// a fault: `Io` for a failed read, or `Memory`.
     pub fn get(&mut self, key: u64) -> Answer<A>
         ensures waits { self.new.next_wait ≡ self.old.next_wait }
         ensures newest { IsNewestText key self.old.core (⟦<MemoryDisk<A> as Disk>⟧.byte_at self.old.disk) result }
+        ensures missed { IsMissedText key self.old.core (⟦<MemoryDisk<A> as Disk>⟧.byte_at self.old.disk) result }
         ensures says { IsGot key self.old.core self.new.core
             (⟦<MemoryDisk<A> as Disk>⟧.byte_at self.old.disk) (⟦<MemoryDisk<A> as Disk>⟧.byte_at self.new.disk) result }
         ensures driven { Drives plain self.old.core self.new.core

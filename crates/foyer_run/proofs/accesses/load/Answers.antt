@@ -10,6 +10,7 @@ use Rattle.foyer_run.specs.declared.moves.Move.TheVariants as move
 use Rattle.foyer_run.proofs.AccessLemmas.{Goes, front_is, load_alone, load_whole, no_ticket, says_last, step_alone}
 use Rattle.foyer_run.proofs.DriveLemmas.{says_drive, step_drives}
 use Rattle.foyer_run.proofs.LoadLemmas.{come_is}
+use Rattle.foyer_run.proofs.MissedLemmas.{load_missed, look_up_missed}
 use Rattle.foyer_run.proofs.NewestLemmas.{load_newest, look_up_newest}
 use Rattle.foyer_run.proofs.RunLemmas.{err_is}
 use Rattle.foyer_run.proofs.StepLemmas.{spells_of}
@@ -32,6 +33,7 @@ returns-in_default g c =
       runs = says;
       drives = says_drive m (load_of h throttled) answer c.args.core.now c.apply.new.self bytes bytes says;
       newest = look_up_newest m h throttled answer c.args.core.now c.apply.new.self bytes (λ s sound v at. c.apply.ensures.meets tt s sound v.core at);
+      missed = λ not. look_up_missed m h throttled answer c.args.core.now c.apply.new.self bytes not (no_ticket answer c.in_default.not-Read) (λ s sound v at. c.apply.ensures.meets tt s sound v.core at);
       front = tt;
       same = refl;
     }
@@ -107,6 +109,15 @@ returns-clause-newest g c =
     let m = meaning g.K.Code.spelling g.V.Code.spelling g.K.Code.encodes g.V.Code.encodes g.K.Code.is_spelling g.V.Code.is_spelling g.P.Properties.age in
     let bytes = g.D.Disk.byte_at c.args.disk.now in
     load_newest m c.args.hash c.args.throttled c.in-Read.ticket c.in_ok-came.came c.apply-2.result c.args.core.now c.apply.new.self c.apply-2.new.self bytes
+    (λ s sound v at. subst (λ r. IsMet m s sound (step.LoadBegin c.args.hash c.args.throttled) r c.apply.new.self v.core) c.in-Read.is (c.apply.ensures.meets tt s sound v.core at))
+    (come_is bytes c.in-Read.ticket c.in_ok-came.came c.in_ok-came.ensures.read c.in_ok-came.ensures.len)
+    (λ s sound v at. c.apply-2.ensures.meets tt s sound v.core at)
+
+pub returns-clause-missed : goal.returns-clause-missed
+returns-clause-missed g c = λ not.
+    let m = meaning g.K.Code.spelling g.V.Code.spelling g.K.Code.encodes g.V.Code.encodes g.K.Code.is_spelling g.V.Code.is_spelling g.P.Properties.age in
+    let bytes = g.D.Disk.byte_at c.args.disk.now in
+    load_missed m c.args.hash c.args.throttled c.in-Read.ticket c.in_ok-came.came c.apply-2.result c.args.core.now c.apply.new.self c.apply-2.new.self bytes not
     (λ s sound v at. subst (λ r. IsMet m s sound (step.LoadBegin c.args.hash c.args.throttled) r c.apply.new.self v.core) c.in-Read.is (c.apply.ensures.meets tt s sound v.core at))
     (come_is bytes c.in-Read.ticket c.in_ok-came.came c.in_ok-came.ensures.read c.in_ok-came.ensures.len)
     (λ s sound v at. c.apply-2.ensures.meets tt s sound v.core at)

@@ -13,3 +13,6 @@ returns-in-Nothing-clause-moved g c = λ s sound first pens w running.
 
 pub returns-in-FlushBlock-clause-moved : goal.returns-in-FlushBlock-clause-moved
 returns-in-FlushBlock-clause-moved g c = search rules depth 1
+
+pub returns-in-LoadEnd-clause-moved : goal.returns-in-LoadEnd-clause-moved
+returns-in-LoadEnd-clause-moved g c = search rules depth 1
