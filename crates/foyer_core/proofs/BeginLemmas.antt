@@ -1,5 +1,5 @@
 -- A batch that begins.
-use Rattle.std.proofs.Common.{◌≡◌, ◌≢◌, ℕ, ◌+◌, ◌-◌, ◌^◌, ◌<◌, ◌≤◌, ◌⊎◌, inl, inr, min, Bool, true, false, List, [], ◌∷◌, ◌++◌, map, length, Option, Some, None, is_some, refl, sym, ap, subst, ◌∙◌, arith}
+use Rattle.std.proofs.Common.{◌≡◌, ℕ, ◌+◌, ◌-◌, ◌^◌, ◌<◌, ◌≤◌, inl, inr, min, Bool, true, false, List, [], ◌∷◌, map, length, Option, Some, None, is_some, refl, sym, ap, subst, ◌∙◌, arith}
 use Rattle.foyer_block.specs.declared.indexer.HashedEntryAddress.{HashedEntryAddress}
 use Rattle.foyer_block.specs.declared.tombstone.Tombstone.{Tombstone}
 use Rattle.foyer_format.specs.Page.{page_up}
@@ -11,14 +11,14 @@ use Rattle.foyer_model.specs.Record as plain
 use Rattle.foyer_model.specs.Reply as replies
 use Rattle.foyer_model.specs.State as plainly
 use Rattle.foyer_core.specs.Content.{Content, Meaning, content_of}
-use Rattle.foyer_core.specs.Flushing.{filled_to, IsRecordOf, AreRecords, IsPlacedAs, ArePlacedAs, IsBatchAs, AreBatched, HasOwn, AreWriting, IsFlusherAs, spoil_of}
+use Rattle.foyer_core.specs.Flushing.{filled_to, AreRecords, ArePlacedAs, AreBatched, HasOwn, AreWriting, IsFlusherAs, spoil_of}
 use Rattle.foyer_core.specs.InOneBlock.{packed, parts_of, spread_of, all_writes, IsInOneBlock}
 use Rattle.foyer_core.specs.Meets.{machine}
 use Rattle.foyer_core.specs.Plain.{page_up_above}
 use Rattle.foyer_core.specs.Replied.{write_of, mark_of}
 use Rattle.foyer_core.specs.Sizes.{IsSound}
 use Rattle.foyer_core.specs.Turns.{MayBegin}
-use Rattle.foyer_core.specs.Unchanged.{Seen, seen}
+use Rattle.foyer_core.specs.Unchanged.{seen}
 use Rattle.foyer_core.specs.declared.block.flusher.Batch.{Batch}
 use Rattle.foyer_core.specs.declared.block.flusher.Flusher.{Flusher}
 use Rattle.foyer_core.specs.declared.block.flusher.Writing.{Writing}

@@ -1,5 +1,5 @@
 -- What a delete's mark pushes out.
-use Rattle.std.proofs.Common.{◌≡◌, ℕ, nat_le, Bool, true, false, if◌then◌else◌, List, [], ◌∷◌, Option, Some, None, refl, sym, ap, ◌∙◌}
+use Rattle.std.proofs.Common.{◌≡◌, ℕ, nat_le, Bool, true, false, if◌then◌else◌, List, [], ◌∷◌, Option, Some, None, refl}
 use Rattle.foyer_block.specs.Index.{address_of}
 use Rattle.foyer_block.specs.Insertion.{left_out}
 use Rattle.foyer_block.specs.declared.indexer.EntryAddress.{EntryAddress}

@@ -1,5 +1,5 @@
 -- When a piece is ignored.
-use Rattle.std.proofs.Common.{◌≡◌, ℕ, ◌<◌, ◌≤◌, ◌⊎◌, inl, inr, min, Option, Some, None, refl, sym, ap, subst, ◌∙◌, arith}
+use Rattle.std.proofs.Common.{◌≡◌, ◌<◌, ◌≤◌, inl, inr, min, Option, Some, None, refl, sym, ap, ◌∙◌, arith}
 use Rattle.foyer_format.specs.declared.serde.ages.Age.{Age}
 use Rattle.foyer_format.specs.declared.serde.ages.Age.TheVariants as age
 use Rattle.foyer_model.specs.Numbers.{last_number}
@@ -10,7 +10,7 @@ use Rattle.foyer_core.specs.Asked.{known_age}
 use Rattle.foyer_core.specs.Content.{Content, Meaning}
 use Rattle.foyer_core.specs.Meets.{machine}
 use Rattle.foyer_core.specs.Sizes.{IsSound}
-use Rattle.foyer_core.specs.Standing.{IsStateOf, size_of_all}
+use Rattle.foyer_core.specs.Standing.{IsStateOf}
 use Rattle.foyer_core.specs.declared.settings.Settings.{Settings}
 use Rattle.foyer_core.specs.declared.state.Core.{Core}
 use Rattle.foyer_core.proofs.StateLemmas.{size_queued_is}

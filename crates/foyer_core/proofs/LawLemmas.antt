@@ -1,5 +1,5 @@
 -- The demands of the laws, for every code and all sizes.
-use Rattle.std.proofs.Common.{◌≡◌, ℕ, Bool, false, List, [], None}
+use Rattle.std.proofs.Common.{ℕ, Bool, false, List, [], None}
 use Rattle.foyer_model.specs.Laws.{Demands}
 use Rattle.foyer_model.specs.Placing.{PlacesAll}
 use Rattle.foyer_core.specs.Content.{Meaning}

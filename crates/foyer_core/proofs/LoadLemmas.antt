@@ -1,5 +1,5 @@
 -- How a load ends, by what its bytes are.
-use Rattle.std.proofs.Common.{◌≡◌, ℕ, ◌<◌, ◌==◌, ◌^◌, ◌-◌, Bool, true, false, if◌then◌else◌, List, length, take, Option, Some, None, Ok, refl, sym, ap, subst, ◌∙◌}
+use Rattle.std.proofs.Common.{◌≡◌, ℕ, ◌<◌, ◌==◌, Bool, true, false, if◌then◌else◌, List, length, take, Ok, refl, sym, ap, subst, ◌∙◌}
 use Rattle.std.proofs.lemmas.Bool.{eqb-true, eq-eqb}
 use Rattle.std.specs.declared.vec.Vec.{Vec}
 use Rattle.foyer_device.specs.Error.{kind_of}
@@ -12,7 +12,7 @@ use Rattle.foyer_format.specs.Refusals.{IsRecordFault, ReachesPair}
 use Rattle.foyer_format.specs.declared.serde.ages.Age.{Age}
 use Rattle.foyer_model.specs.Load.{judged, Judges, IsDecoded, age_at}
 use Rattle.foyer_model.specs.Numbers.{last_number}
-use Rattle.foyer_model.specs.Record.{Outcome, NoRecord, NotSupported, Undecodable, Holds}
+use Rattle.foyer_model.specs.Record.{NoRecord, Holds}
 use Rattle.foyer_model.specs.Reply as replies
 use Rattle.foyer_model.specs.State.{State}
 use Rattle.foyer_core.specs.Asked.{ticket_of, age_of}

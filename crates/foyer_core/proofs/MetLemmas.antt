@@ -1,5 +1,5 @@
 -- A step that is met, but for its count, is met.
-use Rattle.std.proofs.Common.{◌≡◌, ℕ, ◌+◌, ◌-◌, ◌^◌, ◌<◌, ◌≤◌, Some, inl, refl, sym, ap, subst, ◌∙◌, arith}
+use Rattle.std.proofs.Common.{◌≡◌, ℕ, ◌+◌, ◌-◌, ◌^◌, ◌<◌, ◌≤◌, inl, refl, sym, subst, arith}
 use Rattle.foyer_device.specs.declared.error.ErrorKind.{ErrorKind}
 use Rattle.foyer_device.specs.declared.error.ErrorKind.TheVariants as kind
 use Rattle.foyer_model.specs.Numbers.{last_number}
@@ -12,7 +12,7 @@ use Rattle.foyer_core.specs.Asked.{step_of}
 use Rattle.foyer_core.specs.Content.{Content, Meaning}
 use Rattle.foyer_core.specs.InOneBlock.{IsInOneBlock}
 use Rattle.foyer_core.specs.Meets.{Turns, machine, IsHandedBack, IsTurned, IsMet}
-use Rattle.foyer_core.specs.Replied.{kind_of, IsReply}
+use Rattle.foyer_core.specs.Replied.{IsReply}
 use Rattle.foyer_core.specs.Sizes.{IsSound}
 use Rattle.foyer_core.specs.Standing.{IsStateOf}
 use Rattle.foyer_core.specs.Unchanged.{IsUnchanged}

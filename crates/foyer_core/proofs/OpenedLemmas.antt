@@ -1,5 +1,5 @@
 -- An opened core stands for the first state, and the first world is opened.
-use Rattle.std.proofs.Common.{◌≡◌, ℕ, zero, suc, ◌+◌, ◌*◌, ◌^◌, ◌<◌, ◌≤◌, ◌==◌, ◌||◌, Bool, true, false, List, [], ◌∷◌, ◌++◌, map, replicate, length, Option, Some, None, slice_get, inl, refl, sym, ap, subst, ◌∙◌, arith}
+use Rattle.std.proofs.Common.{◌≡◌, ℕ, zero, suc, ◌<◌, ◌≤◌, ◌==◌, ◌||◌, Bool, true, false, List, [], ◌∷◌, ◌++◌, replicate, length, Some, None, slice_get, inl, refl, sym, ap, subst, ◌∙◌, arith}
 use Rattle.std.proofs.lemmas.Bool.{eqb-true}
 use Rattle.std.specs.FinMap.{get-empty}
 use Rattle.std.specs.Ordering.{nat_cmp}
@@ -16,7 +16,7 @@ use Rattle.foyer_core.specs.Meets.{machine}
 use Rattle.foyer_core.specs.Opened.{IsOpened, idle, unused, numbers_below}
 use Rattle.foyer_core.specs.Sizes.{IsSound}
 use Rattle.foyer_core.specs.Standing.{IsStateOf, IsIndexedAs, AreFlushersAs, AreBlocksAs, AreCleanAs, AllBelow, IsBlockAs, slot_of, size_of_all}
-use Rattle.foyer_core.specs.Unchanged.{Seen, seen}
+use Rattle.foyer_core.specs.Unchanged.{Seen}
 use Rattle.foyer_core.specs.declared.settings.Settings.{Settings}
 use Rattle.foyer_core.specs.declared.state.BlockState.{BlockState}
 use Rattle.foyer_core.specs.declared.state.Core.{Core}

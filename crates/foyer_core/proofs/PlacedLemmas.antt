@@ -1,16 +1,15 @@
 -- The plain placing keeps its records: what the plain machine asks of it.
-use Rattle.std.proofs.Common.{◌≡◌, ◌≢◌, ℕ, zero, suc, ◌+◌, ◌-◌, ◌<◌, ◌≤◌, ◌==◌, nat_le, nat_lt, ◌&&◌, Bool, true, false, if◌then◌else◌, ◌⊎◌, inl, inr, List, [], ◌∷◌, ◌++◌, map, replicate, length, take, slice_index, refl, sym, ap, subst, ◌∙◌, arith}
+use Rattle.std.proofs.Common.{◌≡◌, ℕ, zero, suc, ◌+◌, ◌-◌, ◌<◌, ◌≤◌, nat_le, nat_lt, Bool, true, false, inl, inr, List, [], ◌∷◌, ◌++◌, map, replicate, length, take, slice_index, refl, sym, ap, subst, ◌∙◌, arith}
 use Rattle.std.proofs.lemmas.Bool.Decides.{nat_tests}
 use Rattle.std.proofs.lemmas.List.{append-nil}
 use Rattle.foyer_format.specs.Page.{page_up}
-use Rattle.foyer_model.specs.Filling.{Filling, tail_of, Data, Write, Part, Spread, records_in, records_of, last_end}
-use Rattle.foyer_model.specs.Placing.{MayWrite, laid, all_laid, read, AllStand, IsBeside, AllWithin, AllOutside, AllBehind, writes_in, IsPlaced, IsSplit, KeepsRecords, AllFitBlock, IsLeft, PlacesAll}
+use Rattle.foyer_model.specs.Filling.{Filling, tail_of, Data, Write, records_in, last_end}
+use Rattle.foyer_model.specs.Placing.{MayWrite, laid, AllStand, IsBeside, AllOutside, AllBehind, IsPlaced, IsSplit, KeepsRecords, IsLeft, PlacesAll}
 use Rattle.foyer_model.specs.Receive.{bytes_taken}
 use Rattle.foyer_model.specs.Record.{Record}
-use Rattle.foyer_model.specs.Rules.{Rules, empty_filling}
 use Rattle.foyer_model.proofs.Basics.{take_read}
 use Rattle.foyer_core.specs.Content.{Content, Meaning}
-use Rattle.foyer_core.specs.InOneBlock.{padded, packed, laid_from, parts_of, spread_of, data_writes, IsInOneBlock}
+use Rattle.foyer_core.specs.InOneBlock.{padded, packed, laid_from, parts_of, spread_of, IsInOneBlock}
 use Rattle.foyer_core.specs.Meets.{machine}
 use Rattle.foyer_core.specs.Plain.{page_up_above}
 use Rattle.foyer_core.specs.Sizes.{IsSound}

@@ -1,5 +1,5 @@
 -- What fits into a flusher's buffer, and what it has then.
-use Rattle.std.proofs.Common.{◌≡◌, ℕ, zero, suc, ◌+◌, ◌-◌, ◌^◌, ◌<◌, ◌≤◌, nat_lt, min, Bool, true, false, ◌&&◌, if◌then◌else◌, List, [], ◌∷◌, ◌++◌, map, replicate, length, take, drop, Option, Some, None, refl, sym, ap, subst, ◌∙◌, arith}
+use Rattle.std.proofs.Common.{◌≡◌, ℕ, zero, suc, ◌+◌, ◌-◌, ◌^◌, ◌<◌, ◌≤◌, nat_lt, min, Bool, true, false, ◌&&◌, if◌then◌else◌, List, [], ◌∷◌, ◌++◌, length, take, drop, Some, None, refl, sym, ap, subst, ◌∙◌, arith}
 use Rattle.std.proofs.lemmas.Bool.{lt-ltb}
 use Rattle.std.proofs.lemmas.List.{append_assoc, append-nil}
 use Rattle.std.specs.Cmp.Derive.{both_true}
@@ -13,7 +13,7 @@ use Rattle.foyer_policy.specs.Record.{Record}
 use Rattle.foyer_model.specs.Receive.{bytes_taken, Fits}
 use Rattle.foyer_model.specs.Record as plain
 use Rattle.foyer_model.specs.State as plainly
-use Rattle.foyer_core.specs.Content.{Content, Meaning, content_of}
+use Rattle.foyer_core.specs.Content.{Content, Meaning}
 use Rattle.foyer_core.specs.Flushing.{IsRecordOf, AreRecords, IsFlusherAs}
 use Rattle.foyer_core.specs.InOneBlock.{padded, packed}
 use Rattle.foyer_core.specs.Meets.{machine}

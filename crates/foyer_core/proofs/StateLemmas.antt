@@ -1,5 +1,5 @@
 -- The plain states of a core, when the core is unchanged, or one flusher of it changes.
-use Rattle.std.proofs.Common.{◌≡◌, ℕ, zero, suc, ◌+◌, ◌*◌, ◌^◌, ◌<◌, ◌≤◌, ◌==◌, min, nat_le, Bool, true, false, if◌then◌else◌, List, [], ◌∷◌, ◌++◌, map, length, Option, Some, None, option_map, slice_get, slice_set, slice_index_or, refl, sym, ap, subst, ◌∙◌, arith}
+use Rattle.std.proofs.Common.{◌≡◌, ℕ, zero, suc, ◌+◌, ◌<◌, ◌≤◌, ◌==◌, min, nat_le, Bool, true, false, if◌then◌else◌, List, [], ◌∷◌, ◌++◌, map, length, Some, option_map, slice_get, slice_set, slice_index_or, refl, sym, ap, subst, ◌∙◌, arith}
 use Rattle.std.proofs.lemmas.Bool.Decides.{nat_tests}
 use Rattle.std.proofs.lemmas.Option.{slice_get_read, slice_get-map}
 use Rattle.foyer_model.specs.Numbers.{put, plus, last_number}
@@ -9,7 +9,7 @@ use Rattle.foyer_model.proofs.Basics.{put_at, put_same, put_other}
 use Rattle.foyer_core.specs.Content.{Content, Meaning}
 use Rattle.foyer_core.specs.Flushing.{IsFlusherAs}
 use Rattle.foyer_core.specs.Standing.{AreFlushersAs, IsSizedAs, IsStateOf, IsIndexedAs, AreBlocksAs, AreCleanAs, size_in, size_of_all}
-use Rattle.foyer_core.specs.Unchanged.{Seen, seen, IsUnchanged}
+use Rattle.foyer_core.specs.Unchanged.{seen, IsUnchanged}
 use Rattle.foyer_core.specs.declared.block.flusher.Flusher.{Flusher}
 use Rattle.foyer_core.specs.declared.settings.Settings.{Settings}
 use Rattle.foyer_core.specs.declared.state.Core.{Core}

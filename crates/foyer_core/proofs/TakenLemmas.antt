@@ -1,10 +1,10 @@
 -- What the front of a queue becomes.
-use Rattle.std.proofs.Common.{◌≡◌, ℕ, ◌+◌, ◌-◌, ◌^◌, ◌<◌, ◌≤◌, nat_le, min, Bool, true, false, ◌&&◌, if◌then◌else◌, ◌⊎◌, inl, inr, List, [], ◌∷◌, ◌++◌, map, length, Option, Some, None, Result, Ok, Err, IsErr, option_to_list, refl, sym, ap, subst, ◌∙◌, arith}
+use Rattle.std.proofs.Common.{◌≡◌, ℕ, ◌+◌, ◌-◌, ◌^◌, ◌<◌, ◌≤◌, nat_le, min, Bool, true, false, ◌&&◌, ◌⊎◌, inl, inr, List, [], ◌∷◌, ◌++◌, map, length, Option, Some, None, Result, Ok, Err, IsErr, option_to_list, refl, sym, ap, subst, ◌∙◌, arith}
 use Rattle.std.proofs.lemmas.Bool.Decides.{nat_tests}
 use Rattle.foyer_block.specs.declared.indexer.HashedEntryAddress.{HashedEntryAddress}
 use Rattle.foyer_device.specs.declared.error.Error.{Error}
 use Rattle.foyer_format.specs.Page.{page_up}
-use Rattle.foyer_format.specs.Pushing.{FitsRoom, Pushes}
+use Rattle.foyer_format.specs.Pushing.{FitsRoom}
 use Rattle.foyer_format.specs.Record.{record_bytes}
 use Rattle.foyer_format.specs.declared.compress.Compression.TheVariants as compression
 use Rattle.foyer_format.proofs.PushLemmas.{length-record_bytes}
@@ -14,10 +14,10 @@ use Rattle.foyer_model.specs.Record as plain
 use Rattle.foyer_model.specs.Reply as replies
 use Rattle.foyer_model.specs.State as plainly
 use Rattle.foyer_core.specs.Content.{Content, Meaning, content_of}
-use Rattle.foyer_core.specs.Flushing.{IsRecordOf, AreRecords, IsFlusherAs, submission_of, spoils_of, spoil_of}
-use Rattle.foyer_core.specs.InOneBlock.{padded, packed}
+use Rattle.foyer_core.specs.Flushing.{AreRecords, IsFlusherAs, submission_of, spoils_of, spoil_of}
+use Rattle.foyer_core.specs.InOneBlock.{padded}
 use Rattle.foyer_core.specs.Meets.{machine}
-use Rattle.foyer_core.specs.Plain.{has_record, encoded, page_up_above}
+use Rattle.foyer_core.specs.Plain.{encoded}
 use Rattle.foyer_core.specs.Replied.{mark_of}
 use Rattle.foyer_core.specs.Sizes.{IsSound}
 use Rattle.foyer_core.specs.Standing.{size_in}

@@ -1,15 +1,14 @@
 -- A record's bytes are a record that holds its content.
-use Rattle.std.proofs.Common.{◌≡◌, ℕ, ◌^◌, ◌<◌, ◌≤◌, nat_lt, Bool, true, false, ◌&&◌, if◌then◌else◌, List, length, Option, Some, None, refl, sym, ap, subst, ◌∙◌, arith}
+use Rattle.std.proofs.Common.{◌≡◌, ◌^◌, nat_lt, Bool, true, false, ◌&&◌, if◌then◌else◌, length, Some, None, refl, sym, ap, ◌∙◌, arith}
 use Rattle.std.proofs.lemmas.Bool.{ltb-true}
 use Rattle.foyer_format.specs.Record.{record_bytes, pair_of}
 use Rattle.foyer_format.specs.Record.Outcome.{Pair}
 use Rattle.foyer_format.proofs.RecordLemmas.{pair_again}
-use Rattle.foyer_model.specs.Numbers.{last_number}
 use Rattle.foyer_model.specs.Record.{Outcome, Holds}
 use Rattle.foyer_model.specs.Rules.{HasRoundTrip}
 use Rattle.foyer_core.specs.Content.{Content, Meaning}
 use Rattle.foyer_core.specs.Meets.{machine}
-use Rattle.foyer_core.specs.Plain.{outcome_of, has_record, encoded, IsSpelled}
+use Rattle.foyer_core.specs.Plain.{outcome_of, has_record, IsSpelled}
 use Rattle.foyer_core.specs.Sizes.{IsSound}
 use Rattle.foyer_core.specs.declared.settings.Settings.{Settings}
 

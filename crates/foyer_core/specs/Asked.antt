@@ -1,5 +1,5 @@
 -- A core's step as the plain machine's.
-use Rattle.std.specs.Prelude.{ℕ, Bool, true, false, Option, Some, None, Result, Ok, Err, is_ok}
+use Rattle.std.specs.Prelude.{ℕ, Bool, true, false, Option, Some, None, Result, Ok, Err}
 use Rattle.foyer_block.specs.declared.indexer.EntryAddress.{EntryAddress}
 use Rattle.foyer_device.specs.declared.error.Error.{Error}
 use Rattle.foyer_format.specs.declared.serde.ages.Age.{Age}

@@ -1,7 +1,7 @@
 -- What a flusher has when its batch begins: all that was received is in the batch's one block.
-use Rattle.std.specs.Prelude.{◌≡◌, ℕ, ◌+◌, ◌-◌, ◌^◌, ◌<◌, min, List, [], ◌∷◌, length, Option, Some, None, is_some}
+use Rattle.std.specs.Prelude.{◌≡◌, ℕ, ◌+◌, ◌-◌, ◌^◌, ◌<◌, min, List, [], ◌∷◌, length, Some, None, is_some}
 use Rattle.foyer_block.specs.declared.tombstone.Tombstone.{Tombstone}
-use Rattle.foyer_core.specs.Unchanged.{Seen, seen}
+use Rattle.foyer_core.specs.Unchanged.{seen}
 use Rattle.foyer_core.specs.declared.block.batch.Received.{Received}
 use Rattle.foyer_core.specs.declared.block.flusher.Batch.{Batch}
 use Rattle.foyer_core.specs.declared.block.flusher.Flusher.{Flusher}

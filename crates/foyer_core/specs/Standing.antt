@@ -1,5 +1,5 @@
 -- The plain states that a core stands for. They differ in what a core doesn't keep: the bytes of writes that were told.
-use Rattle.std.specs.Prelude.{◌≡◌, ℕ, zero, suc, ◌+◌, ◌*◌, ◌^◌, ◌<◌, ◌≤◌, Bool, List, [], ◌∷◌, map, length, Option, Some, None, slice_get}
+use Rattle.std.specs.Prelude.{◌≡◌, ℕ, zero, suc, ◌+◌, ◌*◌, ◌^◌, ◌<◌, ◌≤◌, List, [], ◌∷◌, map, length, Option, Some, None, slice_get}
 use Rattle.std.specs.FinMap as finite
 use Rattle.foyer_block.specs.Index.{IndexMap}
 use Rattle.foyer_block.specs.declared.indexer.EntryAddress.{EntryAddress}

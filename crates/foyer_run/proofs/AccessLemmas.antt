@@ -1,5 +1,5 @@
 -- A step, a load and a block's writes, as runs of moves.
-use Rattle.std.proofs.Common.{◌≡◌, ℕ, zero, suc, ◌+◌, ◌<◌, ◌≤◌, Bool, true, false, List, [], ◌∷◌, ◌++◌, ◌⊎◌, inl, inr, length, replicate, Option, Some, None, Result, slice_get, slice_set, refl, sym, ap, subst, ◌∙◌, arith}
+use Rattle.std.proofs.Common.{◌≡◌, ℕ, ◌+◌, ◌<◌, ◌≤◌, true, false, List, [], ◌∷◌, ◌++◌, ◌⊎◌, inl, inr, length, replicate, Option, Some, None, Result, slice_get, slice_set, refl, sym, ap, subst, ◌∙◌, arith}
 use Rattle.std.specs.declared.vec.Vec.{Vec}
 use Rattle.foyer_device.specs.declared.error.Error.{Error}
 use Rattle.foyer_model.specs.World.{World, after_all}
@@ -27,11 +27,11 @@ use Rattle.foyer_run.specs.declared.moves.Asked.TheVariants as asks
 use Rattle.foyer_run.specs.declared.moves.Move.{Move}
 use Rattle.foyer_run.specs.declared.moves.Move.TheVariants as move
 use Rattle.foyer_run.specs.declared.moves.Told.{Told}
-use Rattle.foyer_run.proofs.BlockLemmas.{block_moves, first_told, flusher_there}
+use Rattle.foyer_run.proofs.BlockLemmas.{block_moves, flusher_there}
 use Rattle.foyer_run.proofs.LoadLemmas.{IsCome, load_moves, load_passes}
 use Rattle.foyer_run.proofs.RunLemmas.{IsGoing, going_first, going_on, gone}
 use Rattle.foyer_run.proofs.StepLemmas.{Spells, step_moves}
-use Rattle.foyer_run.proofs.WriteLemmas.{IsDone, next_told, write_moves}
+use Rattle.foyer_run.proofs.WriteLemmas.{IsDone, write_moves}
 
 -- the note of a block's writes, of which so many are done
 abbrev pub note : (block next : ℕ) → Told

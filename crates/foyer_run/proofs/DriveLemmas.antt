@@ -15,7 +15,7 @@ use Rattle.foyer_core.specs.declared.settings.Settings.{Settings}
 use Rattle.foyer_core.specs.declared.state.Core.{Core}
 use Rattle.foyer_core.specs.declared.step.Step.{Step}
 use Rattle.foyer_run.specs.Accesses.{Says, Writes, writes_of}
-use Rattle.foyer_run.specs.Driven.{Drives, IsDriven}
+use Rattle.foyer_run.specs.Driven.{Drives}
 use Rattle.foyer_run.specs.Moves.{asked}
 use Rattle.foyer_run.specs.Newest.{IsHistory}
 use Rattle.foyer_run.specs.Running.{IsFree, ticket_in, with_ticket}

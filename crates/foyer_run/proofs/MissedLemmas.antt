@@ -1,5 +1,5 @@
 -- A load misses a put only for a named cause, in every history that led to the core and bytes that it began with.
-use Rattle.std.proofs.Common.{◌≡◌, ◌≢◌, ℕ, ◌+◌, ◌<◌, ◌⊎◌, inl, inr, Bool, true, false, List, [], ◌∷◌, Option, Some, None, Result, Ok, Err, refl, sym, ap, subst, ◌∙◌, arith}
+use Rattle.std.proofs.Common.{◌≡◌, ◌≢◌, ℕ, ◌+◌, ◌<◌, inl, inr, Bool, true, false, List, [], ◌∷◌, Some, None, Result, refl, sym, ap, subst, ◌∙◌, arith}
 use Rattle.std.specs.declared.vec.Vec.{Vec}
 use Rattle.foyer_device.specs.declared.error.Error.{Error}
 use Rattle.foyer_device.specs.declared.error.ErrorKind.TheVariants as kind
@@ -7,9 +7,8 @@ use Rattle.foyer_model.specs.Access.{HasRead, Unread}
 use Rattle.foyer_model.specs.Event.{Put, newest}
 use Rattle.foyer_model.specs.Laws.{IsAnswer, IsReached}
 use Rattle.foyer_model.specs.Numbers.{last_number}
-use Rattle.foyer_model.specs.Record.{Outcome, Holds, NoRecord}
+use Rattle.foyer_model.specs.Record.{Holds, NoRecord}
 use Rattle.foyer_model.specs.Reply as replies
-use Rattle.foyer_model.specs.Rules.{Rules, Splitting}
 use Rattle.foyer_model.specs.State.{State}
 use Rattle.foyer_model.specs.Step as plain
 use Rattle.foyer_model.specs.Turn.{Follows}

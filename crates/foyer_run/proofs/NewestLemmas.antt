@@ -1,18 +1,17 @@
 -- A load's entry is the newest put of its hash, in every history that led to the core and bytes that it began with.
-use Rattle.std.proofs.Common.{◌≡◌, ℕ, ◌+◌, ◌<◌, Bool, List, [], ◌∷◌, Option, Some, None, Result, refl, sym, ap, subst, ◌∙◌}
+use Rattle.std.proofs.Common.{◌≡◌, ℕ, Bool, [], ◌∷◌, Option, Some, None, Result, refl, sym, subst}
 use Rattle.std.specs.declared.vec.Vec.{Vec}
 use Rattle.foyer_device.specs.declared.error.Error.{Error}
 use Rattle.foyer_model.specs.Access.{HasRead, Unread}
 use Rattle.foyer_model.specs.Event.{newest}
-use Rattle.foyer_model.specs.Laws.{Demands, IsReached}
 use Rattle.foyer_model.specs.Load.{Looks}
 use Rattle.foyer_model.specs.Record.{Slot, Indexed, Mark}
 use Rattle.foyer_model.specs.Reply as replies
-use Rattle.foyer_model.specs.Rules.{Rules, Splitting}
+use Rattle.foyer_model.specs.Rules.{Rules}
 use Rattle.foyer_model.specs.State.{State}
 use Rattle.foyer_model.specs.Step as plain
 use Rattle.foyer_model.specs.Turn.{Follows}
-use Rattle.foyer_model.specs.World.{World, WorldEvent, Applies, ReadBegins, ReadEnds, IsReadAt, after, after_all, covers}
+use Rattle.foyer_model.specs.World.{World, Applies, ReadBegins, ReadEnds, IsReadAt, after, after_all, covers}
 use Rattle.foyer_model.proofs.Basics.{put_same}
 use Rattle.foyer_model.proofs.Promises.{answers_newest_lem}
 use Rattle.foyer_core.specs.Asked.{age_of, ticket_of, came_of}
@@ -31,7 +30,7 @@ use Rattle.foyer_core.specs.declared.step.Step.TheVariants as step
 use Rattle.foyer_core.specs.declared.step.Ticket.{Ticket}
 use Rattle.foyer_core.proofs.LawLemmas.{demands}
 use Rattle.foyer_core.proofs.OpenedLemmas.{first_opened}
-use Rattle.foyer_run.specs.Newest.{IsHistory, IsNewest}
+use Rattle.foyer_run.specs.Newest.{IsNewest}
 use Rattle.foyer_run.proofs.LoadLemmas.{IsCome, began, ended, ends, gives, load_at}
 
 -- a look-up answers no entry

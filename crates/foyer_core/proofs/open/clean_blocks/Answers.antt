@@ -1,4 +1,4 @@
-use Rattle.std.proofs.Common.{◌≡◌, ◌∙◌, sym, ap, ◌++◌, ◌∷◌, []}
+use Rattle.std.proofs.Common.{◌∙◌, sym, ap, ◌++◌, ◌∷◌, []}
 use Rattle.foyer_core.specs.Opened.{unused}
 use Rattle.foyer_core.proofs.Opening.{replicate-end, numbers_below-none, numbers_below-end}
 use Rattle.foyer_core.proofs.open.clean_blocks.Goals as goal

@@ -1,4 +1,4 @@
-use Rattle.std.proofs.Common.{[], arith, None, Some, inl, inr, refl, sym, ap, subst, ◌∙◌}
+use Rattle.std.proofs.Common.{[], arith, None, Some, inl, inr, refl, sym, subst, ◌∙◌}
 use Rattle.foyer_block.proofs.Found.{slice_get_at}
 use Rattle.foyer_core.specs.Content.{meaning}
 use Rattle.foyer_core.specs.Meets.{IsMet}

@@ -1,4 +1,4 @@
-use Rattle.std.proofs.Common.{◌≡◌, ◌+◌, ◌-◌, ◌^◌, ◌<◌, ◌≤◌, refl, sym, arith}
+use Rattle.std.proofs.Common.{◌+◌, ◌-◌, ◌^◌, ◌<◌, refl, arith}
 use Rattle.foyer_core.specs.Content.{meaning}
 use Rattle.foyer_core.proofs.MetLemmas.{met, met_back, met_at_end}
 use Rattle.foyer_core.proofs.state.Core.apply.Goals as goal

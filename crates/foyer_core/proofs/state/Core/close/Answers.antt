@@ -1,6 +1,5 @@
 use Rattle.std.proofs.Common.{true, refl}
 use Rattle.foyer_model.specs.Reply.{Done}
-use Rattle.foyer_core.proofs.MetLemmas.{met, met_late, met_refused, met_at_end}
 use Rattle.foyer_core.proofs.state.Core.close.Goals as goal
 
 pub returns-clause-meets : goal.returns-clause-meets

@@ -1,6 +1,5 @@
-use Rattle.std.proofs.Common.{true, false, inr, ◌≡◌, ◌+◌, ◌-◌, ◌*◌, ◌^◌, ◌<◌, ◌≤◌, ◌%◌, ◌++◌, ◌∷◌, [], length, vec_len, Some, refl, ap, sym, subst, ◌∙◌, arith}
+use Rattle.std.proofs.Common.{inr, ◌≡◌, ◌+◌, ◌*◌, ◌^◌, ◌<◌, ◌≤◌, ◌%◌, ◌++◌, ◌∷◌, [], length, vec_len, refl, ap, sym, subst, ◌∙◌, arith}
 use Rattle.std.specs.FinMap as finite
-use Rattle.foyer_block.specs.Insertion.{left_out}
 use Rattle.foyer_block.specs.declared.indexer.Index.TheVariants as index
 use Rattle.foyer_device.specs.declared.error.ErrorKind.TheVariants as kind
 use Rattle.foyer_model.specs.Index.{inserted}

@@ -1,5 +1,5 @@
 use Rattle.std.proofs.lemmas.Grind.{common_steps}
-use Rattle.std.proofs.Common.{true, false, ◌≡◌, ◌<◌, ◌∷◌, [], map, length, Some, None, refl, ap, sym, subst, ◌∙◌, arith}
+use Rattle.std.proofs.Common.{true, false, ◌≡◌, ◌<◌, ◌∷◌, [], map, length, None, refl, ap, sym, ◌∙◌, arith}
 use Rattle.foyer_device.specs.declared.error.ErrorKind.TheVariants as kind
 use Rattle.foyer_model.specs.Receive.{HasReceived, turned}
 use Rattle.foyer_model.specs.Reply as replies

@@ -1,4 +1,4 @@
-use Rattle.std.proofs.Common.{true, false, ◌≡◌, ◌+◌, ◌<◌, ◌≤◌, nat_le, if◌then◌else◌, min, length, vec_len, Some, None, slice_get, refl, ap, sym, subst, ◌∙◌, arith}
+use Rattle.std.proofs.Common.{◌≡◌, ◌<◌, length, vec_len, Some, None, slice_get, refl, ap, sym, subst, ◌∙◌, arith}
 use Rattle.std.proofs.lemmas.Option.{slice_get_read}
 use Rattle.std.specs.FinMap as finite
 use Rattle.foyer_block.specs.declared.indexer.Index.TheVariants.{Address}

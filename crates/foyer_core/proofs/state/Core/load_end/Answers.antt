@@ -1,13 +1,11 @@
-use Rattle.std.proofs.Common.{ℕ, List, Bool, true, false, ◌≡◌, ◌*◌, ◌<◌, ◌&&◌, length, take, vec_len, Some, None, Ok, Err, if◌then◌else◌, slice_get, refl, ap, sym, subst, ◌∙◌, arith}
+use Rattle.std.proofs.Common.{ℕ, List, Bool, true, ◌≡◌, ◌<◌, ◌&&◌, length, take, Some, Ok, Err, if◌then◌else◌, slice_get, refl, ap, sym, subst, ◌∙◌, arith}
 use Rattle.std.proofs.lemmas.Option.{slice_get_within}
 use Rattle.std.specs.Cmp.Derive.{both_true}
-use Rattle.foyer_device.specs.Error.{kind_of}
 use Rattle.foyer_device.specs.declared.error.ErrorKind.TheVariants as kind
 use Rattle.foyer_format.specs.Page.{page_up}
 use Rattle.foyer_format.specs.Record as format
 use Rattle.foyer_format.specs.Record.{pair_of}
 use Rattle.foyer_format.specs.Record.Outcome.{NoRecord, Pair}
-use Rattle.foyer_format.specs.declared.serde.ages.Age.TheVariants as age
 use Rattle.foyer_model.specs.Reply as replies
 use Rattle.foyer_model.specs.Step as plain
 use Rattle.foyer_model.specs.Load.{judged, age_at}

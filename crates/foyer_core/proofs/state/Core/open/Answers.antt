@@ -1,4 +1,4 @@
-use Rattle.std.proofs.Common.{◌≡◌, refl, arith, ◌<◌}
+use Rattle.std.proofs.Common.{refl, arith, ◌<◌}
 use Rattle.foyer_core.specs.Sizes.{IsSound}
 use Rattle.foyer_core.proofs.state.Core.open.Goals as goal
 

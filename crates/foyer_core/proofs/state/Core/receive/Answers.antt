@@ -1,6 +1,5 @@
-use Rattle.std.proofs.Common.{◌≡◌, ◌+◌, ◌-◌, ◌<◌, length, [], Some, None, Ok, refl, ap, sym, subst, ◌∙◌, arith}
+use Rattle.std.proofs.Common.{◌≡◌, ◌-◌, ◌<◌, length, [], None, Ok, refl, ap, sym, subst, arith}
 use Rattle.foyer_device.specs.declared.error.ErrorKind.TheVariants as kind
-use Rattle.foyer_model.specs.Numbers.{put}
 use Rattle.foyer_model.specs.Receive.{turned, Takes as TakesOne}
 use Rattle.foyer_model.specs.Reply as replies
 use Rattle.foyer_core.specs.Content.{meaning}

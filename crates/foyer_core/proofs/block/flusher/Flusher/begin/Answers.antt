@@ -1,9 +1,6 @@
-use Rattle.std.proofs.Common.{ℕ, ◌≡◌, ◌+◌, ◌-◌, ◌^◌, ◌<◌, ◌≤◌, min, length, vec_len, List, [], ◌∷◌, ◌++◌, Some, None, Vec, refl, sym, ap, subst, ◌∙◌, arith}
-use Rattle.foyer_block.specs.declared.indexer.HashedEntryAddress.{HashedEntryAddress}
-use Rattle.foyer_core.specs.Beginning.{HasWrites, IsBegun}
+use Rattle.std.proofs.Common.{◌≡◌, ◌+◌, ◌<◌, ◌≤◌, min, length, vec_len, [], ◌∷◌, ◌++◌, None, refl, ap, ◌∙◌, arith}
 use Rattle.foyer_core.specs.declared.block.flusher.Batch.{Batch}
 use Rattle.foyer_core.specs.declared.block.flusher.Placed.{Placed}
-use Rattle.foyer_core.specs.declared.reply.Write.{Write}
 use Rattle.foyer_core.proofs.BeginLemmas.{one_write, no_write}
 use Rattle.foyer_core.proofs.block.flusher.Flusher.begin.Goals as goal
 use Rattle.foyer_core.proofs.block.flusher.Flusher.begin.Goals.{then-len-gt0, else-len-gt0}
