@@ -2,3 +2,4 @@ mod batches;
 mod buffers;
 mod codes;
 mod formats;
+mod indices;
