@@ -1,5 +1,6 @@
 //! Runs that begin with an opened core, and what the laws say of them.
-ghost use Rattle.std.specs.Prelude.{◌≡◌, ℕ, IfOk};
+ghost use Rattle.std.specs.Prelude.{◌≡◌, ◌⊎◌, ◌≤◌, ◌*◌, ◌^◌, ℕ, IfOk, IfErr};
+ghost use Rattle.foyer_device.specs.declared.error.Error.TheVariants.{Config, Memory, OutOfRange};
 ghost use Rattle.foyer_core.specs.Content.{meaning};
 ghost use Rattle.foyer_core.specs.Sizes.{IsSound};
 ghost use Rattle.foyer_run.specs.Lawful.{IsLawful};
@@ -35,6 +36,7 @@ where
     A: Allocator + Clone,
     D: Disk,
     ensures sound { IfOk result (λ _. IsSound settings) }
+    ensures refused { IfErr result (λ e. (e ≡ Memory) ⊎ ((e ≡ Config) × (IsSound settings → ⊥))) }
     ensures lawful { IfOk result (λ replies. (sound : IsSound settings) (bytes : ℕ → ℕ → ℕ)
         → ((b o : ℕ) → bytes b o ≡ D.byte_at disk.old b o) → IsLawful
         (meaning K.spelling V.spelling K.encodes V.encodes K.is_spelling V.is_spelling P.age)
@@ -53,6 +55,8 @@ pub fn run_texts<P: Properties + Drop>(
     moves: Vec<Move<u64, String<Global>, P, Global>, Global>,
 ) -> Result<Vec<Reply<u64, String<Global>, P, Global>, Global>>
     ensures sound { IfOk result (λ _. IsSound settings) }
+    ensures refused { IfErr result (λ e. (e ≡ Memory) ⊎ ((e ≡ Config) × (IsSound settings → ⊥))
+        ⊎ ((e ≡ OutOfRange) × (2 ^ 64 ≤ settings.blocks * settings.block_size))) }
     ensures lawful { IfOk result (λ replies. (sound : IsSound settings)
         → IsLawful (of_texts P.age) settings sound (λ b o. 0) moves.items replies.items) }
 {
