@@ -46,9 +46,9 @@ where
 }
 
 /// Looks a hash up, does the read that this tells, and brings what came of it: what the load answers. An entry is the
-/// newest put of the hash, whatever led here; and where that put was written, it is answered, or `Refused` for a failed
-/// read or for memory, unless the caller throttles. `Err` is a refused growth: then nothing was read, and the load never
-/// ends.
+/// newest put of the hash, whatever led here. Where the newest event is a put, it is answered, or `Refused` for a
+/// failed read or for memory, unless the caller throttles, a reclaim of its block or a destroy began, or under two
+/// steps are left. `Err` is a refused growth: then nothing was read, and the load never ends.
 pub fn load<K, V, P, A, D>(
     core: &mut Core<K, V, P, A>,
     env: &mut Env,

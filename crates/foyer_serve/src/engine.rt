@@ -153,8 +153,9 @@ impl<A: Allocator + Clone> Engine<A> {
         tell_put(step(&mut self.core, &mut self.env, Step::Enqueue { piece, size }))
     }
 
-    /// The text of a key: the newest that was put, whatever came before. Where that text was written, it is answered, or
-    /// a fault: `Io` for a failed read, or `Memory`.
+    /// The text of a key: the newest that was put, whatever came before. Where the newest event of the key is a put,
+    /// its text is answered, or `Io` for a failed read, or `Memory`, unless a reclaim of its block or a destroy began
+    /// since, or under two of 2^64 - 1 steps are left.
     pub fn get(&mut self, key: u64) -> Answer<A>
         ensures waits { self.new.next_wait ≡ self.old.next_wait }
         ensures newest { IsNewestText key self.old.core (⟦<MemoryDisk<A> as Disk>⟧.byte_at self.old.disk) result }
