@@ -61,7 +61,7 @@ impl BlobEntryIndex {
         BigEndian::write_u32(&mut buf[20..], len);
     }
 
-    /// The entry that the first 24 bytes spell.
+    /// The entry that the first 24 bytes encode.
     #[tactic(auto, unfolding(crate::specs::Blob::entry_of, foyer_format::specs::Header::number_at))]
     pub fn read(buf: &[u8]) -> BlobEntryIndex
         requires { 24 ≤ length buf.now }
@@ -267,7 +267,7 @@ pub struct BlobIndexReader;
 
 impl BlobIndexReader {
     /// The entries of a sealed index, in order; `None` where the bytes are none, as fewer than 12
-    /// are. Memory where a growth was refused.
+    /// are. Memory where an allocation was refused.
     #[tactic(auto, using(crate::proofs::BlobLemmas::entry_lemmas))]
     pub fn read<A: Allocator>(alloc: A, bytes: &[u8]) -> Result<Option<Vec<BlobEntryIndex, A>>>
         ensures sealed { IfOk result (λ found. IfSome found (λ v. IsSealed bytes.now v.items)) }

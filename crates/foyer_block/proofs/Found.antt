@@ -13,7 +13,7 @@ use Rattle.std.proofs.Math.Nat.{mod-eq_of_lt}
 use Rattle.std.proofs.lemmas.Bool.{eqb-true, eqb-false, eq-eqb}
 use Rattle.foyer_block.specs.declared.indexer.EntryAddress.{EntryAddress}
 use Rattle.foyer_block.specs.declared.indexer.Index.{Index}
-use Rattle.foyer_block.specs.Insertion.{entered, left_out, inserted}
+use Rattle.foyer_block.specs.Insertion.{entered, displaced, inserted}
 use Rattle.foyer_block.specs.Shards.{Shard, entries_from, map_of, found, room}
 
 find-lookup : {X : Type 0} (q : ℕ) (es : List (ℕ × X)) → find nat_cmp q es ≡ lookup (nat_eq q) es
@@ -207,11 +207,11 @@ module _ (shards : List Shard) (h p : ℕ) (old new : Shard) (own : IsShardOf sh
         go (Ok answer) is = map_of-insert (entered (get nat_eq old h) next) is ∙ ap (λ o. map.insert (map_of shards) h (entered o next)) (sym get-here)
         go (Err e) is = is
 
-    pub answered_here : IfOk r (λ answer. answer ≡ left_out (get nat_eq old h) next) → IfOk r (λ answer. answer ≡ left_out (map.get (map_of shards) h) next)
+    pub answered_here : IfOk r (λ answer. answer ≡ displaced (get nat_eq old h) next) → IfOk r (λ answer. answer ≡ displaced (map.get (map_of shards) h) next)
     answered_here is = go r is
       where
-        go : (r : Result (Option EntryAddress) E) → IfOk r (λ answer. answer ≡ left_out (get nat_eq old h) next) → IfOk r (λ answer. answer ≡ left_out (map.get (map_of shards) h) next)
-        go (Ok answer) is = is ∙ ap (λ o. left_out o next) (sym get-here)
+        go : (r : Result (Option EntryAddress) E) → IfOk r (λ answer. answer ≡ displaced (get nat_eq old h) next) → IfOk r (λ answer. answer ≡ displaced (map.get (map_of shards) h) next)
+        go (Ok answer) is = is ∙ ap (λ o. displaced o next) (sym get-here)
         go (Err e) is = is
 
     pub refused_here : OnErr r ((q : ℕ) → get nat_eq new q ≡ get nat_eq old q) → OnErr r (map_of (slice_set shards p new) ≡ map_of shards)

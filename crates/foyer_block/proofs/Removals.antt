@@ -70,8 +70,8 @@ module _ {X : Type 0} (hash : X → ℕ) (value : X → Index) (has : Option Ind
       go : (b : Bool) → (hash x == q) ≡ b → map.get new q ≡ cond (before || ((b && has o x) || false)) None o
       go true e =
           let same : hash x ≡ q = eqb-true (hash x) q e in
-          let tells : IsTrue acted ↔ (map.get now q ≡ Some (value x)) = (λ t. ap (map.get now) (sym same) ∙ is.0 t, λ s. is.1 (ap (map.get now) same ∙ s)) in
-          at_same o x before acted (map.get new q) (map.get now q) (left q) tells (here acted e removed unchanged)
+          let says : IsTrue acted ↔ (map.get now q ≡ Some (value x)) = (λ t. ap (map.get now) (sym same) ∙ is.0 t, λ s. is.1 (ap (map.get now) same ∙ s)) in
+          at_same o x before acted (map.get new q) (map.get now q) (left q) says (here acted e removed unchanged)
       go false e = elsewhere acted e removed unchanged ∙ at_other o before (map.get now q) (left q)
 
   pub left_by_none : (m : IndexMap) → LeftBy m m []

@@ -13,9 +13,9 @@ entered None next = next
 entered (Some held) next = if nat_le (sequence_of held) (sequence_of next) then next else held
 
 -- the address that doesn't stay, be it the one that the hash had or the one that came
-abbrev pub left_out : Option Index → Index → Option EntryAddress
-left_out None next = None
-left_out (Some held) next =
+abbrev pub displaced : Option Index → Index → Option EntryAddress
+displaced None next = None
+displaced (Some held) next =
     address_of (if nat_le (sequence_of held) (sequence_of next) then held else next)
 
 -- the index after an insertion
@@ -36,5 +36,5 @@ hashed hash (Some address) = record { hash = hash; address = address } ∷ []
 abbrev pub all_left_out : IndexMap → List HashedEntryAddress → List HashedEntryAddress
 all_left_out m [] = []
 all_left_out m (e ∷ es) =
-    hashed e.hash (left_out (map.get m e.hash) (Address e.address))
+    hashed e.hash (displaced (map.get m e.hash) (Address e.address))
     ++ all_left_out (inserted m e.hash (Address e.address)) es

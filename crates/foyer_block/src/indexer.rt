@@ -3,7 +3,7 @@ ghost use Rattle.std.specs.Prelude.{◌≡◌, ◌<◌, ◌↔◌, ℕ, List, Ma
 ghost use Rattle.std.specs.Prelude.{IfOk, OnOk, OnErr, IsOkUnless};
 ghost use Rattle.std.specs.Bool.{OnTrue, OnFalse};
 ghost use Rattle.std.specs.FinMap as map;
-ghost use Rattle.foyer_block.specs.Insertion.{left_out, inserted, inserted_all, all_left_out};
+ghost use Rattle.foyer_block.specs.Insertion.{displaced, inserted, inserted_all, all_left_out};
 ghost use Rattle.foyer_block.specs.Removal.{without_addresses, without_marks};
 ghost use Rattle.foyer_block.specs.Index.{address_at};
 ghost use Rattle.foyer_block.specs.Greatest.{IsAbsent, HoldsNewest};
@@ -91,7 +91,7 @@ impl<A: Allocator + Clone> Indexer<A> {
         ensures inserted { OnOk result
             (self.new ≡ inserted self.old hash (Index.Tombstone sequence)) }
         ensures answer { IfOk result (λ answer.
-            answer ≡ left_out (map.get self.old hash) (Index.Tombstone sequence)) }
+            answer ≡ displaced (map.get self.old hash) (Index.Tombstone sequence)) }
         ensures err { OnErr result (self.new ≡ self.old) }
         ensures refused { IsOkUnless result Error.Memory }
     {
@@ -130,7 +130,7 @@ impl<A: Allocator + Clone> Indexer<A> {
     }
 
     /// Moves a hash from one address to another of the same sequence, where it has the first one.
-    /// Tells whether it did.
+    /// Says whether it did.
     pub fn replace(&mut self, hash: u64, old: &EntryAddress, new: EntryAddress) -> bool
         requires { old.now.sequence ≡ new.sequence }
         ensures answer { IsTrue result ↔ (map.get self.old hash ≡ Some (Index.Address old.now)) }
@@ -145,7 +145,7 @@ impl<A: Allocator + Clone> Indexer<A> {
         )
     }
 
-    /// Removes a hash where it has that very address. Tells whether it did.
+    /// Removes a hash where it has that very address. Says whether it did.
     pub fn remove(&mut self, hash: u64, address: &EntryAddress) -> bool
         ensures answer { IsTrue result
             ↔ (map.get self.old hash ≡ Some (Index.Address address.now)) }

@@ -6,7 +6,7 @@ ghost use Rattle.std.specs.Option.{option_copied};
 ghost use Rattle.std.specs.FinMap as map;
 ghost use Rattle.std.specs.HashMap.{spare};
 ghost use Rattle.foyer_block.specs.Index.{sequence_of, address_of};
-ghost use Rattle.foyer_block.specs.Insertion.{entered, left_out, inserted};
+ghost use Rattle.foyer_block.specs.Insertion.{entered, displaced, inserted};
 ghost use Rattle.foyer_block.specs.Insertion.{inserted_all, all_left_out};
 ghost use Rattle.foyer_block.specs.Removal.{without_addresses, without_marks};
 ghost use Rattle.foyer_block.specs.Shards.{held_at, map_of, ChangesAt, HoldsSame};
@@ -76,7 +76,7 @@ fn enter_here<A: Allocator + Clone>(
 ) -> Result<Option<EntryAddress>>
     ensures entered { OnOk result
         (ChangesAt shard.old shard.new hash (Some (entered (held_at shard.old hash) next))) }
-    ensures answer { IfOk result (λ answer. answer ≡ left_out (held_at shard.old hash) next) }
+    ensures answer { IfOk result (λ answer. answer ≡ displaced (held_at shard.old hash) next) }
     ensures err { OnErr result (HoldsSame shard.old shard.new) }
     ensures refused { IsOkUnless result Error.Memory }
     ensures succeeds { 0 < spare shard.old → IsOk result }
@@ -104,7 +104,7 @@ pub(crate) fn enter<A: Allocator + Clone>(
     ensures inserted { OnOk result
         (map_of shards.new.items ≡ inserted (map_of shards.old.items) hash next) }
     ensures answer { IfOk result
-        (λ answer. answer ≡ left_out (map.get (map_of shards.old.items) hash) next) }
+        (λ answer. answer ≡ displaced (map.get (map_of shards.old.items) hash) next) }
     ensures err { OnErr result (map_of shards.new.items ≡ map_of shards.old.items) }
     ensures len { length shards.new.items ≡ length shards.old.items }
     ensures refused { IsOkUnless result Error.Memory }
@@ -131,7 +131,7 @@ fn remove_here<A: Allocator>(shard: &mut Shard<A>, hash: u64, held: Index) -> bo
     is_held
 }
 
-// Removes the hash where it has just that, and tells whether it did.
+// Removes the hash where it has just that, and says whether it did.
 pub(crate) fn remove<A: Allocator>(shards: &mut Vec<Shard<A>, A>, hash: u64, held: Index) -> bool
     requires { 0 < length shards.old.items }
     ensures answer { IsTrue result ↔ (map.get (map_of shards.old.items) hash ≡ Some held) }
@@ -186,7 +186,7 @@ fn replace_here<A: Allocator>(shard: &mut Shard<A>, hash: u64, old: Index, new: 
     }
 }
 
-// Writes over what the hash has where that is `old`, and tells whether it did.
+// Writes over what the hash has where that is `old`, and says whether it did.
 pub(crate) fn replace<A: Allocator>(
     shards: &mut Vec<Shard<A>, A>,
     hash: u64,

@@ -3,7 +3,7 @@ use Rattle.std.proofs.Common.{◌≡◌, ℕ, ◌+◌, ◌-◌, ◌%◌, ◌≤�
 use Rattle.std.specs.Prelude.{IsTrue, true, false}
 use Rattle.std.proofs.lemmas.List.{length-drop, length-take-le, drop-take, take-take}
 use Rattle.foyer_format.specs.Page.{page_up}
-use Rattle.foyer_buffer.specs.Filling.{taken}
+use Rattle.foyer_buffer.specs.Position.{taken}
 use Rattle.foyer_buffer.specs.Entries.{Entry, Entries, entries_at, IsPacked, EachTakes, size_of, left_of}
 use Rattle.foyer_buffer.specs.declared.BufferEntryInfo.{BufferEntryInfo}
 use Rattle.foyer_format.proofs.PageLaws.{page_up-holds, even-page_up}

@@ -3,8 +3,8 @@ use Rattle.std.proofs.Common.{◌≡◌, ℕ, ◌+◌, ◌<◌, ◌≤◌, List,
 use Rattle.std.proofs.lemmas.List.{length-take-le, length-drop}
 use Rattle.foyer_device.specs.Section.{Section, bytes_of}
 use Rattle.foyer_buffer.specs.BlockBytes.{laid, all_laid, IsBeside, Each}
-use Rattle.foyer_buffer.specs.Filling.{Sizes, Filling, end_of, next_blob, taken, entries_from, with_records}
-use Rattle.foyer_buffer.specs.Placing.{IsPart}
+use Rattle.foyer_buffer.specs.Position.{Sizes, Position, end_of, next_blob, taken, entries_from, with_records}
+use Rattle.foyer_buffer.specs.Layout.{IsPart}
 use Rattle.foyer_buffer.specs.Fills.{MayWrite, data_write, index_write, writes_of, records_in, data_end, ComesBehind, Fills, IsLaid}
 use Rattle.foyer_buffer.specs.Stored.{Stored, stored_at, AllStand, AllOutside, AreRecords}
 use Rattle.foyer_buffer.specs.Fills.Fills.{stays, part, blob}
@@ -15,17 +15,17 @@ use Rattle.foyer_buffer.proofs.BlockBytesLemmas.{beside_or, laid_beside, laid_ou
 use Rattle.foyer_buffer.proofs.StoredLemmas.{part_bytes, stored_stand, stored_outside, stored_records, records-append}
 
 -- the later filling's writes fall where the former's might
-pub blob_less : (s : Sizes) (f : Filling) (o : ℕ) → MayWrite s (next_blob s f) o → MayWrite s f o
+pub blob_less : (s : Sizes) (f : Position) (o : ℕ) → MayWrite s (next_blob s f) o → MayWrite s f o
 blob_less s f o (inl l) = inl (omega arith)
 blob_less s f o (inr (l, m)) = inl (omega arith)
 
-pub records_less : (s : Sizes) (f : Filling) (now : List BufferEntryInfo) (o : ℕ) → MayWrite s (with_records f now) o → MayWrite s f o
+pub records_less : (s : Sizes) (f : Position) (now : List BufferEntryInfo) (o : ℕ) → MayWrite s (with_records f now) o → MayWrite s f o
 records_less s f now o (inl l) = inl (omega arith)
 records_less s f now o (inr l) = inr l
 
 module _ {A : Type 0} where
   -- the bytes of a part
-  pub part_is : (s : Sizes) (w : Section) (start : ℕ) (f : Filling) (now : List BufferEntryInfo) (p : BlobPart A) → IsPart s w start f now p
+  pub part_is : (s : Sizes) (w : Section) (start : ℕ) (f : Position) (now : List BufferEntryInfo) (p : BlobPart A) → IsPart s w start f now p
       → start + taken now ≤ length (bytes_of w)
       → (bytes_of p.part_data ≡ take (taken now) (drop start (bytes_of w))) × (length (bytes_of p.part_data) ≡ taken now)
   part_is s w start f now p is within =
@@ -33,12 +33,12 @@ module _ {A : Type 0} where
       (bytes, ap length bytes ∙ length-take-le (taken now) (drop start (bytes_of w)) (omega (arith, length-drop start (bytes_of w))))
 
   -- its records
-  pub part_records : (s : Sizes) (w : Section) (start : ℕ) (f : Filling) (now : List BufferEntryInfo) (p : BlobPart A) → IsPart s w start f now p
+  pub part_records : (s : Sizes) (w : Section) (start : ℕ) (f : Position) (now : List BufferEntryInfo) (p : BlobPart A) → IsPart s w start f now p
       → stored_at p.blob_block_offset p.part_blob_offset (bytes_of p.part_data) p.indices.items ≡ stored_at f.blob f.at (bytes_of p.part_data) (entries_from f.at now)
   part_records s w start f now p is = rw (is.blob, is.at, is.indices) refl
 
   -- parts behind a filling come behind a part that it has already
-  comes_behind : (s : Sizes) (w : Section) (start : ℕ) (p : BlobPart A) (f : Filling) (infos : List BufferEntryInfo) (parts : List (BlobPart A)) (g : Filling)
+  comes_behind : (s : Sizes) (w : Section) (start : ℕ) (p : BlobPart A) (f : Position) (infos : List BufferEntryInfo) (parts : List (BlobPart A)) (g : Position)
       → s.index ≤ f.at → data_end p ≤ end_of f → (f.blob ≡ p.blob_block_offset) ⊎ (data_end p ≤ f.blob) → Fills s w start f infos parts g → Each (ComesBehind p) parts
   comes_behind s w start p f infos parts g past ends_at index (stays) = tt
   comes_behind s w start p f infos parts g past ends_at index (blob full fills) =
@@ -51,7 +51,7 @@ module _ {A : Type 0} where
       there : (q.blob_block_offset ≡ p.blob_block_offset) ⊎ (data_end p ≤ q.blob_block_offset)
       there = elim index [ inl same ↦ inl (is.blob ∙ same) | inr less ↦ inr (omega (arith, is.blob)) ]
 
-  pub fills_laid : (s : Sizes) (w : Section) (start : ℕ) (f : Filling) (infos : List BufferEntryInfo) (parts : List (BlobPart A)) (g : Filling)
+  pub fills_laid : (s : Sizes) (w : Section) (start : ℕ) (f : Position) (infos : List BufferEntryInfo) (parts : List (BlobPart A)) (g : Position)
       → s.index ≤ f.at → start + taken infos ≤ length (bytes_of w) → Fills s w start f infos parts g → IsLaid s w start f infos parts g
   fills_laid s w start f infos parts g past room (stays) =
       record { order = tt; within = tt; shrinks = λ o may. may; past = past; records = tt; stand = λ B. tt; outside = tt }

@@ -8,9 +8,9 @@ use Rattle.foyer_device.specs.Section.{Section, bytes_of}
 use Rattle.foyer_format.specs.Page.{page_up}
 use Rattle.foyer_blob.specs.Blob.{IsSealed}
 use Rattle.foyer_buffer.specs.BlockBytes.{read, laid, all_laid, Each}
-use Rattle.foyer_buffer.specs.Filling.{Sizes, Filling, FitsBlock, end_of, fresh, next_blob, taken, entries_from, with_records}
+use Rattle.foyer_buffer.specs.Position.{Sizes, Position, FitsBlock, end_of, fresh, next_blob, taken, entries_from, with_records}
 use Rattle.foyer_buffer.specs.Listing.{Fits, IsIndex, behind, placed, Chain, Lists}
-use Rattle.foyer_buffer.specs.Placing.{IsPart}
+use Rattle.foyer_buffer.specs.Layout.{IsPart}
 use Rattle.foyer_buffer.specs.Fills.{AreSizes, data_write, index_write, writes_of, records_in, Fills}
 use Rattle.foyer_buffer.specs.Stored.{Stored, entry_of, stored_at}
 use Rattle.foyer_buffer.specs.Holding.{all_read, Leads, Holds}
@@ -97,11 +97,11 @@ holds_fresh s B sizes = record {
 }
 
 -- the index that a filling has put
-holds_index : (s : Sizes) (B : ℕ → ℕ) (f : Filling) (es : List BlobEntryIndex) (h : Holds s B f es) → 0 < length f.listed → IsIndex s B all_read f.blob f.listed
+holds_index : (s : Sizes) (B : ℕ → ℕ) (f : Position) (es : List BlobEntryIndex) (h : Holds s B f es) → 0 < length f.listed → IsIndex s B all_read f.blob f.listed
 holds_index s B f es h some = record { room = h.room some; came = refl; sealed = h.sealed some; fits = h.fits }
 
 -- The chain comes to the filling's end, or to its present blob where that has put nothing.
-holds_leads : (s : Sizes) (B : ℕ → ℕ) (f : Filling) (es : List BlobEntryIndex) → Holds s B f es → (q : ℕ) × Leads s B 0 es q
+holds_leads : (s : Sizes) (B : ℕ → ℕ) (f : Position) (es : List BlobEntryIndex) → Holds s B f es → (q : ℕ) × Leads s B 0 es q
 holds_leads s B f es h = go f.listed refl
   where
     go : (ls : List BlobEntryIndex) → f.listed ≡ ls → (q : ℕ) × Leads s B 0 es q
@@ -114,7 +114,7 @@ holds_leads s B f es h = go f.listed refl
         )
 
 -- a full blob is left
-holds_blob : (s : Sizes) (B : ℕ → ℕ) (f : Filling) (es : List BlobEntryIndex) → AreSizes s → 0 < length f.listed → Holds s B f es → Holds s B (next_blob s f) es
+holds_blob : (s : Sizes) (B : ℕ → ℕ) (f : Position) (es : List BlobEntryIndex) → AreSizes s → 0 < length f.listed → Holds s B f es → Holds s B (next_blob s f) es
 holds_blob s B f es sizes some h = record {
   before = es;
   front = leads;
@@ -166,7 +166,7 @@ entries_end s base at i (j ∷ is) =
     ∙ ap (behind s base) (sym (entries_cons (at + page_up i.len) j is))
     ∙ entries_end s base (at + page_up i.len) j is ∙ omega (arith, taken_cons i (j ∷ is))
 
-ending : (s : Sizes) (f : Filling) (now : List BufferEntryInfo) → 0 < length now → behind s f.blob (f.listed ++ entries_from f.at now) ≡ f.blob + (f.at + taken now)
+ending : (s : Sizes) (f : Position) (now : List BufferEntryInfo) → 0 < length now → behind s f.blob (f.listed ++ entries_from f.at now) ≡ f.blob + (f.at + taken now)
 ending s f [] some = absurd (omega arith)
 ending s f (i ∷ is) some =
     let e : BlobEntryIndex = record { hash = i.hash; sequence = i.sequence; offset = f.at; len = i.len } in
@@ -176,7 +176,7 @@ ending s f (i ∷ is) some =
 
 module _ {A : Type 0} (s : Sizes) (w : Section) (sizes : AreSizes s) where
   -- a part is written: its data, then its index
-  holds_part : (B : ℕ → ℕ) (start : ℕ) (f : Filling) (es : List BlobEntryIndex) (now : List BufferEntryInfo) (p : BlobPart A) → IsPart s w start f now p
+  holds_part : (B : ℕ → ℕ) (start : ℕ) (f : Position) (es : List BlobEntryIndex) (now : List BufferEntryInfo) (p : BlobPart A) → IsPart s w start f now p
       → start + taken now ≤ length (bytes_of w) → EachSome now → Holds s B f es
       → Holds s (laid (index_write p) (laid (data_write p) B)) (with_records f now) (es ++ map entry_of (stored_at p.blob_block_offset p.part_blob_offset (bytes_of p.part_data) p.indices.items))
   holds_part B start f es now p is room some h =
@@ -219,7 +219,7 @@ module _ {A : Type 0} (s : Sizes) (w : Section) (sizes : AreSizes s) where
           (subst (λ n. read D p.blob_block_offset n ≡ p.index) is.size (read_whole (index_write p) (laid (data_write p) B)))
 
   -- the records of a batch are written into the block
-  pub holds_fills : (B : ℕ → ℕ) (start : ℕ) (f : Filling) (es : List BlobEntryIndex) (infos : List BufferEntryInfo) (parts : List (BlobPart A)) (g : Filling)
+  pub holds_fills : (B : ℕ → ℕ) (start : ℕ) (f : Position) (es : List BlobEntryIndex) (infos : List BufferEntryInfo) (parts : List (BlobPart A)) (g : Position)
       → start + taken infos ≤ length (bytes_of w) → EachSome infos → Fills s w start f infos parts g → Holds s B f es
       → Holds s (all_laid (writes_of parts) B) g (es ++ map entry_of (records_in parts))
   holds_fills B start f es infos parts g room some (stays) h = subst (λ l. Holds s B f l) (sym (append-nil es)) h
@@ -236,7 +236,7 @@ module _ {A : Type 0} (s : Sizes) (w : Section) (sizes : AreSizes s) where
       (holds_part B start f es now p is (omega (arith, total)) each.0 h))
 
 -- A block's list begins with what the filling put.
-pub holds_lists : (s : Sizes) (B : ℕ → ℕ) (f : Filling) (es all : List BlobEntryIndex) → Holds s B f es → Lists s B all_read all → (rest : List BlobEntryIndex) × (all ≡ es ++ rest)
+pub holds_lists : (s : Sizes) (B : ℕ → ℕ) (f : Position) (es all : List BlobEntryIndex) → Holds s B f es → Lists s B all_read all → (rest : List BlobEntryIndex) × (all ≡ es ++ rest)
 holds_lists s B f es all h l =
     let front : (q : ℕ) × Leads s B 0 es q = holds_leads s B f es h in
     let later : (rest : List BlobEntryIndex) × Chain s B all_read front.0 rest l.end × (all ≡ es ++ rest) = leads_chain s B 0 front.0 l.end es all front.1 l.chain in

@@ -6,10 +6,10 @@ use Rattle.foyer_device.specs.Section.{Section, part_of}
 use Rattle.foyer_format.specs.Page.{page_up}
 use Rattle.foyer_blob.specs.Blob.{capacity_of, IsSealed}
 use Rattle.foyer_blob.specs.OpenIndex.{OpenIndex, entries_of}
-use Rattle.foyer_buffer.specs.Filling.{Filling, end_of, fresh, next_blob, taken, entries_from, with_records}
-use Rattle.foyer_buffer.specs.Placing.{IsPart, Placed, Left, Places, parts_of}
-use Rattle.foyer_buffer.specs.Placing.Placed.{part, none}
-use Rattle.foyer_buffer.specs.Placing.Left.{done, blob, block}
+use Rattle.foyer_buffer.specs.Position.{Position, end_of, fresh, next_blob, taken, entries_from, with_records}
+use Rattle.foyer_buffer.specs.Layout.{IsPart, LaidOut, Left, Places, parts_of}
+use Rattle.foyer_buffer.specs.Layout.LaidOut.{part, none}
+use Rattle.foyer_buffer.specs.Layout.Left.{done, blob, block}
 use Rattle.foyer_buffer.specs.Splitting.{Going, Closed, sizes_of, filling_of, blocks_with}
 use Rattle.foyer_buffer.specs.declared.BufferEntryInfo.{BufferEntryInfo}
 use Rattle.foyer_blob.specs.declared.blob.BlobEntryIndex.{BlobEntryIndex}
@@ -67,7 +67,7 @@ nil_from_length (i ∷ is) e = absurd (omega (arith, e))
 
 module _ {A : Type 0} where
   -- nothing was collected
-  pub closes_none : (s : Section) (f0 : Filling) (all rest : List BufferEntryInfo) (w : Splitting A) → w.indices.items ≡ []
+  pub closes_none : (s : Section) (f0 : Position) (all rest : List BufferEntryInfo) (w : Splitting A) → w.indices.items ≡ []
       → Going s f0 all w rest → Closed s f0 all w rest
   closes_none s f0 all rest w empty o =
       let len : length o.now ≡ 0 = sym (length-entries_from w.at o.now) ∙ ap length (sym o.indices ∙ empty) in
@@ -84,7 +84,7 @@ module _ {A : Type 0} where
       }
 
   -- what was collected is a part
-  pub closes_part : (s : Section) (f0 : Filling) (all rest : List BufferEntryInfo) (w x : Splitting A) (p : BlobPart A)
+  pub closes_part : (s : Section) (f0 : Position) (all rest : List BufferEntryInfo) (w x : Splitting A) (p : BlobPart A)
       → 0 < length w.indices.items
       → p.blob_block_offset ≡ w.blob → p.part_blob_offset ≡ w.at → p.part_data ≡ part_of s w.start (w.start + w.size)
       → p.indices.items ≡ w.indices.items → IsSealed p.index (entries_of w.index) → length p.index ≡ w.index_size
@@ -121,7 +121,7 @@ module _ {A : Type 0} where
       }
 
   -- the index is full
-  pub begins_blob : (s : Section) (f0 : Filling) (all rest : List BufferEntryInfo) (w x : Splitting A)
+  pub begins_blob : (s : Section) (f0 : Position) (all rest : List BufferEntryInfo) (w x : Splitting A)
       → w.index.count ≡ capacity_of w.index_size
       → x.parts ≡ w.parts → x.blocks ≡ w.blocks → x.block_size ≡ w.block_size → x.index_size ≡ w.index_size
       → x.start ≡ w.start → x.blob ≡ w.blob + w.at → x.at ≡ w.index_size
@@ -134,7 +134,7 @@ module _ {A : Type 0} where
         f = next_blob (sizes_of w) o.f;
         now = [];
         goes = λ parts blocks g placed.
-            let placed_w : Placed (sizes_of w) s w.start (next_blob (sizes_of w) o.f) rest parts blocks g = rw (bs, is, start) at placed in
+            let placed_w : LaidOut (sizes_of w) s w.start (next_blob (sizes_of w) o.f) rest parts blocks g = rw (bs, is, start) at placed in
             rw (bs, is, parts_are, blocks_are) (o.goes parts blocks g (blob is_full placed_w));
         blob = omega (arith, o.blob, o.at);
         at = sym ats;
@@ -145,7 +145,7 @@ module _ {A : Type 0} where
       }
 
   -- the next record doesn't fit
-  pub begins_block : (s : Section) (f0 : Filling) (all rest : List BufferEntryInfo) (i : BufferEntryInfo) (b : Block A) (w x : Splitting A)
+  pub begins_block : (s : Section) (f0 : Position) (all rest : List BufferEntryInfo) (i : BufferEntryInfo) (b : Block A) (w x : Splitting A)
       → w.index.count < capacity_of w.index_size
       → w.block_size < w.blob + w.at + page_up i.len
       → b.blob_parts ≡ w.parts → x.parts.items ≡ [] → x.blocks.items ≡ w.blocks.items ++ b ∷ []
@@ -161,7 +161,7 @@ module _ {A : Type 0} where
         f = fresh (sizes_of w);
         now = [];
         goes = λ parts blocks g placed.
-            let placed_w : Placed (sizes_of w) s w.start (fresh (sizes_of w)) (i ∷ rest) parts blocks g = rw (bs, is, start) at placed in
+            let placed_w : LaidOut (sizes_of w) s w.start (fresh (sizes_of w)) (i ∷ rest) parts blocks g = rw (bs, is, start) at placed in
             let there : Places (sizes_of w) s f0 all (blocks_with w [] (parts ∷ blocks)) g = o.goes [] (parts ∷ blocks) g (block is_open is_over placed_w) in
             let same : blocks_with x parts blocks ≡ blocks_with w [] (parts ∷ blocks) =
             ap (λ l. map parts_of x.blocks.items ++ (l ++ parts) ∷ blocks) parts_are
@@ -179,7 +179,7 @@ module _ {A : Type 0} where
       }
 
   -- a record is collected
-  pub appends : (s : Section) (f0 : Filling) (all rest : List BufferEntryInfo) (i : BufferEntryInfo) (e : BlobEntryIndex) (w x : Splitting A)
+  pub appends : (s : Section) (f0 : Position) (all rest : List BufferEntryInfo) (i : BufferEntryInfo) (e : BlobEntryIndex) (w x : Splitting A)
       → w.blob + w.at + w.size + page_up i.len ≤ w.block_size
       → e ≡ record { hash = i.hash; sequence = i.sequence; offset = w.at + w.size; len = i.len }
       → x.parts ≡ w.parts → x.blocks ≡ w.blocks → x.block_size ≡ w.block_size → x.index_size ≡ w.index_size
@@ -199,7 +199,7 @@ module _ {A : Type 0} where
         now = o.now ++ i ∷ [];
         goes = λ parts blocks g placed.
             let same : (o.now ++ i ∷ []) ++ rest ≡ o.now ++ (i ∷ rest) = append_assoc o.now (i ∷ []) rest in
-            let placed_w : Placed (sizes_of w) s w.start o.f (o.now ++ (i ∷ rest)) parts blocks g = rw (bs, is, start, same) at placed in
+            let placed_w : LaidOut (sizes_of w) s w.start o.f (o.now ++ (i ∷ rest)) parts blocks g = rw (bs, is, start, same) at placed in
             rw (bs, is, parts_are, blocks_are) (o.goes parts blocks g placed_w);
         blob = o.blob ∙ sym blobs;
         at = o.at ∙ sym ats;
@@ -225,7 +225,7 @@ module _ {A : Type 0} where
   }
 
   -- behind the last record
-  pub ends : (s : Section) (f0 : Filling) (all : List BufferEntryInfo) (w : Splitting A) → w.index.count < capacity_of w.index_size
+  pub ends : (s : Section) (f0 : Position) (all : List BufferEntryInfo) (w : Splitting A) → w.index.count < capacity_of w.index_size
       → Closed s f0 all w []
       → Places (sizes_of w) s f0 all (map parts_of w.blocks.items ++ w.parts.items ∷ []) (filling_of w)
   ends s f0 all w room o =
@@ -235,7 +235,7 @@ module _ {A : Type 0} where
       rw (append-nil, same) at placed
 
   -- the last block is closed
-  pub finishes : (s : Section) (f0 : Filling) (all : List BufferEntryInfo) (b : Block A) (w : Splitting A) (blocks : List (Block A))
+  pub finishes : (s : Section) (f0 : Position) (all : List BufferEntryInfo) (b : Block A) (w : Splitting A) (blocks : List (Block A))
       → w.index.count < capacity_of w.index_size → b.blob_parts ≡ w.parts → blocks ≡ w.blocks.items ++ b ∷ []
       → Closed s f0 all w []
       → Places (sizes_of w) s f0 all (map parts_of blocks) (filling_of w)

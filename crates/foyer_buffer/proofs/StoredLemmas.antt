@@ -5,7 +5,7 @@ use Rattle.std.proofs.lemmas.List.{length-take, length-take-le, length-drop, tak
 use Rattle.foyer_device.specs.Section.{Section, bytes_of, part_of}
 use Rattle.foyer_format.specs.Page.{page_up}
 use Rattle.foyer_buffer.specs.BlockBytes.{laid, read}
-use Rattle.foyer_buffer.specs.Filling.{taken, entries_from}
+use Rattle.foyer_buffer.specs.Position.{taken, entries_from}
 use Rattle.foyer_buffer.specs.Listing.{placed}
 use Rattle.foyer_buffer.specs.Entries.{IsPacked, entries_at}
 use Rattle.foyer_buffer.specs.Stored.{Stored, entry_of, stored_at, AllStand, AllOutside, AreRecords, content_of}

@@ -1,7 +1,7 @@
 -- What a buffer holds: entries one behind another, each padded to whole pages.
 use Rattle.std.specs.Prelude.{◌≡◌, ℕ, ◌+◌, ◌-◌, ◌≤◌, List, [], ◌∷◌, ◌++◌, length, take, drop}
 use Rattle.foyer_format.specs.Page.{page_up}
-use Rattle.foyer_buffer.specs.Filling.{taken}
+use Rattle.foyer_buffer.specs.Position.{taken}
 use Rattle.foyer_buffer.specs.declared.BufferEntryInfo.{BufferEntryInfo}
 use Rattle.foyer_format.specs.declared.compress.Compression.{Compression}
 use Rattle.foyer_format.specs.declared.compress.Compression.TheVariants as compression
@@ -61,8 +61,8 @@ pub record IsFinished (b : Entries) (bytes : List ℕ) (infos : List BufferEntry
   pub each : EachTakes b.greatest infos
 
 -- a record whose value and key take n bytes together fits into the buffer
-pub record FitsBuffer (b : Entries) (c : Compression) (encodes : Type 0) (n : ℕ) : Type 0 where
+pub record FitsBuffer (b : Entries) (c : Compression) (is_encodable : Type 0) (n : ℕ) : Type 0 where
   pub plain : c ≡ compression.None
-  pub encoded : encodes
+  pub encoded : is_encodable
   pub room : 36 + n ≤ left_of b
   pub greatest : page_up (36 + n) ≤ b.greatest

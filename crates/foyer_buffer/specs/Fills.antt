@@ -3,8 +3,8 @@ use Rattle.std.specs.Prelude.{◌≡◌, ℕ, ◌+◌, ◌<◌, ◌≤◌, ◌%�
 use Rattle.foyer_device.specs.Section.{Section, bytes_of}
 use Rattle.foyer_blob.specs.Blob.{capacity_of}
 use Rattle.foyer_buffer.specs.BlockBytes.{Write, all_laid, AllWithin, Each}
-use Rattle.foyer_buffer.specs.Filling.{Sizes, Filling, end_of, fresh, next_blob, taken, with_records}
-use Rattle.foyer_buffer.specs.Placing.{IsPart}
+use Rattle.foyer_buffer.specs.Position.{Sizes, Position, end_of, fresh, next_blob, taken, with_records}
+use Rattle.foyer_buffer.specs.Layout.{IsPart}
 use Rattle.foyer_buffer.specs.Stored.{Stored, stored_at, AllStand, AllOutside, AreRecords}
 use Rattle.foyer_buffer.specs.declared.BufferEntryInfo.{BufferEntryInfo}
 use Rattle.foyer_buffer.specs.declared.split.BlobPart.{BlobPart}
@@ -16,7 +16,7 @@ pub record AreSizes (s : Sizes) : Type 0 where
   pub order : s.index < s.block
 
 -- where later writes of a filling may fall: behind its data, or into the index of its present blob
-abbrev pub MayWrite : Sizes → Filling → ℕ → Type 0
+abbrev pub MayWrite : Sizes → Position → ℕ → Type 0
 MayWrite s f o = (end_of f ≤ o) ⊎ ((f.blob ≤ o) × (o < f.blob + s.index))
 
 module _ {A : Type 0} where
@@ -63,24 +63,24 @@ module _ {A : Type 0} where
 
   -- from a filling on, and from byte start of the batch on, these records go into these parts of
   -- one block, and a filling is left
-  pub data Fills (s : Sizes) (whole : Section) : (start : ℕ) → Filling → List BufferEntryInfo
-      → List (BlobPart A) → Filling → Type 0 where
-    stays : {start : ℕ} {f : Filling} → Fills s whole start f [] [] f
-    part : {start : ℕ} {f g : Filling} {now rest : List BufferEntryInfo} {p : BlobPart A}
+  pub data Fills (s : Sizes) (whole : Section) : (start : ℕ) → Position → List BufferEntryInfo
+      → List (BlobPart A) → Position → Type 0 where
+    stays : {start : ℕ} {f : Position} → Fills s whole start f [] [] f
+    part : {start : ℕ} {f g : Position} {now rest : List BufferEntryInfo} {p : BlobPart A}
         {parts : List (BlobPart A)}
         → IsPart s whole start f now p
         → Fills s whole (start + taken now) (with_records f now) rest parts g
         → Fills s whole start f (now ++ rest) (p ∷ parts) g
-    blob : {start : ℕ} {f g : Filling} {infos : List BufferEntryInfo} {parts : List (BlobPart A)}
+    blob : {start : ℕ} {f g : Position} {infos : List BufferEntryInfo} {parts : List (BlobPart A)}
         → length f.listed ≡ capacity_of s.index → Fills s whole start (next_blob s f) infos parts g
         → Fills s whole start f infos parts g
 
   -- one block after the other is filled, the first from f on and the others from nothing
-  pub data Blocks (s : Sizes) (whole : Section) : (start : ℕ) → Filling → List BufferEntryInfo
-      → List (List (BlobPart A)) → Filling → Type 0 where
-    last : {start : ℕ} {f g : Filling} {infos : List BufferEntryInfo} {parts : List (BlobPart A)}
+  pub data Blocks (s : Sizes) (whole : Section) : (start : ℕ) → Position → List BufferEntryInfo
+      → List (List (BlobPart A)) → Position → Type 0 where
+    last : {start : ℕ} {f g : Position} {infos : List BufferEntryInfo} {parts : List (BlobPart A)}
         → Fills s whole start f infos parts g → Blocks s whole start f infos (parts ∷ []) g
-    more : {start : ℕ} {f g h : Filling} {now rest : List BufferEntryInfo}
+    more : {start : ℕ} {f g h : Position} {now rest : List BufferEntryInfo}
         {parts : List (BlobPart A)} {blocks : List (List (BlobPart A))}
         → Fills s whole start f now parts h
         → Blocks s whole (start + taken now) (fresh s) rest blocks g
@@ -89,8 +89,8 @@ module _ {A : Type 0} where
   -- What the parts of one block make of it. Nothing overlaps; every write falls behind all that the
   -- filling had, or into the index of its present blob, and so will later ones; after the writes,
   -- over any bytes, each record stands at its offset, and no later write falls into its pages.
-  pub record IsLaid (s : Sizes) (whole : Section) (start : ℕ) (f : Filling)
-      (infos : List BufferEntryInfo) (parts : List (BlobPart A)) (g : Filling) : Type 0 where
+  pub record IsLaid (s : Sizes) (whole : Section) (start : ℕ) (f : Position)
+      (infos : List BufferEntryInfo) (parts : List (BlobPart A)) (g : Position) : Type 0 where
     pub order : InOrder s parts
     pub within : AllWithin (MayWrite s f) (writes_of parts)
     pub shrinks : (o : ℕ) → MayWrite s g o → MayWrite s f o

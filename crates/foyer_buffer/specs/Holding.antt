@@ -2,7 +2,7 @@
 use Rattle.std.specs.Prelude.{◌≡◌, ℕ, ◌+◌, ◌%◌, ◌<◌, ◌≤◌, false, Bool, List, [], ◌∷◌, ◌++◌, length}
 use Rattle.foyer_blob.specs.Blob.{IsSealed}
 use Rattle.foyer_buffer.specs.BlockBytes.{read, Each}
-use Rattle.foyer_buffer.specs.Filling.{Sizes, Filling, end_of}
+use Rattle.foyer_buffer.specs.Position.{Sizes, Position, end_of}
 use Rattle.foyer_buffer.specs.Listing.{Fits, IsIndex, behind, placed}
 use Rattle.foyer_blob.specs.declared.blob.BlobEntryIndex.{BlobEntryIndex}
 
@@ -18,7 +18,7 @@ pub data Leads (s : Sizes) (B : ℕ → ℕ) : ℕ → List BlobEntryIndex → �
       → Leads s B (behind s p (e ∷ es)) rest q → Leads s B p (placed p (e ∷ es) ++ rest) q
 
 -- In a block of these bytes the chain begins with what a filling has put so far: these entries.
-pub record Holds (s : Sizes) (B : ℕ → ℕ) (f : Filling) (es : List BlobEntryIndex) : Type 0 where
+pub record Holds (s : Sizes) (B : ℕ → ℕ) (f : Position) (es : List BlobEntryIndex) : Type 0 where
   pub before : List BlobEntryIndex  -- those of the blobs that were left
   pub front : Leads s B 0 before f.blob
   pub past : s.index ≤ f.at

@@ -1,11 +1,11 @@
 pub mod BlobVectors
 pub mod BlockBytes
 pub mod Entries
-pub mod Filling
+pub mod Position
 pub mod Fills
 pub mod Holding
 pub mod Listing
-pub mod Placing
-pub mod PlacingLaws
+pub mod Layout
+pub mod LayoutLaws
 pub mod Splitting
 pub mod Stored

@@ -3,7 +3,7 @@ use Rattle.std.specs.Prelude.{◌≡◌, ℕ, ◌+◌, ◌%◌, ◌<◌, ◌≤�
 use Rattle.foyer_format.specs.Page.{page_up}
 use Rattle.foyer_blob.specs.Blob.{IsSealed}
 use Rattle.foyer_buffer.specs.BlockBytes.{read, Each}
-use Rattle.foyer_buffer.specs.Filling.{Sizes}
+use Rattle.foyer_buffer.specs.Position.{Sizes}
 use Rattle.foyer_blob.specs.declared.blob.BlobEntryIndex.{BlobEntryIndex}
 
 -- the entry of an index at place p isn't empty, and lies behind the index, on a page, and within

@@ -3,8 +3,8 @@ use Rattle.std.specs.Prelude.{◌≡◌, ℕ, ◌+◌, ◌<◌, ◌≤◌, List,
 use Rattle.foyer_device.specs.Section.{Section}
 use Rattle.foyer_blob.specs.Blob.{capacity_of}
 use Rattle.foyer_blob.specs.OpenIndex.{entries_of}
-use Rattle.foyer_buffer.specs.Filling.{Sizes, Filling, Context, taken, entries_from}
-use Rattle.foyer_buffer.specs.Placing.{Placed, Left, Places, parts_of}
+use Rattle.foyer_buffer.specs.Position.{Sizes, Position, Context, taken, entries_from}
+use Rattle.foyer_buffer.specs.Layout.{LaidOut, Left, Places, parts_of}
 use Rattle.foyer_buffer.specs.declared.BufferEntryInfo.{BufferEntryInfo}
 use Rattle.foyer_buffer.specs.declared.split.BlobPart.{BlobPart}
 use Rattle.foyer_buffer.specs.declared.splitting.Splitting.{Splitting}
@@ -13,7 +13,7 @@ module _ {A : Type 0} where
   abbrev pub sizes_of : Splitting A → Sizes
   sizes_of w = record { block = w.block_size; index = w.index_size }
 
-  abbrev pub filling_of : Splitting A → Filling
+  abbrev pub filling_of : Splitting A → Position
   filling_of w = record { blob = w.blob; at = w.at; listed = entries_of w.index }
 
   -- the batch's blocks, where these parts and blocks follow
@@ -22,12 +22,12 @@ module _ {A : Type 0} where
   blocks_with w parts blocks = map parts_of w.blocks.items ++ (w.parts.items ++ parts) ∷ blocks
 
   -- Whatever places the collected records and the rest completes the batch.
-  pub record Going (whole : Section) (f0 : Filling) (all : List BufferEntryInfo) (w : Splitting A)
+  pub record Going (whole : Section) (f0 : Position) (all : List BufferEntryInfo) (w : Splitting A)
       (rest : List BufferEntryInfo) : Type 0 where
-    pub f : Filling
+    pub f : Position
     pub now : List BufferEntryInfo
-    pub goes : (parts : List (BlobPart A)) (blocks : List (List (BlobPart A))) (g : Filling)
-        → Placed (sizes_of w) whole w.start f (now ++ rest) parts blocks g
+    pub goes : (parts : List (BlobPart A)) (blocks : List (List (BlobPart A))) (g : Position)
+        → LaidOut (sizes_of w) whole w.start f (now ++ rest) parts blocks g
         → Places (sizes_of w) whole f0 all (blocks_with w parts blocks) g
     pub blob : f.blob ≡ w.blob
     pub at : f.at ≡ w.at
@@ -37,10 +37,10 @@ module _ {A : Type 0} where
     pub within : 0 < length now → w.blob + w.at + w.size ≤ w.block_size
 
   -- The same where no record is collected, and the present part takes no more.
-  pub record Closed (whole : Section) (f0 : Filling) (all : List BufferEntryInfo) (w : Splitting A)
+  pub record Closed (whole : Section) (f0 : Position) (all : List BufferEntryInfo) (w : Splitting A)
       (rest : List BufferEntryInfo) : Type 0 where
-    pub f : Filling
-    pub goes : (parts : List (BlobPart A)) (blocks : List (List (BlobPart A))) (g : Filling)
+    pub f : Position
+    pub goes : (parts : List (BlobPart A)) (blocks : List (List (BlobPart A))) (g : Position)
         → Left (sizes_of w) whole w.start f rest parts blocks g
         → Places (sizes_of w) whole f0 all (blocks_with w parts blocks) g
     pub blob : f.blob ≡ w.blob

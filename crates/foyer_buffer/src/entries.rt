@@ -29,7 +29,7 @@ pub struct Buffer<A: Allocator> {
 impl<A: Allocator> Model for Buffer<A> {
     ghost use Rattle.std.specs.Prelude.{◌≡◌, ◌<◌, ◌%◌, ◌^◌, length};
     ghost use Rattle.foyer_buffer.specs.Entries.{Entries, EachTakes, IsPacked, entries_at};
-    ghost use Rattle.foyer_buffer.specs.Filling.{taken};
+    ghost use Rattle.foyer_buffer.specs.Position.{taken};
 
     ghost Value = { Entries };
 
@@ -80,7 +80,7 @@ impl<A: Allocator> Buffer<A> {
     }
 
     /// Appends the record of a key and a value; false where it doesn't fit or a code fails. Memory
-    /// where a growth was refused. Another answer than true leaves the entries; bytes behind them
+    /// where an allocation was refused. Another answer than true leaves the entries; bytes behind them
     /// may change.
     pub fn push<K: Code<A>, V: Code<A>>(
         &mut self,
@@ -91,10 +91,10 @@ impl<A: Allocator> Buffer<A> {
         sequence: Sequence,
     ) -> Result<bool>
         ensures pushed { IfOk result (λ done. OnTrue done (self.new ≡ with_entry self.old hash
-            sequence (record_bytes hash sequence (K.spelling key.now) (V.spelling value.now)))) }
+            sequence (record_bytes hash sequence (K.encoding key.now) (V.encoding value.now)))) }
         ensures fits { IfOk result (λ done. IsTrue done ↔ FitsBuffer self.old compression
-            ((K.encodes key.now ≡ true) × (V.encodes value.now ≡ true))
-            (length (V.spelling value.now) + length (K.spelling key.now))) }
+            ((K.is_encodable key.now ≡ true) × (V.is_encodable value.now ≡ true))
+            (length (V.encoding value.now) + length (K.encoding key.now))) }
         ensures kept { IfOk result (λ done. OnFalse done (self.new ≡ self.old)) }
         ensures memory { IfErr result (λ e. e ≡ error.Memory) }
         ensures refused { OnErr result (self.new ≡ self.old) }
@@ -126,7 +126,7 @@ impl<A: Allocator> Buffer<A> {
         Ok(true)
     }
 
-    /// Appends bytes as they are; false where they don't fit. Memory where a growth was refused.
+    /// Appends bytes as they are; false where they don't fit. Memory where an allocation was refused.
     /// Another answer than true leaves the entries.
     pub fn push_slice(&mut self, slice: &[u8], hash: u64, sequence: Sequence) -> Result<bool>
         ensures pushed { IfOk result (λ done. OnTrue done

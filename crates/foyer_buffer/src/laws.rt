@@ -1,6 +1,6 @@
 //! What holds of every placing, for whoever writes blocks and reads them again.
 ghost use Rattle.foyer_buffer.specs.BlobVectors.{EntryVector, CapacityVector, KeptVector};
-ghost use Rattle.foyer_buffer.specs.PlacingLaws.{OneList, FinishedFits, BatchIsBlocks, BlockIsLaid, RecordsAreEntries, FreshHolds, WrittenHolds, HeldIsListed};
+ghost use Rattle.foyer_buffer.specs.LayoutLaws.{OneList, FinishedFits, BatchIsBlocks, BlockIsLaid, RecordsAreEntries, FreshHolds, WrittenHolds, HeldIsListed};
 
 use std::alloc::Allocator;
 

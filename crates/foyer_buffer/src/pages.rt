@@ -91,22 +91,22 @@ impl<A: Allocator> Pages<A> {
         sequence: Sequence,
     ) -> bool
         requires header { self.old.written + 36 ≤ length self.old.bytes }
-        requires room { K.encodes key.now ≡ true → V.encodes value.now ≡ true
-            → self.old.written + 36 + length (V.spelling value.now)
-            + length (K.spelling key.now) ≤ length self.old.bytes }
-        requires lens { K.encodes key.now ≡ true → V.encodes value.now ≡ true
-            → length (V.spelling value.now) + length (K.spelling key.now) < 2 ^ 32 }
+        requires room { K.is_encodable key.now ≡ true → V.is_encodable value.now ≡ true
+            → self.old.written + 36 + length (V.encoding value.now)
+            + length (K.encoding key.now) ≤ length self.old.bytes }
+        requires lens { K.is_encodable key.now ≡ true → V.is_encodable value.now ≡ true
+            → length (V.encoding value.now) + length (K.encoding key.now) < 2 ^ 32 }
         ensures size { length self.new.bytes ≡ length self.old.bytes }
         ensures written { self.new.written ≡ self.old.written }
         ensures front { take self.old.written self.new.bytes
             ≡ take self.old.written self.old.bytes }
         ensures put { OnTrue result (drop self.old.written (take
-            (self.old.written + 36 + length (V.spelling value.now) + length (K.spelling key.now))
+            (self.old.written + 36 + length (V.encoding value.now) + length (K.encoding key.now))
             self.new.bytes)
-            ≡ record_bytes hash sequence (K.spelling key.now) (V.spelling value.now)) }
+            ≡ record_bytes hash sequence (K.encoding key.now) (V.encoding value.now)) }
         ensures encoded { MatchBool result
-            ((K.encodes key.now ≡ true) × (V.encodes value.now ≡ true))
-            (K.encodes key.now ≡ true → V.encodes value.now ≡ true → ⊥) }
+            ((K.is_encodable key.now ≡ true) × (V.is_encodable value.now ≡ true))
+            (K.is_encodable key.now ≡ true → V.is_encodable value.now ≡ true → ⊥) }
     {
         let start = self.written;
         self.written = start + 36;

@@ -2,7 +2,7 @@
 ghost use Rattle.std.specs.Prelude.{◌≡◌, ◌<◌, ◌≤◌, ◌%◌, ◌^◌, length, All, IfOk, IfErr, OnErr};
 ghost use Rattle.foyer_device.specs.declared.error.Error.{Error as error};
 ghost use Rattle.foyer_device.specs.Section.{bytes_of};
-ghost use Rattle.foyer_buffer.specs.Filling.{FitsBlock, fresh_context, taken};
+ghost use Rattle.foyer_buffer.specs.Position.{FitsBlock, fresh_context, taken};
 
 use super::BufferEntryInfo;
 use super::splitting::Splitting;
@@ -57,7 +57,7 @@ impl<A: Allocator> Model for SplitCtx<A> {
     ghost use Rattle.std.specs.Prelude.{◌≡◌, ◌+◌, ◌<◌, ◌≤◌, ◌^◌, length};
     ghost use Rattle.foyer_blob.specs.Blob.{capacity_of};
     ghost use Rattle.foyer_blob.specs.OpenIndex.{entries_of};
-    ghost use Rattle.foyer_buffer.specs.Filling.{Context};
+    ghost use Rattle.foyer_buffer.specs.Position.{Context};
 
     ghost Value = { Context };
 
@@ -153,11 +153,11 @@ impl<A: Allocator> SplitCtx<A> {
 pub struct Splitter;
 
 impl Splitter {
-    ghost use Rattle.foyer_buffer.specs.Placing.{IsPlaced};
+    ghost use Rattle.foyer_buffer.specs.Layout.{IsLaidOut};
 
     /// Places the records of a batch, in their order, into parts of blobs and blocks from where the
     /// context is, and moves the context behind them. The parts share the batch's bytes, which
-    /// begin with the first record. Memory where a growth was refused; the context stays then.
+    /// begin with the first record. Memory where an allocation was refused; the context stays then.
     pub fn split<A: Allocator + Clone>(
         alloc: &A,
         ctx: &mut SplitCtx<A>,
@@ -167,7 +167,7 @@ impl Splitter {
         requires each { All (FitsBlock ctx.old.sizes) entry_infos.items }
         requires within { taken entry_infos.items ≤ length (bytes_of bytes) }
         ensures placed { IfOk result (λ b.
-            IsPlaced ctx.old.sizes bytes entry_infos.items ctx.old.filling b ctx.new.filling) }
+            IsLaidOut ctx.old.sizes bytes entry_infos.items ctx.old.filling b ctx.new.filling) }
         ensures sizes { ctx.new.sizes ≡ ctx.old.sizes }
         ensures unchanged { OnErr result (ctx.new ≡ ctx.old) }
         ensures memory { IfErr result (λ e. e ≡ error.Memory) }

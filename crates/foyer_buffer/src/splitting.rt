@@ -58,15 +58,15 @@ impl<A: Allocator + Clone> Splitting<A> {
     ghost use Rattle.std.specs.Prelude.{◌+◌, ◌<◌, ◌≤◌, length, map, OnOk, IsTrue};
     ghost use Rattle.foyer_device.specs.Section.{Section, bytes_of};
     ghost use Rattle.foyer_format.specs.Page.{page_up};
-    ghost use Rattle.foyer_buffer.specs.Filling.{Filling, FitsBlock};
+    ghost use Rattle.foyer_buffer.specs.Position.{Position, FitsBlock};
     ghost use Rattle.foyer_buffer.specs.Splitting.{Going, Closed, Moves, sizes_of, filling_of};
-    ghost use Rattle.foyer_buffer.specs.Placing.{Places, parts_of};
+    ghost use Rattle.foyer_buffer.specs.Layout.{Places, parts_of};
     ghost use Rattle.foyer_buffer.specs.declared.BufferEntryInfo.{BufferEntryInfo};
 
     // Makes a part of the collected records, if there are some.
     fn close(&mut self, alloc: &A, bytes: &IoSlice<A>) -> Result<()>
         requires within { self.old.start + self.old.size ≤ length (bytes_of bytes.now) }
-        ensures closed { OnOk result ((f : Filling) (all rest : List BufferEntryInfo)
+        ensures closed { OnOk result ((f : Position) (all rest : List BufferEntryInfo)
             → Going bytes.now f all self.old rest → Closed bytes.now f all self.new rest) }
         ensures moves { OnOk result (Moves 0 self.old self.new) }
         ensures end { OnOk result ((self.new.size ≡ 0) × (self.new.blob ≡ self.old.blob)
@@ -100,7 +100,7 @@ impl<A: Allocator + Clone> Splitting<A> {
     fn next_blob(&mut self)
         requires full { self.old.index.count ≡ capacity_of self.old.index_size }
         requires size { self.old.size ≡ 0 }
-        ensures going { (s : Section) (f : Filling) (all rest : List BufferEntryInfo)
+        ensures going { (s : Section) (f : Position) (all rest : List BufferEntryInfo)
             → Closed s f all self.old rest → Going s f all self.new rest }
         ensures moves { Moves 0 self.old self.new }
         ensures empty { (self.new.size ≡ 0) × (self.new.index.count ≡ 0) }
@@ -117,7 +117,7 @@ impl<A: Allocator + Clone> Splitting<A> {
         requires over { self.old.block_size < self.old.blob + self.old.at + page_up info.now.len }
         requires size { self.old.size ≡ 0 }
         requires open { self.old.index.count < capacity_of self.old.index_size }
-        ensures going { OnOk result ((s : Section) (f : Filling) (all rest : List BufferEntryInfo)
+        ensures going { OnOk result ((s : Section) (f : Position) (all rest : List BufferEntryInfo)
             → Closed s f all self.old (info.now ∷ rest) → Going s f all self.new (info.now ∷ rest)) }
         ensures moves { OnOk result (Moves 0 self.old self.new) }
         ensures empty { OnOk result ((self.new.size ≡ 0) × (self.new.index.count ≡ 0)
@@ -139,7 +139,7 @@ impl<A: Allocator + Clone> Splitting<A> {
         requires some { 0 < info.now.len }
         requires open { self.old.index.count < capacity_of self.old.index_size }
         requires sum { self.old.start + self.old.size + page_up info.now.len < 2 ^ 64 }
-        ensures going { OnOk result ((s : Section) (f : Filling) (all rest : List BufferEntryInfo)
+        ensures going { OnOk result ((s : Section) (f : Position) (all rest : List BufferEntryInfo)
             → Going s f all self.old (info.now ∷ rest) → Going s f all self.new rest) }
         ensures moves { OnOk result (Moves (page_up info.now.len) self.old self.new) }
         ensures memory { IfErr result (λ e. e ≡ error.Memory) }
@@ -161,7 +161,7 @@ impl<A: Allocator + Clone> Splitting<A> {
         requires within { self.old.start + self.old.size ≤ length (bytes_of bytes.now) }
         requires fits { FitsBlock (sizes_of self.old) info.now }
         requires open { self.old.index.count < capacity_of self.old.index_size }
-        ensures going { OnOk result ((f : Filling) (all rest : List BufferEntryInfo)
+        ensures going { OnOk result ((f : Position) (all rest : List BufferEntryInfo)
             → Going bytes.now f all self.old (info.now ∷ rest)
             → Going bytes.now f all self.new (info.now ∷ rest)) }
         ensures moves { OnOk result (Moves 0 self.old self.new) }
@@ -180,7 +180,7 @@ impl<A: Allocator + Clone> Splitting<A> {
     // Begins a new blob where the index is full.
     fn room_in_index(&mut self, alloc: &A, bytes: &IoSlice<A>) -> Result<()>
         requires within { self.old.start + self.old.size ≤ length (bytes_of bytes.now) }
-        ensures going { OnOk result ((f : Filling) (all rest : List BufferEntryInfo)
+        ensures going { OnOk result ((f : Position) (all rest : List BufferEntryInfo)
             → Going bytes.now f all self.old rest → Going bytes.now f all self.new rest) }
         ensures moves { OnOk result (Moves 0 self.old self.new) }
         ensures open { OnOk result (self.new.index.count < capacity_of self.new.index_size) }
@@ -205,7 +205,7 @@ impl<A: Allocator + Clone> Splitting<A> {
         requires sum { self.old.start + self.old.size + page_up info.now.len < 2 ^ 64 }
         requires fits { FitsBlock (sizes_of self.old) info.now }
         requires open { self.old.index.count < capacity_of self.old.index_size }
-        ensures going { OnOk result ((f : Filling) (all rest : List BufferEntryInfo)
+        ensures going { OnOk result ((f : Position) (all rest : List BufferEntryInfo)
             → Going bytes.now f all self.old (info.now ∷ rest)
             → Going bytes.now f all self.new rest) }
         ensures moves { OnOk result (Moves (page_up info.now.len) self.old self.new) }
@@ -221,7 +221,7 @@ impl<A: Allocator + Clone> Splitting<A> {
     pub(super) fn finish(&mut self, alloc: &A, bytes: &IoSlice<A>) -> Result<()>
         requires within { self.old.start + self.old.size ≤ length (bytes_of bytes.now) }
         requires open { self.old.index.count < capacity_of self.old.index_size }
-        ensures placed { OnOk result ((f : Filling) (all : List BufferEntryInfo)
+        ensures placed { OnOk result ((f : Position) (all : List BufferEntryInfo)
             → Going bytes.now f all self.old [] → Places (sizes_of self.new) bytes.now f all
             (map parts_of self.new.blocks.items) (filling_of self.new)) }
         ensures moves { OnOk result (Moves 0 self.old self.new) }

@@ -1,4 +1,4 @@
--- Whether counted bytes are text; and what spellings read as.
+-- Whether counted bytes are text; and what encodings read as.
 use Rattle.std.proofs.Common.{◌≡◌, ◌<◌, ◌^◌, ℕ, List, ◌&&◌, drop, length, true, false, refl, ap}
 use Rattle.std.specs.Cmp.Derive.{both_true}
 use Rattle.std.specs.Int.{Width, w8, w16, w32, w64, w128}
@@ -8,9 +8,9 @@ use Rattle.std.proofs.lemmas.Bool.{lt-ltb}
 use Rattle.std.specs.Str.{IsUtf8, is_utf8}
 use Rattle.std.proofs.lemmas.Str.{is_utf8-from_IsUtf8, IsUtf8-from_is_utf8}
 use mir.Val.{bits}
-use Rattle.foyer_code.specs.CodeLaws.{number_spelled, number_again, bytes_spelled, text_spelled}
+use Rattle.foyer_code.specs.CodeLaws.{number_encoded, number_again, bytes_encoded, text_encoded}
 use Rattle.foyer_code.specs.Codes.{number_bytes, number_read, int_bytes, int_read, flag_bytes, flag_read, counted, is_counted, is_sized_text, is_counted_text, bytes_read, text_read}
-use Rattle.foyer_code.specs.IntLaws.{does_fit, int_spelled, int_again}
+use Rattle.foyer_code.specs.IntLaws.{does_fit, int_encoded, int_again}
 
 not_true : (a b : Bool) → (b ≡ true → ⊥) → (a && b) ≡ false
 not_true a true isnt = absurd (isnt refl)
@@ -30,11 +30,11 @@ pub ruleset text_lemmas = (not_text, is_text, sized_text)
 
 number_read_back : (w : Width) (n : ℕ) → n < 2 ^ bits w → number_read w (number_bytes w n) ≡ Some n
 number_read_back w n fits =
-    rw (number_spelled w n (lt-ltb n (2 ^ bits w) fits)) (ap (λ (m : ℕ). Some m) (number_again w n fits))
+    rw (number_encoded w n (lt-ltb n (2 ^ bits w) fits)) (ap (λ (m : ℕ). Some m) (number_again w n fits))
 
 int_read_back : (w : Width) (z : ℤ) → FitsSigned w z → int_read w (int_bytes w z) ≡ Some z
 int_read_back w z fits =
-    rw (int_spelled w z (does_fit w z fits)) (ap (λ (y : ℤ). Some y) (int_again w z fits))
+    rw (int_encoded w z (does_fit w z fits)) (ap (λ (y : ℤ). Some y) (int_again w z fits))
 
 pub number_read_back_8 : (n : ℕ) → n < 2 ^ 8 → number_read w8 (number_bytes w8 n) ≡ Some n
 number_read_back_8 = number_read_back w8
@@ -72,7 +72,7 @@ flag_read_back true = refl
 
 pub bytes_read_back : (bytes : List ℕ) → nat_lt (length bytes) (2 ^ 64) ≡ true
     → bytes_read (counted bytes) ≡ Some bytes
-bytes_read_back bytes fits = rw (bytes_spelled bytes fits) refl
+bytes_read_back bytes fits = rw (bytes_encoded bytes fits) refl
 
 pub text_read_back : (bytes : List ℕ) → is_sized_text bytes ≡ true → text_read (counted bytes) ≡ Some bytes
-text_read_back bytes sized = rw (text_spelled bytes sized) refl
+text_read_back bytes sized = rw (text_encoded bytes sized) refl

@@ -1,4 +1,4 @@
--- At each width a number's bytes give it back, and bytes are those of the number that they spell.
+-- At each width a number's bytes give it back, and bytes are those of the number that they encode.
 use Rattle.std.specs.Prelude.{◌≡◌, ℕ, ◌%◌, ◌<◌, ◌^◌, List, [], ◌∷◌, length}
 use Rattle.std.specs.Int.{Width, w8, w16, w32, w64, w128, byte_len, to_le_bytes, from_le_bytes}
 use Rattle.std.proofs.Common.{arith, ap, get_or}
@@ -30,7 +30,7 @@ written_read w32 = le_bytes_4
 written_read w64 = le_bytes_8
 written_read w128 = written_read_16
 
--- what bytes spell fits
+-- what bytes encode fits
 pub read_fits : (w : Width) (bs : List ℕ) → ((i : ℕ) → get_or bs i 0 < 256) → from_le_bytes w bs < 2 ^ bits w
 read_fits w8 bs small = small 0
 read_fits w16 bs small = omega (arith, small 0, small 1)

@@ -1,4 +1,4 @@
--- What is encoded is a spelling, a spelling is of one value, and a value with a spelling can be encoded.
+-- What is encoded is an encoding, a encoding is of one value, and a value with a encoding can be encoded.
 use Rattle.std.specs.Prelude.{◌≡◌, ℕ, ◌≤◌, ◌<◌, ◌^◌, Bool, List, [], take, drop, length, nat_lt, true, false, refl, if◌then◌else◌}
 use Rattle.std.specs.Cmp.{first_so, second_so}
 use Rattle.std.specs.Cmp.Derive.{both_true}
@@ -42,11 +42,11 @@ number_size w n fits = number_length w n (ltb-true n (2 ^ bits w) fits)
 
 pub ruleset numbers = (bytes_of_fitting, number_length, sized_number, number_size)
 
-pub number_spelled : (w : Width) (n : ℕ) → nat_lt n (2 ^ bits w) ≡ true → is_number w (number_bytes w n) ≡ true
-number_spelled w n fits =
+pub number_encoded : (w : Width) (n : ℕ) → nat_lt n (2 ^ bits w) ≡ true → is_number w (number_bytes w n) ≡ true
+number_encoded w n fits =
     ap (is_number w) (bytes_of_fitting w n (ltb-true n (2 ^ bits w) fits)) ∙ full_length w n
 
--- what is spelled by no bytes unless it fits, and is spelled, fits
+-- what is encoded by no bytes unless it fits, and is encoded, fits
 pub fits_if : (p : List ℕ → Bool) (bytes : List ℕ) (b : Bool) → p [] ≡ false
     → p (if b then bytes else []) ≡ true → b ≡ true
 fits_if p bytes true none is = refl
@@ -66,7 +66,7 @@ one_number w n m a b same =
     sym (number_again w n (ltb-true n (2 ^ bits w) a)) ∙ ap (from_le_bytes w) same
     ∙ number_again w m (ltb-true m (2 ^ bits w) b)
 
--- what was read is spelled as the bytes that it was read from
+-- what was read is encoded as the bytes that it was read from
 pub number_found : (w : Width) (bytes : List ℕ) (n : ℕ) → length bytes ≡ byte_len w
     → ((i : ℕ) → get_or bytes i 0 < 256) → n < 2 ^ bits w → n ≡ from_le_bytes w bytes
     → number_bytes w n ≡ bytes
@@ -82,8 +82,8 @@ counted_long bytes =
     let P : ℕ → Type 0 = λ n. 8 ≤ n in
     subst P (sym (length-append (to_le_bytes w64 (length bytes)) bytes)) (le-add_right 8 (length bytes))
 
-pub counted_spelled : (bytes : List ℕ) → length bytes < 2 ^ 64 → is_counted (counted bytes) ≡ true
-counted_spelled bytes fits =
+pub counted_encoded : (bytes : List ℕ) → length bytes < 2 ^ 64 → is_counted (counted bytes) ≡ true
+counted_encoded bytes fits =
     both_true (le-leb 8 (length (counted bytes)) (counted_long bytes)) (eq-eqb _ _ (before bytes fits))
 
 pub one_list : (a b : List ℕ) → counted a ≡ counted b → a ≡ b
@@ -94,19 +94,19 @@ bounded n = omega arith
 
 sized : (bytes : List ℕ) → is_counted (counted bytes) ≡ true → length bytes < 2 ^ 64
 sized bytes is =
-    let told : from_le_bytes w64 (to_le_bytes w64 (length bytes)) ≡ length bytes = eqb-true _ _ (second_so _ _ is) in
+    let given : from_le_bytes w64 (to_le_bytes w64 (length bytes)) ≡ length bytes = eqb-true _ _ (second_so _ _ is) in
     let P : ℕ → Type 0 = λ n. n < 2 ^ 64 in
-    subst P told (bounded (length bytes))
+    subst P given (bounded (length bytes))
 
-pub bytes_spelled : (bytes : List ℕ) → nat_lt (length bytes) (2 ^ 64) ≡ true → is_counted (counted bytes) ≡ true
-bytes_spelled bytes fits = counted_spelled bytes (ltb-true (length bytes) (2 ^ 64) fits)
+pub bytes_encoded : (bytes : List ℕ) → nat_lt (length bytes) (2 ^ 64) ≡ true → is_counted (counted bytes) ≡ true
+bytes_encoded bytes fits = counted_encoded bytes (ltb-true (length bytes) (2 ^ 64) fits)
 
 pub bytes_coded : (bytes : List ℕ) → is_counted (counted bytes) ≡ true → nat_lt (length bytes) (2 ^ 64) ≡ true
 bytes_coded bytes is = lt-ltb (length bytes) (2 ^ 64) (sized bytes is)
 
-pub text_spelled : (bytes : List ℕ) → is_sized_text bytes ≡ true → is_counted_text (counted bytes) ≡ true
-text_spelled bytes text =
-    both_true (bytes_spelled bytes (first_so _ _ text)) (second_so _ _ text)
+pub text_encoded : (bytes : List ℕ) → is_sized_text bytes ≡ true → is_counted_text (counted bytes) ≡ true
+text_encoded bytes text =
+    both_true (bytes_encoded bytes (first_so _ _ text)) (second_so _ _ text)
 
 pub text_coded : (bytes : List ℕ) → is_counted_text (counted bytes) ≡ true → is_sized_text bytes ≡ true
 text_coded bytes is =

@@ -1,10 +1,10 @@
--- What a flag is encoded as is a spelling, and of no other flag.
+-- What a flag is encoded as is an encoding, and of no other flag.
 use Rattle.std.specs.Prelude.{◌≡◌, Bool, true, false, refl}
 use Rattle.foyer_code.specs.Codes.{flag_bytes, is_flag}
 
-pub flag_spelled : (b : Bool) → is_flag (flag_bytes b) ≡ true
-flag_spelled false = refl
-flag_spelled true = refl
+pub flag_encoded : (b : Bool) → is_flag (flag_bytes b) ≡ true
+flag_encoded false = refl
+flag_encoded true = refl
 
 pub one_flag : (a b : Bool) → flag_bytes a ≡ flag_bytes b → a ≡ b
 one_flag false false same = refl

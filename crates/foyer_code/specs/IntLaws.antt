@@ -1,4 +1,4 @@
--- What a signed number is encoded as is a spelling, of no other number, and a number with a spelling fits.
+-- What a signed number is encoded as is an encoding, of no other number, and a number with a encoding fits.
 use Rattle.std.specs.Prelude.{◌≡◌, ℕ, ℤ, pos, negsuc, ◌<◌, ◌^◌, Bool, List, [], length, true, if◌then◌else◌}
 use Rattle.std.specs.Int.{Width, byte_len, to_le_bytes, from_le_bytes, cast_signed, cast_unsigned}
 use Rattle.std.specs.Int.RustNames.{FitsSigned}
@@ -34,8 +34,8 @@ int_size w z fits = int_length w z (so_fits w z fits)
 
 pub ruleset ints = (bytes_of_int, int_length, does_fit, int_size)
 
-pub int_spelled : (w : Width) (z : ℤ) → int_fits w z ≡ true → is_number w (int_bytes w z) ≡ true
-int_spelled w z fits =
+pub int_encoded : (w : Width) (z : ℤ) → int_fits w z ≡ true → is_number w (int_bytes w z) ≡ true
+int_encoded w z fits =
     ap (is_number w) (bytes_of_int w z (so_fits w z fits)) ∙ full_length w (cast_unsigned w z)
 
 pub int_coded : (w : Width) (z : ℤ) → is_number w (int_bytes w z) ≡ true → int_fits w z ≡ true
@@ -56,7 +56,7 @@ one_int w z y a b same =
     sym (int_again w z (so_fits w z a)) ∙ ap (λ bytes. cast_signed w (from_le_bytes w bytes)) same
     ∙ int_again w y (so_fits w y b)
 
--- what was read is spelled as the bytes that it was read from
+-- what was read is encoded as the bytes that it was read from
 pub int_found : (w : Width) (bytes : List ℕ) (z : ℤ) → length bytes ≡ byte_len w
     → ((i : ℕ) → get_or bytes i 0 < 256) → FitsSigned w z
     → z ≡ cast_signed w (from_le_bytes w bytes) → int_bytes w z ≡ bytes

@@ -1,4 +1,4 @@
--- Worked examples: the spellings of numbers, of flags and of a text.
+-- Worked examples: the encodings of numbers, of flags and of a text.
 use Rattle.std.specs.Prelude.{◌≡◌, [], ◌∷◌, negsuc, true, false, codes}
 use Rattle.std.specs.Int.{w16, w64}
 use Rattle.foyer_code.specs.Codes.{number_bytes, int_bytes, flag_bytes, counted}

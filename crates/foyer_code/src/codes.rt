@@ -30,7 +30,7 @@ fn exactly<const N: usize>(bytes: &[u8]) -> Result<[u8; N]>
     }
 }
 
-/// Numbers, a flag and a text with their spellings, in bytes.
+/// Numbers, a flag and a text with their encodings, in bytes.
 #[tactic(auto, unfolding(crate::specs::Codes::number_bytes, crate::specs::Codes::int_bytes))]
 pub fn code_vectors()
     ensures number { NumberVector }

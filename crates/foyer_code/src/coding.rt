@@ -1,4 +1,4 @@
-//! Types whose values are spelled as bytes.
+//! Types whose values are encoded as bytes.
 ghost use Rattle.std.specs.Prelude.{◌≡◌, ◌≢◌, ◌⊎◌, ◌-◌, ◌^◌, ℕ, List, Bool, None, true, false, min, length, OnOk, OnErr, IfOk, IfErr};
 ghost use Rattle.std.specs.Io.KnownBytes.{Appends};
 ghost use Rattle.foyer_device.specs.Error.{IsDecodeFault};
@@ -12,16 +12,16 @@ use std::hash::Hash;
 use std::io;
 use std::io::Write;
 
-/// A type whose values are spelled as bytes, and decoded with an allocator of type `A`.
+/// A type whose values are encoded as bytes, and decoded with an allocator of type `A`.
 pub trait Code<A: Allocator> {
     // The bytes of a value.
-    ghost spelling: { Self → List ℕ };
+    ghost encoding: { Self → List ℕ };
 
     // Whether the value can be encoded.
-    ghost encodes: { Self → Bool };
+    ghost is_encodable: { Self → Bool };
 
-    // Some value is spelled so.
-    ghost is_spelling: { List ℕ → Bool };
+    // Some value is encoded so.
+    ghost is_decodable: { List ℕ → Bool };
 
     // The two values are the same, whatever memory they lie in.
     ghost same: { Self → Self → Type 0 };
@@ -33,17 +33,17 @@ pub trait Code<A: Allocator> {
     /// encoded. After an `Err` some of the bytes may have been written.
     fn encode_into<W: Sink>(&self, writer: &mut W) -> Result<()>
         ensures bytes { OnOk result
-            (Appends (W.contents writer.old) (W.contents writer.new) (spelling self.now)) }
+            (Appends (W.contents writer.old) (W.contents writer.new) (encoding self.now)) }
         ensures room { OnOk result
-            (Takes (W.room writer.old) (W.room writer.new) (length (spelling self.now))) }
+            (Takes (W.room writer.old) (W.room writer.new) (length (encoding self.now))) }
         ensures taken { OnOk result
-            (W.taken writer.new ≡ counted_on (W.taken writer.old) (length (spelling self.now))) }
-        ensures encoded { OnOk result (encodes self.now ≡ true) }
+            (W.taken writer.new ≡ counted_on (W.taken writer.old) (length (encoding self.now))) }
+        ensures encoded { OnOk result (is_encodable self.now ≡ true) }
         ensures borrow { W.borrow writer.new ≡ W.borrow writer.old }
         ensures kept { OnErr result (Extends (W.room writer.old) (W.room writer.new)
             (W.contents writer.old) (W.contents writer.new)) }
-        ensures refused { IfErr result (λ e. (encodes self.now ≡ true → ⊥)
-            ⊎ IsWriteFault (W.room writer.old) (length (spelling self.now)) e) };
+        ensures refused { IfErr result (λ e. (is_encodable self.now ≡ true → ⊥)
+            ⊎ IsWriteFault (W.room writer.old) (length (encoding self.now)) e) };
 
     /// Writes the value's bytes to any writer. Io where the writer failed, BufferSizeLimit where it
     /// takes no more, else the code's own error. After an `Err` some of the bytes may have been
@@ -52,9 +52,9 @@ pub trait Code<A: Allocator> {
     where
         Self: Sized,
         ensures bytes { OnOk result
-            (Appends (W.contents writer.old) (W.contents writer.new) (spelling self.now)) }
-        ensures encoded { OnOk result (encodes self.now ≡ true) }
-        ensures refused { IfErr result (λ e. (encodes self.now ≡ true → ⊥) ⊎ IsFaultAt None e) }
+            (Appends (W.contents writer.old) (W.contents writer.new) (encoding self.now)) }
+        ensures encoded { OnOk result (is_encodable self.now ≡ true) }
+        ensures refused { IfErr result (λ e. (is_encodable self.now ≡ true → ⊥) ⊎ IsFaultAt None e) }
     {
         let mut lent = Lent {
             inner: writer,
@@ -63,30 +63,30 @@ pub trait Code<A: Allocator> {
         self.encode_into(&mut lent)
     }
 
-    /// The value that the bytes spell, all of the bytes. Parse where they spell none, Memory where
-    /// a growth was refused.
+    /// The value that the bytes encode, all of the bytes. Parse where they decode to none, Memory where
+    /// an allocation was refused.
     fn decode(alloc: A, bytes: &[u8]) -> Result<Self>
     where
         Self: Sized,
-        ensures found { IfOk result (λ v. spelling v ≡ bytes.now) }
-        ensures encodes { IfOk result (λ v. encodes v ≡ true) }
-        ensures is_spelling { OnOk result (is_spelling bytes.now ≡ true) }
-        ensures refused { IfErr result (λ e. e ≢ Memory → is_spelling bytes.now ≡ false) }
+        ensures found { IfOk result (λ v. encoding v ≡ bytes.now) }
+        ensures is_encodable { IfOk result (λ v. is_encodable v ≡ true) }
+        ensures is_decodable { OnOk result (is_decodable bytes.now ≡ true) }
+        ensures refused { IfErr result (λ e. e ≢ Memory → is_decodable bytes.now ≡ false) }
         ensures memory { IfErr result (λ e. e ≡ Memory → takes_memory bytes.now) }
         ensures fault { IfErr result IsDecodeFault };
 
     /// How many bytes the value takes, at most `usize::MAX`.
     fn estimated_size(&self) -> usize
-        ensures { encodes self.now ≡ true → result ≡ min (length (spelling self.now)) (2 ^ 64 - 1) };
+        ensures { is_encodable self.now ≡ true → result ≡ min (length (encoding self.now)) (2 ^ 64 - 1) };
 
-    // What a value is encoded as is a spelling.
-    ghost spelled: { (v : Self) → encodes v ≡ true → is_spelling (spelling v) ≡ true };
+    // What a value is encoded as is an encoding.
+    ghost is_encoded: { (v : Self) → is_encodable v ≡ true → is_decodable (encoding v) ≡ true };
 
-    // Bytes spell one value at most.
-    ghost one_value: { (v w : Self) → encodes v ≡ true → encodes w ≡ true → spelling v ≡ spelling w → same v w };
+    // Bytes encode one value at most.
+    ghost one_value: { (v w : Self) → is_encodable v ≡ true → is_encodable w ≡ true → encoding v ≡ encoding w → same v w };
 
-    // A value whose spelling is one can be encoded.
-    ghost coded: { (v : Self) → is_spelling (spelling v) ≡ true → encodes v ≡ true };
+    // A value whose encoding is one can be encoded.
+    ghost coded: { (v : Self) → is_decodable (encoding v) ≡ true → is_encodable v ≡ true };
 }
 
 // A writer that is lent for one encoding, and counts.

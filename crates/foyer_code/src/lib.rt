@@ -1,4 +1,4 @@
-//! Codes of keys and values: types whose values are spelled as bytes, and the writers that take the bytes.
+//! Codes of keys and values: types whose values are encoded as bytes, and the writers that take the bytes.
 #![tactic(auto)]
 
 mod codes;

@@ -2,14 +2,14 @@
 use Rattle.std.proofs.Common.{◌≡◌, ℕ, ◌+◌, ◌-◌, ◌^◌, ◌<◌, ◌≤◌, ◌==◌, nat_le, min, if◌then◌else◌, Bool, true, false, List, length, Some, slice_get, slice_set, refl, sym, ap, subst, ◌∙◌, arith}
 use Rattle.std.proofs.lemmas.Bool.Decides.{nat_tests}
 use Rattle.foyer_model.specs.Numbers.{plus, last_number}
-use Rattle.foyer_model.specs.State as plainly
+use Rattle.foyer_model.specs.State as model_state
 use Rattle.foyer_core.specs.Standing.{IsBlockAs, AreBlocksAs}
 use Rattle.foyer_core.specs.declared.settings.Settings.{Settings}
 use Rattle.foyer_core.specs.declared.state.BlockState.{BlockState}
 use Rattle.foyer_core.proofs.StateLemmas.{set_here, set_there, set_count, some_is}
 
 pub blocks_set : (s : Settings) (blocks : List BlockState) (b : ℕ) (next : BlockState)
-    (places places' : ℕ → plainly.Place) (fillings fillings' : ℕ → ℕ) (stats stats' : ℕ → plainly.Stats)
+    (places places' : ℕ → model_state.BlockSet) (fillings fillings' : ℕ → ℕ) (stats stats' : ℕ → model_state.Stats)
     → AreBlocksAs s blocks places fillings stats → b < length blocks → IsBlockAs next (places' b) (fillings' b) (stats' b)
     → ((q : ℕ) → (q ≡ b → ⊥) → (places' q ≡ places q) × (fillings' q ≡ fillings q) × (stats' q ≡ stats q))
     → AreBlocksAs s (slice_set blocks b next) places' fillings' stats'
@@ -35,7 +35,7 @@ blocks_set s blocks b next places places' fillings fillings' stats stats' are lt
         }
 
 -- one access more, which stays at the greatest number
-pub more_accessed : (found : BlockState) (stats : plainly.Stats) (n : ℕ)
+pub more_accessed : (found : BlockState) (stats : model_state.Stats) (n : ℕ)
     → stats ≡ record { invalid = found.invalid; access = found.access; probation = found.probation }
     → n ≡ min (found.access + 1) (2 ^ 64 - 1)
     → record stats { access = plus stats.access 1 } ≡ record { invalid = found.invalid; access = n; probation = found.probation }
@@ -43,10 +43,10 @@ more_accessed found stats n is sum =
     ap one_more is
     ∙ ap with_access (go (nat_le (found.access + 1) last_number) refl)
   where
-    one_more : plainly.Stats → plainly.Stats
+    one_more : model_state.Stats → model_state.Stats
     one_more x = record x { access = plus x.access 1 }
 
-    with_access : ℕ → plainly.Stats
+    with_access : ℕ → model_state.Stats
     with_access k = record { invalid = found.invalid; access = k; probation = found.probation }
 
     go : (t : Bool) → nat_le (found.access + 1) last_number ≡ t → (if t then found.access + 1 else last_number) ≡ n

@@ -4,26 +4,26 @@ use Rattle.foyer_block.specs.declared.indexer.HashedEntryAddress.{HashedEntryAdd
 use Rattle.foyer_block.specs.declared.tombstone.Tombstone.{Tombstone}
 use Rattle.foyer_format.specs.Page.{page_up}
 use Rattle.foyer_policy.specs.Record.{Record}
-use Rattle.foyer_model.specs.Filling.{Data, last_end}
+use Rattle.foyer_model.specs.Position.{Data, last_end}
 use Rattle.foyer_model.specs.Flush.{Begins, is_some as has}
 use Rattle.foyer_model.specs.Receive.{bytes_taken, pieces_of, HasReceived, turned}
-use Rattle.foyer_model.specs.Record as plain
-use Rattle.foyer_model.specs.Reply as replies
-use Rattle.foyer_model.specs.State as plainly
+use Rattle.foyer_model.specs.Record as model_record
+use Rattle.foyer_model.specs.Reply as model_reply
+use Rattle.foyer_model.specs.State as model_state
 use Rattle.foyer_core.specs.Content.{Content, Meaning, content_of}
-use Rattle.foyer_core.specs.Flushing.{filled_to, AreRecords, ArePlacedAs, AreBatched, HasOwn, AreWriting, IsFlusherAs, spoil_of}
+use Rattle.foyer_core.specs.Flushing.{filled_to, AreRecords, AreLaidOutAs, AreBatched, HasOwn, AreWriting, IsFlusherAs, invalid_of}
 use Rattle.foyer_core.specs.InOneBlock.{packed, parts_of, spread_of, all_writes, IsInOneBlock}
-use Rattle.foyer_core.specs.Meets.{machine}
-use Rattle.foyer_core.specs.Plain.{page_up_above}
+use Rattle.foyer_core.specs.Refines.{machine}
+use Rattle.foyer_core.specs.CoreRules.{page_up_above}
 use Rattle.foyer_core.specs.Replied.{write_of, mark_of}
-use Rattle.foyer_core.specs.Sizes.{IsSound}
-use Rattle.foyer_core.specs.Turns.{MayBegin}
+use Rattle.foyer_core.specs.Sizes.{AreValid}
+use Rattle.foyer_core.specs.FlushInTurn.{MayBegin}
 use Rattle.foyer_core.specs.Unchanged.{seen}
 use Rattle.foyer_core.specs.declared.block.flusher.Batch.{Batch}
 use Rattle.foyer_core.specs.declared.block.flusher.Flusher.{Flusher}
 use Rattle.foyer_core.specs.declared.block.flusher.Writing.{Writing}
 use Rattle.foyer_core.specs.declared.settings.Settings.{Settings}
-use Rattle.foyer_core.proofs.PlacedLemmas.{packed-len}
+use Rattle.foyer_core.proofs.LayoutLemmas.{packed-len}
 use Rattle.foyer_core.specs.Beginning.{HasWrites, IsBegun}
 use Rattle.foyer_core.specs.declared.reply.Write.{Write}
 
@@ -42,19 +42,19 @@ no_write at bytes ws is read same few = subst (HasWrites at bytes) (sym is) (sym
 
 module _ {K V P : Type 0} (m : Meaning K V P) where
   -- the contents of what was received
-  pieces_are : (at : ℕ) (es : List HashedEntryAddress) (ps : List (Record K V P)) (rs : List (plain.Record Content)) → AreRecords m at es ps rs → pieces_of rs ≡ map (content_of m) ps
+  pieces_are : (at : ℕ) (es : List HashedEntryAddress) (ps : List (Record K V P)) (rs : List (model_record.Record Content)) → AreRecords m at es ps rs → pieces_of rs ≡ map (content_of m) ps
   pieces_are at [] [] [] are = refl
   pieces_are at (e ∷ es) (p ∷ ps) (r ∷ rs) are =
       ap (λ x. with_source x rs) (are.0).source ∙ ap (λ cs. content_of m p ∷ cs) (pieces_are (at + page_up (length r.bytes)) es ps rs are.1)
     where
-      with_source : plain.Source Content → List (plain.Record Content) → List Content
+      with_source : model_record.Source Content → List (model_record.Record Content) → List Content
       with_source x rest = pieces_of (record { hash = r.hash; sequence = r.sequence; bytes = r.bytes; source = x } ∷ rest)
   pieces_are at [] [] (r ∷ rs) are = absurd are
   pieces_are at [] (p ∷ ps) rs are = absurd are
   pieces_are at (e ∷ es) [] rs are = absurd are
   pieces_are at (e ∷ es) (p ∷ ps) [] are = absurd are
 
-  some_bytes : (at : ℕ) (es : List HashedEntryAddress) (ps : List (Record K V P)) (r : plain.Record Content) (rs : List (plain.Record Content)) → AreRecords m at es ps (r ∷ rs) → 0 < bytes_taken page_up (r ∷ rs)
+  some_bytes : (at : ℕ) (es : List HashedEntryAddress) (ps : List (Record K V P)) (r : model_record.Record Content) (rs : List (model_record.Record Content)) → AreRecords m at es ps (r ∷ rs) → 0 < bytes_taken page_up (r ∷ rs)
   some_bytes at (e ∷ es) (p ∷ ps) r rs are =
       let some : 0 < length r.bytes = (are.0).some in
       let above : length r.bytes ≤ page_up (length r.bytes) = page_up_above (length r.bytes) in
@@ -64,7 +64,7 @@ module _ {K V P : Type 0} (m : Meaning K V P) where
   some_bytes at (e ∷ es) [] r rs are = absurd are
 
   -- the writes of a block are those of its part
-  writes_are : {A : Type 0} (next : ℕ) (bytes : List ℕ) (ws : List (Write A)) (es : List HashedEntryAddress) (ps : List (Record K V P)) (rs : List (plain.Record Content))
+  writes_are : {A : Type 0} (next : ℕ) (bytes : List ℕ) (ws : List (Write A)) (es : List HashedEntryAddress) (ps : List (Record K V P)) (rs : List (model_record.Record Content))
       → AreRecords m 0 es ps rs → bytes ≡ packed rs → HasWrites next bytes ws → map write_of ws ≡ all_writes (parts_of (filled_to next) rs)
   writes_are next bytes [] es ps [] are same has = refl
   writes_are next bytes [] es ps (r ∷ rs) are same has =
@@ -92,21 +92,21 @@ same_some : {X : Type 0} (o : Option X) → has o ≡ is_some o
 same_some None = refl
 same_some (Some x) = refl
 
-module _ {K V P A : Type 0} (m : Meaning K V P) (s : Settings) (sound : IsSound s) (st : plainly.State Content) (f : ℕ) (φ : Flusher K V P A) (stands : IsFlusherAs m s (seen φ) (st.flushers f)) where
+module _ {K V P A : Type 0} (m : Meaning K V P) (s : Settings) (sound : AreValid s) (st : model_state.State Content) (f : ℕ) (φ : Flusher K V P A) (stands : IsFlusherAs m s (seen φ) (st.flushers f)) where
   -- the plain flusher whose batch begins
-  abbrev pub begun : plainly.Flusher Content
+  abbrev pub begun : model_state.Flusher Content
   begun = record (st.flushers f) {
     buffer = [];
     marks = [];
-    spoils = [];
+    invalidated = [];
     waits = [];
     context = last_end (st.flushers f).context (spread_of (st.flushers f).context (st.flushers f).buffer ∷ []);
     batch = Some (record {
       blocks = spread_of (st.flushers f).context (st.flushers f).buffer ∷ [];
-      goes_on = has (st.flushers f).own;
+      continues_own_block = has (st.flushers f).own;
       writing = None;
       marks = (st.flushers f).marks;
-      spoils = (st.flushers f).spoils;
+      invalidated = (st.flushers f).invalidated;
       pieces = pieces_of (st.flushers f).buffer;
       waits = (st.flushers f).waits;
       logged = None;
@@ -114,16 +114,16 @@ module _ {K V P A : Type 0} (m : Meaning K V P) (s : Settings) (sound : IsSound 
   }
 
   pub begins : Begins (machine m s sound) (IsInOneBlock s.blob_index_size) st f
-      (replies.Began (spread_of (st.flushers f).context (st.flushers f).buffer ∷ []) (st.flushers f).marks) (turned (machine m s sound) st f begun)
+      (model_reply.Began (spread_of (st.flushers f).context (st.flushers f).buffer ∷ []) (st.flushers f).marks) (turned (machine m s sound) st f begun)
   begins = (refl, (subst (λ c. s.blob_index_size ≤ c.at) (sym stands.context) stands.behind, refl), refl)
 
-  pub begun_stands : (ψ : Flusher K V P A) (told : List Tombstone) → IsBegun φ ψ told → IsFlusherAs m s (seen ψ) begun
-  begun_stands ψ told is = subst (λ x. IsFlusherAs m s x begun) (sym is.left) (record {
+  pub begun_stands : (ψ : Flusher K V P A) (issued : List Tombstone) → IsBegun φ ψ issued → IsFlusherAs m s (seen ψ) begun
+  begun_stands ψ issued is = subst (λ x. IsFlusherAs m s x begun) (sym is.left) (record {
     queue = stands.queue;
     buffer = tt;
     bytes = refl;
     marks = refl;
-    spoils = refl;
+    invalidated = refl;
     waits = refl;
     own = stands.own;
     there = stands.there;
@@ -132,7 +132,7 @@ module _ {K V P A : Type 0} (m : Meaning K V P) (s : Settings) (sound : IsSound 
     behind = let before : s.blob_index_size ≤ φ.next_offset = stands.behind in let after : ψ.next_offset ≡ φ.next_offset + bytes_taken page_up (st.flushers f).buffer = next in omega arith;
     within = let before : φ.next_offset + bytes_taken page_up (st.flushers f).buffer ≤ s.block_size = stands.within in let after : ψ.next_offset ≡ φ.next_offset + bytes_taken page_up (st.flushers f).buffer = next in omega arith;
     batch = record {
-      blocks = subst (λ xs. ArePlacedAs m s (is.batch).pieces.items xs (spread_of (st.flushers f).context (st.flushers f).buffer ∷ [])) (sym is.blocks) (record {
+      blocks = subst (λ xs. AreLaidOutAs m s (is.batch).pieces.items xs (spread_of (st.flushers f).context (st.flushers f).buffer ∷ [])) (sym is.blocks) (record {
         records = (st.flushers f).buffer;
         are = subst (λ es. AreRecords m 0 es (is.batch).pieces.items (st.flushers f).buffer) (sym is.records)
             (subst (λ ps. AreRecords m 0 φ.records.items ps (st.flushers f).buffer) (sym is.pieces) stands.buffer);
@@ -141,11 +141,11 @@ module _ {K V P A : Type 0} (m : Meaning K V P) (s : Settings) (sound : IsSound 
             ∙ ap (λ n. all_writes (parts_of (filled_to n) (st.flushers f).buffer)) (sym is.offset);
         within = subst (λ n. n + bytes_taken page_up (st.flushers f).buffer ≤ s.block_size) (sym is.offset) stands.within;
       });
-      goes_on = same_some (st.flushers f).own ∙ ap is_some stands.own ∙ sym is.goes_on;
-      owned = own_there φ.own (is.batch).goes_on is.goes_on;
+      continues_own_block = same_some (st.flushers f).own ∙ ap is_some stands.own ∙ sym is.continues_own_block;
+      owned = own_there φ.own (is.batch).continues_own_block is.continues_own_block;
       writing = subst (λ w. AreWritingNone w) (sym is.writing) tt;
       marks = stands.marks ∙ ap (map mark_of) (sym is.marks);
-      spoils = stands.spoils ∙ ap (map spoil_of) (sym is.invalid);
+      invalidated = stands.invalidated ∙ ap (map invalid_of) (sym is.invalid);
       pieces = pieces_are m 0 φ.records.items φ.pieces.items (st.flushers f).buffer stands.buffer ∙ ap (map (content_of m)) (sym is.pieces);
       waits = stands.waits ∙ sym is.waits;
       logged = refl;
@@ -160,10 +160,10 @@ module _ {K V P A : Type 0} (m : Meaning K V P) (s : Settings) (sound : IsSound 
 
       next : ψ.next_offset ≡ φ.next_offset + bytes_taken page_up (st.flushers f).buffer
       next =
-          let told_next : ψ.next_offset ≡ min (φ.next_offset + length φ.buffer) (2 ^ 64 - 1) = is.next in
+          let issued_next : ψ.next_offset ≡ min (φ.next_offset + length φ.buffer) (2 ^ 64 - 1) = is.next in
           let same : length φ.buffer ≡ bytes_taken page_up (st.flushers f).buffer = len in
           let within : φ.next_offset + bytes_taken page_up (st.flushers f).buffer ≤ s.block_size = stands.within in
-          let told : s.block_size ≤ 2 ^ 32 = sound.told_offsets in
+          let issued : s.block_size ≤ 2 ^ 32 = sound.offsets_fit in
           omega arith
 
   -- a batch may begin just where the plain one may
@@ -179,7 +179,7 @@ module _ {K V P A : Type 0} (m : Meaning K V P) (s : Settings) (sound : IsSound 
     ],
   )
     where
-      none : (batch : Option (Batch K V P A)) (it : Option (plainly.Batch Content)) → batch ≡ None → AreBatched m s φ.own batch it → it ≡ None
+      none : (batch : Option (Batch K V P A)) (it : Option (model_state.Batch Content)) → batch ≡ None → AreBatched m s φ.own batch it → it ≡ None
       none None None is are = refl
       none None (Some it) is are = absurd are
       none (Some b) it is are = absurd (let e : Some b ≡ None = is in cc)
@@ -205,12 +205,12 @@ module _ {K V P A : Type 0} (m : Meaning K V P) (s : Settings) (sound : IsSound 
     ],
   )
     where
-      none : (batch : Option (Batch K V P A)) (it : Option (plainly.Batch Content)) → it ≡ None → AreBatched m s φ.own batch it → batch ≡ None
+      none : (batch : Option (Batch K V P A)) (it : Option (model_state.Batch Content)) → it ≡ None → AreBatched m s φ.own batch it → batch ≡ None
       none None it is are = refl
       none (Some b) None is are = absurd are
       none (Some b) (Some it) is are = absurd (let e : Some it ≡ None = is in cc)
 
-      no_records : (ps : List (Record K V P)) (rs : List (plain.Record Content)) → AreRecords m 0 [] ps rs → rs ≡ []
+      no_records : (ps : List (Record K V P)) (rs : List (model_record.Record Content)) → AreRecords m 0 [] ps rs → rs ≡ []
       no_records [] [] are = refl
       no_records [] (r ∷ rs) are = absurd are
       no_records (p ∷ ps) rs are = absurd are

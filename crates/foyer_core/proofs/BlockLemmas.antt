@@ -7,7 +7,7 @@ use Rattle.std.specs.List.{remove}
 use Rattle.foyer_model.specs.Flush.{first_usable}
 use Rattle.foyer_model.specs.Ids.{without_id}
 use Rattle.foyer_model.specs.Numbers.{put, plus, last_number}
-use Rattle.foyer_model.specs.State as plainly
+use Rattle.foyer_model.specs.State as model_state
 use Rattle.foyer_model.proofs.Basics.{put_same, put_other}
 use Rattle.foyer_core.specs.Handing.{filling_of, filling_in, IsFirstUsable, IsHanded}
 use Rattle.foyer_core.specs.Standing.{IsBlockAs, AreBlocksAs, AreCleanAs}
@@ -15,7 +15,7 @@ use Rattle.foyer_core.proofs.StateLemmas.{set_here, set_there, set_count, some_i
 use Rattle.foyer_core.proofs.WaitLemmas.{first_usable_same, clean_without}
 use Rattle.foyer_core.specs.declared.settings.Settings.{Settings}
 use Rattle.foyer_core.specs.declared.state.BlockState.{BlockState}
-use Rattle.foyer_core.specs.declared.state.Place.TheVariants as place
+use Rattle.foyer_core.specs.declared.state.BlockSet.TheVariants as place
 
 plus_is : (a b : ℕ) → plus a b ≡ min (a + b) last_number
 plus_is a b = go (nat_le (a + b) last_number) refl
@@ -48,7 +48,7 @@ usable_there blocks b below = go (nat_lt b (length blocks)) refl
         let none : filling_in blocks b ≡ last_number = ap filling_of (slice_get_past blocks b le) in
         absurd (omega arith)
 
-module _ (s : Settings) (blocks : List BlockState) (places : ℕ → plainly.Place) (fillings : ℕ → ℕ) (stats : ℕ → plainly.Stats)
+module _ (s : Settings) (blocks : List BlockState) (places : ℕ → model_state.BlockSet) (fillings : ℕ → ℕ) (stats : ℕ → model_state.Stats)
     (are : AreBlocksAs s blocks places fillings stats) where
   -- the block of an id
   pub block_at : (b : ℕ) (it : BlockState) → b < length blocks → it ≡ slice_index_or blocks b it
@@ -69,7 +69,7 @@ module _ (s : Settings) (blocks : List BlockState) (places : ℕ → plainly.Pla
       go (Some it) e = sym (are.all b it e).filling
 
   -- another one in its place
-  pub blocks_set : (b : ℕ) (it : BlockState) (places' : ℕ → plainly.Place) (fillings' : ℕ → ℕ) (stats' : ℕ → plainly.Stats)
+  pub blocks_set : (b : ℕ) (it : BlockState) (places' : ℕ → model_state.BlockSet) (fillings' : ℕ → ℕ) (stats' : ℕ → model_state.Stats)
       → b < length blocks → IsBlockAs it (places' b) (fillings' b) (stats' b)
       → ((q : ℕ) → (q ≡ b → ⊥) → (places' q ≡ places q) × (fillings' q ≡ fillings q) × (stats' q ≡ stats q))
       → AreBlocksAs s (slice_set blocks b it) places' fillings' stats'
@@ -93,21 +93,21 @@ module _ (s : Settings) (blocks : List BlockState) (places : ℕ → plainly.Pla
 
   -- its flusher leaves it
   pub block_left : (b : ℕ) (it : BlockState) → b < length blocks → it ≡ slice_index_or blocks b it
-      → AreBlocksAs s (slice_set blocks b (record it { place = place.Evictable })) (put places b plainly.Evictable) fillings stats
+      → AreBlocksAs s (slice_set blocks b (record it { place = place.Evictable })) (put places b model_state.Evictable) fillings stats
   block_left b it lt is =
       let k : IsBlockAs it (places b) (fillings b) (stats b) = block_at b it lt is in
-      blocks_set b (record it { place = place.Evictable }) (put places b plainly.Evictable) fillings stats lt
-      (record { place = put_same places b plainly.Evictable; filling = k.filling; stats = k.stats })
-      (λ q ne. (put_other places b plainly.Evictable q ne, refl, refl))
+      blocks_set b (record it { place = place.Evictable }) (put places b model_state.Evictable) fillings stats lt
+      (record { place = put_same places b model_state.Evictable; filling = k.filling; stats = k.stats })
+      (λ q ne. (put_other places b model_state.Evictable q ne, refl, refl))
 
   -- a block that isn't there
-  pub no_block_left : (b : ℕ) → length blocks ≤ b → AreBlocksAs s blocks (put places b plainly.Evictable) fillings stats
+  pub no_block_left : (b : ℕ) → length blocks ≤ b → AreBlocksAs s blocks (put places b model_state.Evictable) fillings stats
   no_block_left b le = record {
     count = are.count;
     all = λ q x is.
         let ne : q ≡ b → ⊥ = (λ e. past q x is (omega arith)) in
         let k : IsBlockAs x (places q) (fillings q) (stats q) = are.all q x is in
-        record { place = put_other places b plainly.Evictable q ne ∙ k.place; filling = k.filling; stats = k.stats };
+        record { place = put_other places b model_state.Evictable q ne ∙ k.place; filling = k.filling; stats = k.stats };
   }
     where
       past : (q : ℕ) (x : BlockState) → slice_get blocks q ≡ Some x → length blocks ≤ q → ⊥
@@ -116,36 +116,36 @@ module _ (s : Settings) (blocks : List BlockState) (places : ℕ → plainly.Pla
   -- it is handed out
   pub block_handed : (b f : ℕ) (it : BlockState) → b < length blocks → it ≡ slice_index_or blocks b it
       → AreBlocksAs s (slice_set blocks b (record it { place = place.Writing f; filling = it.filling + 1 }))
-      (put places b (plainly.Writes f)) (put fillings b (fillings b + 1)) stats
+      (put places b (model_state.Writes f)) (put fillings b (fillings b + 1)) stats
   block_handed b f it lt is =
       let k : IsBlockAs it (places b) (fillings b) (stats b) = block_at b it lt is in
-      blocks_set b (record it { place = place.Writing f; filling = it.filling + 1 }) (put places b (plainly.Writes f)) (put fillings b (fillings b + 1)) stats lt
+      blocks_set b (record it { place = place.Writing f; filling = it.filling + 1 }) (put places b (model_state.Writes f)) (put fillings b (fillings b + 1)) stats lt
       (record {
-        place = put_same places b (plainly.Writes f);
+        place = put_same places b (model_state.Writes f);
         filling = put_same fillings b (fillings b + 1) ∙ ap (λ n. n + 1) k.filling;
         stats = k.stats;
       })
-      (λ q ne. (put_other places b (plainly.Writes f) q ne, put_other fillings b (fillings b + 1) q ne, refl))
+      (λ q ne. (put_other places b (model_state.Writes f) q ne, put_other fillings b (fillings b + 1) q ne, refl))
 
   -- bytes of it became invalid
-  pub block_spoiled : (b n size : ℕ) (it : BlockState) → b < length blocks → it ≡ slice_index_or blocks b it
+  pub block_torn : (b n size : ℕ) (it : BlockState) → b < length blocks → it ≡ slice_index_or blocks b it
       → n ≡ min (it.invalid + size) (2 ^ 64 - 1)
       → AreBlocksAs s (slice_set blocks b (record it { invalid = n })) places fillings
       (put stats b (record (stats b) { invalid = plus (stats b).invalid size }))
-  block_spoiled b n size it lt is sum =
+  block_torn b n size it lt is sum =
       let k : IsBlockAs it (places b) (fillings b) (stats b) = block_at b it lt is in
-      let new : plainly.Stats = record (stats b) { invalid = plus (stats b).invalid size } in
+      let new : model_state.Stats = record (stats b) { invalid = plus (stats b).invalid size } in
       blocks_set b (record it { invalid = n }) places fillings (put stats b new) lt
       (record {
         place = k.place;
         filling = k.filling;
-        stats = put_same stats b new ∙ ap (λ (t : plainly.Stats). record t { invalid = plus t.invalid size }) k.stats
+        stats = put_same stats b new ∙ ap (λ (t : model_state.Stats). record t { invalid = plus t.invalid size }) k.stats
             ∙ ap (λ i. record { invalid = i; access = it.access; probation = it.probation }) (plus_is it.invalid size ∙ sym sum);
       })
       (λ q ne. (refl, refl, put_other stats b new q ne))
 
-  pub no_block_spoiled : (b : ℕ) (new : plainly.Stats) → length blocks ≤ b → AreBlocksAs s blocks places fillings (put stats b new)
-  no_block_spoiled b new le = record {
+  pub no_block_torn : (b : ℕ) (new : model_state.Stats) → length blocks ≤ b → AreBlocksAs s blocks places fillings (put stats b new)
+  no_block_torn b new le = record {
     count = are.count;
     all = λ q x is.
         let ne : q ≡ b → ⊥ = (λ e. past q x is (omega arith)) in
@@ -156,7 +156,7 @@ module _ (s : Settings) (blocks : List BlockState) (places : ℕ → plainly.Pla
       past : (q : ℕ) (x : BlockState) → slice_get blocks q ≡ Some x → length blocks ≤ q → ⊥
       past q x is le = let none : slice_get blocks q ≡ None = slice_get_past blocks q le in let clash : None ≡ Some x = sym none ∙ is in cc
 
-  -- what is usable, as the plain machine has it
+  -- what is usable, as the model has it
   pub usable_is : (items ids : List ℕ) → AreCleanAs s items ids → first_usable fillings ids ≡ first_usable (filling_in blocks) items
   usable_is items ids clean =
       ap (first_usable fillings) clean.is ∙ sym (first_usable_same (filling_in blocks) fillings s.blocks items filling_at clean.there)

@@ -1,15 +1,15 @@
 -- What a delete's mark pushes out.
 use Rattle.std.proofs.Common.{◌≡◌, ℕ, nat_le, Bool, true, false, if◌then◌else◌, List, [], ◌∷◌, Option, Some, None, refl}
 use Rattle.foyer_block.specs.Index.{address_of}
-use Rattle.foyer_block.specs.Insertion.{left_out}
+use Rattle.foyer_block.specs.Insertion.{displaced}
 use Rattle.foyer_block.specs.declared.indexer.EntryAddress.{EntryAddress}
 use Rattle.foyer_block.specs.declared.indexer.Index.{Index}
 use Rattle.foyer_block.specs.declared.indexer.Index.TheVariants.{Address, Tombstone}
 use Rattle.foyer_format.specs.Page.{page_up}
-use Rattle.foyer_model.specs.Queue.{spoiled_by}
+use Rattle.foyer_model.specs.Queue.{invalidated_by}
 use Rattle.foyer_core.specs.Content.{Meaning}
-use Rattle.foyer_core.specs.Meets.{machine}
-use Rattle.foyer_core.specs.Sizes.{IsSound}
+use Rattle.foyer_core.specs.Refines.{machine}
+use Rattle.foyer_core.specs.Sizes.{AreValid}
 use Rattle.foyer_core.specs.Standing.{slot_of}
 use Rattle.foyer_core.specs.declared.settings.Settings.{Settings}
 
@@ -18,8 +18,8 @@ abbrev pub bytes_of : Option EntryAddress → List (ℕ × ℕ)
 bytes_of None = []
 bytes_of (Some a) = (a.block, page_up a.len) ∷ []
 
-pub pushed_out : {K V P : Type 0} (m : Meaning K V P) (s : Settings) (sound : IsSound s) (held : Option Index) (sequence : ℕ)
-    → bytes_of (left_out held (Tombstone sequence)) ≡ spoiled_by (machine m s sound) sequence (slot_of held)
+pub pushed_out : {K V P : Type 0} (m : Meaning K V P) (s : Settings) (sound : AreValid s) (held : Option Index) (sequence : ℕ)
+    → bytes_of (displaced held (Tombstone sequence)) ≡ invalidated_by (machine m s sound) sequence (slot_of held)
 pushed_out m s sound None sequence = refl
 pushed_out m s sound (Some (Tombstone t)) sequence = go (nat_le t sequence)
   where

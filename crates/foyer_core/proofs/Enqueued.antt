@@ -5,23 +5,23 @@ use Rattle.foyer_format.specs.declared.serde.ages.Age.TheVariants as age
 use Rattle.foyer_model.specs.Numbers.{last_number}
 use Rattle.foyer_model.specs.Queue.{size_queued, IsIgnored}
 use Rattle.foyer_model.specs.State.{State}
-use Rattle.foyer_model.specs.Step as plain
+use Rattle.foyer_model.specs.Step as model_step
 use Rattle.foyer_core.specs.Asked.{known_age}
 use Rattle.foyer_core.specs.Content.{Content, Meaning}
-use Rattle.foyer_core.specs.Meets.{machine}
-use Rattle.foyer_core.specs.Sizes.{IsSound}
+use Rattle.foyer_core.specs.Refines.{machine}
+use Rattle.foyer_core.specs.Sizes.{AreValid}
 use Rattle.foyer_core.specs.Standing.{IsStateOf}
 use Rattle.foyer_core.specs.declared.settings.Settings.{Settings}
 use Rattle.foyer_core.specs.declared.state.Core.{Core}
 use Rattle.foyer_core.proofs.StateLemmas.{size_queued_is}
 
-known_young : (o : Option Age) → known_age o ≡ plain.Young → o ≡ Some age.Young
+known_young : (o : Option Age) → known_age o ≡ model_step.Young → o ≡ Some age.Young
 known_young None is = absurd (cc)
 known_young (Some age.Fresh) is = absurd (cc)
 known_young (Some age.Young) is = refl
 known_young (Some age.Old) is = absurd (cc)
 
-module _ {K V P A : Type 0} (m : Meaning K V P) (s : Settings) (sound : IsSound s) (core : Core K V P A) (it : State Content) (stands : IsStateOf m s core it) where
+module _ {K V P A : Type 0} (m : Meaning K V P) (s : Settings) (sound : AreValid s) (core : Core K V P A) (it : State Content) (stands : IsStateOf m s core it) where
   pub size_is : size_queued s.flushers it.flushers ≡ min core.queued last_number
   size_is = size_queued_is s.flushers it.flushers ∙ ap (λ n. min n last_number) (sym stands.queued.sum)
 

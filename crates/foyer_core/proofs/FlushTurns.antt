@@ -2,28 +2,28 @@
 use Rattle.std.proofs.Common.{◌≡◌, ◌≢◌, ℕ, ◌+◌, ◌-◌, ◌*◌, ◌^◌, ◌<◌, ◌≤◌, false, List, [], ◌∷◌, length, map, slice_set, slice_index_or, Option, Some, None, IsSome, IsSomeAnd, Result, Ok, Err, is_ok, inl, refl, sym, ap, subst, ◌∙◌, arith}
 use Rattle.foyer_block.specs.Index.{IndexMap}
 use Rattle.foyer_device.specs.declared.error.Error.{Error}
-use Rattle.foyer_model.specs.Flush.{Tells}
+use Rattle.foyer_model.specs.Flush.{Describes}
 use Rattle.foyer_model.specs.InTurn as model
 use Rattle.foyer_model.specs.Numbers.{put, last_number}
-use Rattle.foyer_model.specs.Refusal.{Draws, Grows}
-use Rattle.foyer_model.specs.Reply as replies
-use Rattle.foyer_model.specs.State as plainly
-use Rattle.foyer_model.specs.Step as steps
+use Rattle.foyer_model.specs.Refusal.{Draws, Allocates}
+use Rattle.foyer_model.specs.Reply as model_reply
+use Rattle.foyer_model.specs.State as model_state
+use Rattle.foyer_model.specs.Step as model_step
 use Rattle.foyer_core.specs.Asked.{went_well, step_of}
-use Rattle.foyer_core.specs.Batches.{StandsAt, IsDone}
+use Rattle.foyer_core.specs.Batches.{StandsAt, FlusherStep}
 use Rattle.foyer_core.specs.Content.{Content, Meaning}
-use Rattle.foyer_core.specs.Flushing.{ArePlacedAs, AreWriting, AreBatched}
-use Rattle.foyer_core.specs.Meets.{machine, IsTurned}
-use Rattle.foyer_core.specs.Sizes.{IsSound}
+use Rattle.foyer_core.specs.Flushing.{AreLaidOutAs, AreWriting, AreBatched}
+use Rattle.foyer_core.specs.Refines.{machine, IsRefinedUncounted}
+use Rattle.foyer_core.specs.Sizes.{AreValid}
 use Rattle.foyer_core.specs.Standing.{IsStateOf, AreFlushersAs, size_in, size_of_all}
-use Rattle.foyer_core.specs.Turns.{HasBlock}
+use Rattle.foyer_core.specs.FlushInTurn.{HasBlock}
 use Rattle.foyer_core.specs.Unchanged.{seen, IsUnchanged}
 use Rattle.foyer_core.proofs.FlushLemmas.{none_placed, none_written}
-use Rattle.foyer_core.proofs.NextLemmas.{would_tell}
+use Rattle.foyer_core.proofs.NextLemmas.{would_issue}
 use Rattle.foyer_core.proofs.StateLemmas.{flushers_count, flusher_at, flusher_put, size_put, unchanged_stands}
 use Rattle.foyer_core.specs.declared.block.flusher.Batch.{Batch}
 use Rattle.foyer_core.specs.declared.block.flusher.Flusher.{Flusher}
-use Rattle.foyer_core.specs.declared.block.flusher.Placed.{Placed}
+use Rattle.foyer_core.specs.declared.block.flusher.LaidOut.{LaidOut}
 use Rattle.foyer_core.specs.declared.block.flusher.Writing.{Writing}
 use Rattle.foyer_core.specs.declared.reply.Reply.TheVariants as reply
 use Rattle.foyer_core.specs.declared.settings.Settings.{Settings}
@@ -37,8 +37,8 @@ went_is (Ok x) = refl
 went_is (Err e) = refl
 
 module _ {K V P A : Type 0} (m : Meaning K V P) (s : Settings) where
-  -- a flusher of a core that stands for a plain state
-  pub stands_at : (core : Core K V P A) (it : plainly.State Content) (f : ℕ) (φ : Flusher K V P A) → IsStateOf m s core it
+  -- a flusher of a core that stands for a state of the model
+  pub stands_at : (core : Core K V P A) (it : model_state.State Content) (f : ℕ) (φ : Flusher K V P A) → IsStateOf m s core it
       → f < length core.flushers.items → φ ≡ slice_index_or core.flushers.items f φ
       → StandsAt m s f it (seen φ) core.index core.blocks.items core.clean.items core.waiting.items
   stands_at core it f φ stands lt is = record {
@@ -50,13 +50,13 @@ module _ {K V P A : Type 0} (m : Meaning K V P) (s : Settings) where
     destroy = stands.destroy;
   }
 
-  pub flusher_there : (core : Core K V P A) (it : plainly.State Content) (f : ℕ) → IsStateOf m s core it → f < length core.flushers.items → f < s.flushers
+  pub flusher_there : (core : Core K V P A) (it : model_state.State Content) (f : ℕ) → IsStateOf m s core it → f < length core.flushers.items → f < s.flushers
   flusher_there core it f stands lt = let count : length core.flushers.items ≡ s.flushers = flushers_count m s core.flushers.items it.flushers stands.flushers in omega arith
 
   -- what it did and left, in the whole core
-  pub core_stands : (sound : IsSound s) (old new : Core K V P A) (it : plainly.State Content) (f : ℕ) (ψ : Flusher K V P A) (given : steps.Step Content) (answer : replies.Reply Content)
+  pub core_stands : (sound : AreValid s) (old new : Core K V P A) (it : model_state.State Content) (f : ℕ) (ψ : Flusher K V P A) (given : model_step.Step Content) (answer : model_reply.Reply Content)
       → IsStateOf m s old it → f < length old.flushers.items
-      → (done : IsDone m s sound given f it answer (seen ψ) new.index new.blocks.items new.clean.items new.waiting.items)
+      → (done : FlusherStep m s sound given f it answer (seen ψ) new.index new.blocks.items new.clean.items new.waiting.items)
       → new.flushers.items ≡ slice_set old.flushers.items f ψ
       → new.settings ≡ old.settings → new.next ≡ old.next → new.steps ≡ old.steps → new.closed ≡ old.closed → new.queued ≡ old.queued
       → IsStateOf m s new done.after
@@ -84,11 +84,11 @@ module _ {K V P A : Type 0} (m : Meaning K V P) (s : Settings) where
         blocks = done.blocks;
         clean = done.clean;
         waiting = done.waiting;
-        reclaims = λ b. ap (λ (r : ℕ → Option plainly.Reclaim). r b) done.reclaims ∙ stands.reclaims b;
+        reclaims = λ b. ap (λ (r : ℕ → Option model_state.Reclaim). r b) done.reclaims ∙ stands.reclaims b;
         destroy = done.destroy ∙ stands.destroy;
       }
 
-  some_placed : (pieces : List (Record K V P)) (xs : List (Placed A)) → ArePlacedAs m s pieces xs [] → xs ≡ []
+  some_placed : (pieces : List (Record K V P)) (xs : List (LaidOut A)) → AreLaidOutAs m s pieces xs [] → xs ≡ []
   some_placed pieces [] are = refl
   some_placed pieces (x ∷ []) are = absurd are
   some_placed pieces (x ∷ y ∷ xs) are = absurd are
@@ -98,16 +98,16 @@ module _ {K V P A : Type 0} (m : Meaning K V P) (s : Settings) where
   none_written_here pieces (Some w) are = absurd are
 
   -- what is in turn for a flusher, and for the plain one
-  pub has_block : (own : Option ℕ) (o : Option (Batch K V P A)) (p : Option (plainly.Batch Content)) → AreBatched m s own o p
+  pub has_block : (own : Option ℕ) (o : Option (Batch K V P A)) (p : Option (model_state.Batch Content)) → AreBatched m s own o p
       → IsSomeAnd o (λ batch. (batch.writing ≡ None) × (batch.blocks.items ≢ [])) → model.WantsBlock p
   has_block own (Some batch) (Some it) are has = (
-    λ none. has.1 (some_placed batch.pieces.items batch.blocks.items (subst (λ ss. ArePlacedAs m s batch.pieces.items batch.blocks.items ss) none are.blocks)),
+    λ none. has.1 (some_placed batch.pieces.items batch.blocks.items (subst (λ ss. AreLaidOutAs m s batch.pieces.items batch.blocks.items ss) none are.blocks)),
     none_written m s batch.pieces.items batch.writing it.writing are.writing has.0,
   )
   has_block own (Some batch) None are has = absurd are
   has_block own None p are has = absurd has
 
-  pub wants_block : (own : Option ℕ) (o : Option (Batch K V P A)) (p : Option (plainly.Batch Content)) → AreBatched m s own o p
+  pub wants_block : (own : Option ℕ) (o : Option (Batch K V P A)) (p : Option (model_state.Batch Content)) → AreBatched m s own o p
       → model.WantsBlock p → IsSomeAnd o (λ batch. (batch.writing ≡ None) × (batch.blocks.items ≢ []))
   wants_block own (Some batch) (Some it) are wants = (
     none_written_here batch.pieces.items batch.writing (subst (λ v. AreWriting m s batch.pieces.items batch.writing v) wants.1 are.writing),
@@ -116,70 +116,70 @@ module _ {K V P A : Type 0} (m : Meaning K V P) (s : Settings) where
   wants_block own o None are wants = absurd wants
   wants_block own None (Some it) are wants = absurd are
 
-  some_writing : (pieces : List (Record K V P)) (o : Option (Writing A)) (v : Option (plainly.Writing Content)) → AreWriting m s pieces o v → IsSome o
-      → (w : plainly.Writing Content) × (v ≡ Some w)
+  some_writing : (pieces : List (Record K V P)) (o : Option (Writing A)) (v : Option (model_state.Writing Content)) → AreWriting m s pieces o v → IsSome o
+      → (w : model_state.Writing Content) × (v ≡ Some w)
   some_writing pieces None v are is = absurd (cc)
   some_writing pieces (Some w) None are is = absurd are
   some_writing pieces (Some w) (Some v) are is = (v, refl)
 
-  writing_some : (pieces : List (Record K V P)) (o : Option (Writing A)) (v : Option (plainly.Writing Content)) → AreWriting m s pieces o v
-      → (w : plainly.Writing Content) → v ≡ Some w → IsSome o
+  writing_some : (pieces : List (Record K V P)) (o : Option (Writing A)) (v : Option (model_state.Writing Content)) → AreWriting m s pieces o v
+      → (w : model_state.Writing Content) → v ≡ Some w → IsSome o
   writing_some pieces None None are w is = absurd (cc)
   writing_some pieces None (Some v) are w is = absurd are
   writing_some pieces (Some o) v are w is = refl
 
-  pub is_writing : (own : Option ℕ) (o : Option (Batch K V P A)) (p : Option (plainly.Batch Content)) → AreBatched m s own o p
+  pub is_writing : (own : Option ℕ) (o : Option (Batch K V P A)) (p : Option (model_state.Batch Content)) → AreBatched m s own o p
       → IsSomeAnd o (λ batch. IsSome batch.writing) → model.IsWriting p
   is_writing own (Some batch) (Some it) are has = some_writing batch.pieces.items batch.writing it.writing are.writing has
   is_writing own (Some batch) None are has = absurd are
   is_writing own None p are has = absurd has
 
-  pub must_write : (own : Option ℕ) (o : Option (Batch K V P A)) (p : Option (plainly.Batch Content)) → AreBatched m s own o p
+  pub must_write : (own : Option ℕ) (o : Option (Batch K V P A)) (p : Option (model_state.Batch Content)) → AreBatched m s own o p
       → model.IsWriting p → IsSomeAnd o (λ batch. IsSome batch.writing)
   must_write own (Some batch) (Some it) are is = writing_some batch.pieces.items batch.writing it.writing are.writing is.0 is.1
   must_write own o None are is = absurd is
   must_write own None (Some it) are is = absurd are
 
-  pub is_written : (own : Option ℕ) (o : Option (Batch K V P A)) (p : Option (plainly.Batch Content)) → AreBatched m s own o p
+  pub is_written : (own : Option ℕ) (o : Option (Batch K V P A)) (p : Option (model_state.Batch Content)) → AreBatched m s own o p
       → IsSomeAnd o (λ batch. (batch.writing ≡ None) × (batch.blocks.items ≡ [])) → model.IsWritten false p
   is_written own (Some batch) (Some it) are has =
       (none_placed m s batch.pieces.items batch.blocks.items it.blocks are.blocks has.1, none_written m s batch.pieces.items batch.writing it.writing are.writing has.0, inl refl)
   is_written own (Some batch) None are has = absurd are
   is_written own None p are has = absurd has
 
-  pub was_written : (own : Option ℕ) (o : Option (Batch K V P A)) (p : Option (plainly.Batch Content)) → AreBatched m s own o p
+  pub was_written : (own : Option ℕ) (o : Option (Batch K V P A)) (p : Option (model_state.Batch Content)) → AreBatched m s own o p
       → model.IsWritten false p → IsSomeAnd o (λ batch. (batch.writing ≡ None) × (batch.blocks.items ≡ []))
   was_written own (Some batch) (Some it) are is = (
     none_written_here batch.pieces.items batch.writing (subst (λ v. AreWriting m s batch.pieces.items batch.writing v) is.1 are.writing),
-    some_placed batch.pieces.items batch.blocks.items (subst (λ ss. ArePlacedAs m s batch.pieces.items batch.blocks.items ss) is.0 are.blocks),
+    some_placed batch.pieces.items batch.blocks.items (subst (λ ss. AreLaidOutAs m s batch.pieces.items batch.blocks.items ss) is.0 are.blocks),
   )
   was_written own o None are is = absurd is
   was_written own None (Some it) are is = absurd are
 
   -- a step that isn't in turn
-  pub not_now : (sound : IsSound s) (old new : Core K V P A) (it : plainly.State Content) (given : Step K V P A) → IsUnchanged old new → IsStateOf m s old it
+  pub not_now : (sound : AreValid s) (old new : Core K V P A) (it : model_state.State Content) (given : Step K V P A) → IsUnchanged old new → IsStateOf m s old it
       → old.steps < 2 ^ 64 - 1 → (Draws (step_of m given) → ⊥) → (model.InTurn (machine m s sound) it (step_of m given) → ⊥)
-      → IsTurned m s sound given (reply.NotNow given) new it
+      → IsRefinedUncounted m s sound given (reply.NotNow given) new it
   not_now sound old new it given same stands few draws out =
       let counted : it.steps ≡ old.steps = stands.steps in
       let early : it.steps < last_number = omega arith in
       record {
         after = it;
-        it = replies.NotNow (step_of m given);
+        it = model_reply.NotNow (step_of m given);
         stands = unchanged_stands m s old new it same stands;
         reply = refl;
         turns = (refl, (early, (λ d. absurd (draws d)), out), refl);
       }
 
   -- a flusher that demands a block would get some reply, whatever memory there is
-  pub would_answer : (sound : IsSound s) (it : plainly.State Content) (f : ℕ) (φ : Flusher K V P A) (slots : IndexMap) (states : List BlockState) (ids waiters : List ℕ)
+  pub would_answer : (sound : AreValid s) (it : model_state.State Content) (f : ℕ) (φ : Flusher K V P A) (slots : IndexMap) (states : List BlockState) (ids waiters : List ℕ)
       → StandsAt m s f it (seen φ) slots states ids waiters → HasBlock φ
-      → (answer : replies.Reply Content) × (new : plainly.State Content)
-      × Tells (machine m s sound) it f (it.flushers f).batch answer new × Grows {C = Content} (steps.FlushBlock f) answer
+      → (answer : model_reply.Reply Content) × (new : model_state.State Content)
+      × Describes (machine m s sound) it f (it.flushers f).batch answer new × Allocates {C = Content} (model_step.FlushBlock f) answer
   would_answer sound it f φ slots states ids waiters stands has = go φ.batch refl has
     where
       go : (o : Option (Batch K V P A)) → φ.batch ≡ o → IsSomeAnd o (λ batch. (batch.writing ≡ None) × (batch.blocks.items ≢ []))
-          → (answer : replies.Reply Content) × (new : plainly.State Content)
-          × Tells (machine m s sound) it f (it.flushers f).batch answer new × Grows {C = Content} (steps.FlushBlock f) answer
+          → (answer : model_reply.Reply Content) × (new : model_state.State Content)
+          × Describes (machine m s sound) it f (it.flushers f).batch answer new × Allocates {C = Content} (model_step.FlushBlock f) answer
       go None e has = absurd has
-      go (Some batch) e has = would_tell m s sound f it (seen φ) slots states ids waiters stands batch e has.1
+      go (Some batch) e has = would_issue m s sound f it (seen φ) slots states ids waiters stands batch e has.1

@@ -1,13 +1,13 @@
 -- The demands of the laws, for every code and all sizes.
 use Rattle.std.proofs.Common.{ℕ, Bool, false, List, [], None}
 use Rattle.foyer_model.specs.Laws.{Demands}
-use Rattle.foyer_model.specs.Placing.{PlacesAll}
+use Rattle.foyer_model.specs.Layout.{PlacesAll}
 use Rattle.foyer_core.specs.Content.{Meaning}
 use Rattle.foyer_core.specs.InOneBlock.{IsInOneBlock}
-use Rattle.foyer_core.specs.Plain.{rules_of, IsSpelled}
-use Rattle.foyer_core.specs.Sizes.{IsSound}
+use Rattle.foyer_core.specs.CoreRules.{rules_of, IsEncoded}
+use Rattle.foyer_core.specs.Sizes.{AreValid}
 use Rattle.foyer_core.specs.declared.settings.Settings.{Settings}
-use Rattle.foyer_core.proofs.PlacedLemmas.{keeps_records, places_all}
+use Rattle.foyer_core.proofs.LayoutLemmas.{keeps_records, places_all}
 use Rattle.foyer_core.proofs.TripLemmas.{round_trip}
 
 -- the demands don't depend on the types of keys and values
@@ -21,13 +21,13 @@ any_meaning is_key is_value = record {
   age_of = λ p. None;
 }
 
-pub demands : (is_key is_value : List ℕ → Bool) (s : Settings) (sound : IsSound s)
-    → Demands (rules_of is_key is_value s sound) (IsInOneBlock s.blob_index_size) (IsSpelled is_key is_value)
+pub demands : (is_key is_value : List ℕ → Bool) (s : Settings) (sound : AreValid s)
+    → Demands (rules_of is_key is_value s sound) (IsInOneBlock s.blob_index_size) (IsEncoded is_key is_value)
 demands is_key is_value s sound = record {
   trips = round_trip (any_meaning is_key is_value) s sound;
   places = keeps_records (any_meaning is_key is_value) s sound;
 }
 
-pub places : (is_key is_value : List ℕ → Bool) (s : Settings) (sound : IsSound s)
+pub places : (is_key is_value : List ℕ → Bool) (s : Settings) (sound : AreValid s)
     → PlacesAll (rules_of is_key is_value s sound) (IsInOneBlock s.blob_index_size)
 places is_key is_value s sound = places_all (any_meaning is_key is_value) s sound

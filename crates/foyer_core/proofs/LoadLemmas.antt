@@ -13,13 +13,13 @@ use Rattle.foyer_format.specs.declared.serde.ages.Age.{Age}
 use Rattle.foyer_model.specs.Load.{judged, Judges, IsDecoded, age_at}
 use Rattle.foyer_model.specs.Numbers.{last_number}
 use Rattle.foyer_model.specs.Record.{NoRecord, Holds}
-use Rattle.foyer_model.specs.Reply as replies
+use Rattle.foyer_model.specs.Reply as model_reply
 use Rattle.foyer_model.specs.State.{State}
 use Rattle.foyer_core.specs.Asked.{ticket_of, age_of}
 use Rattle.foyer_core.specs.Content.{Content, Meaning, content}
-use Rattle.foyer_core.specs.Meets.{machine, IsTurned, missed}
-use Rattle.foyer_core.specs.Plain.{outcome_of}
-use Rattle.foyer_core.specs.Sizes.{IsSound}
+use Rattle.foyer_core.specs.Refines.{machine, IsRefinedUncounted, missed}
+use Rattle.foyer_core.specs.CoreRules.{outcome_of}
+use Rattle.foyer_core.specs.Sizes.{AreValid}
 use Rattle.foyer_core.specs.Standing.{IsStateOf}
 use Rattle.foyer_core.specs.declared.reply.Reply.TheVariants as reply
 use Rattle.foyer_core.specs.declared.settings.Settings.{Settings}
@@ -28,7 +28,7 @@ use Rattle.foyer_core.specs.declared.step.Step.TheVariants as step
 use Rattle.foyer_core.specs.declared.step.Ticket.{Ticket}
 use Rattle.foyer_core.proofs.TurnLemmas.{same, refused}
 
-module _ {K V P : Type 0} (m : Meaning K V P) (s : Settings) (sound : IsSound s) (it : State Content) (t : Ticket) where
+module _ {K V P : Type 0} (m : Meaning K V P) (s : Settings) (sound : AreValid s) (it : State Content) (t : Ticket) where
   -- another filling has begun
   pub judged_past : (bs : List ℕ) → (t.address.filling ≡ it.filling t.address.block → ⊥) → judged (machine m s sound) it (ticket_of t) bs ≡ NoRecord
   judged_past bs ne = go (t.address.filling == it.filling t.address.block) refl
@@ -47,28 +47,28 @@ module _ {K V P : Type 0} (m : Meaning K V P) (s : Settings) (sound : IsSound s)
       (eq-eqb t.address.filling (it.filling t.address.block) filling)
       ∙ ap outcome_of is
 
-module _ {K V P A : Type 0} (m : Meaning K V P) (s : Settings) (sound : IsSound s) (it : State Content) (t : Ticket) (bytes : Vec ℕ A)
-    (there : t.address.block < s.blocks) (as_told : length bytes.items ≡ page_up t.address.len) where
+module _ {K V P A : Type 0} (m : Meaning K V P) (s : Settings) (sound : AreValid s) (it : State Content) (t : Ticket) (bytes : Vec ℕ A)
+    (there : t.address.block < s.blocks) (as_issued : length bytes.items ≡ page_up t.address.len) where
   pub misses : (new : Core K V P A) → IsStateOf m s new (missed it t) → judged (machine m s sound) it (ticket_of t) bytes.items ≡ NoRecord
-      → IsTurned m s sound (step.LoadEnd t (Ok bytes)) reply.Miss new it
+      → IsRefinedUncounted m s sound (step.LoadEnd t (Ok bytes)) reply.Miss new it
   misses new stands is = record {
     after = missed it t;
-    it = replies.Miss;
+    it = model_reply.Miss;
     stands = stands;
     reply = refl;
-    turns = ((there, as_told), subst (λ o. Judges (machine m s sound) it (ticket_of t) o replies.Miss (missed it t)) (sym is) refl);
+    turns = ((there, as_issued), subst (λ o. Judges (machine m s sound) it (ticket_of t) o model_reply.Miss (missed it t)) (sym is) refl);
   }
 
   pub answers : (core : Core K V P A) (key : K) (value : V) (age : Age) → IsStateOf m s core it
       → judged (machine m s sound) it (ticket_of t) bytes.items ≡ Holds (content m key value)
       → age_of age ≡ age_at (machine m s sound) it t.address.block
-      → IsTurned m s sound (step.LoadEnd t (Ok bytes)) (reply.Entry key value age) core it
+      → IsRefinedUncounted m s sound (step.LoadEnd t (Ok bytes)) (reply.Entry key value age) core it
   answers core key value age stands is aged = record {
     after = it;
-    it = replies.Entry (content m key value) (age_of age);
+    it = model_reply.Entry (content m key value) (age_of age);
     stands = stands;
     reply = refl;
-    turns = ((there, as_told), subst (λ o. Judges (machine m s sound) it (ticket_of t) o (replies.Entry (content m key value) (age_of age)) it) (sym is) (refl, aged, refl));
+    turns = ((there, as_issued), subst (λ o. Judges (machine m s sound) it (ticket_of t) o (model_reply.Entry (content m key value) (age_of age)) it) (sym is) (refl, aged, refl));
   }
 
   decoded : (o : format.Outcome) → ReachesPair o → judged (machine m s sound) it (ticket_of t) bytes.items ≡ outcome_of o
@@ -81,14 +81,14 @@ module _ {K V P A : Type 0} (m : Meaning K V P) (s : Settings) (sound : IsSound 
   -- a record of this outcome is refused by this error
   pub refuses : (core : Core K V P A) (o : format.Outcome) (e : Error) → IsStateOf m s core it → it.steps < last_number
       → judged (machine m s sound) it (ticket_of t) bytes.items ≡ outcome_of o → IsRecordFault o e
-      → IsTurned m s sound (step.LoadEnd t (Ok bytes)) (reply.Refused (kind_of e) (step.LoadEnd t (Ok bytes))) core it
+      → IsRefinedUncounted m s sound (step.LoadEnd t (Ok bytes)) (reply.Refused (kind_of e) (step.LoadEnd t (Ok bytes))) core it
   refuses core o error.Unsupported stands early is fault =
-      refused m s sound (step.LoadEnd t (Ok bytes)) core core it kind.Unsupported replies.Unsupported refl (same core) stands
-      (early, ((there, as_told), is ∙ ap outcome_of fault))
+      refused m s sound (step.LoadEnd t (Ok bytes)) core core it kind.Unsupported model_reply.Unsupported refl (same core) stands
+      (early, ((there, as_issued), is ∙ ap outcome_of fault))
   refuses core o error.Parse stands early is fault =
-      refused m s sound (step.LoadEnd t (Ok bytes)) core core it kind.Parse replies.Parse refl (same core) stands
-      (early, ((there, as_told), is ∙ ap outcome_of fault))
+      refused m s sound (step.LoadEnd t (Ok bytes)) core core it kind.Parse model_reply.Parse refl (same core) stands
+      (early, ((there, as_issued), is ∙ ap outcome_of fault))
   refuses core o error.Memory stands early is fault =
-      refused m s sound (step.LoadEnd t (Ok bytes)) core core it kind.Memory replies.Memory refl (same core) stands
-      (early, ((there, as_told), decoded o fault is))
+      refused m s sound (step.LoadEnd t (Ok bytes)) core core it kind.Memory model_reply.Memory refl (same core) stands
+      (early, ((there, as_issued), decoded o fault is))
   refuses core o e stands early is fault = absurd fault

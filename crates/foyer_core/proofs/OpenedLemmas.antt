@@ -7,14 +7,14 @@ use Rattle.foyer_block.specs.declared.indexer.Index.TheVariants.{Address}
 use Rattle.foyer_model.specs.Ids.{ids, is_id_in, AreDistinct}
 use Rattle.foyer_model.specs.Opened.{IsOpened as IsOpenedWorld, idle as plain_idle, clean_among}
 use Rattle.foyer_model.specs.Rules.{Rules}
-use Rattle.foyer_model.specs.State as plainly
+use Rattle.foyer_model.specs.State as model_state
 use Rattle.foyer_model.proofs.Ids.{distinct_append}
 use Rattle.foyer_core.specs.Begins.{first_state, first_world}
 use Rattle.foyer_core.specs.Content.{Content, Meaning}
 use Rattle.foyer_core.specs.Flushing.{IsFlusherAs}
-use Rattle.foyer_core.specs.Meets.{machine}
+use Rattle.foyer_core.specs.Refines.{machine}
 use Rattle.foyer_core.specs.Opened.{IsOpened, idle, unused, numbers_below}
-use Rattle.foyer_core.specs.Sizes.{IsSound}
+use Rattle.foyer_core.specs.Sizes.{AreValid}
 use Rattle.foyer_core.specs.Standing.{IsStateOf, IsIndexedAs, AreFlushersAs, AreBlocksAs, AreCleanAs, AllBelow, IsBlockAs, slot_of, size_of_all}
 use Rattle.foyer_core.specs.Unchanged.{Seen}
 use Rattle.foyer_core.specs.declared.settings.Settings.{Settings}
@@ -67,21 +67,21 @@ no_sizes : (n : ℕ) (rules : Rules Content) → size_of_all n (λ f. plain_idle
 no_sizes zero rules = refl
 no_sizes (suc n) rules = let rest : size_of_all n (λ f. plain_idle rules) ≡ 0 = no_sizes n rules in omega arith
 
-all_clean : (xs : List ℕ) → clean_among (λ b. plainly.Clean) xs ≡ xs
+all_clean : (xs : List ℕ) → clean_among (λ b. model_state.Clean) xs ≡ xs
 all_clean [] = refl
 all_clean (x ∷ xs) = ap (λ ys. x ∷ ys) (all_clean xs)
 
-block_stands : (it : BlockState) → unused ≡ it → IsBlockAs it plainly.Clean 0 plainly.no_stats
-block_stands it is = subst (λ x. IsBlockAs x plainly.Clean 0 plainly.no_stats) is (record { place = refl; filling = refl; stats = refl })
+block_stands : (it : BlockState) → unused ≡ it → IsBlockAs it model_state.Clean 0 model_state.no_stats
+block_stands it is = subst (λ x. IsBlockAs x model_state.Clean 0 model_state.no_stats) is (record { place = refl; filling = refl; stats = refl })
 
-module _ {K V P A : Type 0} (m : Meaning K V P) (s : Settings) (sound : IsSound s) where
+module _ {K V P A : Type 0} (m : Meaning K V P) (s : Settings) (sound : AreValid s) where
   idle_stands : (x : Seen K V P A) → idle s.blob_index_size ≡ x → IsFlusherAs m s x (plain_idle (machine m s sound))
   idle_stands x is = subst (λ y. IsFlusherAs m s y (plain_idle (machine m s sound))) is (record {
     queue = refl;
     buffer = tt;
     bytes = refl;
     marks = refl;
-    spoils = refl;
+    invalidated = refl;
     waits = refl;
     own = refl;
     there = tt;
@@ -110,7 +110,7 @@ module _ {K V P A : Type 0} (m : Meaning K V P) (s : Settings) (sound : IsSound 
       sum = opened.queued ∙ sym (no_sizes s.flushers (machine m s sound));
       bound = let none : core.queued ≡ 0 = opened.queued in omega arith;
     };
-    blocks = subst (λ xs. AreBlocksAs s xs (λ b. plainly.Clean) (λ b. 0) (λ b. plainly.no_stats)) (sym opened.blocks) (record {
+    blocks = subst (λ xs. AreBlocksAs s xs (λ b. model_state.Clean) (λ b. 0) (λ b. model_state.no_stats)) (sym opened.blocks) (record {
       count = replicate_count s.blocks unused;
       all = λ b it is. block_stands it (replicate_at s.blocks b unused it is);
     });
@@ -147,8 +147,8 @@ first_opened rules bytes = record {
   begun_writes = refl;
   committed = refl;
   loads = λ n. refl;
-  told = refl;
+  issued = refl;
   scans = λ b. refl;
-  pens = λ f. refl;
-  wipes = λ b. refl;
+  block_writes = λ f. refl;
+  clean_states = λ b. refl;
 }

@@ -1,4 +1,4 @@
--- The length of a record that was pushed is the one that was told.
+-- The length of a record that was pushed is the one that was issued.
 use Rattle.std.proofs.Common.{ℕ, List, length, subst}
 use Rattle.foyer_format.specs.Pushing.{Pushes}
 

@@ -1,7 +1,7 @@
 -- A submission at the end of a flusher's queue.
 use Rattle.std.proofs.Common.{◌≡◌, ℕ, ◌+◌, ◌-◌, ◌*◌, ◌^◌, ◌<◌, ◌≤◌, List, [], ◌∷◌, ◌++◌, map, length, slice_set, slice_index_or, sym, ap, subst, ◌∙◌, arith}
 use Rattle.foyer_model.specs.Numbers.{put}
-use Rattle.foyer_model.specs.State as plainly
+use Rattle.foyer_model.specs.State as model_state
 use Rattle.foyer_core.specs.Content.{Content, Meaning}
 use Rattle.foyer_core.specs.Flushing.{IsFlusherAs, submission_of}
 use Rattle.foyer_core.specs.Standing.{AreFlushersAs, IsSizedAs, size_in, size_of_all}
@@ -13,11 +13,11 @@ use Rattle.foyer_core.proofs.Opening.{map-end}
 use Rattle.foyer_core.proofs.StateLemmas.{flusher_at, flusher_put, size_put, size_pushed}
 
 -- the plain flusher with one submission more
-abbrev pub with_queued : plainly.Flusher Content → plainly.Submission Content → plainly.Flusher Content
+abbrev pub with_queued : model_state.Flusher Content → model_state.Submission Content → model_state.Flusher Content
 with_queued φ x = record φ { queue = φ.queue ++ x ∷ [] }
 
 module _ {K V P A : Type 0} (m : Meaning K V P) (s : Settings) where
-  pub queue_pushed : (φs : List (Flusher K V P A)) (its : ℕ → plainly.Flusher Content) (f : ℕ) (φ ψ : Flusher K V P A) (x : Submission K V P A)
+  pub queue_pushed : (φs : List (Flusher K V P A)) (its : ℕ → model_state.Flusher Content) (f : ℕ) (φ ψ : Flusher K V P A) (x : Submission K V P A)
       → AreFlushersAs m s (map seen φs) its → f < length φs → φ ≡ slice_index_or φs f φ
       → seen ψ ≡ record (seen φ) { queue = φ.queue.items ++ x ∷ [] }
       → AreFlushersAs m s (map seen (slice_set φs f ψ)) (put its f (with_queued (its f) (submission_of m x)))
@@ -29,7 +29,7 @@ module _ {K V P A : Type 0} (m : Meaning K V P) (s : Settings) where
         buffer = stands.buffer;
         bytes = stands.bytes;
         marks = stands.marks;
-        spoils = stands.spoils;
+        invalidated = stands.invalidated;
         waits = stands.waits;
         own = stands.own;
         there = stands.there;
@@ -40,8 +40,8 @@ module _ {K V P A : Type 0} (m : Meaning K V P) (s : Settings) where
         batch = stands.batch;
       }))
 
-  -- the same, where number and submission are told in another way
-  pub queue_pushed_at : (φs : List (Flusher K V P A)) (its : ℕ → plainly.Flusher Content) (f k : ℕ) (φ ψ : Flusher K V P A) (x : Submission K V P A) (y : plainly.Submission Content)
+  -- the same, where number and submission are issued in another way
+  pub queue_pushed_at : (φs : List (Flusher K V P A)) (its : ℕ → model_state.Flusher Content) (f k : ℕ) (φ ψ : Flusher K V P A) (x : Submission K V P A) (y : model_state.Submission Content)
       → f ≡ k → submission_of m x ≡ y → AreFlushersAs m s (map seen φs) its → f < length φs → φ ≡ slice_index_or φs f φ
       → seen ψ ≡ record (seen φ) { queue = φ.queue.items ++ x ∷ [] }
       → AreFlushersAs m s (map seen (slice_set φs f ψ)) (put its k (with_queued (its k) y))
@@ -51,7 +51,7 @@ module _ {K V P A : Type 0} (m : Meaning K V P) (s : Settings) where
       (queue_pushed φs its f φ ψ x are lt is pushed))
 
 -- and the sum of the queued sizes
-pub size_grown : (s : Settings) (its : ℕ → plainly.Flusher Content) (f : ℕ) (x : plainly.Submission Content) (queued next more later : ℕ)
+pub size_grown : (s : Settings) (its : ℕ → model_state.Flusher Content) (f : ℕ) (x : model_state.Submission Content) (queued next more later : ℕ)
     → IsSizedAs s queued next its → f < s.flushers → more ≡ queued + size_in (x ∷ []) → more ≤ later * 2 ^ 64
     → IsSizedAs s more later (put its f (with_queued (its f) x))
 size_grown s its f x queued next more later sized lt is bound =
@@ -62,7 +62,7 @@ size_grown s its f x queued next more later sized lt is bound =
     record { sum = omega arith; bound = bound }
 
 -- a submission leaves a queue, with a size of this much
-pub size_shrunk : (s : Settings) (its : ℕ → plainly.Flusher Content) (f : ℕ) (after : plainly.Flusher Content) (queued size less next : ℕ)
+pub size_shrunk : (s : Settings) (its : ℕ → model_state.Flusher Content) (f : ℕ) (after : model_state.Flusher Content) (queued size less next : ℕ)
     → IsSizedAs s queued next its → f < s.flushers → size_in (its f).queue ≡ size + size_in after.queue → less ≡ queued - size
     → IsSizedAs s less next (put its f after)
 size_shrunk s its f after queued size less next sized lt is now =
@@ -72,7 +72,7 @@ size_shrunk s its f after queued size less next sized lt is now =
     record { sum = omega arith; bound = omega arith }
 
 -- a flusher changes, and its queue has the sizes that it had
-pub size_kept : (s : Settings) (its : ℕ → plainly.Flusher Content) (f : ℕ) (after : plainly.Flusher Content) (queued next : ℕ)
+pub size_kept : (s : Settings) (its : ℕ → model_state.Flusher Content) (f : ℕ) (after : model_state.Flusher Content) (queued next : ℕ)
     → IsSizedAs s queued next its → f < s.flushers → size_in (its f).queue ≡ size_in after.queue → IsSizedAs s queued next (put its f after)
 size_kept s its f after queued next sized lt same =
     let none : size_in (its f).queue ≡ 0 + size_in after.queue = omega arith in

@@ -11,22 +11,22 @@ use Rattle.foyer_format.specs.declared.compress.Compression.TheVariants as compr
 use Rattle.foyer_format.proofs.PushLemmas.{length-record_bytes}
 use Rattle.foyer_policy.specs.Record.{Record}
 use Rattle.foyer_model.specs.Receive.{bytes_taken, Fits}
-use Rattle.foyer_model.specs.Record as plain
-use Rattle.foyer_model.specs.State as plainly
+use Rattle.foyer_model.specs.Record as model_record
+use Rattle.foyer_model.specs.State as model_state
 use Rattle.foyer_core.specs.Content.{Content, Meaning}
 use Rattle.foyer_core.specs.Flushing.{IsRecordOf, AreRecords, IsFlusherAs}
 use Rattle.foyer_core.specs.InOneBlock.{padded, packed}
-use Rattle.foyer_core.specs.Meets.{machine}
-use Rattle.foyer_core.specs.Plain.{has_record, encoded, page_up_above}
-use Rattle.foyer_core.specs.Sizes.{IsSound}
+use Rattle.foyer_core.specs.Refines.{machine}
+use Rattle.foyer_core.specs.CoreRules.{has_record, encoded, page_up_above}
+use Rattle.foyer_core.specs.Sizes.{AreValid}
 use Rattle.foyer_core.specs.Unchanged.{Seen}
 use Rattle.foyer_core.specs.declared.settings.Settings.{Settings}
-use Rattle.foyer_core.proofs.PlacedLemmas.{packed-len}
+use Rattle.foyer_core.proofs.LayoutLemmas.{packed-len}
 use Rattle.foyer_core.proofs.TripLemmas.{left, right, some_is}
 
 module _ {K V P : Type 0} (m : Meaning K V P) where
   -- one record more behind the others
-  pub records_end : (at : ℕ) (es : List HashedEntryAddress) (ps : List (Record K V P)) (rs : List (plain.Record Content)) (e : HashedEntryAddress) (p : Record K V P) (r : plain.Record Content)
+  pub records_end : (at : ℕ) (es : List HashedEntryAddress) (ps : List (Record K V P)) (rs : List (model_record.Record Content)) (e : HashedEntryAddress) (p : Record K V P) (r : model_record.Record Content)
       → AreRecords m at es ps rs → IsRecordOf m (at + bytes_taken page_up rs) e p r → AreRecords m at (es ++ e ∷ []) (ps ++ p ∷ []) (rs ++ r ∷ [])
   records_end at [] [] [] e p r are is = (subst (λ n. IsRecordOf m n e p r) (let same : at + 0 ≡ at = omega arith in same) is, tt)
   records_end at (d ∷ es) (q ∷ ps) (t ∷ rs) e p r are is = (
@@ -40,11 +40,11 @@ module _ {K V P : Type 0} (m : Meaning K V P) where
   records_end at (d ∷ es) (q ∷ ps) [] e p r are is = absurd are
 
 module _ {C : Type 0} where
-  pub packed_end : (rs : List (plain.Record C)) (r : plain.Record C) → packed (rs ++ r ∷ []) ≡ packed rs ++ padded r.bytes
+  pub packed_end : (rs : List (model_record.Record C)) (r : model_record.Record C) → packed (rs ++ r ∷ []) ≡ packed rs ++ padded r.bytes
   packed_end [] r = append-nil (padded r.bytes)
   packed_end (t ∷ rs) r = ap (λ xs. padded t.bytes ++ xs) (packed_end rs r) ∙ sym (append_assoc (padded t.bytes) (packed rs) (padded r.bytes))
 
-  pub taken_end : (rs : List (plain.Record C)) (r : plain.Record C) → bytes_taken page_up (rs ++ r ∷ []) ≡ bytes_taken page_up rs + page_up (length r.bytes)
+  pub taken_end : (rs : List (model_record.Record C)) (r : model_record.Record C) → bytes_taken page_up (rs ++ r ∷ []) ≡ bytes_taken page_up rs + page_up (length r.bytes)
   taken_end [] r = let e : page_up (length r.bytes) + 0 ≡ 0 + page_up (length r.bytes) = omega arith in e
   taken_end (t ∷ rs) r = let e : bytes_taken page_up (rs ++ r ∷ []) ≡ bytes_taken page_up rs + page_up (length r.bytes) = taken_end rs r in omega arith
 
@@ -68,8 +68,8 @@ pushed_bytes old new bytes pushes =
     ∙ ap (λ xs. xs ++ drop (length bytes) (drop (length old) new)) pushes.written
     ∙ ap (λ xs. bytes ++ xs) (drop_more (length old) (length bytes) new ∙ pushes.zeros))
 
-module _ {K V P A : Type 0} (m : Meaning K V P) (s : Settings) (sound : IsSound s) (st : plainly.State Content)
-    (φ : Seen K V P A) (it : plainly.Flusher Content) (stands : IsFlusherAs m s φ it) (key value : List ℕ) (a b : Bool) (hash sequence room : ℕ)
+module _ {K V P A : Type 0} (m : Meaning K V P) (s : Settings) (sound : AreValid s) (st : model_state.State Content)
+    (φ : Seen K V P A) (it : model_state.Flusher Content) (stands : IsFlusherAs m s φ it) (key value : List ℕ) (a b : Bool) (hash sequence room : ℕ)
     (room_is : room ≡ min (s.block_size - φ.next_offset - length φ.buffer) (2 ^ 32 - 1)) where
   the_content : Content
   the_content = record { key = key; value = value; is_encodable = a && b }
@@ -93,7 +93,7 @@ module _ {K V P A : Type 0} (m : Meaning K V P) (s : Settings) (sound : IsSound 
       let tail : (it.context).blob + (it.context).at ≡ φ.next_offset = tail_is in
       let behind : s.blob_index_size ≤ φ.next_offset = stands.behind in
       let taken : φ.next_offset + bytes_taken page_up it.buffer ≤ s.block_size = stands.within in
-      let told : s.block_size ≤ 2 ^ 32 = sound.told_offsets in
+      let issued : s.block_size ≤ 2 ^ 32 = sound.offsets_fit in
       let short_key : nat_lt (length key) (2 ^ 32) ≡ true = lt-ltb (length key) (2 ^ 32) (omega arith) in
       let short_value : nat_lt (length value) (2 ^ 32) ≡ true = lt-ltb (length value) (2 ^ 32) (omega arith) in
       let has : has_record (record { key = key; value = value; is_encodable = a && b }) ≡ true =
@@ -114,7 +114,7 @@ module _ {K V P A : Type 0} (m : Meaning K V P) (s : Settings) (sound : IsSound 
           let tail : (it.context).blob + (it.context).at ≡ φ.next_offset = tail_is in
           let behind : s.blob_index_size ≤ φ.next_offset = stands.behind in
           let some_index : 0 < s.blob_index_size = sound.some_index in
-          let told : s.block_size ≤ 2 ^ 32 = sound.told_offsets in
+          let issued : s.block_size ≤ 2 ^ 32 = sound.offsets_fit in
           let room_fits : bytes_taken page_up it.buffer + page_up (length bytes) ≤ s.block_size - ((it.context).blob + (it.context).at) = fits.0 in
           let both : (a && b) ≡ true = left (a && b) _ has in
           lacks (record { plain = refl; encoded = (left a b both, right a b both); within = omega arith })

@@ -13,7 +13,7 @@ use Rattle.foyer_block.specs.declared.indexer.Index.{Index}
 use Rattle.foyer_block.specs.declared.indexer.Index.TheVariants.{Address, Tombstone}
 use Rattle.foyer_model.specs.Index as plain
 use Rattle.foyer_model.specs.Numbers.{put}
-use Rattle.foyer_model.specs.Record as plain_record
+use Rattle.foyer_model.specs.Record as model_record
 use Rattle.foyer_model.specs.Record.{Slot, Indexed, Mark}
 use Rattle.foyer_model.proofs.Basics.{put_at}
 use Rattle.foyer_model.proofs.CommitSteps.{same_address}
@@ -87,15 +87,15 @@ held_address None a is = absurd (cc)
 held_address (Some (Tombstone sequence)) a is = absurd (cc)
 held_address (Some (Address b)) a is = ap (λ x. Some (Address x)) (let e : b ≡ a = cc in e)
 
-pub same_itself : (a : plain_record.Address) → plain.is_same a a ≡ true
+pub same_itself : (a : model_record.Address) → plain.is_same a a ≡ true
 same_itself a = rw (eq-eqb a.block a.block refl, eq-eqb a.offset a.offset refl, eq-eqb a.len a.len refl, eq-eqb a.sequence a.sequence refl, eq-eqb a.filling a.filling refl)
 
 -- the very address leaves the hash that has it
-pub without_itself : (a : plain_record.Address) (slot : Option Slot) → slot ≡ Some (Indexed a) → plain.without a slot ≡ None
+pub without_itself : (a : model_record.Address) (slot : Option Slot) → slot ≡ Some (Indexed a) → plain.without a slot ≡ None
 without_itself a slot is = ap (plain.without a) is ∙ ap (λ b. if b then None else Some (Indexed a)) (same_itself a)
 
-as_told : (a b : EntryAddress) → address_of a ≡ address_of b → a ≡ b
-as_told a b same = λ i. record { block = (same i).block; offset = (same i).offset; len = (same i).len; sequence = (same i).sequence; filling = (same i).filling }
+as_issued : (a b : EntryAddress) → address_of a ≡ address_of b → a ≡ b
+as_issued a b same = λ i. record { block = (same i).block; offset = (same i).offset; len = (same i).len; sequence = (same i).sequence; filling = (same i).filling }
 
 -- and no other
 without_other : (a : EntryAddress) (held : Option Index) → (held ≡ Some (Address a) → ⊥) → plain.without (address_of a) (slot_of held) ≡ slot_of held
@@ -104,7 +104,7 @@ without_other a (Some (Tombstone sequence)) ne = refl
 without_other a (Some (Address b)) ne = go (plain.is_same (address_of a) (address_of b)) refl
   where
     go : (t : Bool) → plain.is_same (address_of a) (address_of b) ≡ t → (if t then None else Some (Indexed (address_of b))) ≡ Some (Indexed (address_of b))
-    go true e = absurd (ne (ap (λ x. Some (Address x)) (sym (as_told a b (same_address (address_of a) (address_of b) e)))))
+    go true e = absurd (ne (ap (λ x. Some (Address x)) (sym (as_issued a b (same_address (address_of a) (address_of b) e)))))
     go false e = refl
 
 module _ (s : Settings) where

@@ -1,10 +1,10 @@
--- The plain states of a core, when the core is unchanged, or one flusher of it changes.
+-- The states of the model of a core, when the core is unchanged, or one flusher of it changes.
 use Rattle.std.proofs.Common.{◌≡◌, ℕ, zero, suc, ◌+◌, ◌<◌, ◌≤◌, ◌==◌, min, nat_le, Bool, true, false, if◌then◌else◌, List, [], ◌∷◌, ◌++◌, map, length, Some, option_map, slice_get, slice_set, slice_index_or, refl, sym, ap, subst, ◌∙◌, arith}
 use Rattle.std.proofs.lemmas.Bool.Decides.{nat_tests}
 use Rattle.std.proofs.lemmas.Option.{slice_get_read, slice_get-map}
 use Rattle.foyer_model.specs.Numbers.{put, plus, last_number}
 use Rattle.foyer_model.specs.Queue.{queue_size, size_queued}
-use Rattle.foyer_model.specs.State as plainly
+use Rattle.foyer_model.specs.State as model_state
 use Rattle.foyer_model.proofs.Basics.{put_at, put_same, put_other}
 use Rattle.foyer_core.specs.Content.{Content, Meaning}
 use Rattle.foyer_core.specs.Flushing.{IsFlusherAs}
@@ -45,19 +45,19 @@ pub some_is : {X : Type 0} {x y : X} → Some x ≡ Some y → x ≡ y
 some_is e = cc
 
 module _ {K V P A : Type 0} (m : Meaning K V P) (s : Settings) where
-  -- as many flushers as the sizes tell
-  pub flushers_count : (φs : List (Flusher K V P A)) (its : ℕ → plainly.Flusher Content)
+  -- as many flushers as the sizes issue
+  pub flushers_count : (φs : List (Flusher K V P A)) (its : ℕ → model_state.Flusher Content)
       → AreFlushersAs m s (map seen φs) its → length φs ≡ s.flushers
   flushers_count φs its are = sym (map_count seen φs) ∙ are.count
 
   -- the flusher of a number
-  pub flusher_at : (φs : List (Flusher K V P A)) (its : ℕ → plainly.Flusher Content) (f : ℕ) (φ : Flusher K V P A)
+  pub flusher_at : (φs : List (Flusher K V P A)) (its : ℕ → model_state.Flusher Content) (f : ℕ) (φ : Flusher K V P A)
       → AreFlushersAs m s (map seen φs) its → f < length φs → φ ≡ slice_index_or φs f φ → IsFlusherAs m s (seen φ) (its f)
   flusher_at φs its f φ are lt is =
       are.all f (seen φ) (slice_get-map seen φs f ∙ ap (option_map seen) (slice_get_read φs (length φs) f φ refl lt is))
 
   -- another flusher in its place
-  pub flusher_put : (φs : List (Flusher K V P A)) (its : ℕ → plainly.Flusher Content) (f : ℕ) (ψ : Flusher K V P A) (after : plainly.Flusher Content)
+  pub flusher_put : (φs : List (Flusher K V P A)) (its : ℕ → model_state.Flusher Content) (f : ℕ) (ψ : Flusher K V P A) (after : model_state.Flusher Content)
       → AreFlushersAs m s (map seen φs) its → f < length φs → IsFlusherAs m s (seen ψ) after
       → AreFlushersAs m s (map seen (slice_set φs f ψ)) (put its f after)
   flusher_put φs its f ψ after are lt stands = record {
@@ -73,7 +73,7 @@ module _ {K V P A : Type 0} (m : Meaning K V P) (s : Settings) where
           ∙ set_here (map seen φs) f (seen ψ) (let e : length (map seen φs) ≡ length φs = map_count seen φs in omega arith)
 
   -- another flusher that stands for the same
-  pub flusher_kept : (φs : List (Flusher K V P A)) (its : ℕ → plainly.Flusher Content) (f : ℕ) (ψ : Flusher K V P A)
+  pub flusher_kept : (φs : List (Flusher K V P A)) (its : ℕ → model_state.Flusher Content) (f : ℕ) (ψ : Flusher K V P A)
       → AreFlushersAs m s (map seen φs) its → f < length φs → IsFlusherAs m s (seen ψ) (its f) → AreFlushersAs m s (map seen (slice_set φs f ψ)) its
   flusher_kept φs its f ψ are lt stands =
       let changed : AreFlushersAs m s (map seen (slice_set φs f ψ)) (put its f (its f)) = flusher_put φs its f ψ (its f) are lt stands in
@@ -83,7 +83,7 @@ module _ {K V P A : Type 0} (m : Meaning K V P) (s : Settings) where
       }
 
   -- a core that is unchanged stands for the same states
-  pub unchanged_stands : (old new : Core K V P A) (it : plainly.State Content)
+  pub unchanged_stands : (old new : Core K V P A) (it : model_state.State Content)
       → IsUnchanged old new → IsStateOf m s old it → IsStateOf m s new it
   unchanged_stands old new it same stands = record {
     sizes = same.settings ∙ stands.sizes;
@@ -102,7 +102,7 @@ module _ {K V P A : Type 0} (m : Meaning K V P) (s : Settings) where
   }
 
 -- the sum of the queued sizes, when one flusher changes
-pub size_put : {C : Type 0} (n : ℕ) (its : ℕ → plainly.Flusher C) (f : ℕ) (after : plainly.Flusher C) → f < n
+pub size_put : {C : Type 0} (n : ℕ) (its : ℕ → model_state.Flusher C) (f : ℕ) (after : model_state.Flusher C) → f < n
     → size_of_all n (put its f after) + size_in (its f).queue ≡ size_of_all n its + size_in after.queue
 size_put {C} zero its f after lt = absurd (omega arith)
 size_put {C} (suc n) its f after lt = go (f == n) refl (λ less. size_put n its f after less)
@@ -131,12 +131,12 @@ size_put {C} (suc n) its f after lt = go (f == n) refl (λ less. size_put n its 
         omega arith
 
 -- a queue that has one more at its end
-pub size_pushed : {C : Type 0} (q : List (plainly.Submission C)) (x : plainly.Submission C) → size_in (q ++ x ∷ []) ≡ size_in q + size_in (x ∷ [])
+pub size_pushed : {C : Type 0} (q : List (model_state.Submission C)) (x : model_state.Submission C) → size_in (q ++ x ∷ []) ≡ size_in q + size_in (x ∷ [])
 size_pushed [] x = let none : 0 + size_in (x ∷ []) ≡ size_in (x ∷ []) = omega arith in sym none
-size_pushed (plainly.Piece h s n c ∷ q) x = let e : size_in (q ++ x ∷ []) ≡ size_in q + size_in (x ∷ []) = size_pushed q x in omega arith
-size_pushed (plainly.Remove h s spoils ∷ q) x = size_pushed q x
-size_pushed (plainly.Await i ∷ q) x = size_pushed q x
-size_pushed (plainly.Reinsert h bytes a ∷ q) x = size_pushed q x
+size_pushed (model_state.Piece h s n c ∷ q) x = let e : size_in (q ++ x ∷ []) ≡ size_in q + size_in (x ∷ []) = size_pushed q x in omega arith
+size_pushed (model_state.Remove h s invalidated ∷ q) x = size_pushed q x
+size_pushed (model_state.Await i ∷ q) x = size_pushed q x
+size_pushed (model_state.Reinsert h bytes a ∷ q) x = size_pushed q x
 
 pub plus_min : (n a b : ℕ) → b ≡ min a last_number → plus n b ≡ min (n + a) last_number
 plus_min n a b is = go (nat_le (n + b) last_number) refl
@@ -145,13 +145,13 @@ plus_min n a b is = go (nat_le (n + b) last_number) refl
     go true e = let le : n + b ≤ last_number = grind (arith, nat_tests) in omega arith
     go false e = let lt : last_number < n + b = grind (arith, nat_tests) in omega arith
 
--- the plain machine's sums stay at the greatest number
-pub queue_size_is : {C : Type 0} (q : List (plainly.Submission C)) → queue_size q ≡ min (size_in q) last_number
+-- the model's sums stay at the greatest number
+pub queue_size_is : {C : Type 0} (q : List (model_state.Submission C)) → queue_size q ≡ min (size_in q) last_number
 queue_size_is [] = refl
-queue_size_is (plainly.Piece h s n c ∷ q) = plus_min n (size_in q) (queue_size q) (queue_size_is q)
-queue_size_is (plainly.Remove h s spoils ∷ q) = queue_size_is q
-queue_size_is (plainly.Await i ∷ q) = queue_size_is q
-queue_size_is (plainly.Reinsert h bytes a ∷ q) = queue_size_is q
+queue_size_is (model_state.Piece h s n c ∷ q) = plus_min n (size_in q) (queue_size q) (queue_size_is q)
+queue_size_is (model_state.Remove h s invalidated ∷ q) = queue_size_is q
+queue_size_is (model_state.Await i ∷ q) = queue_size_is q
+queue_size_is (model_state.Reinsert h bytes a ∷ q) = queue_size_is q
 
 plus_both : (a b c d : ℕ) → a ≡ min c last_number → b ≡ min d last_number → plus a b ≡ min (c + d) last_number
 plus_both a b c d one two = go (nat_le (a + b) last_number) refl
@@ -160,6 +160,6 @@ plus_both a b c d one two = go (nat_le (a + b) last_number) refl
     go true e = let le : a + b ≤ last_number = grind (arith, nat_tests) in omega arith
     go false e = let lt : last_number < a + b = grind (arith, nat_tests) in omega arith
 
-pub size_queued_is : {C : Type 0} (n : ℕ) (its : ℕ → plainly.Flusher C) → size_queued n its ≡ min (size_of_all n its) last_number
+pub size_queued_is : {C : Type 0} (n : ℕ) (its : ℕ → model_state.Flusher C) → size_queued n its ≡ min (size_of_all n its) last_number
 size_queued_is zero its = refl
 size_queued_is (suc n) its = plus_both (queue_size (its n).queue) (size_queued n its) (size_in (its n).queue) (size_of_all n its) (queue_size_is (its n).queue) (size_queued_is n its)

@@ -9,19 +9,19 @@ use Rattle.foyer_format.specs.Record.{record_bytes}
 use Rattle.foyer_format.specs.declared.compress.Compression.TheVariants as compression
 use Rattle.foyer_format.proofs.PushLemmas.{length-record_bytes}
 use Rattle.foyer_policy.specs.Record.{Record}
-use Rattle.foyer_model.specs.Receive.{bytes_taken, Fits, Takes as TakesOne, turned}
-use Rattle.foyer_model.specs.Record as plain
-use Rattle.foyer_model.specs.Reply as replies
-use Rattle.foyer_model.specs.State as plainly
+use Rattle.foyer_model.specs.Receive.{bytes_taken, Fits, TakesFront as TakesOne, turned}
+use Rattle.foyer_model.specs.Record as model_record
+use Rattle.foyer_model.specs.Reply as model_reply
+use Rattle.foyer_model.specs.State as model_state
 use Rattle.foyer_core.specs.Content.{Content, Meaning, content_of}
-use Rattle.foyer_core.specs.Flushing.{AreRecords, IsFlusherAs, submission_of, spoils_of, spoil_of}
+use Rattle.foyer_core.specs.Flushing.{AreRecords, IsFlusherAs, submission_of, invalid_of_all, invalid_of}
 use Rattle.foyer_core.specs.InOneBlock.{padded}
-use Rattle.foyer_core.specs.Meets.{machine}
-use Rattle.foyer_core.specs.Plain.{encoded}
+use Rattle.foyer_core.specs.Refines.{machine}
+use Rattle.foyer_core.specs.CoreRules.{encoded}
 use Rattle.foyer_core.specs.Replied.{mark_of}
-use Rattle.foyer_core.specs.Sizes.{IsSound}
+use Rattle.foyer_core.specs.Sizes.{AreValid}
 use Rattle.foyer_core.specs.Standing.{size_in}
-use Rattle.foyer_core.specs.Taking.{entry_at, IsPushed, IsTaken, NeedsRoom, Takes}
+use Rattle.foyer_core.specs.Taking.{entry_at, IsPushed, IsReceivedAs, NeedsRoom, TakesFront}
 use Rattle.foyer_core.specs.Unchanged.{Seen, seen}
 use Rattle.foyer_core.specs.declared.block.flusher.Flusher.{Flusher}
 use Rattle.foyer_core.specs.declared.block.flusher.InvalidStats.{InvalidStats}
@@ -31,7 +31,7 @@ use Rattle.foyer_core.specs.declared.block.flusher.TombstoneInfo.{TombstoneInfo}
 use Rattle.foyer_core.specs.declared.block.receive.Taken.{Taken}
 use Rattle.foyer_core.specs.declared.settings.Settings.{Settings}
 use Rattle.foyer_core.proofs.Opening.{map-end}
-use Rattle.foyer_core.proofs.PlacedLemmas.{packed-len}
+use Rattle.foyer_core.proofs.LayoutLemmas.{packed-len}
 use Rattle.foyer_core.proofs.ReceiveLemmas.{records_end, packed_end, taken_end, pushed_bytes, has_room, lacks_room}
 
 le_or : (a b : ℕ) → (a ≤ b) ⊎ (a ≤ b → ⊥)
@@ -41,7 +41,7 @@ le_or a b = go (nat_le a b) refl
     go true e = inl (grind (arith, nat_tests))
     go false e = inr (λ le. grind (arith, nat_tests))
 
-module _ {K V P A : Type 0} (m : Meaning K V P) (s : Settings) (sound : IsSound s) (st : plainly.State Content) (f : ℕ)
+module _ {K V P A : Type 0} (m : Meaning K V P) (s : Settings) (sound : AreValid s) (st : model_state.State Content) (f : ℕ)
     (φ : Seen K V P A) (stands : IsFlusherAs m s φ (st.flushers f)) where
   fits_or : (bytes : List ℕ) → Fits (machine m s sound) st (st.flushers f) bytes ⊎ (Fits (machine m s sound) st (st.flushers f) bytes → ⊥)
   fits_or bytes = elim (le_or (bytes_taken page_up (st.flushers f).buffer + page_up (length bytes)) (s.block_size - (((st.flushers f).context).blob + ((st.flushers f).context).at))) [
@@ -49,7 +49,7 @@ module _ {K V P A : Type 0} (m : Meaning K V P) (s : Settings) (sound : IsSound 
     | inr not ↦ inr (λ both. not both.0)
   ]
 
-  at_queue : (reply : replies.Reply Content) (after : plainly.State Content) (q : List (plainly.Submission Content)) → (st.flushers f).queue ≡ q
+  at_queue : (reply : model_reply.Reply Content) (after : model_state.State Content) (q : List (model_state.Submission Content)) → (st.flushers f).queue ≡ q
       → TakesOne (machine m s sound) st f q reply after → TakesOne (machine m s sound) st f (st.flushers f).queue reply after
   at_queue reply after q is takes = subst (λ x. TakesOne (machine m s sound) st f x reply after) (sym is) takes
 
@@ -57,14 +57,14 @@ module _ {K V P A : Type 0} (m : Meaning K V P) (s : Settings) (sound : IsSound 
   pub needs_room : (x : Submission K V P A) (rest : List (Submission K V P A)) → φ.queue ≡ x ∷ rest → NeedsRoom m s sound st f
   needs_room (submission.CacheEntry p size q) rest is = go (encoded p.hash q (content_of m p)) refl
     where
-      queue : (st.flushers f).queue ≡ plainly.Piece p.hash q size (content_of m p) ∷ map (submission_of m) rest
+      queue : (st.flushers f).queue ≡ model_state.Piece p.hash q size (content_of m p) ∷ map (submission_of m) rest
       queue = stands.queue ∙ ap (map (submission_of m)) is
 
       back : ((bytes : List ℕ) → encoded p.hash q (content_of m p) ≡ Some bytes → Fits (machine m s sound) st (st.flushers f) bytes → ⊥) → NeedsRoom m s sound st f
       back not = record {
-        reply = replies.Received (Some (content_of m p));
+        reply = model_reply.Received (Some (content_of m p));
         after = turned (machine m s sound) st f (record (st.flushers f) { queue = map (submission_of m) rest });
-        receives = at_queue (replies.Received (Some (content_of m p))) _ (plainly.Piece p.hash q size (content_of m p) ∷ map (submission_of m) rest) queue (refl, not, refl);
+        receives = at_queue (model_reply.Received (Some (content_of m p))) _ (model_state.Piece p.hash q size (content_of m p) ∷ map (submission_of m) rest) queue (refl, not, refl);
         grows = tt;
       }
 
@@ -72,27 +72,27 @@ module _ {K V P A : Type 0} (m : Meaning K V P) (s : Settings) (sound : IsSound 
       go None none = back (λ bytes some fits. let e : None ≡ Some bytes = sym none ∙ some in cc)
       go (Some bytes) some = elim (fits_or bytes) [
         | inl fits ↦ record {
-          reply = replies.Received None;
+          reply = model_reply.Received None;
           after = turned (machine m s sound) st f (record (st.flushers f) {
             queue = map (submission_of m) rest;
-            buffer = (st.flushers f).buffer ++ record { hash = p.hash; sequence = q; bytes = bytes; source = plain.Given (content_of m p) } ∷ [];
+            buffer = (st.flushers f).buffer ++ record { hash = p.hash; sequence = q; bytes = bytes; source = model_record.Given (content_of m p) } ∷ [];
           });
-          receives = at_queue (replies.Received None) _ (plainly.Piece p.hash q size (content_of m p) ∷ map (submission_of m) rest) queue (bytes, some, fits, refl);
+          receives = at_queue (model_reply.Received None) _ (model_state.Piece p.hash q size (content_of m p) ∷ map (submission_of m) rest) queue (bytes, some, fits, refl);
           grows = tt;
         }
         | inr not ↦ back (λ others other fits. not (subst (Fits (machine m s sound) st (st.flushers f)) (let e : Some others ≡ Some bytes = sym other ∙ some in let g : others ≡ bytes = cc in g) fits))
       ]
   needs_room (submission.Tombstone info) rest is = record {
-    reply = replies.Received None;
+    reply = model_reply.Received None;
     after = _;
-    receives = at_queue (replies.Received None) _ (plainly.Remove info.tombstone.hash info.tombstone.sequence (spoils_of info.stats) ∷ map (submission_of m) rest)
+    receives = at_queue (model_reply.Received None) _ (model_state.Remove info.tombstone.hash info.tombstone.sequence (invalid_of_all info.stats) ∷ map (submission_of m) rest)
         (stands.queue ∙ ap (map (submission_of m)) is) refl;
     grows = tt;
   }
   needs_room (submission.Wait id) rest is = record {
-    reply = replies.Received None;
+    reply = model_reply.Received None;
     after = _;
-    receives = at_queue (replies.Received None) _ (plainly.Await id ∷ map (submission_of m) rest) (stands.queue ∙ ap (map (submission_of m)) is) refl;
+    receives = at_queue (model_reply.Received None) _ (model_state.Await id ∷ map (submission_of m) rest) (stands.queue ∙ ap (map (submission_of m)) is) refl;
     grows = tt;
   }
 
@@ -102,7 +102,7 @@ module _ {K V P A : Type 0} (m : Meaning K V P) (s : Settings) (sound : IsSound 
 
   -- a wait is kept
   pub wait_kept : (id : ℕ) (rest : List (Submission K V P A)) (new : Flusher K V P A) → φ.queue ≡ submission.Wait id ∷ rest
-      → seen new ≡ record φ { queue = rest; waits = φ.waits ++ id ∷ [] } → IsTaken m s sound st f 0 None new
+      → seen new ≡ record φ { queue = rest; waits = φ.waits ++ id ∷ [] } → IsReceivedAs m s sound st f 0 None new
   wait_kept id rest new is now = record {
     after = after;
     stands = subst (λ x. IsFlusherAs m s x after) (sym now) (record {
@@ -110,7 +110,7 @@ module _ {K V P A : Type 0} (m : Meaning K V P) (s : Settings) (sound : IsSound 
       buffer = stands.buffer;
       bytes = stands.bytes;
       marks = stands.marks;
-      spoils = stands.spoils;
+      invalidated = stands.invalidated;
       waits = ap (λ xs. xs ++ id ∷ []) stands.waits;
       own = stands.own;
       there = stands.there;
@@ -120,26 +120,26 @@ module _ {K V P A : Type 0} (m : Meaning K V P) (s : Settings) (sound : IsSound 
       within = stands.within;
       batch = stands.batch;
     });
-    receives = at_queue (replies.Received None) (turned (machine m s sound) st f after) (plainly.Await id ∷ map (submission_of m) rest)
+    receives = at_queue (model_reply.Received None) (turned (machine m s sound) st f after) (model_state.Await id ∷ map (submission_of m) rest)
         (stands.queue ∙ ap (map (submission_of m)) is) refl;
     size_is = let e : size_in (st.flushers f).queue ≡ size_in (map (submission_of m) rest) = size_front (submission.Wait id) rest is in omega arith;
   }
     where
-      after : plainly.Flusher Content
+      after : model_state.Flusher Content
       after = record (st.flushers f) { queue = map (submission_of m) rest; waits = (st.flushers f).waits ++ id ∷ [] }
 
   -- a mark is kept, with what it made invalid
-  pub mark_kept : (info : TombstoneInfo) (spoils : List InvalidStats) (rest : List (Submission K V P A)) (new : Flusher K V P A) → φ.queue ≡ submission.Tombstone info ∷ rest
-      → map spoil_of spoils ≡ spoils_of info.stats
-      → seen new ≡ record φ { queue = rest; marks = φ.marks ++ info.tombstone ∷ []; invalid = φ.invalid ++ spoils } → IsTaken m s sound st f 0 None new
-  mark_kept info spoils rest new is told now = record {
+  pub mark_kept : (info : TombstoneInfo) (invalidated : List InvalidStats) (rest : List (Submission K V P A)) (new : Flusher K V P A) → φ.queue ≡ submission.Tombstone info ∷ rest
+      → map invalid_of invalidated ≡ invalid_of_all info.stats
+      → seen new ≡ record φ { queue = rest; marks = φ.marks ++ info.tombstone ∷ []; invalid = φ.invalid ++ invalidated } → IsReceivedAs m s sound st f 0 None new
+  mark_kept info invalidated rest new is issued now = record {
     after = after;
     stands = subst (λ x. IsFlusherAs m s x after) (sym now) (record {
       queue = refl;
       buffer = stands.buffer;
       bytes = stands.bytes;
       marks = ap (λ xs. xs ++ mark_of info.tombstone ∷ []) stands.marks ∙ sym (map-end mark_of φ.marks info.tombstone);
-      spoils = ap (λ xs. xs ++ spoils_of info.stats) stands.spoils ∙ ap (λ xs. map spoil_of φ.invalid ++ xs) (sym told) ∙ sym (map_both φ.invalid spoils);
+      invalidated = ap (λ xs. xs ++ invalid_of_all info.stats) stands.invalidated ∙ ap (λ xs. map invalid_of φ.invalid ++ xs) (sym issued) ∙ sym (map_both φ.invalid invalidated);
       waits = stands.waits;
       own = stands.own;
       there = stands.there;
@@ -149,24 +149,24 @@ module _ {K V P A : Type 0} (m : Meaning K V P) (s : Settings) (sound : IsSound 
       within = stands.within;
       batch = stands.batch;
     });
-    receives = at_queue (replies.Received None) (turned (machine m s sound) st f after) (plainly.Remove info.tombstone.hash info.tombstone.sequence (spoils_of info.stats) ∷ map (submission_of m) rest)
+    receives = at_queue (model_reply.Received None) (turned (machine m s sound) st f after) (model_state.Remove info.tombstone.hash info.tombstone.sequence (invalid_of_all info.stats) ∷ map (submission_of m) rest)
         (stands.queue ∙ ap (map (submission_of m)) is) refl;
     size_is = let e : size_in (st.flushers f).queue ≡ size_in (map (submission_of m) rest) = size_front (submission.Tombstone info) rest is in omega arith;
   }
     where
-      after : plainly.Flusher Content
-      after = record (st.flushers f) { queue = map (submission_of m) rest; marks = (st.flushers f).marks ++ (info.tombstone.hash, info.tombstone.sequence) ∷ []; spoils = (st.flushers f).spoils ++ spoils_of info.stats }
+      after : model_state.Flusher Content
+      after = record (st.flushers f) { queue = map (submission_of m) rest; marks = (st.flushers f).marks ++ (info.tombstone.hash, info.tombstone.sequence) ∷ []; invalidated = (st.flushers f).invalidated ++ invalid_of_all info.stats }
 
-      map_both : (xs ys : List InvalidStats) → map spoil_of (xs ++ ys) ≡ map spoil_of xs ++ map spoil_of ys
+      map_both : (xs ys : List InvalidStats) → map invalid_of (xs ++ ys) ≡ map invalid_of xs ++ map invalid_of ys
       map_both [] ys = refl
-      map_both (x ∷ xs) ys = ap (λ zs. spoil_of x ∷ zs) (map_both xs ys)
+      map_both (x ∷ xs) ys = ap (λ zs. invalid_of x ∷ zs) (map_both xs ys)
 
   -- a piece is put into the buffer
   pub piece_kept : (p : Record K V P) (size sequence room : ℕ) (a b : Bool) (bytes : List ℕ) (entries : List HashedEntryAddress) (rest : List (Submission K V P A)) (new : Flusher K V P A)
       → φ.queue ≡ submission.CacheEntry p size sequence ∷ rest → room ≡ min (s.block_size - φ.next_offset - length φ.buffer) (2 ^ 32 - 1)
       → m.is_encodable p.key p.value ≡ (a && b)
       → IsPushed room p.hash sequence ((a ≡ true) × (b ≡ true)) (length (m.value_of p.value) + length (m.key_of p.key)) (record_bytes p.hash sequence (m.key_of p.key) (m.value_of p.value)) φ.buffer bytes φ.records entries
-      → seen new ≡ record φ { queue = rest; buffer = bytes; records = entries; pieces = φ.pieces ++ p ∷ [] } → IsTaken m s sound st f size None new
+      → seen new ≡ record φ { queue = rest; buffer = bytes; records = entries; pieces = φ.pieces ++ p ∷ [] } → IsReceivedAs m s sound st f size None new
   piece_kept p size sequence room a b bytes entries rest new is room_is flag pushed now = record {
     after = after;
     stands = subst (λ x. IsFlusherAs m s x after) (sym now) (record {
@@ -181,7 +181,7 @@ module _ {K V P A : Type 0} (m : Meaning K V P) (s : Settings) (sound : IsSound 
       }));
       bytes = pushed_bytes φ.buffer bytes whole pushed.pushed ∙ ap (λ xs. xs ++ padded whole) stands.bytes ∙ sym (packed_end (st.flushers f).buffer r);
       marks = stands.marks;
-      spoils = stands.spoils;
+      invalidated = stands.invalidated;
       waits = stands.waits;
       own = stands.own;
       there = stands.there;
@@ -191,18 +191,18 @@ module _ {K V P A : Type 0} (m : Meaning K V P) (s : Settings) (sound : IsSound 
       within = within;
       batch = stands.batch;
     });
-    receives = at_queue (replies.Received None) (turned (machine m s sound) st f after) (plainly.Piece p.hash sequence size (content_of m p) ∷ map (submission_of m) rest)
-        (stands.queue ∙ ap (map (submission_of m)) is) (whole, spelled, fits.1, refl);
+    receives = at_queue (model_reply.Received None) (turned (machine m s sound) st f after) (model_state.Piece p.hash sequence size (content_of m p) ∷ map (submission_of m) rest)
+        (stands.queue ∙ ap (map (submission_of m)) is) (whole, is_encoded, fits.1, refl);
     size_is = size_front (submission.CacheEntry p size sequence) rest is;
   }
     where
       whole : List ℕ
       whole = record_bytes p.hash sequence (m.key_of p.key) (m.value_of p.value)
 
-      r : plain.Record Content
-      r = record { hash = p.hash; sequence = sequence; bytes = whole; source = plain.Given (content_of m p) }
+      r : model_record.Record Content
+      r = record { hash = p.hash; sequence = sequence; bytes = whole; source = model_record.Given (content_of m p) }
 
-      after : plainly.Flusher Content
+      after : model_state.Flusher Content
       after = record (st.flushers f) { queue = map (submission_of m) rest; buffer = (st.flushers f).buffer ++ r ∷ [] }
 
       AreRecordsAt : List HashedEntryAddress → Type 0
@@ -217,8 +217,8 @@ module _ {K V P A : Type 0} (m : Meaning K V P) (s : Settings) (sound : IsSound 
       with_flag : Bool → Option (List ℕ)
       with_flag t = encoded p.hash sequence (record { key = m.key_of p.key; value = m.value_of p.value; is_encodable = t })
 
-      spelled : encoded p.hash sequence (content_of m p) ≡ Some whole
-      spelled = ap with_flag flag ∙ fits.0
+      is_encoded : encoded p.hash sequence (content_of m p) ≡ Some whole
+      is_encoded = ap with_flag flag ∙ fits.0
 
       within : φ.next_offset + bytes_taken page_up ((st.flushers f).buffer ++ r ∷ []) ≤ s.block_size
       within =
@@ -233,7 +233,7 @@ module _ {K V P A : Type 0} (m : Meaning K V P) (s : Settings) (sound : IsSound 
       → φ.queue ≡ submission.CacheEntry p size sequence ∷ rest → room ≡ min (s.block_size - φ.next_offset - length φ.buffer) (2 ^ 32 - 1)
       → m.is_encodable p.key p.value ≡ (a && b)
       → (FitsRoom room compression.None ((a ≡ true) × (b ≡ true)) (length (m.value_of p.value) + length (m.key_of p.key)) → ⊥)
-      → seen new ≡ record φ { queue = rest } → IsTaken m s sound st f size (Some (content_of m p)) new
+      → seen new ≡ record φ { queue = rest } → IsReceivedAs m s sound st f size (Some (content_of m p)) new
   piece_back p size sequence room a b rest new is room_is flag lacks now = record {
     after = after;
     stands = subst (λ x. IsFlusherAs m s x after) (sym now) (record {
@@ -241,7 +241,7 @@ module _ {K V P A : Type 0} (m : Meaning K V P) (s : Settings) (sound : IsSound 
       buffer = stands.buffer;
       bytes = stands.bytes;
       marks = stands.marks;
-      spoils = stands.spoils;
+      invalidated = stands.invalidated;
       waits = stands.waits;
       own = stands.own;
       there = stands.there;
@@ -251,13 +251,13 @@ module _ {K V P A : Type 0} (m : Meaning K V P) (s : Settings) (sound : IsSound 
       within = stands.within;
       batch = stands.batch;
     });
-    receives = at_queue (replies.Received (Some (content_of m p))) (turned (machine m s sound) st f after) (plainly.Piece p.hash sequence size (content_of m p) ∷ map (submission_of m) rest)
+    receives = at_queue (model_reply.Received (Some (content_of m p))) (turned (machine m s sound) st f after) (model_state.Piece p.hash sequence size (content_of m p) ∷ map (submission_of m) rest)
         (stands.queue ∙ ap (map (submission_of m)) is)
-        (refl, (λ bytes spelled fits. lacks_room m s sound st φ (st.flushers f) stands (m.key_of p.key) (m.value_of p.value) a b p.hash sequence room room_is lacks bytes (sym (ap with_flag flag) ∙ spelled) fits), refl);
+        (refl, (λ bytes is_encoded fits. lacks_room m s sound st φ (st.flushers f) stands (m.key_of p.key) (m.value_of p.value) a b p.hash sequence room room_is lacks bytes (sym (ap with_flag flag) ∙ is_encoded) fits), refl);
     size_is = size_front (submission.CacheEntry p size sequence) rest is;
   }
     where
-      after : plainly.Flusher Content
+      after : model_state.Flusher Content
       after = record (st.flushers f) { queue = map (submission_of m) rest }
 
       with_flag : Bool → Option (List ℕ)
@@ -270,7 +270,7 @@ module _ {K V P A : Type 0} (m : Meaning K V P) (s : Settings) (sound : IsSound 
       let within : φ.next_offset + bytes_taken page_up (st.flushers f).buffer ≤ s.block_size = stands.within in
       let behind : s.blob_index_size ≤ φ.next_offset = stands.behind in
       let some : 0 < s.blob_index_size = sound.some_index in
-      let told : s.block_size ≤ 2 ^ 32 = sound.told_offsets in
+      let issued : s.block_size ≤ 2 ^ 32 = sound.offsets_fit in
       omega arith
 
   -- a queue that isn't empty has a front
@@ -282,12 +282,12 @@ module _ {K V P A : Type 0} (m : Meaning K V P) (s : Settings) (sound : IsSound 
       go (x ∷ rest) is = needs_room x rest is
 
 -- what a mark made invalid, as a list
-pub spoils_listed : (stats : Option InvalidStats) → map spoil_of (option_to_list stats) ≡ spoils_of stats
-spoils_listed None = refl
-spoils_listed (Some x) = refl
+pub invalidated_listed : (stats : Option InvalidStats) → map invalid_of (option_to_list stats) ≡ invalid_of_all stats
+invalidated_listed None = refl
+invalidated_listed (Some x) = refl
 
--- a refused growth
-pub takes_err : {K V P A : Type 0} (m : Meaning K V P) (s : Settings) (sound : IsSound s) (st : plainly.State Content) (f : ℕ) (r : Result (Taken K V P A) Error) (new : Flusher K V P A)
-    → IsErr r → NeedsRoom m s sound st f → Takes m s sound st f r new
+-- a refused allocation
+pub takes_err : {K V P A : Type 0} (m : Meaning K V P) (s : Settings) (sound : AreValid s) (st : model_state.State Content) (f : ℕ) (r : Result (Taken K V P A) Error) (new : Flusher K V P A)
+    → IsErr r → NeedsRoom m s sound st f → TakesFront m s sound st f r new
 takes_err m s sound st f (Ok x) new is_err needs = absurd (cc)
 takes_err m s sound st f (Err e) new is_err needs = needs

@@ -3,15 +3,15 @@ use Rattle.std.proofs.Common.{◌≡◌, ◌^◌, ◌<◌, ◌-◌, Some, refl, 
 use Rattle.foyer_device.specs.declared.error.ErrorKind.{ErrorKind}
 use Rattle.foyer_model.specs.Numbers.{last_number}
 use Rattle.foyer_model.specs.Refusal.{MayRefuse}
-use Rattle.foyer_model.specs.Reply as replies
+use Rattle.foyer_model.specs.Reply as model_reply
 use Rattle.foyer_model.specs.State.{State}
-use Rattle.foyer_model.specs.Turn.{IsOutOfTurn}
+use Rattle.foyer_model.specs.Follows.{IsOutOfTurn}
 use Rattle.foyer_core.specs.Asked.{step_of}
 use Rattle.foyer_core.specs.Content.{Content, Meaning}
 use Rattle.foyer_core.specs.InOneBlock.{IsInOneBlock}
-use Rattle.foyer_core.specs.Meets.{machine, IsTurned}
+use Rattle.foyer_core.specs.Refines.{machine, IsRefinedUncounted}
 use Rattle.foyer_core.specs.Replied.{kind_of}
-use Rattle.foyer_core.specs.Sizes.{IsSound}
+use Rattle.foyer_core.specs.Sizes.{AreValid}
 use Rattle.foyer_core.specs.Standing.{IsStateOf}
 use Rattle.foyer_core.specs.Unchanged.{IsUnchanged}
 use Rattle.foyer_core.specs.declared.reply.Reply.TheVariants as reply
@@ -39,14 +39,14 @@ same core = record {
   waiting = refl;
 }
 
-module _ {K V P A : Type 0} (m : Meaning K V P) (s : Settings) (sound : IsSound s) (given : Step K V P A) (old new : Core K V P A) (it : State Content) where
+module _ {K V P A : Type 0} (m : Meaning K V P) (s : Settings) (sound : AreValid s) (given : Step K V P A) (old new : Core K V P A) (it : State Content) where
   -- a step is refused for a cause
-  pub refused : (why : ErrorKind) (k : replies.Kind) → kind_of why ≡ Some k → IsUnchanged old new → IsStateOf m s old it
+  pub refused : (why : ErrorKind) (k : model_reply.Kind) → kind_of why ≡ Some k → IsUnchanged old new → IsStateOf m s old it
       → MayRefuse (machine m s sound) (IsInOneBlock s.blob_index_size) it k (step_of m given)
-      → IsTurned m s sound given (reply.Refused why given) new it
+      → IsRefinedUncounted m s sound given (reply.Refused why given) new it
   refused why k is same stands cause = record {
     after = it;
-    it = replies.Refused k (step_of m given);
+    it = model_reply.Refused k (step_of m given);
     stands = unchanged_stands m s old new it same stands;
     reply = (k, is, refl);
     turns = (refl, cause, refl);
@@ -55,20 +55,20 @@ module _ {K V P A : Type 0} (m : Meaning K V P) (s : Settings) (sound : IsSound 
   -- a step is out of turn
   pub not_now : IsUnchanged old new → IsStateOf m s old it
       → IsOutOfTurn (machine m s sound) (IsInOneBlock s.blob_index_size) it (step_of m given)
-      → IsTurned m s sound given (reply.NotNow given) new it
+      → IsRefinedUncounted m s sound given (reply.NotNow given) new it
   not_now same stands out = record {
     after = it;
-    it = replies.NotNow (step_of m given);
+    it = model_reply.NotNow (step_of m given);
     stands = unchanged_stands m s old new it same stands;
     reply = refl;
     turns = (refl, out, refl);
   }
 
 -- the step that comes back is the one that was asked
-pub comes_back : {K V P A : Type 0} (m : Meaning K V P) (s : Settings) (sound : IsSound s) (given back : Step K V P A) (why : ErrorKind) (new : Core K V P A) (it : State Content)
-    → back ≡ given → IsTurned m s sound given (reply.Refused why given) new it → IsTurned m s sound given (reply.Refused why back) new it
-comes_back m s sound given back why new it is turned = subst (λ b. IsTurned m s sound given (reply.Refused why b) new it) (sym is) turned
+pub comes_back : {K V P A : Type 0} (m : Meaning K V P) (s : Settings) (sound : AreValid s) (given back : Step K V P A) (why : ErrorKind) (new : Core K V P A) (it : State Content)
+    → back ≡ given → IsRefinedUncounted m s sound given (reply.Refused why given) new it → IsRefinedUncounted m s sound given (reply.Refused why back) new it
+comes_back m s sound given back why new it is turned = subst (λ b. IsRefinedUncounted m s sound given (reply.Refused why b) new it) (sym is) turned
 
-pub comes_back_late : {K V P A : Type 0} (m : Meaning K V P) (s : Settings) (sound : IsSound s) (given back : Step K V P A) (new : Core K V P A) (it : State Content)
-    → back ≡ given → IsTurned m s sound given (reply.NotNow given) new it → IsTurned m s sound given (reply.NotNow back) new it
-comes_back_late m s sound given back new it is turned = subst (λ b. IsTurned m s sound given (reply.NotNow b) new it) (sym is) turned
+pub comes_back_late : {K V P A : Type 0} (m : Meaning K V P) (s : Settings) (sound : AreValid s) (given back : Step K V P A) (new : Core K V P A) (it : State Content)
+    → back ≡ given → IsRefinedUncounted m s sound given (reply.NotNow given) new it → IsRefinedUncounted m s sound given (reply.NotNow back) new it
+comes_back_late m s sound given back new it is turned = subst (λ b. IsRefinedUncounted m s sound given (reply.NotNow b) new it) (sym is) turned

@@ -1,4 +1,4 @@
--- Clean blocks and waiting flushers, as the plain machine has them.
+-- Clean blocks and waiting flushers, as the model has them.
 use Rattle.std.proofs.Common.{◌≡◌, ℕ, zero, suc, ◌+◌, ◌<◌, ◌≤◌, ◌==◌, nat_lt, Bool, true, false, not, ◌||◌, if◌then◌else◌, List, [], ◌∷◌, length, drop, Option, Some, None, slice_index, refl, sym, ap, subst, ◌∙◌, arith}
 use Rattle.std.specs.List.{list_any, filter, remove, items_where_true}
 use Rattle.std.specs.List.Retain.{ReturnsInTurn, IsFiltered}
@@ -12,7 +12,7 @@ use Rattle.foyer_model.proofs.Ids.{distinct_without, not_in_cases, same_in, late
 use Rattle.foyer_core.specs.Standing.{AllBelow, AreCleanAs}
 use Rattle.foyer_core.specs.declared.settings.Settings.{Settings}
 
--- what is usable is told by the fillings of the listed blocks alone
+-- what is usable is issued by the fillings of the listed blocks alone
 pub first_usable_same : (F G : ℕ → ℕ) (n : ℕ) (xs : List ℕ) → ((b : ℕ) → b < n → F b ≡ G b) → AllBelow n xs
     → first_usable F xs ≡ first_usable G xs
 first_usable_same F G n [] same below = refl

@@ -1,27 +1,27 @@
--- The report of a write, and the end of a batch, as the plain machine takes them.
+-- The report of a write, and the end of a batch, as the model takes them.
 use Rattle.std.proofs.Common.{◌≡◌, ℕ, ◌+◌, ◌-◌, ◌^◌, ◌<◌, ◌≤◌, Bool, true, false, List, [], ◌∷◌, map, length, Option, Some, None, refl, sym, ap, subst, ◌∙◌, arith}
 use Rattle.foyer_block.specs.Index.{IndexMap}
 use Rattle.foyer_block.specs.Insertion.{inserted_all}
 use Rattle.foyer_block.specs.Removal.{without_marks}
 use Rattle.foyer_format.specs.Page.{page_up}
 use Rattle.foyer_model.specs.Commit.{commit_of}
-use Rattle.foyer_model.specs.Filling.{Write}
-use Rattle.foyer_model.specs.Flush.{released, all_spoiled, spoiled_unless, commit_in, write_done, block_done, batch_failed, Wrote, Finishes}
+use Rattle.foyer_model.specs.Position.{Write}
+use Rattle.foyer_model.specs.Flush.{released, all_invalidated, invalidated_unless, commit_in, write_done, block_done, batch_failed, Wrote, Finishes}
 use Rattle.foyer_model.specs.Index.{unmarked}
 use Rattle.foyer_model.specs.Numbers.{put}
 use Rattle.foyer_model.specs.Receive.{bytes_taken}
-use Rattle.foyer_model.specs.Record as plain
-use Rattle.foyer_model.specs.Reply as replies
-use Rattle.foyer_model.specs.State as plainly
-use Rattle.foyer_model.specs.Step as steps
-use Rattle.foyer_core.specs.Batches.{StandsAt, IsDone, settled, failed_batch, told_wrote}
+use Rattle.foyer_model.specs.Record as model_record
+use Rattle.foyer_model.specs.Reply as model_reply
+use Rattle.foyer_model.specs.State as model_state
+use Rattle.foyer_model.specs.Step as model_step
+use Rattle.foyer_core.specs.Batches.{StandsAt, FlusherStep, settled, failed_batch, issued_wrote}
 use Rattle.foyer_core.specs.Content.{Content, Meaning, content_of}
-use Rattle.foyer_core.specs.Flushing.{ArePlacedAs, IsWritingAs, AreWriting, IsBatchAs, IsFlusherAs, spoil_of}
+use Rattle.foyer_core.specs.Flushing.{AreLaidOutAs, IsWritingAs, AreWriting, IsBatchAs, IsFlusherAs, invalid_of}
 use Rattle.foyer_core.specs.Handing.{filling_in}
 use Rattle.foyer_core.specs.InOneBlock.{laid_from}
-use Rattle.foyer_core.specs.Meets.{machine}
+use Rattle.foyer_core.specs.Refines.{machine}
 use Rattle.foyer_core.specs.Replied.{mark_of}
-use Rattle.foyer_core.specs.Sizes.{IsSound}
+use Rattle.foyer_core.specs.Sizes.{AreValid}
 use Rattle.foyer_core.specs.Standing.{AreBlocksAs, IsIndexedAs}
 use Rattle.foyer_core.specs.Unchanged.{Seen}
 use Rattle.foyer_core.proofs.BlockLemmas.{filling_at}
@@ -49,14 +49,14 @@ last_left first (w ∷ rest) ws is few = let two : length ws ≡ length (first �
 
 module _ {K V P A : Type 0} (m : Meaning K V P) (s : Settings) where
   -- another batch in a flusher
-  batch_put : (φ : Seen K V P A) (it : plainly.Flusher Content) (batch : Batch K V P A) (p : plainly.Batch Content) → IsFlusherAs m s φ it
+  batch_put : (φ : Seen K V P A) (it : model_state.Flusher Content) (batch : Batch K V P A) (p : model_state.Batch Content) → IsFlusherAs m s φ it
       → IsBatchAs m s φ.own batch p → IsFlusherAs m s (record φ { batch = Some batch }) (record it { batch = Some p })
   batch_put φ it batch p stands are = record {
     queue = stands.queue;
     buffer = stands.buffer;
     bytes = stands.bytes;
     marks = stands.marks;
-    spoils = stands.spoils;
+    invalidated = stands.invalidated;
     waits = stands.waits;
     own = stands.own;
     there = stands.there;
@@ -68,24 +68,24 @@ module _ {K V P A : Type 0} (m : Meaning K V P) (s : Settings) where
   }
 
   -- the block that is written is another, or none
-  writing_put : (own : Option ℕ) (batch : Batch K V P A) (p : plainly.Batch Content) (w : Option (Writing A)) (v : Option (plainly.Writing Content)) → IsBatchAs m s own batch p
+  writing_put : (own : Option ℕ) (batch : Batch K V P A) (p : model_state.Batch Content) (w : Option (Writing A)) (v : Option (model_state.Writing Content)) → IsBatchAs m s own batch p
       → AreWriting m s batch.pieces.items w v → IsBatchAs m s own (record batch { writing = w }) (record p { writing = v })
   writing_put own batch p w v are new = record {
     blocks = are.blocks;
-    goes_on = are.goes_on;
+    continues_own_block = are.continues_own_block;
     owned = are.owned;
     writing = new;
     marks = are.marks;
-    spoils = are.spoils;
+    invalidated = are.invalidated;
     pieces = are.pieces;
     waits = are.waits;
     logged = are.logged;
   }
 
   -- a batch fails in which no block is being written
-  pub failed_is : (first : ℕ) (φ : Seen K V P A) (it : plainly.Flusher Content) (batch left : Batch K V P A) (p : plainly.Batch Content)
+  pub failed_is : (first : ℕ) (φ : Seen K V P A) (it : model_state.Flusher Content) (batch left : Batch K V P A) (p : model_state.Batch Content)
       → first ≡ s.blob_index_size → IsFlusherAs m s φ it → φ.batch ≡ Some batch → it.batch ≡ Some p → batch.writing ≡ None
-      → left ≡ record batch { blocks = left.blocks; goes_on = false } → left.blocks.items ≡ []
+      → left ≡ record batch { blocks = left.blocks; continues_own_block = false } → left.blocks.items ≡ []
       → IsFlusherAs m s (record φ { next_offset = first; own = None; batch = Some left }) (failed_batch first it p)
   failed_is first φ it batch left p size stands is plain_is idle left_is none =
       let got = batched m s φ.own φ.batch it.batch stands.batch batch is in
@@ -98,7 +98,7 @@ module _ {K V P A : Type 0} (m : Meaning K V P) (s : Settings) where
         buffer = stands.buffer;
         bytes = stands.bytes;
         marks = stands.marks;
-        spoils = stands.spoils;
+        invalidated = stands.invalidated;
         waits = stands.waits;
         own = refl;
         there = tt;
@@ -106,38 +106,38 @@ module _ {K V P A : Type 0} (m : Meaning K V P) (s : Settings) where
         context = refl;
         behind = omega arith;
         within = omega arith;
-        batch = subst (λ b. IsBatchAs m s None b (record p { blocks = []; goes_on = false; writing = None })) (sym left_is) (record {
-          blocks = subst (λ xs. ArePlacedAs m s batch.pieces.items xs []) (sym none) tt;
-          goes_on = refl;
+        batch = subst (λ b. IsBatchAs m s None b (record p { blocks = []; continues_own_block = false; writing = None })) (sym left_is) (record {
+          blocks = subst (λ xs. AreLaidOutAs m s batch.pieces.items xs []) (sym none) tt;
+          continues_own_block = refl;
           owned = λ e. absurd (cc);
           writing = subst (λ o. AreWriting m s batch.pieces.items o None) (sym idle) tt;
           marks = are.marks;
-          spoils = are.spoils;
+          invalidated = are.invalidated;
           pieces = are.pieces;
           waits = are.waits;
           logged = are.logged;
         });
       }
 
-module _ {K V P A : Type 0} (m : Meaning K V P) (s : Settings) (sound : IsSound s) (f : ℕ) (it : plainly.State Content)
+module _ {K V P A : Type 0} (m : Meaning K V P) (s : Settings) (sound : AreValid s) (f : ℕ) (it : model_state.State Content)
     (φ : Seen K V P A) (slots : IndexMap) (states : List BlockState) (ids waiters : List ℕ) (stands : StandsAt m s f it φ slots states ids waiters)
     (batch : Batch K V P A) (is : φ.batch ≡ Some batch) (w : Writing A) (writes : batch.writing ≡ Some w) where
-  pub got : (p : plainly.Batch Content) × ((it.flushers f).batch ≡ Some p) × IsBatchAs m s φ.own batch p
+  pub got : (p : model_state.Batch Content) × ((it.flushers f).batch ≡ Some p) × IsBatchAs m s φ.own batch p
   got = batched m s φ.own φ.batch (it.flushers f).batch (stands.flusher).batch batch is
 
-  at : (v : plainly.Writing Content) × ((got.0).writing ≡ Some v) × IsWritingAs m s batch.pieces.items w v
+  at : (v : model_state.Writing Content) × ((got.0).writing ≡ Some v) × IsWritingAs m s batch.pieces.items w v
   at = written m s batch.pieces.items batch.writing (got.0).writing ((got.2).writing) w writes
 
   -- another write is left
   pub wrote_next : (n : ℕ) → 1 < w.left → n ≡ w.left - 1
-      → IsDone m s sound (steps.FlushWrote f true) f it replies.Next (record φ { batch = Some (record batch { writing = Some (record w { left = n }) }) }) slots states ids waiters
+      → FlusherStep m s sound (model_step.FlushWrote f true) f it model_reply.Next (record φ { batch = Some (record batch { writing = Some (record w { left = n }) }) }) slots states ids waiters
   wrote_next n more less =
       let two = two_left (at.0).left (let e : length (at.0).left ≡ w.left = (at.2).left in omega arith) in
-      let v : plainly.Writing Content = record at.0 { left = two.1 ∷ two.2 } in
-      let p : plainly.Batch Content = record got.0 { writing = Some v } in
+      let v : model_state.Writing Content = record at.0 { left = two.1 ∷ two.2 } in
+      let p : model_state.Batch Content = record got.0 { writing = Some v } in
       record {
         after = write_done (machine m s sound) it f got.0 at.0 (two.1 ∷ two.2);
-        does = subst (λ q. Wrote (machine m s sound) it f true q replies.Next (write_done (machine m s sound) it f got.0 at.0 (two.1 ∷ two.2))) (sym got.1)
+        does = subst (λ q. Wrote (machine m s sound) it f true q model_reply.Next (write_done (machine m s sound) it f got.0 at.0 (two.1 ∷ two.2))) (sym got.1)
             (at.0, two.0, two.1, two.2, at.1, two.3, refl);
         flusher = record (it.flushers f) { batch = Some p };
         flushers = refl;
@@ -172,22 +172,22 @@ module _ {K V P A : Type 0} (m : Meaning K V P) (s : Settings) (sound : IsSound 
   -- the block's records enter the index
   pub wrote_last : (n filling : ℕ) (slots' : IndexMap) → w.left ≤ 1 → filling ≡ filling_in states w.block → n ≡ length w.records.items
       → slots' ≡ inserted_all slots (map (settled w.block filling w.offset) w.records.items)
-      → IsDone m s sound (steps.FlushWrote f true) f it (replies.Committed n) (record φ { batch = Some (record batch { writing = None }) }) slots' states ids waiters
+      → FlusherStep m s sound (model_step.FlushWrote f true) f it (model_reply.Committed n) (record φ { batch = Some (record batch { writing = None }) }) slots' states ids waiters
   wrote_last n filling slots' few read count new =
       let fill : filling ≡ it.filling w.block = read ∙ filling_at s states it.place it.filling it.stats stands.blocks w.block (at.2).there in
       let one = first_left (at.0).left (let e : length (at.0).left ≡ w.left = (at.2).left in let k : 0 < w.left = (at.2).some in omega arith) in
       let last : one.1 ≡ [] = last_left one.0 one.1 (at.0).left one.2 (let e : length (at.0).left ≡ w.left = (at.2).left in omega arith) in
-      let rs : List (plain.Record Content) = (at.2).records in
+      let rs : List (model_record.Record Content) = (at.2).records in
       let block : (at.0).block ≡ w.block = (at.2).block in
       let zero : w.offset + 0 ≡ w.offset = omega arith in
       let laid : (at.0).records ≡ laid_from (w.offset + 0) rs = (at.2).laid ∙ ap (λ o. laid_from o rs) (sym zero) in
       let commits : commit_of (at.0).block (it.filling (at.0).block) (at.0).records it.index ≡ commit_of w.block filling (laid_from (w.offset + 0) rs) it.index =
       (λ i. commit_of (block i) (it.filling (block i)) (laid i) it.index) ∙ ap (λ k. commit_of w.block k (laid_from (w.offset + 0) rs) it.index) (sym fill) in
       let fits : w.offset + 0 + bytes_taken page_up rs ≤ 2 ^ 32 =
-      let a : w.offset + bytes_taken page_up rs ≤ s.block_size = (at.2).within in let b : s.block_size ≤ 2 ^ 32 = sound.told_offsets in omega arith in
+      let a : w.offset + bytes_taken page_up rs ≤ s.block_size = (at.2).within in let b : s.block_size ≤ 2 ^ 32 = sound.offsets_fit in omega arith in
       record {
         after = block_done (machine m s sound) it f got.0 at.0;
-        does = subst (λ q. Wrote (machine m s sound) it f true q (replies.Committed n) (block_done (machine m s sound) it f got.0 at.0)) (sym got.1) (
+        does = subst (λ q. Wrote (machine m s sound) it f true q (model_reply.Committed n) (block_done (machine m s sound) it f got.0 at.0)) (sym got.1) (
           at.0,
           one.0,
           at.1,
@@ -216,13 +216,13 @@ module _ {K V P A : Type 0} (m : Meaning K V P) (s : Settings) (sound : IsSound 
   wrote_failed : (ok : Bool) (first : ℕ) (ψ : Seen K V P A) (states' : List BlockState) → (ok ≡ true → w.left ≤ 1) → first ≡ s.blob_index_size
       → IsFlusherAs m s ψ (failed_batch first (record (it.flushers f) { batch = Some (record got.0 { writing = None }) }) (record got.0 { writing = None }))
       → AreBlocksAs s states' (released φ.own it.place) it.filling it.stats
-      → IsDone m s sound (steps.FlushWrote f ok) f it replies.Failed ψ slots states' ids waiters
+      → FlusherStep m s sound (model_step.FlushWrote f ok) f it model_reply.Failed ψ slots states' ids waiters
   wrote_failed ok first ψ states' few size left blocks =
       let one = first_left (at.0).left (let e : length (at.0).left ≡ w.left = (at.2).left in let k : 0 < w.left = (at.2).some in omega arith) in
       let last : ok ≡ true → one.1 ≡ [] = (λ yes. last_left one.0 one.1 (at.0).left one.2 (let e : length (at.0).left ≡ w.left = (at.2).left in let k : w.left ≤ 1 = few yes in omega arith)) in
       record {
         after = batch_failed (machine m s sound) it f got.0;
-        does = subst (λ q. Wrote (machine m s sound) it f ok q replies.Failed (batch_failed (machine m s sound) it f got.0)) (sym got.1)
+        does = subst (λ q. Wrote (machine m s sound) it f ok q model_reply.Failed (batch_failed (machine m s sound) it f got.0)) (sym got.1)
             (fails ok (batch_failed (machine m s sound) it f got.0) one.0 one.1 one.2 last refl);
         flusher = failed_batch s.blob_index_size (record (it.flushers f) { batch = Some (record got.0 { writing = None }) }) (record got.0 { writing = None });
         flushers = refl;
@@ -239,44 +239,44 @@ module _ {K V P A : Type 0} (m : Meaning K V P) (s : Settings) (sound : IsSound 
         destroy = refl;
       }
     where
-      fails : (ok : Bool) (new : plainly.State Content) (x : Write) (rest : List Write) → (at.0).left ≡ x ∷ rest → (ok ≡ true → rest ≡ []) → new ≡ batch_failed (machine m s sound) it f got.0
-          → Wrote (machine m s sound) it f ok (Some got.0) replies.Failed new
+      fails : (ok : Bool) (new : model_state.State Content) (x : Write) (rest : List Write) → (at.0).left ≡ x ∷ rest → (ok ≡ true → rest ≡ []) → new ≡ batch_failed (machine m s sound) it f got.0
+          → Wrote (machine m s sound) it f ok (Some got.0) model_reply.Failed new
       fails true new x rest e last is = (at.0, x, rest, at.1, e, last, is)
       fails false new x rest e last is = (at.0, x, rest, at.1, e, last, is)
 
   -- and so it is where the code fails the batch, once it took the block that was written
   pub wrote_fails : (ok : Bool) (first : ℕ) (ψ : Seen K V P A) (states' : List BlockState) (idle : Batch K V P A) (answer : Answer) (slots' : IndexMap)
       → idle ≡ record batch { writing = None } → (ok ≡ true → w.left ≤ 1) → first ≡ s.blob_index_size
-      → ((φ' : plainly.Flusher Content) (p : plainly.Batch Content) → first ≡ s.blob_index_size → IsFlusherAs m s (record φ { batch = Some idle }) φ'
+      → ((φ' : model_state.Flusher Content) (p : model_state.Batch Content) → first ≡ s.blob_index_size → IsFlusherAs m s (record φ { batch = Some idle }) φ'
       → φ'.batch ≡ Some p → IsFlusherAs m s ψ (failed_batch first φ' p))
       → AreBlocksAs s states' (released φ.own it.place) it.filling it.stats → answer ≡ answers.Failed → slots' ≡ slots
-      → IsDone m s sound (steps.FlushWrote f ok) f it (told_wrote answer) ψ slots' states' ids waiters
+      → FlusherStep m s sound (model_step.FlushWrote f ok) f it (issued_wrote answer) ψ slots' states' ids waiters
   wrote_fails ok first ψ states' idle answer slots' idle_as few size fails blocks failed same =
       let as_idle : IsFlusherAs m s (record φ { batch = Some idle }) (record (it.flushers f) { batch = Some (record got.0 { writing = None }) }) =
       subst (λ b. IsFlusherAs m s (record φ { batch = Some b }) (record (it.flushers f) { batch = Some (record got.0 { writing = None }) })) (sym idle_as) idle_is in
-      subst (λ a. IsDone m s sound (steps.FlushWrote f ok) f it (told_wrote a) ψ slots' states' ids waiters) (sym failed)
-      (subst (λ k. IsDone m s sound (steps.FlushWrote f ok) f it replies.Failed ψ k states' ids waiters) (sym same)
+      subst (λ a. FlusherStep m s sound (model_step.FlushWrote f ok) f it (issued_wrote a) ψ slots' states' ids waiters) (sym failed)
+      (subst (λ k. FlusherStep m s sound (model_step.FlushWrote f ok) f it model_reply.Failed ψ k states' ids waiters) (sym same)
       (wrote_failed ok first ψ states' few size
       (fails (record (it.flushers f) { batch = Some (record got.0 { writing = None }) }) (record got.0 { writing = None }) size as_idle refl) blocks))
 
 -- a batch ends
-pub ended : {K V P A : Type 0} (m : Meaning K V P) (s : Settings) (sound : IsSound s) (f : ℕ) (it : plainly.State Content)
+pub ended : {K V P A : Type 0} (m : Meaning K V P) (s : Settings) (sound : AreValid s) (f : ℕ) (it : model_state.State Content)
     (φ : Seen K V P A) (slots : IndexMap) (states : List BlockState) (ids waiters : List ℕ) → StandsAt m s f it φ slots states ids waiters
     → (batch : Batch K V P A) → φ.batch ≡ Some batch → (slots' : IndexMap) (states' : List BlockState)
-    → slots' ≡ without_marks slots batch.marks.items → AreBlocksAs s states' it.place it.filling (all_spoiled (map spoil_of batch.invalid.items) it.stats)
-    → IsDone m s sound (steps.FlushEnd f) f it (replies.Ended (map (content_of m) batch.pieces.items) batch.waits.items) (record φ { batch = None }) slots' states' ids waiters
+    → slots' ≡ without_marks slots batch.marks.items → AreBlocksAs s states' it.place it.filling (all_invalidated (map invalid_of batch.invalid.items) it.stats)
+    → FlusherStep m s sound (model_step.FlushEnd f) f it (model_reply.Ended (map (content_of m) batch.pieces.items) batch.waits.items) (record φ { batch = None }) slots' states' ids waiters
 ended m s sound f it φ slots states ids waiters stands batch is slots' states' gone blocks =
     let got = batched m s φ.own φ.batch (it.flushers f).batch (stands.flusher).batch batch is in
     let φs = stands.flusher in
-    let new : plainly.State Content =
+    let new : model_state.State Content =
     record it {
       flushers = put it.flushers f (record (it.flushers f) { batch = None });
       index = unmarked (got.0).marks it.index;
-      stats = spoiled_unless (got.0).logged (got.0).spoils it.stats;
+      stats = invalidated_unless (got.0).logged (got.0).invalidated it.stats;
     } in
     record {
       after = new;
-      does = subst (λ q. Finishes (machine m s sound) it f q (replies.Ended (map (content_of m) batch.pieces.items) batch.waits.items) new) (sym got.1)
+      does = subst (λ q. Finishes (machine m s sound) it f q (model_reply.Ended (map (content_of m) batch.pieces.items) batch.waits.items) new) (sym got.1)
           (sym (got.2).pieces, sym (got.2).waits, refl);
       flusher = record (it.flushers f) { batch = None };
       flushers = refl;
@@ -285,7 +285,7 @@ ended m s sound f it φ slots states ids waiters stands batch is slots' states' 
         buffer = φs.buffer;
         bytes = φs.bytes;
         marks = φs.marks;
-        spoils = φs.spoils;
+        invalidated = φs.invalidated;
         waits = φs.waits;
         own = φs.own;
         there = φs.there;
@@ -298,8 +298,8 @@ ended m s sound f it φ slots states ids waiters stands batch is slots' states' 
       queue = refl;
       index = subst (λ k. IsIndexedAs s slots' (unmarked k it.index)) (sym (got.2).marks)
           (subst (λ k. IsIndexedAs s k (unmarked (map mark_of batch.marks.items) it.index)) (sym gone) (unmarked_is s slots it.index batch.marks.items stands.index));
-      blocks = subst (λ o. AreBlocksAs s states' it.place it.filling (spoiled_unless o (got.0).spoils it.stats)) (sym (got.2).logged)
-          (subst (λ k. AreBlocksAs s states' it.place it.filling (all_spoiled k it.stats)) (sym (got.2).spoils) blocks);
+      blocks = subst (λ o. AreBlocksAs s states' it.place it.filling (invalidated_unless o (got.0).invalidated it.stats)) (sym (got.2).logged)
+          (subst (λ k. AreBlocksAs s states' it.place it.filling (all_invalidated k it.stats)) (sym (got.2).invalidated) blocks);
       clean = stands.clean;
       waiting = stands.waiting;
       next = refl;

@@ -19,7 +19,7 @@ HandsBack given (reply.NotNow back) old new = (back ≡ given) × IsUnchanged ol
 HandsBack given (reply.Refused kind back) old new = (back ≡ given) × IsUnchanged old new
 HandsBack given answer old new = Unit {0}
 
--- the step brings the bytes of this spelled pair: its record, judged by as many bytes as its address has
+-- the step brings the bytes of this encoded pair: its record, judged by as many bytes as its address has
 abbrev pub BringsPair : {K V P A : Type 0} → (List ℕ → Bool) → (List ℕ → Bool) → List ℕ → List ℕ → Step K V P A → Type 0
 BringsPair is_key is_value key value (step.LoadEnd ticket (Ok bytes)) =
     pair_of is_key is_value (take ticket.address.len bytes.items) ticket.hash ticket.address.sequence ≡ Pair key value
@@ -50,43 +50,43 @@ Looks (step.LoadBegin hash throttled) ticket old =
 Looks given ticket old = ⊥
 
 -- what a reply says, beside that of a step that was handed back
-abbrev pub Tells : {K V P A : Type 0} → (List ℕ → Bool) → (List ℕ → Bool) → (K → List ℕ) → (V → List ℕ)
+abbrev pub Describes : {K V P A : Type 0} → (List ℕ → Bool) → (List ℕ → Bool) → (K → List ℕ) → (V → List ℕ)
     → Step K V P A → Reply K V P A → Core K V P A → Core K V P A → Type 0
-Tells is_key is_value key_of value_of given (reply.Entry key value age) old new =
+Describes is_key is_value key_of value_of given (reply.Entry key value age) old new =
     BringsPair is_key is_value (key_of key) (value_of value) given
-Tells is_key is_value key_of value_of given (reply.Queued sequence) old new = Queues given sequence old new
-Tells is_key is_value key_of value_of given (reply.Deleted sequence) old new = Deletes given sequence old new
-Tells is_key is_value key_of value_of given (reply.Answer answer) old new = Asks given answer old
-Tells is_key is_value key_of value_of given (reply.Read ticket) old new = Looks given ticket old
-Tells is_key is_value key_of value_of given answer old new = Unit {0}
+Describes is_key is_value key_of value_of given (reply.Queued sequence) old new = Queues given sequence old new
+Describes is_key is_value key_of value_of given (reply.Deleted sequence) old new = Deletes given sequence old new
+Describes is_key is_value key_of value_of given (reply.Answer answer) old new = Asks given answer old
+Describes is_key is_value key_of value_of given (reply.Read ticket) old new = Looks given ticket old
+Describes is_key is_value key_of value_of given answer old new = Unit {0}
 
 -- a reply of another kind than those
-abbrev pub TellsNothing : {K V P A : Type 0} → Reply K V P A → Type 0
-TellsNothing (reply.Entry key value age) = ⊥
-TellsNothing (reply.Queued sequence) = ⊥
-TellsNothing (reply.Deleted sequence) = ⊥
-TellsNothing (reply.Answer answer) = ⊥
-TellsNothing (reply.Read ticket) = ⊥
-TellsNothing answer = Unit {0}
+abbrev pub DescribesNothing : {K V P A : Type 0} → Reply K V P A → Type 0
+DescribesNothing (reply.Entry key value age) = ⊥
+DescribesNothing (reply.Queued sequence) = ⊥
+DescribesNothing (reply.Deleted sequence) = ⊥
+DescribesNothing (reply.Answer answer) = ⊥
+DescribesNothing (reply.Read ticket) = ⊥
+DescribesNothing answer = Unit {0}
 
--- of an enqueue's answers one tells a sequence
+-- of an enqueue's answers one has a sequence
 abbrev pub Enqueues : {K V P A : Type 0} → Step K V P A → Reply K V P A → Core K V P A → Core K V P A → Type 0
 Enqueues given (reply.Queued sequence) old new = Queues given sequence old new
-Enqueues given answer old new = TellsNothing answer
+Enqueues given answer old new = DescribesNothing answer
 
 -- and so of a delete's
 abbrev pub Deleting : {K V P A : Type 0} → Step K V P A → Reply K V P A → Core K V P A → Core K V P A → Type 0
 Deleting given (reply.Deleted sequence) old new = Deletes given sequence old new
-Deleting given answer old new = TellsNothing answer
+Deleting given answer old new = DescribesNothing answer
 
--- of a look-up's answers one tells a ticket
+-- of a look-up's answers one has a ticket
 abbrev pub Looking : {K V P A : Type 0} → Step K V P A → Reply K V P A → Core K V P A → Type 0
 Looking given (reply.Read ticket) old = Looks given ticket old
-Looking given answer old = TellsNothing answer
+Looking given answer old = DescribesNothing answer
 
 -- of a load's answers one is a pair
 abbrev pub AnswersPair : {K V P A : Type 0} → (List ℕ → Bool) → (List ℕ → Bool) → (K → List ℕ) → (V → List ℕ)
     → Step K V P A → Reply K V P A → Type 0
 AnswersPair is_key is_value key_of value_of given (reply.Entry key value age) =
     BringsPair is_key is_value (key_of key) (value_of value) given
-AnswersPair is_key is_value key_of value_of given answer = TellsNothing answer
+AnswersPair is_key is_value key_of value_of given answer = DescribesNothing answer

@@ -2,19 +2,19 @@
 use Rattle.std.specs.Prelude.{◌≡◌, ℕ, ◌+◌, ◌-◌, ◌^◌, min, false, List, [], ◌∷◌, map, Some, None}
 use Rattle.foyer_block.specs.Index.{IndexMap}
 use Rattle.foyer_block.specs.declared.indexer.HashedEntryAddress.{HashedEntryAddress}
-use Rattle.foyer_model.specs.Does.{Does}
-use Rattle.foyer_model.specs.Filling.{Spread, records_in}
+use Rattle.foyer_model.specs.Changes.{Changes}
+use Rattle.foyer_model.specs.Position.{BlockLayout, records_in}
 use Rattle.foyer_model.specs.Flush.{writing_of}
 use Rattle.foyer_model.specs.Numbers.{put}
-use Rattle.foyer_model.specs.Reply as replies
-use Rattle.foyer_model.specs.State as plainly
-use Rattle.foyer_model.specs.Step as plain
+use Rattle.foyer_model.specs.Reply as model_reply
+use Rattle.foyer_model.specs.State as model_state
+use Rattle.foyer_model.specs.Step as model_step
 use Rattle.foyer_core.specs.Content.{Content, Meaning, content_of}
 use Rattle.foyer_core.specs.Flushing.{IsFlusherAs, IsBatchAs, filled_to}
 use Rattle.foyer_core.specs.InOneBlock.{IsInOneBlock, all_writes}
-use Rattle.foyer_core.specs.Meets.{machine}
+use Rattle.foyer_core.specs.Refines.{machine}
 use Rattle.foyer_core.specs.Replied.{write_of}
-use Rattle.foyer_core.specs.Sizes.{IsSound}
+use Rattle.foyer_core.specs.Sizes.{AreValid}
 use Rattle.foyer_core.specs.Standing.{IsIndexedAs, AreBlocksAs, AreCleanAs}
 use Rattle.foyer_core.specs.Unchanged.{Seen}
 use Rattle.foyer_core.specs.declared.block.batch.Next.{Next}
@@ -27,23 +27,23 @@ use Rattle.foyer_core.specs.declared.reply.Write.{Write}
 use Rattle.foyer_core.specs.declared.settings.Settings.{Settings}
 use Rattle.foyer_core.specs.declared.state.BlockState.{BlockState}
 
--- a flusher of a plain state, with what a flush changes beside it
-pub record StandsAt {K V P A : Type 0} (m : Meaning K V P) (s : Settings) (f : ℕ) (it : plainly.State Content)
+-- a flusher of a state of the model, with what a flush changes beside it
+pub record StandsAt {K V P A : Type 0} (m : Meaning K V P) (s : Settings) (f : ℕ) (it : model_state.State Content)
     (φ : Seen K V P A) (slots : IndexMap) (states : List BlockState) (ids waiters : List ℕ) : Type 0 where
   pub flusher : IsFlusherAs m s φ (it.flushers f)
   pub index : IsIndexedAs s slots it.index
   pub blocks : AreBlocksAs s states it.place it.filling it.stats
   pub clean : AreCleanAs s ids it.clean
   pub waiting : it.waiting ≡ waiters
-  pub destroy : it.destroy ≡ plainly.NoDestroy
+  pub destroy : it.destroy ≡ model_state.NoDestroy
 
--- The plain machine does this step with this reply, and leaves this flusher and these beside it, and the rest as it was.
-pub record IsDone {K V P A : Type 0} (m : Meaning K V P) (s : Settings) (sound : IsSound s) (given : plain.Step Content) (f : ℕ)
-    (old : plainly.State Content) (answer : replies.Reply Content)
+-- The model does this step with this reply, and leaves this flusher and these beside it, and the rest as it was.
+pub record FlusherStep {K V P A : Type 0} (m : Meaning K V P) (s : Settings) (sound : AreValid s) (given : model_step.Step Content) (f : ℕ)
+    (old : model_state.State Content) (answer : model_reply.Reply Content)
     (φ : Seen K V P A) (slots : IndexMap) (states : List BlockState) (ids waiters : List ℕ) : Type 0 where
-  pub after : plainly.State Content
-  pub does : Does (machine m s sound) (IsInOneBlock s.blob_index_size) old given answer after
-  pub flusher : plainly.Flusher Content
+  pub after : model_state.State Content
+  pub does : Changes (machine m s sound) (IsInOneBlock s.blob_index_size) old given answer after
+  pub flusher : model_state.Flusher Content
   pub flushers : after.flushers ≡ put old.flushers f flusher
   pub it : IsFlusherAs m s φ flusher
   pub queue : flusher.queue ≡ (old.flushers f).queue
@@ -58,29 +58,29 @@ pub record IsDone {K V P A : Type 0} (m : Meaning K V P) (s : Settings) (sound :
   pub destroy : after.destroy ≡ old.destroy
 
 -- the reply to the demand for a block
-abbrev pub told_next : {A : Type 0} → Next A → replies.Reply Content
-told_next next.NoBlock = replies.NoBlock
-told_next (next.Block block writes) = replies.Written block (map write_of writes.items)
+abbrev pub issued_next : {A : Type 0} → Next A → model_reply.Reply Content
+issued_next next.NoBlock = model_reply.NoBlock
+issued_next (next.Block block writes) = model_reply.Written block (map write_of writes.items)
 
 -- the reply to the report of a write
-abbrev pub told_wrote : Wrote → replies.Reply Content
-told_wrote wrote.Next = replies.Next
-told_wrote (wrote.Committed n) = replies.Committed n
-told_wrote wrote.Failed = replies.Failed
+abbrev pub issued_wrote : Wrote → model_reply.Reply Content
+issued_wrote wrote.Next = model_reply.Next
+issued_wrote (wrote.Committed n) = model_reply.Committed n
+issued_wrote wrote.Failed = model_reply.Failed
 
 -- the reply at a batch's end
-abbrev pub told_ended : {K V P A : Type 0} → Meaning K V P → Ended K V P A → replies.Reply Content
-told_ended m ended = replies.Ended (map (content_of m) ended.pieces.items) ended.waits.items
+abbrev pub issued_ended : {K V P A : Type 0} → Meaning K V P → Ended K V P A → model_reply.Reply Content
+issued_ended m ended = model_reply.Ended (map (content_of m) ended.pieces.items) ended.waits.items
 
--- the next block of a batch is told: its first placing leaves the batch, and is being written
-pub record IsTold {K V P A : Type 0} (m : Meaning K V P) (s : Settings) (b : ℕ) (written : List (Write A)) (batch : Batch K V P A)
-    (old : plainly.Batch Content) : Type 0 where
-  pub spread : Spread Content
-  pub rest : List (Spread Content)
+-- the next block of a batch is issued: its first placing leaves the batch, and is being written
+pub record IsIssued {K V P A : Type 0} (m : Meaning K V P) (s : Settings) (b : ℕ) (written : List (Write A)) (batch : Batch K V P A)
+    (old : model_state.Batch Content) : Type 0 where
+  pub spread : BlockLayout Content
+  pub rest : List (BlockLayout Content)
   pub first : old.blocks ≡ spread ∷ rest
   pub writes : map write_of written ≡ all_writes spread.parts
   pub it : IsBatchAs m s (Some b) batch
-      (record old { blocks = rest; goes_on = false; writing = writing_of b (all_writes spread.parts) (records_in spread.parts) })
+      (record old { blocks = rest; continues_own_block = false; writing = writing_of b (all_writes spread.parts) (records_in spread.parts) })
 
 -- the record of a block, where a batch's data begin at an offset
 abbrev pub settled : (block filling offset : ℕ) → HashedEntryAddress → HashedEntryAddress
@@ -88,10 +88,10 @@ settled block filling offset e =
     record e { address = record e.address { block = block; filling = filling; offset = min (offset + e.address.offset) (2 ^ 32 - 1) } }
 
 -- a flusher whose batch failed: the rest is dropped, and its splitter is fresh
-abbrev pub failed_batch : ℕ → plainly.Flusher Content → plainly.Batch Content → plainly.Flusher Content
+abbrev pub failed_batch : ℕ → model_state.Flusher Content → model_state.Batch Content → model_state.Flusher Content
 failed_batch first it batch =
     record it {
       own = None;
       context = filled_to first;
-      batch = Some (record batch { blocks = []; goes_on = false; writing = None });
+      batch = Some (record batch { blocks = []; continues_own_block = false; writing = None });
     }

@@ -5,7 +5,7 @@ use Rattle.foyer_core.specs.Unchanged.{seen}
 use Rattle.foyer_core.specs.declared.block.batch.Received.{Received}
 use Rattle.foyer_core.specs.declared.block.flusher.Batch.{Batch}
 use Rattle.foyer_core.specs.declared.block.flusher.Flusher.{Flusher}
-use Rattle.foyer_core.specs.declared.block.flusher.Placed.{Placed}
+use Rattle.foyer_core.specs.declared.block.flusher.LaidOut.{LaidOut}
 use Rattle.foyer_core.specs.declared.reply.Write.{Write}
 
 -- the data of a block are one write, if there are any
@@ -23,12 +23,12 @@ pub record HasNothing {K V P A : Type 0} (r : Received K V P A) : Type 0 where
   pub pieces : r.pieces.items ≡ []
   pub waits : r.waits.items ≡ []
 
-pub record IsBegun {K V P A : Type 0} (old new : Flusher K V P A) (marks_told : List Tombstone) : Type 0 where
+pub record IsBegun {K V P A : Type 0} (old new : Flusher K V P A) (marks_issued : List Tombstone) : Type 0 where
   pub batch : Batch K V P A
-  pub placed : Placed A
-  pub told : marks_told ≡ old.marks.items
+  pub placed : LaidOut A
+  pub issued : marks_issued ≡ old.marks.items
   pub blocks : batch.blocks.items ≡ placed ∷ []
-  pub goes_on : batch.goes_on ≡ is_some old.own
+  pub continues_own_block : batch.continues_own_block ≡ is_some old.own
   pub writing : batch.writing ≡ None
   pub marks : batch.marks.items ≡ old.marks.items
   pub invalid : batch.invalid.items ≡ old.invalid.items

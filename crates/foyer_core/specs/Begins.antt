@@ -1,6 +1,6 @@
--- The plain state and the world that a run of a core begins with.
+-- The model's state and the world that a run of a core begins with.
 use Rattle.std.specs.Prelude.{ℕ, false, [], None}
-use Rattle.foyer_model.specs.Access.{Rest, Still}
+use Rattle.foyer_model.specs.Access.{Idle, CleanIdle}
 use Rattle.foyer_model.specs.Ids.{ids}
 use Rattle.foyer_model.specs.Opened.{idle, full_filling}
 use Rattle.foyer_model.specs.Rules.{Rules}
@@ -35,8 +35,8 @@ first_world rules bytes = record {
   begun_writes = [];
   committed = [];
   loads = λ n. None;
-  told = 0;
+  issued = 0;
   scans = λ b. None;
-  pens = λ f. Rest;
-  wipes = λ b. Still;
+  block_writes = λ f. Idle;
+  clean_states = λ b. CleanIdle;
 }

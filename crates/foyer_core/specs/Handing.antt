@@ -3,7 +3,7 @@ use Rattle.std.specs.Prelude.{◌≡◌, ℕ, ◌+◌, ◌<◌, List, length, Op
 use Rattle.foyer_model.specs.Numbers.{put, last_number}
 use Rattle.foyer_model.specs.Ids.{without_id}
 use Rattle.foyer_model.specs.Flush.{first_usable}
-use Rattle.foyer_model.specs.State as plainly
+use Rattle.foyer_model.specs.State as model_state
 use Rattle.foyer_core.specs.Standing.{AreBlocksAs, AreCleanAs}
 use Rattle.foyer_core.specs.declared.settings.Settings.{Settings}
 use Rattle.foyer_core.specs.declared.state.BlockState.{BlockState}
@@ -23,12 +23,12 @@ pub record IsFirstUsable (clean : List ℕ) (blocks : List BlockState) (i : ℕ)
   pub below : filling_in blocks (slice_index clean i) < last_number
 
 module _ (s : Settings) (flusher : ℕ) (blocks : List BlockState) (clean : List ℕ)
-    (places : ℕ → plainly.Place) (fillings : ℕ → ℕ) (stats_at : ℕ → plainly.Stats) (ids : List ℕ) where
+    (places : ℕ → model_state.BlockSet) (fillings : ℕ → ℕ) (stats_at : ℕ → model_state.Stats) (ids : List ℕ) where
   -- what is left where this block was handed out to the flusher, or none
   abbrev pub IsHanded : Option ℕ → Type 0
   IsHanded None =
       (first_usable fillings ids ≡ None) × AreBlocksAs s blocks places fillings stats_at × AreCleanAs s clean ids
   IsHanded (Some b) =
       (first_usable fillings ids ≡ Some b) × (b < s.blocks)
-      × AreBlocksAs s blocks (put places b (plainly.Writes flusher)) (put fillings b (fillings b + 1)) stats_at
+      × AreBlocksAs s blocks (put places b (model_state.Writes flusher)) (put fillings b (fillings b + 1)) stats_at
       × AreCleanAs s clean (without_id b ids)

@@ -1,7 +1,7 @@
--- The plain placing: all records of a batch go into one block, one behind another, and no index is written.
+-- The plain layout: all records of a batch go into one block, one behind another, and no index is written.
 use Rattle.std.specs.Prelude.{◌≡◌, ℕ, ◌+◌, ◌-◌, ◌≤◌, List, [], ◌∷◌, ◌++◌, length, replicate}
 use Rattle.foyer_format.specs.Page.{page_up}
-use Rattle.foyer_model.specs.Filling.{Filling, tail_of, Data, Write, Part, Spread}
+use Rattle.foyer_model.specs.Position.{Position, tail_of, Data, Write, Part, BlockLayout}
 use Rattle.foyer_model.specs.Record.{Record}
 use Rattle.foyer_model.specs.Receive.{bytes_taken}
 use Rattle.foyer_model.specs.Rules.{Splitting}
@@ -22,13 +22,13 @@ module _ {C : Type 0} where
   laid_from n (r ∷ rs) = (n, r) ∷ laid_from (n + page_up (length r.bytes)) rs
 
   -- the part that these records are, if there are any
-  abbrev pub parts_of : Filling → List (Record C) → List (Part C)
+  abbrev pub parts_of : Position → List (Record C) → List (Part C)
   parts_of f [] = []
   parts_of f (r ∷ rs) =
       record { blob = f.blob; at = f.at; content = packed (r ∷ rs); index = []; records = laid_from (tail_of f) (r ∷ rs) } ∷ []
 
   -- what goes into the block
-  abbrev pub spread_of : Filling → List (Record C) → Spread C
+  abbrev pub spread_of : Position → List (Record C) → BlockLayout C
   spread_of f rs = record { parts = parts_of f rs; end = record f { at = f.at + bytes_taken page_up rs } }
 
   -- the write of a part

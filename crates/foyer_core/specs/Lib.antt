@@ -7,12 +7,12 @@ pub mod Content
 pub mod Flushing
 pub mod Handing
 pub mod InOneBlock
-pub mod Meets
+pub mod Refines
 pub mod Opened
-pub mod Plain
+pub mod CoreRules
 pub mod Replied
 pub mod Sizes
 pub mod Standing
 pub mod Taking
-pub mod Turns
+pub mod FlushInTurn
 pub mod Unchanged

@@ -4,7 +4,7 @@ use Rattle.std.specs.FinMap as index
 use Rattle.foyer_core.specs.declared.settings.Settings.{Settings}
 use Rattle.foyer_core.specs.declared.state.BlockState.{BlockState}
 use Rattle.foyer_core.specs.declared.state.Core.{Core}
-use Rattle.foyer_core.specs.declared.state.Place.TheVariants as place
+use Rattle.foyer_core.specs.declared.state.BlockSet.TheVariants as place
 use Rattle.foyer_core.specs.Unchanged.{Seen, seen}
 
 -- a flusher that has nothing, and whose first data go to this offset

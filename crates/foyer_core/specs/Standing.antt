@@ -1,4 +1,4 @@
--- The plain states that a core stands for. They differ in what a core doesn't keep: the bytes of writes that were told.
+-- The model's states that a core stands for. They differ in what a core doesn't keep: the bytes of writes that were issued.
 use Rattle.std.specs.Prelude.{◌≡◌, ℕ, zero, suc, ◌+◌, ◌*◌, ◌^◌, ◌<◌, ◌≤◌, List, [], ◌∷◌, map, length, Option, Some, None, slice_get}
 use Rattle.std.specs.FinMap as finite
 use Rattle.foyer_block.specs.Index.{IndexMap}
@@ -6,8 +6,8 @@ use Rattle.foyer_block.specs.declared.indexer.EntryAddress.{EntryAddress}
 use Rattle.foyer_block.specs.declared.indexer.Index.{Index}
 use Rattle.foyer_block.specs.declared.indexer.Index.TheVariants.{Address, Tombstone}
 use Rattle.foyer_model.specs.Ids.{AreDistinct}
-use Rattle.foyer_model.specs.Record as plain
-use Rattle.foyer_model.specs.State as plainly
+use Rattle.foyer_model.specs.Record as model_record
+use Rattle.foyer_model.specs.State as model_state
 use Rattle.foyer_core.specs.Asked.{address_of}
 use Rattle.foyer_core.specs.Content.{Content, Meaning}
 use Rattle.foyer_core.specs.Flushing.{IsFlusherAs}
@@ -15,33 +15,33 @@ use Rattle.foyer_core.specs.Unchanged.{Seen, seen}
 use Rattle.foyer_core.specs.declared.settings.Settings.{Settings}
 use Rattle.foyer_core.specs.declared.state.BlockState.{BlockState}
 use Rattle.foyer_core.specs.declared.state.Core.{Core}
-use Rattle.foyer_core.specs.declared.state.Place.{Place}
-use Rattle.foyer_core.specs.declared.state.Place.TheVariants as place
+use Rattle.foyer_core.specs.declared.state.BlockSet.{BlockSet}
+use Rattle.foyer_core.specs.declared.state.BlockSet.TheVariants as place
 
-abbrev pub slot_of : Option Index → Option plain.Slot
+abbrev pub slot_of : Option Index → Option model_record.Slot
 slot_of None = None
-slot_of (Some (Address a)) = Some (plain.Indexed (address_of a))
-slot_of (Some (Tombstone sequence)) = Some (plain.Mark sequence)
+slot_of (Some (Address a)) = Some (model_record.Indexed (address_of a))
+slot_of (Some (Tombstone sequence)) = Some (model_record.Mark sequence)
 
-abbrev pub place_of : Place → plainly.Place
-place_of place.Clean = plainly.Clean
-place_of (place.Writing flusher) = plainly.Writes flusher
-place_of place.Evictable = plainly.Evictable
-place_of place.Reclaiming = plainly.Reclaims
+abbrev pub place_of : BlockSet → model_state.BlockSet
+place_of place.Clean = model_state.Clean
+place_of (place.Writing flusher) = model_state.Writes flusher
+place_of place.Evictable = model_state.Evictable
+place_of place.Reclaiming = model_state.Reclaims
 
 -- each hash has what the map has for it, and addresses are of blocks that are there
-pub record IsIndexedAs (s : Settings) (index : IndexMap) (slots : ℕ → Option plain.Slot) : Type 0 where
+pub record IsIndexedAs (s : Settings) (index : IndexMap) (slots : ℕ → Option model_record.Slot) : Type 0 where
   pub slot : (hash : ℕ) → slots hash ≡ slot_of (finite.get index hash)
   pub there : (hash : ℕ) (a : EntryAddress) → finite.get index hash ≡ Some (Address a) → a.block < s.blocks
 
 -- what is known of one block
-pub record IsBlockAs (it : BlockState) (its_place : plainly.Place) (its_filling : ℕ) (its_stats : plainly.Stats) : Type 0 where
+pub record IsBlockAs (it : BlockState) (its_place : model_state.BlockSet) (its_filling : ℕ) (its_stats : model_state.Stats) : Type 0 where
   pub place : its_place ≡ place_of it.place
   pub filling : its_filling ≡ it.filling
   pub stats : its_stats ≡ record { invalid = it.invalid; access = it.access; probation = it.probation }
 
 -- the blocks by their ids
-pub record AreBlocksAs (s : Settings) (blocks : List BlockState) (places : ℕ → plainly.Place) (fillings : ℕ → ℕ) (stats_at : ℕ → plainly.Stats) : Type 0 where
+pub record AreBlocksAs (s : Settings) (blocks : List BlockState) (places : ℕ → model_state.BlockSet) (fillings : ℕ → ℕ) (stats_at : ℕ → model_state.Stats) : Type 0 where
   pub count : length blocks ≡ s.blocks
   pub all : (b : ℕ) (it : BlockState) → slice_get blocks b ≡ Some it → IsBlockAs it (places b) (fillings b) (stats_at b)
 
@@ -56,30 +56,30 @@ pub record AreCleanAs (s : Settings) (ids : List ℕ) (clean : List ℕ) : Type 
   pub once : AreDistinct ids
 
 -- the flushers by their numbers
-pub record AreFlushersAs {K V P A : Type 0} (m : Meaning K V P) (s : Settings) (φs : List (Seen K V P A)) (its : ℕ → plainly.Flusher Content) : Type 0 where
+pub record AreFlushersAs {K V P A : Type 0} (m : Meaning K V P) (s : Settings) (φs : List (Seen K V P A)) (its : ℕ → model_state.Flusher Content) : Type 0 where
   pub count : length φs ≡ s.flushers
   pub all : (f : ℕ) (φ : Seen K V P A) → slice_get φs f ≡ Some φ → IsFlusherAs m s φ (its f)
 
 -- the sizes of a queue's pieces
-abbrev pub size_in : {C : Type 0} → List (plainly.Submission C) → ℕ
+abbrev pub size_in : {C : Type 0} → List (model_state.Submission C) → ℕ
 size_in [] = 0
-size_in (plainly.Piece h q n c ∷ rest) = n + size_in rest
-size_in (plainly.Remove h q spoils ∷ rest) = size_in rest
-size_in (plainly.Await i ∷ rest) = size_in rest
-size_in (plainly.Reinsert h bytes a ∷ rest) = size_in rest
+size_in (model_state.Piece h q n c ∷ rest) = n + size_in rest
+size_in (model_state.Remove h q invalidated ∷ rest) = size_in rest
+size_in (model_state.Await i ∷ rest) = size_in rest
+size_in (model_state.Reinsert h bytes a ∷ rest) = size_in rest
 
 -- the sizes of the pieces queued at the first n flushers
-abbrev pub size_of_all : {C : Type 0} → ℕ → (ℕ → plainly.Flusher C) → ℕ
+abbrev pub size_of_all : {C : Type 0} → ℕ → (ℕ → model_state.Flusher C) → ℕ
 size_of_all zero its = 0
 size_of_all (suc n) its = size_in (its n).queue + size_of_all n its
 
 -- The sum of the queued sizes is exact: each queued piece has drawn a sequence, so that it stays below 2^128.
-pub record IsSizedAs (s : Settings) (queued next : ℕ) (its : ℕ → plainly.Flusher Content) : Type 0 where
+pub record IsSizedAs (s : Settings) (queued next : ℕ) (its : ℕ → model_state.Flusher Content) : Type 0 where
   pub sum : queued ≡ size_of_all s.flushers its
   pub bound : queued ≤ next * 2 ^ 64
 
--- a plain state that the core stands for, where its sizes are these
-pub record IsStateOf {K V P A : Type 0} (m : Meaning K V P) (s : Settings) (core : Core K V P A) (it : plainly.State Content) : Type 0 where
+-- a state of the model that the core stands for, where its sizes are these
+pub record IsStateOf {K V P A : Type 0} (m : Meaning K V P) (s : Settings) (core : Core K V P A) (it : model_state.State Content) : Type 0 where
   pub sizes : core.settings ≡ s
   pub index : IsIndexedAs s core.index it.index
   pub next : it.next ≡ core.next
@@ -91,4 +91,4 @@ pub record IsStateOf {K V P A : Type 0} (m : Meaning K V P) (s : Settings) (core
   pub clean : AreCleanAs s core.clean.items it.clean
   pub waiting : it.waiting ≡ core.waiting.items
   pub reclaims : (b : ℕ) → it.reclaims b ≡ None
-  pub destroy : it.destroy ≡ plainly.NoDestroy
+  pub destroy : it.destroy ≡ model_state.NoDestroy

@@ -1,8 +1,8 @@
 //! The one call that changes the core.
 ghost use Rattle.std.specs.Prelude.{MatchBool};
-ghost use Rattle.foyer_core.specs.Answered.{HandsBack, Tells};
+ghost use Rattle.foyer_core.specs.Answered.{HandsBack, Describes};
 ghost use Rattle.foyer_core.specs.Content.{meaning};
-ghost use Rattle.foyer_core.specs.Meets.{IsBuilt, IsHandedBack, Turned, Meets};
+ghost use Rattle.foyer_core.specs.Refines.{IsBuilt, IsHandedBack, RefinesUncounted, Refines};
 
 use crate::reply::Reply;
 use crate::state::Core;
@@ -33,16 +33,16 @@ where
     P: Properties,
     A: Allocator + Clone,
 {
-    #[tactic(auto, using(crate::proofs::Telling::tells_counted))]
+    #[tactic(auto, using(crate::proofs::Describing::issues_counted))]
     /// Applies one step, at any time. A step that is out of turn or refused changes nothing and is handed back, and
     /// isn't counted; after 2^64 - 1 steps each one is refused as `SequenceEnd`. Reclaims, destroys and a tombstone
     /// log aren't built yet: their steps are out of turn.
     pub fn apply(&mut self, _env: &mut Env, step: Step<K, V, P, A>) -> Reply<K, V, P, A>
         ensures back { HandsBack step result self.old self.new }
-        ensures told { Tells K.is_spelling V.is_spelling K.spelling V.spelling
+        ensures issued { Describes K.is_decodable V.is_decodable K.encoding V.encoding
             step result self.old self.new }
-        ensures meets { IsBuilt step → Meets
-            (meaning K.spelling V.spelling K.encodes V.encodes K.is_spelling V.is_spelling P.age)
+        ensures meets { IsBuilt step → Refines
+            (meaning K.encoding V.encoding K.is_encodable V.is_encodable K.is_decodable V.is_decodable P.age)
             step result self.old self.new }
         ensures later { (IsBuilt step → ⊥) → IsHandedBack result }
     {
@@ -58,13 +58,13 @@ where
         reply
     }
 
-    #[tactic(auto, using(crate::proofs::Telling::telling))]
+    #[tactic(auto, using(crate::proofs::Describing::issuing))]
     fn dispatch(&mut self, step: Step<K, V, P, A>) -> Reply<K, V, P, A>
         ensures back { HandsBack step result self.old self.new }
-        ensures told { Tells K.is_spelling V.is_spelling K.spelling V.spelling
+        ensures issued { Describes K.is_decodable V.is_decodable K.encoding V.encoding
             step result self.old self.new }
-        ensures meets { IsBuilt step → Turned
-            (meaning K.spelling V.spelling K.encodes V.encodes K.is_spelling V.is_spelling P.age)
+        ensures meets { IsBuilt step → RefinesUncounted
+            (meaning K.encoding V.encoding K.is_encodable V.is_encodable K.is_decodable V.is_decodable P.age)
             step result self.old self.new }
         ensures later { (IsBuilt step → ⊥) → IsHandedBack result }
     {

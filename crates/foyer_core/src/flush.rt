@@ -1,9 +1,9 @@
 //! The steps of a flush.
 ghost use Rattle.std.specs.Prelude.{Option};
 ghost use Rattle.foyer_format.specs.declared.serde.ages.Age.{Age as age};
-ghost use Rattle.foyer_core.specs.Answered.{HandsBack, TellsNothing};
+ghost use Rattle.foyer_core.specs.Answered.{HandsBack, DescribesNothing};
 ghost use Rattle.foyer_core.specs.Content.{Meaning, meaning};
-ghost use Rattle.foyer_core.specs.Meets.{Turned};
+ghost use Rattle.foyer_core.specs.Refines.{RefinesUncounted};
 ghost use Rattle.foyer_core.specs.declared.step.Step.TheVariants as step;
 
 use crate::block::batch::{Ended, Next, Wrote};
@@ -21,9 +21,9 @@ impl<K, V, P, A: Allocator + Clone> Core<K, V, P, A> {
         K: Code<A>,
         V: Code<A>,
         ensures back { HandsBack (step.Receive flusher) result self.old self.new }
-        ensures nothing { TellsNothing result }
+        ensures nothing { DescribesNothing result }
         ensures meets { (age_of : P → Option age)
-            → Turned (meaning K.spelling V.spelling K.encodes V.encodes K.is_spelling V.is_spelling age_of)
+            → RefinesUncounted (meaning K.encoding V.encoding K.is_encodable V.is_encodable K.is_decodable V.is_decodable age_of)
             (step.Receive flusher) result self.old self.new }
     {
         if flusher as usize >= self.flushers.len() {
@@ -43,8 +43,8 @@ impl<K, V, P, A: Allocator + Clone> Core<K, V, P, A> {
 
     pub(crate) fn flush_begin(&mut self, flusher: u32) -> Reply<K, V, P, A>
         ensures back { HandsBack (step.FlushBegin flusher) result self.old self.new }
-        ensures nothing { TellsNothing result }
-        ensures meets { (m : Meaning K V P) → Turned m (step.FlushBegin flusher) result self.old self.new }
+        ensures nothing { DescribesNothing result }
+        ensures meets { (m : Meaning K V P) → RefinesUncounted m (step.FlushBegin flusher) result self.old self.new }
     {
         if flusher as usize >= self.flushers.len() {
             return Reply::NotNow(Step::FlushBegin { flusher });
@@ -61,8 +61,8 @@ impl<K, V, P, A: Allocator + Clone> Core<K, V, P, A> {
 
     pub(crate) fn flush_block(&mut self, flusher: u32) -> Reply<K, V, P, A>
         ensures back { HandsBack (step.FlushBlock flusher) result self.old self.new }
-        ensures nothing { TellsNothing result }
-        ensures meets { (m : Meaning K V P) → Turned m (step.FlushBlock flusher) result self.old self.new }
+        ensures nothing { DescribesNothing result }
+        ensures meets { (m : Meaning K V P) → RefinesUncounted m (step.FlushBlock flusher) result self.old self.new }
     {
         if flusher as usize >= self.flushers.len() {
             return Reply::NotNow(Step::FlushBlock { flusher });
@@ -85,8 +85,8 @@ impl<K, V, P, A: Allocator + Clone> Core<K, V, P, A> {
 
     pub(crate) fn flush_wrote(&mut self, flusher: u32, outcome: Result<()>) -> Reply<K, V, P, A>
         ensures back { HandsBack (step.FlushWrote flusher outcome) result self.old self.new }
-        ensures nothing { TellsNothing result }
-        ensures meets { (m : Meaning K V P) → Turned m (step.FlushWrote flusher outcome) result self.old self.new }
+        ensures nothing { DescribesNothing result }
+        ensures meets { (m : Meaning K V P) → RefinesUncounted m (step.FlushWrote flusher outcome) result self.old self.new }
     {
         if flusher as usize >= self.flushers.len() {
             return Reply::NotNow(Step::FlushWrote {
@@ -117,8 +117,8 @@ impl<K, V, P, A: Allocator + Clone> Core<K, V, P, A> {
     // Takes no memory: the lists that are handed out were made by the steps before.
     pub(crate) fn flush_end(&mut self, flusher: u32) -> Reply<K, V, P, A>
         ensures back { HandsBack (step.FlushEnd flusher) result self.old self.new }
-        ensures nothing { TellsNothing result }
-        ensures meets { (m : Meaning K V P) → Turned m (step.FlushEnd flusher) result self.old self.new }
+        ensures nothing { DescribesNothing result }
+        ensures meets { (m : Meaning K V P) → RefinesUncounted m (step.FlushEnd flusher) result self.old self.new }
     {
         if flusher as usize >= self.flushers.len() {
             return Reply::NotNow(Step::FlushEnd { flusher });

@@ -1,73 +1,73 @@
-//! What holds of every run of a core: the laws of the plain machine, for every code and all sizes that go together.
+//! What holds of every run of a core: the laws of the model, for every code and all sizes that go together.
 //!
 //! `Core::apply` says which step of this machine each call is, and `Core::open` where it begins.
 ghost use Rattle.std.specs.Prelude.{◌≡◌, ℕ, Bool, List};
 ghost use Rattle.foyer_model.specs.Companions.{QueueKeeps, CommitKeeps, NotNowKeeps, IsDetermined, InTurnReplies};
 ghost use Rattle.foyer_model.specs.Laws.{Demands, AnswersOnly, AnswersNewest, MissedOnly, MissedNewest, PutsAreQueued, PromisesStay};
 ghost use Rattle.foyer_model.specs.Opened.{IsOpened as IsOpenedWorld};
-ghost use Rattle.foyer_model.specs.Placing.{PlacesAll};
+ghost use Rattle.foyer_model.specs.Layout.{PlacesAll};
 ghost use Rattle.foyer_core.specs.Begins.{first_state, first_world};
 ghost use Rattle.foyer_core.specs.Content.{Meaning};
 ghost use Rattle.foyer_core.specs.InOneBlock.{IsInOneBlock};
 ghost use Rattle.foyer_core.specs.Opened.{IsOpened};
-ghost use Rattle.foyer_core.specs.Plain.{rules_of, IsSpelled};
-ghost use Rattle.foyer_core.specs.Sizes.{IsSound};
+ghost use Rattle.foyer_core.specs.CoreRules.{rules_of, IsEncoded};
+ghost use Rattle.foyer_core.specs.Sizes.{AreValid};
 ghost use Rattle.foyer_core.specs.Standing.{IsStateOf};
 ghost use Rattle.foyer_core.specs.declared.settings.Settings.{Settings};
 ghost use Rattle.foyer_core.specs.declared.state.Core.{Core};
 
-/// What the laws ask of codes and placing holds of every code and of the plain placing: a record's bytes read back as
+/// What the laws ask of codes and layout holds of every code and of the plain layout: a record's bytes read back as
 /// its pair, and after its writes each record stands where it was placed.
 pub fn demands_are_met()
-    ensures demands { (is_key is_value : List ℕ → Bool) (s : Settings) (sound : IsSound s)
-        → Demands (rules_of is_key is_value s sound) (IsInOneBlock s.blob_index_size) (IsSpelled is_key is_value) }
-    ensures places { (is_key is_value : List ℕ → Bool) (s : Settings) (sound : IsSound s)
+    ensures demands { (is_key is_value : List ℕ → Bool) (s : Settings) (sound : AreValid s)
+        → Demands (rules_of is_key is_value s sound) (IsInOneBlock s.blob_index_size) (IsEncoded is_key is_value) }
+    ensures places { (is_key is_value : List ℕ → Bool) (s : Settings) (sound : AreValid s)
         → PlacesAll (rules_of is_key is_value s sound) (IsInOneBlock s.blob_index_size) }
 {}
 
 /// An opened core stands for the first state, and the world with that state is one that the laws begin with, over any
 /// bytes.
 pub fn opening_begins<K, V, P, A>()
-    ensures stands { (m : Meaning K V P) (s : Settings) (sound : IsSound s) (core : Core K V P A)
+    ensures stands { (m : Meaning K V P) (s : Settings) (sound : AreValid s) (core : Core K V P A)
         → IsOpened s core → IsStateOf m s core (first_state (rules_of m.is_key m.is_value s sound)) }
-    ensures opened { (is_key is_value : List ℕ → Bool) (s : Settings) (sound : IsSound s) (bytes : ℕ → ℕ → ℕ)
+    ensures opened { (is_key is_value : List ℕ → Bool) (s : Settings) (sound : AreValid s) (bytes : ℕ → ℕ → ℕ)
         → IsOpenedWorld (rules_of is_key is_value s sound) (first_world (rules_of is_key is_value s sound) bytes) }
 {}
 
 /// Whatever steps come, and whatever reads and writes do, a load answers only the record that was newest of its hash
 /// at its look-up.
 pub fn answers_only()
-    ensures entry { (is_key is_value : List ℕ → Bool) (s : Settings) (sound : IsSound s)
-        → AnswersOnly (rules_of is_key is_value s sound) (IsInOneBlock s.blob_index_size) (IsSpelled is_key is_value) }
-    ensures run { (is_key is_value : List ℕ → Bool) (s : Settings) (sound : IsSound s)
-        → AnswersNewest (rules_of is_key is_value s sound) (IsInOneBlock s.blob_index_size) (IsSpelled is_key is_value) }
+    ensures entry { (is_key is_value : List ℕ → Bool) (s : Settings) (sound : AreValid s)
+        → AnswersOnly (rules_of is_key is_value s sound) (IsInOneBlock s.blob_index_size) (IsEncoded is_key is_value) }
+    ensures run { (is_key is_value : List ℕ → Bool) (s : Settings) (sound : AreValid s)
+        → AnswersNewest (rules_of is_key is_value s sound) (IsInOneBlock s.blob_index_size) (IsEncoded is_key is_value) }
 {}
 
 /// A newest committed record is answered, unless the load was throttled, its read failed, or memory was refused.
 pub fn missed_only()
-    ensures load { (is_key is_value : List ℕ → Bool) (s : Settings) (sound : IsSound s)
-        → MissedOnly (rules_of is_key is_value s sound) (IsInOneBlock s.blob_index_size) (IsSpelled is_key is_value) }
-    ensures run { (is_key is_value : List ℕ → Bool) (s : Settings) (sound : IsSound s)
-        → MissedNewest (rules_of is_key is_value s sound) (IsInOneBlock s.blob_index_size) (IsSpelled is_key is_value) }
+    ensures load { (is_key is_value : List ℕ → Bool) (s : Settings) (sound : AreValid s)
+        → MissedOnly (rules_of is_key is_value s sound) (IsInOneBlock s.blob_index_size) (IsEncoded is_key is_value) }
+    ensures run { (is_key is_value : List ℕ → Bool) (s : Settings) (sound : AreValid s)
+        → MissedNewest (rules_of is_key is_value s sound) (IsInOneBlock s.blob_index_size) (IsEncoded is_key is_value) }
 {}
 
 /// Each put of the history is what the Enqueue that got its sequence handed in.
 pub fn puts_are_queued()
-    ensures { (is_key is_value : List ℕ → Bool) (s : Settings) (sound : IsSound s)
-        → PutsAreQueued (rules_of is_key is_value s sound) (IsInOneBlock s.blob_index_size) (IsSpelled is_key is_value) }
+    ensures { (is_key is_value : List ℕ → Bool) (s : Settings) (sound : AreValid s)
+        → PutsAreQueued (rules_of is_key is_value s sound) (IsInOneBlock s.blob_index_size) (IsEncoded is_key is_value) }
 {}
 
-/// A piece is ignored or handed back only where it may be; what was received is placed, told, and put when its block is
+/// A piece is ignored or handed back only where it may be; what was received is laid out, issued, and put when its block is
 /// written; a step is handed back only out of turn or for its cause.
 pub fn steps_keep_their_clauses()
-    ensures queue { (is_key is_value : List ℕ → Bool) (s : Settings) (sound : IsSound s)
+    ensures queue { (is_key is_value : List ℕ → Bool) (s : Settings) (sound : AreValid s)
         → QueueKeeps (rules_of is_key is_value s sound) (IsInOneBlock s.blob_index_size) }
-    ensures commit { (is_key is_value : List ℕ → Bool) (s : Settings) (sound : IsSound s)
+    ensures commit { (is_key is_value : List ℕ → Bool) (s : Settings) (sound : AreValid s)
         → CommitKeeps (rules_of is_key is_value s sound) (IsInOneBlock s.blob_index_size) }
-    ensures not_now { (is_key is_value : List ℕ → Bool) (s : Settings) (sound : IsSound s)
+    ensures not_now { (is_key is_value : List ℕ → Bool) (s : Settings) (sound : AreValid s)
         → NotNowKeeps (rules_of is_key is_value s sound) (IsInOneBlock s.blob_index_size) }
-    ensures determined { (is_key is_value : List ℕ → Bool) (s : Settings) (sound : IsSound s)
+    ensures determined { (is_key is_value : List ℕ → Bool) (s : Settings) (sound : AreValid s)
         → IsDetermined (rules_of is_key is_value s sound) (IsInOneBlock s.blob_index_size) }
-    ensures replies { (is_key is_value : List ℕ → Bool) (s : Settings) (sound : IsSound s)
-        → InTurnReplies (rules_of is_key is_value s sound) (IsInOneBlock s.blob_index_size) (IsSpelled is_key is_value) }
+    ensures replies { (is_key is_value : List ℕ → Bool) (s : Settings) (sound : AreValid s)
+        → InTurnReplies (rules_of is_key is_value s sound) (IsInOneBlock s.blob_index_size) (IsEncoded is_key is_value) }
 {}

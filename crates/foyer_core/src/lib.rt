@@ -1,6 +1,6 @@
 //! The core of the engine: one value that steps change, and nothing else.
 //!
-//! A step is applied by `Core::apply`; reads and writes of the device lie between the steps. A reply tells the access
+//! A step is applied by `Core::apply`; reads and writes of the device lie between the steps. A reply issues the access
 //! that is due, and a later step brings its result. So the core can be driven by one loop, by worker threads, or by a
 //! list of moves (`moves::run`), and what it does is the same.
 #![tactic(auto)]

@@ -1,10 +1,10 @@
-//! Loads: a look-up that tells a read, and the judgement on what was read.
+//! Loads: a look-up that issues a read, and the judgement on what was read.
 ghost use Rattle.std.specs.Prelude.{◌≡◌, Option, slice_get};
 ghost use Rattle.foyer_format.specs.declared.serde.ages.Age.{Age as age};
 ghost use Rattle.foyer_core.specs.Answered.{HandsBack, AnswersPair, Looking};
 ghost use Rattle.foyer_model.specs.State.{State};
 ghost use Rattle.foyer_core.specs.Content.{Content, Meaning, meaning};
-ghost use Rattle.foyer_core.specs.Meets.{Turned, missed};
+ghost use Rattle.foyer_core.specs.Refines.{RefinesUncounted, missed};
 ghost use Rattle.foyer_core.specs.Standing.{IsStateOf};
 ghost use Rattle.foyer_core.specs.declared.settings.Settings.{Settings};
 ghost use Rattle.foyer_core.specs.declared.reply.Reply.TheVariants as reply;
@@ -41,7 +41,7 @@ impl<K, V, P, A: Allocator + Clone> Core<K, V, P, A> {
     pub(crate) fn load_begin(&mut self, hash: u64, throttled: bool) -> Reply<K, V, P, A>
         ensures back { HandsBack (step.LoadBegin hash throttled) result self.old self.new }
         ensures looked { Looking (step.LoadBegin hash throttled) result self.old }
-        ensures meets { (m : Meaning K V P) → Turned m (step.LoadBegin hash throttled) result self.old self.new }
+        ensures meets { (m : Meaning K V P) → RefinesUncounted m (step.LoadBegin hash throttled) result self.old self.new }
     {
         let Some(address) = self.index.get(hash) else {
             return Reply::Miss;
@@ -80,10 +80,10 @@ impl<K, V, P, A: Allocator + Clone> Core<K, V, P, A> {
         K: Code<A> + Drop,
         V: Code<A> + Drop,
         ensures back { HandsBack (step.LoadEnd ticket outcome) result self.old self.new }
-        ensures pair { AnswersPair K.is_spelling V.is_spelling K.spelling V.spelling
+        ensures pair { AnswersPair K.is_decodable V.is_decodable K.encoding V.encoding
             (step.LoadEnd ticket outcome) result }
         ensures meets { (age_of : P → Option age)
-            → Turned (meaning K.spelling V.spelling K.encodes V.encodes K.is_spelling V.is_spelling age_of)
+            → RefinesUncounted (meaning K.encoding V.encoding K.is_encodable V.is_encodable K.is_decodable V.is_decodable age_of)
             (step.LoadEnd ticket outcome) result self.old self.new }
     {
         let address = ticket.address;

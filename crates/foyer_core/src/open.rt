@@ -2,13 +2,13 @@
 ghost use Rattle.std.specs.Prelude.{◌≡◌, ◌⊎◌, IfOk, IfErr, IsOkUnless, map, replicate, vec_len};
 ghost use Rattle.foyer_device.specs.declared.error.Error.TheVariants.{Memory, Config};
 ghost use Rattle.foyer_core.specs.Opened.{IsOpened, idle, unused, numbers_below};
-ghost use Rattle.foyer_core.specs.Sizes.{IsSound};
+ghost use Rattle.foyer_core.specs.Sizes.{AreValid};
 ghost use Rattle.foyer_core.specs.Unchanged.{seen};
 
 use crate::block::batch::{Received, nothing_received};
 use crate::block::flusher::Flusher;
 use crate::settings::Settings;
-use crate::state::{BlockState, Core, Place};
+use crate::state::{BlockSet, BlockState, Core};
 use foyer_block::indexer::Indexer;
 use foyer_block::manager::BlockId;
 use foyer_device::error::Result;
@@ -77,7 +77,7 @@ fn clean_blocks<A: Allocator + Clone>(
     let mut clean = VecDeque::with_capacity(alloc.clone()?, count as usize)?;
     'each_block: for block in 0..count {
         blocks.push(BlockState {
-            place: Place::Clean,
+            place: BlockSet::Clean,
             filling: 0,
             invalid: 0,
             access: 0,
@@ -93,8 +93,8 @@ impl<K: Drop, V: Drop, P: Drop, A: Allocator + Clone> Core<K, V, P, A> {
     /// first sequence is 1. `Config` where the settings don't go together, else `Memory` alone.
     pub fn open(alloc: A, settings: Settings) -> Result<Core<K, V, P, A>>
         ensures opened { IfOk result (IsOpened settings) }
-        ensures sound { IfOk result (λ _. IsSound settings) }
-        ensures config { IfErr result (λ e. (e ≡ Memory) ⊎ ((e ≡ Config) × (IsSound settings → ⊥))) }
+        ensures sound { IfOk result (λ _. AreValid settings) }
+        ensures config { IfErr result (λ e. (e ≡ Memory) ⊎ ((e ≡ Config) × (AreValid settings → ⊥))) }
     {
         settings.check()?;
         let index = Indexer::new(alloc.clone()?, settings.indexer_shards)?;

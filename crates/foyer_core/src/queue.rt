@@ -2,10 +2,10 @@
 ghost use Rattle.std.specs.Prelude.{◌≡◌, ◌<◌, ◌%◌, IsTrue, ◌↔◌, Some, true, is_some, vec_len};
 ghost use Rattle.foyer_block.specs.Index.{address_at};
 ghost use Rattle.foyer_core.specs.declared.reply.Reply.TheVariants as reply;
-ghost use Rattle.foyer_core.specs.Answered.{HandsBack, TellsNothing, Enqueues, Deleting};
+ghost use Rattle.foyer_core.specs.Answered.{HandsBack, DescribesNothing, Enqueues, Deleting};
 ghost use Rattle.foyer_core.specs.Unchanged.{IsUnchanged};
 ghost use Rattle.foyer_core.specs.Content.{Meaning};
-ghost use Rattle.foyer_core.specs.Meets.{Turned};
+ghost use Rattle.foyer_core.specs.Refines.{RefinesUncounted};
 ghost use Rattle.foyer_core.specs.declared.step.Step.TheVariants as step;
 ghost use Rattle.foyer_format.specs.Page.{page_up};
 ghost use Rattle.foyer_format.specs.declared.serde.ages.Age.TheVariants as age;
@@ -58,7 +58,7 @@ impl<K, V, P, A: Allocator + Clone> Core<K, V, P, A> {
         ensures back { HandsBack (step.Enqueue piece size) result self.old self.new }
         ensures queued { Enqueues (step.Enqueue piece size) result self.old self.new }
         ensures meets { (m : Meaning K V P) → m.age_of ≡ P.age
-            → Turned m (step.Enqueue piece size) result self.old self.new }
+            → RefinesUncounted m (step.Enqueue piece size) result self.old self.new }
     {
         if self.closed {
             return Reply::Refused(ErrorKind::Closed, Step::Enqueue { piece, size });
@@ -92,7 +92,7 @@ impl<K, V, P, A: Allocator + Clone> Core<K, V, P, A> {
     pub(crate) fn delete(&mut self, hash: u64) -> Reply<K, V, P, A>
         ensures back { HandsBack (step.Delete hash) result self.old self.new }
         ensures deleted { Deleting (step.Delete hash) result self.old self.new }
-        ensures meets { (m : Meaning K V P) → Turned m (step.Delete hash) result self.old self.new }
+        ensures meets { (m : Meaning K V P) → RefinesUncounted m (step.Delete hash) result self.old self.new }
     {
         if self.closed {
             return Reply::Refused(ErrorKind::Closed, Step::Delete { hash });
@@ -125,8 +125,8 @@ impl<K, V, P, A: Allocator + Clone> Core<K, V, P, A> {
 
     pub(crate) fn wait(&mut self, flusher: u32, id: u64) -> Reply<K, V, P, A>
         ensures back { HandsBack (step.Wait flusher id) result self.old self.new }
-        ensures nothing { TellsNothing result }
-        ensures meets { (m : Meaning K V P) → Turned m (step.Wait flusher id) result self.old self.new }
+        ensures nothing { DescribesNothing result }
+        ensures meets { (m : Meaning K V P) → RefinesUncounted m (step.Wait flusher id) result self.old self.new }
     {
         if flusher as usize >= self.flushers.len() {
             return Reply::NotNow(Step::Wait { flusher, id });
@@ -140,8 +140,8 @@ impl<K, V, P, A: Allocator + Clone> Core<K, V, P, A> {
     }
 
     pub(crate) fn may_contains(&self, hash: u64) -> Reply<K, V, P, A>
-        ensures told { result ≡ reply.Answer (is_some (address_at self.now.index hash)) }
-        ensures meets { (m : Meaning K V P) → Turned m (step.MayContains hash) result self.now self.now }
+        ensures issued { result ≡ reply.Answer (is_some (address_at self.now.index hash)) }
+        ensures meets { (m : Meaning K V P) → RefinesUncounted m (step.MayContains hash) result self.now self.now }
     {
         Reply::Answer(self.index.get(hash).is_some())
     }
@@ -150,7 +150,7 @@ impl<K, V, P, A: Allocator + Clone> Core<K, V, P, A> {
         ensures reply { result ≡ reply.Done }
         ensures closed { self.new.closed ≡ true }
         ensures rest { IsUnchanged self.old (record self.new { closed = self.old.closed }) }
-        ensures meets { (m : Meaning K V P) → Turned m step.Close result self.old self.new }
+        ensures meets { (m : Meaning K V P) → RefinesUncounted m step.Close result self.old self.new }
     {
         self.closed = true;
         Reply::Done

@@ -1,20 +1,20 @@
 //! The sizes that a core is opened with.
 ghost use Rattle.std.specs.Prelude.{◌≡◌, ◌^◌, ◌↔◌, IsOk, IsOkUnless};
-ghost use Rattle.foyer_core.specs.Sizes.{IsSound};
+ghost use Rattle.foyer_core.specs.Sizes.{AreValid};
 
 use foyer_device::error::{Error, Result};
 use foyer_format::block::buffer::PAGE;
 
-/// The bytes of a blob index where none are told.
+/// The bytes of a blob index where none are given.
 pub const DEFAULT_BLOB_INDEX_SIZE: usize = PAGE;
 
-/// The shards of the index where none are told.
+/// The shards of the index where none are given.
 pub const DEFAULT_INDEXER_SHARDS: usize = 64;
 
-/// The flushers where none are told.
+/// The flushers where none are given.
 pub const DEFAULT_FLUSHERS: u32 = 1;
 
-/// The bytes that may be queued where none are told: 16 MiB.
+/// The bytes that may be queued where none are given: 16 MiB.
 pub const DEFAULT_SUBMIT_QUEUE_SIZE_THRESHOLD: usize = 16 * 1024 * 1024;
 
 /// The greatest block: offsets in a block have 32 bits.
@@ -55,9 +55,9 @@ impl Settings {
     }
 
     /// `Config` where the sizes don't go together: no flusher, no shard, a block that isn't whole pages, or is larger
-    /// than an offset can tell, or has no room behind its first index, or fewer blocks than flushers.
+    /// than an offset can say, or has no room behind its first index, or fewer blocks than flushers.
     pub fn check(&self) -> Result<()>
-        ensures sound { IsOk result ↔ IsSound self.now }
+        ensures sound { IsOk result ↔ AreValid self.now }
         ensures refused { IsOkUnless result Error.Config }
     {
         if self.flushers == 0 || self.indexer_shards == 0 || self.blocks < self.flushers {

@@ -10,7 +10,7 @@ use std::collections::VecDeque;
 
 /// Which of the four sets a block is in.
 #[derive(Clone, Copy, Debug, PartialEq, Eq)]
-pub enum Place {
+pub enum BlockSet {
     /// It may be handed out.
     Clean,
     /// This flusher has it.
@@ -24,7 +24,7 @@ pub enum Place {
 /// What the core knows of a block.
 #[derive(Clone, Copy, Debug, PartialEq, Eq)]
 pub struct BlockState {
-    pub place: Place,
+    pub place: BlockSet,
     /// How often it was handed out or destroyed.
     pub filling: u64,
     /// The bytes of its records that deletes made invalid.

@@ -53,7 +53,7 @@ pub enum Step<K, V, P, A: Allocator> {
     MayContains {
         hash: u64,
     },
-    /// Looks a hash up. The caller tells whether the device is throttled.
+    /// Looks a hash up. The caller says whether the device is throttled.
     LoadBegin {
         hash: u64,
         throttled: bool,
@@ -75,7 +75,7 @@ pub enum Step<K, V, P, A: Allocator> {
     FlushBlock {
         flusher: u32,
     },
-    /// Brings the result of the next write that `FlushBlock` told.
+    /// Brings the result of the next write that `FlushBlock` issued.
     FlushWrote {
         flusher: u32,
         result: Result<()>,

@@ -17,7 +17,7 @@ bytes_of s = slice_range s.whole s.start s.end
 abbrev pub all_of : List ℕ → Section
 all_of bytes = record { whole = bytes; start = 0; end = length bytes }
 
--- the range from start to end, both told from the start of this one
+-- the range from start to end, both counted from the start of this one
 abbrev pub part_of : Section → (start end : ℕ) → Section
 part_of s start end = record { whole = s.whole; start = s.start + start; end = s.start + end }
 

@@ -29,34 +29,34 @@ pub enum ErrorKind {
 #[derive(Clone, Copy, Debug, PartialEq, Eq, Error)]
 pub enum Error {
     /// The device, or the writer that a code or a serializer was given, failed during the call.
-    #[error("a read or a write failed")]
+    #[error("I/O error")]
     Io,
-    /// A growth was refused.
+    /// An allocation was refused.
     #[error("out of memory")]
     Memory,
     /// Settings that don't go together.
-    #[error("bad configuration")]
+    #[error("invalid configuration")]
     Config,
-    /// Bytes that spell no value, or a text that names none.
-    #[error("the bytes don't spell a value")]
+    /// Bytes that decode to no value, or a text that names none.
+    #[error("malformed data")]
     Parse,
     /// A header that begins with another magic.
-    #[error("another magic")]
+    #[error("bad magic number")]
     MagicMismatch,
-    /// Bytes that have another checksum than the one that was told.
-    #[error("another checksum")]
+    /// Bytes that have another checksum than the one that was given.
+    #[error("checksum mismatch")]
     ChecksumMismatch,
     /// An id, a page or a range that isn't there, or a size that can't be rounded up to whole pages.
     #[error("out of range")]
     OutOfRange,
     /// A writer that has no room for all the bytes.
-    #[error("the buffer is too small")]
+    #[error("buffer size limit exceeded")]
     BufferSizeLimit,
     /// A size that exceeds what the device has free.
-    #[error("no space is left")]
+    #[error("no space left on the device")]
     NoSpace,
     /// A block that could not be read while opening strictly.
-    #[error("a block could not be recovered")]
+    #[error("recovery failed")]
     Recover,
     /// The engine takes no more entries or deletes.
     #[error("closed")]
@@ -65,7 +65,7 @@ pub enum Error {
     #[error("not supported")]
     Unsupported,
     /// The last sequence, or the last step, was reached.
-    #[error("no sequence is left")]
+    #[error("sequence numbers exhausted")]
     SequenceEnd,
 }
 

@@ -1,1 +1,1 @@
-pub mod PlacedLemmas
+pub mod LayoutLemmas

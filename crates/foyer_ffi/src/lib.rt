@@ -4,7 +4,7 @@
 ghost use Rattle.std.specs.Prelude.{◌≡◌, length};
 ghost use Rattle.foyer_checksum.specs.Xxh64.{xxh64};
 ghost use Rattle.foyer_checksum.specs.Xxh32.{xxh32};
-ghost use Rattle.foyer_ffi.specs.Placed.{AreRecords};
+ghost use Rattle.foyer_ffi.specs.LaidOut.{AreRecords};
 
 use foyer_checksum::Checksummer;
 use std::alloc::Global;
@@ -30,7 +30,7 @@ pub extern "C" fn foyer_ffi_xxh32(bytes: &[u8]) -> u32
 /// Lays out records of this value under the keys 0, 1 and so on, in one buffer after another, and
 /// splits each into blocks of 16 MiB with indices of 4 KiB. A buffer has 512 KiB, or 16 MiB for a
 /// value of more than 100 KiB. Gives the bytes that the buffers took, padding included: those of all
-/// records, unless a block has no room for one, a growth was refused, or they pass `u64::MAX`; then
+/// records, unless a block has no room for one, an allocation was refused, or they pass `u64::MAX`; then
 /// those of the first of them. C passes a pointer, a length and a number; the memory is its own
 /// `malloc`'s.
 #[unsafe(no_mangle)]

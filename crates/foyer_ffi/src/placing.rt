@@ -4,7 +4,7 @@ ghost use Rattle.foyer_device.specs.declared.error.Error.{Error as error};
 ghost use Rattle.foyer_buffer.specs.BlockBytes.{Each};
 ghost use Rattle.foyer_format.specs.Page.{page_up};
 ghost use Rattle.foyer_buffer.specs.Entries.{left_of};
-ghost use Rattle.foyer_ffi.specs.Placed.{AreRecords, IsStop, greatest, record_len};
+ghost use Rattle.foyer_ffi.specs.LaidOut.{AreRecords, IsStop, greatest, record_len};
 
 use foyer_buffer::{Batch, Buffer, SplitCtx, Splitter};
 use foyer_device::error::{Error, Result};
@@ -37,7 +37,7 @@ pub(crate) fn place(alloc: Global, value: &[u8], records: u64) -> u64
     taken
 }
 
-// Lays the records out, and counts their bytes. It stops where a growth is refused, a block has no
+// Lays the records out, and counts their bytes. It stops where an allocation is refused, a block has no
 // room for a record, or the count passes `u64::MAX`.
 fn lay_out(alloc: Global, value: &[u8], records: u64, taken: &mut u64) -> Result<()>
     requires { taken.old ≡ 0 }

@@ -28,23 +28,23 @@ some_outside false true packed rest e h = told_outside error.ChecksumMismatch e 
 some_outside false false true rest e h = told_outside error.Unsupported e refl h
 some_outside false false false rest e h = cc
 
-module _ (is_key is_value : List ℕ → Bool) (b : List ℕ) (key_len value_len : ℕ) (c : Compression) (told : Option ℕ) where
+module _ (is_key is_value : List ℕ → Bool) (b : List ℕ) (key_len value_len : ℕ) (c : Compression) (given : Option ℕ) where
   abbrev short : Bool
   short = nat_lt (length b) (value_len + key_len)
 
   abbrev other : Bool
-  other = is_other_sum told (xxh64 (take (value_len + key_len) b))
+  other = is_other_sum given (xxh64 (take (value_len + key_len) b))
 
   abbrev decoded : Option Error
   decoded = if is_value (take value_len b) && is_key (take key_len (drop value_len b)) then None else Some error.Parse
 
-  pub outer_none : outer_fault b key_len value_len c told ≡ None
-      → entry_fault is_key is_value b key_len value_len c told ≡ (if is_value (take value_len b) && is_key (take key_len (drop value_len b)) then None else Some error.Parse)
+  pub outer_none : outer_fault b key_len value_len c given ≡ None
+      → entry_fault is_key is_value b key_len value_len c given ≡ (if is_value (take value_len b) && is_key (take key_len (drop value_len b)) then None else Some error.Parse)
   unfolding outer_fault entry_fault
   outer_none h = none_outside short other (not (is_plain c)) decoded h
 
-  pub outer_some : (e : Error) → outer_fault b key_len value_len c told ≡ Some e
-      → IsEntryFault (entry_fault is_key is_value b key_len value_len c told) e
+  pub outer_some : (e : Error) → outer_fault b key_len value_len c given ≡ Some e
+      → IsEntryFault (entry_fault is_key is_value b key_len value_len c given) e
   unfolding outer_fault entry_fault
   outer_some e h = some_outside short other (not (is_plain c)) decoded e h
 

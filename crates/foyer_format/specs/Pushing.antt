@@ -5,9 +5,9 @@ use Rattle.foyer_format.specs.declared.compress.Compression.{Compression}
 use Rattle.foyer_format.specs.declared.compress.Compression.TheVariants as compression
 
 -- A record whose value and key take n bytes together fits into this room.
-pub record FitsRoom (room : ℕ) (c : Compression) (encodes : Type 0) (n : ℕ) : Type 0 where
+pub record FitsRoom (room : ℕ) (c : Compression) (is_encodable : Type 0) (n : ℕ) : Type 0 where
   pub plain : c ≡ compression.None
-  pub encoded : encodes
+  pub encoded : is_encodable
   pub within : page_up (36 + n) ≤ room
 
 -- new is old with these bytes behind it, len of them, and zeros up to whole pages

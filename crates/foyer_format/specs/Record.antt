@@ -8,7 +8,7 @@ use Rattle.foyer_format.specs.declared.compress.Compression.TheVariants as compr
 use Rattle.foyer_format.specs.declared.block.serde.EntryHeader.{EntryHeader}
 use Rattle.foyer_format.specs.Header.{header_bytes, header_of}
 
--- the record of a spelled key and a spelled value
+-- the record of an encoded key and an encoded value
 unfoldable pub record_bytes : (hash sequence : ℕ) → (key value : List ℕ) → List ℕ
 record_bytes hash sequence key value =
     header_bytes (record {
@@ -20,10 +20,10 @@ record_bytes hash sequence key value =
       compression = compression.None;
     }) ++ (value ++ key)
 
--- the checksum is another one than was told, if one was told
+-- the checksum is another one than was given, if one was given
 abbrev pub is_other_sum : Option ℕ → ℕ → Bool
 is_other_sum None sum = false
-is_other_sum (Some told) sum = not (sum == told)
+is_other_sum (Some given) sum = not (sum == given)
 
 abbrev pub is_plain : Compression → Bool
 is_plain compression.None = true
@@ -31,9 +31,9 @@ is_plain _ = false
 
 -- the first fault of the bytes of a value and a key that shows before their codes are asked
 unfoldable pub outer_fault : List ℕ → (key_len value_len : ℕ) → Compression → Option ℕ → Option Error
-outer_fault b key_len value_len c told =
+outer_fault b key_len value_len c given =
     if nat_lt (length b) (value_len + key_len) then Some error.OutOfRange
-    else if is_other_sum told (xxh64 (take (value_len + key_len) b))
+    else if is_other_sum given (xxh64 (take (value_len + key_len) b))
     then Some error.ChecksumMismatch
     else if not (is_plain c) then Some error.Unsupported
     else None
@@ -41,16 +41,16 @@ outer_fault b key_len value_len c told =
 -- the first fault of the bytes of a value and a key
 unfoldable pub entry_fault : (is_key is_value : List ℕ → Bool) → List ℕ → (key_len value_len : ℕ)
     → Compression → Option ℕ → Option Error
-entry_fault is_key is_value b key_len value_len c told =
+entry_fault is_key is_value b key_len value_len c given =
     if nat_lt (length b) (value_len + key_len) then Some error.OutOfRange
-    else if is_other_sum told (xxh64 (take (value_len + key_len) b))
+    else if is_other_sum given (xxh64 (take (value_len + key_len) b))
     then Some error.ChecksumMismatch
     else if not (is_plain c) then Some error.Unsupported
     else if is_value (take value_len b) && is_key (take key_len (drop value_len b)) then None
     else Some error.Parse
 
 -- What bytes are, for the hash and the sequence that were looked for: another record or none, a
--- compressed one, one whose value or key isn't spelled right, or a pair.
+-- compressed one, one whose value or key isn't encoded right, or a pair.
 pub data Outcome : Type 0 where
   NoRecord : Outcome
   Unsupported : Outcome

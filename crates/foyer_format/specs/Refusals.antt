@@ -10,9 +10,9 @@ use Rattle.foyer_code.specs.Writing.{IsWriteFault}
 
 -- Serializing n bytes is refused for another compression than None; else where a code can't encode
 -- its value, or the writer, of this room, fails.
-abbrev pub IsSerializeFault : Compression → (encodes : Type 0) → Option ℕ → ℕ → Error → Type 0
-IsSerializeFault compression.None encodes room n e = (encodes → ⊥) ⊎ IsWriteFault room n e
-IsSerializeFault _ encodes room n e = e ≡ error.Unsupported
+abbrev pub IsSerializeFault : Compression → (is_encodable : Type 0) → Option ℕ → ℕ → Error → Type 0
+IsSerializeFault compression.None is_encodable room n e = (is_encodable → ⊥) ⊎ IsWriteFault room n e
+IsSerializeFault _ is_encodable room n e = e ≡ error.Unsupported
 
 -- the codes were reached
 abbrev pub ReachesCodes : Option Error → Type 0

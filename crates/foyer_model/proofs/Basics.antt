@@ -3,8 +3,8 @@ use Rattle.std.proofs.Common.{◌≡◌, ℕ, zero, suc, ◌+◌, ◌<◌, ◌�
 use Rattle.std.proofs.lemmas.Bool.{eqb-true, eqb-false}
 use Rattle.std.proofs.lemmas.Bool.Decides.{nat_tests}
 use Rattle.foyer_model.specs.Numbers.{put}
-use Rattle.foyer_model.specs.Filling.{Write}
-use Rattle.foyer_model.specs.Placing.{read, IsBeside}
+use Rattle.foyer_model.specs.Position.{Write}
+use Rattle.foyer_model.specs.Layout.{read, IsBeside}
 
 -- what holds of the new value at k, and of the old ones elsewhere, holds of the map with it
 pub put_at : {A : Type 0} (P : A → Type 0) (m : ℕ → A) (k : ℕ) (v : A) (q : ℕ) → (q ≡ k → P v) → ((q ≡ k → ⊥) → P (m q)) → P (put m k v q)

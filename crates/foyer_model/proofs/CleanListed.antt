@@ -2,16 +2,16 @@
 use Rattle.std.proofs.Common.{◌≡◌, ℕ, zero, suc, ◌<◌, ◌≤◌, ◌==◌, Bool, true, false, if◌then◌else◌, List, [], ◌∷◌, ◌++◌, inl, inr, refl, sym, ap, subst, ◌∙◌, arith}
 use Rattle.std.proofs.lemmas.Bool.{eqb-true, eqb-false}
 use Rattle.foyer_model.specs.Ids.{ids, is_id_in, AreDistinct}
-use Rattle.foyer_model.specs.State.{Place, Clean, Writes, Evictable, Reclaims, State}
+use Rattle.foyer_model.specs.State.{BlockSet, Clean, Writes, Evictable, Reclaims, State}
 use Rattle.foyer_model.specs.Rules.{Rules, Splitting}
 use Rattle.foyer_model.specs.Step.{Step, ReclaimBegin, DestroyClear}
 use Rattle.foyer_model.specs.Reply.{Reply, NotNow, Refused, Picked, Cleared}
 use Rattle.foyer_model.specs.Reclaim.{Picks}
 use Rattle.foyer_model.specs.Destroy.{vacated, Clears}
 use Rattle.foyer_model.specs.InTurn.{InTurn}
-use Rattle.foyer_model.specs.Does.{Does}
-use Rattle.foyer_model.specs.Turn.{Follows}
-use Rattle.foyer_model.specs.World.{World, WorldEvent, Applies, ReadBegins, ReadEnds, ScanBegins, ScanEnds, WriteBegins, WriteEnds, WipeBegins, WipeEnds, after, after_all, MayHappen, MayAllHappen}
+use Rattle.foyer_model.specs.Changes.{Changes}
+use Rattle.foyer_model.specs.Follows.{Follows}
+use Rattle.foyer_model.specs.World.{World, WorldEvent, Applies, ReadBegins, ReadEnds, ScanBegins, ScanEnds, WriteBegins, WriteEnds, CleanBegins, CleanEnds, after, after_all, MayHappen, MayAllHappen}
 use Rattle.foyer_model.specs.Opened.{is_clean, clean_among, IsOpened}
 use Rattle.foyer_model.specs.Laws.{Demands, IsReached}
 use Rattle.foyer_model.specs.Companions.{ListsClean}
@@ -31,7 +31,7 @@ module _ {C : Type 0} (rules : Rules C) (Splits : Splitting C) (is_value : C →
       ((λ d lt is. l.0 d lt (put_at (λ k. k ≡ Clean → c.place d ≡ Clean) c.place b Reclaims d (λ _ e. absurd (let z : Reclaims ≡ Clean = e in cc)) (λ _ e. e) is)), l.1)
   picked c new reply ok l = absurd ok
 
-  was_clean : (p : Place) → vacated p ≡ Clean → p ≡ Clean
+  was_clean : (p : BlockSet) → vacated p ≡ Clean → p ≡ Clean
   was_clean Clean e = refl
   was_clean (Writes f) e = absurd (let z : Evictable ≡ Clean = e in cc)
   was_clean Evictable e = absurd (let z : Evictable ≡ Clean = e in cc)
@@ -42,7 +42,7 @@ module _ {C : Type 0} (rules : Rules C) (Splits : Splitting C) (is_value : C →
       subst (λ k. AreListed rules k.place k.clean) (sym ok.1) ((λ d lt is. l.0 d lt (was_clean (c.place d) is)), l.1)
   cleared_list c new reply ok l = absurd ok
 
-  does_list : (w : World C) (step : Step C) (reply : Reply C) (done : State C) → IsKnown rules Splits is_value demands w → InTurn rules w.core step → Does rules Splits w.core step reply done
+  does_list : (w : World C) (step : Step C) (reply : Reply C) (done : State C) → IsKnown rules Splits is_value demands w → InTurn rules w.core step → Changes rules Splits w.core step reply done
       → AreListed rules w.core.place w.core.clean → AreListed rules done.place done.clean
   does_list w ReclaimBegin reply done known turn does l = picked w.core done reply does l
   does_list w DestroyClear reply done known turn does l = cleared_list w.core done reply does l
@@ -64,8 +64,8 @@ module _ {C : Type 0} (rules : Rules C) (Splits : Splitting C) (is_value : C →
   event_list w (ScanEnds b result) ok known l = l
   event_list w (WriteBegins f) ok known l = l
   event_list w (WriteEnds f good g) ok known l = l
-  event_list w (WipeBegins b) ok known l = l
-  event_list w (WipeEnds b good g) ok known l = l
+  event_list w (CleanBegins b) ok known l = l
+  event_list w (CleanEnds b good g) ok known l = l
 
   all_list : (w : World C) (events : List (WorldEvent C)) → MayAllHappen rules Splits is_value w events → IsKnown rules Splits is_value demands w
       → AreListed rules w.core.place w.core.clean → AreListed rules (after_all rules w events).core.place (after_all rules w events).core.clean
@@ -74,17 +74,17 @@ module _ {C : Type 0} (rules : Rules C) (Splits : Splitting C) (is_value : C →
 
   -- at an opening
 
-  among : (place : ℕ → Place) (bs : List ℕ) (b : ℕ) → is_id_in b bs ≡ true → place b ≡ Clean → is_id_in b (clean_among place bs) ≡ true
+  among : (place : ℕ → BlockSet) (bs : List ℕ) (b : ℕ) → is_id_in b bs ≡ true → place b ≡ Clean → is_id_in b (clean_among place bs) ≡ true
   among place [] b is at = is
   among place (c ∷ bs) b is at = go (place c) refl (among place bs b)
     where
-      go : (p : Place) → place c ≡ p → (is_id_in b bs ≡ true → place b ≡ Clean → is_id_in b (clean_among place bs) ≡ true) → is_id_in b (if is_clean p then c ∷ clean_among place bs else clean_among place bs) ≡ true
+      go : (p : BlockSet) → place c ≡ p → (is_id_in b bs ≡ true → place b ≡ Clean → is_id_in b (clean_among place bs) ≡ true) → is_id_in b (if is_clean p then c ∷ clean_among place bs else clean_among place bs) ≡ true
       go Clean here rec = elim (in_cases b c bs is) [ inl e ↦ subst (λ k. is_id_in b (k ∷ clean_among place bs) ≡ true) e (same_in b (clean_among place bs)) | inr there ↦ later_in b c (clean_among place bs) (rec there at) ]
       go (Writes f) here rec = elim (in_cases b c bs is) [ inl e ↦ absurd (let z : Clean ≡ Writes f = sym at ∙ ap place e ∙ here in cc) | inr there ↦ rec there at ]
       go Evictable here rec = elim (in_cases b c bs is) [ inl e ↦ absurd (let z : Clean ≡ Evictable = sym at ∙ ap place e ∙ here in cc) | inr there ↦ rec there at ]
       go Reclaims here rec = elim (in_cases b c bs is) [ inl e ↦ absurd (let z : Clean ≡ Reclaims = sym at ∙ ap place e ∙ here in cc) | inr there ↦ rec there at ]
 
-  not_among_clean : (place : ℕ → Place) (bs : List ℕ) (b : ℕ) → is_id_in b bs ≡ false → is_id_in b (clean_among place bs) ≡ false
+  not_among_clean : (place : ℕ → BlockSet) (bs : List ℕ) (b : ℕ) → is_id_in b bs ≡ false → is_id_in b (clean_among place bs) ≡ false
   not_among_clean place [] b is = refl
   not_among_clean place (c ∷ bs) b is =
       let r : (b ≡ c → ⊥) × (is_id_in b bs ≡ false) = not_in_cases b c bs is in
@@ -94,7 +94,7 @@ module _ {C : Type 0} (rules : Rules C) (Splits : Splitting C) (is_value : C →
       go true ne rec = not_in_both b c (clean_among place bs) ne rec
       go false ne rec = rec
 
-  distinct_among : (place : ℕ → Place) (bs : List ℕ) → AreDistinct bs → AreDistinct (clean_among place bs)
+  distinct_among : (place : ℕ → BlockSet) (bs : List ℕ) → AreDistinct bs → AreDistinct (clean_among place bs)
   distinct_among place [] ok = tt
   distinct_among place (c ∷ bs) ok = go (is_clean (place c)) (distinct_among place bs ok.1) (not_among_clean place bs c ok.0)
     where

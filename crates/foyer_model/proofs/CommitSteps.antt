@@ -9,7 +9,7 @@ use Rattle.foyer_model.specs.Rules.{Rules, flusher_of}
 use Rattle.foyer_model.specs.Index.{is_same, holds, inserted, without_mark, unmarked}
 use Rattle.foyer_model.specs.Commit.{address_of, taken_in, is_put, committed_one, commit_of}
 use Rattle.foyer_model.specs.Event.{Event, Put, Deletion, sequence_in, newest, outcome_in, put_event, with_puts}
-use Rattle.foyer_model.specs.Access.{Pen}
+use Rattle.foyer_model.specs.Access.{BlockWrites}
 use Rattle.foyer_model.proofs.Basics.{put_at, put_other, Ascends, ascends_span, ascends_from, AllAtLeast, ascends_at_least}
 use Rattle.foyer_model.proofs.Invariant.{Ground, Each, IsGood, put_in, puts_onto, queue_puts, batch_records, line_of, AtLeast, SlotOk, sequences, queue_sequences, IsOrdered, SourceOk, RecordOk, IsFaithful}
 use Rattle.foyer_model.proofs.GoodAddresses.{slot_lift}
@@ -181,7 +181,7 @@ ascends_last low high h s (q ∷ a) r c is le up =
 pub ascends_puts : {C : Type 0} (low high : ℕ) (q : List (Submission C)) → Ascends low (queue_sequences q) high → Ascends low (sequences (queue_puts q)) high
 ascends_puts low high [] h = h
 ascends_puts low high (Piece i s n c ∷ rest) h = (h.0, ascends_puts (s + 1) high rest h.1)
-ascends_puts low high (Remove i s spoils ∷ rest) h =
+ascends_puts low high (Remove i s invalidated ∷ rest) h =
     let l : low ≤ s = h.0 in
     ascends_from low (s + 1) (sequences (queue_puts rest)) high (omega arith) (ascends_puts (s + 1) high rest h.1)
 ascends_puts low high (Await i ∷ rest) h = ascends_puts low high rest h
@@ -219,12 +219,12 @@ holds_is a (Some (Indexed b)) e = ap (λ k. Some (Indexed k)) (sym (same_address
 
 -- commits
 
-module _ {C : Type 0} (rules : Rules C) (g : Ground) (pens : ℕ → Pen) where
+module _ {C : Type 0} (rules : Rules C) (g : Ground) (block_writes : ℕ → BlockWrites) where
   pub enters_new : (H : List (Event C)) (r : Record C) (c : C) (line : List (ℕ × ℕ)) (a : Address) → a.sequence ≡ r.sequence
       → sequence_in (newest r.hash H) ≤ r.sequence
-      → IsGood rules g pens r.hash a (Holds c)
+      → IsGood rules g block_writes r.hash a (Holds c)
       → AtLeast r.hash r.sequence line
-      → SlotOk rules g pens (Put r.hash r.sequence (Holds c) ∷ H) r.hash line (Some (Indexed a))
+      → SlotOk rules g block_writes (Put r.hash r.sequence (Holds c) ∷ H) r.hash line (Some (Indexed a))
   enters_new H r c line a e le good behind = (
     Holds c,
     newest_put r.hash r.sequence (Holds c) H le ∙ ap (λ s. Some (Put r.hash s (Holds c))) (sym e),
@@ -233,10 +233,10 @@ module _ {C : Type 0} (rules : Rules C) (g : Ground) (pens : ℕ → Pen) where
   )
 
   pub enters : (H : List (Event C)) (r : Record C) (c : C) (line : List (ℕ × ℕ)) (slot : Option Slot) (a : Address) → a.sequence ≡ r.sequence
-      → SlotOk rules g pens H r.hash ((r.hash, r.sequence) ∷ line) slot
-      → IsGood rules g pens r.hash a (Holds c)
+      → SlotOk rules g block_writes H r.hash ((r.hash, r.sequence) ∷ line) slot
+      → IsGood rules g block_writes r.hash a (Holds c)
       → AtLeast r.hash r.sequence line
-      → SlotOk rules g pens (Put r.hash r.sequence (Holds c) ∷ H) r.hash line (inserted slot (Indexed a))
+      → SlotOk rules g block_writes (Put r.hash r.sequence (Holds c) ∷ H) r.hash line (inserted slot (Indexed a))
   enters H r c line None a e ok good behind = enters_new H r c line a e (ok.0 refl) good behind
   enters H r c line (Some (Indexed b)) a e ok good behind = go (nat_le b.sequence a.sequence) refl
     where
@@ -246,7 +246,7 @@ module _ {C : Type 0} (rules : Rules C) (g : Ground) (pens : ℕ → Pen) where
       before : b.sequence ≤ r.sequence
       before = (ok.3).0 refl
 
-      go : (t : Bool) → nat_le b.sequence a.sequence ≡ t → SlotOk rules g pens (Put r.hash r.sequence (Holds c) ∷ H) r.hash line (if t then Some (Indexed a) else Some (Indexed b))
+      go : (t : Bool) → nat_le b.sequence a.sequence ≡ t → SlotOk rules g block_writes (Put r.hash r.sequence (Holds c) ∷ H) r.hash line (if t then Some (Indexed a) else Some (Indexed b))
       go true f = enters_new H r c line a e (omega (arith, at_b, before)) good behind
       go false f = absurd (grind (arith, nat_tests, e, before))
   enters H r c line (Some (Mark d)) a e ok good behind = go (nat_le d a.sequence) refl
@@ -254,14 +254,14 @@ module _ {C : Type 0} (rules : Rules C) (g : Ground) (pens : ℕ → Pen) where
       at_d : sequence_in (newest r.hash H) ≡ d
       at_d = ap sequence_in ok
 
-      go : (t : Bool) → nat_le d a.sequence ≡ t → SlotOk rules g pens (Put r.hash r.sequence (Holds c) ∷ H) r.hash line (if t then Some (Indexed a) else Some (Mark d))
+      go : (t : Bool) → nat_le d a.sequence ≡ t → SlotOk rules g block_writes (Put r.hash r.sequence (Holds c) ∷ H) r.hash line (if t then Some (Indexed a) else Some (Mark d))
       go true f = enters_new H r c line a e (grind (arith, nat_tests, at_d, e)) good behind
       go false f = newest_kept r.hash r.sequence (Holds c) H (grind (arith, nat_tests, at_d, e)) ∙ ok
 
   -- another hash
   pub passes : (H : List (Event C)) (q s : ℕ) (x : Outcome C) (h : ℕ) (line line' : List (ℕ × ℕ)) (slot : Option Slot) → (q ≡ h → ⊥)
       → ((n : ℕ) → AtLeast h n line → AtLeast h n line')
-      → SlotOk rules g pens H h line slot → SlotOk rules g pens (Put q s x ∷ H) h line' slot
+      → SlotOk rules g block_writes H h line slot → SlotOk rules g block_writes (Put q s x ∷ H) h line' slot
   passes H q s x h line line' None ne tail ok =
       subst (λ e. AtLeast h (sequence_in e) line') (sym (newest_other q s x H h ne)) (tail _ ok)
   passes H q s x h line line' (Some (Mark d)) ne tail ok = newest_other q s x H h ne ∙ ok
@@ -279,22 +279,22 @@ module _ {C : Type 0} (rules : Rules C) (g : Ground) (pens : ℕ → Pen) where
   -- a reinsertion
   pub reread_slot : (H : List (Event C)) (r : Record C) (over : Address) (line : List (ℕ × ℕ)) (slot : Option Slot) (a : Address) → a.sequence ≡ r.sequence → over.sequence ≡ r.sequence
       → (slot ≡ Some (Indexed over) → newest r.hash H ≡ Some (Put r.hash r.sequence (rules.pair_of r.bytes r.hash r.sequence)))
-      → SlotOk rules g pens H r.hash line slot
-      → IsGood rules g pens r.hash a (rules.pair_of r.bytes r.hash r.sequence)
-      → SlotOk rules g pens (noted_one r (Reread over) slot H) r.hash line (taken_in {C = C} (Reread over) slot a)
+      → SlotOk rules g block_writes H r.hash line slot
+      → IsGood rules g block_writes r.hash a (rules.pair_of r.bytes r.hash r.sequence)
+      → SlotOk rules g block_writes (noted_one r (Reread over) slot H) r.hash line (taken_in {C = C} (Reread over) slot a)
   reread_slot H r over line slot a e eo faith ok good = go (holds over slot) refl
     where
       x : Outcome C
       x = rules.pair_of r.bytes r.hash r.sequence
 
       go : (t : Bool) → holds over slot ≡ t
-          → SlotOk rules g pens (if t then Put r.hash r.sequence (outcome_in (newest r.hash H)) ∷ H else H) r.hash line (if t then Some (Indexed a) else slot)
+          → SlotOk rules g block_writes (if t then Put r.hash r.sequence (outcome_in (newest r.hash H)) ∷ H else H) r.hash line (if t then Some (Indexed a) else slot)
       go false is = ok
       go true is =
           let at : slot ≡ Some (Indexed over) = holds_is over slot is in
           let new : newest r.hash H ≡ Some (Put r.hash r.sequence x) = faith at in
-          let old : SlotOk rules g pens H r.hash line (Some (Indexed over)) = subst (λ k. SlotOk rules g pens H r.hash line k) at ok in
-          subst (λ y. SlotOk rules g pens (Put r.hash r.sequence y ∷ H) r.hash line (Some (Indexed a))) (sym (ap outcome_in new)) (
+          let old : SlotOk rules g block_writes H r.hash line (Some (Indexed over)) = subst (λ k. SlotOk rules g block_writes H r.hash line k) at ok in
+          subst (λ y. SlotOk rules g block_writes (Put r.hash r.sequence y ∷ H) r.hash line (Some (Indexed a))) (sym (ap outcome_in new)) (
             x,
             newest_put r.hash r.sequence x H (let q : sequence_in (newest r.hash H) ≡ r.sequence = ap sequence_in new in omega arith) ∙ ap (λ s. Some (Put r.hash s x)) (sym e),
             good,
@@ -305,23 +305,23 @@ module _ {C : Type 0} (rules : Rules C) (g : Ground) (pens : ℕ → Pen) where
   pub one_slot : (H : List (Event C)) (f : ℕ) (m : ℕ → Option Slot) (apart : ℕ → ℕ → Type 0) (r : Record C) (src : Source C) (low high : ℕ) (line : List (ℕ × ℕ)) (a : Address) → a.sequence ≡ r.sequence
       → SourceOk rules f r src → SourceBrings apart m H r src
       → Ascends low (sequences (put_in r.hash r.sequence src line)) high
-      → SlotOk rules g pens H r.hash (put_in r.hash r.sequence src line) (m r.hash)
-      → IsGood rules g pens r.hash a (rules.pair_of r.bytes r.hash r.sequence)
-      → SlotOk rules g pens (noted_one r src (m r.hash) H) r.hash line (taken_in src (m r.hash) a)
+      → SlotOk rules g block_writes H r.hash (put_in r.hash r.sequence src line) (m r.hash)
+      → IsGood rules g block_writes r.hash a (rules.pair_of r.bytes r.hash r.sequence)
+      → SlotOk rules g block_writes (noted_one r src (m r.hash) H) r.hash line (taken_in src (m r.hash) a)
   one_slot H f m apart r (Given c) low high line a e src brings up ok good =
-      enters H r c line (m r.hash) a e ok (subst (λ x. IsGood rules g pens r.hash a x) src.1 good)
+      enters H r c line (m r.hash) a e ok (subst (λ x. IsGood rules g block_writes r.hash a x) src.1 good)
       (at_least_all r.hash r.sequence (r.sequence + 1) line (omega arith) (ascends_at_least (r.sequence + 1) (sequences line) high up.1))
   one_slot H f m apart r (Reread over) low high line a e src brings up ok good = reread_slot H r over line (m r.hash) a e brings.0 brings.2 ok good
 
   pub other_slot : (H : List (Event C)) (r : Record C) (src : Source C) (h : ℕ) (line line' : List (ℕ × ℕ)) (mine slot : Option Slot) → (r.hash ≡ h → ⊥)
       → ((n : ℕ) → AtLeast h n line → AtLeast h n line')
-      → SlotOk rules g pens H h line slot → SlotOk rules g pens (noted_one r src mine H) h line' slot
+      → SlotOk rules g block_writes H h line slot → SlotOk rules g block_writes (noted_one r src mine H) h line' slot
   other_slot H r (Given c) h line line' mine slot ne tail ok = passes H r.hash r.sequence (Holds c) h line line' slot ne tail ok
   other_slot H r (Reread over) h line line' mine slot ne tail ok = go (holds over mine)
     where
-      go : (t : Bool) → SlotOk rules g pens (if t then Put r.hash r.sequence (outcome_in (newest r.hash H)) ∷ H else H) h line' slot
+      go : (t : Bool) → SlotOk rules g block_writes (if t then Put r.hash r.sequence (outcome_in (newest r.hash H)) ∷ H else H) h line' slot
       go true = passes H r.hash r.sequence (outcome_in (newest r.hash H)) h line line' slot ne tail ok
-      go false = slot_lift rules g g pens pens H h line line' slot (λ a x fine. fine) (λ n _ all. tail n all) ok
+      go false = slot_lift rules g g block_writes block_writes H h line line' slot (λ a x fine. fine) (λ n _ all. tail n all) ok
 
   -- what waits stays faithful through a commit at another address
   taken_at : (H : List (Event C)) (r : Record C) (src : Source C) (slot : Option Slot) (a over : Address) (s : ℕ) (x : Outcome C) → a.sequence ≡ r.sequence → over.sequence ≡ s → (a ≡ over → ⊥)
@@ -388,19 +388,19 @@ module _ {C : Type 0} (rules : Rules C) (g : Ground) (pens : ℕ → Pen) where
   -- the records of a block, one after the other
   pub commits : (f b n : ℕ) (ps : List (ℕ × Record C)) (m : ℕ → Option Slot) (H : List (Event C)) (h low high : ℕ) (rest : List (ℕ × ℕ))
       → Each (RecordOk rules f) (map (λ p. p.1) ps) → Each (Brings b n m H) (map (λ p. p.1) ps)
-      → Each (λ p. IsGood rules g pens (p.1).hash (address_of b n p) (rules.pair_of (p.1).bytes (p.1).hash (p.1).sequence)) ps
+      → Each (λ p. IsGood rules g block_writes (p.1).hash (address_of b n p) (rules.pair_of (p.1).bytes (p.1).hash (p.1).sequence)) ps
       → Ascends low (sequences (puts_onto (map (λ p. p.1) ps) rest)) high
-      → SlotOk rules g pens H h (puts_onto (map (λ p. p.1) ps) rest) (m h)
-      → SlotOk rules g pens (noted b n ps m H) h rest (committed b n ps m h)
+      → SlotOk rules g block_writes H h (puts_onto (map (λ p. p.1) ps) rest) (m h)
+      → SlotOk rules g block_writes (noted b n ps m H) h rest (committed b n ps m h)
   commits f b n [] m H h low high rest routed brings good up ok = ok
   commits f b n (p ∷ ps) m H h low high rest routed brings good up ok =
       let next : (k : ℕ) × Ascends k (sequences line) high = put_next low high (p.1).hash (p.1).sequence (p.1).source line up in
       commits f b n ps (committed_one b n p m) H' h next.0 high rest routed.1 (all_bring b n p m H (map (λ q. q.1) ps) brings.1) good.1 next.1
-      (put_at (λ slot. SlotOk rules g pens H' h line slot)
+      (put_at (λ slot. SlotOk rules g block_writes H' h line slot)
       m (p.1).hash (taken_in (p.1).source (m (p.1).hash) (address_of b n p)) h
-      (λ at. subst (λ k. SlotOk rules g pens H' k line (taken_in (p.1).source (m (p.1).hash) (address_of b n p))) (sym at)
+      (λ at. subst (λ k. SlotOk rules g block_writes H' k line (taken_in (p.1).source (m (p.1).hash) (address_of b n p))) (sym at)
       (one_slot H f m (λ d k. d ≡ b → k ≡ n → ⊥) p.1 (p.1).source low high line (address_of b n p) refl routed.0 brings.0 up
-      (subst (λ k. SlotOk rules g pens H k (put_in (p.1).hash (p.1).sequence (p.1).source line) (m k)) at ok)
+      (subst (λ k. SlotOk rules g block_writes H k (put_in (p.1).hash (p.1).sequence (p.1).source line) (m k)) at ok)
       good.0))
       (λ ne. other_slot H p.1 (p.1).source h (put_in (p.1).hash (p.1).sequence (p.1).source line) line (m (p.1).hash) (m h) (λ e. ne (sym e))
       (λ k all. each_put_rest (λ q. q.0 ≡ h → k ≤ q.1) (p.1).hash (p.1).sequence (p.1).source line all) ok))
@@ -414,25 +414,25 @@ module _ {C : Type 0} (rules : Rules C) (g : Ground) (pens : ℕ → Pen) where
   -- the records of another flusher's block
   foreign_slot : (H : List (Event C)) (f : ℕ) (m : ℕ → Option Slot) (apart : ℕ → ℕ → Type 0) (r : Record C) (src : Source C) (line : List (ℕ × ℕ)) (a : Address) → a.sequence ≡ r.sequence
       → SourceOk rules f r src → SourceBrings apart m H r src → (flusher_of rules r.hash ≡ f → ⊥)
-      → SlotOk rules g pens H r.hash line (m r.hash)
-      → IsGood rules g pens r.hash a (rules.pair_of r.bytes r.hash r.sequence)
-      → SlotOk rules g pens (noted_one r src (m r.hash) H) r.hash line (taken_in src (m r.hash) a)
+      → SlotOk rules g block_writes H r.hash line (m r.hash)
+      → IsGood rules g block_writes r.hash a (rules.pair_of r.bytes r.hash r.sequence)
+      → SlotOk rules g block_writes (noted_one r src (m r.hash) H) r.hash line (taken_in src (m r.hash) a)
   foreign_slot H f m apart r (Given c) line a e src brings ne ok good = absurd (ne src.0)
   foreign_slot H f m apart r (Reread over) line a e src brings ne ok good = reread_slot H r over line (m r.hash) a e brings.0 brings.2 ok good
 
   pub commits_other : (f b n : ℕ) (ps : List (ℕ × Record C)) (m : ℕ → Option Slot) (H : List (Event C)) (h : ℕ) (line : List (ℕ × ℕ))
       → Each (RecordOk rules f) (map (λ p. p.1) ps) → Each (Brings b n m H) (map (λ p. p.1) ps)
-      → Each (λ p. IsGood rules g pens (p.1).hash (address_of b n p) (rules.pair_of (p.1).bytes (p.1).hash (p.1).sequence)) ps
+      → Each (λ p. IsGood rules g block_writes (p.1).hash (address_of b n p) (rules.pair_of (p.1).bytes (p.1).hash (p.1).sequence)) ps
       → (flusher_of rules h ≡ f → ⊥)
-      → SlotOk rules g pens H h line (m h)
-      → SlotOk rules g pens (noted b n ps m H) h line (committed b n ps m h)
+      → SlotOk rules g block_writes H h line (m h)
+      → SlotOk rules g block_writes (noted b n ps m H) h line (committed b n ps m h)
   commits_other f b n [] m H h line routed brings good ne ok = ok
   commits_other f b n (p ∷ ps) m H h line routed brings good ne ok =
       commits_other f b n ps (committed_one b n p m) (noted_one p.1 (p.1).source (m (p.1).hash) H) h line routed.1 (all_bring b n p m H (map (λ q. q.1) ps) brings.1) good.1 ne
-      (put_at (λ slot. SlotOk rules g pens (noted_one p.1 (p.1).source (m (p.1).hash) H) h line slot) m (p.1).hash (taken_in (p.1).source (m (p.1).hash) (address_of b n p)) h
-      (λ at. subst (λ k. SlotOk rules g pens (noted_one p.1 (p.1).source (m (p.1).hash) H) k line (taken_in (p.1).source (m (p.1).hash) (address_of b n p))) (sym at)
+      (put_at (λ slot. SlotOk rules g block_writes (noted_one p.1 (p.1).source (m (p.1).hash) H) h line slot) m (p.1).hash (taken_in (p.1).source (m (p.1).hash) (address_of b n p)) h
+      (λ at. subst (λ k. SlotOk rules g block_writes (noted_one p.1 (p.1).source (m (p.1).hash) H) k line (taken_in (p.1).source (m (p.1).hash) (address_of b n p))) (sym at)
       (foreign_slot H f m (λ d k. d ≡ b → k ≡ n → ⊥) p.1 (p.1).source line (address_of b n p) refl routed.0 brings.0 (λ e. ne (ap (flusher_of rules) at ∙ e))
-      (subst (λ k. SlotOk rules g pens H k line (m k)) at ok) good.0))
+      (subst (λ k. SlotOk rules g block_writes H k line (m k)) at ok) good.0))
       (λ other. other_slot H p.1 (p.1).source h line line (m (p.1).hash) (m h) (λ e. other (sym e)) (λ k all. all) ok))
 
   one_below : (r : Record C) (src : Source C) (apart : ℕ → ℕ → Type 0) (m : ℕ → Option Slot) (H : List (Event C)) (low n : ℕ) (l : List (ℕ × ℕ)) → SourceBrings apart m H r src
@@ -460,7 +460,7 @@ module _ {C : Type 0} (rules : Rules C) (g : Ground) (pens : ℕ → Pen) where
 
   pub without_ok : (H : List (Event C)) (h s received : ℕ) (line : List (ℕ × ℕ)) (slot : Option Slot)
       → s < received → AllAtLeast received (sequences line)
-      → SlotOk rules g pens H h line slot → SlotOk rules g pens H h line (without_mark s slot)
+      → SlotOk rules g block_writes H h line slot → SlotOk rules g block_writes H h line (without_mark s slot)
   without_ok H h s received line None lt all ok = ok
   without_ok H h s received line (Some (Indexed a)) lt all ok = ok
   without_ok H h s received line (Some (Mark t)) lt all ok = go (t == s) refl
@@ -468,18 +468,18 @@ module _ {C : Type 0} (rules : Rules C) (g : Ground) (pens : ℕ → Pen) where
       at_t : sequence_in (newest h H) ≡ t
       at_t = ap sequence_in ok
 
-      go : (v : Bool) → (t == s) ≡ v → SlotOk rules g pens H h line (if v then None else Some (Mark t))
+      go : (v : Bool) → (t == s) ≡ v → SlotOk rules g block_writes H h line (if v then None else Some (Mark t))
       go true e = at_least_all h (sequence_in (newest h H)) received line (let same : t ≡ s = eqb-true t s e in omega (arith, at_t)) all
       go false e = ok
 
   pub unmarks : (marks : List (ℕ × ℕ)) (m : ℕ → Option Slot) (H : List (Event C)) (h received : ℕ) (line : List (ℕ × ℕ))
       → Each (λ p. p.1 < received) marks → AllAtLeast received (sequences line)
-      → SlotOk rules g pens H h line (m h) → SlotOk rules g pens H h line (unmarked marks m h)
+      → SlotOk rules g block_writes H h line (m h) → SlotOk rules g block_writes H h line (unmarked marks m h)
   unmarks [] m H h received line below all ok = ok
   unmarks (p ∷ ps) m H h received line below all ok =
       unmarks ps (put m p.0 (without_mark p.1 (m p.0))) H h received line below.1 all
-      (put_at (λ slot. SlotOk rules g pens H h line slot) m p.0 (without_mark p.1 (m p.0)) h
-      (λ at. without_ok H h p.1 received line (m p.0) below.0 all (subst (λ k. SlotOk rules g pens H h line (m k)) at ok))
+      (put_at (λ slot. SlotOk rules g block_writes H h line slot) m p.0 (without_mark p.1 (m p.0)) h
+      (λ at. without_ok H h p.1 received line (m p.0) below.0 all (subst (λ k. SlotOk rules g block_writes H h line (m k)) at ok))
       (λ _. ok))
 
   pub unmarks_other : (f : ℕ) (marks : List (ℕ × ℕ)) (m : ℕ → Option Slot) (h : ℕ)

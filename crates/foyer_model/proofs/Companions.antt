@@ -1,16 +1,16 @@
 -- What one step with its reply says.
 use Rattle.std.proofs.Common.{◌≡◌, ℕ, ◌+◌, Bool, true, false, if◌then◌else◌, List, [], ◌∷◌, length, Option, Some, None, inl, inr, refl, sym, ap, ◌∙◌}
 use Rattle.foyer_model.specs.Record.{Slot, Source, Given, Reread, Record}
-use Rattle.foyer_model.specs.Filling.{Write, Spread}
+use Rattle.foyer_model.specs.Position.{Write, BlockLayout}
 use Rattle.foyer_model.specs.State.{Submission, Piece, Remove, Await, Reinsert, Writing, Batch, State}
 use Rattle.foyer_model.specs.Rules.{Rules, Splitting}
 use Rattle.foyer_model.specs.Step.{FlushWrote}
 use Rattle.foyer_model.specs.Reply.{Ignored, Received, Began, Written, Committed, Failed, Picked}
-use Rattle.foyer_model.specs.Placing.{writes_in}
+use Rattle.foyer_model.specs.Layout.{writes_in}
 use Rattle.foyer_model.specs.Commit.{is_put, committed_one, commit_of}
 use Rattle.foyer_model.specs.Queue.{Enqueues}
-use Rattle.foyer_model.specs.Receive.{Fits, Takes}
-use Rattle.foyer_model.specs.Flush.{commit_in, Begins, Tells, Wrote}
+use Rattle.foyer_model.specs.Receive.{Fits, TakesFront}
+use Rattle.foyer_model.specs.Flush.{commit_in, Begins, Describes, Wrote}
 use Rattle.foyer_model.specs.Reclaim.{Picks}
 use Rattle.foyer_model.specs.Event.{Event, with_puts, puts_of, events_of}
 use Rattle.foyer_model.specs.Laws.{IsAmong}
@@ -37,13 +37,13 @@ pieces_put {C} b n (q ∷ ps) m p c is given =
     rest false there = there
 
 module _ {C : Type 0} (rules : Rules C) (Splits : Splitting C) where
-  takes_back : (old done : State C) (f : ℕ) (queue : List (Submission C)) (d : C) → Takes rules old f queue (Received (Some d)) done
+  takes_back : (old done : State C) (f : ℕ) (queue : List (Submission C)) (d : C) → TakesFront rules old f queue (Received (Some d)) done
       → (h : ℕ) × (s : ℕ) × (n : ℕ) × (rest : List (Submission C)) × (queue ≡ Piece h s n d ∷ rest)
       × ((bytes : List ℕ) → rules.encode h s d ≡ Some bytes → Fits rules old (old.flushers f) bytes → ⊥)
   takes_back old done f [] d ok = absurd ok
   takes_back old done f (Piece h s n c ∷ rest) d ok =
       (h, s, n, rest, (λ i. Piece h s n (sym ok.0 i) ∷ rest), λ bytes is. ok.1 bytes (ap (λ k. rules.encode h s k) (sym ok.0) ∙ is))
-  takes_back old done f (Remove h s spoils ∷ rest) d ok = absurd ok
+  takes_back old done f (Remove h s invalidated ∷ rest) d ok = absurd ok
   takes_back old done f (Await i ∷ rest) d ok = absurd ok
   takes_back old done f (Reinsert h bytes a ∷ rest) d ok = absurd ok
 
@@ -53,10 +53,10 @@ module _ {C : Type 0} (rules : Rules C) (Splits : Splitting C) where
     returned = λ old new f d ok. takes_back old (ok.2).0 f (old.flushers f).queue d (ok.2).1;
   }
 
-  told_of : (old done : State C) (f b : ℕ) (writes : List Write) (batch : Option (Batch C)) → Tells rules old f batch (Written b writes) done
-      → (k : Batch C) × (s : Spread C) × (rest : List (Spread C)) × (batch ≡ Some k) × (k.blocks ≡ s ∷ rest) × (writes ≡ writes_in rules s.parts)
-  told_of old done f b writes None ok = absurd ok
-  told_of old done f b writes (Some k) (s, rest, blocks, all, which) = (k, s, rest, refl, blocks, all)
+  issued_of : (old done : State C) (f b : ℕ) (writes : List Write) (batch : Option (Batch C)) → Describes rules old f batch (Written b writes) done
+      → (k : Batch C) × (s : BlockLayout C) × (rest : List (BlockLayout C)) × (batch ≡ Some k) × (k.blocks ≡ s ∷ rest) × (writes ≡ writes_in rules s.parts)
+  issued_of old done f b writes None ok = absurd ok
+  issued_of old done f b writes (Some k) (s, rest, blocks, all, which) = (k, s, rest, refl, blocks, all)
 
   committed_of : (old new done : State C) (f n : ℕ) (H : List (Event C)) (batch : Option (Batch C)) → (old.flushers f).batch ≡ batch → Wrote rules old f true batch (Committed n) done → new ≡ record done { steps = old.steps + 1 }
       → (w : Writing C) × IsWrittenBy old f w × ((last : Write) × (w.left ≡ last ∷ []))
@@ -83,7 +83,7 @@ module _ {C : Type 0} (rules : Rules C) (Splits : Splitting C) where
   commit_keeps_lem = record {
     began = λ old new f blocks marks places ok. let does : Begins rules Splits old f (Began blocks marks) (ok.2).0 = (ok.2).1 in
         ((places (old.flushers f).context (old.flushers f).buffer blocks does.1).all, does.0);
-    told = λ old new f b writes ok. told_of old (ok.2).0 f b writes (old.flushers f).batch (ok.2).1;
+    issued = λ old new f b writes ok. issued_of old (ok.2).0 f b writes (old.flushers f).batch (ok.2).1;
     committed = λ old new f n H ok. committed_of old new (ok.2).0 f n H (old.flushers f).batch refl (ok.2).1 (ok.2).2;
     failed = λ old new f well H ok. (ap (λ k. k.index) (ok.2).2 ∙ failed_of old (ok.2).0 f well (old.flushers f).batch (ok.2).1, refl);
   }

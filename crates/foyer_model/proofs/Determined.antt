@@ -5,20 +5,20 @@ use Rattle.foyer_model.specs.Ids.{without_id}
 use Rattle.foyer_model.specs.Record.{Slot, Indexed, Mark, Outcome, NoRecord, Holds, IndexEntry, Given}
 use Rattle.foyer_model.specs.State.{Submission, Piece, Remove, Await, Reinsert, Batch, Writes, Stage, AtIndex, AtRecord, AllListed, ToClean, Reclaim, Destroy, NoDestroy, Begun, Cleaning, State}
 use Rattle.foyer_model.specs.Rules.{Rules, Splitting}
-use Rattle.foyer_model.specs.Step.{Came, Bytes, Fault, Age, Ticket, Step, Enqueue, Delete, Wait, MayContains, LoadBegin, LoadEnd, Receive, FlushBegin, FlushBlock, FlushWrote, LogWrote, FlushEnd, ReclaimBegin, ReclaimRead, ReclaimForget, ReclaimCleaned, ReclaimIdle, DestroyBegin, DestroyClear, DestroyCleaned, Close}
+use Rattle.foyer_model.specs.Step.{ReadResult, Bytes, Fault, Age, Ticket, Step, Enqueue, Delete, Wait, MayContains, LoadBegin, LoadEnd, Receive, FlushBegin, FlushBlock, FlushWrote, LogWrote, FlushEnd, ReclaimBegin, ReclaimRead, ReclaimForget, ReclaimCleaned, ReclaimIdle, DestroyBegin, DestroyClear, DestroyCleaned, Close}
 use Rattle.foyer_model.specs.Reply.{Reply, NotNow, Refused, Ignored, Queued, Deleted, Done, Miss, Throttled, Read, Entry, Empty, Received, Began, Written, NoBlock, Next, Committed, Failed, Ended, Picked, Scans, Listed, Cleans, Destroying, Cleared}
 use Rattle.foyer_model.specs.Queue.{Enqueues, Deletes, Waits}
 use Rattle.foyer_model.specs.Load.{Looks, judged, Judges, Ends}
-use Rattle.foyer_model.specs.Receive.{pushed_to, Takes}
-use Rattle.foyer_model.specs.Flush.{released, Begins, block_told, Tells, write_done, block_done, Wrote, Logs, Finishes}
-use Rattle.foyer_model.specs.Reclaim.{addresses, Picks, told_at, reclaiming, stage_behind, Lists, Scanned, Rereads, Forgets, reclaimed, Cleaned}
+use Rattle.foyer_model.specs.Receive.{pushed_to, TakesFront}
+use Rattle.foyer_model.specs.Flush.{released, Begins, block_issued, Describes, write_done, block_done, Wrote, Logs, Finishes}
+use Rattle.foyer_model.specs.Reclaim.{addresses, Picks, issued_at, reclaiming, stage_behind, Lists, Scanned, Rereads, Forgets, reclaimed, Cleaned}
 use Rattle.foyer_model.specs.Destroy.{BeginsDestroy, Clears, CleansOne}
-use Rattle.foyer_model.specs.Does.{Does}
-use Rattle.foyer_model.specs.Turn.{Follows}
+use Rattle.foyer_model.specs.Changes.{Changes}
+use Rattle.foyer_model.specs.Follows.{Follows}
 use Rattle.foyer_model.specs.Access.{came}
 use Rattle.foyer_model.specs.Companions.{IsDetermined}
 use Rattle.foyer_model.proofs.FlushEnds.{failed}
-use Rattle.foyer_model.proofs.FlushBlocks.{told}
+use Rattle.foyer_model.proofs.FlushBlocks.{issued}
 
 -- two ends of one list
 same_last : (xs ys : List ℕ) (x y : ℕ) → xs ++ x ∷ [] ≡ ys ++ y ∷ [] → (xs ≡ ys) × (x ≡ y)
@@ -67,17 +67,17 @@ module _ {C : Type 0} (rules : Rules C) (Splits : Splitting C) (old : State C) w
   judges_one t (Holds k) (Entry d age) one two p q = joined one two old p.2 q.2
   judges_one t x reply one two p q = absurd p
 
-  ends_one : (t : Ticket) (came : Came) (reply : Reply C) (one two : State C) → Ends rules old t came reply one → Ends rules old t came reply two → one ≡ two
+  ends_one : (t : Ticket) (came : ReadResult) (reply : Reply C) (one two : State C) → Ends rules old t came reply one → Ends rules old t came reply two → one ≡ two
   ends_one t Fault reply one two p q = absurd p
   ends_one t (Bytes bs) reply one two p q = judges_one t (judged rules old t bs) reply one two p q
 
-  takes_one : (f : ℕ) (queue : List (Submission C)) (reply : Reply C) (one two : State C) → Takes rules old f queue reply one → Takes rules old f queue reply two → one ≡ two
+  takes_one : (f : ℕ) (queue : List (Submission C)) (reply : Reply C) (one two : State C) → TakesFront rules old f queue reply one → TakesFront rules old f queue reply two → one ≡ two
   takes_one f [] Empty one two p q = joined one two old p q
   takes_one f (Piece h s n k ∷ rest) (Received None) one two (bs, encoded, fits, eq) (bs', encoded', fits', eq') =
       eq ∙ ap (λ b. pushed_to rules old f rest (record { hash = h; sequence = s; bytes = b; source = Given k }))
       (let e : Some bs ≡ Some bs' = sym encoded ∙ encoded' in let g : bs ≡ bs' = cc in g) ∙ sym eq'
   takes_one f (Piece h s n k ∷ rest) (Received (Some d)) one two p q = joined one two _ p.2 q.2
-  takes_one f (Remove h s spoils ∷ rest) (Received None) one two p q = joined one two _ p q
+  takes_one f (Remove h s invalidated ∷ rest) (Received None) one two p q = joined one two _ p q
   takes_one f (Await i ∷ rest) (Received None) one two p q = joined one two _ p q
   takes_one f (Reinsert h bytes a ∷ rest) (Received None) one two p q =
       elim p [
@@ -90,24 +90,24 @@ module _ {C : Type 0} (rules : Rules C) (Splits : Splitting C) (old : State C) w
   begins_one f (Began blocks marks) one two p q = joined one two _ p.2 q.2
   begins_one f reply one two p q = absurd p
 
-  tells_one : (f : ℕ) (batch : Option (Batch C)) (reply : Reply C) (one two : State C) → Tells rules old f batch reply one → Tells rules old f batch reply two → one ≡ two
-  tells_one f (Some batch) NoBlock one two p q = joined one two _ p.3 q.3
-  tells_one f (Some batch) (Written b writes) one two (s, rest, blocks, all, which) (s', rest', blocks', all', which') =
+  issues_one : (f : ℕ) (batch : Option (Batch C)) (reply : Reply C) (one two : State C) → Describes rules old f batch reply one → Describes rules old f batch reply two → one ≡ two
+  issues_one f (Some batch) NoBlock one two p q = joined one two _ p.3 q.3
+  issues_one f (Some batch) (Written b writes) one two (s, rest, blocks, all, which) (s', rest', blocks', all', which') =
       elim which [
         | inl (on, own, eq) ↦ elim which' [
-          | inl (on', own', eq') ↦ told eq eq'
+          | inl (on', own', eq') ↦ issued eq eq'
           | inr (inl (off', ready', eq')) ↦ absurd (let e : true ≡ false = sym on ∙ off' in cc)
           | inr (inr (off', none', free', eq')) ↦ absurd (let e : true ≡ false = sym on ∙ off' in cc)
         ]
         | inr (inl (off, ready, eq)) ↦ elim which' [
           | inl (on', own', eq') ↦ absurd (let e : true ≡ false = sym on' ∙ off in cc)
-          | inr (inl (off', ready', eq')) ↦ told eq eq'
+          | inr (inl (off', ready', eq')) ↦ issued eq eq'
           | inr (inr (off', none', free', eq')) ↦ absurd (let e : None ≡ Some b = sym none' ∙ ready in cc)
         ]
         | inr (inr (off, none, free, eq)) ↦ elim which' [
           | inl (on', own', eq') ↦ absurd (let e : true ≡ false = sym on' ∙ off in cc)
           | inr (inl (off', ready', eq')) ↦ absurd (let e : None ≡ Some b = sym none ∙ ready' in cc)
-          | inr (inr (off', none', free', eq')) ↦ eq ∙ (λ i. record (block_told rules old f b batch (same_s i) (same_rest i)) {
+          | inr (inr (off', none', free', eq')) ↦ eq ∙ (λ i. record (block_issued rules old f b batch (same_s i) (same_rest i)) {
             filling = put old.filling b (old.filling b + 1);
             clean = without_id b old.clean;
             place = put (released (old.flushers f).own old.place) b (Writes f);
@@ -124,9 +124,9 @@ module _ {C : Type 0} (rules : Rules C) (Splits : Splitting C) (old : State C) w
       same_rest : rest ≡ rest'
       same_rest = let e : s ∷ rest ≡ s' ∷ rest' = same_blocks in cc
 
-      told : one ≡ block_told rules old f b batch s rest → two ≡ block_told rules old f b batch s' rest' → one ≡ two
-      told eq eq' = eq ∙ (λ i. block_told rules old f b batch (same_s i) (same_rest i)) ∙ sym eq'
-  tells_one f batch reply one two p q = absurd p
+      issued : one ≡ block_issued rules old f b batch s rest → two ≡ block_issued rules old f b batch s' rest' → one ≡ two
+      issued eq eq' = eq ∙ (λ i. block_issued rules old f b batch (same_s i) (same_rest i)) ∙ sym eq'
+  issues_one f batch reply one two p q = absurd p
 
   wrote_one : (f : ℕ) (good : Bool) (batch : Option (Batch C)) (reply : Reply C) (one two : State C) → Wrote rules old f good batch reply one → Wrote rules old f good batch reply two → one ≡ two
   wrote_one f true (Some batch) Next one two (r, first, second, rest, writing, left, eq) (r', first', second', rest', writing', left', eq') =
@@ -160,26 +160,26 @@ module _ {C : Type 0} (rules : Rules C) (Splits : Splitting C) (old : State C) w
   verdicts_in (Listed verdicts) = verdicts
   verdicts_in reply = []
 
-  verdicts_told : (b : ℕ) (stage : Stage) (vs : List Bool) → verdicts_in (told_at rules old b stage vs) ≡ vs
-  verdicts_told b (AtIndex place) vs = refl
-  verdicts_told b (AtRecord h a rest place) vs = refl
-  verdicts_told b AllListed vs = refl
-  verdicts_told b ToClean vs = refl
+  verdicts_issued : (b : ℕ) (stage : Stage) (vs : List Bool) → verdicts_in (issued_at rules old b stage vs) ≡ vs
+  verdicts_issued b (AtIndex place) vs = refl
+  verdicts_issued b (AtRecord h a rest place) vs = refl
+  verdicts_issued b AllListed vs = refl
+  verdicts_issued b ToClean vs = refl
 
   lists_one : (b : ℕ) (r : Reclaim) (place : ℕ) (es : Option (List IndexEntry)) (reply : Reply C) (one two : State C) → Lists rules old b r place es reply one → Lists rules old b r place es reply two → one ≡ two
   lists_one b r place None reply one two p q = joined one two _ p.1 q.1
-  lists_one b r place (Some es) reply one two (vs, count, told, eq) (vs', count', told', eq') =
+  lists_one b r place (Some es) reply one two (vs, count, issued, eq) (vs', count', issued', eq') =
       eq ∙ ap (λ v. reclaiming rules old b (record r { stage = stage_behind rules old b place es v; listed = addresses b (old.filling b) place es ++ r.listed }))
-      (sym (verdicts_told b (stage_behind rules old b place es vs) vs) ∙ ap verdicts_in (sym told ∙ told') ∙ verdicts_told b (stage_behind rules old b place es vs') vs') ∙ sym eq'
+      (sym (verdicts_issued b (stage_behind rules old b place es vs) vs) ∙ ap verdicts_in (sym issued ∙ issued') ∙ verdicts_issued b (stage_behind rules old b place es vs') vs') ∙ sym eq'
 
-  scanned_one : (b : ℕ) (r : Reclaim) (stage : Stage) (came : Came) (reply : Reply C) (one two : State C) → Scanned rules old b r stage came reply one → Scanned rules old b r stage came reply two → one ≡ two
+  scanned_one : (b : ℕ) (r : Reclaim) (stage : Stage) (came : ReadResult) (reply : Reply C) (one two : State C) → Scanned rules old b r stage came reply one → Scanned rules old b r stage came reply two → one ≡ two
   scanned_one b r (AtIndex place) Fault reply one two p q = joined one two _ p.1 q.1
   scanned_one b r (AtRecord h a rest place) Fault reply one two p q = joined one two _ p.1 q.1
   scanned_one b r (AtIndex place) (Bytes bs) reply one two p q = lists_one b r place (rules.entries_of place bs) reply one two p q
   scanned_one b r (AtRecord h a rest place) (Bytes bs) reply one two p q = joined one two _ p.1 q.1
   scanned_one b r stage came reply one two p q = absurd p
 
-  reads_one : (b : ℕ) (r : Option Reclaim) (came : Came) (reply : Reply C) (one two : State C) → Rereads rules old b r came reply one → Rereads rules old b r came reply two → one ≡ two
+  reads_one : (b : ℕ) (r : Option Reclaim) (came : ReadResult) (reply : Reply C) (one two : State C) → Rereads rules old b r came reply one → Rereads rules old b r came reply two → one ≡ two
   reads_one b None came reply one two p q = absurd p
   reads_one b (Some r) came reply one two p q = scanned_one b r r.stage came reply one two p q
 
@@ -221,7 +221,7 @@ module _ {C : Type 0} (rules : Rules C) (Splits : Splitting C) (old : State C) w
   cleans_one b well NoDestroy reply one two p q = absurd p
   cleans_one b well Begun reply one two p q = absurd p
 
-  does_one : (step : Step C) (reply : Reply C) (one two : State C) → Does rules Splits old step reply one → Does rules Splits old step reply two → one ≡ two
+  does_one : (step : Step C) (reply : Reply C) (one two : State C) → Changes rules Splits old step reply one → Changes rules Splits old step reply two → one ≡ two
   does_one (Enqueue h n age k) reply one two p q = enqueues_one h n age k reply one two p q
   does_one (Delete h) reply one two p q = deletes_one h reply one two p q
   does_one (Wait f i) reply one two p q = waits_one f i reply one two p q
@@ -230,7 +230,7 @@ module _ {C : Type 0} (rules : Rules C) (Splits : Splitting C) (old : State C) w
   does_one (LoadEnd t came) reply one two p q = ends_one t came reply one two p q
   does_one (Receive f) reply one two p q = takes_one f (old.flushers f).queue reply one two p q
   does_one (FlushBegin f) reply one two p q = begins_one f reply one two p q
-  does_one (FlushBlock f) reply one two p q = tells_one f (old.flushers f).batch reply one two p q
+  does_one (FlushBlock f) reply one two p q = issues_one f (old.flushers f).batch reply one two p q
   does_one (FlushWrote f good) reply one two p q = wrote_one f good (old.flushers f).batch reply one two p q
   does_one (LogWrote f well) reply one two p q = logs_one f well (old.flushers f).batch reply one two p q
   does_one (FlushEnd f) reply one two p q = finishes_one f (old.flushers f).batch reply one two p q

@@ -4,13 +4,13 @@ use Rattle.std.proofs.lemmas.Bool.{eqb-true, eqb-false}
 use Rattle.std.proofs.lemmas.Bool.Decides.{nat_tests}
 use Rattle.foyer_model.specs.Numbers.{put}
 use Rattle.foyer_model.specs.Record.{Address, Slot, Indexed, Mark, Outcome, NoRecord, Holds, Source, Given, Reread, Record}
-use Rattle.foyer_model.specs.State.{Place, Clean, Reclaims}
+use Rattle.foyer_model.specs.State.{BlockSet, Clean, Reclaims}
 use Rattle.foyer_model.specs.Rules.{Rules, flusher_of}
 use Rattle.foyer_model.specs.Index.{is_same, holds, inserted, without, forgotten, without_mark, unmarked}
 use Rattle.foyer_model.specs.Commit.{address_of, taken_in, is_put, committed_one, commit_of}
 use Rattle.foyer_model.specs.Event.{Event, Put, Deletion, sequence_in, newest, outcome_in}
 use Rattle.foyer_model.specs.Kept.{with_kept, unless}
-use Rattle.foyer_model.specs.Access.{Pen}
+use Rattle.foyer_model.specs.Access.{BlockWrites}
 use Rattle.foyer_model.proofs.Basics.{put_at, put_same, put_other, Ascends}
 use Rattle.foyer_model.proofs.Invariant.{Ground, Each, IsGood, put_in, puts_onto, SlotOk, sequences, SourceOk, RecordOk}
 use Rattle.foyer_model.proofs.CommitSteps.{committed, noted_one, noted, newest_kept, newest_del, newest_del_other, Brings, other_newest, all_bring, put_next, commits}
@@ -48,13 +48,13 @@ Found {C} H filling h kept slot =
     (b s : ℕ) (x : Outcome C) → kept ≡ Some b → newest h H ≡ Some (Put h s x) → (x ≡ NoRecord → ⊥)
     → (a : Address) × (slot ≡ Some (Indexed a)) × (a.block ≡ b) × (a.filling ≡ filling b)
 
-pub record IsKept {C : Type 0} (index : ℕ → Option Slot) (H : List (Event C)) (kept : ℕ → Option ℕ) (filling : ℕ → ℕ) (place : ℕ → Place) : Type 0 where
+pub record IsKept {C : Type 0} (index : ℕ → Option Slot) (H : List (Event C)) (kept : ℕ → Option ℕ) (filling : ℕ → ℕ) (place : ℕ → BlockSet) : Type 0 where
   pub found : (h : ℕ) → Found H filling h (kept h) (index h)
   pub safe : (h b : ℕ) → kept h ≡ Some b → (place b ≡ Clean → ⊥) × (place b ≡ Reclaims → ⊥)
 
 module _ {C : Type 0} (rules : Rules C) where
   -- a delete
-  pub kept_deleted : (index : ℕ → Option Slot) (H : List (Event C)) (kept : ℕ → Option ℕ) (filling : ℕ → ℕ) (place : ℕ → Place) (h s : ℕ)
+  pub kept_deleted : (index : ℕ → Option Slot) (H : List (Event C)) (kept : ℕ → Option ℕ) (filling : ℕ → ℕ) (place : ℕ → BlockSet) (h s : ℕ)
       → sequence_in (newest h H) ≤ s → IsKept index H kept filling place → IsKept (put index h (Some (Mark s))) (Deletion h s ∷ H) kept filling place
   kept_deleted index H kept filling place h s le ok =
       record {
@@ -66,7 +66,7 @@ module _ {C : Type 0} (rules : Rules C) where
       }
 
   -- the slot of a hash that isn't kept
-  pub kept_put : (index : ℕ → Option Slot) (H : List (Event C)) (kept : ℕ → Option ℕ) (filling : ℕ → ℕ) (place : ℕ → Place) (h : ℕ) (slot : Option Slot)
+  pub kept_put : (index : ℕ → Option Slot) (H : List (Event C)) (kept : ℕ → Option ℕ) (filling : ℕ → ℕ) (place : ℕ → BlockSet) (h : ℕ) (slot : Option Slot)
       → Found H filling h (kept h) slot → IsKept index H kept filling place → IsKept (put index h slot) H kept filling place
   kept_put index H kept filling place h slot here ok =
       record {
@@ -82,7 +82,7 @@ module _ {C : Type 0} (rules : Rules C) where
       (put_at (λ v. v ≡ Some (Indexed a)) m p.0 (without_mark p.1 (m p.0)) h
       (λ at. ap (without_mark p.1) (ap m (sym at) ∙ is)) (λ _. is))
 
-  pub kept_unmarked : (marks : List (ℕ × ℕ)) (index : ℕ → Option Slot) (H : List (Event C)) (kept : ℕ → Option ℕ) (filling : ℕ → ℕ) (place : ℕ → Place)
+  pub kept_unmarked : (marks : List (ℕ × ℕ)) (index : ℕ → Option Slot) (H : List (Event C)) (kept : ℕ → Option ℕ) (filling : ℕ → ℕ) (place : ℕ → BlockSet)
       → IsKept index H kept filling place → IsKept (unmarked marks index) H kept filling place
   kept_unmarked marks index H kept filling place ok =
       record {
@@ -107,7 +107,7 @@ module _ {C : Type 0} (rules : Rules C) where
       (put_at (λ v. v ≡ Some (Indexed a)) m p.0 (without p.1 (m p.0)) h
       (λ at. ap (without p.1) (ap m (sym at) ∙ is) ∙ ap (λ (t : Bool). if t then None else Some (Indexed a)) (other_block p.1 a (λ e. far (sym e ∙ (all.0).0)))) (λ _. is))
 
-  pub kept_forgotten : (b : ℕ) (listed : List (ℕ × Address)) (index : ℕ → Option Slot) (H : List (Event C)) (kept : ℕ → Option ℕ) (filling : ℕ → ℕ) (place : ℕ → Place)
+  pub kept_forgotten : (b : ℕ) (listed : List (ℕ × Address)) (index : ℕ → Option Slot) (H : List (Event C)) (kept : ℕ → Option ℕ) (filling : ℕ → ℕ) (place : ℕ → BlockSet)
       → (n : ℕ) → AllHere b n listed → place b ≡ Reclaims → IsKept index H kept filling place → IsKept (forgotten listed index) H kept filling place
   kept_forgotten b listed index H kept filling place n all at ok =
       record {
@@ -125,7 +125,7 @@ module _ {C : Type 0} (rules : Rules C) where
       go true e f = absurd cc
       go false e f = (f, λ at. eqb-false d b e (let g : d ≡ c = cc in g ∙ at))
 
-  pub kept_reclaimed : (b : ℕ) (index : ℕ → Option Slot) (H : List (Event C)) (kept : ℕ → Option ℕ) (filling : ℕ → ℕ) (place : ℕ → Place)
+  pub kept_reclaimed : (b : ℕ) (index : ℕ → Option Slot) (H : List (Event C)) (kept : ℕ → Option ℕ) (filling : ℕ → ℕ) (place : ℕ → BlockSet)
       → IsKept index H kept filling place → IsKept index H (λ h. unless b (kept h)) filling (put place b Reclaims)
   kept_reclaimed b index H kept filling place ok =
       record {
@@ -135,7 +135,7 @@ module _ {C : Type 0} (rules : Rules C) where
       }
 
   -- a block changes its set
-  pub kept_placed : (index : ℕ → Option Slot) (H : List (Event C)) (kept : ℕ → Option ℕ) (filling : ℕ → ℕ) (place place' : ℕ → Place)
+  pub kept_placed : (index : ℕ → Option Slot) (H : List (Event C)) (kept : ℕ → Option ℕ) (filling : ℕ → ℕ) (place place' : ℕ → BlockSet)
       → ((h b : ℕ) → kept h ≡ Some b → (place b ≡ Clean → ⊥) → (place b ≡ Reclaims → ⊥) → (place' b ≡ Clean → ⊥) × (place' b ≡ Reclaims → ⊥))
       → IsKept index H kept filling place → IsKept index H kept filling place'
   kept_placed index H kept filling place place' move ok =
@@ -143,9 +143,9 @@ module _ {C : Type 0} (rules : Rules C) where
 
   -- commits
 
-  module _ (g : Ground) (pens : ℕ → Pen) where
+  module _ (g : Ground) (block_writes : ℕ → BlockWrites) where
     enters_found : (H : List (Event C)) (r : Record C) (k : C) (line : List (ℕ × ℕ)) (slot : Option Slot) (a : Address) (c : ℕ) → a.sequence ≡ r.sequence → a.block ≡ c → a.filling ≡ g.filling c
-        → SlotOk rules g pens H r.hash ((r.hash, r.sequence) ∷ line) slot
+        → SlotOk rules g block_writes H r.hash ((r.hash, r.sequence) ∷ line) slot
         → Found (Put r.hash r.sequence (Holds k) ∷ H) g.filling r.hash (Some c) (inserted slot (Indexed a))
     enters_found H r k line None a c e at_c fill ok = λ b s x is new some. (a, refl, at_c ∙ (let f : Some c ≡ Some b = is in cc), fill ∙ ap g.filling (let f : Some c ≡ Some b = is in cc))
     enters_found H r k line (Some (Indexed d)) a c e at_c fill ok = go (nat_le d.sequence a.sequence) refl
@@ -176,7 +176,7 @@ module _ {C : Type 0} (rules : Rules C) where
         go true = λ c s x is new some. let e : b ≡ c = (let q : Some b ≡ Some c = sym (put_same kept r.hash (Some b)) ∙ is in cc) in (a, refl, at_b ∙ e, fill ∙ ap g.filling e)
 
     one_found : (H : List (Event C)) (r : Record C) (src : Source C) (line : List (ℕ × ℕ)) (slot : Option Slot) (kept : ℕ → Option ℕ) (a : Address) (b : ℕ) → a.sequence ≡ r.sequence → a.block ≡ b → a.filling ≡ g.filling b
-        → SlotOk rules g pens H r.hash (put_in r.hash r.sequence src line) slot
+        → SlotOk rules g block_writes H r.hash (put_in r.hash r.sequence src line) slot
         → Found H g.filling r.hash (kept r.hash) slot
         → Found (noted_one r src slot H) g.filling r.hash (kept_one b r src slot kept r.hash) (taken_in src slot a)
     one_found H r (Given c) line slot kept a b e at_b fill ok found =
@@ -195,7 +195,7 @@ module _ {C : Type 0} (rules : Rules C) where
         → Found (noted_one p.1 (p.1).source (m (p.1).hash) H) g.filling h (kept_one b p.1 (p.1).source (m (p.1).hash) kept h) (committed_one b (g.filling b) p m h)
     other_found b p m H kept h ne found c s x is new some =
         let r : (a : Address) × (m h ≡ Some (Indexed a)) × (a.block ≡ c) × (a.filling ≡ g.filling c) =
-        found c s x (sym (other_kept b p.1 (p.1).source (m (p.1).hash) kept h ne) ∙ is) (sym (other_newest rules g pens H p.1 (p.1).source (m (p.1).hash) h (λ e. ne (sym e))) ∙ new) some in
+        found c s x (sym (other_kept b p.1 (p.1).source (m (p.1).hash) kept h ne) ∙ is) (sym (other_newest rules g block_writes H p.1 (p.1).source (m (p.1).hash) h (λ e. ne (sym e))) ∙ new) some in
         (r.0, put_other m (p.1).hash (taken_in (p.1).source (m (p.1).hash) (address_of b (g.filling b) p)) h ne ∙ r.1, r.2, r.3)
 
     step_found : (b : ℕ) (p : ℕ × Record C) (m : ℕ → Option Slot) (H : List (Event C)) (kept : ℕ → Option ℕ) (h : ℕ) (here : h ≡ (p.1).hash →
@@ -212,21 +212,21 @@ module _ {C : Type 0} (rules : Rules C) where
         go false e = other_found b p m H kept h (eqb-false h (p.1).hash e) found
 
     pub commits_found : (f b : ℕ) (ps : List (ℕ × Record C)) (m : ℕ → Option Slot) (H : List (Event C)) (kept : ℕ → Option ℕ) (h low high : ℕ) (rest : List (ℕ × ℕ))
-        → Each (RecordOk rules f) (map (λ p. p.1) ps) → Each (Brings rules g pens b (g.filling b) m H) (map (λ p. p.1) ps)
-        → Each (λ p. IsGood rules g pens (p.1).hash (address_of b (g.filling b) p) (rules.pair_of (p.1).bytes (p.1).hash (p.1).sequence)) ps
+        → Each (RecordOk rules f) (map (λ p. p.1) ps) → Each (Brings rules g block_writes b (g.filling b) m H) (map (λ p. p.1) ps)
+        → Each (λ p. IsGood rules g block_writes (p.1).hash (address_of b (g.filling b) p) (rules.pair_of (p.1).bytes (p.1).hash (p.1).sequence)) ps
         → Ascends low (sequences (puts_onto (map (λ p. p.1) ps) rest)) high
-        → SlotOk rules g pens H h (puts_onto (map (λ p. p.1) ps) rest) (m h)
+        → SlotOk rules g block_writes H h (puts_onto (map (λ p. p.1) ps) rest) (m h)
         → Found H g.filling h (kept h) (m h)
         → Found (noted b (g.filling b) ps m H) g.filling h (all_kept b (g.filling b) ps m kept h) (committed b (g.filling b) ps m h)
     commits_found f b [] m H kept h low high rest routed brings good up ok found = found
     commits_found f b (p ∷ ps) m H kept h low high rest routed brings good up ok found =
-        let next : (k : ℕ) × Ascends k (sequences line) high = put_next rules g pens low high (p.1).hash (p.1).sequence (p.1).source line up in
+        let next : (k : ℕ) × Ascends k (sequences line) high = put_next rules g block_writes low high (p.1).hash (p.1).sequence (p.1).source line up in
         commits_found f b ps (committed_one b (g.filling b) p m) (noted_one p.1 (p.1).source (m (p.1).hash) H) (kept_one b p.1 (p.1).source (m (p.1).hash) kept) h next.0 high rest
-        routed.1 (all_bring rules g pens b (g.filling b) p m H (map (λ q. q.1) ps) brings.1) good.1 next.1
-        (commits rules g pens f b (g.filling b) (p ∷ []) m H h low high line (routed.0, tt) (brings.0, tt) (good.0, tt) up ok)
+        routed.1 (all_bring rules g block_writes b (g.filling b) p m H (map (λ q. q.1) ps) brings.1) good.1 next.1
+        (commits rules g block_writes f b (g.filling b) (p ∷ []) m H h low high line (routed.0, tt) (brings.0, tt) (good.0, tt) up ok)
         (step_found b p m H kept h
         (λ at. one_found H p.1 (p.1).source line (m (p.1).hash) kept (address_of b (g.filling b) p) b refl refl refl
-        (subst (λ k. SlotOk rules g pens H k (put_in (p.1).hash (p.1).sequence (p.1).source line) (m k)) at ok) (subst (λ k. Found H g.filling k (kept k) (m k)) at found))
+        (subst (λ k. SlotOk rules g block_writes H k (put_in (p.1).hash (p.1).sequence (p.1).source line) (m k)) at ok) (subst (λ k. Found H g.filling k (kept k) (m k)) at found))
         found)
       where
         line : List (ℕ × ℕ)

@@ -2,13 +2,13 @@
 use Rattle.std.proofs.Common.{◌≡◌, ◌≢◌, ℕ, ◌+◌, ◌<◌, ◌≤◌, Bool, true, false, List, [], ◌∷◌, ◌++◌, map, take, Option, Some, None}
 use Rattle.foyer_model.specs.Numbers.{page}
 use Rattle.foyer_model.specs.Record.{Address, Slot, Indexed, Mark, Outcome, Holds, Source, Given, Reread, Record}
-use Rattle.foyer_model.specs.Filling.{Filling, Write, Spread, records_of, last_end}
-use Rattle.foyer_model.specs.State.{Submission, Piece, Remove, Await, Reinsert, Writing, Batch, Flusher, Place, Writes}
-use Rattle.foyer_model.specs.Rules.{Rules, flusher_of, empty_filling}
+use Rattle.foyer_model.specs.Position.{Position, Write, BlockLayout, records_of, last_end}
+use Rattle.foyer_model.specs.State.{Submission, Piece, Remove, Await, Reinsert, Writing, Batch, Flusher, BlockSet, Writes}
+use Rattle.foyer_model.specs.Rules.{Rules, flusher_of, first_position}
 use Rattle.foyer_model.specs.Step.{Bytes, Fault}
-use Rattle.foyer_model.specs.Placing.{MayWrite, laid, all_laid, read, AllStand, IsBeside, AllOutside, AllBehind, AllPlaced}
+use Rattle.foyer_model.specs.Layout.{MayWrite, laid, all_laid, read, AllStand, IsBeside, AllOutside, AllBehind, AllPlaced}
 use Rattle.foyer_model.specs.Event.{Event, Put, Deletion, sequence_in, newest}
-use Rattle.foyer_model.specs.Access.{Pen, Rest, Told, Under, Phase, Unread, Reading, HasRead, Load}
+use Rattle.foyer_model.specs.Access.{BlockWrites, Idle, Issued, InFlight, ReadState, ReadIssued, Reading, ReadDone, Load}
 use Rattle.foyer_model.specs.World.{World, covers}
 use Rattle.foyer_model.proofs.Basics.{Ascends}
 
@@ -17,13 +17,13 @@ pub record View (C : Type 0) : Type 0 where
   pub index : ℕ → Option Slot
   pub next : ℕ
   pub flushers : ℕ → Flusher C
-  pub place : ℕ → Place
-  pub filled : ℕ → Filling
+  pub place : ℕ → BlockSet
+  pub filled : ℕ → Position
   pub filling : ℕ → ℕ
   pub bytes : ℕ → ℕ → ℕ
   pub history : List (Event C)
   pub loads : ℕ → Option (Load C)
-  pub pens : ℕ → Pen
+  pub block_writes : ℕ → BlockWrites
 
 abbrev pub view_of : {C : Type 0} → World C → View C
 view_of w =
@@ -37,12 +37,12 @@ view_of w =
       bytes = w.bytes;
       history = w.history;
       loads = w.loads;
-      pens = w.pens;
+      block_writes = w.block_writes;
     }
 
 -- of each block how far it is filled, in which filling, and its bytes
 pub record Ground : Type 0 where
-  pub filled : ℕ → Filling
+  pub filled : ℕ → Position
   pub filling : ℕ → ℕ
   pub bytes : ℕ → ℕ → ℕ
 
@@ -64,21 +64,21 @@ InPages rules a o = (a.offset ≤ o) × (o < a.offset + rules.page_up a.len)
 abbrev pub Spares : {C : Type 0} → Rules C → Address → Write → Type 0
 Spares rules a v = (o : ℕ) → InPages rules a o → IsBeside v o
 
-abbrev pub PenSpares : {C : Type 0} → Rules C → Address → Pen → Type 0
-PenSpares rules a Rest = Unit {0}
-PenSpares rules a (Told b results ws) = a.block ≡ b → Each (Spares rules a) ws
-PenSpares rules a (Under b results w ws) = a.block ≡ b → Each (Spares rules a) (w ∷ ws)
+abbrev pub WritesSpare : {C : Type 0} → Rules C → Address → BlockWrites → Type 0
+WritesSpare rules a Idle = Unit {0}
+WritesSpare rules a (Issued b results ws) = a.block ≡ b → Each (Spares rules a) ws
+WritesSpare rules a (InFlight b results w ws) = a.block ≡ b → Each (Spares rules a) (w ∷ ws)
 
 -- in its filling, an address has bytes with this outcome, and no write touches them any more
-pub record IsSolid {C : Type 0} (rules : Rules C) (g : Ground) (pens : ℕ → Pen) (h : ℕ) (a : Address) (x : Outcome C) : Type 0 where
+pub record IsSolid {C : Type 0} (rules : Rules C) (g : Ground) (block_writes : ℕ → BlockWrites) (h : ℕ) (a : Address) (x : Outcome C) : Type 0 where
   pub outcome : rules.pair_of (read (g.bytes a.block) a.offset a.len) h a.sequence ≡ x
   pub shut : (o : ℕ) → InPages rules a o → MayWrite rules.index_size (g.filled a.block) o → ⊥
-  pub spared : (f : ℕ) → PenSpares rules a (pens f)
+  pub spared : (f : ℕ) → WritesSpare rules a (block_writes f)
   pub past : page ≤ a.offset
 
-pub record IsGood {C : Type 0} (rules : Rules C) (g : Ground) (pens : ℕ → Pen) (h : ℕ) (a : Address) (x : Outcome C) : Type 0 where
+pub record IsGood {C : Type 0} (rules : Rules C) (g : Ground) (block_writes : ℕ → BlockWrites) (h : ℕ) (a : Address) (x : Outcome C) : Type 0 where
   pub older : a.filling ≤ g.filling a.block
-  pub solid : a.filling ≡ g.filling a.block → IsSolid rules g pens h a x
+  pub solid : a.filling ≡ g.filling a.block → IsSolid rules g block_writes h a x
 
 -- what waits at a flusher
 
@@ -94,7 +94,7 @@ puts_onto (r ∷ rs) line = put_in r.hash r.sequence r.source (puts_onto rs line
 abbrev pub queue_puts : {C : Type 0} → List (Submission C) → List (ℕ × ℕ)
 queue_puts [] = []
 queue_puts (Piece h s n c ∷ rest) = (h, s) ∷ queue_puts rest
-queue_puts (Remove h s spoils ∷ rest) = queue_puts rest
+queue_puts (Remove h s invalidated ∷ rest) = queue_puts rest
 queue_puts (Await i ∷ rest) = queue_puts rest
 queue_puts (Reinsert h bytes a ∷ rest) = queue_puts rest
 
@@ -106,13 +106,13 @@ abbrev pub placed_in : {C : Type 0} → Option (Writing C) → List (ℕ × Reco
 placed_in None = []
 placed_in (Some w) = w.records
 
-abbrev pub blocks_in : {C : Type 0} → Option (Batch C) → List (Spread C)
+abbrev pub blocks_in : {C : Type 0} → Option (Batch C) → List (BlockLayout C)
 blocks_in None = []
 blocks_in (Some b) = b.blocks
 
 abbrev pub goes_on_in : {C : Type 0} → Option (Batch C) → Bool
 goes_on_in None = false
-goes_on_in (Some b) = b.goes_on
+goes_on_in (Some b) = b.continues_own_block
 
 abbrev pub marks_in : {C : Type 0} → Option (Batch C) → List (ℕ × ℕ)
 marks_in None = []
@@ -127,30 +127,30 @@ line_of φ = puts_onto (batch_records φ.batch) (puts_onto φ.buffer (queue_puts
 abbrev pub AtLeast : ℕ → ℕ → List (ℕ × ℕ) → Type 0
 AtLeast h n line = Each (λ p. p.0 ≡ h → n ≤ p.1) line
 
-abbrev pub SlotOk : {C : Type 0} → Rules C → Ground → (ℕ → Pen) → List (Event C) → ℕ → List (ℕ × ℕ) → Option Slot → Type 0
-SlotOk {C} rules g pens H h line (Some (Indexed a)) =
-    (x : Outcome C) × (newest h H ≡ Some (Put h a.sequence x)) × IsGood rules g pens h a x × AtLeast h a.sequence line
-SlotOk rules g pens H h line (Some (Mark d)) = newest h H ≡ Some (Deletion h d)
-SlotOk rules g pens H h line None = AtLeast h (sequence_in (newest h H)) line
+abbrev pub SlotOk : {C : Type 0} → Rules C → Ground → (ℕ → BlockWrites) → List (Event C) → ℕ → List (ℕ × ℕ) → Option Slot → Type 0
+SlotOk {C} rules g block_writes H h line (Some (Indexed a)) =
+    (x : Outcome C) × (newest h H ≡ Some (Put h a.sequence x)) × IsGood rules g block_writes h a x × AtLeast h a.sequence line
+SlotOk rules g block_writes H h line (Some (Mark d)) = newest h H ≡ Some (Deletion h d)
+SlotOk rules g block_writes H h line None = AtLeast h (sequence_in (newest h H)) line
 
 -- of a load
 
 -- what a read of an address gave
-abbrev pub PhaseOk : {C : Type 0} → Rules C → Ground → Address → Phase → Type 0
-PhaseOk rules g a Unread = Unit {0}
-PhaseOk rules g a (Reading covers) = (o : ℕ) → InPages rules a o → covers o ≡ false
-PhaseOk rules g a (HasRead Fault) = Unit {0}
-PhaseOk rules g a (HasRead (Bytes bs)) = take a.len bs ≡ read (g.bytes a.block) a.offset a.len
+abbrev pub ReadStateHolds : {C : Type 0} → Rules C → Ground → Address → ReadState → Type 0
+ReadStateHolds rules g a ReadIssued = Unit {0}
+ReadStateHolds rules g a (Reading covers) = (o : ℕ) → InPages rules a o → covers o ≡ false
+ReadStateHolds rules g a (ReadDone Fault) = Unit {0}
+ReadStateHolds rules g a (ReadDone (Bytes bs)) = take a.len bs ≡ read (g.bytes a.block) a.offset a.len
 
-pub record IsPromised {C : Type 0} (rules : Rules C) (g : Ground) (pens : ℕ → Pen) (l : Load C) : Type 0 where
+pub record IsPromised {C : Type 0} (rules : Rules C) (g : Ground) (block_writes : ℕ → BlockWrites) (l : Load C) : Type 0 where
   pub outcome : Outcome C
   pub promise : l.promise ≡ Some (Put l.ticket.hash l.ticket.address.sequence outcome)
-  pub good : IsGood rules g pens l.ticket.hash l.ticket.address outcome
-  pub phase : l.ticket.address.filling ≡ g.filling l.ticket.address.block → PhaseOk rules g l.ticket.address l.phase
+  pub good : IsGood rules g block_writes l.ticket.hash l.ticket.address outcome
+  pub read_state : l.ticket.address.filling ≡ g.filling l.ticket.address.block → ReadStateHolds rules g l.ticket.address l.read_state
 
-abbrev pub LoadOk : {C : Type 0} → Rules C → Ground → (ℕ → Pen) → Option (Load C) → Type 0
-LoadOk rules g pens None = Unit {0}
-LoadOk rules g pens (Some l) = IsPromised rules g pens l
+abbrev pub LoadOk : {C : Type 0} → Rules C → Ground → (ℕ → BlockWrites) → Option (Load C) → Type 0
+LoadOk rules g block_writes None = Unit {0}
+LoadOk rules g block_writes (Some l) = IsPromised rules g block_writes l
 
 -- of a flusher
 
@@ -161,7 +161,7 @@ sequences (p ∷ ps) = p.1 ∷ sequences ps
 abbrev pub queue_sequences : {C : Type 0} → List (Submission C) → List ℕ
 queue_sequences [] = []
 queue_sequences (Piece h s n c ∷ rest) = s ∷ queue_sequences rest
-queue_sequences (Remove h s spoils ∷ rest) = s ∷ queue_sequences rest
+queue_sequences (Remove h s invalidated ∷ rest) = s ∷ queue_sequences rest
 queue_sequences (Await i ∷ rest) = queue_sequences rest
 queue_sequences (Reinsert h bytes a ∷ rest) = queue_sequences rest
 
@@ -185,7 +185,7 @@ RecordOk rules f r = SourceOk rules f r r.source
 abbrev pub SubmissionOk : {C : Type 0} → Rules C → ℕ → Submission C → Type 0
 SubmissionOk rules f (Piece h s n c) =
     (flusher_of rules h ≡ f) × ((bytes : List ℕ) → rules.encode h s c ≡ Some bytes → rules.pair_of bytes h s ≡ Holds c)
-SubmissionOk rules f (Remove h s spoils) = flusher_of rules h ≡ f
+SubmissionOk rules f (Remove h s invalidated) = flusher_of rules h ≡ f
 SubmissionOk rules f (Await i) = Unit {0}
 SubmissionOk rules f (Reinsert h bytes a) = Unit {0}
 
@@ -202,25 +202,25 @@ AllWell (true ∷ results) = AllWell results
 AllWell (false ∷ results) = ⊥
 
 -- where no write failed, the records stand once the writes that are left are done
-abbrev pub PenFits : {C : Type 0} → (ℕ → ℕ → ℕ) → Writing C → Pen → Type 0
-PenFits bytes r Rest = ⊥
-PenFits bytes r (Told b results ws) = (b ≡ r.block) × AreLeft results ws r.left × (AllWell results → AllStand (all_laid ws (bytes r.block)) r.records)
-PenFits bytes r (Under b results w ws) = (b ≡ r.block) × AreLeft results (w ∷ ws) r.left × AllStand (all_laid ws (laid w (bytes r.block))) r.records
+abbrev pub WritesFit : {C : Type 0} → (ℕ → ℕ → ℕ) → Writing C → BlockWrites → Type 0
+WritesFit bytes r Idle = ⊥
+WritesFit bytes r (Issued b results ws) = (b ≡ r.block) × AreLeft results ws r.left × (AllWell results → AllStand (all_laid ws (bytes r.block)) r.records)
+WritesFit bytes r (InFlight b results w ws) = (b ≡ r.block) × AreLeft results (w ∷ ws) r.left × AllStand (all_laid ws (laid w (bytes r.block))) r.records
 
-abbrev pub WritingOk : {C : Type 0} → Rules C → Ground → Option ℕ → Option (Writing C) → Pen → Type 0
-WritingOk rules g own None pen = pen ≡ Rest
-WritingOk rules g own (Some r) pen =
-    (own ≡ Some r.block) × PenFits g.bytes r pen
+abbrev pub WritingOk : {C : Type 0} → Rules C → Ground → Option ℕ → Option (Writing C) → BlockWrites → Type 0
+WritingOk rules g own None pending = pending ≡ Idle
+WritingOk rules g own (Some r) pending =
+    (own ≡ Some r.block) × WritesFit g.bytes r pending
     × AllOutside rules.page_up (MayWrite rules.index_size (g.filled r.block)) r.records
     × AllBehind rules.index_size r.records
 
 -- where the next block of a batch goes on
-abbrev pub start_of : {C : Type 0} → Rules C → (ℕ → Filling) → Option ℕ → Bool → Filling
-start_of rules filled None goes_on = empty_filling rules
-start_of rules filled (Some b) false = empty_filling rules
+abbrev pub start_of : {C : Type 0} → Rules C → (ℕ → Position) → Option ℕ → Bool → Position
+start_of rules filled None continues_own_block = first_position rules
+start_of rules filled (Some b) false = first_position rules
 start_of rules filled (Some b) true = filled b
 
-pub record IsTended {C : Type 0} (rules : Rules C) (g : Ground) (place : ℕ → Place) (next : ℕ) (f : ℕ) (φ : Flusher C) (pen : Pen) : Type 0 where
+pub record FlusherInvariant {C : Type 0} (rules : Rules C) (g : Ground) (place : ℕ → BlockSet) (next : ℕ) (f : ℕ) (φ : Flusher C) (pending : BlockWrites) : Type 0 where
   pub order : IsOrdered next φ
   pub batch : Each (RecordOk rules f) (batch_records φ.batch)
   pub batch_marks : Each (λ p. flusher_of rules p.0 ≡ f) (marks_in φ.batch)
@@ -230,23 +230,23 @@ pub record IsTended {C : Type 0} (rules : Rules C) (g : Ground) (place : ℕ →
   pub split : AllPlaced rules (start_of rules g.filled φ.own (goes_on_in φ.batch)) (blocks_in φ.batch)
   pub context : φ.context ≡ last_end (start_of rules g.filled φ.own true) (blocks_in φ.batch)
   pub owned : (b : ℕ) → φ.own ≡ Some b → place b ≡ Writes f
-  pub spare : (b : ℕ) → φ.ready ≡ Some b → (place b ≡ Writes f) × (g.filled b ≡ empty_filling rules)
+  pub spare : (b : ℕ) → φ.ready ≡ Some b → (place b ≡ Writes f) × (g.filled b ≡ first_position rules)
   pub either : (b c : ℕ) → φ.own ≡ Some b → φ.ready ≡ Some c → ⊥
-  pub writing : WritingOk rules g φ.own (writing_in φ.batch) pen
+  pub writing : WritingOk rules g φ.own (writing_in φ.batch) pending
 
-pub record IsSoundView {C : Type 0} (rules : Rules C) (v : View C) : Type 0 where
-  pub slots : (h f : ℕ) → flusher_of rules h ≡ f → SlotOk rules (ground_in v) v.pens v.history h (line_of (v.flushers f)) (v.index h)
-  pub loads : (n : ℕ) → LoadOk rules (ground_in v) v.pens (v.loads n)
-  pub flushers : (f : ℕ) → IsTended rules (ground_in v) v.place v.next f (v.flushers f) (v.pens f)
+pub record WorldViewInvariant {C : Type 0} (rules : Rules C) (v : View C) : Type 0 where
+  pub slots : (h f : ℕ) → flusher_of rules h ≡ f → SlotOk rules (ground_in v) v.block_writes v.history h (line_of (v.flushers f)) (v.index h)
+  pub loads : (n : ℕ) → LoadOk rules (ground_in v) v.block_writes (v.loads n)
+  pub flushers : (f : ℕ) → FlusherInvariant rules (ground_in v) v.place v.next f (v.flushers f) (v.block_writes f)
   pub next : (h : ℕ) → sequence_in (newest h v.history) < v.next
 
-abbrev pub IsSound : {C : Type 0} → Rules C → World C → Type 0
-IsSound rules w = IsSoundView rules (view_of w)
+abbrev pub WorldInvariant : {C : Type 0} → Rules C → World C → Type 0
+WorldInvariant rules w = WorldViewInvariant rules (view_of w)
 
 -- of reinsertions
 
 -- no flusher owns the block in this filling any more
-abbrev pub IsBarred : (ℕ → Place) → (ℕ → ℕ) → Address → Type 0
+abbrev pub IsBarred : (ℕ → BlockSet) → (ℕ → ℕ) → Address → Type 0
 IsBarred place filling a =
     (a.filling ≤ filling a.block) × (a.filling ≡ filling a.block → (f : ℕ) → place a.block ≡ Writes f → ⊥)
 
@@ -254,35 +254,35 @@ IsBarred place filling a =
 abbrev pub IsFaithful : {C : Type 0} → (ℕ → Option Slot) → List (Event C) → ℕ → Address → ℕ → Outcome C → Type 0
 IsFaithful m H h a s x = m h ≡ Some (Indexed a) → newest h H ≡ Some (Put h s x)
 
-abbrev pub SourceWaits : {C : Type 0} → Rules C → (ℕ → Option Slot) → List (Event C) → (ℕ → Place) → (ℕ → ℕ) → Record C → Source C → Type 0
+abbrev pub SourceWaits : {C : Type 0} → Rules C → (ℕ → Option Slot) → List (Event C) → (ℕ → BlockSet) → (ℕ → ℕ) → Record C → Source C → Type 0
 SourceWaits rules m H place filling r (Given c) = Unit {0}
 SourceWaits rules m H place filling r (Reread a) =
     (a.sequence ≡ r.sequence) × IsBarred place filling a × IsFaithful m H r.hash a r.sequence (rules.pair_of r.bytes r.hash r.sequence)
 
-abbrev pub RecordWaits : {C : Type 0} → Rules C → (ℕ → Option Slot) → List (Event C) → (ℕ → Place) → (ℕ → ℕ) → Record C → Type 0
+abbrev pub RecordWaits : {C : Type 0} → Rules C → (ℕ → Option Slot) → List (Event C) → (ℕ → BlockSet) → (ℕ → ℕ) → Record C → Type 0
 RecordWaits rules m H place filling r = SourceWaits rules m H place filling r r.source
 
-abbrev pub SubmissionWaits : {C : Type 0} → Rules C → (ℕ → Option Slot) → List (Event C) → (ℕ → Place) → (ℕ → ℕ) → Submission C → Type 0
+abbrev pub SubmissionWaits : {C : Type 0} → Rules C → (ℕ → Option Slot) → List (Event C) → (ℕ → BlockSet) → (ℕ → ℕ) → Submission C → Type 0
 SubmissionWaits rules m H place filling (Piece h s n c) = Unit {0}
-SubmissionWaits rules m H place filling (Remove h s spoils) = Unit {0}
+SubmissionWaits rules m H place filling (Remove h s invalidated) = Unit {0}
 SubmissionWaits rules m H place filling (Await i) = Unit {0}
 SubmissionWaits rules m H place filling (Reinsert h bytes a) =
     IsBarred place filling a × IsFaithful m H h a a.sequence (rules.pair_of bytes h a.sequence)
 
-pub record AllWait {C : Type 0} (rules : Rules C) (m : ℕ → Option Slot) (H : List (Event C)) (place : ℕ → Place) (filling : ℕ → ℕ) (φ : Flusher C) : Type 0 where
+pub record AllWait {C : Type 0} (rules : Rules C) (m : ℕ → Option Slot) (H : List (Event C)) (place : ℕ → BlockSet) (filling : ℕ → ℕ) (φ : Flusher C) : Type 0 where
   pub batch : Each (RecordWaits rules m H place filling) (batch_records φ.batch)
   pub buffer : Each (RecordWaits rules m H place filling) φ.buffer
   pub queue : Each (SubmissionWaits rules m H place filling) φ.queue
 
-pub one_owner : {C : Type 0} (rules : Rules C) (w : World C) → IsSound rules w → (e f b : ℕ) → (w.core.flushers e).own ≡ Some b → (w.core.flushers f).own ≡ Some b → e ≡ f
+pub one_owner : {C : Type 0} (rules : Rules C) (w : World C) → WorldInvariant rules w → (e f b : ℕ) → (w.core.flushers e).own ≡ Some b → (w.core.flushers f).own ≡ Some b → e ≡ f
 one_owner rules w sound e f b p q =
     let here : w.core.place b ≡ Writes e = (sound.flushers e).owned b p in
     let there : w.core.place b ≡ Writes f = (sound.flushers f).owned b q in
     cc
 
-pub tended_place : {C : Type 0} (rules : Rules C) (g : Ground) (place place' : ℕ → Place) (next f : ℕ) (φ : Flusher C) (pen : Pen)
-    → ((b : ℕ) → place b ≡ Writes f → place' b ≡ Writes f) → IsTended rules g place next f φ pen → IsTended rules g place' next f φ pen
-tended_place rules g place place' next f φ pen keeps t =
+pub tended_place : {C : Type 0} (rules : Rules C) (g : Ground) (place place' : ℕ → BlockSet) (next f : ℕ) (φ : Flusher C) (pending : BlockWrites)
+    → ((b : ℕ) → place b ≡ Writes f → place' b ≡ Writes f) → FlusherInvariant rules g place next f φ pending → FlusherInvariant rules g place' next f φ pending
+tended_place rules g place place' next f φ pending keeps t =
     record {
       order = t.order;
       batch = t.batch;

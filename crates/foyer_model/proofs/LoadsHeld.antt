@@ -4,23 +4,23 @@ use Rattle.std.proofs.lemmas.Bool.{eqb-false}
 use Rattle.foyer_model.specs.Numbers.{put}
 use Rattle.foyer_model.specs.Ids.{without_id}
 use Rattle.foyer_model.specs.Record.{Address, Slot, Indexed, Mark, Outcome, NoRecord, Holds, IndexEntry}
-use Rattle.foyer_model.specs.State.{Submission, Piece, Remove, Await, Reinsert, Writing, Batch, Place, Clean, Reclaims, Stage, AtIndex, AtRecord, AllListed, ToClean, Reclaim, Destroy, NoDestroy, Begun, Cleaning, State}
+use Rattle.foyer_model.specs.State.{Submission, Piece, Remove, Await, Reinsert, Writing, Batch, BlockSet, Clean, Reclaims, Stage, AtIndex, AtRecord, AllListed, ToClean, Reclaim, Destroy, NoDestroy, Begun, Cleaning, State}
 use Rattle.foyer_model.specs.Rules.{Rules, Splitting}
-use Rattle.foyer_model.specs.Step.{Came, Bytes, Fault, Age, Ticket, Step, Enqueue, Delete, Wait, MayContains, LoadBegin, LoadEnd, Receive, FlushBegin, FlushBlock, FlushWrote, LogWrote, FlushEnd, ReclaimBegin, ReclaimRead, ReclaimForget, ReclaimCleaned, ReclaimIdle, DestroyBegin, DestroyClear, DestroyCleaned, Close}
+use Rattle.foyer_model.specs.Step.{ReadResult, Bytes, Fault, Age, Ticket, Step, Enqueue, Delete, Wait, MayContains, LoadBegin, LoadEnd, Receive, FlushBegin, FlushBlock, FlushWrote, LogWrote, FlushEnd, ReclaimBegin, ReclaimRead, ReclaimForget, ReclaimCleaned, ReclaimIdle, DestroyBegin, DestroyClear, DestroyCleaned, Close}
 use Rattle.foyer_model.specs.Reply.{Reply, NotNow, Refused, Done, Miss, Throttled, Read, Entry, Empty, Received, Began, Written, NoBlock, Next, Committed, Failed, Ended, Picked, Cleans, Destroying, Cleared}
 use Rattle.foyer_model.specs.Queue.{Enqueues, Deletes, Waits}
 use Rattle.foyer_model.specs.Load.{Looks, judged, Judges, Ends}
-use Rattle.foyer_model.specs.Receive.{Takes}
-use Rattle.foyer_model.specs.Flush.{Begins, Tells, Wrote, Logs, Finishes}
-use Rattle.foyer_model.specs.Reclaim.{Picks, stage_after, told_at, stage_behind, Lists, Scanned, Rereads, Forgets, Cleaned}
-use Rattle.foyer_model.specs.Destroy.{told_after_clean, BeginsDestroy, Clears, CleansOne}
+use Rattle.foyer_model.specs.Receive.{TakesFront}
+use Rattle.foyer_model.specs.Flush.{Begins, Describes, Wrote, Logs, Finishes}
+use Rattle.foyer_model.specs.Reclaim.{Picks, stage_after, issued_at, stage_behind, Lists, Scanned, Rereads, Forgets, Cleaned}
+use Rattle.foyer_model.specs.Destroy.{issued_after_clean, BeginsDestroy, Clears, CleansOne}
 use Rattle.foyer_model.specs.InTurn.{InTurn}
-use Rattle.foyer_model.specs.Does.{Does}
-use Rattle.foyer_model.specs.Turn.{Follows}
+use Rattle.foyer_model.specs.Changes.{Changes}
+use Rattle.foyer_model.specs.Follows.{Follows}
 use Rattle.foyer_model.specs.Event.{Put, newest}
 use Rattle.foyer_model.specs.Kept.{unless}
-use Rattle.foyer_model.specs.Access.{Phase, Unread, Reading, HasRead, Load, load_unless, loads_after, begun, spoiled, came, at_load, will_cover, wipe_will_cover, IsRead}
-use Rattle.foyer_model.specs.World.{World, WorldEvent, Applies, ReadBegins, ReadEnds, ScanBegins, ScanEnds, WriteBegins, WriteEnds, WipeBegins, WipeEnds, covers, after, after_all, IsReadAt, MayHappen, MayAllHappen}
+use Rattle.foyer_model.specs.Access.{ReadState, ReadIssued, Reading, ReadDone, Load, load_unless, loads_after, begun, read_torn, came, at_load, will_cover, clean_will_cover, IsRead}
+use Rattle.foyer_model.specs.World.{World, WorldEvent, Applies, ReadBegins, ReadEnds, ScanBegins, ScanEnds, WriteBegins, WriteEnds, CleanBegins, CleanEnds, covers, after, after_all, IsReadAt, MayHappen, MayAllHappen}
 use Rattle.foyer_model.specs.Laws.{Demands, IsReached}
 use Rattle.foyer_model.proofs.Basics.{put_other, put_one}
 use Rattle.foyer_model.proofs.Invariant.{ground_of, writing_in, WritingOk}
@@ -31,27 +31,27 @@ use Rattle.foyer_model.proofs.OpenedSound.{FoundOk, found_ok, new_sound, new_set
 use Rattle.foyer_model.proofs.FoundKept.{Kept, event_kept, new_kept}
 use Rattle.foyer_model.proofs.Settles.{Settles, TakesNone, does_settle}
 
--- what was read has the length that was told
-abbrev pub HasReadAll : {C : Type 0} → Rules C → ℕ → Phase → Type 0
-HasReadAll rules len Unread = Unit {0}
+-- what was read has the length that was issued
+abbrev pub HasReadAll : {C : Type 0} → Rules C → ℕ → ReadState → Type 0
+HasReadAll rules len ReadIssued = Unit {0}
 HasReadAll rules len (Reading seen) = Unit {0}
-HasReadAll rules len (HasRead Fault) = Unit {0}
-HasReadAll rules len (HasRead (Bytes bs)) = length bs ≡ rules.page_up len
+HasReadAll rules len (ReadDone Fault) = Unit {0}
+HasReadAll rules len (ReadDone (Bytes bs)) = length bs ≡ rules.page_up len
 
--- of a load: its block is there, what was read has the length that was told, and while its block is kept it is in use
+-- of a load: its block is there, what was read has the length that was issued, and while its block is kept it is in use
 -- and, unless the record is broken, still in the ticket's filling
-pub record IsHeld {C : Type 0} (rules : Rules C) (count : ℕ → ℕ) (sets : ℕ → Place) (l : Load C) : Type 0 where
+pub record IsHeld {C : Type 0} (rules : Rules C) (count : ℕ → ℕ) (sets : ℕ → BlockSet) (l : Load C) : Type 0 where
   pub below : l.ticket.address.block < rules.blocks
-  pub all : HasReadAll rules l.ticket.address.len l.phase
+  pub all : HasReadAll rules l.ticket.address.len l.read_state
   pub stands : (b s : ℕ) (x : Outcome C) → l.kept ≡ Some b → l.promise ≡ Some (Put l.ticket.hash s x) → (x ≡ NoRecord → ⊥)
       → (l.ticket.address.block ≡ b) × (l.ticket.address.filling ≡ count b)
   pub safe : (b : ℕ) → l.kept ≡ Some b → (sets b ≡ Clean → ⊥) × (sets b ≡ Reclaims → ⊥)
 
-abbrev pub HeldOk : {C : Type 0} → Rules C → (ℕ → ℕ) → (ℕ → Place) → Option (Load C) → Type 0
+abbrev pub HeldOk : {C : Type 0} → Rules C → (ℕ → ℕ) → (ℕ → BlockSet) → Option (Load C) → Type 0
 HeldOk rules count sets None = Unit {0}
 HeldOk rules count sets (Some l) = IsHeld rules count sets l
 
-pub record AreHeld {C : Type 0} (rules : Rules C) (index : ℕ → Option Slot) (count : ℕ → ℕ) (sets : ℕ → Place) (tickets : ℕ → Option (Load C)) : Type 0 where
+pub record AreHeld {C : Type 0} (rules : Rules C) (index : ℕ → Option Slot) (count : ℕ → ℕ) (sets : ℕ → BlockSet) (tickets : ℕ → Option (Load C)) : Type 0 where
   pub index_below : (h : ℕ) (a : Address) → index h ≡ Some (Indexed a) → a.block < rules.blocks
   pub loads : (n : ℕ) → HeldOk rules count sets (tickets n)
 
@@ -72,13 +72,13 @@ module _ {C : Type 0} (rules : Rules C) (Splits : Splitting C) (is_value : C →
   settles_held : (w : World C) (new : State C) → Settles rules w.core new → Held rules w → Held rules (record w { core = new })
   settles_held w new settles held = record { index_below = settles.below held.index_below; loads = λ n. held_settles w.core new (w.loads n) settles (held.loads n) }
 
-  -- a look-up tells a read
+  -- a look-up issues a read
   read_held : (w : World C) (h : ℕ) (a : Address) (state : State C) → w.core.index h ≡ Some (Indexed a) → Kept w → Held rules w → Held rules (record w { core = state })
       → state.filling ≡ w.core.filling → state.place ≡ w.core.place
-      → Held rules (record w { core = state; loads = put w.loads w.told (Some (record { ticket = record { hash = h; address = a }; promise = newest h w.history; phase = Unread; kept = w.kept h })) })
+      → Held rules (record w { core = state; loads = put w.loads w.issued (Some (record { ticket = record { hash = h; address = a }; promise = newest h w.history; read_state = ReadIssued; kept = w.kept h })) })
   read_held w h a state is kept held now filling place = record {
     index_below = now.index_below;
-    loads = put_one (λ n o. HeldOk rules state.filling state.place o) w.loads w.told _
+    loads = put_one (λ n o. HeldOk rules state.filling state.place o) w.loads w.issued _
         (record {
           below = held.index_below h a is;
           all = tt;
@@ -97,7 +97,7 @@ module _ {C : Type 0} (rules : Rules C) (Splits : Splitting C) (is_value : C →
   look_held w h throttled (Some (Indexed a)) Throttled new is ok kept settles held = settles_held w new settles held
   look_held w h throttled (Some (Indexed a)) Miss new is ok kept settles held = settles_held w new settles held
   look_held w h throttled (Some (Indexed a)) (Read t) new is ok kept settles held =
-      subst (λ u. Held rules (record w { core = new; loads = put w.loads w.told (Some (record { ticket = u; promise = newest u.hash w.history; phase = Unread; kept = w.kept u.hash })) })) (sym ok.2)
+      subst (λ u. Held rules (record w { core = new; loads = put w.loads w.issued (Some (record { ticket = u; promise = newest u.hash w.history; read_state = ReadIssued; kept = w.kept u.hash })) })) (sym ok.2)
       (read_held w h a new is kept held (settles_held w new settles held) (ap (λ k. k.filling) ok.3) (ap (λ k. k.place) ok.3))
   look_held w h throttled slot reply new is ok kept settles held = absurd ok
 
@@ -125,7 +125,7 @@ module _ {C : Type 0} (rules : Rules C) (Splits : Splitting C) (is_value : C →
       (record { index_below = held.index_below; loads = λ n. pick_one w.core b (w.loads n) (held.loads n) })
   pick_held w reply new ok held = absurd ok
 
-  clear_one : (filling count : ℕ → ℕ) (place sets : ℕ → Place) (o : Option (Load C)) → HeldOk rules filling place o → HeldOk rules count sets (load_unless (λ k. None) o)
+  clear_one : (filling count : ℕ → ℕ) (place sets : ℕ → BlockSet) (o : Option (Load C)) → HeldOk rules filling place o → HeldOk rules count sets (load_unless (λ k. None) o)
   clear_one filling count place sets None ok = tt
   clear_one filling count place sets (Some l) ok = record {
     below = ok.below;
@@ -140,9 +140,9 @@ module _ {C : Type 0} (rules : Rules C) (Splits : Splitting C) (is_value : C →
       (record { index_below = λ h a is. absurd (let e : None ≡ Some (Indexed a) = is in cc); loads = λ n. clear_one w.core.filling _ w.core.place _ (w.loads n) (held.loads n) })
   clear_held w reply new ok held = absurd ok
 
-  -- no other step tells a load or takes a block from one
+  -- no other step issues a load or takes a block from one
   same_loads : (w : World C) (step : Step C) (reply : Reply C) (new : State C) → ((t : Ticket) → reply ≡ Read t → ⊥) → ((b : ℕ) (answers : List (Option ℕ)) (probation : List ℕ) → reply ≡ Picked b answers probation → ⊥)
-      → ((bs : List ℕ) → reply ≡ Cleared bs → ⊥) → loads_after reply w.history w.kept w.told w.loads ≡ w.loads
+      → ((bs : List ℕ) → reply ≡ Cleared bs → ⊥) → loads_after reply w.history w.kept w.issued w.loads ≡ w.loads
   same_loads w step (Read t) new not_read not_picked not_cleared = absurd (not_read t refl)
   same_loads w step (Picked b answers probation) new not_read not_picked not_cleared = absurd (not_picked b answers probation refl)
   same_loads w step (Cleared bs) new not_read not_picked not_cleared = absurd (not_cleared bs refl)
@@ -161,29 +161,29 @@ module _ {C : Type 0} (rules : Rules C) (Splits : Splitting C) (is_value : C →
   plain_held w step (Cleared bs) new plain settles held = absurd plain
   plain_held w step reply new plain settles held = settles_held w new settles held
 
-  plain_told : (w : World C) (b : ℕ) (stage : Stage) (vs : List Bool) → IsPlain (told_at rules w.core b stage vs)
-  plain_told w b (AtIndex place) vs = tt
-  plain_told w b (AtRecord h a rest place) vs = tt
-  plain_told w b AllListed vs = tt
-  plain_told w b ToClean vs = tt
+  plain_issued : (w : World C) (b : ℕ) (stage : Stage) (vs : List Bool) → IsPlain (issued_at rules w.core b stage vs)
+  plain_issued w b (AtIndex place) vs = tt
+  plain_issued w b (AtRecord h a rest place) vs = tt
+  plain_issued w b AllListed vs = tt
+  plain_issued w b ToClean vs = tt
 
-  plain_clean : (left : List ℕ) (failed : Bool) → IsPlain (told_after_clean {C = C} left failed)
+  plain_clean : (left : List ℕ) (failed : Bool) → IsPlain (issued_after_clean {C = C} left failed)
   plain_clean [] failed = tt
   plain_clean (b ∷ bs) failed = tt
 
-  reads_plain : (w : World C) (b : ℕ) (r : Option Reclaim) (came : Came) (reply : Reply C) (new : State C) → Rereads rules w.core b r came reply new → IsPlain reply
+  reads_plain : (w : World C) (b : ℕ) (r : Option Reclaim) (came : ReadResult) (reply : Reply C) (new : State C) → Rereads rules w.core b r came reply new → IsPlain reply
   reads_plain w b None came reply new ok = absurd ok
   reads_plain w b (Some r) came reply new ok = scanned r.stage came ok
     where
       lists : (place : ℕ) (es : Option (List IndexEntry)) → Lists rules w.core b r place es reply new → IsPlain reply
       lists place None given = subst IsPlain (sym given.0) tt
-      lists place (Some es) given = subst IsPlain (sym given.2) (plain_told w b (stage_behind rules w.core b place es given.0) given.0)
+      lists place (Some es) given = subst IsPlain (sym given.2) (plain_issued w b (stage_behind rules w.core b place es given.0) given.0)
 
-      scanned : (stage : Stage) (came : Came) → Scanned rules w.core b r stage came reply new → IsPlain reply
+      scanned : (stage : Stage) (came : ReadResult) → Scanned rules w.core b r stage came reply new → IsPlain reply
       scanned (AtIndex place) Fault given = subst IsPlain (sym given.0) tt
       scanned (AtRecord h a rest place) Fault given = subst IsPlain (sym given.0) tt
       scanned (AtIndex place) (Bytes bs) given = lists place (rules.entries_of place bs) given
-      scanned (AtRecord h a rest place) (Bytes bs) given = subst IsPlain (sym given.0) (plain_told w b (stage_after rules w.core rest place) [])
+      scanned (AtRecord h a rest place) (Bytes bs) given = subst IsPlain (sym given.0) (plain_issued w b (stage_after rules w.core rest place) [])
       scanned AllListed came given = absurd given
       scanned ToClean came given = absurd given
 
@@ -210,7 +210,7 @@ module _ {C : Type 0} (rules : Rules C) (Splits : Splitting C) (is_value : C →
   waits_plain w f i (Cleared bs) new ok = ok
   waits_plain w f i reply new ok = tt
 
-  ends_plain : (w : World C) (t : Ticket) (came : Came) (reply : Reply C) (new : State C) → Ends rules w.core t came reply new → IsPlain reply
+  ends_plain : (w : World C) (t : Ticket) (came : ReadResult) (reply : Reply C) (new : State C) → Ends rules w.core t came reply new → IsPlain reply
   ends_plain w t Fault reply new ok = absurd ok
   ends_plain w t (Bytes bs) reply new ok = judges (judged rules w.core t bs) reply ok
     where
@@ -219,10 +219,10 @@ module _ {C : Type 0} (rules : Rules C) (Splits : Splitting C) (is_value : C →
       judges (Holds k) (Entry d age) given = tt
       judges x reply given = absurd given
 
-  takes_plain : (w : World C) (f : ℕ) (queue : List (Submission C)) (reply : Reply C) (new : State C) → Takes rules w.core f queue reply new → IsPlain reply
+  takes_plain : (w : World C) (f : ℕ) (queue : List (Submission C)) (reply : Reply C) (new : State C) → TakesFront rules w.core f queue reply new → IsPlain reply
   takes_plain w f [] Empty new ok = tt
   takes_plain w f (Piece h s n k ∷ rest) (Received d) new ok = tt
-  takes_plain w f (Remove h s spoils ∷ rest) (Received d) new ok = tt
+  takes_plain w f (Remove h s invalidated ∷ rest) (Received d) new ok = tt
   takes_plain w f (Await i ∷ rest) (Received d) new ok = tt
   takes_plain w f (Reinsert h bytes a ∷ rest) (Received d) new ok = tt
   takes_plain w f queue reply new ok = absurd ok
@@ -231,10 +231,10 @@ module _ {C : Type 0} (rules : Rules C) (Splits : Splitting C) (is_value : C →
   begins_plain w f (Began blocks marks) new ok = tt
   begins_plain w f reply new ok = absurd ok
 
-  tells_plain : (w : World C) (f : ℕ) (batch : Option (Batch C)) (reply : Reply C) (new : State C) → Tells rules w.core f batch reply new → IsPlain reply
-  tells_plain w f (Some batch) NoBlock new ok = tt
-  tells_plain w f (Some batch) (Written b writes) new ok = tt
-  tells_plain w f batch reply new ok = absurd ok
+  issues_plain : (w : World C) (f : ℕ) (batch : Option (Batch C)) (reply : Reply C) (new : State C) → Describes rules w.core f batch reply new → IsPlain reply
+  issues_plain w f (Some batch) NoBlock new ok = tt
+  issues_plain w f (Some batch) (Written b writes) new ok = tt
+  issues_plain w f batch reply new ok = absurd ok
 
   wrote_plain : (w : World C) (f : ℕ) (good : Bool) (batch : Option (Batch C)) (reply : Reply C) (new : State C) → Wrote rules w.core f good batch reply new → IsPlain reply
   wrote_plain w f true (Some batch) Next new ok = tt
@@ -263,7 +263,7 @@ module _ {C : Type 0} (rules : Rules C) (Splits : Splitting C) (is_value : C →
   destroys_plain w reply new ok = absurd ok
 
   -- each step
-  does_held : (w : World C) (step : Step C) (reply : Reply C) (new : State C) → InTurn rules w.core step → Does rules Splits w.core step reply new → (TakesNone rules step → Settles rules w.core new) → Kept w → Held rules w
+  does_held : (w : World C) (step : Step C) (reply : Reply C) (new : State C) → InTurn rules w.core step → Changes rules Splits w.core step reply new → (TakesNone rules step → Settles rules w.core new) → Kept w → Held rules w
       → Held rules (after rules w (Applies step reply new))
   does_held w (Enqueue h n age k) reply new turn ok settles kept held = plain_held w (Enqueue h n age k) reply new (enqueues_plain w h n age k reply new ok) (settles tt) held
   does_held w (Delete h) reply new turn ok settles kept held = plain_held w (Delete h) reply new (deletes_plain w h reply new ok) (settles tt) held
@@ -273,7 +273,7 @@ module _ {C : Type 0} (rules : Rules C) (Splits : Splitting C) (is_value : C →
   does_held w (LoadEnd t came) reply new turn ok settles kept held = plain_held w (LoadEnd t came) reply new (ends_plain w t came reply new ok) (settles tt) held
   does_held w (Receive f) reply new turn ok settles kept held = plain_held w (Receive f) reply new (takes_plain w f (w.core.flushers f).queue reply new ok) (settles tt) held
   does_held w (FlushBegin f) reply new turn ok settles kept held = plain_held w (FlushBegin f) reply new (begins_plain w f reply new ok) (settles tt) held
-  does_held w (FlushBlock f) reply new turn ok settles kept held = plain_held w (FlushBlock f) reply new (tells_plain w f (w.core.flushers f).batch reply new ok) (settles tt) held
+  does_held w (FlushBlock f) reply new turn ok settles kept held = plain_held w (FlushBlock f) reply new (issues_plain w f (w.core.flushers f).batch reply new ok) (settles tt) held
   does_held w (FlushWrote f good) reply new turn ok settles kept held = plain_held w (FlushWrote f good) reply new (wrote_plain w f good (w.core.flushers f).batch reply new ok) (settles tt) held
   does_held w (LogWrote f well) reply new turn ok settles kept held = plain_held w (LogWrote f well) reply new (logs_plain w f well (w.core.flushers f).batch reply new ok) (settles tt) held
   does_held w (FlushEnd f) reply new turn ok settles kept held = plain_held w (FlushEnd f) reply new (finishes_plain w f (w.core.flushers f).batch reply new ok) (settles tt) held
@@ -289,7 +289,7 @@ module _ {C : Type 0} (rules : Rules C) (Splits : Splitting C) (is_value : C →
 
   pub writes_below : (w : World C) → IsKnown rules Splits is_value demands w → (f : ℕ) (r : Writing C) → writing_in (w.core.flushers f).batch ≡ Some r → r.block < rules.blocks
   writes_below w known f r is =
-      known.sets.own f r.block (subst (λ o. WritingOk rules (ground_of w) (w.core.flushers f).own o (w.pens f)) is (known.sound.flushers f).writing).0
+      known.sets.own f r.block (subst (λ o. WritingOk rules (ground_of w) (w.core.flushers f).own o (w.block_writes f)) is (known.sound.flushers f).writing).0
 
   step_held : (w : World C) (step : Step C) (reply : Reply C) (new : State C) → Follows rules Splits w.core step reply new → IsKnown rules Splits is_value demands w → Kept w → Held rules w → Held rules (after rules w (Applies step reply new))
   step_held w step (NotNow back) new ok known kept held = settles_held w new (subst (Settles rules w.core) (sym ok.2) (record { stays = λ b p q. (refl, (p, q)); listed = λ l. l; below = λ ok. ok })) held
@@ -300,56 +300,56 @@ module _ {C : Type 0} (rules : Rules C) (Splits : Splitting C) (is_value : C →
       (λ none. does_settle rules Splits w.core state step reply known.sets (writes_below w known) (λ b. reclaims_at rules Splits is_value demands w b known.again) turn none does) kept held)
 
   -- accesses
-  phase_held : (count : ℕ → ℕ) (sets : ℕ → Place) (f : ℕ → Phase → Phase) (o : Option (Load C))
-      → ((l : Load C) → o ≡ Some l → HasReadAll rules l.ticket.address.len l.phase → HasReadAll rules l.ticket.address.len (f l.ticket.address.block l.phase))
+  read_state_held : (count : ℕ → ℕ) (sets : ℕ → BlockSet) (f : ℕ → ReadState → ReadState) (o : Option (Load C))
+      → ((l : Load C) → o ≡ Some l → HasReadAll rules l.ticket.address.len l.read_state → HasReadAll rules l.ticket.address.len (f l.ticket.address.block l.read_state))
       → HeldOk rules count sets o → HeldOk rules count sets (at_load f o)
-  phase_held count sets f None change ok = tt
-  phase_held count sets f (Some l) change ok = record { below = ok.below; all = change l refl ok.all; stands = ok.stands; safe = ok.safe }
+  read_state_held count sets f None change ok = tt
+  read_state_held count sets f (Some l) change ok = record { below = ok.below; all = change l refl ok.all; stands = ok.stands; safe = ok.safe }
 
-  begun_all : (cover : ℕ → ℕ → Bool) (b len : ℕ) (p : Phase) → HasReadAll rules len p → HasReadAll rules len (begun cover b p)
-  begun_all cover b len Unread ok = tt
+  begun_all : (cover : ℕ → ℕ → Bool) (b len : ℕ) (p : ReadState) → HasReadAll rules len p → HasReadAll rules len (begun cover b p)
+  begun_all cover b len ReadIssued ok = tt
   begun_all cover b len (Reading seen) ok = ok
-  begun_all cover b len (HasRead Fault) ok = ok
-  begun_all cover b len (HasRead (Bytes bs)) ok = ok
+  begun_all cover b len (ReadDone Fault) ok = ok
+  begun_all cover b len (ReadDone (Bytes bs)) ok = ok
 
-  spoiled_all : (cover : ℕ → ℕ → Bool) (b len : ℕ) (p : Phase) → HasReadAll rules len p → HasReadAll rules len (spoiled cover b p)
-  spoiled_all cover b len Unread ok = tt
-  spoiled_all cover b len (Reading seen) ok = tt
-  spoiled_all cover b len (HasRead Fault) ok = ok
-  spoiled_all cover b len (HasRead (Bytes bs)) ok = ok
+  torn_all : (cover : ℕ → ℕ → Bool) (b len : ℕ) (p : ReadState) → HasReadAll rules len p → HasReadAll rules len (read_torn cover b p)
+  torn_all cover b len ReadIssued ok = tt
+  torn_all cover b len (Reading seen) ok = tt
+  torn_all cover b len (ReadDone Fault) ok = ok
+  torn_all cover b len (ReadDone (Bytes bs)) ok = ok
 
-  came_all : (bytes : ℕ → ℕ) (offset len : ℕ) (result : Came) (p : Phase) → IsRead bytes offset (rules.page_up len) p result → HasReadAll rules len p → HasReadAll rules len (came result p)
-  came_all bytes offset len result Unread is ok = tt
+  came_all : (bytes : ℕ → ℕ) (offset len : ℕ) (result : ReadResult) (p : ReadState) → IsRead bytes offset (rules.page_up len) p result → HasReadAll rules len p → HasReadAll rules len (came result p)
+  came_all bytes offset len result ReadIssued is ok = tt
   came_all bytes offset len Fault (Reading seen) is ok = tt
   came_all bytes offset len (Bytes bs) (Reading seen) is ok = is.0
-  came_all bytes offset len result (HasRead Fault) is ok = ok
-  came_all bytes offset len result (HasRead (Bytes bs)) is ok = ok
+  came_all bytes offset len result (ReadDone Fault) is ok = ok
+  came_all bytes offset len result (ReadDone (Bytes bs)) is ok = ok
 
   pub event_held : (w : World C) (e : WorldEvent C) → MayHappen rules Splits is_value w e → IsKnown rules Splits is_value demands w → Kept w → Held rules w → Held rules (after rules w e)
   event_held w (Applies step reply new) ok known kept held = step_held w step reply new ok.1 known kept held
   event_held w (ReadBegins n) ok known kept held = record {
     index_below = held.index_below;
     loads = put_one (λ k o. HeldOk rules w.core.filling w.core.place o) w.loads n _
-        (phase_held w.core.filling w.core.place (begun (covers rules w)) (w.loads n) (λ l _. begun_all (covers rules w) l.ticket.address.block l.ticket.address.len l.phase) (held.loads n)) (λ k _. held.loads k);
+        (read_state_held w.core.filling w.core.place (begun (covers rules w)) (w.loads n) (λ l _. begun_all (covers rules w) l.ticket.address.block l.ticket.address.len l.read_state) (held.loads n)) (λ k _. held.loads k);
   }
   event_held w (ReadEnds n result) ok known kept held = record {
     index_below = held.index_below;
     loads = put_one (λ k o. HeldOk rules w.core.filling w.core.place o) w.loads n _
-        (phase_held w.core.filling w.core.place (λ _. came result) (w.loads n)
-        (λ l is. came_all (w.bytes l.ticket.address.block) l.ticket.address.offset l.ticket.address.len result l.phase (subst (λ o. IsReadAt rules w.bytes o result) is ok)) (held.loads n)) (λ k _. held.loads k);
+        (read_state_held w.core.filling w.core.place (λ _. came result) (w.loads n)
+        (λ l is. came_all (w.bytes l.ticket.address.block) l.ticket.address.offset l.ticket.address.len result l.read_state (subst (λ o. IsReadAt rules w.bytes o result) is ok)) (held.loads n)) (λ k _. held.loads k);
   }
   event_held w (ScanBegins b) ok known kept held = record { index_below = held.index_below; loads = held.loads }
   event_held w (ScanEnds b result) ok known kept held = record { index_below = held.index_below; loads = held.loads }
   event_held w (WriteBegins f) ok known kept held = record {
     index_below = held.index_below;
-    loads = λ n. phase_held w.core.filling w.core.place (spoiled (will_cover (w.pens f))) (w.loads n) (λ l _. spoiled_all (will_cover (w.pens f)) l.ticket.address.block l.ticket.address.len l.phase) (held.loads n);
+    loads = λ n. read_state_held w.core.filling w.core.place (read_torn (will_cover (w.block_writes f))) (w.loads n) (λ l _. torn_all (will_cover (w.block_writes f)) l.ticket.address.block l.ticket.address.len l.read_state) (held.loads n);
   }
   event_held w (WriteEnds f good g) ok known kept held = record { index_below = held.index_below; loads = held.loads }
-  event_held w (WipeBegins b) ok known kept held = record {
+  event_held w (CleanBegins b) ok known kept held = record {
     index_below = held.index_below;
-    loads = λ n. phase_held w.core.filling w.core.place (spoiled (wipe_will_cover b (w.wipes b))) (w.loads n) (λ l _. spoiled_all (wipe_will_cover b (w.wipes b)) l.ticket.address.block l.ticket.address.len l.phase) (held.loads n);
+    loads = λ n. read_state_held w.core.filling w.core.place (read_torn (clean_will_cover b (w.clean_states b))) (w.loads n) (λ l _. torn_all (clean_will_cover b (w.clean_states b)) l.ticket.address.block l.ticket.address.len l.read_state) (held.loads n);
   }
-  event_held w (WipeEnds b good g) ok known kept held = record { index_below = held.index_below; loads = held.loads }
+  event_held w (CleanEnds b good g) ok known kept held = record { index_below = held.index_below; loads = held.loads }
 
   -- of every world that is reached
   pub record IsHeldWorld (w : World C) : Type 0 where

@@ -5,27 +5,27 @@ use Rattle.foyer_model.specs.Numbers.{last_number}
 use Rattle.foyer_model.specs.Record.{Outcome, NoRecord, NotSupported, Undecodable, Holds}
 use Rattle.foyer_model.specs.State.{State}
 use Rattle.foyer_model.specs.Rules.{Rules, Splitting}
-use Rattle.foyer_model.specs.Step.{Came, Bytes, Fault, Ticket, LoadBegin, LoadEnd}
+use Rattle.foyer_model.specs.Step.{ReadResult, Bytes, Fault, Ticket, LoadBegin, LoadEnd}
 use Rattle.foyer_model.specs.Reply.{Kind, Io, Memory, Parse, Closed, Unsupported, SequenceEnd, Reply, NotNow, Refused, Miss, Throttled, Read, Entry}
-use Rattle.foyer_model.specs.Placing.{read}
+use Rattle.foyer_model.specs.Layout.{read}
 use Rattle.foyer_model.specs.Load.{judged, Judges, IsDecoded}
 use Rattle.foyer_model.specs.InTurn.{InTurn}
 use Rattle.foyer_model.specs.Refusal.{MayRefuse}
-use Rattle.foyer_model.specs.Turn.{Follows}
+use Rattle.foyer_model.specs.Follows.{Follows}
 use Rattle.foyer_model.specs.Event.{Put}
-use Rattle.foyer_model.specs.Access.{HasRead, Load}
+use Rattle.foyer_model.specs.Access.{ReadDone, Load}
 use Rattle.foyer_model.specs.World.{World}
 use Rattle.foyer_model.specs.Laws.{Demands, LooksUpNewest, IsAnswer, LoadsNewest, MissedOnly}
-use Rattle.foyer_model.proofs.Invariant.{ground_of, PhaseOk, IsPromised, LoadOk}
+use Rattle.foyer_model.proofs.Invariant.{ground_of, ReadStateHolds, IsPromised, LoadOk}
 use Rattle.foyer_model.proofs.LoadSteps.{promised}
 use Rattle.foyer_model.proofs.FoundKept.{looked}
 use Rattle.foyer_model.proofs.LoadsHeld.{HasReadAll, IsHeld, HeldOk, IsHeldWorld, reached_held}
 
 module _ {C : Type 0} (rules : Rules C) (Splits : Splitting C) (is_value : C → Type 0) (demands : Demands rules Splits is_value) where
   -- what was read is judged as what was promised
-  judged_here : (w : World C) (l : Load C) (bs : List ℕ) (b s : ℕ) (x : Outcome C) → IsPromised rules (ground_of w) w.pens l → IsHeld rules w.core.filling w.core.place l
-      → l.phase ≡ HasRead (Bytes bs) → l.kept ≡ Some b → l.promise ≡ Some (Put l.ticket.hash s x) → judged rules w.core l.ticket bs ≡ x
-  judged_here w l bs b s x promised held phase kept promise = go (l.ticket.address.filling == w.core.filling l.ticket.address.block) refl
+  judged_here : (w : World C) (l : Load C) (bs : List ℕ) (b s : ℕ) (x : Outcome C) → IsPromised rules (ground_of w) w.block_writes l → IsHeld rules w.core.filling w.core.place l
+      → l.read_state ≡ ReadDone (Bytes bs) → l.kept ≡ Some b → l.promise ≡ Some (Put l.ticket.hash s x) → judged rules w.core l.ticket bs ≡ x
+  judged_here w l bs b s x promised held read_state kept promise = go (l.ticket.address.filling == w.core.filling l.ticket.address.block) refl
     where
       same : promised.outcome ≡ x
       same = let e : Some (Put l.ticket.hash l.ticket.address.sequence promised.outcome) ≡ Some (Put l.ticket.hash s x) = sym promised.promise ∙ promise in cc
@@ -40,7 +40,7 @@ module _ {C : Type 0} (rules : Rules C) (Splits : Splitting C) (is_value : C →
       go true e =
           let fill : l.ticket.address.filling ≡ w.core.filling l.ticket.address.block = eqb-true l.ticket.address.filling (w.core.filling l.ticket.address.block) e in
           let bytes : take l.ticket.address.len bs ≡ read (w.bytes l.ticket.address.block) l.ticket.address.offset l.ticket.address.len =
-          subst (λ p. PhaseOk rules (ground_of w) l.ticket.address p) phase (promised.phase fill) in
+          subst (λ p. ReadStateHolds rules (ground_of w) l.ticket.address p) read_state (promised.read_state fill) in
           ap (λ k. rules.pair_of k l.ticket.hash l.ticket.address.sequence) bytes ∙ (promised.good.solid fill).outcome ∙ same
       go false e = other x refl (eqb-false l.ticket.address.filling (w.core.filling l.ticket.address.block) e)
 
@@ -87,25 +87,25 @@ module _ {C : Type 0} (rules : Rules C) (Splits : Splitting C) (is_value : C →
   fault_answer old new t x (Refused kind back) few turn ok = λ i. Refused (fault_refused old t kind few ok.1 i) (ok.0 i)
   fault_answer old new t x reply few turn (_, _, (done, does, eq)) = absurd does
 
-  ended : (w : World C) (t : Ticket) (result : Came) (reply : Reply C) (new : State C) (l : Load C) (b s : ℕ) (x : Outcome C) → IsPromised rules (ground_of w) w.pens l → IsHeld rules w.core.filling w.core.place l
+  ended : (w : World C) (t : Ticket) (result : ReadResult) (reply : Reply C) (new : State C) (l : Load C) (b s : ℕ) (x : Outcome C) → IsPromised rules (ground_of w) w.block_writes l → IsHeld rules w.core.filling w.core.place l
       → Follows rules Splits w.core (LoadEnd t result) reply new → w.core.steps < last_number
-      → l.ticket ≡ t → l.phase ≡ HasRead result → l.kept ≡ Some b → l.promise ≡ Some (Put t.hash s x) → IsAnswer t result x reply
-  ended w t Fault reply new l b s x promised held ok few ticket phase kept promise =
+      → l.ticket ≡ t → l.read_state ≡ ReadDone result → l.kept ≡ Some b → l.promise ≡ Some (Put t.hash s x) → IsAnswer t result x reply
+  ended w t Fault reply new l b s x promised held ok few ticket read_state kept promise =
       fault_answer w.core new t x reply few (subst (λ u. u.address.block < rules.blocks) ticket held.below, tt) ok
-  ended w t (Bytes bs) reply new l b s x promised held ok few ticket phase kept promise =
+  ended w t (Bytes bs) reply new l b s x promised held ok few ticket read_state kept promise =
       bytes_answer w.core new t bs x reply
-      (subst (λ u. judged rules w.core u bs ≡ x) ticket (judged_here w l bs b s x promised held phase kept (subst (λ u. l.promise ≡ Some (Put u.hash s x)) (sym ticket) promise))) few (
+      (subst (λ u. judged rules w.core u bs ≡ x) ticket (judged_here w l bs b s x promised held read_state kept (subst (λ u. l.promise ≡ Some (Put u.hash s x)) (sym ticket) promise))) few (
         subst (λ u. u.address.block < rules.blocks) ticket held.below,
-        subst (λ u. length bs ≡ rules.page_up u.address.len) ticket (subst (λ p. HasReadAll rules l.ticket.address.len p) phase held.all),
+        subst (λ u. length bs ≡ rules.page_up u.address.len) ticket (subst (λ p. HasReadAll rules l.ticket.address.len p) read_state held.all),
       ) ok
 
 pub loads_newest_lem : {C : Type 0} (rules : Rules C) (Splits : Splitting C) (is_value : C → Type 0) → LoadsNewest rules Splits is_value
-loads_newest_lem rules Splits is_value w t result reply new n l b s x demands reached last few at ticket phase kept promise =
+loads_newest_lem rules Splits is_value w t result reply new n l b s x demands reached last few at ticket read_state kept promise =
     let all : IsHeldWorld rules Splits is_value demands w = reached_held rules Splits is_value demands w reached in
     ended rules Splits is_value demands w t result reply new l b s x
-    (subst (λ o. LoadOk rules (ground_of w) w.pens o) at (all.known.sound.loads n))
+    (subst (λ o. LoadOk rules (ground_of w) w.block_writes o) at (all.known.sound.loads n))
     (subst (λ o. HeldOk rules w.core.filling w.core.place o) at (all.held.loads n))
-    last.1 few ticket phase kept promise
+    last.1 few ticket read_state kept promise
 
 pub looks_up_newest_lem : {C : Type 0} (rules : Rules C) (Splits : Splitting C) (is_value : C → Type 0) → LooksUpNewest rules Splits is_value
 looks_up_newest_lem {C} rules Splits is_value w h throttled reply new b s x demands reached last few kept newer some = go reply last.1

@@ -1,13 +1,13 @@
 -- Steps that change one flusher alone.
 use Rattle.std.proofs.Common.{◌≡◌, ℕ, ◌<◌, ◌≤◌, List, [], ◌∷◌, ◌++◌, refl, sym, ap, subst, ◌∙◌, arith}
 use Rattle.foyer_model.specs.Numbers.{put}
-use Rattle.foyer_model.specs.State.{Submission, Piece, Remove, Await, Reinsert, Flusher, Place}
+use Rattle.foyer_model.specs.State.{Submission, Piece, Remove, Await, Reinsert, Flusher, BlockSet}
 use Rattle.foyer_model.specs.Rules.{Rules}
 use Rattle.foyer_model.specs.Event.{sequence_in, newest}
-use Rattle.foyer_model.specs.Access.{Pen}
+use Rattle.foyer_model.specs.Access.{BlockWrites}
 use Rattle.foyer_model.specs.World.{World}
 use Rattle.foyer_model.proofs.Basics.{put_at, Ascends, ascends_to, put_one}
-use Rattle.foyer_model.proofs.Invariant.{Ground, ground_of, Each, puts_onto, queue_puts, batch_records, line_of, AtLeast, SlotOk, sequences, queue_sequences, IsOrdered, SubmissionOk, IsTended, IsSound}
+use Rattle.foyer_model.proofs.Invariant.{Ground, ground_of, Each, puts_onto, queue_puts, batch_records, line_of, AtLeast, SlotOk, sequences, queue_sequences, IsOrdered, SubmissionOk, FlusherInvariant, WorldInvariant}
 use Rattle.foyer_model.proofs.GoodAddresses.{slot_lift}
 use Rattle.foyer_model.proofs.CommitSteps.{each_join, each_onto}
 
@@ -24,8 +24,8 @@ ordered_next n m φ le o =
     }
 
 module _ {C : Type 0} (rules : Rules C) where
-  pub tended_next : (g : Ground) (place : ℕ → Place) (n m f : ℕ) (φ : Flusher C) (pen : Pen) → n ≤ m → IsTended rules g place n f φ pen → IsTended rules g place m f φ pen
-  tended_next g place n m f φ pen le t =
+  pub tended_next : (g : Ground) (place : ℕ → BlockSet) (n m f : ℕ) (φ : Flusher C) (pending : BlockWrites) → n ≤ m → FlusherInvariant rules g place n f φ pending → FlusherInvariant rules g place m f φ pending
+  tended_next g place n m f φ pending le t =
       record {
         order = ordered_next n m φ le t.order;
         batch = t.batch;
@@ -42,22 +42,22 @@ module _ {C : Type 0} (rules : Rules C) where
       }
 
   -- one flusher changes, and sequences may be drawn
-  pub one_turned : (w : World C) (f : ℕ) (φ ψ : Flusher C) (next : ℕ) → IsSound rules w
+  pub one_turned : (w : World C) (f : ℕ) (φ ψ : Flusher C) (next : ℕ) → WorldInvariant rules w
       → w.core.flushers f ≡ φ → w.core.next ≤ next
       → ((h n : ℕ) → n < w.core.next → AtLeast h n (line_of φ) → AtLeast h n (line_of ψ))
-      → (IsTended rules (ground_of w) w.core.place w.core.next f φ (w.pens f) → IsTended rules (ground_of w) w.core.place next f ψ (w.pens f))
-      → IsSound rules (record w { core = record w.core { flushers = put w.core.flushers f ψ; next = next } })
+      → (FlusherInvariant rules (ground_of w) w.core.place w.core.next f φ (w.block_writes f) → FlusherInvariant rules (ground_of w) w.core.place next f ψ (w.block_writes f))
+      → WorldInvariant rules (record w { core = record w.core { flushers = put w.core.flushers f ψ; next = next } })
   one_turned w f φ ψ next sound is le line tended =
       record {
-        slots = λ h e routed. put_at (λ k. SlotOk rules (ground_of w) w.pens w.history h (line_of k) (w.core.index h)) w.core.flushers f ψ e
-            (λ at. slot_lift rules (ground_of w) (ground_of w) w.pens w.pens w.history h (line_of φ) (line_of ψ) (w.core.index h) (λ a x good. good)
+        slots = λ h e routed. put_at (λ k. SlotOk rules (ground_of w) w.block_writes w.history h (line_of k) (w.core.index h)) w.core.flushers f ψ e
+            (λ at. slot_lift rules (ground_of w) (ground_of w) w.block_writes w.block_writes w.history h (line_of φ) (line_of ψ) (w.core.index h) (λ a x good. good)
             (λ n eq. line h n (let below : sequence_in (newest h w.history) < w.core.next = sound.next h in omega arith))
-            (subst (λ k. SlotOk rules (ground_of w) w.pens w.history h (line_of k) (w.core.index h)) is (sound.slots h f (routed ∙ at))))
+            (subst (λ k. SlotOk rules (ground_of w) w.block_writes w.history h (line_of k) (w.core.index h)) is (sound.slots h f (routed ∙ at))))
             (λ _. sound.slots h e routed);
         loads = sound.loads;
-        flushers = put_one (λ q k. IsTended rules (ground_of w) w.core.place next q k (w.pens q)) w.core.flushers f ψ
-            (tended (subst (λ k. IsTended rules (ground_of w) w.core.place w.core.next f k (w.pens f)) is (sound.flushers f)))
-            (λ q _. tended_next (ground_of w) w.core.place w.core.next next q (w.core.flushers q) (w.pens q) le (sound.flushers q));
+        flushers = put_one (λ q k. FlusherInvariant rules (ground_of w) w.core.place next q k (w.block_writes q)) w.core.flushers f ψ
+            (tended (subst (λ k. FlusherInvariant rules (ground_of w) w.core.place w.core.next f k (w.block_writes f)) is (sound.flushers f)))
+            (λ q _. tended_next (ground_of w) w.core.place w.core.next next q (w.core.flushers q) (w.block_writes q) le (sound.flushers q));
         next = λ h. let below : sequence_in (newest h w.history) < w.core.next = sound.next h in omega arith;
       }
 
@@ -66,14 +66,14 @@ module _ {C : Type 0} (rules : Rules C) where
   pub queue_puts-append : (a b : List (Submission C)) → queue_puts (a ++ b) ≡ queue_puts a ++ queue_puts b
   queue_puts-append [] b = refl
   queue_puts-append (Piece h s n c ∷ a) b = ap (λ l. (h, s) ∷ l) (queue_puts-append a b)
-  queue_puts-append (Remove h s spoils ∷ a) b = queue_puts-append a b
+  queue_puts-append (Remove h s invalidated ∷ a) b = queue_puts-append a b
   queue_puts-append (Await i ∷ a) b = queue_puts-append a b
   queue_puts-append (Reinsert h bytes o ∷ a) b = queue_puts-append a b
 
   pub queue_sequences-append : (a b : List (Submission C)) → queue_sequences (a ++ b) ≡ queue_sequences a ++ queue_sequences b
   queue_sequences-append [] b = refl
   queue_sequences-append (Piece h s n c ∷ a) b = ap (λ l. s ∷ l) (queue_sequences-append a b)
-  queue_sequences-append (Remove h s spoils ∷ a) b = ap (λ l. s ∷ l) (queue_sequences-append a b)
+  queue_sequences-append (Remove h s invalidated ∷ a) b = ap (λ l. s ∷ l) (queue_sequences-append a b)
   queue_sequences-append (Await i ∷ a) b = queue_sequences-append a b
   queue_sequences-append (Reinsert h bytes o ∷ a) b = queue_sequences-append a b
 
@@ -82,11 +82,11 @@ module _ {C : Type 0} (rules : Rules C) where
   sequences-append (p ∷ a) b = ap (λ l. p.1 ∷ l) (sequences-append a b)
 
   -- the queue grows
-  pub pushed : (w : World C) (f : ℕ) (sub : Submission C) (next : ℕ) → IsSound rules w → w.core.next ≤ next
+  pub pushed : (w : World C) (f : ℕ) (sub : Submission C) (next : ℕ) → WorldInvariant rules w → w.core.next ≤ next
       → SubmissionOk rules f sub
       → ((h n : ℕ) → n < w.core.next → AtLeast h n (queue_puts (sub ∷ [])))
       → ((low : ℕ) (xs : List ℕ) → Ascends low xs w.core.next → Ascends low (xs ++ queue_sequences (sub ∷ [])) next)
-      → IsSound rules (record w { core = record w.core { flushers = put w.core.flushers f (record (w.core.flushers f) { queue = (w.core.flushers f).queue ++ sub ∷ [] }); next = next } })
+      → WorldInvariant rules (record w { core = record w.core { flushers = put w.core.flushers f (record (w.core.flushers f) { queue = (w.core.flushers f).queue ++ sub ∷ [] }); next = next } })
   pushed w f sub next sound le ok above up =
       one_turned w f (w.core.flushers f) (record (w.core.flushers f) { queue = (w.core.flushers f).queue ++ sub ∷ [] }) next sound refl le
       (λ h n lt line. let φ : Flusher C = w.core.flushers f in

@@ -4,14 +4,14 @@ use Rattle.std.proofs.lemmas.Bool.{eqb-true, eqb-false}
 use Rattle.foyer_model.specs.Numbers.{put}
 use Rattle.foyer_model.specs.Ids.{ids, is_id_in, AreDistinct}
 use Rattle.foyer_model.specs.Record.{Address, Slot, Indexed, Mark, Outcome}
-use Rattle.foyer_model.specs.State.{Place, Clean, Writes, Evictable, Reclaims, State}
+use Rattle.foyer_model.specs.State.{BlockSet, Clean, Writes, Evictable, Reclaims, State}
 use Rattle.foyer_model.specs.Rules.{Rules}
-use Rattle.foyer_model.specs.Placing.{MayWrite, read}
+use Rattle.foyer_model.specs.Layout.{MayWrite, read}
 use Rattle.foyer_model.specs.Event.{Event, Put, sequence_in, newest}
 use Rattle.foyer_model.specs.World.{World}
 use Rattle.foyer_model.specs.Opened.{slot_among, recovered, IsAlone, IsFound, AllFound, is_clean, clean_among, IsOpened}
 use Rattle.foyer_model.proofs.Ids.{same_in, later_in, in_cases, in_append}
-use Rattle.foyer_model.proofs.Invariant.{ground_of, PenSpares, line_of, SlotOk, LoadOk, IsTended, IsSound}
+use Rattle.foyer_model.proofs.Invariant.{ground_of, WritesSpare, line_of, SlotOk, LoadOk, FlusherInvariant, WorldInvariant}
 use Rattle.foyer_model.proofs.CommitSteps.{newest_put, newest_other}
 use Rattle.foyer_model.proofs.Sets.{AreSets}
 
@@ -78,7 +78,7 @@ module _ {C : Type 0} (rules : Rules C) where
       (both_ok w h (slot_among h first.found) (is_there rules w.core h first.found first.all)
       (subst (λ H. HasPut rules w.bytes h (newest h H) (slot_among h first.found)) (sym first.history) (has_put rules w.core w.bytes h first.found first.all)))
 
-  opened_slot : (w : World C) → IsOpened rules w → (h : ℕ) (slot : Option Slot) → FoundOk rules w h slot → SlotOk rules (ground_of w) w.pens w.history h [] slot
+  opened_slot : (w : World C) → IsOpened rules w → (h : ℕ) (slot : Option Slot) → FoundOk rules w h slot → SlotOk rules (ground_of w) w.block_writes w.history h [] slot
   opened_slot w first h None found = tt
   opened_slot w first h (Some (Mark s)) found = absurd found
   opened_slot w first h (Some (Indexed a)) it = (
@@ -95,7 +95,7 @@ module _ {C : Type 0} (rules : Rules C) where
               | inr blob ↦ (let end : a.offset + rules.page_up a.len ≤ rules.block_size = it.found.within in
                   let high : o < a.offset + rules.page_up a.len = inside.1 in let low : rules.block_size ≤ o = blob.0 in absurd (omega arith))
             ]);
-        spared = λ f. subst (λ p. PenSpares rules a p) (sym (first.pens f)) tt;
+        spared = λ f. subst (λ p. WritesSpare rules a p) (sym (first.block_writes f)) tt;
         past = (let b : rules.index_size ≤ a.offset = it.found.behind in let c : 4096 ≤ rules.index_size = rules.index_holds_page in omega arith);
       };
     },
@@ -107,13 +107,13 @@ module _ {C : Type 0} (rules : Rules C) where
   below_next w first h (Some (Mark s)) found = absurd found
   below_next w first h (Some (Indexed a)) it = subst (λ e. sequence_in e < w.core.next) (sym it.event) it.found.sequence
 
-  pub new_sound : (w : World C) → IsOpened rules w → IsSound rules w
+  pub new_sound : (w : World C) → IsOpened rules w → WorldInvariant rules w
   new_sound w first =
       record {
-        slots = λ h f routed. subst (λ φ. SlotOk rules (ground_of w) w.pens w.history h (line_of φ) (w.core.index h)) (sym (first.flushers f))
+        slots = λ h f routed. subst (λ φ. SlotOk rules (ground_of w) w.block_writes w.history h (line_of φ) (w.core.index h)) (sym (first.flushers f))
             (opened_slot w first h (w.core.index h) (found_ok w first h));
-        loads = λ n. subst (λ l. LoadOk rules (ground_of w) w.pens l) (sym (first.loads n)) tt;
-        flushers = λ f. subst (λ φ. IsTended rules (ground_of w) w.core.place w.core.next f φ (w.pens f)) (sym (first.flushers f))
+        loads = λ n. subst (λ l. LoadOk rules (ground_of w) w.block_writes l) (sym (first.loads n)) tt;
+        flushers = λ f. subst (λ φ. FlusherInvariant rules (ground_of w) w.core.place w.core.next f φ (w.block_writes f)) (sym (first.flushers f))
             (record {
               order = record { received = 0; queued = 0; batch = omega arith; batch_marks = tt; buffer = omega arith; marks = tt; queue = omega arith };
               batch = tt;
@@ -126,19 +126,19 @@ module _ {C : Type 0} (rules : Rules C) where
               owned = λ b p. absurd (let e : None ≡ Some b = p in cc);
               spare = λ b p. absurd (let e : None ≡ Some b = p in cc);
               either = λ b c p q. absurd (let e : None ≡ Some b = p in cc);
-              writing = first.pens f;
+              writing = first.block_writes f;
             });
         next = λ h. below_next w first h (w.core.index h) (found_ok w first h);
       }
 
-  clean_in : (place : ℕ → Place) (bs : List ℕ) (b : ℕ) → is_id_in b (clean_among place bs) ≡ true → (place b ≡ Clean) × (is_id_in b bs ≡ true)
+  clean_in : (place : ℕ → BlockSet) (bs : List ℕ) (b : ℕ) → is_id_in b (clean_among place bs) ≡ true → (place b ≡ Clean) × (is_id_in b bs ≡ true)
   clean_in place [] b is = absurd (let e : false ≡ true = is in cc)
   clean_in place (c ∷ bs) b is = go (place c) refl is (clean_in place bs b)
     where
       later : is_id_in b bs ≡ true → is_id_in b (c ∷ bs) ≡ true
       later = later_in b c bs
 
-      go : (p : Place) → place c ≡ p → is_id_in b (if is_clean p then c ∷ clean_among place bs else clean_among place bs) ≡ true
+      go : (p : BlockSet) → place c ≡ p → is_id_in b (if is_clean p then c ∷ clean_among place bs else clean_among place bs) ≡ true
           → (is_id_in b (clean_among place bs) ≡ true → (place b ≡ Clean) × (is_id_in b bs ≡ true)) → (place b ≡ Clean) × (is_id_in b (c ∷ bs) ≡ true)
       go Clean at h rec =
           elim (in_cases b c (clean_among place bs) h) [

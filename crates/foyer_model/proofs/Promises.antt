@@ -6,12 +6,12 @@ use Rattle.foyer_model.specs.State.{State}
 use Rattle.foyer_model.specs.Rules.{Rules, Splitting}
 use Rattle.foyer_model.specs.Step.{Ticket, Step, LoadBegin}
 use Rattle.foyer_model.specs.Reply.{Reply, Read, Picked, Cleared}
-use Rattle.foyer_model.specs.Placing.{read}
+use Rattle.foyer_model.specs.Layout.{read}
 use Rattle.foyer_model.specs.Load.{Looks}
 use Rattle.foyer_model.specs.Event.{Event, Put, newest}
 use Rattle.foyer_model.specs.Kept.{unless}
-use Rattle.foyer_model.specs.Access.{Phase, Unread, Load, load_unless, begun, spoiled, came, at_load, will_cover, wipe_will_cover}
-use Rattle.foyer_model.specs.World.{World, WorldEvent, Applies, ReadBegins, ReadEnds, ScanBegins, ScanEnds, WriteBegins, WriteEnds, WipeBegins, WipeEnds, covers, after, after_all, MayAllHappen}
+use Rattle.foyer_model.specs.Access.{ReadState, ReadIssued, Load, load_unless, begun, read_torn, came, at_load, will_cover, clean_will_cover}
+use Rattle.foyer_model.specs.World.{World, WorldEvent, Applies, ReadBegins, ReadEnds, ScanBegins, ScanEnds, WriteBegins, WriteEnds, CleanBegins, CleanEnds, covers, after, after_all, MayAllHappen}
 use Rattle.foyer_model.specs.Laws.{IsReached, PromisesStay, AnswersNewest, MissedNewest}
 use Rattle.foyer_model.proofs.Basics.{put_at, put_same, put_other}
 use Rattle.foyer_model.proofs.FlushEnds.{ended}
@@ -20,47 +20,47 @@ use Rattle.foyer_model.proofs.FoundKept.{looked}
 use Rattle.foyer_model.proofs.Missed.{loads_newest_lem, looks_up_newest_lem}
 
 module _ {C : Type 0} (rules : Rules C) where
-  -- a ticket that was told keeps its load
+  -- a ticket that was issued keeps its load
   abbrev Stands : World C → ℕ → Ticket → Option (Event C) → Type 0
-  Stands w n t p = (l : Load C) × (w.loads n ≡ Some l) × (l.ticket ≡ t) × (l.promise ≡ p) × (n < w.told)
+  Stands w n t p = (l : Load C) × (w.loads n ≡ Some l) × (l.ticket ≡ t) × (l.promise ≡ p) × (n < w.issued)
 
   -- its entry in another table
   abbrev Entered : Option (Load C) → Ticket → Option (Event C) → Type 0
   Entered o t p = (l : Load C) × (o ≡ Some l) × (l.ticket ≡ t) × (l.promise ≡ p)
 
-  entered_at : (f : ℕ → Phase → Phase) (o : Option (Load C)) (t : Ticket) (p : Option (Event C)) → Entered o t p → Entered (at_load f o) t p
-  entered_at f o t p (l, is, ticket, promise) = (record l { phase = f l.ticket.address.block l.phase }, ap (at_load f) is, ticket, promise)
+  entered_at : (f : ℕ → ReadState → ReadState) (o : Option (Load C)) (t : Ticket) (p : Option (Event C)) → Entered o t p → Entered (at_load f o) t p
+  entered_at f o t p (l, is, ticket, promise) = (record l { read_state = f l.ticket.address.block l.read_state }, ap (at_load f) is, ticket, promise)
 
   entered_unless : (f : Option ℕ → Option ℕ) (o : Option (Load C)) (t : Ticket) (p : Option (Event C)) → Entered o t p → Entered (load_unless f o) t p
   entered_unless f o t p (l, is, ticket, promise) = (record l { kept = f l.kept }, ap (load_unless f) is, ticket, promise)
 
   after_reply : (w : World C) (step : Step C) (reply : Reply C) (new : State C) (n : ℕ) (t : Ticket) (p : Option (Event C)) → Stands w n t p → Stands (after rules w (Applies step reply new)) n t p
   after_reply w step (Read u) new n t p (l, is, ticket, promise, lt) =
-      (l, put_other w.loads w.told (Some (record { ticket = u; promise = newest u.hash w.history; phase = Unread; kept = w.kept u.hash })) n (λ at. omega arith) ∙ is, ticket, promise, omega arith)
+      (l, put_other w.loads w.issued (Some (record { ticket = u; promise = newest u.hash w.history; read_state = ReadIssued; kept = w.kept u.hash })) n (λ at. omega arith) ∙ is, ticket, promise, omega arith)
   after_reply w step (Picked b answers probation) new n t p (l, is, ticket, promise, lt) =
       let e : Entered (load_unless (unless b) (w.loads n)) t p = entered_unless (unless b) (w.loads n) t p (l, is, ticket, promise) in (e.0, e.1, e.2, e.3, lt)
   after_reply w step (Cleared bs) new n t p (l, is, ticket, promise, lt) =
       let e : Entered (load_unless (λ o. None) (w.loads n)) t p = entered_unless (λ o. None) (w.loads n) t p (l, is, ticket, promise) in (e.0, e.1, e.2, e.3, lt)
   after_reply w step reply new n t p stands = stands
 
-  -- the phase of one load changes
-  one_phase : (w : World C) (k : ℕ) (f : ℕ → Phase → Phase) (n : ℕ) (t : Ticket) (p : Option (Event C)) → Stands w n t p → Entered (put w.loads k (at_load f (w.loads k)) n) t p
-  one_phase w k f n t p (l, is, ticket, promise, lt) =
+  -- the state of one load changes
+  one_read_state : (w : World C) (k : ℕ) (f : ℕ → ReadState → ReadState) (n : ℕ) (t : Ticket) (p : Option (Event C)) → Stands w n t p → Entered (put w.loads k (at_load f (w.loads k)) n) t p
+  one_read_state w k f n t p (l, is, ticket, promise, lt) =
       put_at (λ o. Entered o t p) w.loads k (at_load f (w.loads k)) n
       (λ at. entered_at f (w.loads k) t p (l, ap w.loads (sym at) ∙ is, ticket, promise)) (λ _. (l, is, ticket, promise))
 
   after_one : (w : World C) (e : WorldEvent C) (n : ℕ) (t : Ticket) (p : Option (Event C)) → Stands w n t p → Stands (after rules w e) n t p
   after_one w (Applies step reply new) n t p stands = after_reply w step reply new n t p stands
-  after_one w (ReadBegins k) n t p stands = let e : Entered (put w.loads k (at_load (begun (covers rules w)) (w.loads k)) n) t p = one_phase w k (begun (covers rules w)) n t p stands in (e.0, e.1, e.2, e.3, stands.4)
-  after_one w (ReadEnds k result) n t p stands = let e : Entered (put w.loads k (at_load (λ _. came result) (w.loads k)) n) t p = one_phase w k (λ _. came result) n t p stands in (e.0, e.1, e.2, e.3, stands.4)
+  after_one w (ReadBegins k) n t p stands = let e : Entered (put w.loads k (at_load (begun (covers rules w)) (w.loads k)) n) t p = one_read_state w k (begun (covers rules w)) n t p stands in (e.0, e.1, e.2, e.3, stands.4)
+  after_one w (ReadEnds k result) n t p stands = let e : Entered (put w.loads k (at_load (λ _. came result) (w.loads k)) n) t p = one_read_state w k (λ _. came result) n t p stands in (e.0, e.1, e.2, e.3, stands.4)
   after_one w (ScanBegins b) n t p stands = stands
   after_one w (ScanEnds b result) n t p stands = stands
   after_one w (WriteBegins f) n t p (l, is, ticket, promise, lt) =
-      let e : Entered (at_load (spoiled (will_cover (w.pens f))) (w.loads n)) t p = entered_at (spoiled (will_cover (w.pens f))) (w.loads n) t p (l, is, ticket, promise) in (e.0, e.1, e.2, e.3, lt)
+      let e : Entered (at_load (read_torn (will_cover (w.block_writes f))) (w.loads n)) t p = entered_at (read_torn (will_cover (w.block_writes f))) (w.loads n) t p (l, is, ticket, promise) in (e.0, e.1, e.2, e.3, lt)
   after_one w (WriteEnds f ok g) n t p stands = stands
-  after_one w (WipeBegins b) n t p (l, is, ticket, promise, lt) =
-      let e : Entered (at_load (spoiled (wipe_will_cover b (w.wipes b))) (w.loads n)) t p = entered_at (spoiled (wipe_will_cover b (w.wipes b))) (w.loads n) t p (l, is, ticket, promise) in (e.0, e.1, e.2, e.3, lt)
-  after_one w (WipeEnds b ok g) n t p stands = stands
+  after_one w (CleanBegins b) n t p (l, is, ticket, promise, lt) =
+      let e : Entered (at_load (read_torn (clean_will_cover b (w.clean_states b))) (w.loads n)) t p = entered_at (read_torn (clean_will_cover b (w.clean_states b))) (w.loads n) t p (l, is, ticket, promise) in (e.0, e.1, e.2, e.3, lt)
+  after_one w (CleanEnds b ok g) n t p stands = stands
 
   after_many : (w : World C) (events : List (WorldEvent C)) (n : ℕ) (t : Ticket) (p : Option (Event C)) → Stands w n t p → Stands (after_all rules w events) n t p
   after_many w [] n t p stands = stands
@@ -74,10 +74,10 @@ module _ {C : Type 0} (rules : Rules C) where
 pub promises_stay_lem : {C : Type 0} (rules : Rules C) (Splits : Splitting C) (is_value : C → Type 0) → PromisesStay rules Splits is_value
 promises_stay_lem {C} rules Splits is_value w h throttled t new events ok =
     let hash : t.hash ≡ h = looked_hash rules w.core ((ok.1).2).0 h throttled (w.core.index h) t ((ok.1).2).1 in
-    let last : Stands rules (after_all rules w (Applies (LoadBegin h throttled) (Read t) new ∷ events)) w.told t (newest h w.history) =
-    after_many rules (after rules w (Applies (LoadBegin h throttled) (Read t) new)) events w.told t (newest h w.history) (
-      record { ticket = t; promise = newest t.hash w.history; phase = Unread; kept = w.kept t.hash },
-      put_same w.loads w.told (Some (record { ticket = t; promise = newest t.hash w.history; phase = Unread; kept = w.kept t.hash })),
+    let last : Stands rules (after_all rules w (Applies (LoadBegin h throttled) (Read t) new ∷ events)) w.issued t (newest h w.history) =
+    after_many rules (after rules w (Applies (LoadBegin h throttled) (Read t) new)) events w.issued t (newest h w.history) (
+      record { ticket = t; promise = newest t.hash w.history; read_state = ReadIssued; kept = w.kept t.hash },
+      put_same w.loads w.issued (Some (record { ticket = t; promise = newest t.hash w.history; read_state = ReadIssued; kept = w.kept t.hash })),
       refl,
       ap (λ k. newest k w.history) hash,
       omega arith,
@@ -107,15 +107,15 @@ reached_more rules Splits is_value w events reached happened = record {
 }
 
 pub answers_newest_lem : {C : Type 0} (rules : Rules C) (Splits : Splitting C) (is_value : C → Type 0) → AnswersNewest rules Splits is_value
-answers_newest_lem {C} rules Splits is_value w h throttled t looked between result c age ended l demands reached happened last at phase =
-    let stays : (k : Load C) × ((after_all rules w (Applies (LoadBegin h throttled) (Read t) looked ∷ between)).loads w.told ≡ Some k) × (k.ticket ≡ t) × (k.promise ≡ newest h w.history) =
+answers_newest_lem {C} rules Splits is_value w h throttled t looked between result c age ended l demands reached happened last at read_state =
+    let stays : (k : Load C) × ((after_all rules w (Applies (LoadBegin h throttled) (Read t) looked ∷ between)).loads w.issued ≡ Some k) × (k.ticket ≡ t) × (k.promise ≡ newest h w.history) =
     promises_stay_lem rules Splits is_value w h throttled t looked between happened.0 in
     let same : stays.0 ≡ l = (let e : Some stays.0 ≡ Some l = sym stays.1 ∙ at in cc) in
     let ticket : l.ticket ≡ t = ap (λ k. k.ticket) (sym same) ∙ stays.2 in
     let hash : t.hash ≡ h = looked_hash rules w.core (((happened.0).1).2).0 h throttled (w.core.index h) t (((happened.0).1).2).1 in
     let promise : l.promise ≡ Some (Put t.hash t.address.sequence (Holds c)) =
-    answers_only_lem rules Splits is_value (after_all rules w (Applies (LoadBegin h throttled) (Read t) looked ∷ between)) t result c age ended w.told l demands
-    (reached_more rules Splits is_value w (Applies (LoadBegin h throttled) (Read t) looked ∷ between) reached happened) last at ticket phase in
+    answers_only_lem rules Splits is_value (after_all rules w (Applies (LoadBegin h throttled) (Read t) looked ∷ between)) t result c age ended w.issued l demands
+    (reached_more rules Splits is_value w (Applies (LoadBegin h throttled) (Read t) looked ∷ between) reached happened) last at ticket read_state in
     sym stays.3 ∙ ap (λ k. k.promise) same ∙ promise ∙ ap (λ k. Some (Put k t.address.sequence (Holds c))) hash
 
 pub missed_newest_lem : {C : Type 0} (rules : Rules C) (Splits : Splitting C) (is_value : C → Type 0) → MissedNewest rules Splits is_value
@@ -125,15 +125,15 @@ missed_newest_lem {C} rules Splits is_value w h reply looked b s x demands reach
       | inr read ↦ (
         (read.1).0,
         (read.1).1,
-        λ between result answer ended l d happened last early at phase left.
+        λ between result answer ended l d happened last early at read_state left.
             let t : Ticket = (read.1).0 in
-            let stays : (k : Load C) × ((after_all rules w (Applies (LoadBegin h false) (Read t) looked ∷ between)).loads w.told ≡ Some k) × (k.ticket ≡ t) × (k.promise ≡ newest h w.history) =
+            let stays : (k : Load C) × ((after_all rules w (Applies (LoadBegin h false) (Read t) looked ∷ between)).loads w.issued ≡ Some k) × (k.ticket ≡ t) × (k.promise ≡ newest h w.history) =
             promises_stay_lem rules Splits is_value w h false t looked between happened.0 in
             let same : stays.0 ≡ l = (let e : Some stays.0 ≡ Some l = sym stays.1 ∙ at in cc) in
             let hash : t.hash ≡ h = (read.1).2 in
-            loads_newest_lem rules Splits is_value (after_all rules w (Applies (LoadBegin h false) (Read t) looked ∷ between)) t result answer ended w.told l d s x demands
+            loads_newest_lem rules Splits is_value (after_all rules w (Applies (LoadBegin h false) (Read t) looked ∷ between)) t result answer ended w.issued l d s x demands
             (reached_more rules Splits is_value w (Applies (LoadBegin h false) (Read t) looked ∷ between) reached happened) last early at
-            (ap (λ k. k.ticket) (sym same) ∙ stays.2) phase left
+            (ap (λ k. k.ticket) (sym same) ∙ stays.2) read_state left
             (ap (λ k. k.promise) (sym same) ∙ stays.3 ∙ newer ∙ ap (λ k. Some (Put k s x)) (sym hash)),
       )
     ]

@@ -7,17 +7,17 @@ use Rattle.foyer_model.specs.Step.{Age, Step, Enqueue, Delete, Wait, MayContains
 use Rattle.foyer_model.specs.Reply.{Reply, NotNow, Refused, Ignored, Queued, Deleted, Committed, Cleared}
 use Rattle.foyer_model.specs.Queue.{Enqueues}
 use Rattle.foyer_model.specs.InTurn.{InTurn}
-use Rattle.foyer_model.specs.Does.{Does}
-use Rattle.foyer_model.specs.Turn.{Follows}
+use Rattle.foyer_model.specs.Changes.{Changes}
+use Rattle.foyer_model.specs.Follows.{Follows}
 use Rattle.foyer_model.specs.Event.{Event, Put, Deletion, Destruction, events_of}
 use Rattle.foyer_model.specs.Access.{came}
-use Rattle.foyer_model.specs.World.{World, WorldEvent, Applies, ReadBegins, ReadEnds, ScanBegins, ScanEnds, WriteBegins, WriteEnds, WipeBegins, WipeEnds, after, after_all, MayHappen, MayAllHappen}
+use Rattle.foyer_model.specs.World.{World, WorldEvent, Applies, ReadBegins, ReadEnds, ScanBegins, ScanEnds, WriteBegins, WriteEnds, CleanBegins, CleanEnds, after, after_all, MayHappen, MayAllHappen}
 use Rattle.foyer_model.specs.Laws.{Demands, WasQueued, IsAmong, PutsAreQueued}
 use Rattle.foyer_model.proofs.Invariant.{Each}
 use Rattle.foyer_model.proofs.RereadsKept.{new_again}
 use Rattle.foyer_model.proofs.SoundKept.{IsKnown, known_keeps}
 use Rattle.foyer_model.proofs.OpenedSound.{new_sound, new_sets}
-use Rattle.foyer_model.proofs.Traced.{IsKnownPut, IsTracedAt, IsTracedIn, IsTraced, traced_more, pushed_traced, traced_as, deletes_traced, takes_traced, begins_traced, tells_traced, wrote_traced, logs_traced, finishes_traced, reads_traced, looks_traced, ends_traced, waits_traced, picks_traced, forgets_traced, cleaned_traced, destroys_traced, clears_traced, cleans_traced}
+use Rattle.foyer_model.proofs.Traced.{IsKnownPut, IsTracedAt, IsTracedIn, IsTraced, traced_more, pushed_traced, traced_as, deletes_traced, takes_traced, begins_traced, issues_traced, wrote_traced, logs_traced, finishes_traced, reads_traced, looks_traced, ends_traced, waits_traced, picks_traced, forgets_traced, cleaned_traced, destroys_traced, clears_traced, cleans_traced}
 
 module _ {C : Type 0} (rules : Rules C) (Splits : Splitting C) (is_value : C → Type 0) (demands : Demands rules Splits is_value) (R : ℕ → ℕ → Outcome C → Type 0) where
   -- steps that give no event
@@ -52,7 +52,7 @@ module _ {C : Type 0} (rules : Rules C) (Splits : Splitting C) (is_value : C →
       (pushed_traced rules (More K (Applies (Enqueue h n age c) (Queued s) new ∷ [])) R w (flusher_of rules h) (Piece h s n c) (inr (inl (refl, refl, refl))) (traced_more K _ R (λ h s c k. inl k) w traced))
   enqueues_traced K w h n age c reply done new ok traced = absurd ok
 
-  does_traced : (K : ℕ → ℕ → C → Type 0) (w : World C) (step : Step C) (reply : Reply C) (done new : State C) → InTurn rules w.core step → Does rules Splits w.core step reply done → IsKnown rules Splits is_value demands w → IsTraced K R w
+  does_traced : (K : ℕ → ℕ → C → Type 0) (w : World C) (step : Step C) (reply : Reply C) (done new : State C) → InTurn rules w.core step → Changes rules Splits w.core step reply done → IsKnown rules Splits is_value demands w → IsTraced K R w
       → IsTraced (More K (Applies step reply new ∷ [])) R (after rules w (Applies step reply done))
   does_traced K w (Enqueue h n age c) reply done new turn ok known traced = quietly (More K (Applies (Enqueue h n age c) reply new ∷ [])) w (Enqueue h n age c) reply done tt (enqueues_traced K w h n age c reply done new ok traced)
   does_traced K w (Delete h) reply done new turn ok known traced = deletes_traced rules _ R w h reply done ok (traced_more K _ R (λ h s c k. inl k) w traced)
@@ -62,7 +62,7 @@ module _ {C : Type 0} (rules : Rules C) (Splits : Splitting C) (is_value : C →
   does_traced K w (LoadEnd t came) reply done new turn ok known traced = ends_traced rules _ R w t came reply done ok (traced_more K _ R (λ h s c k. inl k) w traced)
   does_traced K w (Receive f) reply done new turn ok known traced = quietly _ w (Receive f) reply done tt (takes_traced rules _ R w f (w.core.flushers f).queue reply done refl ok (traced_more K _ R (λ h s c k. inl k) w traced))
   does_traced K w (FlushBegin f) reply done new turn ok known traced = quietly _ w (FlushBegin f) reply done tt (begins_traced rules _ R Splits demands.places w f reply done ok (traced_more K _ R (λ h s c k. inl k) w traced))
-  does_traced K w (FlushBlock f) reply done new turn ok known traced = quietly _ w (FlushBlock f) reply done tt (tells_traced rules _ R w f (w.core.flushers f).batch reply done refl turn.1 ok (traced_more K _ R (λ h s c k. inl k) w traced))
+  does_traced K w (FlushBlock f) reply done new turn ok known traced = quietly _ w (FlushBlock f) reply done tt (issues_traced rules _ R w f (w.core.flushers f).batch reply done refl turn.1 ok (traced_more K _ R (λ h s c k. inl k) w traced))
   does_traced K w (FlushWrote f good) reply done new turn ok known traced = wrote_traced rules _ R w f good (w.core.flushers f).batch reply done refl ok known.sound known.again (traced_more K _ R (λ h s c k. inl k) w traced)
   does_traced K w (LogWrote f well) reply done new turn ok known traced = quietly _ w (LogWrote f well) reply done tt (logs_traced rules _ R w f well (w.core.flushers f).batch reply done refl ok (traced_more K _ R (λ h s c k. inl k) w traced))
   does_traced K w (FlushEnd f) reply done new turn ok known traced = quietly _ w (FlushEnd f) reply done tt (finishes_traced rules _ R w f (w.core.flushers f).batch reply done ok (traced_more K _ R (λ h s c k. inl k) w traced))
@@ -92,8 +92,8 @@ module _ {C : Type 0} (rules : Rules C) (Splits : Splitting C) (is_value : C →
   event_traced K w (ScanEnds b result) ok known traced = traced_more K _ R (λ h s c k. inl k) w traced
   event_traced K w (WriteBegins f) ok known traced = traced_more K _ R (λ h s c k. inl k) w traced
   event_traced K w (WriteEnds f good g) ok known traced = traced_more K _ R (λ h s c k. inl k) w traced
-  event_traced K w (WipeBegins b) ok known traced = traced_more K _ R (λ h s c k. inl k) w traced
-  event_traced K w (WipeEnds b good g) ok known traced = traced_more K _ R (λ h s c k. inl k) w traced
+  event_traced K w (CleanBegins b) ok known traced = traced_more K _ R (λ h s c k. inl k) w traced
+  event_traced K w (CleanEnds b good g) ok known traced = traced_more K _ R (λ h s c k. inl k) w traced
 
   -- one event in front of the others
   queued_front : (h s : ℕ) (c : C) (e : WorldEvent C) (es : List (WorldEvent C)) → WasQueued h s c (e ∷ []) ⊎ WasQueued h s c es → WasQueued h s c (e ∷ es)

@@ -2,14 +2,14 @@
 use Rattle.std.proofs.Common.{◌≡◌, ℕ, ◌+◌, ◌<◌, ◌≤◌, true, List, [], ◌∷◌, ◌++◌, Option, Some, None, refl, sym, ap, subst, ◌∙◌, arith}
 use Rattle.foyer_model.specs.Numbers.{put}
 use Rattle.foyer_model.specs.Record.{Address, Given, Reread, Record}
-use Rattle.foyer_model.specs.Filling.{Filling, Spread, last_end}
+use Rattle.foyer_model.specs.Position.{Position, BlockLayout, last_end}
 use Rattle.foyer_model.specs.State.{Submission, Piece, Remove, Await, Reinsert, Flusher}
 use Rattle.foyer_model.specs.Rules.{Rules, flusher_of}
-use Rattle.foyer_model.specs.Placing.{AllPlaced, IsSplit}
+use Rattle.foyer_model.specs.Layout.{AllPlaced, IsSplit}
 use Rattle.foyer_model.specs.Flush.{is_some}
 use Rattle.foyer_model.specs.World.{World}
 use Rattle.foyer_model.proofs.Basics.{Ascends, ascends_from, ascends_to}
-use Rattle.foyer_model.proofs.Invariant.{Each, puts_onto, queue_puts, batch_records, AtLeast, sequences, queue_sequences, RecordOk, start_of, IsSound}
+use Rattle.foyer_model.proofs.Invariant.{Each, puts_onto, queue_puts, batch_records, AtLeast, sequences, queue_sequences, RecordOk, start_of, WorldInvariant}
 use Rattle.foyer_model.proofs.CommitSteps.{each_join, each_onto, onto_append, ascends_last}
 use Rattle.foyer_model.proofs.OneFlusher.{one_turned}
 
@@ -22,9 +22,9 @@ marks_below n m ps le = each_weaker (λ p. p.1 < n) (λ p. p.1 < m) ps (λ p lt.
 
 module _ {C : Type 0} (rules : Rules C) where
   -- the front of the queue goes to the buffer
-  pub received_piece : (w : World C) (f h s n : ℕ) (c : C) (bytes : List ℕ) (rest : List (Submission C)) → IsSound rules w → (w.core.flushers f).queue ≡ Piece h s n c ∷ rest
+  pub received_piece : (w : World C) (f h s n : ℕ) (c : C) (bytes : List ℕ) (rest : List (Submission C)) → WorldInvariant rules w → (w.core.flushers f).queue ≡ Piece h s n c ∷ rest
       → rules.encode h s c ≡ Some bytes
-      → IsSound rules (record w {
+      → WorldInvariant rules (record w {
         core = record w.core {
           flushers = put w.core.flushers f (record (w.core.flushers f) {
             queue = rest;
@@ -68,8 +68,8 @@ module _ {C : Type 0} (rules : Rules C) where
       r : Record C
       r = record { hash = h; sequence = s; bytes = bytes; source = Given c }
 
-  pub returned_piece : (w : World C) (f h s n : ℕ) (c : C) (rest : List (Submission C)) → IsSound rules w → (w.core.flushers f).queue ≡ Piece h s n c ∷ rest
-      → IsSound rules (record w { core = record w.core { flushers = put w.core.flushers f (record (w.core.flushers f) { queue = rest }) } })
+  pub returned_piece : (w : World C) (f h s n : ℕ) (c : C) (rest : List (Submission C)) → WorldInvariant rules w → (w.core.flushers f).queue ≡ Piece h s n c ∷ rest
+      → WorldInvariant rules (record w { core = record w.core { flushers = put w.core.flushers f (record (w.core.flushers f) { queue = rest }) } })
   returned_piece w f h s n c rest sound is =
       one_turned rules w f (record φ { queue = Piece h s n c ∷ rest }) (record φ { queue = rest }) w.core.next sound
       (λ i. record φ { queue = is i }) (omega arith)
@@ -103,18 +103,18 @@ module _ {C : Type 0} (rules : Rules C) where
       φ : Flusher C
       φ = w.core.flushers f
 
-  pub received_mark : (w : World C) (f h s : ℕ) (spoils more : List (ℕ × ℕ)) (rest : List (Submission C)) → IsSound rules w → (w.core.flushers f).queue ≡ Remove h s spoils ∷ rest
-      → IsSound rules (record w {
+  pub received_mark : (w : World C) (f h s : ℕ) (invalidated more : List (ℕ × ℕ)) (rest : List (Submission C)) → WorldInvariant rules w → (w.core.flushers f).queue ≡ Remove h s invalidated ∷ rest
+      → WorldInvariant rules (record w {
         core = record w.core {
           flushers = put w.core.flushers f (record (w.core.flushers f) {
             queue = rest;
             marks = (w.core.flushers f).marks ++ (h, s) ∷ [];
-            spoils = more;
+            invalidated = more;
           });
         };
       })
-  received_mark w f h s spoils more rest sound is =
-      one_turned rules w f (record φ { queue = Remove h s spoils ∷ rest }) (record φ { queue = rest; marks = φ.marks ++ (h, s) ∷ []; spoils = more }) w.core.next sound
+  received_mark w f h s invalidated more rest sound is =
+      one_turned rules w f (record φ { queue = Remove h s invalidated ∷ rest }) (record φ { queue = rest; marks = φ.marks ++ (h, s) ∷ []; invalidated = more }) w.core.next sound
       (λ i. record φ { queue = is i }) (omega arith) (λ k n lt line. line)
       (λ t. let le : t.order.queued ≤ s = (t.order.queue).0 in
       record {
@@ -143,8 +143,8 @@ module _ {C : Type 0} (rules : Rules C) where
       φ : Flusher C
       φ = w.core.flushers f
 
-  pub received_wait : (w : World C) (f j : ℕ) (rest : List (Submission C)) (waits : List ℕ) → IsSound rules w → (w.core.flushers f).queue ≡ Await j ∷ rest
-      → IsSound rules (record w { core = record w.core { flushers = put w.core.flushers f (record (w.core.flushers f) { queue = rest; waits = waits }) } })
+  pub received_wait : (w : World C) (f j : ℕ) (rest : List (Submission C)) (waits : List ℕ) → WorldInvariant rules w → (w.core.flushers f).queue ≡ Await j ∷ rest
+      → WorldInvariant rules (record w { core = record w.core { flushers = put w.core.flushers f (record (w.core.flushers f) { queue = rest; waits = waits }) } })
   received_wait w f j rest waits sound is =
       one_turned rules w f (record φ { queue = Await j ∷ rest }) (record φ { queue = rest; waits = waits }) w.core.next sound
       (λ i. record φ { queue = is i }) (omega arith) (λ k n lt line. line)
@@ -175,8 +175,8 @@ module _ {C : Type 0} (rules : Rules C) where
       φ = w.core.flushers f
 
   -- a reinsertion goes to the buffer, or is dropped
-  pub received_again : (w : World C) (f h : ℕ) (bytes : List ℕ) (a : Address) (rest : List (Submission C)) → IsSound rules w → (w.core.flushers f).queue ≡ Reinsert h bytes a ∷ rest
-      → IsSound rules (record w {
+  pub received_again : (w : World C) (f h : ℕ) (bytes : List ℕ) (a : Address) (rest : List (Submission C)) → WorldInvariant rules w → (w.core.flushers f).queue ≡ Reinsert h bytes a ∷ rest
+      → WorldInvariant rules (record w {
         core = record w.core {
           flushers = put w.core.flushers f (record (w.core.flushers f) {
             queue = rest;
@@ -219,8 +219,8 @@ module _ {C : Type 0} (rules : Rules C) where
       r : Record C
       r = record { hash = h; sequence = a.sequence; bytes = bytes; source = Reread a }
 
-  pub dropped_again : (w : World C) (f h : ℕ) (bytes : List ℕ) (a : Address) (rest : List (Submission C)) → IsSound rules w → (w.core.flushers f).queue ≡ Reinsert h bytes a ∷ rest
-      → IsSound rules (record w { core = record w.core { flushers = put w.core.flushers f (record (w.core.flushers f) { queue = rest }) } })
+  pub dropped_again : (w : World C) (f h : ℕ) (bytes : List ℕ) (a : Address) (rest : List (Submission C)) → WorldInvariant rules w → (w.core.flushers f).queue ≡ Reinsert h bytes a ∷ rest
+      → WorldInvariant rules (record w { core = record w.core { flushers = put w.core.flushers f (record (w.core.flushers f) { queue = rest }) } })
   dropped_again w f h bytes a rest sound is =
       one_turned rules w f (record φ { queue = Reinsert h bytes a ∷ rest }) (record φ { queue = rest }) w.core.next sound
       (λ i. record φ { queue = is i }) (omega arith) (λ k j lt line. line)
@@ -250,27 +250,27 @@ module _ {C : Type 0} (rules : Rules C) where
       φ : Flusher C
       φ = w.core.flushers f
 
-  pub start_same : (filled : ℕ → Filling) (own : Option ℕ) → start_of rules filled own true ≡ start_of rules filled own (is_some own)
+  pub start_same : (filled : ℕ → Position) (own : Option ℕ) → start_of rules filled own true ≡ start_of rules filled own (is_some own)
   start_same filled None = refl
   start_same filled (Some b) = refl
 
-  pub begun_batch : (w : World C) (f : ℕ) (blocks : List (Spread C)) (pieces : List C) → IsSound rules w → (w.core.flushers f).batch ≡ None
+  pub begun_batch : (w : World C) (f : ℕ) (blocks : List (BlockLayout C)) (pieces : List C) → WorldInvariant rules w → (w.core.flushers f).batch ≡ None
       → IsSplit rules (w.core.flushers f).context (w.core.flushers f).buffer blocks
-      → IsSound rules (record w {
+      → WorldInvariant rules (record w {
         core = record w.core {
           flushers = put w.core.flushers f (record (w.core.flushers f) {
             buffer = [];
             marks = [];
-            spoils = [];
+            invalidated = [];
             waits = [];
             context = last_end (w.core.flushers f).context blocks;
-            batch = Some (record { blocks = blocks; goes_on = is_some (w.core.flushers f).own; writing = None; marks = (w.core.flushers f).marks; spoils = (w.core.flushers f).spoils; pieces = pieces; waits = (w.core.flushers f).waits; logged = None });
+            batch = Some (record { blocks = blocks; continues_own_block = is_some (w.core.flushers f).own; writing = None; marks = (w.core.flushers f).marks; invalidated = (w.core.flushers f).invalidated; pieces = pieces; waits = (w.core.flushers f).waits; logged = None });
           });
         };
       })
   begun_batch w f blocks pieces sound none split =
       one_turned rules w f (record φ { batch = None })
-      (record φ { buffer = []; marks = []; spoils = []; waits = []; context = last_end φ.context blocks; batch = Some (record { blocks = blocks; goes_on = is_some φ.own; writing = None; marks = φ.marks; spoils = φ.spoils; pieces = pieces; waits = φ.waits; logged = None }) }) w.core.next sound
+      (record φ { buffer = []; marks = []; invalidated = []; waits = []; context = last_end φ.context blocks; batch = Some (record { blocks = blocks; continues_own_block = is_some φ.own; writing = None; marks = φ.marks; invalidated = φ.invalidated; pieces = pieces; waits = φ.waits; logged = None }) }) w.core.next sound
       (λ i. record φ { batch = none i }) (omega arith)
       (λ k n lt line. subst (λ rs. AtLeast k n (puts_onto rs (queue_puts φ.queue))) (sym split.all) line)
       (λ t. record {

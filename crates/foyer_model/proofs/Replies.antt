@@ -5,28 +5,28 @@ use Rattle.std.proofs.lemmas.Bool.Decides.{nat_tests}
 use Rattle.foyer_model.specs.Numbers.{put, last_number}
 use Rattle.foyer_model.specs.Ids.{ids, without_id}
 use Rattle.foyer_model.specs.Record.{Address, Slot, Indexed, Mark, Outcome, NoRecord, NotSupported, Undecodable, Holds, IndexEntry}
-use Rattle.foyer_model.specs.Filling.{Write, Spread}
-use Rattle.foyer_model.specs.State.{Submission, Piece, Remove, Await, Reinsert, Writing, Batch, Flusher, Place, no_stats, Stage, AtIndex, AtRecord, AllListed, ToClean, Reclaim, Destroy, NoDestroy, Begun, Cleaning, State}
+use Rattle.foyer_model.specs.Position.{Write, BlockLayout}
+use Rattle.foyer_model.specs.State.{Submission, Piece, Remove, Await, Reinsert, Writing, Batch, Flusher, BlockSet, no_stats, Stage, AtIndex, AtRecord, AllListed, ToClean, Reclaim, Destroy, NoDestroy, Begun, Cleaning, State}
 use Rattle.foyer_model.specs.Rules.{Rules, flusher_of, Splitting}
-use Rattle.foyer_model.specs.Step.{Came, Bytes, Fault, Age, Fresh, Young, Old, Ticket, Step, Enqueue, Delete, Wait, MayContains, LoadBegin, LoadEnd, Receive, FlushBegin, FlushBlock, FlushWrote, LogWrote, FlushEnd, ReclaimBegin, ReclaimRead, ReclaimForget, ReclaimCleaned, ReclaimIdle, DestroyBegin, DestroyClear, DestroyCleaned, Close}
+use Rattle.foyer_model.specs.Step.{ReadResult, Bytes, Fault, Age, Fresh, Young, Old, Ticket, Step, Enqueue, Delete, Wait, MayContains, LoadBegin, LoadEnd, Receive, FlushBegin, FlushBlock, FlushWrote, LogWrote, FlushEnd, ReclaimBegin, ReclaimRead, ReclaimForget, ReclaimCleaned, ReclaimIdle, DestroyBegin, DestroyClear, DestroyCleaned, Close}
 use Rattle.foyer_model.specs.Reply.{Kind, Io, Parse, Closed, Unsupported, SequenceEnd, Reply, NotNow, Refused, Ignored, Queued, Deleted, Done, Answer, Miss, Throttled, Read, Entry, Empty, Received, Began, Written, NoBlock, Next, Committed, Failed, Ended, Picked, Listed, Cleans, Destroying, Cleared}
 use Rattle.foyer_model.specs.Index.{is_address, holds, without, forgotten, unmarked}
-use Rattle.foyer_model.specs.Placing.{writes_in, PlacesAll}
+use Rattle.foyer_model.specs.Layout.{writes_in, PlacesAll}
 use Rattle.foyer_model.specs.Queue.{size_queued, queued, IsIgnored}
 use Rattle.foyer_model.specs.Load.{Looks, judged, age_at, Judges}
-use Rattle.foyer_model.specs.Receive.{bytes_taken, turned, Fits, Takes}
-use Rattle.foyer_model.specs.Flush.{spoiled_unless, commit_in, clean_block, Tells, Wrote, Logs, Finishes}
-use Rattle.foyer_model.specs.Reclaim.{running, first_pick, are_asked, not_among, addresses, stage_after, told_at, reclaiming, stage_behind, Lists, Scanned, Rereads, Forgets}
-use Rattle.foyer_model.specs.Destroy.{after_clean, told_after_clean, CleansOne}
+use Rattle.foyer_model.specs.Receive.{bytes_taken, turned, Fits, TakesFront}
+use Rattle.foyer_model.specs.Flush.{invalidated_unless, commit_in, clean_block, Describes, Wrote, Logs, Finishes}
+use Rattle.foyer_model.specs.Reclaim.{running, first_pick, are_asked, not_among, addresses, stage_after, issued_at, reclaiming, stage_behind, Lists, Scanned, Rereads, Forgets}
+use Rattle.foyer_model.specs.Destroy.{after_clean, issued_after_clean, CleansOne}
 use Rattle.foyer_model.specs.InTurn.{WantsBlock, IsWriting, IsUnlogged, IsWritten, IsScan, ReadsFor, IsAt, AwaitsClean, InTurn}
-use Rattle.foyer_model.specs.Does.{Does}
+use Rattle.foyer_model.specs.Changes.{Changes}
 use Rattle.foyer_model.specs.Refusal.{MayRefuse}
-use Rattle.foyer_model.specs.Turn.{Follows}
+use Rattle.foyer_model.specs.Follows.{Follows}
 use Rattle.foyer_model.specs.Access.{came}
 use Rattle.foyer_model.specs.Companions.{IsInTurnReply, InTurnReplies}
 use Rattle.foyer_model.proofs.Invariant.{writing_in, goes_on_in}
 use Rattle.foyer_model.proofs.FlushEnds.{failed}
-use Rattle.foyer_model.proofs.FlushBlocks.{told}
+use Rattle.foyer_model.proofs.FlushBlocks.{issued}
 use Rattle.foyer_model.proofs.Served.{IsServed, reached_served}
 
 pub last_of : (xs : List ℕ) → (xs ≡ []) ⊎ ((others : List ℕ) × (x : ℕ) × (xs ≡ others ++ x ∷ []))
@@ -50,13 +50,13 @@ unfolding all_rejected
 rejected_length zero = refl
 rejected_length (suc n) = ap (λ k. suc k) (rejected_length n)
 
-nones_asked : (n blocks : ℕ) (place : ℕ → Place) → are_asked n blocks place (nones n) ≡ true
+nones_asked : (n blocks : ℕ) (place : ℕ → BlockSet) → are_asked n blocks place (nones n) ≡ true
 unfolding nones
 nones_asked zero blocks place = refl
 nones_asked (suc zero) blocks place = refl
 nones_asked (suc (suc n)) blocks place = nones_asked (suc n) blocks place
 
-nones_pick : (n blocks : ℕ) (place : ℕ → Place) → first_pick blocks place (nones n) ≡ None
+nones_pick : (n blocks : ℕ) (place : ℕ → BlockSet) → first_pick blocks place (nones n) ≡ None
 unfolding nones
 nones_pick zero blocks place = refl
 nones_pick (suc n) blocks place = nones_pick n blocks place
@@ -71,10 +71,10 @@ module _ {C : Type 0} (rules : Rules C) (Splits : Splitting C) where
   IsOrdinary (Refused kind step) = ⊥
   IsOrdinary reply = Unit {0}
 
-  answers : (c done : State C) (step : Step C) (reply : Reply C) → IsOrdinary reply → c.steps < last_number → InTurn rules c step → Does rules Splits c step reply done → HasReply c step
+  answers : (c done : State C) (step : Step C) (reply : Reply C) → IsOrdinary reply → c.steps < last_number → InTurn rules c step → Changes rules Splits c step reply done → HasReply c step
   answers c done step reply plain few turn does = (reply, record done { steps = c.steps + 1 }, follows reply plain does, ordinary reply plain)
     where
-      follows : (reply : Reply C) → IsOrdinary reply → Does rules Splits c step reply done → Follows rules Splits c step reply (record done { steps = c.steps + 1 })
+      follows : (reply : Reply C) → IsOrdinary reply → Changes rules Splits c step reply done → Follows rules Splits c step reply (record done { steps = c.steps + 1 })
       follows (NotNow back) plain does = absurd plain
       follows (Refused kind back) plain does = absurd plain
       follows reply plain does = (few, turn, (done, does, refl))
@@ -161,16 +161,16 @@ module _ {C : Type 0} (rules : Rules C) (Splits : Splitting C) where
       at_slot reply done slot is plain looks = answers c done (LoadBegin h throttled) reply plain few tt (subst (λ s. Looks rules c h throttled s reply done) (sym is) looks)
 
       address : (a : Address) (t : Bool) → throttled ≡ t → c.index h ≡ Some (Indexed a) → (p : Bool) → (a.filling == c.filling a.block) ≡ p → HasReply c (LoadBegin h throttled)
-      address a true told is p e = at_slot Throttled c (Some (Indexed a)) is tt (told, refl)
-      address a false told is true e = at_slot (Read (record { hash = h; address = a })) _ (Some (Indexed a)) is tt (told, eqb-true a.filling (c.filling a.block) e, refl, refl)
-      address a false told is false e = at_slot Miss _ (Some (Indexed a)) is tt (told, eqb-false a.filling (c.filling a.block) e, refl)
+      address a true issued is p e = at_slot Throttled c (Some (Indexed a)) is tt (issued, refl)
+      address a false issued is true e = at_slot (Read (record { hash = h; address = a })) _ (Some (Indexed a)) is tt (issued, eqb-true a.filling (c.filling a.block) e, refl, refl)
+      address a false issued is false e = at_slot Miss _ (Some (Indexed a)) is tt (issued, eqb-false a.filling (c.filling a.block) e, refl)
 
       looked : (slot : Option Slot) → c.index h ≡ slot → HasReply c (LoadBegin h throttled)
       looked None is = at_slot Miss c None is tt refl
       looked (Some (Mark s)) is = at_slot Miss c (Some (Mark s)) is tt refl
       looked (Some (Indexed a)) is = address a throttled refl is (a.filling == c.filling a.block) refl
 
-  load_replies : (c : State C) (t : Ticket) (came : Came) → c.steps < last_number → InTurn rules c (LoadEnd t came) → HasReply c (LoadEnd t came)
+  load_replies : (c : State C) (t : Ticket) (came : ReadResult) → c.steps < last_number → InTurn rules c (LoadEnd t came) → HasReply c (LoadEnd t came)
   load_replies c t Fault few turn = refuses c (LoadEnd t Fault) Io (few, turn)
   load_replies c t (Bytes bs) few turn = judge (judged rules c t bs) refl
     where
@@ -185,8 +185,8 @@ module _ {C : Type 0} (rules : Rules C) (Splits : Splitting C) where
   receive_replies : (c : State C) (f : ℕ) → c.steps < last_number → f < rules.flushers → HasReply c (Receive f)
   receive_replies c f few turn = queue (c.flushers f).queue refl
     where
-      at_queue : (reply : Reply C) (done : State C) (queue : List (Submission C)) → (c.flushers f).queue ≡ queue → IsOrdinary reply → Takes rules c f queue reply done → HasReply c (Receive f)
-      at_queue reply done queue is plain takes = answers c done (Receive f) reply plain few turn (subst (λ q. Takes rules c f q reply done) (sym is) takes)
+      at_queue : (reply : Reply C) (done : State C) (queue : List (Submission C)) → (c.flushers f).queue ≡ queue → IsOrdinary reply → TakesFront rules c f queue reply done → HasReply c (Receive f)
+      at_queue reply done queue is plain takes = answers c done (Receive f) reply plain few turn (subst (λ q. TakesFront rules c f q reply done) (sym is) takes)
 
       piece : (h s n : ℕ) (k : C) (rest : List (Submission C)) → (c.flushers f).queue ≡ Piece h s n k ∷ rest → (bytes : Option (List ℕ)) → rules.encode h s k ≡ bytes → HasReply c (Receive f)
       piece h s n k rest is None none = at_queue (Received (Some k)) _ (Piece h s n k ∷ rest) is tt
@@ -207,33 +207,33 @@ module _ {C : Type 0} (rules : Rules C) (Splits : Splitting C) where
       queue : (queue : List (Submission C)) → (c.flushers f).queue ≡ queue → HasReply c (Receive f)
       queue [] is = at_queue Empty c [] is tt refl
       queue (Piece h s n k ∷ rest) is = piece h s n k rest is (rules.encode h s k) refl
-      queue (Remove h s spoils ∷ rest) is = at_queue (Received None) _ (Remove h s spoils ∷ rest) is tt refl
+      queue (Remove h s invalidated ∷ rest) is = at_queue (Received None) _ (Remove h s invalidated ∷ rest) is tt refl
       queue (Await i ∷ rest) is = at_queue (Received None) _ (Await i ∷ rest) is tt refl
       queue (Reinsert h bytes a ∷ rest) is = again h bytes a rest is (holds a (c.index h)) refl
 
-  tell_replies : (c : State C) (f : ℕ) → c.steps < last_number → InTurn rules c (FlushBlock f) → IsServed rules Splits (c.flushers f) → HasReply c (FlushBlock f)
-  tell_replies c f few turn served = batches (c.flushers f).batch refl turn.1
+  issue_replies : (c : State C) (f : ℕ) → c.steps < last_number → InTurn rules c (FlushBlock f) → IsServed rules Splits (c.flushers f) → HasReply c (FlushBlock f)
+  issue_replies c f few turn served = batches (c.flushers f).batch refl turn.1
     where
-      at_batch : (batch : Batch C) → (c.flushers f).batch ≡ Some batch → (reply : Reply C) (done : State C) → IsOrdinary reply → Tells rules c f (Some batch) reply done → HasReply c (FlushBlock f)
-      at_batch batch is reply done plain tells = answers c done (FlushBlock f) reply plain few turn (subst (λ k. Tells rules c f k reply done) (sym is) tells)
+      at_batch : (batch : Batch C) → (c.flushers f).batch ≡ Some batch → (reply : Reply C) (done : State C) → IsOrdinary reply → Describes rules c f (Some batch) reply done → HasReply c (FlushBlock f)
+      at_batch batch is reply done plain issues = answers c done (FlushBlock f) reply plain few turn (subst (λ k. Describes rules c f k reply done) (sym is) issues)
 
-      free : (batch : Batch C) → (c.flushers f).batch ≡ Some batch → (s : Spread C) (rest : List (Spread C)) → batch.blocks ≡ s ∷ rest → batch.goes_on ≡ false → (c.flushers f).ready ≡ None → (b : Option ℕ) → clean_block rules c ≡ b → HasReply c (FlushBlock f)
+      free : (batch : Batch C) → (c.flushers f).batch ≡ Some batch → (s : BlockLayout C) (rest : List (BlockLayout C)) → batch.blocks ≡ s ∷ rest → batch.continues_own_block ≡ false → (c.flushers f).ready ≡ None → (b : Option ℕ) → clean_block rules c ≡ b → HasReply c (FlushBlock f)
       free batch is s rest blocks fresh none None clean = at_batch batch is NoBlock _ tt (fresh, none, clean, refl)
       free batch is s rest blocks fresh none (Some b) clean = at_batch batch is (Written b (writes_in rules s.parts)) _ tt (s, rest, blocks, refl, inr (inr (fresh, none, clean, refl)))
 
-      ready : (batch : Batch C) → (c.flushers f).batch ≡ Some batch → (s : Spread C) (rest : List (Spread C)) → batch.blocks ≡ s ∷ rest → batch.goes_on ≡ false → (r : Option ℕ) → (c.flushers f).ready ≡ r → HasReply c (FlushBlock f)
+      ready : (batch : Batch C) → (c.flushers f).batch ≡ Some batch → (s : BlockLayout C) (rest : List (BlockLayout C)) → batch.blocks ≡ s ∷ rest → batch.continues_own_block ≡ false → (r : Option ℕ) → (c.flushers f).ready ≡ r → HasReply c (FlushBlock f)
       ready batch is s rest blocks fresh None none = free batch is s rest blocks fresh none (clean_block rules c) refl
       ready batch is s rest blocks fresh (Some b) has = at_batch batch is (Written b (writes_in rules s.parts)) _ tt (s, rest, blocks, refl, inr (inl (fresh, has, refl)))
 
-      on : (batch : Batch C) → (c.flushers f).batch ≡ Some batch → (s : Spread C) (rest : List (Spread C)) → batch.blocks ≡ s ∷ rest → (t : Bool) → batch.goes_on ≡ t → HasReply c (FlushBlock f)
-      on batch is s rest blocks true goes_on =
-          let own : (b : ℕ) × ((c.flushers f).own ≡ Some b) = served.owner (ap goes_on_in is ∙ goes_on) in
-          at_batch batch is (Written own.0 (writes_in rules s.parts)) _ tt (s, rest, blocks, refl, inl (goes_on, own.1, refl))
+      on : (batch : Batch C) → (c.flushers f).batch ≡ Some batch → (s : BlockLayout C) (rest : List (BlockLayout C)) → batch.blocks ≡ s ∷ rest → (t : Bool) → batch.continues_own_block ≡ t → HasReply c (FlushBlock f)
+      on batch is s rest blocks true continues_own_block =
+          let own : (b : ℕ) × ((c.flushers f).own ≡ Some b) = served.owner (ap goes_on_in is ∙ continues_own_block) in
+          at_batch batch is (Written own.0 (writes_in rules s.parts)) _ tt (s, rest, blocks, refl, inl (continues_own_block, own.1, refl))
       on batch is s rest blocks false fresh = ready batch is s rest blocks fresh (c.flushers f).ready refl
 
-      spreads : (batch : Batch C) → (c.flushers f).batch ≡ Some batch → batch.blocks ≢ [] → (blocks : List (Spread C)) → batch.blocks ≡ blocks → HasReply c (FlushBlock f)
+      spreads : (batch : Batch C) → (c.flushers f).batch ≡ Some batch → batch.blocks ≢ [] → (blocks : List (BlockLayout C)) → batch.blocks ≡ blocks → HasReply c (FlushBlock f)
       spreads batch is some [] none = absurd (some none)
-      spreads batch is some (s ∷ rest) blocks = on batch is s rest blocks batch.goes_on refl
+      spreads batch is some (s ∷ rest) blocks = on batch is s rest blocks batch.continues_own_block refl
 
       batches : (batch : Option (Batch C)) → (c.flushers f).batch ≡ batch → WantsBlock batch → HasReply c (FlushBlock f)
       batches None is wants = absurd wants
@@ -272,7 +272,7 @@ module _ {C : Type 0} (rules : Rules C) (Splits : Splitting C) where
       batches (Some batch) is written = answers c _ (FlushEnd f) (Ended batch.pieces batch.waits) tt few turn
           (subst (λ k. Finishes rules c f k (Ended batch.pieces batch.waits) (record (turned rules c f (record (c.flushers f) { batch = None })) {
             index = unmarked batch.marks c.index;
-            stats = spoiled_unless batch.logged batch.spoils c.stats;
+            stats = invalidated_unless batch.logged batch.invalidated c.stats;
           })) (sym is) (refl, refl, refl))
 
   pick_replies : (c : State C) → c.steps < last_number → InTurn rules c ReclaimBegin → HasReply c ReclaimBegin
@@ -284,13 +284,13 @@ module _ {C : Type 0} (rules : Rules C) (Splits : Splitting C) where
     refl,
   )
 
-  told_plain : (c : State C) (b : ℕ) (stage : Stage) (vs : List Bool) → IsOrdinary (told_at rules c b stage vs)
-  told_plain c b (AtIndex place) vs = tt
-  told_plain c b (AtRecord h a rest place) vs = tt
-  told_plain c b AllListed vs = tt
-  told_plain c b ToClean vs = tt
+  issued_plain : (c : State C) (b : ℕ) (stage : Stage) (vs : List Bool) → IsOrdinary (issued_at rules c b stage vs)
+  issued_plain c b (AtIndex place) vs = tt
+  issued_plain c b (AtRecord h a rest place) vs = tt
+  issued_plain c b AllListed vs = tt
+  issued_plain c b ToClean vs = tt
 
-  read_replies : (c : State C) (b : ℕ) (came : Came) → c.steps < last_number → InTurn rules c (ReclaimRead b came) → HasReply c (ReclaimRead b came)
+  read_replies : (c : State C) (b : ℕ) (came : ReadResult) → c.steps < last_number → InTurn rules c (ReclaimRead b came) → HasReply c (ReclaimRead b came)
   read_replies c b came few turn = reclaims (c.reclaims b) refl turn.1
     where
       at_reclaim : (r : Reclaim) → c.reclaims b ≡ Some r → (stage : Stage) → r.stage ≡ stage → (reply : Reply C) (done : State C) → IsOrdinary reply → Scanned rules c b r stage came reply done → HasReply c (ReclaimRead b came)
@@ -303,19 +303,19 @@ module _ {C : Type 0} (rules : Rules C) (Splits : Splitting C) where
           (subst (λ k. Lists rules c b r place k (Listed []) (reclaiming rules c b (record r { stage = AllListed }))) (sym none) (refl, refl)))
       index r is place at bs same (Some es) some =
           let vs : List Bool = all_rejected (length es) in
-          at_reclaim r is (AtIndex place) at (told_at rules c b (stage_behind rules c b place es vs) vs) _ (told_plain c b (stage_behind rules c b place es vs) vs)
-          (subst (λ k. Scanned rules c b r (AtIndex place) k (told_at rules c b (stage_behind rules c b place es vs) vs) (reclaiming rules c b (record r { stage = stage_behind rules c b place es vs; listed = addresses b (c.filling b) place es ++ r.listed }))) (sym same)
-          (subst (λ k. Lists rules c b r place k (told_at rules c b (stage_behind rules c b place es vs) vs) (reclaiming rules c b (record r { stage = stage_behind rules c b place es vs; listed = addresses b (c.filling b) place es ++ r.listed }))) (sym some)
+          at_reclaim r is (AtIndex place) at (issued_at rules c b (stage_behind rules c b place es vs) vs) _ (issued_plain c b (stage_behind rules c b place es vs) vs)
+          (subst (λ k. Scanned rules c b r (AtIndex place) k (issued_at rules c b (stage_behind rules c b place es vs) vs) (reclaiming rules c b (record r { stage = stage_behind rules c b place es vs; listed = addresses b (c.filling b) place es ++ r.listed }))) (sym same)
+          (subst (λ k. Lists rules c b r place k (issued_at rules c b (stage_behind rules c b place es vs) vs) (reclaiming rules c b (record r { stage = stage_behind rules c b place es vs; listed = addresses b (c.filling b) place es ++ r.listed }))) (sym some)
           (vs, rejected_length (length es), refl, refl)))
 
-      scan : (r : Reclaim) → c.reclaims b ≡ Some r → (stage : Stage) → r.stage ≡ stage → IsScan rules stage came → (got : Came) → came ≡ got → HasReply c (ReclaimRead b came)
+      scan : (r : Reclaim) → c.reclaims b ≡ Some r → (stage : Stage) → r.stage ≡ stage → IsScan rules stage came → (got : ReadResult) → came ≡ got → HasReply c (ReclaimRead b came)
       scan r is (AtIndex place) at ok Fault same = at_reclaim r is (AtIndex place) at (Listed []) _ tt
           (subst (λ k. Scanned rules c b r (AtIndex place) k (Listed []) (reclaiming rules c b (record r { stage = AllListed }))) (sym same) (refl, refl))
       scan r is (AtIndex place) at ok (Bytes bs) same = index r is place at bs same (rules.entries_of place bs) refl
       scan r is (AtRecord h a rest place) at ok Fault same = at_reclaim r is (AtRecord h a rest place) at (Listed []) _ tt
           (subst (λ k. Scanned rules c b r (AtRecord h a rest place) k (Listed []) (reclaiming rules c b (record r { stage = AllListed }))) (sym same) (refl, refl))
-      scan r is (AtRecord h a rest place) at ok (Bytes bs) same = at_reclaim r is (AtRecord h a rest place) at (told_at rules c b (stage_after rules c rest place) []) _ (told_plain c b (stage_after rules c rest place) [])
-          (subst (λ k. Scanned rules c b r (AtRecord h a rest place) k (told_at rules c b (stage_after rules c rest place) []) (record (queued rules c (flusher_of rules (length r.requeued)) (Reinsert h (take a.len bs) a)) {
+      scan r is (AtRecord h a rest place) at ok (Bytes bs) same = at_reclaim r is (AtRecord h a rest place) at (issued_at rules c b (stage_after rules c rest place) []) _ (issued_plain c b (stage_after rules c rest place) [])
+          (subst (λ k. Scanned rules c b r (AtRecord h a rest place) k (issued_at rules c b (stage_after rules c rest place) []) (record (queued rules c (flusher_of rules (length r.requeued)) (Reinsert h (take a.len bs) a)) {
             reclaims = put c.reclaims b (Some (record r { stage = stage_after rules c rest place; requeued = (h, a) ∷ r.requeued }));
           })) (sym same) (refl, refl))
       scan r is AllListed at ok got same = absurd ok
@@ -342,7 +342,7 @@ module _ {C : Type 0} (rules : Rules C) (Splits : Splitting C) where
     ]
   ]
 
-  clean_plain : (left : List ℕ) (failed : Bool) → IsOrdinary (told_after_clean {C = C} left failed)
+  clean_plain : (left : List ℕ) (failed : Bool) → IsOrdinary (issued_after_clean {C = C} left failed)
   clean_plain [] failed = tt
   clean_plain (b ∷ bs) failed = tt
 
@@ -353,8 +353,8 @@ module _ {C : Type 0} (rules : Rules C) (Splits : Splitting C) where
       destroys NoDestroy is ok = absurd ok
       destroys Begun is ok = absurd ok
       destroys (Cleaning left failed) is ok =
-          answers c _ (DestroyCleaned b well) (told_after_clean (without_id b left) (if well then failed else true)) (clean_plain (without_id b left) (if well then failed else true)) few turn
-          (subst (λ k. CleansOne rules c b well k (told_after_clean (without_id b left) (if well then failed else true)) (record c {
+          answers c _ (DestroyCleaned b well) (issued_after_clean (without_id b left) (if well then failed else true)) (clean_plain (without_id b left) (if well then failed else true)) few turn
+          (subst (λ k. CleansOne rules c b well k (issued_after_clean (without_id b left) (if well then failed else true)) (record c {
             destroy = after_clean (without_id b left) (if well then failed else true);
             stats = put c.stats b no_stats;
           })) (sym is) (refl, refl))
@@ -369,9 +369,9 @@ module _ {C : Type 0} (rules : Rules C) (Splits : Splitting C) where
   replies c few served places (LoadEnd t came) turn = load_replies c t came few turn
   replies c few served places (Receive f) turn = receive_replies c f few turn
   replies c few served places (FlushBegin f) turn =
-      let split : (blocks : List (Spread C)) × Splits (c.flushers f).context (c.flushers f).buffer blocks = places (c.flushers f).context (c.flushers f).buffer (served f).goes_on (served f).fit in
+      let split : (blocks : List (BlockLayout C)) × Splits (c.flushers f).context (c.flushers f).buffer blocks = places (c.flushers f).context (c.flushers f).buffer (served f).continues_own_block (served f).fit in
       answers c _ (FlushBegin f) (Began split.0 (c.flushers f).marks) tt few turn (refl, split.1, refl)
-  replies c few served places (FlushBlock f) turn = tell_replies c f few turn (served f)
+  replies c few served places (FlushBlock f) turn = issue_replies c f few turn (served f)
   replies c few served places (FlushWrote f good) turn = wrote_replies c f good few turn (served f)
   replies c few served places (LogWrote f well) turn = log_replies c f well few turn
   replies c few served places (FlushEnd f) turn = end_replies c f few turn

@@ -2,17 +2,17 @@
 use Rattle.std.proofs.Common.{◌≡◌, ℕ, ◌==◌, nat_le, Bool, true, false, if◌then◌else◌, List, [], ◌∷◌, Option, Some, None, refl, sym, ap, subst, ◌∙◌, arith}
 use Rattle.foyer_model.specs.Numbers.{put}
 use Rattle.foyer_model.specs.Record.{Address, Slot, Indexed, Mark, Outcome, Source, Given, Reread, Record}
-use Rattle.foyer_model.specs.State.{Submission, Piece, Remove, Await, Reinsert, Flusher, Place, Writes, Reclaims, Stage, AtIndex, AtRecord, AllListed, ToClean, Reclaim}
-use Rattle.foyer_model.specs.Rules.{Rules, flusher_of, empty_filling}
+use Rattle.foyer_model.specs.State.{Submission, Piece, Remove, Await, Reinsert, Flusher, BlockSet, Writes, Reclaims, Stage, AtIndex, AtRecord, AllListed, ToClean, Reclaim}
+use Rattle.foyer_model.specs.Rules.{Rules, flusher_of, first_position}
 use Rattle.foyer_model.specs.Step.{Bytes, Fault}
 use Rattle.foyer_model.specs.Index.{is_same, holds, without, forgotten, without_mark, unmarked}
-use Rattle.foyer_model.specs.Placing.{read}
+use Rattle.foyer_model.specs.Layout.{read}
 use Rattle.foyer_model.specs.Commit.{address_of, taken_in, committed_one}
 use Rattle.foyer_model.specs.Event.{Event, Put, newest}
-use Rattle.foyer_model.specs.Access.{Phase, Unread, Reading, HasRead, Scan, at_scan}
+use Rattle.foyer_model.specs.Access.{ReadState, ReadIssued, Reading, ReadDone, Scan, at_scan}
 use Rattle.foyer_model.specs.World.{World}
 use Rattle.foyer_model.proofs.Basics.{put_at, put_one}
-use Rattle.foyer_model.proofs.Invariant.{Ground, ground_of, Each, IsSolid, batch_records, line_of, SlotOk, PhaseOk, IsSound, IsBarred, IsFaithful, SourceWaits, RecordWaits, SubmissionWaits, AllWait}
+use Rattle.foyer_model.proofs.Invariant.{Ground, ground_of, Each, IsSolid, batch_records, line_of, SlotOk, ReadStateHolds, WorldInvariant, IsBarred, IsFaithful, SourceWaits, RecordWaits, SubmissionWaits, AllWait}
 use Rattle.foyer_model.proofs.CommitSteps.{committed}
 use Rattle.foyer_model.proofs.Received.{each_weaker}
 
@@ -23,7 +23,7 @@ AllHere b n ps = Each (λ p. ((p.1).block ≡ b) × ((p.1).filling ≡ n)) ps
 -- a read of a record gives its bytes, as long as the index holds the address
 abbrev pub ScanOk : {C : Type 0} → Rules C → (ℕ → Option Slot) → Ground → ℕ → Address → Option Scan → Type 0
 ScanOk rules m g h a None = Unit {0}
-ScanOk rules m g h a (Some s) = (s.offset ≡ a.offset) × (s.len ≡ rules.page_up a.len) × (m h ≡ Some (Indexed a) → PhaseOk rules g a s.phase)
+ScanOk rules m g h a (Some s) = (s.offset ≡ a.offset) × (s.len ≡ rules.page_up a.len) × (m h ≡ Some (Indexed a) → ReadStateHolds rules g a s.read_state)
 
 abbrev pub StageOk : {C : Type 0} → Rules C → (ℕ → Option Slot) → Ground → ℕ → Stage → Option Scan → Type 0
 StageOk rules m g b (AtIndex place) scan = Unit {0}
@@ -31,26 +31,26 @@ StageOk rules m g b (AtRecord h a rest place) scan = (a.block ≡ b) × (a.filli
 StageOk rules m g b AllListed scan = Unit {0}
 StageOk rules m g b ToClean scan = Unit {0}
 
-abbrev pub ReclaimOk : {C : Type 0} → Rules C → (ℕ → Option Slot) → Ground → (ℕ → Place) → ℕ → Option Reclaim → Option Scan → Type 0
+abbrev pub ReclaimOk : {C : Type 0} → Rules C → (ℕ → Option Slot) → Ground → (ℕ → BlockSet) → ℕ → Option Reclaim → Option Scan → Type 0
 ReclaimOk rules m g place b None scan = Unit {0}
 ReclaimOk rules m g place b (Some r) scan = (place b ≡ Reclaims) × AllHere b (g.filling b) r.listed × StageOk rules m g b r.stage scan
 
-pub record IsAgainIn {C : Type 0} (rules : Rules C) (m : ℕ → Option Slot) (H : List (Event C)) (g : Ground) (place : ℕ → Place)
+pub record IsAgainIn {C : Type 0} (rules : Rules C) (m : ℕ → Option Slot) (H : List (Event C)) (g : Ground) (place : ℕ → BlockSet)
     (flushers : ℕ → Flusher C) (reclaims : ℕ → Option Reclaim) (scans : ℕ → Option Scan) : Type 0 where
   pub waits : (f : ℕ) → AllWait rules m H place g.filling (flushers f)
   pub stages : (b : ℕ) → ReclaimOk rules m g place b (reclaims b) (scans b)
 
 -- fillings and bytes, without how far blocks are filled
 abbrev pub still_of : {C : Type 0} → Rules C → World C → Ground
-still_of rules w = record { filled = λ b. empty_filling rules; filling = w.core.filling; bytes = w.bytes }
+still_of rules w = record { filled = λ b. first_position rules; filling = w.core.filling; bytes = w.bytes }
 
 abbrev pub IsAgain : {C : Type 0} → Rules C → World C → Type 0
 IsAgain rules w = IsAgainIn rules w.core.index w.history (still_of rules w) w.core.place w.core.flushers w.core.reclaims w.scans
 
-abbrev pub Drifts : {C : Type 0} → (ℕ → Place) → (ℕ → ℕ) → (ℕ → Option Slot) → List (Event C) → (ℕ → Option Slot) → List (Event C) → Type 0
+abbrev pub Drifts : {C : Type 0} → (ℕ → BlockSet) → (ℕ → ℕ) → (ℕ → Option Slot) → List (Event C) → (ℕ → Option Slot) → List (Event C) → Type 0
 Drifts {C} place filling m H m' H' = (h : ℕ) (a : Address) (s : ℕ) (x : Outcome C) → a.sequence ≡ s → IsBarred place filling a → IsFaithful m H h a s x → IsFaithful m' H' h a s x
 
-abbrev pub StaysIn : (ℕ → Place) → (ℕ → ℕ) → (ℕ → Option Slot) → (ℕ → Option Slot) → Type 0
+abbrev pub StaysIn : (ℕ → BlockSet) → (ℕ → ℕ) → (ℕ → Option Slot) → (ℕ → Option Slot) → Type 0
 StaysIn place filling m m' = (h : ℕ) (a : Address) → IsBarred place filling a → m' h ≡ Some (Indexed a) → m h ≡ Some (Indexed a)
 
 -- addresses leave the index
@@ -119,7 +119,7 @@ module _ {C : Type 0} (rules : Rules C) where
 
   -- all facts go along
 
-  module _ (m m' : ℕ → Option Slot) (H H' : List (Event C)) (place place' : ℕ → Place) (filling filling' : ℕ → ℕ)
+  module _ (m m' : ℕ → Option Slot) (H H' : List (Event C)) (place place' : ℕ → BlockSet) (filling filling' : ℕ → ℕ)
       (drifts : Drifts place filling m H m' H') (bars : (a : Address) → IsBarred place filling a → IsBarred place' filling' a) where
     src_drifts : (r : Record C) (src : Source C) → SourceWaits rules m H place filling r src → SourceWaits rules m' H' place' filling' r src
     src_drifts r (Given c) ok = tt
@@ -127,7 +127,7 @@ module _ {C : Type 0} (rules : Rules C) where
 
     sub_drifts : (s : Submission C) → SubmissionWaits rules m H place filling s → SubmissionWaits rules m' H' place' filling' s
     sub_drifts (Piece h s n c) ok = tt
-    sub_drifts (Remove h s spoils) ok = tt
+    sub_drifts (Remove h s invalidated) ok = tt
     sub_drifts (Await i) ok = tt
     sub_drifts (Reinsert h bytes a) ok = (bars a ok.0, drifts h a a.sequence (rules.pair_of bytes h a.sequence) refl ok.0 ok.1)
 
@@ -139,16 +139,16 @@ module _ {C : Type 0} (rules : Rules C) where
           queue = each_weaker (SubmissionWaits rules m H place filling) (SubmissionWaits rules m' H' place' filling') φ.queue sub_drifts ok.queue;
         }
 
-  phase_ground : (g g' : Ground) (a : Address) (phase : Phase) → g'.bytes a.block ≡ g.bytes a.block → PhaseOk rules g a phase → PhaseOk rules g' a phase
-  phase_ground g g' a Unread same ok = ok
-  phase_ground g g' a (Reading seen) same ok = ok
-  phase_ground g g' a (HasRead Fault) same ok = ok
-  phase_ground g g' a (HasRead (Bytes bs)) same ok = ok ∙ ap (λ k. read k a.offset a.len) (sym same)
+  read_state_ground : (g g' : Ground) (a : Address) (read_state : ReadState) → g'.bytes a.block ≡ g.bytes a.block → ReadStateHolds rules g a read_state → ReadStateHolds rules g' a read_state
+  read_state_ground g g' a ReadIssued same ok = ok
+  read_state_ground g g' a (Reading seen) same ok = ok
+  read_state_ground g g' a (ReadDone Fault) same ok = ok
+  read_state_ground g g' a (ReadDone (Bytes bs)) same ok = ok ∙ ap (λ k. read k a.offset a.len) (sym same)
 
   scan_drifts : (m m' : ℕ → Option Slot) (g g' : Ground) (h : ℕ) (a : Address) (scan : Option Scan) → (m' h ≡ Some (Indexed a) → m h ≡ Some (Indexed a)) → g'.bytes a.block ≡ g.bytes a.block
       → ScanOk rules m g h a scan → ScanOk rules m' g' h a scan
   scan_drifts m m' g g' h a None back same ok = tt
-  scan_drifts m m' g g' h a (Some s) back same ok = (ok.0, ok.1, λ e. phase_ground g g' a s.phase same (ok.2 (back e)))
+  scan_drifts m m' g g' h a (Some s) back same ok = (ok.0, ok.1, λ e. read_state_ground g g' a s.read_state same (ok.2 (back e)))
 
   here_moves : (b n n' : ℕ) (ps : List (ℕ × Address)) → n' ≡ n → AllHere b n ps → AllHere b n' ps
   here_moves b n n' ps same ok = subst (λ k. AllHere b k ps) (sym same) ok
@@ -167,13 +167,13 @@ module _ {C : Type 0} (rules : Rules C) where
   )
 
   -- a block that is being reclaimed is no flusher's
-  pub barred_here : (place : ℕ → Place) (filling : ℕ → ℕ) (b : ℕ) (a : Address) → place b ≡ Reclaims → a.block ≡ b → a.filling ≡ filling b → IsBarred place filling a
+  pub barred_here : (place : ℕ → BlockSet) (filling : ℕ → ℕ) (b : ℕ) (a : Address) → place b ≡ Reclaims → a.block ≡ b → a.filling ≡ filling b → IsBarred place filling a
   barred_here place filling b a at is fill = (
     let e : a.filling ≡ filling a.block = fill ∙ ap filling (sym is) in omega arith,
     λ _ f mine. let e : Reclaims ≡ Writes f = sym at ∙ ap place (sym is) ∙ mine in cc,
   )
 
-  reclaim_drifts : (m m' : ℕ → Option Slot) (g g' : Ground) (place place' : ℕ → Place) (b : ℕ) (r : Option Reclaim) (scan : Option Scan)
+  reclaim_drifts : (m m' : ℕ → Option Slot) (g g' : Ground) (place place' : ℕ → BlockSet) (b : ℕ) (r : Option Reclaim) (scan : Option Scan)
       → StaysIn place g.filling m m' → ((q : Reclaim) → r ≡ Some q → place b ≡ Reclaims → (place' b ≡ Reclaims) × (g'.filling b ≡ g.filling b)) → g'.bytes b ≡ g.bytes b
       → ReclaimOk rules m g place b r scan → ReclaimOk rules m' g' place' b r scan
   reclaim_drifts m m' g g' place place' b None scan stays keeps same ok = tt
@@ -185,7 +185,7 @@ module _ {C : Type 0} (rules : Rules C) where
       )
 
   -- the index, the history, places and fillings change
-  pub drifted : (m m' : ℕ → Option Slot) (H H' : List (Event C)) (g g' : Ground) (place place' : ℕ → Place) (flushers : ℕ → Flusher C) (reclaims : ℕ → Option Reclaim) (scans : ℕ → Option Scan)
+  pub drifted : (m m' : ℕ → Option Slot) (H H' : List (Event C)) (g g' : Ground) (place place' : ℕ → BlockSet) (flushers : ℕ → Flusher C) (reclaims : ℕ → Option Reclaim) (scans : ℕ → Option Scan)
       → Drifts place g.filling m H m' H' → StaysIn place g.filling m m'
       → ((a : Address) → IsBarred place g.filling a → IsBarred place' g'.filling a)
       → ((b : ℕ) (r : Reclaim) → reclaims b ≡ Some r → place b ≡ Reclaims → (place' b ≡ Reclaims) × (g'.filling b ≡ g.filling b)) → ((b : ℕ) → g'.bytes b ≡ g.bytes b)
@@ -197,7 +197,7 @@ module _ {C : Type 0} (rules : Rules C) where
       }
 
   -- addresses and marks leave the index
-  pub removed : (m m' : ℕ → Option Slot) (H : List (Event C)) (g : Ground) (place : ℕ → Place) (flushers : ℕ → Flusher C) (reclaims : ℕ → Option Reclaim) (scans : ℕ → Option Scan)
+  pub removed : (m m' : ℕ → Option Slot) (H : List (Event C)) (g : Ground) (place : ℕ → BlockSet) (flushers : ℕ → Flusher C) (reclaims : ℕ → Option Reclaim) (scans : ℕ → Option Scan)
       → ((h : ℕ) (a : Address) → m' h ≡ Some (Indexed a) → m h ≡ Some (Indexed a))
       → IsAgainIn rules m H g place flushers reclaims scans → IsAgainIn rules m' H g place flushers reclaims scans
   removed m m' H g place flushers reclaims scans back ok =
@@ -205,14 +205,14 @@ module _ {C : Type 0} (rules : Rules C) where
       (λ a barred. barred) (λ b r _ at. (at, refl)) (λ b. refl) ok
 
   -- one flusher changes
-  pub one_waits : (m : ℕ → Option Slot) (H : List (Event C)) (g : Ground) (place : ℕ → Place) (flushers : ℕ → Flusher C) (reclaims : ℕ → Option Reclaim) (scans : ℕ → Option Scan) (f : ℕ) (ψ : Flusher C)
+  pub one_waits : (m : ℕ → Option Slot) (H : List (Event C)) (g : Ground) (place : ℕ → BlockSet) (flushers : ℕ → Flusher C) (reclaims : ℕ → Option Reclaim) (scans : ℕ → Option Scan) (f : ℕ) (ψ : Flusher C)
       → (AllWait rules m H place g.filling (flushers f) → AllWait rules m H place g.filling ψ)
       → IsAgainIn rules m H g place flushers reclaims scans → IsAgainIn rules m H g place (put flushers f ψ) reclaims scans
   one_waits m H g place flushers reclaims scans f ψ change ok =
       record { waits = put_one (λ q φ. AllWait rules m H place g.filling φ) flushers f ψ (change (ok.waits f)) (λ q _. ok.waits q); stages = ok.stages }
 
   -- one reclaim changes
-  pub one_reclaim : (m : ℕ → Option Slot) (H : List (Event C)) (g : Ground) (place : ℕ → Place) (flushers : ℕ → Flusher C) (reclaims : ℕ → Option Reclaim) (scans scans' : ℕ → Option Scan) (b : ℕ) (r : Option Reclaim)
+  pub one_reclaim : (m : ℕ → Option Slot) (H : List (Event C)) (g : Ground) (place : ℕ → BlockSet) (flushers : ℕ → Flusher C) (reclaims : ℕ → Option Reclaim) (scans scans' : ℕ → Option Scan) (b : ℕ) (r : Option Reclaim)
       → ((c : ℕ) → (c ≡ b → ⊥) → scans' c ≡ scans c) → ReclaimOk rules m g place b r (scans' b)
       → IsAgainIn rules m H g place flushers reclaims scans → IsAgainIn rules m H g place flushers (put reclaims b r) scans'
   one_reclaim m H g place flushers reclaims scans scans' b r others here ok =
@@ -225,30 +225,30 @@ module _ {C : Type 0} (rules : Rules C) where
   -- reads of a reclaim
 
   -- a slot's address in its present filling is solid
-  pub solid_at : (w : World C) (h : ℕ) (a : Address) → IsSound rules w → w.core.index h ≡ Some (Indexed a) → a.filling ≡ w.core.filling a.block
-      → (x : Outcome C) × (newest h w.history ≡ Some (Put h a.sequence x)) × IsSolid rules (ground_of w) w.pens h a x
+  pub solid_at : (w : World C) (h : ℕ) (a : Address) → WorldInvariant rules w → w.core.index h ≡ Some (Indexed a) → a.filling ≡ w.core.filling a.block
+      → (x : Outcome C) × (newest h w.history ≡ Some (Put h a.sequence x)) × IsSolid rules (ground_of w) w.block_writes h a x
   solid_at w h a sound is fill =
-      let ok : SlotOk rules (ground_of w) w.pens w.history h (line_of (w.core.flushers (flusher_of rules h))) (Some (Indexed a)) =
-      subst (λ slot. SlotOk rules (ground_of w) w.pens w.history h (line_of (w.core.flushers (flusher_of rules h))) slot) is (sound.slots h (flusher_of rules h) refl) in
+      let ok : SlotOk rules (ground_of w) w.block_writes w.history h (line_of (w.core.flushers (flusher_of rules h))) (Some (Indexed a)) =
+      subst (λ slot. SlotOk rules (ground_of w) w.block_writes w.history h (line_of (w.core.flushers (flusher_of rules h))) slot) is (sound.slots h (flusher_of rules h) refl) in
       (ok.0, ok.1, (ok.2).solid fill)
 
   -- each record that is read keeps its fact where its address is solid
-  scan_maps : (w : World C) (g : Ground) (b h : ℕ) (a : Address) (f : ℕ → Phase → Phase) (scan : Option Scan) → a.block ≡ b → a.filling ≡ w.core.filling b
-      → IsSound rules w
-      → ((s : Scan) (x : Outcome C) → scan ≡ Some s → s.offset ≡ a.offset → s.len ≡ rules.page_up a.len → IsSolid rules (ground_of w) w.pens h a x → PhaseOk rules (ground_of w) a s.phase → PhaseOk rules g a (f b s.phase))
+  scan_maps : (w : World C) (g : Ground) (b h : ℕ) (a : Address) (f : ℕ → ReadState → ReadState) (scan : Option Scan) → a.block ≡ b → a.filling ≡ w.core.filling b
+      → WorldInvariant rules w
+      → ((s : Scan) (x : Outcome C) → scan ≡ Some s → s.offset ≡ a.offset → s.len ≡ rules.page_up a.len → IsSolid rules (ground_of w) w.block_writes h a x → ReadStateHolds rules (ground_of w) a s.read_state → ReadStateHolds rules g a (f b s.read_state))
       → ScanOk rules w.core.index (still_of rules w) h a scan → ScanOk rules w.core.index g h a (at_scan f b scan)
   scan_maps w g b h a f None is fill sound change ok = tt
   scan_maps w g b h a f (Some s) is fill sound change ok = (
     ok.0,
     ok.1,
-    λ e. let solid : (x : Outcome C) × (newest h w.history ≡ Some (Put h a.sequence x)) × IsSolid rules (ground_of w) w.pens h a x =
+    λ e. let solid : (x : Outcome C) × (newest h w.history ≡ Some (Put h a.sequence x)) × IsSolid rules (ground_of w) w.block_writes h a x =
         solid_at w h a sound e (fill ∙ ap w.core.filling (sym is)) in
         change s solid.0 refl ok.0 ok.1 solid.2 (ok.2 e),
   )
 
-  stage_maps : (w : World C) (bytes : ℕ → ℕ → ℕ) (b : ℕ) (f : ℕ → Phase → Phase) (stage : Stage) (scan : Option Scan) → IsSound rules w
-      → ((h : ℕ) (a : Address) (s : Scan) (x : Outcome C) → a.block ≡ b → scan ≡ Some s → s.offset ≡ a.offset → s.len ≡ rules.page_up a.len → IsSolid rules (ground_of w) w.pens h a x → PhaseOk rules (ground_of w) a s.phase
-      → PhaseOk rules (record (still_of rules w) { bytes = bytes }) a (f b s.phase))
+  stage_maps : (w : World C) (bytes : ℕ → ℕ → ℕ) (b : ℕ) (f : ℕ → ReadState → ReadState) (stage : Stage) (scan : Option Scan) → WorldInvariant rules w
+      → ((h : ℕ) (a : Address) (s : Scan) (x : Outcome C) → a.block ≡ b → scan ≡ Some s → s.offset ≡ a.offset → s.len ≡ rules.page_up a.len → IsSolid rules (ground_of w) w.block_writes h a x → ReadStateHolds rules (ground_of w) a s.read_state
+      → ReadStateHolds rules (record (still_of rules w) { bytes = bytes }) a (f b s.read_state))
       → StageOk rules w.core.index (still_of rules w) b stage scan → StageOk rules w.core.index (record (still_of rules w) { bytes = bytes }) b stage (at_scan f b scan)
   stage_maps w bytes b f (AtIndex place) scan sound change ok = tt
   stage_maps w bytes b f AllListed scan sound change ok = tt
@@ -256,9 +256,9 @@ module _ {C : Type 0} (rules : Rules C) where
   stage_maps w bytes b f (AtRecord h a rest place) scan sound change ok =
       (ok.0, ok.1, ok.2, scan_maps w (record (still_of rules w) { bytes = bytes }) b h a f scan ok.0 ok.1 sound (λ s x. change h a s x ok.0) ok.3)
 
-  pub reclaim_maps : (w : World C) (bytes : ℕ → ℕ → ℕ) (b : ℕ) (f : ℕ → Phase → Phase) (r : Option Reclaim) → IsSound rules w
-      → ((h : ℕ) (a : Address) (s : Scan) (x : Outcome C) → a.block ≡ b → w.scans b ≡ Some s → s.offset ≡ a.offset → s.len ≡ rules.page_up a.len → IsSolid rules (ground_of w) w.pens h a x → PhaseOk rules (ground_of w) a s.phase
-      → PhaseOk rules (record (still_of rules w) { bytes = bytes }) a (f b s.phase))
+  pub reclaim_maps : (w : World C) (bytes : ℕ → ℕ → ℕ) (b : ℕ) (f : ℕ → ReadState → ReadState) (r : Option Reclaim) → WorldInvariant rules w
+      → ((h : ℕ) (a : Address) (s : Scan) (x : Outcome C) → a.block ≡ b → w.scans b ≡ Some s → s.offset ≡ a.offset → s.len ≡ rules.page_up a.len → IsSolid rules (ground_of w) w.block_writes h a x → ReadStateHolds rules (ground_of w) a s.read_state
+      → ReadStateHolds rules (record (still_of rules w) { bytes = bytes }) a (f b s.read_state))
       → ReclaimOk rules w.core.index (still_of rules w) w.core.place b r (w.scans b) → ReclaimOk rules w.core.index (record (still_of rules w) { bytes = bytes }) w.core.place b r (at_scan f b (w.scans b))
   reclaim_maps w bytes b f None sound change ok = tt
   reclaim_maps w bytes b f (Some r) sound change ok = (ok.0, ok.1, stage_maps w bytes b f r.stage (w.scans b) sound change ok.2)

@@ -7,13 +7,13 @@ use Rattle.foyer_model.specs.State.{Remove, no_stats, NoDestroy, Begun, Cleaning
 use Rattle.foyer_model.specs.Step.{Bytes, Young, Delete, LoadBegin, LoadEnd, Receive, FlushBegin, FlushBlock, LogWrote, FlushEnd, ReclaimIdle, DestroyBegin, DestroyClear, DestroyCleaned, Close}
 use Rattle.foyer_model.specs.Reply.{Closed, Refused, Deleted, Done, Answer, Miss, Read, Entry, Received, Began, Written, Ended, Destroying, Cleared, Destroyed}
 use Rattle.foyer_model.specs.Index.{unmarked}
-use Rattle.foyer_model.specs.Placing.{writes_in}
+use Rattle.foyer_model.specs.Layout.{writes_in}
 use Rattle.foyer_model.specs.Queue.{queued}
 use Rattle.foyer_model.specs.Load.{accessed}
 use Rattle.foyer_model.specs.Receive.{pieces_of, turned}
-use Rattle.foyer_model.specs.Flush.{is_some, spoiled_unless, block_told}
+use Rattle.foyer_model.specs.Flush.{is_some, invalidated_unless, block_issued}
 use Rattle.foyer_model.specs.Destroy.{vacated, IsIdle, refilled}
-use Rattle.foyer_model.specs.World.{World, WorldEvent, Applies, ReadBegins, ReadEnds, WipeBegins, WipeEnds, after, MayHappen}
+use Rattle.foyer_model.specs.World.{World, WorldEvent, Applies, ReadBegins, ReadEnds, CleanBegins, CleanEnds, after, MayHappen}
 use Rattle.foyer_model.specs.SmallCore.{small, IsSmall, filled_to, no_spread, SmallSplits}
 use Rattle.foyer_model.proofs.SmallRun.{empty, batch_in, load_at, counted, again_address}
 use Rattle.foyer_model.proofs.RunReclaim.{w82}
@@ -91,7 +91,7 @@ pub may87 : MayHappen small SmallSplits IsSmall w87 e87
 may87 = (tt, (lit< tt, tt, (n87, refl, refl)))
 
 abbrev n88 : State ℕ
-n88 = turned small w88.core 0 (record (w88.core.flushers 0) { queue = []; marks = (w88.core.flushers 0).marks ++ (7, 5) ∷ []; spoils = (w88.core.flushers 0).spoils ++ (0, 3) ∷ [] })
+n88 = turned small w88.core 0 (record (w88.core.flushers 0) { queue = []; marks = (w88.core.flushers 0).marks ++ (7, 5) ∷ []; invalidated = (w88.core.flushers 0).invalidated ++ (0, 3) ∷ [] })
 
 abbrev pub e88 : WorldEvent ℕ
 e88 = Applies (Receive 0) (Received None) (counted w88.core n88)
@@ -106,10 +106,10 @@ abbrev n89 : State ℕ
 n89 = turned small w89.core 0 (record (w89.core.flushers 0) {
   buffer = [];
   marks = [];
-  spoils = [];
+  invalidated = [];
   waits = [];
   context = (no_spread (filled_to 4099)).end;
-  batch = Some (record { blocks = no_spread (filled_to 4099) ∷ []; goes_on = is_some (w89.core.flushers 0).own; writing = None; marks = (w89.core.flushers 0).marks; spoils = (w89.core.flushers 0).spoils; pieces = pieces_of (w89.core.flushers 0).buffer; waits = (w89.core.flushers 0).waits; logged = None });
+  batch = Some (record { blocks = no_spread (filled_to 4099) ∷ []; continues_own_block = is_some (w89.core.flushers 0).own; writing = None; marks = (w89.core.flushers 0).marks; invalidated = (w89.core.flushers 0).invalidated; pieces = pieces_of (w89.core.flushers 0).buffer; waits = (w89.core.flushers 0).waits; logged = None });
 })
 
 abbrev pub e89 : WorldEvent ℕ
@@ -122,7 +122,7 @@ pub may89 : MayHappen small SmallSplits IsSmall w89 e89
 may89 = (tt, (lit< tt, (lit< tt, refl, inr (inl (λ e. cc))), (n89, (refl, inl refl, refl), refl)))
 
 abbrev n90 : State ℕ
-n90 = block_told small w90.core 0 0 (batch_in (w90.core.flushers 0).batch) (no_spread (filled_to 4099)) []
+n90 = block_issued small w90.core 0 0 (batch_in (w90.core.flushers 0).batch) (no_spread (filled_to 4099)) []
 
 abbrev pub e90 : WorldEvent ℕ
 e90 = Applies (FlushBlock 0) (Written 0 (writes_in small (no_spread (filled_to 4099)).parts)) (counted w90.core n90)
@@ -146,7 +146,7 @@ pub may91 : MayHappen small SmallSplits IsSmall w91 e91
 may91 = (tt, (lit< tt, (lit< tt, refl, refl), (n91, refl, refl)))
 
 abbrev n92 : State ℕ
-n92 = record (turned small w92.core 0 (record (w92.core.flushers 0) { batch = None })) { index = unmarked (batch_in (w92.core.flushers 0).batch).marks w92.core.index; stats = spoiled_unless (batch_in (w92.core.flushers 0).batch).logged (batch_in (w92.core.flushers 0).batch).spoils w92.core.stats }
+n92 = record (turned small w92.core 0 (record (w92.core.flushers 0) { batch = None })) { index = unmarked (batch_in (w92.core.flushers 0).batch).marks w92.core.index; stats = invalidated_unless (batch_in (w92.core.flushers 0).batch).logged (batch_in (w92.core.flushers 0).batch).invalidated w92.core.stats }
 
 abbrev pub e92 : WorldEvent ℕ
 e92 = Applies (FlushEnd 0) (Ended [] []) (counted w92.core n92)
@@ -170,7 +170,7 @@ pub may93 : MayHappen small SmallSplits IsSmall w93 e93
 may93 = (tt, (lit< tt, refl, (n93, (refl, refl, lit< tt, refl), refl)))
 
 abbrev n94 : State ℕ
-n94 = turned small w94.core 0 (record (w94.core.flushers 0) { queue = []; marks = (w94.core.flushers 0).marks ++ (0, 6) ∷ []; spoils = (w94.core.flushers 0).spoils ++ [] })
+n94 = turned small w94.core 0 (record (w94.core.flushers 0) { queue = []; marks = (w94.core.flushers 0).marks ++ (0, 6) ∷ []; invalidated = (w94.core.flushers 0).invalidated ++ [] })
 
 abbrev pub e94 : WorldEvent ℕ
 e94 = Applies (Receive 0) (Received None) (counted w94.core n94)
@@ -185,10 +185,10 @@ abbrev n95 : State ℕ
 n95 = turned small w95.core 0 (record (w95.core.flushers 0) {
   buffer = [];
   marks = [];
-  spoils = [];
+  invalidated = [];
   waits = [];
   context = (no_spread (filled_to 4099)).end;
-  batch = Some (record { blocks = no_spread (filled_to 4099) ∷ []; goes_on = is_some (w95.core.flushers 0).own; writing = None; marks = (w95.core.flushers 0).marks; spoils = (w95.core.flushers 0).spoils; pieces = pieces_of (w95.core.flushers 0).buffer; waits = (w95.core.flushers 0).waits; logged = None });
+  batch = Some (record { blocks = no_spread (filled_to 4099) ∷ []; continues_own_block = is_some (w95.core.flushers 0).own; writing = None; marks = (w95.core.flushers 0).marks; invalidated = (w95.core.flushers 0).invalidated; pieces = pieces_of (w95.core.flushers 0).buffer; waits = (w95.core.flushers 0).waits; logged = None });
 })
 
 abbrev pub e95 : WorldEvent ℕ
@@ -201,7 +201,7 @@ pub may95 : MayHappen small SmallSplits IsSmall w95 e95
 may95 = (tt, (lit< tt, (lit< tt, refl, inr (inl (λ e. cc))), (n95, (refl, inl refl, refl), refl)))
 
 abbrev n96 : State ℕ
-n96 = block_told small w96.core 0 0 (batch_in (w96.core.flushers 0).batch) (no_spread (filled_to 4099)) []
+n96 = block_issued small w96.core 0 0 (batch_in (w96.core.flushers 0).batch) (no_spread (filled_to 4099)) []
 
 abbrev pub e96 : WorldEvent ℕ
 e96 = Applies (FlushBlock 0) (Written 0 (writes_in small (no_spread (filled_to 4099)).parts)) (counted w96.core n96)
@@ -225,7 +225,7 @@ pub may97 : MayHappen small SmallSplits IsSmall w97 e97
 may97 = (tt, (lit< tt, (lit< tt, refl, refl), (n97, refl, refl)))
 
 abbrev n98 : State ℕ
-n98 = record (turned small w98.core 0 (record (w98.core.flushers 0) { batch = None })) { index = unmarked (batch_in (w98.core.flushers 0).batch).marks w98.core.index; stats = spoiled_unless (batch_in (w98.core.flushers 0).batch).logged (batch_in (w98.core.flushers 0).batch).spoils w98.core.stats }
+n98 = record (turned small w98.core 0 (record (w98.core.flushers 0) { batch = None })) { index = unmarked (batch_in (w98.core.flushers 0).batch).marks w98.core.index; stats = invalidated_unless (batch_in (w98.core.flushers 0).batch).logged (batch_in (w98.core.flushers 0).batch).invalidated w98.core.stats }
 
 abbrev pub e98 : WorldEvent ℕ
 e98 = Applies (FlushEnd 0) (Ended [] []) (counted w98.core n98)
@@ -259,7 +259,7 @@ pub may99 : MayHappen small SmallSplits IsSmall w99 e99
 may99 = (tt, (lit< tt, (refl, all_idle, none_reclaimed), (n99, (refl, refl), refl)))
 
 abbrev pub e100 : WorldEvent ℕ
-e100 = WipeBegins 0
+e100 = CleanBegins 0
 
 abbrev pub w101 : World ℕ
 w101 = after small w100 e100
@@ -268,7 +268,7 @@ pub may100 : MayHappen small SmallSplits IsSmall w100 e100
 may100 = tt
 
 abbrev pub e101 : WorldEvent ℕ
-e101 = WipeEnds 0 true (w101.bytes 0)
+e101 = CleanEnds 0 true (w101.bytes 0)
 
 abbrev pub w102 : World ℕ
 w102 = after small w101 e101
@@ -289,7 +289,7 @@ pub may102 : MayHappen small SmallSplits IsSmall w102 e102
 may102 = (refl, (lit< tt, (lit< tt, refl), (n102, (refl, refl), refl)))
 
 abbrev pub e103 : WorldEvent ℕ
-e103 = WipeBegins 1
+e103 = CleanBegins 1
 
 abbrev pub w104 : World ℕ
 w104 = after small w103 e103
@@ -298,7 +298,7 @@ pub may103 : MayHappen small SmallSplits IsSmall w103 e103
 may103 = tt
 
 abbrev pub e104 : WorldEvent ℕ
-e104 = WipeEnds 1 false (w104.bytes 1)
+e104 = CleanEnds 1 false (w104.bytes 1)
 
 abbrev pub w105 : World ℕ
 w105 = after small w104 e104

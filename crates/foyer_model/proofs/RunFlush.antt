@@ -3,15 +3,15 @@ use Rattle.std.proofs.Common.{◌≡◌, ℕ, ◌+◌, true, [], ◌∷◌, Some
 use Rattle.foyer_model.specs.Numbers.{put}
 use Rattle.foyer_model.specs.Ids.{without_id}
 use Rattle.foyer_model.specs.Record.{Mark, Given}
-use Rattle.foyer_model.specs.Filling.{Data, Index}
+use Rattle.foyer_model.specs.Position.{Data, Index}
 use Rattle.foyer_model.specs.State.{Piece, Remove, Writes, State}
 use Rattle.foyer_model.specs.Step.{Fresh, Young, Enqueue, Delete, Receive, FlushBegin, FlushBlock, FlushWrote, LogWrote, FlushEnd}
 use Rattle.foyer_model.specs.Reply.{Memory, NotNow, Refused, Ignored, Queued, Deleted, Done, Empty, Received, Began, Written, Next, Committed, Ended}
 use Rattle.foyer_model.specs.Index.{unmarked}
-use Rattle.foyer_model.specs.Placing.{writes_in}
+use Rattle.foyer_model.specs.Layout.{writes_in}
 use Rattle.foyer_model.specs.Queue.{queued}
 use Rattle.foyer_model.specs.Receive.{pieces_of, turned, pushed_to}
-use Rattle.foyer_model.specs.Flush.{is_some, spoiled_unless, released, block_told, write_done, block_done}
+use Rattle.foyer_model.specs.Flush.{is_some, invalidated_unless, released, block_issued, write_done, block_done}
 use Rattle.foyer_model.specs.World.{World, WorldEvent, Applies, WriteBegins, WriteEnds, after, MayHappen}
 use Rattle.foyer_model.specs.SmallCore.{small, IsSmall, three, one_spread, SmallSplits}
 use Rattle.foyer_model.proofs.SmallRun.{batch_in, writing_at, counted, w0}
@@ -86,10 +86,10 @@ abbrev n6 : State ℕ
 n6 = turned small w6.core 0 (record (w6.core.flushers 0) {
   buffer = [];
   marks = [];
-  spoils = [];
+  invalidated = [];
   waits = [];
   context = (one_spread 4096 (three 7 1 7 1 5 (Given 5))).end;
-  batch = Some (record { blocks = one_spread 4096 (three 7 1 7 1 5 (Given 5)) ∷ []; goes_on = is_some (w6.core.flushers 0).own; writing = None; marks = (w6.core.flushers 0).marks; spoils = (w6.core.flushers 0).spoils; pieces = pieces_of (w6.core.flushers 0).buffer; waits = (w6.core.flushers 0).waits; logged = None });
+  batch = Some (record { blocks = one_spread 4096 (three 7 1 7 1 5 (Given 5)) ∷ []; continues_own_block = is_some (w6.core.flushers 0).own; writing = None; marks = (w6.core.flushers 0).marks; invalidated = (w6.core.flushers 0).invalidated; pieces = pieces_of (w6.core.flushers 0).buffer; waits = (w6.core.flushers 0).waits; logged = None });
 })
 
 abbrev pub e6 : WorldEvent ℕ
@@ -102,7 +102,7 @@ pub may6 : MayHappen small SmallSplits IsSmall w6 e6
 may6 = (tt, (lit< tt, (lit< tt, refl, inl (λ e. cc)), (n6, (refl, inr (inl (7, 1, 7, 1, 5, Given 5, refl, refl, refl)), refl), refl)))
 
 abbrev n7 : State ℕ
-n7 = record (block_told small w7.core 0 0 (batch_in (w7.core.flushers 0).batch) (one_spread 4096 (three 7 1 7 1 5 (Given 5))) []) {
+n7 = record (block_issued small w7.core 0 0 (batch_in (w7.core.flushers 0).batch) (one_spread 4096 (three 7 1 7 1 5 (Given 5))) []) {
   filling = put w7.core.filling 0 (w7.core.filling 0 + 1);
   clean = without_id 0 w7.core.clean;
   place = put (released (w7.core.flushers 0).own w7.core.place) 0 (Writes 0);
@@ -190,7 +190,7 @@ pub may14 : MayHappen small SmallSplits IsSmall w14 e14
 may14 = (tt, (lit< tt, (lit< tt, refl, refl), (n14, refl, refl)))
 
 abbrev n15 : State ℕ
-n15 = record (turned small w15.core 0 (record (w15.core.flushers 0) { batch = None })) { index = unmarked (batch_in (w15.core.flushers 0).batch).marks w15.core.index; stats = spoiled_unless (batch_in (w15.core.flushers 0).batch).logged (batch_in (w15.core.flushers 0).batch).spoils w15.core.stats }
+n15 = record (turned small w15.core 0 (record (w15.core.flushers 0) { batch = None })) { index = unmarked (batch_in (w15.core.flushers 0).batch).marks w15.core.index; stats = invalidated_unless (batch_in (w15.core.flushers 0).batch).logged (batch_in (w15.core.flushers 0).batch).invalidated w15.core.stats }
 
 abbrev pub e15 : WorldEvent ℕ
 e15 = Applies (FlushEnd 0) (Ended (5 ∷ []) []) (counted w15.core n15)

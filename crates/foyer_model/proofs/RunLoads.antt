@@ -1,16 +1,16 @@
 -- Loads of the record, and a write that fails.
 use Rattle.std.proofs.Common.{◌≡◌, ℕ, zero, suc, ◌+◌, ◌<◌, true, false, [], ◌∷◌, slice_index, Some, None, inl, inr, refl, arith, lit<}
 use Rattle.foyer_model.specs.Record.{Given}
-use Rattle.foyer_model.specs.Filling.{Data, Index}
+use Rattle.foyer_model.specs.Position.{Data, Index}
 use Rattle.foyer_model.specs.State.{Piece, State}
 use Rattle.foyer_model.specs.Step.{Bytes, Fault, Fresh, Young, Enqueue, MayContains, LoadBegin, LoadEnd, Receive, FlushBegin, FlushBlock, FlushWrote, LogWrote, FlushEnd}
 use Rattle.foyer_model.specs.Reply.{Io, Refused, Queued, Done, Answer, Miss, Throttled, Read, Entry, Received, Began, Written, Failed, Ended}
 use Rattle.foyer_model.specs.Index.{unmarked}
-use Rattle.foyer_model.specs.Placing.{writes_in}
+use Rattle.foyer_model.specs.Layout.{writes_in}
 use Rattle.foyer_model.specs.Queue.{queued}
 use Rattle.foyer_model.specs.Load.{accessed}
 use Rattle.foyer_model.specs.Receive.{pieces_of, turned, pushed_to}
-use Rattle.foyer_model.specs.Flush.{is_some, spoiled_unless, block_told, batch_failed}
+use Rattle.foyer_model.specs.Flush.{is_some, invalidated_unless, block_issued, batch_failed}
 use Rattle.foyer_model.specs.World.{World, WorldEvent, Applies, ReadBegins, ReadEnds, WriteBegins, WriteEnds, after, MayHappen}
 use Rattle.foyer_model.specs.SmallCore.{small, IsSmall, three, one_spread, SmallSplits}
 use Rattle.foyer_model.proofs.SmallRun.{first_address, batch_in, writing_at, load_at, counted}
@@ -191,10 +191,10 @@ abbrev n31 : State ℕ
 n31 = turned small w31.core 0 (record (w31.core.flushers 0) {
   buffer = [];
   marks = [];
-  spoils = [];
+  invalidated = [];
   waits = [];
   context = (one_spread 4099 (three 9 3 9 3 6 (Given 6))).end;
-  batch = Some (record { blocks = one_spread 4099 (three 9 3 9 3 6 (Given 6)) ∷ []; goes_on = is_some (w31.core.flushers 0).own; writing = None; marks = (w31.core.flushers 0).marks; spoils = (w31.core.flushers 0).spoils; pieces = pieces_of (w31.core.flushers 0).buffer; waits = (w31.core.flushers 0).waits; logged = None });
+  batch = Some (record { blocks = one_spread 4099 (three 9 3 9 3 6 (Given 6)) ∷ []; continues_own_block = is_some (w31.core.flushers 0).own; writing = None; marks = (w31.core.flushers 0).marks; invalidated = (w31.core.flushers 0).invalidated; pieces = pieces_of (w31.core.flushers 0).buffer; waits = (w31.core.flushers 0).waits; logged = None });
 })
 
 abbrev pub e31 : WorldEvent ℕ
@@ -207,7 +207,7 @@ pub may31 : MayHappen small SmallSplits IsSmall w31 e31
 may31 = (tt, (lit< tt, (lit< tt, refl, inl (λ e. cc)), (n31, (refl, inr (inr (9, 3, 9, 3, 6, Given 6, refl, refl, refl)), refl), refl)))
 
 abbrev n32 : State ℕ
-n32 = block_told small w32.core 0 0 (batch_in (w32.core.flushers 0).batch) (one_spread 4099 (three 9 3 9 3 6 (Given 6))) []
+n32 = block_issued small w32.core 0 0 (batch_in (w32.core.flushers 0).batch) (one_spread 4099 (three 9 3 9 3 6 (Given 6))) []
 
 abbrev pub e32 : WorldEvent ℕ
 e32 = Applies (FlushBlock 0) (Written 0 (writes_in small (one_spread 4099 (three 9 3 9 3 6 (Given 6))).parts)) (counted w32.core n32)
@@ -261,7 +261,7 @@ pub may36 : MayHappen small SmallSplits IsSmall w36 e36
 may36 = (tt, (lit< tt, (lit< tt, refl, refl), (n36, refl, refl)))
 
 abbrev n37 : State ℕ
-n37 = record (turned small w37.core 0 (record (w37.core.flushers 0) { batch = None })) { index = unmarked (batch_in (w37.core.flushers 0).batch).marks w37.core.index; stats = spoiled_unless (batch_in (w37.core.flushers 0).batch).logged (batch_in (w37.core.flushers 0).batch).spoils w37.core.stats }
+n37 = record (turned small w37.core 0 (record (w37.core.flushers 0) { batch = None })) { index = unmarked (batch_in (w37.core.flushers 0).batch).marks w37.core.index; stats = invalidated_unless (batch_in (w37.core.flushers 0).batch).logged (batch_in (w37.core.flushers 0).batch).invalidated w37.core.stats }
 
 abbrev pub e37 : WorldEvent ℕ
 e37 = Applies (FlushEnd 0) (Ended (6 ∷ []) []) (counted w37.core n37)

@@ -3,17 +3,17 @@ use Rattle.std.proofs.Common.{◌≡◌, ℕ, ◌+◌, true, false, [], ◌∷�
 use Rattle.foyer_model.specs.Numbers.{put}
 use Rattle.foyer_model.specs.Ids.{without_id}
 use Rattle.foyer_model.specs.Record.{Given}
-use Rattle.foyer_model.specs.Filling.{Data, Index}
+use Rattle.foyer_model.specs.Position.{Data, Index}
 use Rattle.foyer_model.specs.State.{Piece, Await, Writes, Reclaims, AtIndex, AllListed, ToClean, State}
 use Rattle.foyer_model.specs.Step.{Fault, Fresh, Young, Enqueue, Wait, LoadBegin, Receive, FlushBegin, FlushBlock, FlushWrote, LogWrote, FlushEnd, ReclaimBegin, ReclaimRead, ReclaimForget, ReclaimCleaned}
 use Rattle.foyer_model.specs.Reply.{SequenceEnd, Refused, Queued, Done, Miss, Received, Began, Written, NoBlock, Failed, Ended, Picked, Listed, Cleans}
 use Rattle.foyer_model.specs.Index.{forgotten, unmarked}
-use Rattle.foyer_model.specs.Placing.{writes_in}
+use Rattle.foyer_model.specs.Layout.{writes_in}
 use Rattle.foyer_model.specs.Queue.{queued}
 use Rattle.foyer_model.specs.Receive.{pieces_of, turned, pushed_to}
-use Rattle.foyer_model.specs.Flush.{is_some, spoiled_unless, released, block_told, waits_for_block, batch_failed}
+use Rattle.foyer_model.specs.Flush.{is_some, invalidated_unless, released, block_issued, waits_for_block, batch_failed}
 use Rattle.foyer_model.specs.Reclaim.{reclaiming, reclaimed}
-use Rattle.foyer_model.specs.World.{World, WorldEvent, Applies, ScanBegins, ScanEnds, WriteBegins, WriteEnds, WipeBegins, WipeEnds, after, MayHappen}
+use Rattle.foyer_model.specs.World.{World, WorldEvent, Applies, ScanBegins, ScanEnds, WriteBegins, WriteEnds, CleanBegins, CleanEnds, after, MayHappen}
 use Rattle.foyer_model.specs.SmallCore.{small, IsSmall, three, one_spread, no_spread, SmallSplits}
 use Rattle.foyer_model.proofs.SmallRun.{empty, batch_in, writing_at, scan_at, counted}
 use Rattle.foyer_model.proofs.RunRecovered.{wr17}
@@ -55,10 +55,10 @@ abbrev nr20 : State ℕ
 nr20 = turned small wr20.core 0 (record (wr20.core.flushers 0) {
   buffer = [];
   marks = [];
-  spoils = [];
+  invalidated = [];
   waits = [];
   context = (one_spread 4096 (three 9 18446744073709551614 9 18446744073709551614 6 (Given 6))).end;
-  batch = Some (record { blocks = one_spread 4096 (three 9 18446744073709551614 9 18446744073709551614 6 (Given 6)) ∷ []; goes_on = is_some (wr20.core.flushers 0).own; writing = None; marks = (wr20.core.flushers 0).marks; spoils = (wr20.core.flushers 0).spoils; pieces = pieces_of (wr20.core.flushers 0).buffer; waits = (wr20.core.flushers 0).waits; logged = None });
+  batch = Some (record { blocks = one_spread 4096 (three 9 18446744073709551614 9 18446744073709551614 6 (Given 6)) ∷ []; continues_own_block = is_some (wr20.core.flushers 0).own; writing = None; marks = (wr20.core.flushers 0).marks; invalidated = (wr20.core.flushers 0).invalidated; pieces = pieces_of (wr20.core.flushers 0).buffer; waits = (wr20.core.flushers 0).waits; logged = None });
 })
 
 abbrev pub er20 : WorldEvent ℕ
@@ -71,7 +71,7 @@ pub mayr20 : MayHappen small SmallSplits IsSmall wr20 er20
 mayr20 = (tt, (lit< tt, (lit< tt, refl, inl (λ e. cc)), (nr20, (refl, inr (inl (9, 18446744073709551614, 9, 18446744073709551614, 6, Given 6, refl, refl, refl)), refl), refl)))
 
 abbrev nr21 : State ℕ
-nr21 = record (block_told small wr21.core 0 1 (batch_in (wr21.core.flushers 0).batch) (one_spread 4096 (three 9 18446744073709551614 9 18446744073709551614 6 (Given 6))) []) {
+nr21 = record (block_issued small wr21.core 0 1 (batch_in (wr21.core.flushers 0).batch) (one_spread 4096 (three 9 18446744073709551614 9 18446744073709551614 6 (Given 6))) []) {
   filling = put wr21.core.filling 1 (wr21.core.filling 1 + 1);
   clean = without_id 1 wr21.core.clean;
   place = put (released (wr21.core.flushers 0).own wr21.core.place) 1 (Writes 0);
@@ -129,7 +129,7 @@ pub mayr25 : MayHappen small SmallSplits IsSmall wr25 er25
 mayr25 = (tt, (lit< tt, (lit< tt, refl, refl), (nr25, refl, refl)))
 
 abbrev nr26 : State ℕ
-nr26 = record (turned small wr26.core 0 (record (wr26.core.flushers 0) { batch = None })) { index = unmarked (batch_in (wr26.core.flushers 0).batch).marks wr26.core.index; stats = spoiled_unless (batch_in (wr26.core.flushers 0).batch).logged (batch_in (wr26.core.flushers 0).batch).spoils wr26.core.stats }
+nr26 = record (turned small wr26.core 0 (record (wr26.core.flushers 0) { batch = None })) { index = unmarked (batch_in (wr26.core.flushers 0).batch).marks wr26.core.index; stats = invalidated_unless (batch_in (wr26.core.flushers 0).batch).logged (batch_in (wr26.core.flushers 0).batch).invalidated wr26.core.stats }
 
 abbrev pub er26 : WorldEvent ℕ
 er26 = Applies (FlushEnd 0) (Ended (6 ∷ []) []) (counted wr26.core nr26)
@@ -168,10 +168,10 @@ abbrev nr29 : State ℕ
 nr29 = turned small wr29.core 0 (record (wr29.core.flushers 0) {
   buffer = [];
   marks = [];
-  spoils = [];
+  invalidated = [];
   waits = [];
   context = (no_spread empty).end;
-  batch = Some (record { blocks = no_spread empty ∷ []; goes_on = is_some (wr29.core.flushers 0).own; writing = None; marks = (wr29.core.flushers 0).marks; spoils = (wr29.core.flushers 0).spoils; pieces = pieces_of (wr29.core.flushers 0).buffer; waits = (wr29.core.flushers 0).waits; logged = None });
+  batch = Some (record { blocks = no_spread empty ∷ []; continues_own_block = is_some (wr29.core.flushers 0).own; writing = None; marks = (wr29.core.flushers 0).marks; invalidated = (wr29.core.flushers 0).invalidated; pieces = pieces_of (wr29.core.flushers 0).buffer; waits = (wr29.core.flushers 0).waits; logged = None });
 })
 
 abbrev pub er29 : WorldEvent ℕ
@@ -250,7 +250,7 @@ pub mayr35 : MayHappen small SmallSplits IsSmall wr35 er35
 mayr35 = (tt, (lit< tt, (lit< tt, refl), (nr35, (refl, refl), refl)))
 
 abbrev pub er36 : WorldEvent ℕ
-er36 = WipeBegins 0
+er36 = CleanBegins 0
 
 abbrev pub wr37 : World ℕ
 wr37 = after small wr36 er36
@@ -259,7 +259,7 @@ pub mayr36 : MayHappen small SmallSplits IsSmall wr36 er36
 mayr36 = tt
 
 abbrev pub er37 : WorldEvent ℕ
-er37 = WipeEnds 0 false (wr37.bytes 0)
+er37 = CleanEnds 0 false (wr37.bytes 0)
 
 abbrev pub wr38 : World ℕ
 wr38 = after small wr37 er37

@@ -2,17 +2,17 @@
 use Rattle.std.proofs.Common.{◌≡◌, ℕ, zero, suc, ◌+◌, ◌<◌, true, [], ◌∷◌, slice_index, Some, None, inl, inr, refl, arith, lit<}
 use Rattle.foyer_model.specs.Numbers.{put}
 use Rattle.foyer_model.specs.Record.{Reread}
-use Rattle.foyer_model.specs.Filling.{Data, Index}
+use Rattle.foyer_model.specs.Position.{Data, Index}
 use Rattle.foyer_model.specs.State.{Reinsert, Writes, Reclaims, AtIndex, AtRecord, AllListed, ToClean, State}
 use Rattle.foyer_model.specs.Step.{Bytes, Receive, FlushBegin, FlushBlock, FlushWrote, LogWrote, FlushEnd, ReclaimBegin, ReclaimRead, ReclaimForget, ReclaimCleaned}
 use Rattle.foyer_model.specs.Reply.{Done, Received, Began, Written, Next, Committed, Ended, Picked, Scans, Listed, Cleans}
 use Rattle.foyer_model.specs.Index.{forgotten, unmarked}
-use Rattle.foyer_model.specs.Placing.{writes_in}
+use Rattle.foyer_model.specs.Layout.{writes_in}
 use Rattle.foyer_model.specs.Queue.{queued}
 use Rattle.foyer_model.specs.Receive.{pieces_of, turned, pushed_to}
-use Rattle.foyer_model.specs.Flush.{is_some, spoiled_unless, block_told, write_done, block_done}
+use Rattle.foyer_model.specs.Flush.{is_some, invalidated_unless, block_issued, write_done, block_done}
 use Rattle.foyer_model.specs.Reclaim.{marked, reclaiming, reclaimed}
-use Rattle.foyer_model.specs.World.{World, WorldEvent, Applies, ScanBegins, ScanEnds, WriteBegins, WriteEnds, WipeBegins, WipeEnds, after, MayHappen}
+use Rattle.foyer_model.specs.World.{World, WorldEvent, Applies, ScanBegins, ScanEnds, WriteBegins, WriteEnds, CleanBegins, CleanEnds, after, MayHappen}
 use Rattle.foyer_model.specs.SmallCore.{small, IsSmall, three, one_spread, no_spread, SmallSplits}
 use Rattle.foyer_model.proofs.SmallRun.{empty, first_address, batch_in, writing_at, scan_at, counted, index_bytes, index_length, index_here}
 use Rattle.foyer_model.proofs.RunWaits.{w57}
@@ -108,7 +108,7 @@ pub may64 : MayHappen small SmallSplits IsSmall w64 e64
 may64 = (tt, (lit< tt, (lit< tt, refl), (n64, (refl, refl), refl)))
 
 abbrev pub e65 : WorldEvent ℕ
-e65 = WipeBegins 0
+e65 = CleanBegins 0
 
 abbrev pub w66 : World ℕ
 w66 = after small w65 e65
@@ -117,7 +117,7 @@ pub may65 : MayHappen small SmallSplits IsSmall w65 e65
 may65 = tt
 
 abbrev pub e66 : WorldEvent ℕ
-e66 = WipeEnds 0 true (w66.bytes 0)
+e66 = CleanEnds 0 true (w66.bytes 0)
 
 abbrev pub w67 : World ℕ
 w67 = after small w66 e66
@@ -138,7 +138,7 @@ pub may67 : MayHappen small SmallSplits IsSmall w67 e67
 may67 = (refl, (lit< tt, (lit< tt, refl), (n67, inl (0, [], refl, lit< tt, refl), refl)))
 
 abbrev n68 : State ℕ
-n68 = block_told small w68.core 0 0 (batch_in (w68.core.flushers 0).batch) (no_spread empty) []
+n68 = block_issued small w68.core 0 0 (batch_in (w68.core.flushers 0).batch) (no_spread empty) []
 
 abbrev pub e68 : WorldEvent ℕ
 e68 = Applies (FlushBlock 0) (Written 0 (writes_in small (no_spread empty).parts)) (counted w68.core n68)
@@ -162,7 +162,7 @@ pub may69 : MayHappen small SmallSplits IsSmall w69 e69
 may69 = (tt, (lit< tt, (lit< tt, refl, refl), (n69, refl, refl)))
 
 abbrev n70 : State ℕ
-n70 = record (turned small w70.core 0 (record (w70.core.flushers 0) { batch = None })) { index = unmarked (batch_in (w70.core.flushers 0).batch).marks w70.core.index; stats = spoiled_unless (batch_in (w70.core.flushers 0).batch).logged (batch_in (w70.core.flushers 0).batch).spoils w70.core.stats }
+n70 = record (turned small w70.core 0 (record (w70.core.flushers 0) { batch = None })) { index = unmarked (batch_in (w70.core.flushers 0).batch).marks w70.core.index; stats = invalidated_unless (batch_in (w70.core.flushers 0).batch).logged (batch_in (w70.core.flushers 0).batch).invalidated w70.core.stats }
 
 abbrev pub e70 : WorldEvent ℕ
 e70 = Applies (FlushEnd 0) (Ended [] (2 ∷ [])) (counted w70.core n70)
@@ -189,10 +189,10 @@ abbrev n72 : State ℕ
 n72 = turned small w72.core 0 (record (w72.core.flushers 0) {
   buffer = [];
   marks = [];
-  spoils = [];
+  invalidated = [];
   waits = [];
   context = (one_spread 4096 (three 7 1 7 1 5 (Reread first_address))).end;
-  batch = Some (record { blocks = one_spread 4096 (three 7 1 7 1 5 (Reread first_address)) ∷ []; goes_on = is_some (w72.core.flushers 0).own; writing = None; marks = (w72.core.flushers 0).marks; spoils = (w72.core.flushers 0).spoils; pieces = pieces_of (w72.core.flushers 0).buffer; waits = (w72.core.flushers 0).waits; logged = None });
+  batch = Some (record { blocks = one_spread 4096 (three 7 1 7 1 5 (Reread first_address)) ∷ []; continues_own_block = is_some (w72.core.flushers 0).own; writing = None; marks = (w72.core.flushers 0).marks; invalidated = (w72.core.flushers 0).invalidated; pieces = pieces_of (w72.core.flushers 0).buffer; waits = (w72.core.flushers 0).waits; logged = None });
 })
 
 abbrev pub e72 : WorldEvent ℕ
@@ -205,7 +205,7 @@ pub may72 : MayHappen small SmallSplits IsSmall w72 e72
 may72 = (tt, (lit< tt, (lit< tt, refl, inl (λ e. cc)), (n72, (refl, inr (inl (7, 1, 7, 1, 5, Reread first_address, refl, refl, refl)), refl), refl)))
 
 abbrev n73 : State ℕ
-n73 = block_told small w73.core 0 0 (batch_in (w73.core.flushers 0).batch) (one_spread 4096 (three 7 1 7 1 5 (Reread first_address))) []
+n73 = block_issued small w73.core 0 0 (batch_in (w73.core.flushers 0).batch) (one_spread 4096 (three 7 1 7 1 5 (Reread first_address))) []
 
 abbrev pub e73 : WorldEvent ℕ
 e73 = Applies (FlushBlock 0) (Written 0 (writes_in small (one_spread 4096 (three 7 1 7 1 5 (Reread first_address))).parts)) (counted w73.core n73)
@@ -289,7 +289,7 @@ pub may80 : MayHappen small SmallSplits IsSmall w80 e80
 may80 = (tt, (lit< tt, (lit< tt, refl, refl), (n80, refl, refl)))
 
 abbrev n81 : State ℕ
-n81 = record (turned small w81.core 0 (record (w81.core.flushers 0) { batch = None })) { index = unmarked (batch_in (w81.core.flushers 0).batch).marks w81.core.index; stats = spoiled_unless (batch_in (w81.core.flushers 0).batch).logged (batch_in (w81.core.flushers 0).batch).spoils w81.core.stats }
+n81 = record (turned small w81.core 0 (record (w81.core.flushers 0) { batch = None })) { index = unmarked (batch_in (w81.core.flushers 0).batch).marks w81.core.index; stats = invalidated_unless (batch_in (w81.core.flushers 0).batch).logged (batch_in (w81.core.flushers 0).batch).invalidated w81.core.stats }
 
 abbrev pub e81 : WorldEvent ℕ
 e81 = Applies (FlushEnd 0) (Ended [] []) (counted w81.core n81)

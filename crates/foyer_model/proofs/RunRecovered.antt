@@ -2,14 +2,14 @@
 use Rattle.std.proofs.Common.{◌≡◌, ℕ, zero, suc, ◌+◌, ◌<◌, ◌≤◌, ◌==◌, Bool, true, false, if◌then◌else◌, List, [], ◌∷◌, slice_index, None, ◌⊎◌, inl, inr, refl, arith, lit<}
 use Rattle.foyer_model.specs.Numbers.{put}
 use Rattle.foyer_model.specs.Record.{Address}
-use Rattle.foyer_model.specs.Filling.{Data}
-use Rattle.foyer_model.specs.State.{Place, Clean, Evictable, no_stats, NoDestroy, State}
+use Rattle.foyer_model.specs.Position.{Data}
+use Rattle.foyer_model.specs.State.{BlockSet, Clean, Evictable, no_stats, NoDestroy, State}
 use Rattle.foyer_model.specs.Step.{Bytes, Young, LoadBegin, LoadEnd}
 use Rattle.foyer_model.specs.Reply.{Parse, Unsupported, Refused, Miss, Read, Entry}
 use Rattle.foyer_model.specs.Index.{without}
-use Rattle.foyer_model.specs.Placing.{all_laid}
+use Rattle.foyer_model.specs.Layout.{all_laid}
 use Rattle.foyer_model.specs.Load.{accessed}
-use Rattle.foyer_model.specs.Access.{Rest, Still}
+use Rattle.foyer_model.specs.Access.{Idle, CleanIdle}
 use Rattle.foyer_model.specs.World.{World, WorldEvent, Applies, ReadBegins, ReadEnds, after, MayHappen}
 use Rattle.foyer_model.specs.Opened.{slot_among, block_among, recovered, IsFound, idle, full_filling, IsOpened}
 use Rattle.foyer_model.specs.SmallCore.{small, IsSmall, SmallSplits}
@@ -26,7 +26,7 @@ found_bytes = all_laid (
 abbrev pub all_found : List (ℕ × Address)
 all_found = (1, found_at 1 4096) ∷ (2, found_at 2 4099) ∷ (3, found_at 3 4102) ∷ (4, found_at 4 4105) ∷ []
 
-abbrev pub found_place : ℕ → Place
+abbrev pub found_place : ℕ → BlockSet
 found_place b = if b == 0 then Evictable else Clean
 
 abbrev pub wr0 : World ℕ
@@ -52,10 +52,10 @@ wr0 = record {
   begun_writes = [];
   committed = [];
   loads = λ _. None;
-  told = 0;
+  issued = 0;
   scans = λ _. None;
-  pens = λ _. Rest;
-  wipes = λ _. Still;
+  block_writes = λ _. Idle;
+  clean_states = λ _. CleanIdle;
 }
 
 is_found : (s o : ℕ) → s < 5 → 4096 ≤ o → o + 3 ≤ 8192 → IsFound small wr0.core (found_at s o)
@@ -103,10 +103,10 @@ opened_recovered = record {
   begun_writes = refl;
   committed = refl;
   loads = λ n. refl;
-  told = refl;
+  issued = refl;
   scans = λ b. refl;
-  pens = λ f. refl;
-  wipes = λ b. refl;
+  block_writes = λ f. refl;
+  clean_states = λ b. refl;
 }
 
 abbrev nr0 : State ℕ

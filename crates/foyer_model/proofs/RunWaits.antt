@@ -3,15 +3,15 @@ use Rattle.std.proofs.Common.{◌≡◌, ℕ, ◌+◌, true, false, [], ◌∷�
 use Rattle.foyer_model.specs.Numbers.{put}
 use Rattle.foyer_model.specs.Ids.{without_id}
 use Rattle.foyer_model.specs.Record.{Given}
-use Rattle.foyer_model.specs.Filling.{Data, Index}
+use Rattle.foyer_model.specs.Position.{Data, Index}
 use Rattle.foyer_model.specs.State.{Piece, Await, Writes, State}
 use Rattle.foyer_model.specs.Step.{Fresh, Young, Enqueue, Wait, Receive, FlushBegin, FlushBlock, FlushWrote, LogWrote, FlushEnd}
 use Rattle.foyer_model.specs.Reply.{Queued, Done, Received, Began, Written, NoBlock, Failed, Ended}
 use Rattle.foyer_model.specs.Index.{unmarked}
-use Rattle.foyer_model.specs.Placing.{writes_in}
+use Rattle.foyer_model.specs.Layout.{writes_in}
 use Rattle.foyer_model.specs.Queue.{queued}
 use Rattle.foyer_model.specs.Receive.{pieces_of, turned, pushed_to}
-use Rattle.foyer_model.specs.Flush.{is_some, spoiled_unless, released, block_told, waits_for_block, batch_failed}
+use Rattle.foyer_model.specs.Flush.{is_some, invalidated_unless, released, block_issued, waits_for_block, batch_failed}
 use Rattle.foyer_model.specs.World.{World, WorldEvent, Applies, WriteBegins, WriteEnds, after, MayHappen}
 use Rattle.foyer_model.specs.SmallCore.{small, IsSmall, three, one_spread, no_spread, SmallSplits}
 use Rattle.foyer_model.proofs.SmallRun.{empty, batch_in, writing_at, counted}
@@ -45,10 +45,10 @@ abbrev n40 : State ℕ
 n40 = turned small w40.core 0 (record (w40.core.flushers 0) {
   buffer = [];
   marks = [];
-  spoils = [];
+  invalidated = [];
   waits = [];
   context = (no_spread empty).end;
-  batch = Some (record { blocks = no_spread empty ∷ []; goes_on = is_some (w40.core.flushers 0).own; writing = None; marks = (w40.core.flushers 0).marks; spoils = (w40.core.flushers 0).spoils; pieces = pieces_of (w40.core.flushers 0).buffer; waits = (w40.core.flushers 0).waits; logged = None });
+  batch = Some (record { blocks = no_spread empty ∷ []; continues_own_block = is_some (w40.core.flushers 0).own; writing = None; marks = (w40.core.flushers 0).marks; invalidated = (w40.core.flushers 0).invalidated; pieces = pieces_of (w40.core.flushers 0).buffer; waits = (w40.core.flushers 0).waits; logged = None });
 })
 
 abbrev pub e40 : WorldEvent ℕ
@@ -61,7 +61,7 @@ pub may40 : MayHappen small SmallSplits IsSmall w40 e40
 may40 = (tt, (lit< tt, (lit< tt, refl, inr (inr (λ e. cc))), (n40, (refl, inl refl, refl), refl)))
 
 abbrev n41 : State ℕ
-n41 = record (block_told small w41.core 0 1 (batch_in (w41.core.flushers 0).batch) (no_spread empty) []) {
+n41 = record (block_issued small w41.core 0 1 (batch_in (w41.core.flushers 0).batch) (no_spread empty) []) {
   filling = put w41.core.filling 1 (w41.core.filling 1 + 1);
   clean = without_id 1 w41.core.clean;
   place = put (released (w41.core.flushers 0).own w41.core.place) 1 (Writes 0);
@@ -89,7 +89,7 @@ pub may42 : MayHappen small SmallSplits IsSmall w42 e42
 may42 = (tt, (lit< tt, (lit< tt, refl, refl), (n42, refl, refl)))
 
 abbrev n43 : State ℕ
-n43 = record (turned small w43.core 0 (record (w43.core.flushers 0) { batch = None })) { index = unmarked (batch_in (w43.core.flushers 0).batch).marks w43.core.index; stats = spoiled_unless (batch_in (w43.core.flushers 0).batch).logged (batch_in (w43.core.flushers 0).batch).spoils w43.core.stats }
+n43 = record (turned small w43.core 0 (record (w43.core.flushers 0) { batch = None })) { index = unmarked (batch_in (w43.core.flushers 0).batch).marks w43.core.index; stats = invalidated_unless (batch_in (w43.core.flushers 0).batch).logged (batch_in (w43.core.flushers 0).batch).invalidated w43.core.stats }
 
 abbrev pub e43 : WorldEvent ℕ
 e43 = Applies (FlushEnd 0) (Ended [] (1 ∷ [])) (counted w43.core n43)
@@ -128,10 +128,10 @@ abbrev n46 : State ℕ
 n46 = turned small w46.core 0 (record (w46.core.flushers 0) {
   buffer = [];
   marks = [];
-  spoils = [];
+  invalidated = [];
   waits = [];
   context = (one_spread 4096 (three 9 4 9 4 6 (Given 6))).end;
-  batch = Some (record { blocks = one_spread 4096 (three 9 4 9 4 6 (Given 6)) ∷ []; goes_on = is_some (w46.core.flushers 0).own; writing = None; marks = (w46.core.flushers 0).marks; spoils = (w46.core.flushers 0).spoils; pieces = pieces_of (w46.core.flushers 0).buffer; waits = (w46.core.flushers 0).waits; logged = None });
+  batch = Some (record { blocks = one_spread 4096 (three 9 4 9 4 6 (Given 6)) ∷ []; continues_own_block = is_some (w46.core.flushers 0).own; writing = None; marks = (w46.core.flushers 0).marks; invalidated = (w46.core.flushers 0).invalidated; pieces = pieces_of (w46.core.flushers 0).buffer; waits = (w46.core.flushers 0).waits; logged = None });
 })
 
 abbrev pub e46 : WorldEvent ℕ
@@ -144,7 +144,7 @@ pub may46 : MayHappen small SmallSplits IsSmall w46 e46
 may46 = (tt, (lit< tt, (lit< tt, refl, inl (λ e. cc)), (n46, (refl, inr (inl (9, 4, 9, 4, 6, Given 6, refl, refl, refl)), refl), refl)))
 
 abbrev n47 : State ℕ
-n47 = block_told small w47.core 0 1 (batch_in (w47.core.flushers 0).batch) (one_spread 4096 (three 9 4 9 4 6 (Given 6))) []
+n47 = block_issued small w47.core 0 1 (batch_in (w47.core.flushers 0).batch) (one_spread 4096 (three 9 4 9 4 6 (Given 6))) []
 
 abbrev pub e47 : WorldEvent ℕ
 e47 = Applies (FlushBlock 0) (Written 1 (writes_in small (one_spread 4096 (three 9 4 9 4 6 (Given 6))).parts)) (counted w47.core n47)
@@ -198,7 +198,7 @@ pub may51 : MayHappen small SmallSplits IsSmall w51 e51
 may51 = (tt, (lit< tt, (lit< tt, refl, refl), (n51, refl, refl)))
 
 abbrev n52 : State ℕ
-n52 = record (turned small w52.core 0 (record (w52.core.flushers 0) { batch = None })) { index = unmarked (batch_in (w52.core.flushers 0).batch).marks w52.core.index; stats = spoiled_unless (batch_in (w52.core.flushers 0).batch).logged (batch_in (w52.core.flushers 0).batch).spoils w52.core.stats }
+n52 = record (turned small w52.core 0 (record (w52.core.flushers 0) { batch = None })) { index = unmarked (batch_in (w52.core.flushers 0).batch).marks w52.core.index; stats = invalidated_unless (batch_in (w52.core.flushers 0).batch).logged (batch_in (w52.core.flushers 0).batch).invalidated w52.core.stats }
 
 abbrev pub e52 : WorldEvent ℕ
 e52 = Applies (FlushEnd 0) (Ended (6 ∷ []) []) (counted w52.core n52)
@@ -237,10 +237,10 @@ abbrev n55 : State ℕ
 n55 = turned small w55.core 0 (record (w55.core.flushers 0) {
   buffer = [];
   marks = [];
-  spoils = [];
+  invalidated = [];
   waits = [];
   context = (no_spread empty).end;
-  batch = Some (record { blocks = no_spread empty ∷ []; goes_on = is_some (w55.core.flushers 0).own; writing = None; marks = (w55.core.flushers 0).marks; spoils = (w55.core.flushers 0).spoils; pieces = pieces_of (w55.core.flushers 0).buffer; waits = (w55.core.flushers 0).waits; logged = None });
+  batch = Some (record { blocks = no_spread empty ∷ []; continues_own_block = is_some (w55.core.flushers 0).own; writing = None; marks = (w55.core.flushers 0).marks; invalidated = (w55.core.flushers 0).invalidated; pieces = pieces_of (w55.core.flushers 0).buffer; waits = (w55.core.flushers 0).waits; logged = None });
 })
 
 abbrev pub e55 : WorldEvent ℕ

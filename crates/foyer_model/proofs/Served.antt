@@ -2,23 +2,23 @@
 use Rattle.std.proofs.Common.{◌≡◌, ◌≢◌, ℕ, Bool, true, false, List, [], ◌∷◌, ◌++◌, length, take, Option, Some, None, inl, inr, refl, sym, ap, subst, ◌∙◌}
 use Rattle.foyer_model.specs.Numbers.{put}
 use Rattle.foyer_model.specs.Record.{Slot, Indexed, Mark, Outcome, NoRecord, Holds, IndexEntry, Record}
-use Rattle.foyer_model.specs.Filling.{Write, records_in}
+use Rattle.foyer_model.specs.Position.{Write, records_in}
 use Rattle.foyer_model.specs.State.{Submission, Piece, Remove, Await, Reinsert, Writing, Batch, Flusher, Stage, AtIndex, AtRecord, AllListed, ToClean, Reclaim, Destroy, NoDestroy, Begun, Cleaning, State}
 use Rattle.foyer_model.specs.Rules.{Rules, flusher_of, Splitting}
-use Rattle.foyer_model.specs.Step.{Came, Bytes, Fault, Age, Ticket, Step, Enqueue, Delete, Wait, MayContains, LoadBegin, LoadEnd, Receive, FlushBegin, FlushBlock, FlushWrote, LogWrote, FlushEnd, ReclaimBegin, ReclaimRead, ReclaimForget, ReclaimCleaned, ReclaimIdle, DestroyBegin, DestroyClear, DestroyCleaned, Close}
+use Rattle.foyer_model.specs.Step.{ReadResult, Bytes, Fault, Age, Ticket, Step, Enqueue, Delete, Wait, MayContains, LoadBegin, LoadEnd, Receive, FlushBegin, FlushBlock, FlushWrote, LogWrote, FlushEnd, ReclaimBegin, ReclaimRead, ReclaimForget, ReclaimCleaned, ReclaimIdle, DestroyBegin, DestroyClear, DestroyCleaned, Close}
 use Rattle.foyer_model.specs.Reply.{Reply, NotNow, Refused, Ignored, Queued, Deleted, Done, Miss, Throttled, Read, Entry, Empty, Received, Began, Written, NoBlock, Next, Committed, Failed, Ended, Picked, Cleans, Destroying, Cleared}
-use Rattle.foyer_model.specs.Placing.{writes_in, FitsBlock, AllFitBlock, IsLeft}
-use Rattle.foyer_model.specs.Queue.{spoiled_by, queued, Enqueues, Deletes, Waits}
+use Rattle.foyer_model.specs.Layout.{writes_in, FitsBlock, AllFitBlock, IsLeft}
+use Rattle.foyer_model.specs.Queue.{invalidated_by, queued, Enqueues, Deletes, Waits}
 use Rattle.foyer_model.specs.Load.{Looks, judged, Judges, Ends}
-use Rattle.foyer_model.specs.Receive.{Takes}
-use Rattle.foyer_model.specs.Flush.{is_some, writing_of, Begins, block_told, Tells, Wrote, Logs, Finishes}
+use Rattle.foyer_model.specs.Receive.{TakesFront}
+use Rattle.foyer_model.specs.Flush.{is_some, writing_of, Begins, block_issued, Describes, Wrote, Logs, Finishes}
 use Rattle.foyer_model.specs.Reclaim.{Picks, Lists, Scanned, Rereads, Forgets, Cleaned}
 use Rattle.foyer_model.specs.Destroy.{BeginsDestroy, Clears, CleansOne}
 use Rattle.foyer_model.specs.InTurn.{MayClear, InTurn}
-use Rattle.foyer_model.specs.Does.{Does}
-use Rattle.foyer_model.specs.Turn.{Follows}
+use Rattle.foyer_model.specs.Changes.{Changes}
+use Rattle.foyer_model.specs.Follows.{Follows}
 use Rattle.foyer_model.specs.Access.{came}
-use Rattle.foyer_model.specs.World.{World, WorldEvent, Applies, ReadBegins, ReadEnds, ScanBegins, ScanEnds, WriteBegins, WriteEnds, WipeBegins, WipeEnds, after, after_all, MayHappen, MayAllHappen}
+use Rattle.foyer_model.specs.World.{World, WorldEvent, Applies, ReadBegins, ReadEnds, ScanBegins, ScanEnds, WriteBegins, WriteEnds, CleanBegins, CleanEnds, after, after_all, MayHappen, MayAllHappen}
 use Rattle.foyer_model.specs.Laws.{IsReached}
 use Rattle.foyer_model.proofs.Basics.{put_one}
 use Rattle.foyer_model.proofs.Invariant.{writing_in, goes_on_in}
@@ -30,7 +30,7 @@ pub record IsServed {C : Type 0} (rules : Rules C) (Splits : Splitting C) (φ : 
   pub owner : goes_on_in φ.batch ≡ true → (b : ℕ) × (φ.own ≡ Some b)
   pub some : (w : Writing C) → writing_in φ.batch ≡ Some w → w.left ≢ []
   pub fit : AllFitBlock rules φ.buffer
-  pub goes_on : IsLeft rules Splits φ.context
+  pub continues_own_block : IsLeft rules Splits φ.context
 
 module _ {C : Type 0} (rules : Rules C) (Splits : Splitting C) where
   fit_more : (rs : List (Record C)) (r : Record C) → FitsBlock rules r.bytes → AllFitBlock rules rs → AllFitBlock rules (rs ++ r ∷ [])
@@ -50,23 +50,23 @@ module _ {C : Type 0} (rules : Rules C) (Splits : Splitting C) where
     owner = λ is. let r : (b : ℕ) × (φ.own ≡ Some b) = ok.owner (sym (ap goes_on_in batch) ∙ is) in (r.0, own ∙ r.1);
     some = λ w is. ok.some w (sym (ap writing_in batch) ∙ is);
     fit = subst (AllFitBlock rules) (sym buffer) ok.fit;
-    goes_on = subst (IsLeft rules Splits) (sym context) ok.goes_on;
+    continues_own_block = subst (IsLeft rules Splits) (sym context) ok.continues_own_block;
   }
 
   queued_served : (c new : State C) (f : ℕ) (sub : Submission C) → new.flushers ≡ (queued rules c f sub).flushers → ((q : ℕ) → IsServed rules Splits (c.flushers q)) → (q : ℕ) → IsServed rules Splits (new.flushers q)
   queued_served c new f sub eq ok = subst (λ fs. (q : ℕ) → IsServed rules Splits (fs q)) (sym eq)
       (one_served c f (record (c.flushers f) { queue = (c.flushers f).queue ++ sub ∷ [] }) (same_served (c.flushers f) _ refl refl refl refl) ok)
 
-  takes_served : (c new : State C) (f : ℕ) (queue : List (Submission C)) (reply : Reply C) → Takes rules c f queue reply new → ((q : ℕ) → IsServed rules Splits (c.flushers q)) → (q : ℕ) → IsServed rules Splits (new.flushers q)
+  takes_served : (c new : State C) (f : ℕ) (queue : List (Submission C)) (reply : Reply C) → TakesFront rules c f queue reply new → ((q : ℕ) → IsServed rules Splits (c.flushers q)) → (q : ℕ) → IsServed rules Splits (new.flushers q)
   takes_served c new f [] Empty ok served = served_as new c ok served
   takes_served c new f (Piece h s n k ∷ rest) (Received None) (bytes, encoded, fits, eq) served =
-      served_as new _ eq (one_served c f _ (λ t. record { owner = t.owner; some = t.some; fit = fit_more (c.flushers f).buffer _ fits.1 t.fit; goes_on = t.goes_on }) served)
+      served_as new _ eq (one_served c f _ (λ t. record { owner = t.owner; some = t.some; fit = fit_more (c.flushers f).buffer _ fits.1 t.fit; continues_own_block = t.continues_own_block }) served)
   takes_served c new f (Piece h s n k ∷ rest) (Received (Some d)) ok served = served_as new _ ok.2 (one_served c f _ (same_served (c.flushers f) _ refl refl refl refl) served)
-  takes_served c new f (Remove h s spoils ∷ rest) (Received None) ok served = served_as new _ ok (one_served c f _ (same_served (c.flushers f) _ refl refl refl refl) served)
+  takes_served c new f (Remove h s invalidated ∷ rest) (Received None) ok served = served_as new _ ok (one_served c f _ (same_served (c.flushers f) _ refl refl refl refl) served)
   takes_served c new f (Await i ∷ rest) (Received None) ok served = served_as new _ ok (one_served c f _ (same_served (c.flushers f) _ refl refl refl refl) served)
   takes_served c new f (Reinsert h bytes a ∷ rest) (Received None) ok served =
       elim ok [
-        | inl (held, fits, eq) ↦ served_as new _ eq (one_served c f _ (λ t. record { owner = t.owner; some = t.some; fit = fit_more (c.flushers f).buffer _ fits.1 t.fit; goes_on = t.goes_on }) served)
+        | inl (held, fits, eq) ↦ served_as new _ eq (one_served c f _ (λ t. record { owner = t.owner; some = t.some; fit = fit_more (c.flushers f).buffer _ fits.1 t.fit; continues_own_block = t.continues_own_block }) served)
         | inr (dropped, eq) ↦ served_as new _ eq (one_served c f _ (same_served (c.flushers f) _ refl refl refl refl) served)
       ]
   takes_served c new f queue reply ok served = absurd ok
@@ -80,7 +80,7 @@ module _ {C : Type 0} (rules : Rules C) (Splits : Splitting C) where
     owner = some_is (c.flushers f).own;
     some = λ w is. absurd (let e : None ≡ Some w = is in cc);
     fit = tt;
-    goes_on = inr ((c.flushers f).context, (c.flushers f).buffer, blocks, ok.1, refl);
+    continues_own_block = inr ((c.flushers f).context, (c.flushers f).buffer, blocks, ok.1, refl);
   }) served)
   begins_served c new f reply ok served = absurd ok
 
@@ -92,47 +92,47 @@ module _ {C : Type 0} (rules : Rules C) (Splits : Splitting C) where
   written_some b [] ps w is = absurd (let e : None ≡ Some w = is in cc)
   written_some b (v ∷ vs) ps w is = λ none. let e : v ∷ vs ≡ [] = ap (left_or (v ∷ vs)) is ∙ none in cc
 
-  tells_served : (c new : State C) (f : ℕ) (batch : Option (Batch C)) (reply : Reply C) → (c.flushers f).batch ≡ batch → Tells rules c f batch reply new → ((q : ℕ) → IsServed rules Splits (c.flushers q)) → (q : ℕ) → IsServed rules Splits (new.flushers q)
-  tells_served c new f (Some batch) NoBlock is ok served = served_as new _ ok.3 (one_served c f _ (λ t. record {
+  issues_served : (c new : State C) (f : ℕ) (batch : Option (Batch C)) (reply : Reply C) → (c.flushers f).batch ≡ batch → Describes rules c f batch reply new → ((q : ℕ) → IsServed rules Splits (c.flushers q)) → (q : ℕ) → IsServed rules Splits (new.flushers q)
+  issues_served c new f (Some batch) NoBlock is ok served = served_as new _ ok.3 (one_served c f _ (λ t. record {
     owner = λ e. absurd (let g : false ≡ true = sym (ap goes_on_in is ∙ ok.0) ∙ e in cc);
     some = t.some;
     fit = t.fit;
-    goes_on = t.goes_on;
+    continues_own_block = t.continues_own_block;
   }) served)
-  tells_served c new f (Some batch) (Written b writes) is (s, rest, blocks, all, which) served =
+  issues_served c new f (Some batch) (Written b writes) is (s, rest, blocks, all, which) served =
       elim which [
-        | inl (goes_on, own, eq) ↦ served_as new _ eq told
-        | inr (inl (fresh, ready, eq)) ↦ served_as new _ eq told
-        | inr (inr (fresh, ready, free, eq)) ↦ served_as new _ eq told
+        | inl (continues_own_block, own, eq) ↦ served_as new _ eq issued
+        | inr (inl (fresh, ready, eq)) ↦ served_as new _ eq issued
+        | inr (inr (fresh, ready, free, eq)) ↦ served_as new _ eq issued
       ]
     where
-      told : (q : ℕ) → IsServed rules Splits ((block_told rules c f b batch s rest).flushers q)
-      told = one_served c f _ (λ t. record {
+      issued : (q : ℕ) → IsServed rules Splits ((block_issued rules c f b batch s rest).flushers q)
+      issued = one_served c f _ (λ t. record {
         owner = λ e. absurd (let g : false ≡ true = e in cc);
         some = λ w. written_some b (writes_in rules s.parts) (records_in s.parts) w;
         fit = t.fit;
-        goes_on = t.goes_on;
+        continues_own_block = t.continues_own_block;
       }) served
-  tells_served c new f batch reply is ok served = absurd ok
+  issues_served c new f batch reply is ok served = absurd ok
 
   wrote_served : (c new : State C) (f : ℕ) (good : Bool) (batch : Option (Batch C)) (reply : Reply C) → (c.flushers f).batch ≡ batch → Wrote rules c f good batch reply new → ((q : ℕ) → IsServed rules Splits (c.flushers q)) → (q : ℕ) → IsServed rules Splits (new.flushers q)
   wrote_served c new f true (Some batch) Next is (r, first, second, rest, writing, left, eq) served = served_as new _ eq (one_served c f _ (λ t. record {
     owner = λ e. t.owner (ap goes_on_in is ∙ e);
     some = λ w same none. let e : second ∷ rest ≡ [] = ap (left_or (second ∷ rest)) same ∙ none in cc;
     fit = t.fit;
-    goes_on = t.goes_on;
+    continues_own_block = t.continues_own_block;
   }) served)
   wrote_served c new f true (Some batch) (Committed n) is (r, last, writing, left, count, eq) served = served_as new _ eq (one_served c f _ (λ t. record {
     owner = λ e. t.owner (ap goes_on_in is ∙ e);
     some = λ w same. absurd (let e : None ≡ Some w = same in cc);
     fit = t.fit;
-    goes_on = t.goes_on;
+    continues_own_block = t.continues_own_block;
   }) served)
   wrote_served c new f good (Some batch) Failed is (r, first, rest, writing, left, grown, eq) served = served_as new _ eq (one_served c f _ (λ t. record {
     owner = λ e. absurd (let g : false ≡ true = e in cc);
     some = λ w same. absurd (let e : None ≡ Some w = same in cc);
     fit = t.fit;
-    goes_on = inl refl;
+    continues_own_block = inl refl;
   }) served)
   wrote_served c new f good batch reply is ok served = absurd ok
 
@@ -141,7 +141,7 @@ module _ {C : Type 0} (rules : Rules C) (Splits : Splitting C) where
     owner = λ e. t.owner (ap goes_on_in is ∙ e);
     some = λ w same. t.some w (ap writing_in is ∙ same);
     fit = t.fit;
-    goes_on = t.goes_on;
+    continues_own_block = t.continues_own_block;
   }) served)
   logs_served c new f well batch reply is ok served = absurd ok
 
@@ -150,11 +150,11 @@ module _ {C : Type 0} (rules : Rules C) (Splits : Splitting C) where
     owner = λ e. absurd (let g : false ≡ true = e in cc);
     some = λ w same. absurd (let e : None ≡ Some w = same in cc);
     fit = t.fit;
-    goes_on = t.goes_on;
+    continues_own_block = t.continues_own_block;
   }) served)
   finishes_served c new f batch reply ok served = absurd ok
 
-  reads_served : (c new : State C) (b : ℕ) (r : Option Reclaim) (came : Came) (reply : Reply C) → Rereads rules c b r came reply new → ((q : ℕ) → IsServed rules Splits (c.flushers q)) → (q : ℕ) → IsServed rules Splits (new.flushers q)
+  reads_served : (c new : State C) (b : ℕ) (r : Option Reclaim) (came : ReadResult) (reply : Reply C) → Rereads rules c b r came reply new → ((q : ℕ) → IsServed rules Splits (c.flushers q)) → (q : ℕ) → IsServed rules Splits (new.flushers q)
   reads_served c new b None came reply ok served = absurd ok
   reads_served c new b (Some r) came reply ok served = scanned r.stage came ok
     where
@@ -162,7 +162,7 @@ module _ {C : Type 0} (rules : Rules C) (Splits : Splitting C) where
       lists place None given = served_as new _ given.1 served
       lists place (Some es) given = served_as new _ given.3 served
 
-      scanned : (stage : Stage) (came : Came) → Scanned rules c b r stage came reply new → (q : ℕ) → IsServed rules Splits (new.flushers q)
+      scanned : (stage : Stage) (came : ReadResult) → Scanned rules c b r stage came reply new → (q : ℕ) → IsServed rules Splits (new.flushers q)
       scanned (AtIndex place) Fault given = served_as new _ given.1 served
       scanned (AtRecord h a rest place) Fault given = served_as new _ given.1 served
       scanned (AtIndex place) (Bytes bs) given = lists place (rules.entries_of place bs) given
@@ -178,7 +178,7 @@ module _ {C : Type 0} (rules : Rules C) (Splits : Splitting C) where
   looks_served c new h throttled (Some (Indexed a)) (Read t) ok served = served_as new _ ok.3 served
   looks_served c new h throttled slot reply ok served = absurd ok
 
-  ends_served : (c new : State C) (t : Ticket) (came : Came) (reply : Reply C) → Ends rules c t came reply new → ((q : ℕ) → IsServed rules Splits (c.flushers q)) → (q : ℕ) → IsServed rules Splits (new.flushers q)
+  ends_served : (c new : State C) (t : Ticket) (came : ReadResult) (reply : Reply C) → Ends rules c t came reply new → ((q : ℕ) → IsServed rules Splits (c.flushers q)) → (q : ℕ) → IsServed rules Splits (new.flushers q)
   ends_served c new t Fault reply ok served = absurd ok
   ends_served c new t (Bytes bs) reply ok served = judges (judged rules c t bs) reply ok
     where
@@ -193,7 +193,7 @@ module _ {C : Type 0} (rules : Rules C) (Splits : Splitting C) where
   enqueues_served c new h n age k reply ok served = absurd ok
 
   deletes_served : (c new : State C) (h : ℕ) (reply : Reply C) → Deletes rules c h reply new → ((q : ℕ) → IsServed rules Splits (c.flushers q)) → (q : ℕ) → IsServed rules Splits (new.flushers q)
-  deletes_served c new h (Deleted s) ok served = queued_served c new (flusher_of rules h) (Remove h s (spoiled_by rules s (c.index h))) (ap (λ k. k.flushers) ok.3) served
+  deletes_served c new h (Deleted s) ok served = queued_served c new (flusher_of rules h) (Remove h s (invalidated_by rules s (c.index h))) (ap (λ k. k.flushers) ok.3) served
   deletes_served c new h reply ok served = absurd ok
 
   waits_served : (c new : State C) (f i : ℕ) (reply : Reply C) → Waits rules c f i reply new → ((q : ℕ) → IsServed rules Splits (c.flushers q)) → (q : ℕ) → IsServed rules Splits (new.flushers q)
@@ -225,7 +225,7 @@ module _ {C : Type 0} (rules : Rules C) (Splits : Splitting C) where
     owner = λ e. absurd (let g : false ≡ true = sym (ap goes_on_in ((may.1 f).4)) ∙ e in cc);
     some = (served f).some;
     fit = (served f).fit;
-    goes_on = inl refl;
+    continues_own_block = inl refl;
   })
   clears_served c new reply may ok served = absurd ok
 
@@ -234,7 +234,7 @@ module _ {C : Type 0} (rules : Rules C) (Splits : Splitting C) where
   cleans_served c new b well NoDestroy reply ok served = absurd ok
   cleans_served c new b well Begun reply ok served = absurd ok
 
-  does_served : (c new : State C) (step : Step C) (reply : Reply C) → InTurn rules c step → Does rules Splits c step reply new → ((q : ℕ) → IsServed rules Splits (c.flushers q)) → (q : ℕ) → IsServed rules Splits (new.flushers q)
+  does_served : (c new : State C) (step : Step C) (reply : Reply C) → InTurn rules c step → Changes rules Splits c step reply new → ((q : ℕ) → IsServed rules Splits (c.flushers q)) → (q : ℕ) → IsServed rules Splits (new.flushers q)
   does_served c new (Enqueue h n age k) reply turn ok served = enqueues_served c new h n age k reply ok served
   does_served c new (Delete h) reply turn ok served = deletes_served c new h reply ok served
   does_served c new (Wait f i) reply turn ok served = waits_served c new f i reply ok served
@@ -243,7 +243,7 @@ module _ {C : Type 0} (rules : Rules C) (Splits : Splitting C) where
   does_served c new (LoadEnd t came) reply turn ok served = ends_served c new t came reply ok served
   does_served c new (Receive f) reply turn ok served = takes_served c new f (c.flushers f).queue reply ok served
   does_served c new (FlushBegin f) reply turn ok served = begins_served c new f reply ok served
-  does_served c new (FlushBlock f) reply turn ok served = tells_served c new f (c.flushers f).batch reply refl ok served
+  does_served c new (FlushBlock f) reply turn ok served = issues_served c new f (c.flushers f).batch reply refl ok served
   does_served c new (FlushWrote f good) reply turn ok served = wrote_served c new f good (c.flushers f).batch reply refl ok served
   does_served c new (LogWrote f well) reply turn ok served = logs_served c new f well (c.flushers f).batch reply refl ok served
   does_served c new (FlushEnd f) reply turn ok served = finishes_served c new f (c.flushers f).batch reply ok served
@@ -270,8 +270,8 @@ module _ {C : Type 0} (rules : Rules C) (Splits : Splitting C) where
   event_served is_value w (ScanEnds b result) ok served = served
   event_served is_value w (WriteBegins f) ok served = served
   event_served is_value w (WriteEnds f good g) ok served = served
-  event_served is_value w (WipeBegins b) ok served = served
-  event_served is_value w (WipeEnds b good g) ok served = served
+  event_served is_value w (CleanBegins b) ok served = served
+  event_served is_value w (CleanEnds b good g) ok served = served
 
   all_served : (is_value : C → Type 0) (w : World C) (events : List (WorldEvent C)) → MayAllHappen rules Splits is_value w events → ((q : ℕ) → IsServed rules Splits (w.core.flushers q)) → (q : ℕ) → IsServed rules Splits ((after_all rules w events).core.flushers q)
   all_served is_value w [] ok served = served
@@ -284,5 +284,5 @@ module _ {C : Type 0} (rules : Rules C) (Splits : Splitting C) where
         owner = λ e. absurd (let g : false ≡ true = e in cc);
         some = λ w is. absurd (let e : None ≡ Some w = is in cc);
         fit = tt;
-        goes_on = inl refl;
+        continues_own_block = inl refl;
       })))

@@ -3,21 +3,21 @@ use Rattle.std.proofs.Common.{◌≡◌, ℕ, ◌+◌, ◌<◌, ◌≤◌, nat_l
 use Rattle.foyer_model.specs.Numbers.{put, last_number, plus}
 use Rattle.foyer_model.specs.Ids.{is_id_in, with_id, AreDistinct}
 use Rattle.foyer_model.specs.Record.{Slot, Indexed, Mark, Outcome, NoRecord, Holds, IndexEntry}
-use Rattle.foyer_model.specs.Filling.{Spread}
-use Rattle.foyer_model.specs.State.{Submission, Piece, Remove, Await, Reinsert, Batch, Flusher, Place, Clean, Writes, Evictable, Reclaims, Stage, AtIndex, AtRecord, ToClean, Reclaim, Destroy, NoDestroy, Begun, Cleaning, State}
+use Rattle.foyer_model.specs.Position.{BlockLayout}
+use Rattle.foyer_model.specs.State.{Submission, Piece, Remove, Await, Reinsert, Batch, Flusher, BlockSet, Clean, Writes, Evictable, Reclaims, Stage, AtIndex, AtRecord, ToClean, Reclaim, Destroy, NoDestroy, Begun, Cleaning, State}
 use Rattle.foyer_model.specs.Rules.{Rules, flusher_of, Splitting}
-use Rattle.foyer_model.specs.Step.{Came, Bytes, Fault, Age, Ticket, Step, Enqueue, Delete, Wait, MayContains, LoadBegin, LoadEnd, Receive, FlushBegin, FlushBlock, FlushWrote, LogWrote, FlushEnd, ReclaimBegin, ReclaimRead, ReclaimForget, ReclaimCleaned, ReclaimIdle, DestroyBegin, DestroyClear, DestroyCleaned, Close}
+use Rattle.foyer_model.specs.Step.{ReadResult, Bytes, Fault, Age, Ticket, Step, Enqueue, Delete, Wait, MayContains, LoadBegin, LoadEnd, Receive, FlushBegin, FlushBlock, FlushWrote, LogWrote, FlushEnd, ReclaimBegin, ReclaimRead, ReclaimForget, ReclaimCleaned, ReclaimIdle, DestroyBegin, DestroyClear, DestroyCleaned, Close}
 use Rattle.foyer_model.specs.Reply.{Reply, NotNow, Refused, Ignored, Queued, Deleted, Done, Miss, Throttled, Read, Entry, Empty, Received, Began, Written, NoBlock, Next, Committed, Failed, Ended, Picked, Cleans, Destroying, Cleared}
 use Rattle.foyer_model.specs.Index.{unmarked}
 use Rattle.foyer_model.specs.Queue.{Enqueues, Deletes, Waits}
 use Rattle.foyer_model.specs.Load.{Looks, judged, Judges, Ends}
-use Rattle.foyer_model.specs.Receive.{Takes}
-use Rattle.foyer_model.specs.Flush.{spoiled_unless, released, first_usable, is_cleaning, commit_in, Begins, block_told, clean_block, Tells, Wrote, Logs, Finishes}
+use Rattle.foyer_model.specs.Receive.{TakesFront}
+use Rattle.foyer_model.specs.Flush.{invalidated_unless, released, first_usable, is_cleaning, commit_in, Begins, block_issued, clean_block, Describes, Wrote, Logs, Finishes}
 use Rattle.foyer_model.specs.Reclaim.{Picks, Lists, Scanned, Rereads, Forgets, Cleaned}
 use Rattle.foyer_model.specs.Destroy.{vacated, BeginsDestroy, Clears, CleansOne}
 use Rattle.foyer_model.specs.InTurn.{IsAt, InTurn}
-use Rattle.foyer_model.specs.Does.{Does}
-use Rattle.foyer_model.specs.Turn.{Follows}
+use Rattle.foyer_model.specs.Changes.{Changes}
+use Rattle.foyer_model.specs.Follows.{Follows}
 use Rattle.foyer_model.specs.Access.{came}
 use Rattle.foyer_model.proofs.Basics.{put_at, put_other, put_one}
 use Rattle.foyer_model.proofs.Ids.{same_in, later_in, in_append, in_front, in_without, distinct_without, distinct_with, in_with, in_not_in, distinct_front}
@@ -26,7 +26,7 @@ use Rattle.foyer_model.proofs.ReclaimSteps.{plus_one}
 
 -- a clean block is in its set, a flusher that waits has no block, each flusher's block is there, and no block was filled
 -- more often than there were steps
-pub record AreSetsIn {C : Type 0} (blocks : ℕ) (bs fs : List ℕ) (place : ℕ → Place) (count : ℕ → ℕ) (flushers : ℕ → Flusher C) (steps : ℕ) : Type 0 where
+pub record AreSetsIn {C : Type 0} (blocks : ℕ) (bs fs : List ℕ) (place : ℕ → BlockSet) (count : ℕ → ℕ) (flushers : ℕ → Flusher C) (steps : ℕ) : Type 0 where
   pub clean : (b : ℕ) → is_id_in b bs ≡ true → (place b ≡ Clean) × (b < blocks)
   pub waiting : (f : ℕ) → is_id_in f fs ≡ true → ((flushers f).own ≡ None) × ((flushers f).ready ≡ None)
   pub distinct : AreDistinct fs
@@ -94,10 +94,10 @@ module _ {C : Type 0} (rules : Rules C) where
   released_clean c f (Some b) owned d is =
       put_at (λ p. p ≡ Clean) c.place b Evictable d (λ at. absurd (let e : Clean ≡ Writes f = sym is ∙ ap c.place at ∙ owned b refl in cc)) (λ _. is)
 
-  -- a flusher is told its block
-  told_sets : (c : State C) (f b : ℕ) (batch : Batch C) (s : Spread C) (rest : List (Spread C)) → b < rules.blocks → AreSets rules c
-      → AreSets rules (record (block_told rules c f b batch s rest) { steps = c.steps + 1 })
-  told_sets c f b batch s rest lt sets = record {
+  -- a flusher is issued its block
+  issued_sets : (c : State C) (f b : ℕ) (batch : Batch C) (s : BlockLayout C) (rest : List (BlockLayout C)) → b < rules.blocks → AreSets rules c
+      → AreSets rules (record (block_issued rules c f b batch s rest) { steps = c.steps + 1 })
+  issued_sets c f b batch s rest lt sets = record {
     clean = sets.clean;
     distinct = distinct_without f c.waiting sets.distinct;
     waiting = λ q is. let r : (is_id_in q c.waiting ≡ true) × (q ≡ f → ⊥) = in_without q f c.waiting is in
@@ -107,9 +107,9 @@ module _ {C : Type 0} (rules : Rules C) where
     filling = λ d. let le : c.filling d ≤ c.steps = sets.filling d in omega arith;
   }
 
-  tells_sets : (c new : State C) (f : ℕ) (batch : Option (Batch C)) (reply : Reply C) → ((b : ℕ) → (c.flushers f).own ≡ Some b → c.place b ≡ Writes f)
-      → Tells rules c f batch reply new → AreSets rules c → AreSets rules (record new { steps = c.steps + 1 })
-  tells_sets c new f (Some batch) NoBlock owned ok sets =
+  issues_sets : (c new : State C) (f : ℕ) (batch : Option (Batch C)) (reply : Reply C) → ((b : ℕ) → (c.flushers f).own ≡ Some b → c.place b ≡ Writes f)
+      → Describes rules c f batch reply new → AreSets rules c → AreSets rules (record new { steps = c.steps + 1 })
+  issues_sets c new f (Some batch) NoBlock owned ok sets =
       subst (λ k. AreSets rules (record k { steps = c.steps + 1 })) (sym ok.3)
       (record {
         clean = λ b is. let r : (c.place b ≡ Clean) × (b < rules.blocks) = sets.clean b is in (released_clean c f (c.flushers f).own owned b r.0, r.1);
@@ -121,25 +121,25 @@ module _ {C : Type 0} (rules : Rules C) where
         ready = put_one (λ q φ. (d : ℕ) → φ.ready ≡ Some d → d < rules.blocks) c.flushers f _ (sets.ready f) (λ q _. sets.ready q);
         filling = λ d. let le : c.filling d ≤ c.steps = sets.filling d in omega arith;
       })
-  tells_sets c new f (Some batch) (Written b writes) owned (s, rest, blocks, all, which) sets =
+  issues_sets c new f (Some batch) (Written b writes) owned (s, rest, blocks, all, which) sets =
       elim which [
-        | inl (goes_on, own, eq) ↦ subst (λ k. AreSets rules (record k { steps = c.steps + 1 })) (sym eq) (told_sets c f b batch s rest (sets.own f b own) sets)
-        | inr (inl (fresh, ready, eq)) ↦ subst (λ k. AreSets rules (record k { steps = c.steps + 1 })) (sym eq) (told_sets c f b batch s rest (sets.ready f b ready) sets)
+        | inl (continues_own_block, own, eq) ↦ subst (λ k. AreSets rules (record k { steps = c.steps + 1 })) (sym eq) (issued_sets c f b batch s rest (sets.own f b own) sets)
+        | inr (inl (fresh, ready, eq)) ↦ subst (λ k. AreSets rules (record k { steps = c.steps + 1 })) (sym eq) (issued_sets c f b batch s rest (sets.ready f b ready) sets)
         | inr (inr (fresh, ready, clean, eq)) ↦ subst (λ k. AreSets rules (record k { steps = c.steps + 1 })) (sym eq)
-            (let told : AreSets rules (record (block_told rules c f b batch s rest) { steps = c.steps + 1 }) = told_sets c f b batch s rest (clean_below c sets b clean) sets in
+            (let issued : AreSets rules (record (block_issued rules c f b batch s rest) { steps = c.steps + 1 }) = issued_sets c f b batch s rest (clean_below c sets b clean) sets in
             record {
               clean = λ d is. let r : (is_id_in d c.clean ≡ true) × (d ≡ b → ⊥) = in_without d b c.clean is in
                   let was : (c.place d ≡ Clean) × (d < rules.blocks) = sets.clean d r.0 in
                   (put_other (released (c.flushers f).own c.place) b (Writes f) d r.1 ∙ released_clean c f (c.flushers f).own owned d was.0, was.1);
-              distinct = told.distinct;
-              waiting = told.waiting;
-              own = told.own;
-              ready = told.ready;
+              distinct = issued.distinct;
+              waiting = issued.waiting;
+              own = issued.own;
+              ready = issued.ready;
               filling = λ d. put_at (λ n. n ≤ c.steps + 1) c.filling b (c.filling b + 1) d
                   (λ _. let le : c.filling b ≤ c.steps = sets.filling b in omega arith) (λ _. let le : c.filling d ≤ c.steps = sets.filling d in omega arith);
             })
       ]
-  tells_sets c new f batch reply owned ok sets = absurd ok
+  issues_sets c new f batch reply owned ok sets = absurd ok
 
   wrote_sets : (c new : State C) (f : ℕ) (good : Bool) (batch : Option (Batch C)) (reply : Reply C) → ((b : ℕ) → (c.flushers f).own ≡ Some b → c.place b ≡ Writes f)
       → Wrote rules c f good batch reply new → AreSets rules c → AreSets rules (record new { steps = c.steps + 1 })
@@ -191,7 +191,7 @@ module _ {C : Type 0} (rules : Rules C) where
       ]
   cleaned_sets c new b reply lt at ok sets = absurd ok
 
-  vacated_clean : (p : Place) → p ≡ Clean → vacated p ≡ Clean
+  vacated_clean : (p : BlockSet) → p ≡ Clean → vacated p ≡ Clean
   vacated_clean p e = ap vacated e
 
   clears_sets : (c new : State C) (reply : Reply C) → c.steps < last_number → Clears rules c reply new → AreSets rules c → AreSets rules (record new { steps = c.steps + 1 })
@@ -243,15 +243,15 @@ module _ {C : Type 0} (rules : Rules C) where
   judges_sets c new t (Holds k) (Entry d age) ok sets = alike c new c ok.2 (counted c sets)
   judges_sets c new t x reply ok sets = absurd ok
 
-  ends_sets : (c new : State C) (t : Ticket) (came : Came) (reply : Reply C) → Ends rules c t came reply new → AreSets rules c → AreSets rules (record new { steps = c.steps + 1 })
+  ends_sets : (c new : State C) (t : Ticket) (came : ReadResult) (reply : Reply C) → Ends rules c t came reply new → AreSets rules c → AreSets rules (record new { steps = c.steps + 1 })
   ends_sets c new t Fault reply ok sets = absurd ok
   ends_sets c new t (Bytes bs) reply ok sets = judges_sets c new t (judged rules c t bs) reply ok sets
 
-  takes_sets : (c new : State C) (f : ℕ) (queue : List (Submission C)) (reply : Reply C) → Takes rules c f queue reply new → AreSets rules c → AreSets rules (record new { steps = c.steps + 1 })
+  takes_sets : (c new : State C) (f : ℕ) (queue : List (Submission C)) (reply : Reply C) → TakesFront rules c f queue reply new → AreSets rules c → AreSets rules (record new { steps = c.steps + 1 })
   takes_sets c new f [] Empty ok sets = alike c new c ok (counted c sets)
   takes_sets c new f (Piece h s n k ∷ rest) (Received None) ok sets = alike c new _ ok.3 (one_turned c f _ refl refl sets)
   takes_sets c new f (Piece h s n k ∷ rest) (Received (Some d)) ok sets = alike c new _ ok.2 (one_turned c f _ refl refl sets)
-  takes_sets c new f (Remove h s spoils ∷ rest) (Received None) ok sets = alike c new _ ok (one_turned c f _ refl refl sets)
+  takes_sets c new f (Remove h s invalidated ∷ rest) (Received None) ok sets = alike c new _ ok (one_turned c f _ refl refl sets)
   takes_sets c new f (Await i ∷ rest) (Received None) ok sets = alike c new _ ok (one_turned c f _ refl refl sets)
   takes_sets c new f (Reinsert h bytes a ∷ rest) (Received None) ok sets =
       elim ok [
@@ -262,14 +262,14 @@ module _ {C : Type 0} (rules : Rules C) where
 
   finishes_sets : (c new : State C) (f : ℕ) (batch : Option (Batch C)) (reply : Reply C) → Finishes rules c f batch reply new → AreSets rules c → AreSets rules (record new { steps = c.steps + 1 })
   finishes_sets c new f (Some batch) (Ended pieces waits) ok sets =
-      alike c new _ ok.2 (one_turned (record c { index = unmarked batch.marks c.index; stats = spoiled_unless batch.logged batch.spoils c.stats }) f _ refl refl sets)
+      alike c new _ ok.2 (one_turned (record c { index = unmarked batch.marks c.index; stats = invalidated_unless batch.logged batch.invalidated c.stats }) f _ refl refl sets)
   finishes_sets c new f batch reply ok sets = absurd ok
 
   logs_sets : (c new : State C) (f : ℕ) (well : Bool) (batch : Option (Batch C)) (reply : Reply C) → Logs rules c f well batch reply new → AreSets rules c → AreSets rules (record new { steps = c.steps + 1 })
   logs_sets c new f well (Some batch) Done ok sets = alike c new _ ok (one_turned c f _ refl refl sets)
   logs_sets c new f well batch reply ok sets = absurd ok
 
-  scanned_sets : (c new : State C) (b : ℕ) (r : Reclaim) (stage : Stage) (came : Came) (reply : Reply C) → Scanned rules c b r stage came reply new → AreSets rules c → AreSets rules (record new { steps = c.steps + 1 })
+  scanned_sets : (c new : State C) (b : ℕ) (r : Reclaim) (stage : Stage) (came : ReadResult) (reply : Reply C) → Scanned rules c b r stage came reply new → AreSets rules c → AreSets rules (record new { steps = c.steps + 1 })
   scanned_sets c new b r (AtIndex place) Fault reply ok sets = alike c new _ ok.1 (counted c sets)
   scanned_sets c new b r (AtRecord h a rest place) Fault reply ok sets = alike c new _ ok.1 (counted c sets)
   scanned_sets c new b r (AtIndex place) (Bytes bs) reply ok sets = lists (rules.entries_of place bs) ok
@@ -280,7 +280,7 @@ module _ {C : Type 0} (rules : Rules C) where
   scanned_sets c new b r (AtRecord h a rest place) (Bytes bs) reply ok sets = alike c new _ ok.1 (one_turned c (flusher_of rules (length r.requeued)) _ refl refl sets)
   scanned_sets c new b r stage came reply ok sets = absurd ok
 
-  reads_sets : (c new : State C) (b : ℕ) (r : Option Reclaim) (came : Came) (reply : Reply C) → Rereads rules c b r came reply new → AreSets rules c → AreSets rules (record new { steps = c.steps + 1 })
+  reads_sets : (c new : State C) (b : ℕ) (r : Option Reclaim) (came : ReadResult) (reply : Reply C) → Rereads rules c b r came reply new → AreSets rules c → AreSets rules (record new { steps = c.steps + 1 })
   reads_sets c new b None came reply ok sets = absurd ok
   reads_sets c new b (Some r) came reply ok sets = scanned_sets c new b r r.stage came reply ok sets
 
@@ -317,7 +317,7 @@ module _ {C : Type 0} (rules : Rules C) where
   -- each step
   pub does_sets : (Splits : Splitting C) (c new : State C) (step : Step C) (reply : Reply C) → ((f b : ℕ) → (c.flushers f).own ≡ Some b → c.place b ≡ Writes f)
       → ((b : ℕ) (r : Reclaim) → c.reclaims b ≡ Some r → c.place b ≡ Reclaims) → c.steps < last_number → InTurn rules c step
-      → Does rules Splits c step reply new → AreSets rules c → AreSets rules (record new { steps = c.steps + 1 })
+      → Changes rules Splits c step reply new → AreSets rules c → AreSets rules (record new { steps = c.steps + 1 })
   does_sets Splits c new (Enqueue h n age k) reply owned held few turn ok sets = enqueues_sets c new h n age k reply ok sets
   does_sets Splits c new (Delete h) reply owned held few turn ok sets = deletes_sets c new h reply ok sets
   does_sets Splits c new (Wait f i) reply owned held few turn ok sets = waits_sets c new f i reply ok sets
@@ -326,7 +326,7 @@ module _ {C : Type 0} (rules : Rules C) where
   does_sets Splits c new (LoadEnd t came) reply owned held few turn ok sets = ends_sets c new t came reply ok sets
   does_sets Splits c new (Receive f) reply owned held few turn ok sets = takes_sets c new f (c.flushers f).queue reply ok sets
   does_sets Splits c new (FlushBegin f) reply owned held few turn ok sets = begins_sets Splits c new f reply ok sets
-  does_sets Splits c new (FlushBlock f) reply owned held few turn ok sets = tells_sets c new f (c.flushers f).batch reply (owned f) ok sets
+  does_sets Splits c new (FlushBlock f) reply owned held few turn ok sets = issues_sets c new f (c.flushers f).batch reply (owned f) ok sets
   does_sets Splits c new (FlushWrote f well) reply owned held few turn ok sets = wrote_sets c new f well (c.flushers f).batch reply (owned f) ok sets
   does_sets Splits c new (LogWrote f well) reply owned held few turn ok sets = logs_sets c new f well (c.flushers f).batch reply ok sets
   does_sets Splits c new (FlushEnd f) reply owned held few turn ok sets = finishes_sets c new f (c.flushers f).batch reply ok sets

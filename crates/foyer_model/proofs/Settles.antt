@@ -4,20 +4,20 @@ use Rattle.std.proofs.lemmas.Bool.{eqb-true}
 use Rattle.foyer_model.specs.Numbers.{put}
 use Rattle.foyer_model.specs.Ids.{is_id_in, without_id, AreDistinct}
 use Rattle.foyer_model.specs.Record.{Address, Slot, Indexed, Mark, Outcome, NoRecord, Holds, IndexEntry, Source, Given, Reread, Record}
-use Rattle.foyer_model.specs.State.{Submission, Piece, Remove, Await, Reinsert, Writing, Batch, Place, Clean, Writes, Evictable, Reclaims, Stage, AtIndex, AtRecord, AllListed, ToClean, Reclaim, Destroy, NoDestroy, Begun, Cleaning, State}
+use Rattle.foyer_model.specs.State.{Submission, Piece, Remove, Await, Reinsert, Writing, Batch, BlockSet, Clean, Writes, Evictable, Reclaims, Stage, AtIndex, AtRecord, AllListed, ToClean, Reclaim, Destroy, NoDestroy, Begun, Cleaning, State}
 use Rattle.foyer_model.specs.Rules.{Rules, Splitting}
-use Rattle.foyer_model.specs.Step.{Came, Bytes, Fault, Age, Ticket, Step, Enqueue, Delete, Wait, MayContains, LoadBegin, LoadEnd, Receive, FlushBegin, FlushBlock, FlushWrote, LogWrote, FlushEnd, ReclaimBegin, ReclaimRead, ReclaimForget, ReclaimCleaned, ReclaimIdle, DestroyBegin, DestroyClear, DestroyCleaned, Close}
+use Rattle.foyer_model.specs.Step.{ReadResult, Bytes, Fault, Age, Ticket, Step, Enqueue, Delete, Wait, MayContains, LoadBegin, LoadEnd, Receive, FlushBegin, FlushBlock, FlushWrote, LogWrote, FlushEnd, ReclaimBegin, ReclaimRead, ReclaimForget, ReclaimCleaned, ReclaimIdle, DestroyBegin, DestroyClear, DestroyCleaned, Close}
 use Rattle.foyer_model.specs.Reply.{Reply, Ignored, Queued, Deleted, Done, Miss, Throttled, Read, Entry, Empty, Received, Began, Written, NoBlock, Next, Committed, Failed, Ended, Cleans, Destroying}
 use Rattle.foyer_model.specs.Index.{holds, sequence_at, inserted, without}
 use Rattle.foyer_model.specs.Commit.{address_of, taken_in, committed_one}
 use Rattle.foyer_model.specs.Queue.{Enqueues, Deletes, Waits}
 use Rattle.foyer_model.specs.Load.{Looks, judged, Judges, Ends}
-use Rattle.foyer_model.specs.Receive.{turned, Takes}
-use Rattle.foyer_model.specs.Flush.{released, Begins, Tells, Wrote, Logs, Finishes}
+use Rattle.foyer_model.specs.Receive.{turned, TakesFront}
+use Rattle.foyer_model.specs.Flush.{released, Begins, Describes, Wrote, Logs, Finishes}
 use Rattle.foyer_model.specs.Reclaim.{not_among, Lists, Scanned, Rereads, Forgets, Cleaned}
 use Rattle.foyer_model.specs.Destroy.{BeginsDestroy, CleansOne}
 use Rattle.foyer_model.specs.InTurn.{IsAt, InTurn}
-use Rattle.foyer_model.specs.Does.{Does}
+use Rattle.foyer_model.specs.Changes.{Changes}
 use Rattle.foyer_model.specs.Access.{came}
 use Rattle.foyer_model.proofs.Basics.{put_at, put_other}
 use Rattle.foyer_model.proofs.Ids.{same_in, later_in, in_cases, in_front, in_last, distinct_without, distinct_append}
@@ -29,7 +29,7 @@ use Rattle.foyer_model.proofs.Sets.{AreSets, clean_is}
 
 -- such a block stays as it is, and indexed addresses name blocks that are there
 -- each clean block is listed, once
-abbrev pub AreListed : {C : Type 0} → Rules C → (ℕ → Place) → List ℕ → Type 0
+abbrev pub AreListed : {C : Type 0} → Rules C → (ℕ → BlockSet) → List ℕ → Type 0
 AreListed rules place bs = ((b : ℕ) → b < rules.blocks → place b ≡ Clean → is_id_in b bs ≡ true) × AreDistinct bs
 
 pub record Settles {C : Type 0} (rules : Rules C) (c new : State C) : Type 0 where
@@ -49,7 +49,7 @@ module _ {C : Type 0} (rules : Rules C) where
   unindexed : (c : State C) (h : ℕ) (slot : Option Slot) → ((a : Address) → slot ≡ Some (Indexed a) → c.index h ≡ Some (Indexed a)) → Settles rules c (record c { index = put c.index h slot })
   unindexed c h slot back = record { stays = λ b p q. (refl, (p, q)); listed = λ l. l; below = λ ok k a is. ok k a (put_stays c.index h slot a (back a) k is) }
 
-  left : (own : Option ℕ) (place : ℕ → Place) (b : ℕ) → (place b ≡ Clean → ⊥) → (place b ≡ Reclaims → ⊥) → (released own place b ≡ Clean → ⊥) × (released own place b ≡ Reclaims → ⊥)
+  left : (own : Option ℕ) (place : ℕ → BlockSet) (b : ℕ) → (place b ≡ Clean → ⊥) → (place b ≡ Reclaims → ⊥) → (released own place b ≡ Clean → ⊥) × (released own place b ≡ Reclaims → ⊥)
   left None place b p q = (p, q)
   left (Some c) place b p q = put_at (λ k. (k ≡ Clean → ⊥) × (k ≡ Reclaims → ⊥)) place c Evictable b (λ _. (λ e. cc, λ e. cc)) (λ _. (p, q))
 
@@ -77,11 +77,11 @@ module _ {C : Type 0} (rules : Rules C) where
           (λ _ is. taken (p.1).source (m (p.1).hash) a (λ d. ok (p.1).hash d) is) (λ _ is. ok h a is)
 
   -- a block that was released is not clean, and was no other before
-  released_was : (own : Option ℕ) (place : ℕ → Place) (d : ℕ) → released own place d ≡ Clean → place d ≡ Clean
+  released_was : (own : Option ℕ) (place : ℕ → BlockSet) (d : ℕ) → released own place d ≡ Clean → place d ≡ Clean
   released_was None place d is = is
   released_was (Some b) place d is = put_at (λ k. k ≡ Clean → place d ≡ Clean) place b Evictable d (λ _ e. absurd (let z : Evictable ≡ Clean = e in cc)) (λ _ e. e) is
 
-  released_listed : (own : Option ℕ) (place : ℕ → Place) (bs : List ℕ) → AreListed rules place bs → AreListed rules (released own place) bs
+  released_listed : (own : Option ℕ) (place : ℕ → BlockSet) (bs : List ℕ) → AreListed rules place bs → AreListed rules (released own place) bs
   released_listed own place bs l = ((λ d lt is. l.0 d lt (released_was own place d is)), l.1)
 
   still_in : (d x : ℕ) (ys : List ℕ) → (d ≡ x → ⊥) → is_id_in d ys ≡ true → is_id_in d (without_id x ys) ≡ true
@@ -95,7 +95,7 @@ module _ {C : Type 0} (rules : Rules C) where
         | inr there ↦ later_in d y (without_id x ys) (rec there)
       ]
 
-  handed_listed : (own : Option ℕ) (place : ℕ → Place) (bs : List ℕ) (b f : ℕ) → AreListed rules place bs → AreListed rules (put (released own place) b (Writes f)) (without_id b bs)
+  handed_listed : (own : Option ℕ) (place : ℕ → BlockSet) (bs : List ℕ) (b f : ℕ) → AreListed rules place bs → AreListed rules (put (released own place) b (Writes f)) (without_id b bs)
   handed_listed own place bs b f l = (
     (λ d lt. put_at (λ k. k ≡ Clean → is_id_in d (without_id b bs) ≡ true) (released own place) b (Writes f) d
         (λ _ e. absurd (let z : Writes f ≡ Clean = e in cc)) (λ ne e. still_in d b bs ne (l.0 d lt (released_was own place d e)))),
@@ -110,12 +110,12 @@ module _ {C : Type 0} (rules : Rules C) where
       go true is = absurd (let e : Clean ≡ Reclaims = sym (sets.clean b is).0 ∙ at in cc)
       go false is = refl
 
-  tells : (c new : State C) (f : ℕ) (batch : Option (Batch C)) (reply : Reply C) → AreSets rules c → Tells rules c f batch reply new → Settles rules c new
-  tells c new f (Some batch) NoBlock sets ok =
+  issues : (c new : State C) (f : ℕ) (batch : Option (Batch C)) (reply : Reply C) → AreSets rules c → Describes rules c f batch reply new → Settles rules c new
+  issues c new f (Some batch) NoBlock sets ok =
       settled c new _ ok.3 (record { stays = λ b p q. (refl, left (c.flushers f).own c.place b p q); listed = λ l. released_listed (c.flushers f).own c.place c.clean l; below = λ ok. ok })
-  tells c new f (Some batch) (Written b writes) sets (s, rest, blocks, all, which) =
+  issues c new f (Some batch) (Written b writes) sets (s, rest, blocks, all, which) =
       elim which [
-        | inl (goes_on, own, eq) ↦ settled c new _ eq (record { stays = λ b p q. (refl, (p, q)); listed = λ l. l; below = λ ok. ok })
+        | inl (continues_own_block, own, eq) ↦ settled c new _ eq (record { stays = λ b p q. (refl, (p, q)); listed = λ l. l; below = λ ok. ok })
         | inr (inl (fresh, ready, eq)) ↦ settled c new _ eq (record { stays = λ b p q. (refl, (p, q)); listed = λ l. l; below = λ ok. ok })
         | inr (inr (fresh, ready, free, eq)) ↦ settled c new _ eq (record {
           stays = λ d p q. let ne : d ≡ b → ⊥ = λ e. p (ap c.place e ∙ clean_is rules c sets b free) in (
@@ -126,7 +126,7 @@ module _ {C : Type 0} (rules : Rules C) where
           below = λ ok. ok;
         })
       ]
-  tells c new f batch reply sets ok = absurd ok
+  issues c new f batch reply sets ok = absurd ok
 
   wrote : (c new : State C) (f : ℕ) (good : Bool) (batch : Option (Batch C)) (reply : Reply C) → ((w : Writing C) → writing_in batch ≡ Some w → w.block < rules.blocks) → Wrote rules c f good batch reply new → Settles rules c new
   wrote c new f true (Some batch) Next lt (r, first, second, rest, writing, at, eq) = settled c new _ eq (record { stays = λ b p q. (refl, (p, q)); listed = λ l. l; below = λ ok. ok })
@@ -167,7 +167,7 @@ module _ {C : Type 0} (rules : Rules C) where
   looks c new h throttled (Some (Indexed a)) (Read t) ok = settled c new _ ok.3 (record { stays = λ b p q. (refl, (p, q)); listed = λ l. l; below = λ ok. ok })
   looks c new h throttled slot reply ok = absurd ok
 
-  ends : (c new : State C) (t : Ticket) (came : Came) (reply : Reply C) → Ends rules c t came reply new → Settles rules c new
+  ends : (c new : State C) (t : Ticket) (came : ReadResult) (reply : Reply C) → Ends rules c t came reply new → Settles rules c new
   ends c new t Fault reply ok = absurd ok
   ends c new t (Bytes bs) reply ok = judges (judged rules c t bs) reply ok
     where
@@ -176,11 +176,11 @@ module _ {C : Type 0} (rules : Rules C) where
       judges (Holds k) (Entry d age) given = settled c new c given.2 (alike c)
       judges x reply given = absurd given
 
-  takes : (c new : State C) (f : ℕ) (queue : List (Submission C)) (reply : Reply C) → Takes rules c f queue reply new → Settles rules c new
+  takes : (c new : State C) (f : ℕ) (queue : List (Submission C)) (reply : Reply C) → TakesFront rules c f queue reply new → Settles rules c new
   takes c new f [] Empty ok = settled c new c ok (alike c)
   takes c new f (Piece h s n k ∷ rest) (Received None) ok = settled c new _ ok.3 (record { stays = λ b p q. (refl, (p, q)); listed = λ l. l; below = λ ok. ok })
   takes c new f (Piece h s n k ∷ rest) (Received (Some d)) ok = settled c new _ ok.2 (record { stays = λ b p q. (refl, (p, q)); listed = λ l. l; below = λ ok. ok })
-  takes c new f (Remove h s spoils ∷ rest) (Received None) ok = settled c new _ ok (record { stays = λ b p q. (refl, (p, q)); listed = λ l. l; below = λ ok. ok })
+  takes c new f (Remove h s invalidated ∷ rest) (Received None) ok = settled c new _ ok (record { stays = λ b p q. (refl, (p, q)); listed = λ l. l; below = λ ok. ok })
   takes c new f (Await i ∷ rest) (Received None) ok = settled c new _ ok (record { stays = λ b p q. (refl, (p, q)); listed = λ l. l; below = λ ok. ok })
   takes c new f (Reinsert h bytes a ∷ rest) (Received None) ok =
       elim ok [
@@ -189,7 +189,7 @@ module _ {C : Type 0} (rules : Rules C) where
       ]
   takes c new f queue reply ok = absurd ok
 
-  reads : (c new : State C) (b : ℕ) (r : Option Reclaim) (came : Came) (reply : Reply C) → Rereads rules c b r came reply new → Settles rules c new
+  reads : (c new : State C) (b : ℕ) (r : Option Reclaim) (came : ReadResult) (reply : Reply C) → Rereads rules c b r came reply new → Settles rules c new
   reads c new b None came reply ok = absurd ok
   reads c new b (Some r) came reply ok = scanned r.stage came ok
     where
@@ -197,7 +197,7 @@ module _ {C : Type 0} (rules : Rules C) where
       lists place None given = settled c new _ given.1 (record { stays = λ b p q. (refl, (p, q)); listed = λ l. l; below = λ ok. ok })
       lists place (Some es) given = settled c new _ given.3 (record { stays = λ b p q. (refl, (p, q)); listed = λ l. l; below = λ ok. ok })
 
-      scanned : (stage : Stage) (came : Came) → Scanned rules c b r stage came reply new → Settles rules c new
+      scanned : (stage : Stage) (came : ReadResult) → Scanned rules c b r stage came reply new → Settles rules c new
       scanned (AtIndex place) Fault given = settled c new _ given.1 (record { stays = λ b p q. (refl, (p, q)); listed = λ l. l; below = λ ok. ok })
       scanned (AtRecord h a rest place) Fault given = settled c new _ given.1 (record { stays = λ b p q. (refl, (p, q)); listed = λ l. l; below = λ ok. ok })
       scanned (AtIndex place) (Bytes bs) given = lists place (rules.entries_of place bs) given
@@ -273,7 +273,7 @@ module _ {C : Type 0} (rules : Rules C) where
   pub does_settle : (Splits : Splitting C) (c new : State C) (step : Step C) (reply : Reply C) → AreSets rules c
       → ((f : ℕ) (w : Writing C) → writing_in (c.flushers f).batch ≡ Some w → w.block < rules.blocks)
       → ((b : ℕ) → IsAt ToClean (c.reclaims b) → c.place b ≡ Reclaims) → InTurn rules c step → TakesNone step
-      → Does rules Splits c step reply new → Settles rules c new
+      → Changes rules Splits c step reply new → Settles rules c new
   does_settle Splits c new (Enqueue h n age k) reply sets lt held turn none ok = enqueues c new h n age k reply ok
   does_settle Splits c new (Delete h) reply sets lt held turn none ok = deletes c new h reply ok
   does_settle Splits c new (Wait f i) reply sets lt held turn none ok = waits c new f i reply ok
@@ -282,7 +282,7 @@ module _ {C : Type 0} (rules : Rules C) where
   does_settle Splits c new (LoadEnd t came) reply sets lt held turn none ok = ends c new t came reply ok
   does_settle Splits c new (Receive f) reply sets lt held turn none ok = takes c new f (c.flushers f).queue reply ok
   does_settle Splits c new (FlushBegin f) reply sets lt held turn none ok = begins Splits c new f reply ok
-  does_settle Splits c new (FlushBlock f) reply sets lt held turn none ok = tells c new f (c.flushers f).batch reply sets ok
+  does_settle Splits c new (FlushBlock f) reply sets lt held turn none ok = issues c new f (c.flushers f).batch reply sets ok
   does_settle Splits c new (FlushWrote f good) reply sets lt held turn none ok = wrote c new f good (c.flushers f).batch reply (lt f) ok
   does_settle Splits c new (LogWrote f well) reply sets lt held turn none ok = logs c new f well (c.flushers f).batch reply ok
   does_settle Splits c new (FlushEnd f) reply sets lt held turn none ok = finishes c new f (c.flushers f).batch reply ok

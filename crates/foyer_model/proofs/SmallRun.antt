@@ -1,11 +1,11 @@
 -- What the small runs share: readings of a state, the empty core, and a block that begins with zeros.
 use Rattle.std.proofs.Common.{◌≡◌, ℕ, zero, suc, ◌+◌, ◌<◌, false, List, [], ◌∷◌, length, slice_index, Option, Some, None, inl, inr, refl, sym, ap, ◌∙◌, arith, lit<}
 use Rattle.foyer_model.specs.Record.{Address}
-use Rattle.foyer_model.specs.Filling.{Filling, Data, Index, Write}
+use Rattle.foyer_model.specs.Position.{Position, Data, Index, Write}
 use Rattle.foyer_model.specs.State.{Writing, Batch, Clean, no_stats, NoDestroy, State}
-use Rattle.foyer_model.specs.Rules.{empty_filling}
-use Rattle.foyer_model.specs.Placing.{laid}
-use Rattle.foyer_model.specs.Access.{Rest, Still, Unread, Load, Scan}
+use Rattle.foyer_model.specs.Rules.{first_position}
+use Rattle.foyer_model.specs.Layout.{laid}
+use Rattle.foyer_model.specs.Access.{Idle, CleanIdle, ReadIssued, Load, Scan}
 use Rattle.foyer_model.specs.World.{World}
 use Rattle.foyer_model.specs.Opened.{idle, full_filling, IsOpened}
 use Rattle.foyer_model.specs.SmallCore.{small}
@@ -13,14 +13,14 @@ use Rattle.foyer_model.proofs.GoodAddresses.{laid_beside}
 
 -- what a fact speaks of, where it is there
 
-abbrev pub empty : Filling
-empty = empty_filling small
+abbrev pub empty : Position
+empty = first_position small
 
 abbrev pub first_address : Address
 first_address = record { block = 0; offset = 4096; len = 3; sequence = 1; filling = 1 }
 
 abbrev pub no_batch : Batch ℕ
-no_batch = record { blocks = []; goes_on = false; writing = None; marks = []; spoils = []; pieces = []; waits = []; logged = None }
+no_batch = record { blocks = []; continues_own_block = false; writing = None; marks = []; invalidated = []; pieces = []; waits = []; logged = None }
 
 abbrev pub batch_in : Option (Batch ℕ) → Batch ℕ
 batch_in None = no_batch
@@ -34,7 +34,7 @@ writing_at None = no_writing
 writing_at (Some w) = w
 
 abbrev pub no_load : Load ℕ
-no_load = record { ticket = record { hash = 7; address = first_address }; promise = None; phase = Unread; kept = None }
+no_load = record { ticket = record { hash = 7; address = first_address }; promise = None; read_state = ReadIssued; kept = None }
 
 abbrev pub load_or : Option (Load ℕ) → Load ℕ
 load_or None = no_load
@@ -44,7 +44,7 @@ abbrev pub load_at : (ℕ → Option (Load ℕ)) → ℕ → Load ℕ
 load_at loads n = load_or (loads n)
 
 abbrev pub no_scan : Scan
-no_scan = record { offset = 0; len = 0; phase = Unread }
+no_scan = record { offset = 0; len = 0; read_state = ReadIssued }
 
 abbrev pub scan_or : Option Scan → Scan
 scan_or None = no_scan
@@ -84,10 +84,10 @@ w0 = record {
   begun_writes = [];
   committed = [];
   loads = λ _. None;
-  told = 0;
+  issued = 0;
   scans = λ _. None;
-  pens = λ _. Rest;
-  wipes = λ _. Still;
+  block_writes = λ _. Idle;
+  clean_states = λ _. CleanIdle;
 }
 
 pub opened : IsOpened small w0
@@ -113,10 +113,10 @@ opened = record {
   begun_writes = refl;
   committed = refl;
   loads = λ n. refl;
-  told = refl;
+  issued = refl;
   scans = λ b. refl;
-  pens = λ f. refl;
-  wipes = λ b. refl;
+  block_writes = λ f. refl;
+  clean_states = λ b. refl;
 }
 
 -- what stands where the first index may be: zeros

@@ -2,30 +2,30 @@
 use Rattle.std.proofs.Common.{◌≡◌, ℕ, ◌==◌, nat_le, Bool, true, false, ◌&&◌, if◌then◌else◌, List, [], ◌∷◌, ◌++◌, length, map, take, Option, Some, None, ◌⊎◌, inl, inr, refl, sym, ap, subst, ◌∙◌}
 use Rattle.foyer_model.specs.Numbers.{put}
 use Rattle.foyer_model.specs.Record.{Slot, Indexed, Mark, Outcome, NoRecord, Holds, IndexEntry, Source, Given, Reread, Record}
-use Rattle.foyer_model.specs.Filling.{records_in, records_of}
+use Rattle.foyer_model.specs.Position.{records_in, records_of}
 use Rattle.foyer_model.specs.State.{Submission, Piece, Remove, Await, Reinsert, Batch, Flusher, Stage, AtIndex, AtRecord, AllListed, ToClean, Reclaim, Destroy, NoDestroy, Begun, Cleaning, State}
 use Rattle.foyer_model.specs.Rules.{Rules, flusher_of, Splitting}
-use Rattle.foyer_model.specs.Step.{Came, Bytes, Fault, Ticket, Delete, LoadBegin, LoadEnd, FlushWrote, DestroyClear}
+use Rattle.foyer_model.specs.Step.{ReadResult, Bytes, Fault, Ticket, Delete, LoadBegin, LoadEnd, FlushWrote, DestroyClear}
 use Rattle.foyer_model.specs.Reply.{Reply, Deleted, Done, Miss, Throttled, Read, Entry, Empty, Received, Began, Written, NoBlock, Next, Committed, Failed, Ended, Picked, Cleans, Destroying, Cleared}
 use Rattle.foyer_model.specs.Index.{holds}
-use Rattle.foyer_model.specs.Placing.{writes_in, KeepsRecords}
+use Rattle.foyer_model.specs.Layout.{writes_in, KeepsRecords}
 use Rattle.foyer_model.specs.Commit.{committed_one}
-use Rattle.foyer_model.specs.Queue.{spoiled_by, queued, Deletes, Waits}
+use Rattle.foyer_model.specs.Queue.{invalidated_by, queued, Deletes, Waits}
 use Rattle.foyer_model.specs.Load.{Looks, judged, Judges, Ends}
-use Rattle.foyer_model.specs.Receive.{Takes}
-use Rattle.foyer_model.specs.Flush.{Begins, block_told, Tells, Wrote, Logs, Finishes}
+use Rattle.foyer_model.specs.Receive.{TakesFront}
+use Rattle.foyer_model.specs.Flush.{Begins, block_issued, Describes, Wrote, Logs, Finishes}
 use Rattle.foyer_model.specs.Reclaim.{Picks, Lists, Scanned, Rereads, Forgets, Cleaned}
 use Rattle.foyer_model.specs.Destroy.{BeginsDestroy, Clears, CleansOne}
 use Rattle.foyer_model.specs.InTurn.{WantsBlock}
 use Rattle.foyer_model.specs.Event.{Event, Put, Deletion, Destruction, sequence_in, newest, outcome_in, with_puts, puts_of}
-use Rattle.foyer_model.specs.Access.{Pen, came}
+use Rattle.foyer_model.specs.Access.{BlockWrites, came}
 use Rattle.foyer_model.specs.World.{World, Applies, after}
 use Rattle.foyer_model.proofs.Basics.{put_one}
-use Rattle.foyer_model.proofs.Invariant.{Ground, ground_of, Each, writing_in, batch_records, WritingOk, IsSound, RecordWaits}
+use Rattle.foyer_model.proofs.Invariant.{Ground, ground_of, Each, writing_in, batch_records, WritingOk, WorldInvariant, RecordWaits}
 use Rattle.foyer_model.proofs.CommitSteps.{noted_one, noted, noted_is, each_drop, each_join, each_front, holds_is, SourceBrings, Brings, all_bring}
 use Rattle.foyer_model.proofs.Received.{each_weaker}
 use Rattle.foyer_model.proofs.FlushEnds.{failed}
-use Rattle.foyer_model.proofs.FlushBlocks.{records_told}
+use Rattle.foyer_model.proofs.FlushBlocks.{records_issued}
 use Rattle.foyer_model.proofs.Rereads.{IsAgain}
 use Rattle.foyer_model.proofs.RereadFlushes.{brings_of}
 
@@ -44,7 +44,7 @@ RecordKnown K r = SourceKnown K r r.source
 
 abbrev pub SubmissionKnown : {C : Type 0} → (ℕ → ℕ → C → Type 0) → Submission C → Type 0
 SubmissionKnown K (Piece h s n c) = K h s c
-SubmissionKnown K (Remove h s spoils) = Unit {0}
+SubmissionKnown K (Remove h s invalidated) = Unit {0}
 SubmissionKnown K (Await i) = Unit {0}
 SubmissionKnown K (Reinsert h bytes a) = Unit {0}
 
@@ -69,7 +69,7 @@ module _ {C : Type 0} (K L : ℕ → ℕ → C → Type 0) (R : ℕ → ℕ → 
 
   submission_more : (sub : Submission C) → SubmissionKnown K sub → SubmissionKnown L sub
   submission_more (Piece h s n c) ok = more h s c ok
-  submission_more (Remove h s spoils) ok = tt
+  submission_more (Remove h s invalidated) ok = tt
   submission_more (Await i) ok = tt
   submission_more (Reinsert h bytes a) ok = tt
 
@@ -116,10 +116,10 @@ module _ {C : Type 0} (rules : Rules C) (K : ℕ → ℕ → C → Type 0) (R : 
   }) ok
 
   -- the commit of a block, record by record
-  one_noted : (r : Record C) (src : Source C) (apart : ℕ → ℕ → Type 0) (m : ℕ → Option Slot) (H : List (Event C)) (g : Ground) (pens : ℕ → Pen) → SourceKnown K r src → SourceBrings rules g pens apart m H r src
+  one_noted : (r : Record C) (src : Source C) (apart : ℕ → ℕ → Type 0) (m : ℕ → Option Slot) (H : List (Event C)) (g : Ground) (block_writes : ℕ → BlockWrites) → SourceKnown K r src → SourceBrings rules g block_writes apart m H r src
       → Each (IsKnownPut K R) H → Each (IsKnownPut K R) (noted_one r src (m r.hash) H)
-  one_noted r (Given c) apart m H g pens known brings all = (inr (c, refl, known), all)
-  one_noted r (Reread over) apart m H g pens known brings all = go (holds over (m r.hash)) refl
+  one_noted r (Given c) apart m H g block_writes known brings all = (inr (c, refl, known), all)
+  one_noted r (Reread over) apart m H g block_writes known brings all = go (holds over (m r.hash)) refl
     where
       go : (t : Bool) → holds over (m r.hash) ≡ t → Each (IsKnownPut K R) (if t then Put r.hash r.sequence (outcome_in (newest r.hash H)) ∷ H else H)
       go true is =
@@ -130,12 +130,12 @@ module _ {C : Type 0} (rules : Rules C) (K : ℕ → ℕ → C → Type 0) (R : 
           )
       go false is = all
 
-  all_noted : (g : Ground) (pens : ℕ → Pen) (b n : ℕ) (ps : List (ℕ × Record C)) (m : ℕ → Option Slot) (H : List (Event C)) → Each (RecordKnown K) (map (λ p. p.1) ps) → Each (Brings rules g pens b n m H) (map (λ p. p.1) ps)
+  all_noted : (g : Ground) (block_writes : ℕ → BlockWrites) (b n : ℕ) (ps : List (ℕ × Record C)) (m : ℕ → Option Slot) (H : List (Event C)) → Each (RecordKnown K) (map (λ p. p.1) ps) → Each (Brings rules g block_writes b n m H) (map (λ p. p.1) ps)
       → Each (IsKnownPut K R) H → Each (IsKnownPut K R) (noted b n ps m H)
-  all_noted g pens b n [] m H known brings all = all
-  all_noted g pens b n (p ∷ ps) m H known brings all =
-      all_noted g pens b n ps (committed_one b n p m) (noted_one p.1 (p.1).source (m (p.1).hash) H) known.1 (all_bring rules g pens b n p m H (map (λ q. q.1) ps) brings.1)
-      (one_noted p.1 (p.1).source (λ d k. d ≡ b → k ≡ n → ⊥) m H g pens known.0 brings.0 all)
+  all_noted g block_writes b n [] m H known brings all = all
+  all_noted g block_writes b n (p ∷ ps) m H known brings all =
+      all_noted g block_writes b n ps (committed_one b n p m) (noted_one p.1 (p.1).source (m (p.1).hash) H) known.1 (all_bring rules g block_writes b n p m H (map (λ q. q.1) ps) brings.1)
+      (one_noted p.1 (p.1).source (λ d k. d ≡ b → k ≡ n → ⊥) m H g block_writes known.0 brings.0 all)
 
   pub traced_as : (H : List (Event C)) (new expr : State C) → new ≡ expr → IsTracedIn K R expr.flushers H → IsTracedIn K R new.flushers H
   traced_as H new expr eq ok = subst (λ c. IsTracedIn K R c.flushers H) (sym eq) ok
@@ -143,11 +143,11 @@ module _ {C : Type 0} (rules : Rules C) (K : ℕ → ℕ → C → Type 0) (R : 
   pub deletes_traced : (w : World C) (h : ℕ) (reply : Reply C) (new : State C) → Deletes rules w.core h reply new → IsTraced K R w → IsTraced K R (after rules w (Applies (Delete h) reply new))
   deletes_traced w h (Deleted s) new ok traced =
       traced_as (Deletion h s ∷ w.history) new _ ok.3
-      (let t : IsTracedIn K R (queued rules w.core (flusher_of rules h) (Remove h s (spoiled_by rules s (w.core.index h)))).flushers w.history = pushed_traced w (flusher_of rules h) (Remove h s (spoiled_by rules s (w.core.index h))) tt traced in
+      (let t : IsTracedIn K R (queued rules w.core (flusher_of rules h) (Remove h s (invalidated_by rules s (w.core.index h)))).flushers w.history = pushed_traced w (flusher_of rules h) (Remove h s (invalidated_by rules s (w.core.index h))) tt traced in
       record { at = t.at; puts = (tt, t.puts) })
   deletes_traced w h reply new ok traced = absurd ok
 
-  pub takes_traced : (w : World C) (f : ℕ) (queue : List (Submission C)) (reply : Reply C) (new : State C) → (w.core.flushers f).queue ≡ queue → Takes rules w.core f queue reply new → IsTraced K R w
+  pub takes_traced : (w : World C) (f : ℕ) (queue : List (Submission C)) (reply : Reply C) (new : State C) → (w.core.flushers f).queue ≡ queue → TakesFront rules w.core f queue reply new → IsTraced K R w
       → IsTracedIn K R new.flushers w.history
   takes_traced w f [] Empty new is ok traced = traced_as w.history new w.core ok traced
   takes_traced w f (Piece h s n c ∷ rest) (Received None) new is ok traced = traced_as w.history new _ ok.3 (one_traced w f _ (λ t.
@@ -155,7 +155,7 @@ module _ {C : Type 0} (rules : Rules C) (K : ℕ → ℕ → C → Type 0) (R : 
       record { pieces = q.1; received = each_join (RecordKnown K) (w.core.flushers f).buffer _ t.received (q.0, tt); written = t.written }) traced)
   takes_traced w f (Piece h s n c ∷ rest) (Received (Some d)) new is ok traced = traced_as w.history new _ ok.2 (one_traced w f _ (λ t.
       record { pieces = (subst (Each (SubmissionKnown K)) is t.pieces).1; received = t.received; written = t.written }) traced)
-  takes_traced w f (Remove h s spoils ∷ rest) (Received None) new is ok traced = traced_as w.history new _ ok (one_traced w f _ (λ t.
+  takes_traced w f (Remove h s invalidated ∷ rest) (Received None) new is ok traced = traced_as w.history new _ ok (one_traced w f _ (λ t.
       record { pieces = (subst (Each (SubmissionKnown K)) is t.pieces).1; received = t.received; written = t.written }) traced)
   takes_traced w f (Await i ∷ rest) (Received None) new is ok traced = traced_as w.history new _ ok (one_traced w f _ (λ t.
       record { pieces = (subst (Each (SubmissionKnown K)) is t.pieces).1; received = t.received; written = t.written }) traced)
@@ -176,30 +176,30 @@ module _ {C : Type 0} (rules : Rules C) (K : ℕ → ℕ → C → Type 0) (R : 
   }) traced)
   begins_traced Splits places w f reply new ok traced = absurd ok
 
-  pub tells_traced : (w : World C) (f : ℕ) (batch : Option (Batch C)) (reply : Reply C) (new : State C) → (w.core.flushers f).batch ≡ batch → WantsBlock batch → Tells rules w.core f batch reply new → IsTraced K R w
+  pub issues_traced : (w : World C) (f : ℕ) (batch : Option (Batch C)) (reply : Reply C) (new : State C) → (w.core.flushers f).batch ≡ batch → WantsBlock batch → Describes rules w.core f batch reply new → IsTraced K R w
       → IsTracedIn K R new.flushers w.history
-  tells_traced w f (Some batch) NoBlock new is wants ok traced = traced_as w.history new _ ok.3 (one_traced w f _ (λ t. record { pieces = t.pieces; received = t.received; written = t.written }) traced)
-  tells_traced w f (Some batch) (Written b writes) new is wants (s, rest, blocks, all, which) traced =
+  issues_traced w f (Some batch) NoBlock new is wants ok traced = traced_as w.history new _ ok.3 (one_traced w f _ (λ t. record { pieces = t.pieces; received = t.received; written = t.written }) traced)
+  issues_traced w f (Some batch) (Written b writes) new is wants (s, rest, blocks, all, which) traced =
       elim which [
-        | inl (goes_on, own, eq) ↦ traced_as w.history new _ eq told
-        | inr (inl (fresh, ready, eq)) ↦ traced_as w.history new _ eq told
-        | inr (inr (fresh, ready, free, eq)) ↦ traced_as w.history new _ eq told
+        | inl (continues_own_block, own, eq) ↦ traced_as w.history new _ eq issued
+        | inr (inl (fresh, ready, eq)) ↦ traced_as w.history new _ eq issued
+        | inr (inr (fresh, ready, free, eq)) ↦ traced_as w.history new _ eq issued
       ]
     where
       whole : (w.core.flushers f).batch ≡ Some (record batch { blocks = s ∷ rest; writing = None })
       whole = is ∙ (λ j. Some (record batch { blocks = blocks j; writing = wants.1 j }))
 
-      told : IsTracedIn K R (block_told rules w.core f b batch s rest).flushers w.history
-      told = one_traced w f _ (λ t. record {
+      issued : IsTracedIn K R (block_issued rules w.core f b batch s rest).flushers w.history
+      issued = one_traced w f _ (λ t. record {
         pieces = t.pieces;
         received = t.received;
-        written = records_told rules (Each (RecordKnown K)) b (writes_in rules s.parts) (records_in s.parts) (records_of rest) (each_drop (RecordKnown K))
+        written = records_issued rules (Each (RecordKnown K)) b (writes_in rules s.parts) (records_in s.parts) (records_of rest) (each_drop (RecordKnown K))
             (subst (λ k. Each (RecordKnown K) (batch_records k)) whole t.written);
       }) traced
-  tells_traced w f batch reply new is wants ok traced = absurd ok
+  issues_traced w f batch reply new is wants ok traced = absurd ok
 
   pub wrote_traced : (w : World C) (f : ℕ) (good : Bool) (batch : Option (Batch C)) (reply : Reply C) (new : State C) → (w.core.flushers f).batch ≡ batch → Wrote rules w.core f good batch reply new
-      → IsSound rules w → IsAgain rules w → IsTraced K R w → IsTraced K R (after rules w (Applies (FlushWrote f good) reply new))
+      → WorldInvariant rules w → IsAgain rules w → IsTraced K R w → IsTraced K R (after rules w (Applies (FlushWrote f good) reply new))
   wrote_traced w f true (Some batch) Next new is (r, first, second, rest, writing, left, eq) sound again traced =
       traced_as w.history new _ eq (one_traced w f _ (λ t. record {
         pieces = t.pieces;
@@ -216,7 +216,7 @@ module _ {C : Type 0} (rules : Rules C) (K : ℕ → ℕ → C → Type 0) (R : 
       }) traced in
       record {
         at = t.at;
-        puts = all_noted (ground_of w) w.pens r.block (w.core.filling r.block) r.records w.core.index w.history
+        puts = all_noted (ground_of w) w.block_writes r.block (w.core.filling r.block) r.records w.core.index w.history
             (each_front (RecordKnown K) (map (λ p. p.1) r.records) (records_of batch.blocks) (parts (traced.at f)))
             (brings_of rules w f r.block (map (λ p. p.1) r.records) ((sound.flushers f).owned r.block own)
             (each_front (RecordWaits rules w.core.index w.history w.core.place w.core.filling) (map (λ p. p.1) r.records) (records_of batch.blocks)
@@ -231,7 +231,7 @@ module _ {C : Type 0} (rules : Rules C) (K : ℕ → ℕ → C → Type 0) (R : 
       parts t = subst (λ k. Each (RecordKnown K) (batch_records k)) whole t.written
 
       own : (w.core.flushers f).own ≡ Some r.block
-      own = (subst (λ k. WritingOk rules (ground_of w) (w.core.flushers f).own (writing_in k) (w.pens f)) whole (sound.flushers f).writing).0
+      own = (subst (λ k. WritingOk rules (ground_of w) (w.core.flushers f).own (writing_in k) (w.block_writes f)) whole (sound.flushers f).writing).0
   wrote_traced w f good (Some batch) Failed new is (r, first, rest, writing, left, grown, eq) sound again traced =
       traced_as w.history new _ eq (one_traced w f _ (λ t. record { pieces = t.pieces; received = t.received; written = tt }) traced)
   wrote_traced w f good batch reply new is ok sound again traced = absurd ok
@@ -248,7 +248,7 @@ module _ {C : Type 0} (rules : Rules C) (K : ℕ → ℕ → C → Type 0) (R : 
   finishes_traced w f (Some batch) (Ended pieces waits) new ok traced = traced_as w.history new _ ok.2 (one_traced w f _ (λ t. record { pieces = t.pieces; received = t.received; written = tt }) traced)
   finishes_traced w f batch reply new ok traced = absurd ok
 
-  pub reads_traced : (w : World C) (b : ℕ) (r : Option Reclaim) (came : Came) (reply : Reply C) (new : State C) → Rereads rules w.core b r came reply new → IsTraced K R w → IsTracedIn K R new.flushers w.history
+  pub reads_traced : (w : World C) (b : ℕ) (r : Option Reclaim) (came : ReadResult) (reply : Reply C) (new : State C) → Rereads rules w.core b r came reply new → IsTraced K R w → IsTracedIn K R new.flushers w.history
   reads_traced w b None came reply new ok traced = absurd ok
   reads_traced w b (Some r) came reply new ok traced = scanned r.stage came ok
     where
@@ -256,7 +256,7 @@ module _ {C : Type 0} (rules : Rules C) (K : ℕ → ℕ → C → Type 0) (R : 
       lists place None given = traced_as w.history new _ given.1 traced
       lists place (Some es) given = traced_as w.history new _ given.3 traced
 
-      scanned : (stage : Stage) (came : Came) → Scanned rules w.core b r stage came reply new → IsTracedIn K R new.flushers w.history
+      scanned : (stage : Stage) (came : ReadResult) → Scanned rules w.core b r stage came reply new → IsTracedIn K R new.flushers w.history
       scanned (AtIndex place) Fault given = traced_as w.history new _ given.1 traced
       scanned (AtRecord h a rest place) Fault given = traced_as w.history new _ given.1 traced
       scanned (AtIndex place) (Bytes bs) given = lists place (rules.entries_of place bs) given
@@ -272,7 +272,7 @@ module _ {C : Type 0} (rules : Rules C) (K : ℕ → ℕ → C → Type 0) (R : 
   looks_traced w h throttled (Some (Indexed a)) (Read t) new ok traced = traced_as w.history new _ ok.3 traced
   looks_traced w h throttled slot reply new ok traced = absurd ok
 
-  pub ends_traced : (w : World C) (t : Ticket) (came : Came) (reply : Reply C) (new : State C) → Ends rules w.core t came reply new → IsTraced K R w → IsTraced K R (after rules w (Applies (LoadEnd t came) reply new))
+  pub ends_traced : (w : World C) (t : Ticket) (came : ReadResult) (reply : Reply C) (new : State C) → Ends rules w.core t came reply new → IsTraced K R w → IsTraced K R (after rules w (Applies (LoadEnd t came) reply new))
   ends_traced w t Fault reply new ok traced = absurd ok
   ends_traced w t (Bytes bs) reply new ok traced = judges (judged rules w.core t bs) reply ok
     where

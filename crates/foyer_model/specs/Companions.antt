@@ -3,10 +3,10 @@ use Rattle.std.specs.Prelude.{◌≡◌, ℕ, ◌<◌, Bool, true, List, [], ◌
 use Rattle.foyer_model.specs.Numbers.{last_number}
 use Rattle.foyer_model.specs.Ids.{is_id_in, AreDistinct}
 use Rattle.foyer_model.specs.Record.{Given, Record}
-use Rattle.foyer_model.specs.Filling.{Write, Spread, records_of}
+use Rattle.foyer_model.specs.Position.{Write, BlockLayout, records_of}
 use Rattle.foyer_model.specs.State.{Submission, Piece, Writing, Batch, Evictable, State, Clean}
 use Rattle.foyer_model.specs.Rules.{Rules, Splitting}
-use Rattle.foyer_model.specs.Placing.{writes_in, KeepsRecords, PlacesAll}
+use Rattle.foyer_model.specs.Layout.{writes_in, KeepsRecords, PlacesAll}
 use Rattle.foyer_model.specs.Step.{Age, Step, Enqueue, Receive, FlushBegin, FlushBlock, FlushWrote, ReclaimBegin}
 use Rattle.foyer_model.specs.Reply.{Kind, Reply, NotNow, Refused, Ignored, Received, Began, Written, Committed, Failed, Picked}
 use Rattle.foyer_model.specs.Queue.{IsIgnored}
@@ -15,7 +15,7 @@ use Rattle.foyer_model.specs.Flush.{commit_in}
 use Rattle.foyer_model.specs.Reclaim.{MayReclaim}
 use Rattle.foyer_model.specs.InTurn.{InTurn}
 use Rattle.foyer_model.specs.Refusal.{MayRefuse}
-use Rattle.foyer_model.specs.Turn.{Follows}
+use Rattle.foyer_model.specs.Follows.{Follows}
 use Rattle.foyer_model.specs.Event.{Event, with_puts, events_of}
 use Rattle.foyer_model.specs.World.{World}
 use Rattle.foyer_model.specs.Laws.{Demands, IsReached, IsAmong}
@@ -36,14 +36,14 @@ module _ {C : Type 0} (rules : Rules C) (Splits : Splitting C) where
         → (h : ℕ) × (s : ℕ) × (n : ℕ) × (rest : List (Submission C)) × ((old.flushers f).queue ≡ Piece h s n d ∷ rest)
         × ((bytes : List ℕ) → rules.encode h s d ≡ Some bytes → Fits rules old (old.flushers f) bytes → ⊥)
 
-  -- FlushBegin places all that was received since the batch before; FlushBlock tells the writes of a block's parts.
+  -- FlushBegin lays out all that was received since the batch before; FlushBlock issues the writes of a block's parts.
   -- Where the last write of a block is reported, every piece of it is put and the puts are counted; where it fails,
   -- nothing is put and the index stays.
   pub record CommitKeeps : Type 0 where
-    pub began : (old new : State C) (f : ℕ) (blocks : List (Spread C)) (marks : List (ℕ × ℕ)) → KeepsRecords rules Splits → Follows rules Splits old (FlushBegin f) (Began blocks marks) new
+    pub began : (old new : State C) (f : ℕ) (blocks : List (BlockLayout C)) (marks : List (ℕ × ℕ)) → KeepsRecords rules Splits → Follows rules Splits old (FlushBegin f) (Began blocks marks) new
         → (records_of blocks ≡ (old.flushers f).buffer) × (marks ≡ (old.flushers f).marks)
-    pub told : (old new : State C) (f b : ℕ) (writes : List Write) → Follows rules Splits old (FlushBlock f) (Written b writes) new
-        → (batch : Batch C) × (s : Spread C) × (rest : List (Spread C)) × ((old.flushers f).batch ≡ Some batch) × (batch.blocks ≡ s ∷ rest) × (writes ≡ writes_in rules s.parts)
+    pub issued : (old new : State C) (f b : ℕ) (writes : List Write) → Follows rules Splits old (FlushBlock f) (Written b writes) new
+        → (batch : Batch C) × (s : BlockLayout C) × (rest : List (BlockLayout C)) × ((old.flushers f).batch ≡ Some batch) × (batch.blocks ≡ s ∷ rest) × (writes ≡ writes_in rules s.parts)
     pub committed : (old new : State C) (f n : ℕ) (H : List (Event C)) → Follows rules Splits old (FlushWrote f true) (Committed n) new
         → (w : Writing C) × IsWrittenBy old f w × ((last : Write) × (w.left ≡ last ∷ []))
         × (new.index ≡ (commit_in old w).index) × (events_of old (Committed n) (FlushWrote f true) H ≡ with_puts (commit_in old w).puts H)

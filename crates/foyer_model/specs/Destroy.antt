@@ -2,13 +2,13 @@
 use Rattle.std.specs.Prelude.{◌≡◌, ℕ, ◌+◌, ◌<◌, nat_lt, Bool, true, false, if◌then◌else◌, List, [], ◌∷◌, None}
 use Rattle.foyer_model.specs.Numbers.{put, last_number, plus}
 use Rattle.foyer_model.specs.Ids.{ids, without_id}
-use Rattle.foyer_model.specs.State.{Remove, Flusher, Place, Clean, Writes, Evictable, Reclaims, no_stats, Destroy, NoDestroy, Begun, Cleaning, State}
-use Rattle.foyer_model.specs.Rules.{Rules, flusher_of, empty_filling}
+use Rattle.foyer_model.specs.State.{Remove, Flusher, BlockSet, Clean, Writes, Evictable, Reclaims, no_stats, Destroy, NoDestroy, Begun, Cleaning, State}
+use Rattle.foyer_model.specs.Rules.{Rules, flusher_of, first_position}
 use Rattle.foyer_model.specs.Reply.{Reply, Done, Destroying, Cleared, Destroyed}
 use Rattle.foyer_model.specs.Queue.{queued}
 
 -- a destroy takes every block from its flusher
-abbrev pub vacated : Place → Place
+abbrev pub vacated : BlockSet → BlockSet
 vacated Clean = Clean
 vacated (Writes f) = Evictable
 vacated Evictable = Evictable
@@ -24,9 +24,9 @@ after_clean [] failed = NoDestroy
 after_clean (b ∷ bs) failed = Cleaning (b ∷ bs) failed
 
 -- and the last reply says whether one failed
-abbrev pub told_after_clean : {C : Type 0} → List ℕ → Bool → Reply C
-told_after_clean [] failed = Destroyed (if failed then false else true)
-told_after_clean (b ∷ bs) failed = Done
+abbrev pub issued_after_clean : {C : Type 0} → List ℕ → Bool → Reply C
+issued_after_clean [] failed = Destroyed (if failed then false else true)
+issued_after_clean (b ∷ bs) failed = Done
 
 -- each block begins a new filling, up to the greatest count
 abbrev pub refilled : ℕ → (ℕ → ℕ) → ℕ → ℕ
@@ -40,7 +40,7 @@ module _ {C : Type 0} (rules : Rules C) (old : State C) where
       × (new ≡ record (queued rules old (flusher_of rules 0) (Remove 0 s [])) { next = s + 1; destroy = Begun })
   BeginsDestroy reply new = ⊥
 
-  -- the index is cleared, every block begins a new filling, every splitter is fresh, and a clean of each block is told
+  -- the index is cleared, every block begins a new filling, every splitter is fresh, and a clean of each block is issued
   abbrev pub Clears : Reply C → State C → Type 0
   Clears (Cleared bs) new =
       (bs ≡ ids rules.blocks)
@@ -48,7 +48,7 @@ module _ {C : Type 0} (rules : Rules C) (old : State C) where
         index = λ h. None;
         filling = refilled rules.blocks old.filling;
         place = λ b. vacated (old.place b);
-        flushers = λ f. record (old.flushers f) { own = None; ready = None; context = empty_filling rules };
+        flushers = λ f. record (old.flushers f) { own = None; ready = None; context = first_position rules };
         destroy = Cleaning (ids rules.blocks) false;
       })
   Clears reply new = ⊥
@@ -56,7 +56,7 @@ module _ {C : Type 0} (rules : Rules C) (old : State C) where
   -- once for each block, which stays in its set
   abbrev pub CleansOne : ℕ → Bool → Destroy → Reply C → State C → Type 0
   CleansOne b ok (Cleaning left failed) reply new =
-      (reply ≡ told_after_clean (without_id b left) (if ok then failed else true))
+      (reply ≡ issued_after_clean (without_id b left) (if ok then failed else true))
       × (new ≡ record old { destroy = after_clean (without_id b left) (if ok then failed else true); stats = put old.stats b no_stats })
   CleansOne b ok NoDestroy reply new = ⊥
   CleansOne b ok Begun reply new = ⊥

@@ -3,11 +3,11 @@ use Rattle.std.specs.Prelude.{◌≡◌, ℕ, ◌+◌, nat_lt, Bool, true, false
 use Rattle.foyer_model.specs.Numbers.{put, last_number, plus}
 use Rattle.foyer_model.specs.Ids.{without_id, with_id}
 use Rattle.foyer_model.specs.Record.{Record}
-use Rattle.foyer_model.specs.Filling.{Write, Spread, records_in, last_end}
+use Rattle.foyer_model.specs.Position.{Write, BlockLayout, records_in, last_end}
 use Rattle.foyer_model.specs.Index.{unmarked}
-use Rattle.foyer_model.specs.State.{Writing, Batch, Place, Writes, Evictable, Stats, Destroy, NoDestroy, Begun, Cleaning, State}
-use Rattle.foyer_model.specs.Rules.{Rules, empty_filling, Splitting}
-use Rattle.foyer_model.specs.Placing.{writes_in}
+use Rattle.foyer_model.specs.State.{Writing, Batch, BlockSet, Writes, Evictable, Stats, Destroy, NoDestroy, Begun, Cleaning, State}
+use Rattle.foyer_model.specs.Rules.{Rules, first_position, Splitting}
+use Rattle.foyer_model.specs.Layout.{writes_in}
 use Rattle.foyer_model.specs.Commit.{Commit, commit_of}
 use Rattle.foyer_model.specs.Reply.{Reply, Began, Written, NoBlock, Next, Committed, Failed, Ended, Done}
 use Rattle.foyer_model.specs.Receive.{pieces_of, turned}
@@ -18,18 +18,18 @@ is_some None = false
 is_some (Some x) = true
 
 -- these bytes of these blocks become invalid
-abbrev pub all_spoiled : List (ℕ × ℕ) → (ℕ → Stats) → ℕ → Stats
-all_spoiled [] stats = stats
-all_spoiled (p ∷ ps) stats = all_spoiled ps (put stats p.0 (record (stats p.0) { invalid = plus (stats p.0).invalid p.1 }))
+abbrev pub all_invalidated : List (ℕ × ℕ) → (ℕ → Stats) → ℕ → Stats
+all_invalidated [] stats = stats
+all_invalidated (p ∷ ps) stats = all_invalidated ps (put stats p.0 (record (stats p.0) { invalid = plus (stats p.0).invalid p.1 }))
 
 -- unless the log failed
-abbrev pub spoiled_unless : Option Bool → List (ℕ × ℕ) → (ℕ → Stats) → ℕ → Stats
-spoiled_unless None spoils stats = all_spoiled spoils stats
-spoiled_unless (Some true) spoils stats = all_spoiled spoils stats
-spoiled_unless (Some false) spoils stats = stats
+abbrev pub invalidated_unless : Option Bool → List (ℕ × ℕ) → (ℕ → Stats) → ℕ → Stats
+invalidated_unless None invalidated stats = all_invalidated invalidated stats
+invalidated_unless (Some true) invalidated stats = all_invalidated invalidated stats
+invalidated_unless (Some false) invalidated stats = stats
 
 -- a block that its flusher leaves may be reclaimed
-abbrev pub released : Option ℕ → (ℕ → Place) → ℕ → Place
+abbrev pub released : Option ℕ → (ℕ → BlockSet) → ℕ → BlockSet
 released None places = places
 released (Some b) places = put places b Evictable
 
@@ -66,15 +66,15 @@ module _ {C : Type 0} (rules : Rules C) (Splits : Splitting C) (old : State C) w
       × (new ≡ turned rules old f (record (old.flushers f) {
         buffer = [];
         marks = [];
-        spoils = [];
+        invalidated = [];
         waits = [];
         context = last_end (old.flushers f).context blocks;
         batch = Some (record {
           blocks = blocks;
-          goes_on = is_some (old.flushers f).own;
+          continues_own_block = is_some (old.flushers f).own;
           writing = None;
           marks = (old.flushers f).marks;
-          spoils = (old.flushers f).spoils;
+          invalidated = (old.flushers f).invalidated;
           pieces = pieces_of (old.flushers f).buffer;
           waits = (old.flushers f).waits;
           logged = None;
@@ -83,15 +83,15 @@ module _ {C : Type 0} (rules : Rules C) (Splits : Splitting C) (old : State C) w
   Begins f reply new = ⊥
 
 module _ {C : Type 0} (rules : Rules C) (old : State C) where
-  -- a block and its writes are told, and f waits no more
-  abbrev pub block_told : ℕ → ℕ → Batch C → Spread C → List (Spread C) → State C
-  block_told f b batch s rest =
+  -- a block and its writes are issued, and f waits no more
+  abbrev pub block_issued : ℕ → ℕ → Batch C → BlockLayout C → List (BlockLayout C) → State C
+  block_issued f b batch s rest =
       record old {
         waiting = without_id f old.waiting;
         flushers = put old.flushers f (record (old.flushers f) {
           own = Some b;
           ready = None;
-          batch = Some (record batch { blocks = rest; goes_on = false; writing = writing_of b (writes_in rules s.parts) (records_in s.parts) });
+          batch = Some (record batch { blocks = rest; continues_own_block = false; writing = writing_of b (writes_in rules s.parts) (records_in s.parts) });
         });
       }
 
@@ -105,20 +105,20 @@ module _ {C : Type 0} (rules : Rules C) (old : State C) where
   clean_block = if is_cleaning old.destroy then None else first_usable old.filling old.clean
 
   -- the next block of a batch: the flusher's own, the one that it got while it waited, or the one that has been clean longest
-  abbrev pub Tells : ℕ → Option (Batch C) → Reply C → State C → Type 0
-  Tells f (Some batch) NoBlock new =
-      (batch.goes_on ≡ false) × ((old.flushers f).ready ≡ None) × (clean_block ≡ None) × (new ≡ waits_for_block f)
-  Tells f (Some batch) (Written b writes) new =
-      (s : Spread C) × (rest : List (Spread C)) × (batch.blocks ≡ s ∷ rest) × (writes ≡ writes_in rules s.parts)
-      × (((batch.goes_on ≡ true) × ((old.flushers f).own ≡ Some b) × (new ≡ block_told f b batch s rest))
-      ⊎ ((batch.goes_on ≡ false) × ((old.flushers f).ready ≡ Some b) × (new ≡ block_told f b batch s rest))
-      ⊎ ((batch.goes_on ≡ false) × ((old.flushers f).ready ≡ None) × (clean_block ≡ Some b)
-      × (new ≡ record (block_told f b batch s rest) {
+  abbrev pub Describes : ℕ → Option (Batch C) → Reply C → State C → Type 0
+  Describes f (Some batch) NoBlock new =
+      (batch.continues_own_block ≡ false) × ((old.flushers f).ready ≡ None) × (clean_block ≡ None) × (new ≡ waits_for_block f)
+  Describes f (Some batch) (Written b writes) new =
+      (s : BlockLayout C) × (rest : List (BlockLayout C)) × (batch.blocks ≡ s ∷ rest) × (writes ≡ writes_in rules s.parts)
+      × (((batch.continues_own_block ≡ true) × ((old.flushers f).own ≡ Some b) × (new ≡ block_issued f b batch s rest))
+      ⊎ ((batch.continues_own_block ≡ false) × ((old.flushers f).ready ≡ Some b) × (new ≡ block_issued f b batch s rest))
+      ⊎ ((batch.continues_own_block ≡ false) × ((old.flushers f).ready ≡ None) × (clean_block ≡ Some b)
+      × (new ≡ record (block_issued f b batch s rest) {
         filling = put old.filling b (old.filling b + 1);
         clean = without_id b old.clean;
         place = put (released (old.flushers f).own old.place) b (Writes f);
       })))
-  Tells f batch reply new = ⊥
+  Describes f batch reply new = ⊥
 
   -- one more write is reported
   abbrev pub write_done : ℕ → Batch C → Writing C → List Write → State C
@@ -133,11 +133,11 @@ module _ {C : Type 0} (rules : Rules C) (old : State C) where
   -- the rest of the batch is dropped, the block isn't written again, and the splitter is fresh
   abbrev pub batch_failed : ℕ → Batch C → State C
   batch_failed f batch =
-      record (turned rules old f (record (old.flushers f) { own = None; context = empty_filling rules; batch = Some (record batch { blocks = []; goes_on = false; writing = None }) })) {
+      record (turned rules old f (record (old.flushers f) { own = None; context = first_position rules; batch = Some (record batch { blocks = []; continues_own_block = false; writing = None }) })) {
         place = released (old.flushers f).own old.place;
       }
 
-  -- A write that went well may still fail by a refused growth of the index, at the end of its block.
+  -- A write that went well may still fail by a refused allocation of the index, at the end of its block.
   abbrev pub Wrote : ℕ → Bool → Option (Batch C) → Reply C → State C → Type 0
   Wrote f true (Some batch) Next new =
       (w : Writing C) × (first second : Write) × (rest : List Write) × (batch.writing ≡ Some w) × (w.left ≡ first ∷ second ∷ rest)
@@ -161,6 +161,6 @@ module _ {C : Type 0} (rules : Rules C) (old : State C) where
       (pieces ≡ batch.pieces) × (waits ≡ batch.waits)
       × (new ≡ record (turned rules old f (record (old.flushers f) { batch = None })) {
         index = unmarked batch.marks old.index;
-        stats = spoiled_unless batch.logged batch.spoils old.stats;
+        stats = invalidated_unless batch.logged batch.invalidated old.stats;
       })
   Finishes f batch reply new = ⊥

@@ -3,13 +3,13 @@ use Rattle.std.specs.Prelude.{◌≡◌, ◌≢◌, ℕ, ◌<◌, Bool, true, fa
 use Rattle.foyer_model.specs.Ids.{is_id_in}
 use Rattle.foyer_model.specs.State.{Writing, Batch, Stage, AtIndex, AtRecord, AllListed, ToClean, Reclaim, Destroy, NoDestroy, Begun, Cleaning, State}
 use Rattle.foyer_model.specs.Rules.{Rules}
-use Rattle.foyer_model.specs.Step.{Came, Bytes, Fault, Step, Enqueue, Delete, Wait, MayContains, LoadBegin, LoadEnd, Receive, FlushBegin, FlushBlock, FlushWrote, LogWrote, FlushEnd, ReclaimBegin, ReclaimRead, ReclaimForget, ReclaimCleaned, ReclaimIdle, DestroyBegin, DestroyClear, DestroyCleaned, Close}
+use Rattle.foyer_model.specs.Step.{ReadResult, Bytes, Fault, Step, Enqueue, Delete, Wait, MayContains, LoadBegin, LoadEnd, Receive, FlushBegin, FlushBlock, FlushWrote, LogWrote, FlushEnd, ReclaimBegin, ReclaimRead, ReclaimForget, ReclaimCleaned, ReclaimIdle, DestroyBegin, DestroyClear, DestroyCleaned, Close}
 use Rattle.foyer_model.specs.Load.{HasLength}
 use Rattle.foyer_model.specs.Receive.{HasReceived}
 use Rattle.foyer_model.specs.Reclaim.{MayReclaim}
 use Rattle.foyer_model.specs.Destroy.{IsIdle}
 
--- a block of the batch is yet to be told, and none is being written
+-- a block of the batch is yet to be issued, and none is being written
 abbrev pub WantsBlock : {C : Type 0} → Option (Batch C) → Type 0
 WantsBlock None = ⊥
 WantsBlock (Some batch) = (batch.blocks ≢ []) × (batch.writing ≡ None)
@@ -31,8 +31,8 @@ IsWritten has_log (Some batch) =
     (batch.blocks ≡ []) × (batch.writing ≡ None) × ((has_log ≡ false) ⊎ ((ok : Bool) × (batch.logged ≡ Some ok)))
 
 module _ {C : Type 0} (rules : Rules C) where
-  -- a read was told, and its bytes are as many as that
-  abbrev pub IsScan : Stage → Came → Type 0
+  -- a read was issued, and its bytes are as many as that
+  abbrev pub IsScan : Stage → ReadResult → Type 0
   IsScan (AtIndex place) Fault = Unit {0}
   IsScan (AtIndex place) (Bytes bs) = length bs ≡ rules.index_size
   IsScan (AtRecord h a rest place) Fault = Unit {0}
@@ -41,7 +41,7 @@ module _ {C : Type 0} (rules : Rules C) where
   IsScan ToClean came = ⊥
 
   -- a reclaim runs and waits for this read
-  abbrev pub ReadsFor : Option Reclaim → Came → Type 0
+  abbrev pub ReadsFor : Option Reclaim → ReadResult → Type 0
   ReadsFor None came = ⊥
   ReadsFor (Some r) came = IsScan r.stage came
 
@@ -62,7 +62,7 @@ MayClear old = (old.destroy ≡ Begun) × ((f : ℕ) → IsIdle (old.flushers f)
 
 module _ {C : Type 0} (rules : Rules C) (old : State C) where
   -- A step that names a flusher or a block that isn't there, or that brings bytes of another length than its read was
-  -- told, is out of turn.
+  -- issued, is out of turn.
   abbrev pub InTurn : Step C → Type 0
   InTurn (Enqueue h n age c) = Unit {0}
   InTurn (Delete h) = Unit {0}

@@ -5,7 +5,7 @@ use Rattle.foyer_model.specs.Record.{Slot, Indexed, Mark, Outcome, NoRecord, Not
 use Rattle.foyer_model.specs.Index.{without}
 use Rattle.foyer_model.specs.State.{Stats, State}
 use Rattle.foyer_model.specs.Rules.{Rules}
-use Rattle.foyer_model.specs.Step.{Came, Bytes, Fault, Age, Young, Old, Ticket}
+use Rattle.foyer_model.specs.Step.{ReadResult, Bytes, Fault, Age, Young, Old, Ticket}
 use Rattle.foyer_model.specs.Reply.{Reply, Miss, Throttled, Read, Entry}
 
 module _ {C : Type 0} (rules : Rules C) (old : State C) where
@@ -13,8 +13,8 @@ module _ {C : Type 0} (rules : Rules C) (old : State C) where
   abbrev pub accessed : ℕ → ℕ → Stats
   accessed b = put old.stats b (record (old.stats b) { access = plus (old.stats b).access 1 })
 
-  -- A look-up: without an address a miss; throttled if told so; an address of an older filling leaves the index; else
-  -- a read is told.
+  -- A look-up: without an address a miss; throttled if the caller says so; an address of an older filling leaves the index; else
+  -- a read is issued.
   abbrev pub Looks : ℕ → Bool → Option Slot → Reply C → State C → Type 0
   Looks h throttled None Miss new = new ≡ old
   Looks h throttled (Some (Mark s)) Miss new = new ≡ old
@@ -45,12 +45,12 @@ module _ {C : Type 0} (rules : Rules C) (old : State C) where
   Judges t outcome reply new = ⊥
 
   -- a fault is a refusal
-  abbrev pub Ends : Ticket → Came → Reply C → State C → Type 0
+  abbrev pub Ends : Ticket → ReadResult → Reply C → State C → Type 0
   Ends t Fault reply new = ⊥
   Ends t (Bytes bs) reply new = Judges t (judged t bs) reply new
 
-  -- bytes are as many as were told, whole pages
-  abbrev pub HasLength : Ticket → Came → Type 0
+  -- bytes are as many as were asked for, whole pages
+  abbrev pub HasLength : Ticket → ReadResult → Type 0
   HasLength t Fault = Unit {0}
   HasLength t (Bytes bs) = length bs ≡ rules.page_up t.address.len
 

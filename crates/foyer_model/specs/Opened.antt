@@ -3,12 +3,12 @@ use Rattle.std.specs.Prelude.{◌≡◌, ◌≢◌, ℕ, ◌+◌, ◌<◌, ◌�
 use Rattle.foyer_model.specs.Numbers.{last_number}
 use Rattle.foyer_model.specs.Ids.{ids}
 use Rattle.foyer_model.specs.Record.{Address, Slot, Indexed}
-use Rattle.foyer_model.specs.Filling.{Filling}
-use Rattle.foyer_model.specs.State.{Flusher, Place, Clean, Writes, Evictable, Reclaims, no_stats, NoDestroy, State}
-use Rattle.foyer_model.specs.Rules.{Rules, empty_filling}
-use Rattle.foyer_model.specs.Placing.{read}
+use Rattle.foyer_model.specs.Position.{Position}
+use Rattle.foyer_model.specs.State.{Flusher, BlockSet, Clean, Writes, Evictable, Reclaims, no_stats, NoDestroy, State}
+use Rattle.foyer_model.specs.Rules.{Rules, first_position}
+use Rattle.foyer_model.specs.Layout.{read}
 use Rattle.foyer_model.specs.Event.{Event, Put}
-use Rattle.foyer_model.specs.Access.{Rest, Still}
+use Rattle.foyer_model.specs.Access.{Idle, CleanIdle}
 use Rattle.foyer_model.specs.World.{World}
 
 -- of the addresses that were found, each under its hash, the one of a hash
@@ -47,14 +47,14 @@ AllFound rules core [] = Unit {0}
 AllFound rules core (p ∷ ps) = IsFound rules core p.1 × IsAlone p.0 ps × AllFound rules core ps
 
 -- whether it is the clean set
-abbrev pub is_clean : Place → Bool
+abbrev pub is_clean : BlockSet → Bool
 is_clean Clean = true
 is_clean (Writes f) = false
 is_clean Evictable = false
 is_clean Reclaims = false
 
 -- the clean ones of these blocks, in order
-abbrev pub clean_among : (ℕ → Place) → List ℕ → List ℕ
+abbrev pub clean_among : (ℕ → BlockSet) → List ℕ → List ℕ
 clean_among place [] = []
 clean_among place (b ∷ bs) = if is_clean (place b) then b ∷ clean_among place bs else clean_among place bs
 
@@ -64,20 +64,20 @@ idle rules = record {
   queue = [];
   buffer = [];
   marks = [];
-  spoils = [];
+  invalidated = [];
   waits = [];
   batch = None;
   own = None;
   ready = None;
-  context = empty_filling rules;
+  context = first_position rules;
 }
 
 -- a block into which no more is written
-abbrev pub full_filling : {C : Type 0} → Rules C → Filling
+abbrev pub full_filling : {C : Type 0} → Rules C → Position
 full_filling rules = record { blob = rules.block_size; at = 0; listed = [] }
 
 -- An opened world: the index and the history are those of the addresses found, each block is clean or evictable, the
--- clean ones are listed in order, and nothing is queued, told or under way.
+-- clean ones are listed in order, and nothing is queued, issued or under way.
 pub record IsOpened {C : Type 0} (rules : Rules C) (w : World C) : Type 0 where
   pub found : List (ℕ × Address)
   pub all : AllFound rules w.core found
@@ -100,7 +100,7 @@ pub record IsOpened {C : Type 0} (rules : Rules C) (w : World C) : Type 0 where
   pub begun_writes : w.begun_writes ≡ []
   pub committed : w.committed ≡ []
   pub loads : (n : ℕ) → w.loads n ≡ None
-  pub told : w.told ≡ 0
+  pub issued : w.issued ≡ 0
   pub scans : (b : ℕ) → w.scans b ≡ None
-  pub pens : (f : ℕ) → w.pens f ≡ Rest
-  pub wipes : (b : ℕ) → w.wipes b ≡ Still
+  pub block_writes : (f : ℕ) → w.block_writes f ≡ Idle
+  pub clean_states : (b : ℕ) → w.clean_states b ≡ CleanIdle

@@ -12,7 +12,7 @@ use Rattle.foyer_model.specs.Reply.{Reply, Ignored, Queued, Deleted, Done, Answe
 abbrev pub queue_size : {C : Type 0} → List (Submission C) → ℕ
 queue_size [] = 0
 queue_size (Piece h s n c ∷ rest) = plus n (queue_size rest)
-queue_size (Remove h s spoils ∷ rest) = queue_size rest
+queue_size (Remove h s invalidated ∷ rest) = queue_size rest
 queue_size (Await i ∷ rest) = queue_size rest
 queue_size (Reinsert h bytes a ∷ rest) = queue_size rest
 
@@ -22,10 +22,10 @@ size_queued zero flushers = 0
 size_queued (suc n) flushers = plus (queue_size (flushers n).queue) (size_queued n flushers)
 
 -- the bytes that a mark makes invalid, with their block: those of the address that it pushes out
-abbrev pub spoiled_by : {C : Type 0} → Rules C → (sequence : ℕ) → Option Slot → List (ℕ × ℕ)
-spoiled_by rules s None = []
-spoiled_by rules s (Some (Mark t)) = []
-spoiled_by rules s (Some (Indexed a)) = if nat_le a.sequence s then (a.block, rules.page_up a.len) ∷ [] else []
+abbrev pub invalidated_by : {C : Type 0} → Rules C → (sequence : ℕ) → Option Slot → List (ℕ × ℕ)
+invalidated_by rules s None = []
+invalidated_by rules s (Some (Mark t)) = []
+invalidated_by rules s (Some (Indexed a)) = if nat_le a.sequence s then (a.block, rules.page_up a.len) ∷ [] else []
 
 module _ {C : Type 0} (rules : Rules C) (old : State C) where
   -- a submission at the end of a flusher's queue
@@ -49,7 +49,7 @@ module _ {C : Type 0} (rules : Rules C) (old : State C) where
   abbrev pub Deletes : ℕ → Reply C → State C → Type 0
   Deletes h (Deleted s) new =
       (s ≡ old.next) × (old.closed ≡ false) × (old.next < last_number)
-      × (new ≡ record (queued (flusher_of rules h) (Remove h s (spoiled_by rules s (old.index h)))) {
+      × (new ≡ record (queued (flusher_of rules h) (Remove h s (invalidated_by rules s (old.index h)))) {
         next = s + 1;
         index = put old.index h (inserted (old.index h) (Mark s));
       })

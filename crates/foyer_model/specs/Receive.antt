@@ -5,7 +5,7 @@ use Rattle.foyer_model.specs.Record.{Source, Given, Reread, Record}
 use Rattle.foyer_model.specs.Index.{holds}
 use Rattle.foyer_model.specs.State.{Submission, Piece, Remove, Await, Reinsert, Flusher, State}
 use Rattle.foyer_model.specs.Rules.{Rules}
-use Rattle.foyer_model.specs.Placing.{FitsBlock}
+use Rattle.foyer_model.specs.Layout.{FitsBlock}
 use Rattle.foyer_model.specs.Reply.{Reply, Empty, Received}
 
 -- the bytes that the records of a buffer take
@@ -46,24 +46,24 @@ module _ {C : Type 0} (rules : Rules C) (old : State C) where
 
   -- The front of the queue is taken. A piece that doesn't fit, or whose code fails, is handed back; a reinsertion is
   -- dropped unless the index holds its very address and it fits.
-  abbrev pub Takes : ℕ → List (Submission C) → Reply C → State C → Type 0
-  Takes f [] Empty new = new ≡ old
-  Takes f (Piece h s n c ∷ rest) (Received None) new =
+  abbrev pub TakesFront : ℕ → List (Submission C) → Reply C → State C → Type 0
+  TakesFront f [] Empty new = new ≡ old
+  TakesFront f (Piece h s n c ∷ rest) (Received None) new =
       (bytes : List ℕ) × (rules.encode h s c ≡ Some bytes) × Fits (flusher f) bytes
       × (new ≡ pushed_to f rest (record { hash = h; sequence = s; bytes = bytes; source = Given c }))
-  Takes f (Piece h s n c ∷ rest) (Received (Some d)) new =
+  TakesFront f (Piece h s n c ∷ rest) (Received (Some d)) new =
       (d ≡ c) × ((bytes : List ℕ) → rules.encode h s c ≡ Some bytes → Fits (flusher f) bytes → ⊥)
       × (new ≡ turned f (record (flusher f) { queue = rest }))
-  Takes f (Remove h s spoils ∷ rest) (Received None) new =
-      new ≡ turned f (record (flusher f) { queue = rest; marks = (flusher f).marks ++ (h, s) ∷ []; spoils = (flusher f).spoils ++ spoils })
-  Takes f (Await i ∷ rest) (Received None) new =
+  TakesFront f (Remove h s invalidated ∷ rest) (Received None) new =
+      new ≡ turned f (record (flusher f) { queue = rest; marks = (flusher f).marks ++ (h, s) ∷ []; invalidated = (flusher f).invalidated ++ invalidated })
+  TakesFront f (Await i ∷ rest) (Received None) new =
       new ≡ turned f (record (flusher f) { queue = rest; waits = (flusher f).waits ++ i ∷ [] })
-  Takes f (Reinsert h bytes a ∷ rest) (Received None) new =
+  TakesFront f (Reinsert h bytes a ∷ rest) (Received None) new =
       ((holds a (old.index h) ≡ true) × Fits (flusher f) bytes
       × (new ≡ pushed_to f rest (record { hash = h; sequence = a.sequence; bytes = bytes; source = Reread a })))
       ⊎ (((holds a (old.index h) ≡ true) → Fits (flusher f) bytes → ⊥) × (new ≡ turned f (record (flusher f) { queue = rest })))
-  Takes f queue reply new = ⊥
+  TakesFront f queue reply new = ⊥
 
   -- the front of a flusher's queue
   abbrev pub Receives : ℕ → Reply C → State C → Type 0
-  Receives f reply new = Takes f (flusher f).queue reply new
+  Receives f reply new = TakesFront f (flusher f).queue reply new

@@ -3,9 +3,9 @@ use Rattle.std.specs.Prelude.{◌≡◌, ◌≢◌, ℕ, suc, zero, ◌+◌, ◌
 use Rattle.foyer_model.specs.Numbers.{put, last_number}
 use Rattle.foyer_model.specs.Record.{Address, IndexEntry}
 use Rattle.foyer_model.specs.Index.{is_same, forgotten}
-use Rattle.foyer_model.specs.State.{Reinsert, Place, Clean, Writes, Evictable, Reclaims, Stats, no_stats, Stage, AtIndex, AtRecord, AllListed, ToClean, Reclaim, State}
+use Rattle.foyer_model.specs.State.{Reinsert, BlockSet, Clean, Writes, Evictable, Reclaims, Stats, no_stats, Stage, AtIndex, AtRecord, AllListed, ToClean, Reclaim, State}
 use Rattle.foyer_model.specs.Rules.{Rules, flusher_of}
-use Rattle.foyer_model.specs.Step.{Came, Bytes, Fault}
+use Rattle.foyer_model.specs.Step.{ReadResult, Bytes, Fault}
 use Rattle.foyer_model.specs.Reply.{Reply, Picked, Scans, Listed, Cleans, Done, Answer}
 use Rattle.foyer_model.specs.Queue.{queued}
 use Rattle.foyer_model.specs.Flush.{is_some, is_cleaning, usable_count}
@@ -16,24 +16,24 @@ running zero reclaims = 0
 running (suc n) reclaims = (if is_some (reclaims n) then 1 else 0) + running n reclaims
 
 -- whether it is the evictable set
-abbrev pub is_evictable : Place → Bool
+abbrev pub is_evictable : BlockSet → Bool
 is_evictable Clean = false
 is_evictable (Writes f) = false
 is_evictable Evictable = true
 is_evictable Reclaims = false
 
 -- a picker's answer that is an evictable block; another is no pick
-abbrev pub is_pick : ℕ → (ℕ → Place) → Option ℕ → Bool
+abbrev pub is_pick : ℕ → (ℕ → BlockSet) → Option ℕ → Bool
 is_pick blocks place None = false
 is_pick blocks place (Some b) = nat_lt b blocks && is_evictable (place b)
 
 -- the first pick among the answers
-abbrev pub first_pick : ℕ → (ℕ → Place) → List (Option ℕ) → Option ℕ
+abbrev pub first_pick : ℕ → (ℕ → BlockSet) → List (Option ℕ) → Option ℕ
 first_pick blocks place [] = None
 first_pick blocks place (answer ∷ answers) = if is_pick blocks place answer then answer else first_pick blocks place answers
 
 -- pickers are asked in order, all of them or up to the first pick
-abbrev pub are_asked : (pickers blocks : ℕ) → (ℕ → Place) → List (Option ℕ) → Bool
+abbrev pub are_asked : (pickers blocks : ℕ) → (ℕ → BlockSet) → List (Option ℕ) → Bool
 are_asked zero blocks place [] = true
 are_asked (suc n) blocks place [] = false
 are_asked zero blocks place (answer ∷ answers) = false
@@ -41,7 +41,7 @@ are_asked (suc n) blocks place (answer ∷ []) = is_pick blocks place answer || 
 are_asked (suc n) blocks place (answer ∷ next ∷ answers) = if is_pick blocks place answer then false else are_asked n blocks place (next ∷ answers)
 
 -- pickers put evictable blocks on probation
-abbrev pub marked : List ℕ → (ℕ → Place) → (ℕ → Stats) → ℕ → Stats
+abbrev pub marked : List ℕ → (ℕ → BlockSet) → (ℕ → Stats) → ℕ → Stats
 marked [] place stats = stats
 marked (b ∷ bs) place stats = marked bs place (if is_evictable (place b) then put stats b (record (stats b) { probation = true }) else stats)
 
@@ -98,12 +98,12 @@ module _ {C : Type 0} (rules : Rules C) (old : State C) where
   stage_after [] place = if nat_le (place + rules.index_size) rules.block_size then AtIndex place else AllListed
   stage_after (p ∷ ps) place = AtRecord p.0 p.1 ps place
 
-  -- the read that it tells
-  abbrev pub told_at : ℕ → Stage → List Bool → Reply C
-  told_at b (AtIndex place) verdicts = Scans b place rules.index_size verdicts
-  told_at b (AtRecord h a rest place) verdicts = Scans b a.offset (rules.page_up a.len) verdicts
-  told_at b AllListed verdicts = Listed verdicts
-  told_at b ToClean verdicts = Listed verdicts
+  -- the read that it issues
+  abbrev pub issued_at : ℕ → Stage → List Bool → Reply C
+  issued_at b (AtIndex place) verdicts = Scans b place rules.index_size verdicts
+  issued_at b (AtRecord h a rest place) verdicts = Scans b a.offset (rules.page_up a.len) verdicts
+  issued_at b AllListed verdicts = Listed verdicts
+  issued_at b ToClean verdicts = Listed verdicts
 
   -- the reclaim of a block goes on
   abbrev pub reclaiming : ℕ → Reclaim → State C
@@ -119,23 +119,23 @@ module _ {C : Type 0} (rules : Rules C) (old : State C) where
   Lists b r place None reply new = (reply ≡ Listed []) × (new ≡ reclaiming b (record r { stage = AllListed }))
   Lists b r place (Some es) reply new =
       (verdicts : List Bool) × (length verdicts ≡ length es)
-      × (reply ≡ told_at b (stage_behind b place es verdicts) verdicts)
+      × (reply ≡ issued_at b (stage_behind b place es verdicts) verdicts)
       × (new ≡ reclaiming b (record r { stage = stage_behind b place es verdicts; listed = addresses b (old.filling b) place es ++ r.listed }))
 
   -- a fault ends the listing; the n-th record that is read is queued for reinsertion at the n-th flusher, in turn
-  abbrev pub Scanned : ℕ → Reclaim → Stage → Came → Reply C → State C → Type 0
+  abbrev pub Scanned : ℕ → Reclaim → Stage → ReadResult → Reply C → State C → Type 0
   Scanned b r (AtIndex place) Fault reply new = (reply ≡ Listed []) × (new ≡ reclaiming b (record r { stage = AllListed }))
   Scanned b r (AtRecord h a rest place) Fault reply new = (reply ≡ Listed []) × (new ≡ reclaiming b (record r { stage = AllListed }))
   Scanned b r (AtIndex place) (Bytes bs) reply new = Lists b r place (rules.entries_of place bs) reply new
   Scanned b r (AtRecord h a rest place) (Bytes bs) reply new =
-      (reply ≡ told_at b (stage_after rest place) [])
+      (reply ≡ issued_at b (stage_after rest place) [])
       × (new ≡ record (queued rules old (flusher_of rules (length r.requeued)) (Reinsert h (take a.len bs) a)) {
         reclaims = put old.reclaims b (Some (record r { stage = stage_after rest place; requeued = (h, a) ∷ r.requeued }));
       })
   Scanned b r stage came reply new = ⊥
 
   -- a read for the reclaim of a block
-  abbrev pub Rereads : ℕ → Option Reclaim → Came → Reply C → State C → Type 0
+  abbrev pub Rereads : ℕ → Option Reclaim → ReadResult → Reply C → State C → Type 0
   Rereads b None came reply new = ⊥
   Rereads b (Some r) came reply new = Scanned b r r.stage came reply new
 

@@ -8,7 +8,7 @@ use Rattle.foyer_model.specs.Step.{Bytes, Fault, Step, Enqueue, Delete, Wait, Lo
 use Rattle.foyer_model.specs.Reply.{Kind, Io, Memory, Parse, Closed, Unsupported, SequenceEnd, Reply, Queued, Deleted, Done, Received, Began, Written, NoBlock, Picked, Destroying, Cleared}
 use Rattle.foyer_model.specs.Queue.{IsIgnored}
 use Rattle.foyer_model.specs.Load.{judged, IsDecoded}
-use Rattle.foyer_model.specs.Does.{Does}
+use Rattle.foyer_model.specs.Changes.{Changes}
 use Rattle.foyer_model.specs.InTurn.{InTurn}
 
 -- the steps that draw a sequence, and that a closed core refuses
@@ -19,20 +19,20 @@ Draws DestroyBegin = Unit {0}
 Draws step = ⊥
 
 -- where a step grows something, by the reply that it would have
-abbrev pub Grows : {C : Type 0} → Step C → Reply C → Type 0
-Grows (Enqueue h n age c) (Queued s) = Unit {0}
-Grows (Delete h) (Deleted s) = Unit {0}
-Grows (Wait f i) Done = Unit {0}
-Grows (Receive f) (Received returned) = Unit {0}
-Grows (FlushBegin f) (Began blocks marks) = Unit {0}
-Grows (FlushBlock f) (Written b writes) = Unit {0}
-Grows (FlushBlock f) NoBlock = Unit {0}
-Grows ReclaimBegin (Picked b answers probation) = Unit {0}
-Grows (ReclaimRead b (Bytes bs)) reply = Unit {0}
-Grows (ReclaimCleaned b ok) Done = Unit {0}
-Grows DestroyBegin (Destroying s) = Unit {0}
-Grows DestroyClear (Cleared bs) = Unit {0}
-Grows step reply = ⊥
+abbrev pub Allocates : {C : Type 0} → Step C → Reply C → Type 0
+Allocates (Enqueue h n age c) (Queued s) = Unit {0}
+Allocates (Delete h) (Deleted s) = Unit {0}
+Allocates (Wait f i) Done = Unit {0}
+Allocates (Receive f) (Received returned) = Unit {0}
+Allocates (FlushBegin f) (Began blocks marks) = Unit {0}
+Allocates (FlushBlock f) (Written b writes) = Unit {0}
+Allocates (FlushBlock f) NoBlock = Unit {0}
+Allocates ReclaimBegin (Picked b answers probation) = Unit {0}
+Allocates (ReclaimRead b (Bytes bs)) reply = Unit {0}
+Allocates (ReclaimCleaned b ok) Done = Unit {0}
+Allocates DestroyBegin (Destroying s) = Unit {0}
+Allocates DestroyClear (Cleared bs) = Unit {0}
+Allocates step reply = ⊥
 
 module _ {C : Type 0} (rules : Rules C) (Splits : Splitting C) (old : State C) where
   -- an enqueue that is ignored draws nothing
@@ -42,10 +42,10 @@ module _ {C : Type 0} (rules : Rules C) (Splits : Splitting C) (old : State C) w
   DrawsNow DestroyBegin = Unit {0}
   DrawsNow step = ⊥
 
-  -- a growth is needed that can be refused: of a load where a key or a value is decoded, of any other step by its reply
+  -- an allocation is needed that can be refused: of a load where a key or a value is decoded, of any other step by its reply
   abbrev pub NeedsMemory : Step C → Type 0
   NeedsMemory (LoadEnd t (Bytes bs)) = IsDecoded rules old (judged rules old t bs)
-  NeedsMemory step = (reply : Reply C) × (new : State C) × Does rules Splits old step reply new × Grows step reply
+  NeedsMemory step = (reply : Reply C) × (new : State C) × Changes rules Splits old step reply new × Allocates step reply
 
   -- the cause of a refusal of a step in turn, before the limit of steps
   abbrev pub HasCause : Kind → Step C → Type 0

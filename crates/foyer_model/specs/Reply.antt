@@ -1,6 +1,6 @@
 -- The replies of the core. Each choice that a step makes stands in its reply.
 use Rattle.std.specs.Prelude.{ℕ, Bool, List, Option}
-use Rattle.foyer_model.specs.Filling.{Write, Spread}
+use Rattle.foyer_model.specs.Position.{Write, BlockLayout}
 use Rattle.foyer_model.specs.Step.{Age, Ticket, Step}
 
 -- why a step is refused
@@ -23,21 +23,21 @@ pub data Reply (C : Type 0) : Type 0 where
   Answer : Bool → Reply C
   Miss : Reply C
   Throttled : Reply C
-  Read : Ticket → Reply C  -- tells a read
+  Read : Ticket → Reply C  -- issues a read
   Entry : C → Age → Reply C
   Empty : Reply C
   Received : (returned : Option C) → Reply C
-  Began : List (Spread C) → (marks : List (ℕ × ℕ)) → Reply C  -- how the batch is placed
-  Written : (block : ℕ) → List Write → Reply C  -- tells these writes
+  Began : List (BlockLayout C) → (marks : List (ℕ × ℕ)) → Reply C  -- how the batch is placed
+  Written : (block : ℕ) → List Write → Reply C  -- issues these writes
   NoBlock : Reply C
   Next : Reply C
   Committed : (puts : ℕ) → Reply C
   Failed : Reply C
   Ended : (pieces : List C) → (waits : List ℕ) → Reply C
-  Picked : (block : ℕ) → (answers : List (Option ℕ)) → (probation : List ℕ) → Reply C  -- tells a read of its first index; the pickers' answers, and what they put on probation
-  Scans : (block offset len : ℕ) → (verdicts : List Bool) → Reply C  -- tells a read; the filter's verdicts on what was listed
+  Picked : (block : ℕ) → (answers : List (Option ℕ)) → (probation : List ℕ) → Reply C  -- issues a read of its first index; the pickers' answers, and what they put on probation
+  Scans : (block offset len : ℕ) → (verdicts : List Bool) → Reply C  -- issues a read; the filter's verdicts on what was listed
   Listed : (verdicts : List Bool) → Reply C
-  Cleans : (block : ℕ) → Reply C  -- tells a clean
+  Cleans : (block : ℕ) → Reply C  -- issues a clean
   Destroying : (sequence : ℕ) → Reply C
-  Cleared : (blocks : List ℕ) → Reply C  -- tells a clean of each of these
+  Cleared : (blocks : List ℕ) → Reply C  -- issues a clean of each of these
   Destroyed : (is_ok : Bool) → Reply C  -- whether every clean went well

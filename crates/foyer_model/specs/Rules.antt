@@ -2,7 +2,7 @@
 use Rattle.std.specs.Prelude.{◌≡◌, ℕ, ◌<◌, ◌≤◌, ◌%◌, Bool, List, [], Option, Some}
 use Rattle.foyer_model.specs.Numbers.{last_number, page}
 use Rattle.foyer_model.specs.Record.{Outcome, Holds, IndexEntry, Record}
-use Rattle.foyer_model.specs.Filling.{Filling, Write, Part, Spread}
+use Rattle.foyer_model.specs.Position.{Position, Write, Part, BlockLayout}
 
 -- the sizes, and the judgements on bytes
 pub record Rules (C : Type 0) : Type 0 where
@@ -12,7 +12,7 @@ pub record Rules (C : Type 0) : Type 0 where
   pub pickers : ℕ
   pub index_size : ℕ
   pub block_size : ℕ
-  pub room : Filling → ℕ  -- of a flusher's buffer, in bytes, from where its splitter goes on
+  pub room : Position → ℕ  -- of a flusher's buffer, in bytes, from where its splitter goes on
   pub threshold : ℕ  -- of the sizes of all queued pieces
   pub clean_threshold : ℕ  -- of clean blocks
   pub has_log : Bool
@@ -30,12 +30,12 @@ abbrev pub flusher_of : {C : Type 0} → Rules C → ℕ → ℕ
 flusher_of rules h = h % rules.flushers
 
 -- a block into which nothing was written
-abbrev pub empty_filling : {C : Type 0} → Rules C → Filling
-empty_filling rules = record { blob = 0; at = rules.index_size; listed = [] }
+abbrev pub first_position : {C : Type 0} → Rules C → Position
+first_position rules = record { blob = 0; at = rules.index_size; listed = [] }
 
 -- How records may be placed from a filling on: these blocks, one after the other.
 abbrev pub Splitting : Type 0 → Type 1
-Splitting C = Filling → List (Record C) → List (Spread C) → Type 0
+Splitting C = Position → List (Record C) → List (BlockLayout C) → Type 0
 
 -- the bytes of a content that a caller may hand in are a record that holds it
 abbrev pub HasRoundTrip : {C : Type 0} → Rules C → (C → Type 0) → Type 0

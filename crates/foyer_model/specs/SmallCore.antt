@@ -4,7 +4,7 @@ use Rattle.std.specs.Prelude.{◌≡◌, ℕ, zero, suc, ◌+◌, ◌==◌, nat_
 use Rattle.std.proofs.Common.{lit<}
 use Rattle.std.proofs.Math.Nat.{le_refl}
 use Rattle.foyer_model.specs.Record.{Outcome, NoRecord, NotSupported, Undecodable, Holds, Source, Record}
-use Rattle.foyer_model.specs.Filling.{Filling, Data, Index, Write, Part, Spread}
+use Rattle.foyer_model.specs.Position.{Position, Data, Index, Write, Part, BlockLayout}
 use Rattle.foyer_model.specs.Rules.{Rules, Splitting}
 
 -- what a content stands for
@@ -59,24 +59,24 @@ abbrev pub three : (hash sequence : ℕ) → (a b c : ℕ) → Source ℕ → Re
 three h s a b c source = record { hash = h; sequence = s; bytes = a ∷ b ∷ c ∷ []; source = source }
 
 -- a first blob that is filled up to there
-abbrev pub filled_to : ℕ → Filling
+abbrev pub filled_to : ℕ → Position
 filled_to at = record { blob = 0; at = at; listed = [] }
 
 -- one record in a part of its own, or none
-abbrev pub one_spread : ℕ → Record ℕ → Spread ℕ
+abbrev pub one_spread : ℕ → Record ℕ → BlockLayout ℕ
 one_spread at r = record { parts = record { blob = 0; at = at; content = r.bytes; index = []; records = (at, r) ∷ [] } ∷ []; end = filled_to (at + length r.bytes) }
 
 -- nothing goes into the block
-abbrev pub no_spread : Filling → Spread ℕ
+abbrev pub no_spread : Position → BlockLayout ℕ
 no_spread f = record { parts = []; end = f }
 
 -- where one record goes: into an empty block, or behind a first one
-abbrev pub GoesTo : ℕ → Filling → List (Record ℕ) → List (Spread ℕ) → Type 0
+abbrev pub GoesTo : ℕ → Position → List (Record ℕ) → List (BlockLayout ℕ) → Type 0
 GoesTo at f rs ss =
     (h s a b c : ℕ) × (source : Source ℕ) × (f ≡ filled_to at) × (rs ≡ three h s a b c source ∷ []) × (ss ≡ one_spread at (three h s a b c source) ∷ [])
 
 -- each record in a block of its own
-abbrev pub each_alone : List (Record ℕ) → List (Spread ℕ)
+abbrev pub each_alone : List (Record ℕ) → List (BlockLayout ℕ)
 each_alone [] = []
 each_alone (r ∷ rs) = one_spread 4096 r ∷ each_alone rs
 

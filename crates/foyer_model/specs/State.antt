@@ -1,13 +1,13 @@
--- The plain state of the core: maps are functions from numbers, queues are lists.
+-- The model's state of the core: maps are functions from numbers, queues are lists.
 use Rattle.std.specs.Prelude.{ℕ, Bool, false, List, Option}
 use Rattle.foyer_model.specs.Record.{Address, Slot, Record}
-use Rattle.foyer_model.specs.Filling.{Filling, Write, Spread}
+use Rattle.foyer_model.specs.Position.{Position, Write, BlockLayout}
 
 -- what waits in a flusher's queue: a piece with its estimated size; a mark, with the bytes that it made invalid and
 -- their block; a wait with its id; a record to be reinserted, with the address that it was read from
 pub data Submission (C : Type 0) : Type 0 where
   Piece : (hash sequence size : ℕ) → C → Submission C
-  Remove : (hash sequence : ℕ) → (spoils : List (ℕ × ℕ)) → Submission C
+  Remove : (hash sequence : ℕ) → (invalidated : List (ℕ × ℕ)) → Submission C
   Await : (id : ℕ) → Submission C
   Reinsert : (hash : ℕ) → List ℕ → Address → Submission C
 
@@ -19,11 +19,11 @@ pub record Writing (C : Type 0) : Type 0 where
 
 -- what one flush writes
 pub record Batch (C : Type 0) : Type 0 where
-  pub blocks : List (Spread C)  -- those not yet told
-  pub goes_on : Bool  -- whether the first of them is the flusher's own block
+  pub blocks : List (BlockLayout C)  -- those not yet issued
+  pub continues_own_block : Bool  -- whether the first of them is the flusher's own block
   pub writing : Option (Writing C)
   pub marks : List (ℕ × ℕ)  -- hashes with sequences
-  pub spoils : List (ℕ × ℕ)  -- blocks with the bytes that the marks made invalid
+  pub invalidated : List (ℕ × ℕ)  -- blocks with the bytes that the marks made invalid
   pub pieces : List C  -- to be given back at the end
   pub waits : List ℕ
   pub logged : Option Bool  -- whether the log took the marks, once it has answered
@@ -33,19 +33,19 @@ pub record Flusher (C : Type 0) : Type 0 where
   pub queue : List (Submission C)
   pub buffer : List (Record C)  -- what was received since the batch before
   pub marks : List (ℕ × ℕ)
-  pub spoils : List (ℕ × ℕ)
+  pub invalidated : List (ℕ × ℕ)
   pub waits : List ℕ
   pub batch : Option (Batch C)
   pub own : Option ℕ  -- the block that it goes on with
   pub ready : Option ℕ  -- a block that it got while it waited for one
-  pub context : Filling  -- where its splitter goes on
+  pub context : Position  -- where its splitter goes on
 
 -- which of the four sets a block is in
-pub data Place : Type 0 where
-  Clean : Place
-  Writes : (flusher : ℕ) → Place
-  Evictable : Place
-  Reclaims : Place
+pub data BlockSet : Type 0 where
+  Clean : BlockSet
+  Writes : (flusher : ℕ) → BlockSet
+  Evictable : BlockSet
+  Reclaims : BlockSet
 
 -- what pickers know of a block
 pub record Stats : Type 0 where
@@ -84,7 +84,7 @@ pub record State (C : Type 0) : Type 0 where
   pub steps : ℕ  -- how many steps were applied
   pub closed : Bool
   pub flushers : ℕ → Flusher C
-  pub place : ℕ → Place
+  pub place : ℕ → BlockSet
   pub clean : List ℕ  -- the clean blocks, the one that has been clean longest first
   pub waiting : List ℕ  -- the flushers that wait for a block, the one that began last at the end
   pub filling : ℕ → ℕ  -- how often a block was handed out or destroyed

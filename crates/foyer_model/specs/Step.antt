@@ -3,9 +3,9 @@ use Rattle.std.specs.Prelude.{ℕ, Bool, List}
 use Rattle.foyer_model.specs.Record.{Address}
 
 -- what a read gave
-pub data Came : Type 0 where
-  Bytes : List ℕ → Came
-  Fault : Came
+pub data ReadResult : Type 0 where
+  Bytes : List ℕ → ReadResult
+  Fault : ReadResult
 
 -- of a piece that is handed in, or of an entry that is handed out
 pub data Age : Type 0 where
@@ -25,7 +25,7 @@ pub data Step (C : Type 0) : Type 0 where
   Wait : (flusher id : ℕ) → Step C
   MayContains : (hash : ℕ) → Step C
   LoadBegin : (hash : ℕ) → (is_throttled : Bool) → Step C
-  LoadEnd : Ticket → Came → Step C
+  LoadEnd : Ticket → ReadResult → Step C
   Receive : (flusher : ℕ) → Step C
   FlushBegin : (flusher : ℕ) → Step C
   FlushBlock : (flusher : ℕ) → Step C
@@ -33,7 +33,7 @@ pub data Step (C : Type 0) : Type 0 where
   LogWrote : (flusher : ℕ) → (is_ok : Bool) → Step C
   FlushEnd : (flusher : ℕ) → Step C
   ReclaimBegin : Step C
-  ReclaimRead : (block : ℕ) → Came → Step C
+  ReclaimRead : (block : ℕ) → ReadResult → Step C
   ReclaimForget : (block : ℕ) → Step C
   ReclaimCleaned : (block : ℕ) → (is_ok : Bool) → Step C
   ReclaimIdle : Step C

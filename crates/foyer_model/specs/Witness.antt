@@ -1,7 +1,7 @@
 -- What shows that the laws speak of something: two runs of a small core that reach every reply of the table.
 use Rattle.std.specs.Prelude.{◌≡◌, ◌≢◌, ℕ, Bool, true, ◌&&◌, List, [], ◌∷◌, ◌++◌, Some, None}
 use Rattle.foyer_model.specs.Ids.{ids, is_id_in}
-use Rattle.foyer_model.specs.Placing.{PlacesAll}
+use Rattle.foyer_model.specs.Layout.{PlacesAll}
 use Rattle.foyer_model.specs.Reply.{Io, Memory, Parse, Closed, Unsupported, SequenceEnd, Reply, NotNow, Refused, Ignored, Queued, Deleted, Done, Answer, Miss, Throttled, Read, Entry, Empty, Received, Began, Written, NoBlock, Next, Committed, Failed, Ended, Picked, Scans, Listed, Cleans, Destroying, Cleared, Destroyed}
 use Rattle.foyer_model.specs.World.{World, WorldEvent, Applies, MayAllHappen}
 use Rattle.foyer_model.specs.Opened.{IsOpened}

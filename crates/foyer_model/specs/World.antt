@@ -1,16 +1,16 @@
 -- The world of the core: the bytes of every block, the core, and the accesses under way.
 use Rattle.std.specs.Prelude.{◌≡◌, ℕ, ◌≤◌, ◌==◌, nat_lt, Bool, ◌||◌, if◌then◌else◌, List, [], ◌∷◌, Option, Some, None}
 use Rattle.foyer_model.specs.Numbers.{put, last_number}
-use Rattle.foyer_model.specs.Filling.{Filling, Write, Spread}
+use Rattle.foyer_model.specs.Position.{Position, Write, BlockLayout}
 use Rattle.foyer_model.specs.Record.{Record}
 use Rattle.foyer_model.specs.State.{Writing, Batch, State}
-use Rattle.foyer_model.specs.Rules.{Rules, empty_filling, Splitting}
-use Rattle.foyer_model.specs.Step.{Came, Step, Enqueue, LoadEnd, FlushBlock, FlushWrote, ReclaimRead, ReclaimCleaned, DestroyClear, DestroyCleaned}
+use Rattle.foyer_model.specs.Rules.{Rules, first_position, Splitting}
+use Rattle.foyer_model.specs.Step.{ReadResult, Step, Enqueue, LoadEnd, FlushBlock, FlushWrote, ReclaimRead, ReclaimCleaned, DestroyClear, DestroyCleaned}
 use Rattle.foyer_model.specs.Reply.{Reply, Written, Cleared, Done, Committed}
-use Rattle.foyer_model.specs.Turn.{Follows}
+use Rattle.foyer_model.specs.Follows.{Follows}
 use Rattle.foyer_model.specs.Event.{Event, events_of}
 use Rattle.foyer_model.specs.Kept.{kept_after}
-use Rattle.foyer_model.specs.Access.{Pen, Told, Wipe, Wiped, HasRead, Load, Scan, loads_after, told_after, scans_after, pens_after, wipes_after, result_of, some_pen_covers, wipe_covers, begun, spoiled, came, at_load, at_scan, pen_begun, will_cover, pen_ended, bytes_ended, wipe_begun, wipe_will_cover, wipe_ended, bytes_wiped, IsRead, IsTorn, IsTornWipe}
+use Rattle.foyer_model.specs.Access.{BlockWrites, Issued, CleanState, CleanDone, ReadDone, Load, Scan, loads_after, issued_after, scans_after, block_writes_after, cleans_after, result_of, some_writes_covers, clean_covers, begun, read_torn, came, at_load, at_scan, writes_begun, will_cover, writes_ended, bytes_ended, clean_begun, clean_will_cover, clean_ended, bytes_cleaned, IsRead, IsTorn, IsTornClean}
 
 -- a record that was committed, and where it stands
 pub record Stored (C : Type 0) : Type 0 where
@@ -26,43 +26,43 @@ pub record World (C : Type 0) : Type 0 where
   pub bytes : ℕ → ℕ → ℕ  -- of each block
   pub history : List (Event C)  -- the newest event first
   pub kept : ℕ → Option ℕ  -- of each hash
-  pub filled : ℕ → Filling  -- how far what was told fills each block
+  pub filled : ℕ → Position  -- how far what was issued fills each block
   pub begun_writes : List (ℕ × Write)  -- each write that began, with its block, the last one first
   pub committed : List (Stored C)  -- each record that was committed, the last one first
   pub loads : ℕ → Option (Load C)  -- by the number of its ticket in the run
-  pub told : ℕ  -- how many tickets there are
+  pub issued : ℕ  -- how many tickets there are
   pub scans : ℕ → Option Scan  -- by block
-  pub pens : ℕ → Pen  -- by flusher
-  pub wipes : ℕ → Wipe  -- by block
+  pub block_writes : ℕ → BlockWrites  -- by flusher
+  pub clean_states : ℕ → CleanState  -- by block
 
 -- a step with its reply and the state that it leaves, or the beginning or the end of an access
 pub data WorldEvent (C : Type 0) : Type 0 where
   Applies : Step C → Reply C → State C → WorldEvent C
   ReadBegins : (ticket : ℕ) → WorldEvent C
-  ReadEnds : (ticket : ℕ) → Came → WorldEvent C
+  ReadEnds : (ticket : ℕ) → ReadResult → WorldEvent C
   ScanBegins : (block : ℕ) → WorldEvent C
-  ScanEnds : (block : ℕ) → Came → WorldEvent C
+  ScanEnds : (block : ℕ) → ReadResult → WorldEvent C
   WriteBegins : (flusher : ℕ) → WorldEvent C
   WriteEnds : (flusher : ℕ) → (is_ok : Bool) → (torn : ℕ → ℕ) → WorldEvent C
-  WipeBegins : (block : ℕ) → WorldEvent C
-  WipeEnds : (block : ℕ) → (is_ok : Bool) → (torn : ℕ → ℕ) → WorldEvent C
+  CleanBegins : (block : ℕ) → WorldEvent C
+  CleanEnds : (block : ℕ) → (is_ok : Bool) → (torn : ℕ → ℕ) → WorldEvent C
 
--- how far a block is filled when the next block of a batch is told into it
-abbrev pub end_of : {C : Type 0} → List (Spread C) → Filling → Filling
+-- how far a block is filled when the next block of a batch is issued into it
+abbrev pub end_of : {C : Type 0} → List (BlockLayout C) → Position → Position
 end_of [] f = f
 end_of (s ∷ ss) f = s.end
 
 -- the same of a flusher's batch
-abbrev pub end_in : {C : Type 0} → Option (Batch C) → Filling → Filling
+abbrev pub end_in : {C : Type 0} → Option (Batch C) → Position → Position
 end_in None f = f
 end_in (Some batch) f = end_of batch.blocks f
 
 -- how far each block is filled: one is empty when it is handed to a flusher that waited and so begins a new filling, and
 -- all are after a destroy
-abbrev pub filled_after : {C : Type 0} → Rules C → State C → Reply C → Step C → (filling : ℕ → ℕ) → (ℕ → Filling) → ℕ → Filling
+abbrev pub filled_after : {C : Type 0} → Rules C → State C → Reply C → Step C → (filling : ℕ → ℕ) → (ℕ → Position) → ℕ → Position
 filled_after rules old (Written b ws) (FlushBlock f) filling filled = put filled b (end_in (old.flushers f).batch (filled b))
-filled_after rules old Done (ReclaimCleaned b ok) filling filled = if filling b == old.filling b then filled else put filled b (empty_filling rules)
-filled_after rules old (Cleared bs) DestroyClear filling filled = λ b. if nat_lt b rules.blocks then empty_filling rules else filled b
+filled_after rules old Done (ReclaimCleaned b ok) filling filled = if filling b == old.filling b then filled else put filled b (first_position rules)
+filled_after rules old (Cleared bs) DestroyClear filling filled = λ b. if nat_lt b rules.blocks then first_position rules else filled b
 filled_after rules old reply step filling filled = filled
 
 -- these records of a block are committed, one after the other
@@ -86,14 +86,14 @@ committed_after old (Committed n) (FlushWrote f ok) stored = stored_of old (old.
 committed_after old reply step stored = stored
 
 -- a write that begins is noted
-abbrev pub noted_write : Pen → List (ℕ × Write) → List (ℕ × Write)
-noted_write (Told b results (w ∷ ws)) log = (b, w) ∷ log
-noted_write pen log = log
+abbrev pub noted_write : BlockWrites → List (ℕ × Write) → List (ℕ × Write)
+noted_write (Issued b results (w ∷ ws)) log = (b, w) ∷ log
+noted_write pending log = log
 
 module _ {C : Type 0} (rules : Rules C) where
   -- where a write or a clean is under way
   abbrev pub covers : World C → ℕ → ℕ → Bool
-  covers w b o = some_pen_covers rules.flushers w.pens b o || wipe_covers (w.wipes b) o
+  covers w b o = some_writes_covers rules.flushers w.block_writes b o || clean_covers (w.clean_states b) o
 
   -- what an event leaves; one out of place does nothing
   abbrev pub after : World C → WorldEvent C → World C
@@ -106,11 +106,11 @@ module _ {C : Type 0} (rules : Rules C) where
         filled = filled_after rules w.core reply step new.filling w.filled;
         begun_writes = w.begun_writes;
         committed = committed_after w.core reply step w.committed;
-        loads = loads_after reply w.history w.kept w.told w.loads;
-        told = told_after reply w.told;
+        loads = loads_after reply w.history w.kept w.issued w.loads;
+        issued = issued_after reply w.issued;
         scans = scans_after rules.index_size reply step w.scans;
-        pens = pens_after reply step w.pens;
-        wipes = wipes_after reply step w.wipes;
+        block_writes = block_writes_after reply step w.block_writes;
+        clean_states = cleans_after reply step w.clean_states;
       }
   after w (ReadBegins n) = record w { loads = put w.loads n (at_load (begun (covers w)) (w.loads n)) }
   after w (ReadEnds n result) = record w { loads = put w.loads n (at_load (λ _. came result) (w.loads n)) }
@@ -118,21 +118,21 @@ module _ {C : Type 0} (rules : Rules C) where
   after w (ScanEnds b result) = record w { scans = put w.scans b (at_scan (λ _. came result) b (w.scans b)) }
   after w (WriteBegins f) =
       record w {
-        pens = put w.pens f (pen_begun (w.pens f));
-        begun_writes = noted_write (w.pens f) w.begun_writes;
-        loads = λ n. at_load (spoiled (will_cover (w.pens f))) (w.loads n);
-        scans = λ b. at_scan (spoiled (will_cover (w.pens f))) b (w.scans b);
+        block_writes = put w.block_writes f (writes_begun (w.block_writes f));
+        begun_writes = noted_write (w.block_writes f) w.begun_writes;
+        loads = λ n. at_load (read_torn (will_cover (w.block_writes f))) (w.loads n);
+        scans = λ b. at_scan (read_torn (will_cover (w.block_writes f))) b (w.scans b);
       }
   after w (WriteEnds f ok g) =
-      record w { pens = put w.pens f (pen_ended ok (w.pens f)); bytes = bytes_ended ok g (w.pens f) w.bytes }
-  after w (WipeBegins b) =
+      record w { block_writes = put w.block_writes f (writes_ended ok (w.block_writes f)); bytes = bytes_ended ok g (w.block_writes f) w.bytes }
+  after w (CleanBegins b) =
       record w {
-        wipes = put w.wipes b (wipe_begun (w.wipes b));
-        loads = λ n. at_load (spoiled (wipe_will_cover b (w.wipes b))) (w.loads n);
-        scans = λ c. at_scan (spoiled (wipe_will_cover b (w.wipes b))) c (w.scans c);
+        clean_states = put w.clean_states b (clean_begun (w.clean_states b));
+        loads = λ n. at_load (read_torn (clean_will_cover b (w.clean_states b))) (w.loads n);
+        scans = λ c. at_scan (read_torn (clean_will_cover b (w.clean_states b))) c (w.scans c);
       }
-  after w (WipeEnds b ok g) =
-      record w { wipes = put w.wipes b (wipe_ended ok (w.wipes b)); bytes = bytes_wiped ok g b (w.wipes b) w.bytes }
+  after w (CleanEnds b ok g) =
+      record w { clean_states = put w.clean_states b (clean_ended ok (w.clean_states b)); bytes = bytes_cleaned ok g b (w.clean_states b) w.bytes }
 
   -- what a list of events leaves
   abbrev pub after_all : World C → List (WorldEvent C) → World C
@@ -140,15 +140,15 @@ module _ {C : Type 0} (rules : Rules C) where
   after_all w (e ∷ es) = after_all (after w e) es
 
 -- what a read of a load or of a reclaim may give
-abbrev pub IsReadAt : {C : Type 0} → Rules C → (ℕ → ℕ → ℕ) → Option (Load C) → Came → Type 0
+abbrev pub IsReadAt : {C : Type 0} → Rules C → (ℕ → ℕ → ℕ) → Option (Load C) → ReadResult → Type 0
 IsReadAt rules bytes None result = Unit {0}
 IsReadAt rules bytes (Some l) result =
-    IsRead (bytes l.ticket.address.block) l.ticket.address.offset (rules.page_up l.ticket.address.len) l.phase result
+    IsRead (bytes l.ticket.address.block) l.ticket.address.offset (rules.page_up l.ticket.address.len) l.read_state result
 
 -- the same of a reclaim
-abbrev pub IsScanned : (ℕ → ℕ) → Option Scan → Came → Type 0
+abbrev pub IsScanned : (ℕ → ℕ) → Option Scan → ReadResult → Type 0
 IsScanned bytes None result = Unit {0}
-IsScanned bytes (Some s) result = IsRead bytes s.offset s.len s.phase result
+IsScanned bytes (Some s) result = IsRead bytes s.offset s.len s.read_state result
 
 -- what may happen, where callers hand in such contents
 module _ {C : Type 0} (rules : Rules C) (Splits : Splitting C) (is_value : C → Type 0) where
@@ -156,14 +156,14 @@ module _ {C : Type 0} (rules : Rules C) (Splits : Splitting C) (is_value : C →
   -- callers have. Every other step comes at any time, out of turn too.
   abbrev pub IsFed : World C → Step C → Type 0
   IsFed w (Enqueue h n age c) = (h ≤ last_number) × is_value c
-  IsFed w (LoadEnd t result) = (n : ℕ) × (l : Load C) × (w.loads n ≡ Some l) × (l.ticket ≡ t) × (l.phase ≡ HasRead result)
-  IsFed w (FlushWrote f ok) = result_of (w.pens f) ≡ Some ok
-  IsFed w (ReclaimRead b result) = (s : Scan) × (w.scans b ≡ Some s) × (s.phase ≡ HasRead result)
-  IsFed w (ReclaimCleaned b ok) = w.wipes b ≡ Wiped ok
-  IsFed w (DestroyCleaned b ok) = w.wipes b ≡ Wiped ok
+  IsFed w (LoadEnd t result) = (n : ℕ) × (l : Load C) × (w.loads n ≡ Some l) × (l.ticket ≡ t) × (l.read_state ≡ ReadDone result)
+  IsFed w (FlushWrote f ok) = result_of (w.block_writes f) ≡ Some ok
+  IsFed w (ReclaimRead b result) = (s : Scan) × (w.scans b ≡ Some s) × (s.read_state ≡ ReadDone result)
+  IsFed w (ReclaimCleaned b ok) = w.clean_states b ≡ CleanDone ok
+  IsFed w (DestroyCleaned b ok) = w.clean_states b ≡ CleanDone ok
   IsFed w step = Unit {0}
 
-  -- what may happen: a step as the relation has it, an access as told
+  -- what may happen: a step as the relation has it, an access as it was issued
   abbrev pub MayHappen : World C → WorldEvent C → Type 0
   MayHappen w (Applies step reply new) = IsFed w step × Follows rules Splits w.core step reply new
   MayHappen w (ReadBegins n) = Unit {0}
@@ -171,9 +171,9 @@ module _ {C : Type 0} (rules : Rules C) (Splits : Splitting C) (is_value : C →
   MayHappen w (ScanBegins b) = Unit {0}
   MayHappen w (ScanEnds b result) = IsScanned (w.bytes b) (w.scans b) result
   MayHappen w (WriteBegins f) = Unit {0}
-  MayHappen w (WriteEnds f ok g) = IsTorn w.bytes (w.pens f) g
-  MayHappen w (WipeBegins b) = Unit {0}
-  MayHappen w (WipeEnds b ok g) = IsTornWipe w.bytes b (w.wipes b) g
+  MayHappen w (WriteEnds f ok g) = IsTorn w.bytes (w.block_writes f) g
+  MayHappen w (CleanBegins b) = Unit {0}
+  MayHappen w (CleanEnds b ok g) = IsTornClean w.bytes b (w.clean_states b) g
 
   -- each event may, after those before it
   abbrev pub MayAllHappen : World C → List (WorldEvent C) → Type 0

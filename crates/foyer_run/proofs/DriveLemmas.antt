@@ -5,9 +5,9 @@ use Rattle.foyer_core.specs.Answered.{HandsBack}
 use Rattle.foyer_core.specs.Begins.{first_world}
 use Rattle.foyer_core.specs.Content.{Content, Meaning}
 use Rattle.foyer_core.specs.InOneBlock.{IsInOneBlock}
-use Rattle.foyer_core.specs.Meets.{IsBuilt, IsHandedBack, IsMet, machine}
-use Rattle.foyer_core.specs.Plain.{IsSpelled}
-use Rattle.foyer_core.specs.Sizes.{IsSound}
+use Rattle.foyer_core.specs.Refines.{IsBuilt, IsHandedBack, IsRefined, machine}
+use Rattle.foyer_core.specs.CoreRules.{IsEncoded}
+use Rattle.foyer_core.specs.Sizes.{AreValid}
 use Rattle.foyer_core.specs.Standing.{IsStateOf}
 use Rattle.foyer_core.specs.declared.reply.Reply.{Reply}
 use Rattle.foyer_core.specs.declared.reply.Reply.TheVariants as reply
@@ -24,7 +24,7 @@ use Rattle.foyer_run.specs.declared.moves.Asked.TheVariants as asks
 use Rattle.foyer_run.specs.declared.moves.Move.{Move}
 use Rattle.foyer_run.proofs.AccessLemmas.{says_last, step_alone, unnoted}
 use Rattle.foyer_run.proofs.RunLemmas.{after_more, going_first, happen_more}
-use Rattle.foyer_run.proofs.StepLemmas.{Spells, step_moves}
+use Rattle.foyer_run.proofs.StepLemmas.{Encodes, step_moves}
 
 module _ {K V P A : Type 0} (m : Meaning K V P) where
   -- nothing happens
@@ -39,7 +39,7 @@ module _ {K V P A : Type 0} (m : Meaning K V P) where
       let v = after_all rules w one.events in
       let two = then s sound v one.stands one.same in record {
         events = one.events ++ two.events;
-        happened = happen_more rules (IsInOneBlock s.blob_index_size) (IsSpelled m.is_key m.is_value) w one.events two.events one.happened two.happened;
+        happened = happen_more rules (IsInOneBlock s.blob_index_size) (IsEncoded m.is_key m.is_value) w one.events two.events one.happened two.happened;
         stands = subst (λ u. IsStateOf m s c u.core) (sym (after_more rules w one.events two.events)) two.stands;
         same = λ b o. ap (λ u. u.bytes b o) (after_more rules w one.events two.events) ∙ two.same b o;
       }
@@ -58,34 +58,34 @@ module _ {K V P A : Type 0} (m : Meaning K V P) where
   writes_drive f None a b x y all = runs_drive (writes_of f (length all.writes.items)) (reply.Write all.block all.writes ∷ replicate (length all.writes.items) reply.Next) a b x y all.runs
   writes_drive f (Some last) a b x y until = says_drive (writes_of f until.count) last a b x y until.says
 
-  -- a step that brings no result and tells no write
-  pub step_drives : (spells : Spells m) (given : Step K V P A) (answer : Reply K V P A) (old new : Core K V P A) (bytes : ℕ → ℕ → ℕ)
+  -- a step that brings no result and issues no write
+  pub step_drives : (encodes : Encodes m) (given : Step K V P A) (answer : Reply K V P A) (old new : Core K V P A) (bytes : ℕ → ℕ → ℕ)
       → IsFree given → HandsBack given answer old new
-      → ((s : Settings) (sound : IsSound s) (v : World Content) → IsStateOf m s old v.core → IsBuilt given → IsMet m s sound given answer new v.core) → ((IsBuilt given → ⊥) → IsHandedBack answer)
+      → ((s : Settings) (sound : AreValid s) (v : World Content) → IsStateOf m s old v.core → IsBuilt given → IsRefined m s sound given answer new v.core) → ((IsBuilt given → ⊥) → IsHandedBack answer)
       → Drives m old new bytes bytes
-  step_drives spells given answer old new bytes free back meets later s sound w stands same =
+  step_drives encodes given answer old new bytes free back meets later s sound w stands same =
       let going = going_first m s sound w (unnoted s) old bytes stands same refl in
       let rules = machine m s sound in
       let v = after_all rules w going.events in
-      let moved = step_moves m s sound spells w.told w.pens given answer [] (with_ticket (ticket_in answer) []) (unnoted s) [] (answer ∷ []) old new bytes v going.running free back
+      let moved = step_moves m s sound encodes w.issued w.block_writes given answer [] (with_ticket (ticket_in answer) []) (unnoted s) [] (answer ∷ []) old new bytes v going.running free back
       (meets s sound v (going.running).stands) later refl refl in record {
         events = going.events ++ moved.events;
-        happened = happen_more rules (IsInOneBlock s.blob_index_size) (IsSpelled m.is_key m.is_value) w going.events moved.events going.happened moved.happened;
+        happened = happen_more rules (IsInOneBlock s.blob_index_size) (IsEncoded m.is_key m.is_value) w going.events moved.events going.happened moved.happened;
         stands = subst (λ u. IsStateOf m s new u.core) (sym (after_more rules w going.events moved.events)) (moved.running).stands;
         same = λ b o. ap (λ u. u.bytes b o) (after_more rules w going.events moved.events) ∙ (moved.running).same b o;
       }
 
   -- the same, as a run of the move that is this step
-  pub step_says : (spells : Spells m) (x : Move K V P A) (given : Step K V P A) (answer : Reply K V P A) (old new : Core K V P A) (bytes : ℕ → ℕ → ℕ)
+  pub step_says : (encodes : Encodes m) (x : Move K V P A) (given : Step K V P A) (answer : Reply K V P A) (old new : Core K V P A) (bytes : ℕ → ℕ → ℕ)
       → asked x ≡ asks.Step given → IsFree given → HandsBack given answer old new
-      → ((s : Settings) (sound : IsSound s) (v : World Content) → IsStateOf m s old v.core → IsBuilt given → IsMet m s sound given answer new v.core) → ((IsBuilt given → ⊥) → IsHandedBack answer)
+      → ((s : Settings) (sound : AreValid s) (v : World Content) → IsStateOf m s old v.core → IsBuilt given → IsRefined m s sound given answer new v.core) → ((IsBuilt given → ⊥) → IsHandedBack answer)
       → Says m (x ∷ []) answer old new bytes bytes
-  step_says spells x given answer old new bytes is free back meets later =
+  step_says encodes x given answer old new bytes is free back meets later =
       says_last m (x ∷ []) (with_ticket (ticket_in answer) []) [] answer old new bytes bytes
-      (λ s sound w stands same. step_alone m s sound spells w x given answer old new bytes stands same is free back (meets s sound) later)
+      (λ s sound w stands same. step_alone m s sound encodes w x given answer old new bytes stands same is free back (meets s sound) later)
 
   -- a history goes on
-  pub history_more : (s : Settings) (sound : IsSound s) (first : ℕ → ℕ → ℕ) (events : List (WorldEvent Content)) (old new : Core K V P A) (bytes bytes' : ℕ → ℕ → ℕ)
+  pub history_more : (s : Settings) (sound : AreValid s) (first : ℕ → ℕ → ℕ) (events : List (WorldEvent Content)) (old new : Core K V P A) (bytes bytes' : ℕ → ℕ → ℕ)
       → IsHistory m s sound first events old bytes → Drives m old new bytes bytes' → (more : List (WorldEvent Content)) × IsHistory m s sound first (events ++ more) new bytes'
   history_more s sound first events old new bytes bytes' history drives =
       let rules = machine m s sound in
@@ -94,7 +94,7 @@ module _ {K V P A : Type 0} (m : Meaning K V P) where
       let driven = drives s sound w history.stands history.same in (
         driven.events,
         record {
-          happened = happen_more rules (IsInOneBlock s.blob_index_size) (IsSpelled m.is_key m.is_value) begun events driven.events history.happened driven.happened;
+          happened = happen_more rules (IsInOneBlock s.blob_index_size) (IsEncoded m.is_key m.is_value) begun events driven.events history.happened driven.happened;
           stands = subst (λ u. IsStateOf m s new u.core) (sym (after_more rules begun events driven.events)) driven.stands;
           same = λ b o. ap (λ u. u.bytes b o) (after_more rules begun events driven.events) ∙ driven.same b o;
         },

@@ -1,7 +1,7 @@
 -- The laws of a run that began with an opened core.
 use Rattle.std.proofs.Common.{◌≡◌, ℕ, false, List, [], ◌∷◌, ◌++◌, inl, inr, Some, refl, sym, ap, subst, ◌∙◌}
 use Rattle.foyer_model.specs.Laws.{Demands, IsReached}
-use Rattle.foyer_model.specs.Reply as replies
+use Rattle.foyer_model.specs.Reply as model_reply
 use Rattle.foyer_model.specs.Rules.{Rules, Splitting}
 use Rattle.foyer_model.specs.Step.{LoadBegin, LoadEnd}
 use Rattle.foyer_model.specs.World.{World, WorldEvent, Applies, MayAllHappen, after, after_all}
@@ -10,9 +10,9 @@ use Rattle.foyer_model.proofs.PutsQueued.{puts_are_queued_lem}
 use Rattle.foyer_core.specs.Begins.{first_world}
 use Rattle.foyer_core.specs.Content.{Content, Meaning}
 use Rattle.foyer_core.specs.InOneBlock.{IsInOneBlock}
-use Rattle.foyer_core.specs.Meets.{machine}
-use Rattle.foyer_core.specs.Plain.{IsSpelled}
-use Rattle.foyer_core.specs.Sizes.{IsSound}
+use Rattle.foyer_core.specs.Refines.{machine}
+use Rattle.foyer_core.specs.CoreRules.{IsEncoded}
+use Rattle.foyer_core.specs.Sizes.{AreValid}
 use Rattle.foyer_core.specs.declared.reply.Reply.{Reply}
 use Rattle.foyer_core.specs.declared.settings.Settings.{Settings}
 use Rattle.foyer_core.specs.declared.state.Core.{Core}
@@ -35,7 +35,7 @@ happen_rest : {C : Type 0} (rules : Rules C) (Splits : Splitting C) (is_value : 
 happen_rest rules Splits is_value w [] ys all = all
 happen_rest rules Splits is_value w (x ∷ xs) ys all = happen_rest rules Splits is_value (after rules w x) xs ys all.1
 
-module _ {K V P : Type 0} (m : Meaning K V P) (s : Settings) (sound : IsSound s) (bytes : ℕ → ℕ → ℕ) where
+module _ {K V P : Type 0} (m : Meaning K V P) (s : Settings) (sound : AreValid s) (bytes : ℕ → ℕ → ℕ) where
   abbrev rules : Rules Content
   rules = machine m s sound
 
@@ -43,7 +43,7 @@ module _ {K V P : Type 0} (m : Meaning K V P) (s : Settings) (sound : IsSound s)
   Splits = IsInOneBlock s.blob_index_size
 
   abbrev is_value : Content → Type 0
-  is_value = IsSpelled m.is_key m.is_value
+  is_value = IsEncoded m.is_key m.is_value
 
   abbrev first : World Content
   first = first_world rules bytes
@@ -56,27 +56,27 @@ module _ {K V P : Type 0} (m : Meaning K V P) (s : Settings) (sound : IsSound s)
 
   module _ (events : List (WorldEvent Content)) (happened : MayAllHappen rules Splits is_value first events) where
     entries : EntriesAreNewest rules first events
-    entries before between rest h throttled t looked result c age ended l is at phase =
-        let begin : WorldEvent Content = Applies (LoadBegin h throttled) (replies.Read t) looked in
-        let end : WorldEvent Content = Applies (LoadEnd t result) (replies.Entry c age) ended in
+    entries before between rest h throttled t looked result c age ended l is at read_state =
+        let begin : WorldEvent Content = Applies (LoadBegin h throttled) (model_reply.Read t) looked in
+        let end : WorldEvent Content = Applies (LoadEnd t result) (model_reply.Entry c age) ended in
         let all : MayAllHappen rules Splits is_value first (before ++ ((begin ∷ between) ++ end ∷ rest)) = subst (λ es. MayAllHappen rules Splits is_value first es) is happened in
         let w : World Content = after_all rules first before in
         let later : MayAllHappen rules Splits is_value w ((begin ∷ between) ++ end ∷ rest) = happen_rest rules Splits is_value first before ((begin ∷ between) ++ end ∷ rest) all in
         answers_newest_lem rules Splits is_value w h throttled t looked between result c age ended l met
         (reached before (happen_front rules Splits is_value first before ((begin ∷ between) ++ end ∷ rest) all))
         (happen_front rules Splits is_value w (begin ∷ between) (end ∷ rest) later)
-        (happen_rest rules Splits is_value w (begin ∷ between) (end ∷ rest) later).0 at phase
+        (happen_rest rules Splits is_value w (begin ∷ between) (end ∷ rest) later).0 at read_state
 
     answers : AnswersAreNewest rules first events
     answers before rest t result c age ended is =
-        let end : WorldEvent Content = Applies (LoadEnd t result) (replies.Entry c age) ended in
+        let end : WorldEvent Content = Applies (LoadEnd t result) (model_reply.Entry c age) ended in
         let all : MayAllHappen rules Splits is_value first (before ++ end ∷ rest) = subst (λ es. MayAllHappen rules Splits is_value first es) is happened in
         let fed = (happen_rest rules Splits is_value first before (end ∷ rest) all).0.0 in
         let found = subst (λ u. IsLookedUp rules Splits is_value first before fed.0 u) fed.3
         (all_looked_up rules Splits is_value first before (λ n. refl) (happen_front rules Splits is_value first before (end ∷ rest) all) fed.0 fed.1 fed.2) in
-        let look : WorldEvent Content = Applies (LoadBegin found.hash found.throttled) (replies.Read t) found.looked in
+        let look : WorldEvent Content = Applies (LoadBegin found.hash found.throttled) (model_reply.Read t) found.looked in
         let w : World Content = after_all rules first found.earlier in
-        let here : (after_all rules w (look ∷ found.between)).loads w.told ≡ Some fed.1 =
+        let here : (after_all rules w (look ∷ found.between)).loads w.issued ≡ Some fed.1 =
         ap (λ n. (after_all rules w (look ∷ found.between)).loads n) found.number
         ∙ ap (λ v. v.loads fed.0) (sym (after_more rules first found.earlier (look ∷ found.between)) ∙ ap (after_all rules first) (sym found.is)) ∙ fed.2 in
         record {
@@ -98,17 +98,17 @@ module _ {K V P : Type 0} (m : Meaning K V P) (s : Settings) (sound : IsSound s)
         let later : MayAllHappen rules Splits is_value w (Applies (LoadBegin h false) reply looked ∷ others) = happen_rest rules Splits is_value first before (Applies (LoadBegin h false) reply looked ∷ others) all in
         let found = missed_newest_lem rules Splits is_value w h reply looked b q x met
         (reached before (happen_front rules Splits is_value first before (Applies (LoadBegin h false) reply looked ∷ others) all)) later.0 few kept newer some in
-        let begin : WorldEvent Content = Applies (LoadBegin h false) (replies.Read found.0) looked in (
+        let begin : WorldEvent Content = Applies (LoadBegin h false) (model_reply.Read found.0) looked in (
           found.0,
           found.1,
-          λ between rest result answer ended l d split early at phase left.
+          λ between rest result answer ended l d split early at read_state left.
               let end : WorldEvent Content = Applies (LoadEnd found.0 result) answer ended in
               let run : MayAllHappen rules Splits is_value w ((begin ∷ between) ++ end ∷ rest) =
               subst (λ es. MayAllHappen rules Splits is_value w (begin ∷ es)) split
               (subst (λ r. MayAllHappen rules Splits is_value w (Applies (LoadBegin h false) r looked ∷ others)) found.1 later) in
               found.2 between result answer ended l d
               (happen_front rules Splits is_value w (begin ∷ between) (end ∷ rest) run)
-              (happen_rest rules Splits is_value w (begin ∷ between) (end ∷ rest) run).0 early at phase left,
+              (happen_rest rules Splits is_value w (begin ∷ between) (end ∷ rest) run).0 early at read_state left,
         )
 
     puts : PutsWereQueued rules first events

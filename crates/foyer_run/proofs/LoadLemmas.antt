@@ -6,16 +6,16 @@ use Rattle.std.specs.Prelude.{IfOk, vec_len}
 use Rattle.std.specs.declared.vec.Vec.{Vec}
 use Rattle.foyer_device.specs.declared.error.Error.{Error}
 use Rattle.foyer_format.specs.Page.{page_up}
-use Rattle.foyer_model.specs.Access.{Load, Phase, Pen, Unread, Reading, HasRead, at_load, begun, came, loads_after, told_after, pens_after, IsRead as IsReadFrom}
-use Rattle.foyer_model.specs.Event as history
+use Rattle.foyer_model.specs.Access.{Load, ReadState, BlockWrites, ReadIssued, Reading, ReadDone, at_load, begun, came, loads_after, issued_after, block_writes_after, IsRead as IsReadFrom}
+use Rattle.foyer_model.specs.Event as model_event
 use Rattle.foyer_model.specs.Rules.{Rules}
-use Rattle.foyer_model.specs.Step as plain
+use Rattle.foyer_model.specs.Step as model_step
 use Rattle.foyer_model.specs.World.{World, Applies, ReadBegins, ReadEnds, covers, after, IsReadAt}
 use Rattle.foyer_model.proofs.Basics.{put_same, put_other}
 use Rattle.foyer_core.specs.Asked.{ticket_of, came_of}
 use Rattle.foyer_core.specs.Content.{Content, Meaning}
-use Rattle.foyer_core.specs.Meets.{IsMet, machine}
-use Rattle.foyer_core.specs.Sizes.{IsSound}
+use Rattle.foyer_core.specs.Refines.{IsRefined, machine}
+use Rattle.foyer_core.specs.Sizes.{AreValid}
 use Rattle.foyer_core.specs.declared.reply.Reply.{Reply}
 use Rattle.foyer_core.specs.declared.settings.Settings.{Settings}
 use Rattle.foyer_core.specs.declared.state.Core.{Core}
@@ -24,10 +24,10 @@ use Rattle.foyer_core.specs.declared.step.Ticket.{Ticket}
 use Rattle.foyer_core.proofs.StateLemmas.{set_here, set_there, set_count, some_is}
 use Rattle.foyer_run.specs.Disk.{IsRead}
 use Rattle.foyer_run.specs.Due.{unread}
-use Rattle.foyer_run.specs.Running.{IsDue, IsMoved, IsRunning, at, told_of, ticket_in, with_ticket}
+use Rattle.foyer_run.specs.Running.{IsDue, IsMoved, IsRunning, at, issued_of, ticket_in, with_ticket}
 use Rattle.foyer_run.specs.declared.moves.Asked.TheVariants as asks
-use Rattle.foyer_run.specs.declared.moves.Told.{Told}
-use Rattle.foyer_run.proofs.DueLemmas.{unread_is, pens_stay}
+use Rattle.foyer_run.specs.declared.moves.Issued.{Issued}
+use Rattle.foyer_run.proofs.DueLemmas.{unread_is, block_writes_stay}
 use Rattle.foyer_run.proofs.ListLemmas.{append_none, past_end, at_is}
 use Rattle.foyer_run.proofs.StepLemmas.{AreUnread, due_more, unread_goes}
 
@@ -43,15 +43,15 @@ pub come_is : {A : Type 0} (bytes : ℕ → ℕ → ℕ) (ticket : Ticket) (outc
 come_is bytes ticket (Ok got) read len = (read, omega (arith, got.ok, len))
 come_is bytes ticket (Err e) read len = tt
 
-module _ {K V P : Type 0} (m : Meaning K V P) (s : Settings) (sound : IsSound s) where
+module _ {K V P : Type 0} (m : Meaning K V P) (s : Settings) (sound : AreValid s) where
   abbrev rules : Rules Content
   rules = machine m s sound
 
   -- a move whose read isn't due is passed over
-  pub load_passes : {A : Type 0} (first : ℕ) (pens : ℕ → Pen) (n : ℕ) (tickets : List (Option Ticket)) (told : List (Option Told)) (said : List (Reply K V P A))
-      (core : Core K V P A) (bytes : ℕ → ℕ → ℕ) (w : World Content) → IsRunning m s first pens tickets told said core bytes w → at (slice_get tickets n) ≡ None
-      → IsMoved m s sound first pens (asks.LoadEnd n) said tickets told said core bytes w
-  load_passes first pens n tickets told said core bytes w running none = record {
+  pub load_passes : {A : Type 0} (first : ℕ) (block_writes : ℕ → BlockWrites) (n : ℕ) (tickets : List (Option Ticket)) (issued : List (Option Issued)) (said : List (Reply K V P A))
+      (core : Core K V P A) (bytes : ℕ → ℕ → ℕ) (w : World Content) → IsRunning m s first block_writes tickets issued said core bytes w → at (slice_get tickets n) ≡ None
+      → IsMoved m s sound first block_writes (asks.LoadEnd n) said tickets issued said core bytes w
+  load_passes first block_writes n tickets issued said core bytes w running none = record {
     events = [];
     answers = [];
     happened = tt;
@@ -60,31 +60,31 @@ module _ {K V P : Type 0} (m : Meaning K V P) (s : Settings) (sound : IsSound s)
     running = running;
   }
     where
-      go : (x : Option (Option Ticket)) → slice_get tickets n ≡ x → at x ≡ None → (unread (w.loads (first + n)) ≡ None) ⊎ (w.told ≤ first + n)
+      go : (x : Option (Option Ticket)) → slice_get tickets n ≡ x → at x ≡ None → (unread (w.loads (first + n)) ≡ None) ⊎ (w.issued ≤ first + n)
       go (Some None) is e = inl (running.loads n None is)
       go (Some (Some t)) is e = absurd (let f : Some t ≡ None = e in cc)
-      go None is e = inr (let past : length tickets ≤ n = past_end tickets n is in let count : w.told ≡ first + length tickets = running.count in omega arith)
+      go None is e = inr (let past : length tickets ≤ n = past_end tickets n is in let count : w.issued ≡ first + length tickets = running.count in omega arith)
 
   -- the world when the read has begun, and when it has ended
   abbrev pub begins : World Content → ℕ → World Content
   begins w k = after rules w (ReadBegins k)
 
-  abbrev pub ends : World Content → ℕ → plain.Came → World Content
+  abbrev pub ends : World Content → ℕ → model_step.ReadResult → World Content
   ends w k result = after rules (begins w k) (ReadEnds k result)
 
-  abbrev pub load_at : plain.Ticket → Option (history.Event Content) → Option ℕ → Phase → Load Content
-  load_at t p k phase = record { ticket = t; promise = p; phase = phase; kept = k }
+  abbrev pub load_at : model_step.Ticket → Option (model_event.Event Content) → Option ℕ → ReadState → Load Content
+  load_at t p k read_state = record { ticket = t; promise = p; read_state = read_state; kept = k }
 
-  pub began : (w : World Content) (k : ℕ) (t : plain.Ticket) (p : Option (history.Event Content)) (kept : Option ℕ) → w.loads k ≡ Some (load_at t p kept Unread)
+  pub began : (w : World Content) (k : ℕ) (t : model_step.Ticket) (p : Option (model_event.Event Content)) (kept : Option ℕ) → w.loads k ≡ Some (load_at t p kept ReadIssued)
       → (begins w k).loads k ≡ Some (load_at t p kept (Reading (covers rules w t.address.block)))
   began w k t p kept is = put_same w.loads k (at_load (begun (covers rules w)) (w.loads k)) ∙ ap (at_load (begun (covers rules w))) is
 
-  pub ended : (w : World Content) (k : ℕ) (result : plain.Came) (t : plain.Ticket) (p : Option (history.Event Content)) (kept : Option ℕ) → w.loads k ≡ Some (load_at t p kept Unread)
-      → (ends w k result).loads k ≡ Some (load_at t p kept (HasRead result))
+  pub ended : (w : World Content) (k : ℕ) (result : model_step.ReadResult) (t : model_step.Ticket) (p : Option (model_event.Event Content)) (kept : Option ℕ) → w.loads k ≡ Some (load_at t p kept ReadIssued)
+      → (ends w k result).loads k ≡ Some (load_at t p kept (ReadDone result))
   ended w k result t p kept is =
       put_same (begins w k).loads k (at_load (λ _. came result) ((begins w k).loads k)) ∙ ap (at_load (λ _. came result)) (began w k t p kept is)
 
-  elsewhere : (w : World Content) (k j : ℕ) (result : plain.Came) → (j ≡ k → ⊥) → (ends w k result).loads j ≡ w.loads j
+  elsewhere : (w : World Content) (k j : ℕ) (result : model_step.ReadResult) → (j ≡ k → ⊥) → (ends w k result).loads j ≡ w.loads j
   elsewhere w k j result ne =
       put_other (begins w k).loads k (at_load (λ _. came result) ((begins w k).loads k)) j ne
       ∙ put_other w.loads k (at_load (begun (covers rules w)) (w.loads k)) j ne
@@ -96,20 +96,20 @@ module _ {K V P : Type 0} (m : Meaning K V P) (s : Settings) (sound : IsSound s)
       (is.1, λ i lt free. is.0 i lt ∙ sym (same ticket.address.block (ticket.address.offset + i)))
   gives w bytes ticket (Err e) seen same is = tt
 
-  pub load_moves : {A : Type 0} (first : ℕ) (pens : ℕ → Pen) (n : ℕ) (ticket : Ticket) (outcome : Result (Vec ℕ A) Error) (answer : Reply K V P A) (tickets tickets' : List (Option Ticket)) (told : List (Option Told)) (said said' : List (Reply K V P A))
-      (old new : Core K V P A) (bytes : ℕ → ℕ → ℕ) (w : World Content) → IsRunning m s first pens tickets told said old bytes w
+  pub load_moves : {A : Type 0} (first : ℕ) (block_writes : ℕ → BlockWrites) (n : ℕ) (ticket : Ticket) (outcome : Result (Vec ℕ A) Error) (answer : Reply K V P A) (tickets tickets' : List (Option Ticket)) (issued : List (Option Issued)) (said said' : List (Reply K V P A))
+      (old new : Core K V P A) (bytes : ℕ → ℕ → ℕ) (w : World Content) → IsRunning m s first block_writes tickets issued said old bytes w
       → at (slice_get tickets n) ≡ Some ticket → IsCome bytes ticket outcome
-      → IsMet m s sound (step.LoadEnd ticket outcome) answer new w.core
+      → IsRefined m s sound (step.LoadEnd ticket outcome) answer new w.core
       → tickets' ≡ with_ticket (ticket_in answer) (slice_set tickets n None) → said' ≡ said ++ answer ∷ []
-      → IsMoved m s sound first pens (asks.LoadEnd n) said tickets' told said' new bytes w
-  load_moves first pens n ticket outcome answer tickets tickets' told said said' old new bytes w running is_due come met ts ss = record {
-    events = ReadBegins k ∷ ReadEnds k result ∷ Applies (plain.LoadEnd t result) met.it met.after ∷ [];
+      → IsMoved m s sound first block_writes (asks.LoadEnd n) said tickets' issued said' new bytes w
+  load_moves first block_writes n ticket outcome answer tickets tickets' issued said said' old new bytes w running is_due come met ts ss = record {
+    events = ReadBegins k ∷ ReadEnds k result ∷ Applies (model_step.LoadEnd t result) met.it met.after ∷ [];
     answers = answer ∷ [];
     happened = (
       tt,
       (
         subst (λ o. IsReadAt rules w.bytes o result) (sym (began w k t p kept is)) (gives w bytes ticket outcome (covers rules w t.address.block) running.same come),
-        (((k, load_at t p kept (HasRead result), ended w k result t p kept is, refl, refl), met.follows), tt),
+        (((k, load_at t p kept (ReadDone result), ended w k result t p kept is, refl, refl), met.follows), tt),
       ),
     );
     made = inr (t, result, unread_at, record { it = met.it; after = met.after; answer = answer; is = refl; said_is = refl; reply = met.reply });
@@ -118,21 +118,21 @@ module _ {K V P : Type 0} (m : Meaning K V P) (s : Settings) (sound : IsSound s)
       stands = met.stands;
       same = running.same;
       count = gone.0 ∙ ap (λ xs. first + length xs) (sym ts);
-      loads = subst (λ xs. AreUnread first xs (loads_after met.it w.history w.kept w.told w2.loads)) (sym ts) gone.1;
+      loads = subst (λ xs. AreUnread first xs (loads_after met.it w.history w.kept w.issued w2.loads)) (sym ts) gone.1;
       flushers = running.flushers;
-      writes = λ f. subst (λ xs. IsDue (pens f) xs (at (slice_get told f)) (pens_after met.it (plain.LoadEnd t result) w.pens f)) (sym ss)
-          (due_more (pens f) said (answer ∷ []) (at (slice_get told f)) _
-          (subst (λ all. IsDue (pens f) said (at (slice_get told f)) (all f)) (sym (pens_stay met.it (plain.LoadEnd t result) w.pens tt)) (running.writes f)));
+      writes = λ f. subst (λ xs. IsDue (block_writes f) xs (at (slice_get issued f)) (block_writes_after met.it (model_step.LoadEnd t result) w.block_writes f)) (sym ss)
+          (due_more (block_writes f) said (answer ∷ []) (at (slice_get issued f)) _
+          (subst (λ all. IsDue (block_writes f) said (at (slice_get issued f)) (all f)) (sym (block_writes_stay met.it (model_step.LoadEnd t result) w.block_writes tt)) (running.writes f)));
     };
   }
     where
       k : ℕ
       k = first + n
 
-      t : plain.Ticket
+      t : model_step.Ticket
       t = ticket_of ticket
 
-      result : plain.Came
+      result : model_step.ReadResult
       result = came_of outcome
 
       listed : slice_get tickets n ≡ Some (Some ticket)
@@ -141,16 +141,16 @@ module _ {K V P : Type 0} (m : Meaning K V P) (s : Settings) (sound : IsSound s)
       unread_at : unread (w.loads k) ≡ Some t
       unread_at = running.loads n (Some ticket) listed
 
-      found : (q : Option (history.Event Content)) × (j : Option ℕ) × (w.loads k ≡ Some (load_at t q j Unread))
+      found : (q : Option (model_event.Event Content)) × (j : Option ℕ) × (w.loads k ≡ Some (load_at t q j ReadIssued))
       found = unread_is (w.loads k) t unread_at
 
-      p : Option (history.Event Content)
+      p : Option (model_event.Event Content)
       p = found.0
 
       kept : Option ℕ
       kept = found.1
 
-      is : w.loads k ≡ Some (load_at t p kept Unread)
+      is : w.loads k ≡ Some (load_at t p kept ReadIssued)
       is = found.2
 
       w2 : World Content
@@ -162,16 +162,16 @@ module _ {K V P : Type 0} (m : Meaning K V P) (s : Settings) (sound : IsSound s)
       left : AreUnread first (slice_set tickets n None) w2.loads
       left j x here = go (j == n) refl
         where
-          go : (e : Bool) → (j == n) ≡ e → unread (w2.loads (first + j)) ≡ told_of x
+          go : (e : Bool) → (j == n) ≡ e → unread (w2.loads (first + j)) ≡ issued_of x
           go true e =
               let same : j ≡ n = grind (arith, nat_tests) in
               let none : None ≡ x = some_is (sym (set_here tickets n None within) ∙ ap (slice_get (slice_set tickets n None)) (sym same) ∙ here) in
-              ap (λ i. unread (w2.loads (first + i))) same ∙ ap unread (ended w k result t p kept is) ∙ ap told_of none
+              ap (λ i. unread (w2.loads (first + i))) same ∙ ap unread (ended w k result t p kept is) ∙ ap issued_of none
           go false e =
               let ne : j ≡ n → ⊥ = λ same. grind (arith, nat_tests) in
               ap unread (elsewhere w k (first + j) result (λ same. ne (omega arith)))
               ∙ running.loads j x (sym (set_there tickets n j None ne) ∙ here)
 
-      gone : (told_after met.it w.told ≡ first + length (with_ticket (ticket_in answer) (slice_set tickets n None))) × AreUnread first (with_ticket (ticket_in answer) (slice_set tickets n None)) (loads_after met.it w.history w.kept w.told w2.loads)
-      gone = unread_goes m first w.told (slice_set tickets n None) w2.loads w.history w.kept answer met.it met.reply
+      gone : (issued_after met.it w.issued ≡ first + length (with_ticket (ticket_in answer) (slice_set tickets n None))) × AreUnread first (with_ticket (ticket_in answer) (slice_set tickets n None)) (loads_after met.it w.history w.kept w.issued w2.loads)
+      gone = unread_goes m first w.issued (slice_set tickets n None) w2.loads w.history w.kept answer met.it met.reply
           (running.count ∙ ap (λ c. first + c) (sym (set_count tickets n None))) left

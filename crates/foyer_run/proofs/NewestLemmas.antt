@@ -2,15 +2,15 @@
 use Rattle.std.proofs.Common.{◌≡◌, ℕ, Bool, [], ◌∷◌, Option, Some, None, Result, refl, sym, subst}
 use Rattle.std.specs.declared.vec.Vec.{Vec}
 use Rattle.foyer_device.specs.declared.error.Error.{Error}
-use Rattle.foyer_model.specs.Access.{HasRead, Unread}
+use Rattle.foyer_model.specs.Access.{ReadDone, ReadIssued}
 use Rattle.foyer_model.specs.Event.{newest}
 use Rattle.foyer_model.specs.Load.{Looks}
 use Rattle.foyer_model.specs.Record.{Slot, Indexed, Mark}
-use Rattle.foyer_model.specs.Reply as replies
+use Rattle.foyer_model.specs.Reply as model_reply
 use Rattle.foyer_model.specs.Rules.{Rules}
 use Rattle.foyer_model.specs.State.{State}
-use Rattle.foyer_model.specs.Step as plain
-use Rattle.foyer_model.specs.Turn.{Follows}
+use Rattle.foyer_model.specs.Step as model_step
+use Rattle.foyer_model.specs.Follows.{Follows}
 use Rattle.foyer_model.specs.World.{World, Applies, ReadBegins, ReadEnds, IsReadAt, after, after_all, covers}
 use Rattle.foyer_model.proofs.Basics.{put_same}
 use Rattle.foyer_model.proofs.Promises.{answers_newest_lem}
@@ -18,9 +18,9 @@ use Rattle.foyer_core.specs.Asked.{age_of, ticket_of, came_of}
 use Rattle.foyer_core.specs.Begins.{first_world}
 use Rattle.foyer_core.specs.Content.{Content, Meaning, content}
 use Rattle.foyer_core.specs.InOneBlock.{IsInOneBlock}
-use Rattle.foyer_core.specs.Meets.{IsMet, machine}
-use Rattle.foyer_core.specs.Plain.{IsSpelled}
-use Rattle.foyer_core.specs.Sizes.{IsSound}
+use Rattle.foyer_core.specs.Refines.{IsRefined, machine}
+use Rattle.foyer_core.specs.CoreRules.{IsEncoded}
+use Rattle.foyer_core.specs.Sizes.{AreValid}
 use Rattle.foyer_core.specs.Standing.{IsStateOf}
 use Rattle.foyer_core.specs.declared.reply.Reply.{Reply}
 use Rattle.foyer_core.specs.declared.reply.Reply.TheVariants as reply
@@ -34,7 +34,7 @@ use Rattle.foyer_run.specs.Newest.{IsNewest}
 use Rattle.foyer_run.proofs.LoadLemmas.{IsCome, began, ended, ends, gives, load_at}
 
 -- a look-up answers no entry
-no_entry : {C : Type 0} (rules : Rules C) (old new : State C) (h : ℕ) (throttled : Bool) (slot : Option Slot) (c : C) (age : plain.Age) → Looks rules old h throttled slot (replies.Entry c age) new → ⊥
+no_entry : {C : Type 0} (rules : Rules C) (old new : State C) (h : ℕ) (throttled : Bool) (slot : Option Slot) (c : C) (age : model_step.Age) → Looks rules old h throttled slot (model_reply.Entry c age) new → ⊥
 no_entry rules old new h throttled None c age looks = looks
 no_entry rules old new h throttled (Some (Mark q)) c age looks = looks
 no_entry rules old new h throttled (Some (Indexed a)) c age looks = looks
@@ -42,48 +42,48 @@ no_entry rules old new h throttled (Some (Indexed a)) c age looks = looks
 module _ {K V P A : Type 0} (m : Meaning K V P) where
   -- what a look-up answers by itself
   pub look_up_newest : (h : ℕ) (throttled : Bool) (answer : Reply K V P A) (old new : Core K V P A) (bytes : ℕ → ℕ → ℕ)
-      → ((s : Settings) (sound : IsSound s) (v : World Content) → IsStateOf m s old v.core → IsMet m s sound (step.LoadBegin h throttled) answer new v.core)
+      → ((s : Settings) (sound : AreValid s) (v : World Content) → IsStateOf m s old v.core → IsRefined m s sound (step.LoadBegin h throttled) answer new v.core)
       → IsNewest m h old bytes answer
   look_up_newest h throttled (reply.Entry key value age) old new bytes meets = λ s sound first events history.
       let w = after_all (machine m s sound) (first_world (machine m s sound) first) events in
       let met = meets s sound w history.stands in
-      let follows = subst (λ r. Follows (machine m s sound) (IsInOneBlock s.blob_index_size) w.core (plain.LoadBegin h throttled) r met.after) met.reply met.follows in
+      let follows = subst (λ r. Follows (machine m s sound) (IsInOneBlock s.blob_index_size) w.core (model_step.LoadBegin h throttled) r met.after) met.reply met.follows in
       absurd (no_entry (machine m s sound) w.core (follows.2).0 h throttled (w.core.index h) (content m key value) (age_of age) (follows.2).1)
   look_up_newest h throttled answer old new bytes meets = tt
 
   -- what a load ends with, by the bytes of its own read
   pub load_newest : (h : ℕ) (throttled : Bool) (ticket : Ticket) (outcome : Result (Vec ℕ A) Error) (answer : Reply K V P A) (old mid new : Core K V P A) (bytes : ℕ → ℕ → ℕ)
-      → ((s : Settings) (sound : IsSound s) (v : World Content) → IsStateOf m s old v.core → IsMet m s sound (step.LoadBegin h throttled) (reply.Read ticket) mid v.core)
+      → ((s : Settings) (sound : AreValid s) (v : World Content) → IsStateOf m s old v.core → IsRefined m s sound (step.LoadBegin h throttled) (reply.Read ticket) mid v.core)
       → IsCome bytes ticket outcome
-      → ((s : Settings) (sound : IsSound s) (v : World Content) → IsStateOf m s mid v.core → IsMet m s sound (step.LoadEnd ticket outcome) answer new v.core)
+      → ((s : Settings) (sound : AreValid s) (v : World Content) → IsStateOf m s mid v.core → IsRefined m s sound (step.LoadEnd ticket outcome) answer new v.core)
       → IsNewest m h old bytes answer
   load_newest h throttled ticket outcome (reply.Entry key value age) old mid new bytes looks come loads = λ s sound first events history.
       let rules = machine m s sound in
       let Splits = IsInOneBlock s.blob_index_size in
-      let is_value = IsSpelled m.is_key m.is_value in
+      let is_value = IsEncoded m.is_key m.is_value in
       let w = after_all rules (first_world rules first) events in
       let t = ticket_of ticket in
       let result = came_of outcome in
       let looked = looks s sound w history.stands in
-      let begin = Applies (plain.LoadBegin h throttled) (replies.Read t) looked.after in
+      let begin = Applies (model_step.LoadBegin h throttled) (model_reply.Read t) looked.after in
       let v = after rules w begin in
-      let k = w.told in
-      let load = load_at m s sound t (newest t.hash w.history) (w.kept t.hash) Unread in
-      let told : v.loads k ≡ Some load = put_same w.loads k (Some load) in
+      let k = w.issued in
+      let load = load_at m s sound t (newest t.hash w.history) (w.kept t.hash) ReadIssued in
+      let issued : v.loads k ≡ Some load = put_same w.loads k (Some load) in
       let u = ends m s sound v k result in
-      let read = ended m s sound v k result t (newest t.hash w.history) (w.kept t.hash) told in
+      let read = ended m s sound v k result t (newest t.hash w.history) (w.kept t.hash) issued in
       let met = loads s sound u looked.stands in
-      let told_follows = subst (λ r. Follows rules Splits w.core (plain.LoadBegin h throttled) r looked.after) looked.reply looked.follows in
-      let end_follows = subst (λ r. Follows rules Splits u.core (plain.LoadEnd t result) r met.after) met.reply met.follows in
-      let has = load_at m s sound t (newest t.hash w.history) (w.kept t.hash) (HasRead result) in
+      let issued_follows = subst (λ r. Follows rules Splits w.core (model_step.LoadBegin h throttled) r looked.after) looked.reply looked.follows in
+      let end_follows = subst (λ r. Follows rules Splits u.core (model_step.LoadEnd t result) r met.after) met.reply met.follows in
+      let has = load_at m s sound t (newest t.hash w.history) (w.kept t.hash) (ReadDone result) in
       let stands_read =
-      subst (λ o. IsReadAt rules v.bytes o result) (sym (began m s sound v k t (newest t.hash w.history) (w.kept t.hash) told))
+      subst (λ o. IsReadAt rules v.bytes o result) (sym (began m s sound v k t (newest t.hash w.history) (w.kept t.hash) issued))
       (gives m s sound v bytes ticket outcome (covers rules v t.address.block) history.same come) in (
         t.address.sequence,
         answers_newest_lem rules Splits is_value w h throttled t looked.after (ReadBegins k ∷ ReadEnds k result ∷ []) result (content m key value) (age_of age) met.after has
             (demands m.is_key m.is_value s sound)
             (record { first = first_world rules first; events = events; opened = first_opened rules first; happened = history.happened; is = refl })
-            ((tt, told_follows), (tt, (stands_read, tt)))
+            ((tt, issued_follows), (tt, (stands_read, tt)))
             ((k, has, read, refl, refl), end_follows) read refl,
       )
   load_newest h throttled ticket outcome answer old mid new bytes looks come loads = tt

@@ -1,9 +1,9 @@
--- Replies that tell accesses, in the core and in the plain machine.
+-- Replies that issue accesses, in the core and in the model.
 use Rattle.std.proofs.Common.{◌≡◌, ℕ, Some, None, refl, sym, ap, ◌∙◌}
-use Rattle.foyer_model.specs.Reply as replies
+use Rattle.foyer_model.specs.Reply as model_reply
 use Rattle.foyer_core.specs.Asked.{ticket_of}
 use Rattle.foyer_core.specs.Content.{Content, Meaning}
-use Rattle.foyer_core.specs.Meets.{IsHandedBack}
+use Rattle.foyer_core.specs.Refines.{IsHandedBack}
 use Rattle.foyer_core.specs.Replied.{IsReply}
 use Rattle.foyer_core.specs.declared.reply.Reply.{Reply}
 use Rattle.foyer_core.specs.declared.reply.Reply.TheVariants as reply
@@ -11,7 +11,7 @@ use Rattle.foyer_core.specs.declared.reply.Write.{Write}
 use Rattle.foyer_core.specs.declared.step.Ticket.{Ticket}
 use Rattle.std.specs.declared.vec.Vec.{Vec}
 use Rattle.foyer_run.specs.Running.{ticket_in, block_in}
-use Rattle.foyer_run.proofs.DueLemmas.{TellsNoRead, TellsNoWrite, EndsWrites}
+use Rattle.foyer_run.proofs.DueLemmas.{IssuesNoRead, IssuesNoWrite, EndsWrites}
 
 -- which access a reply is about
 data Sort : Type 0 where
@@ -20,10 +20,10 @@ data Sort : Type 0 where
   GoesOn : Sort
   Other : Sort
 
-abbrev sort : replies.Reply Content → Sort
-sort (replies.Read t) = Reads
-sort (replies.Written b ws) = Writes
-sort replies.Next = GoesOn
+abbrev sort : model_reply.Reply Content → Sort
+sort (model_reply.Read t) = Reads
+sort (model_reply.Written b ws) = Writes
+sort model_reply.Next = GoesOn
 sort it = Other
 
 abbrev sort_of : {K V P A : Type 0} → Reply K V P A → Sort
@@ -32,20 +32,20 @@ sort_of (reply.Write b ws) = Writes
 sort_of reply.Next = GoesOn
 sort_of answer = Other
 
-reads_none : (it : replies.Reply Content) → (sort it ≡ Reads → ⊥) → TellsNoRead it
-reads_none (replies.Read t) ne = absurd (ne refl)
+reads_none : (it : model_reply.Reply Content) → (sort it ≡ Reads → ⊥) → IssuesNoRead it
+reads_none (model_reply.Read t) ne = absurd (ne refl)
 reads_none it ne = tt
 
-writes_none : (it : replies.Reply Content) → (sort it ≡ Writes → ⊥) → TellsNoWrite it
-writes_none (replies.Written b ws) ne = absurd (ne refl)
+writes_none : (it : model_reply.Reply Content) → (sort it ≡ Writes → ⊥) → IssuesNoWrite it
+writes_none (model_reply.Written b ws) ne = absurd (ne refl)
 writes_none it ne = tt
 
-goes_on : (it : replies.Reply Content) → (sort it ≡ GoesOn → ⊥) → EndsWrites it
-goes_on replies.Next ne = absurd (ne refl)
-goes_on it ne = tt
+wants_next_write : (it : model_reply.Reply Content) → (sort it ≡ GoesOn → ⊥) → EndsWrites it
+wants_next_write model_reply.Next ne = absurd (ne refl)
+wants_next_write it ne = tt
 
 module _ {K V P A : Type 0} (m : Meaning K V P) where
-  sorted : (answer : Reply K V P A) (it : replies.Reply Content) → IsReply m answer it → sort it ≡ sort_of answer
+  sorted : (answer : Reply K V P A) (it : model_reply.Reply Content) → IsReply m answer it → sort it ≡ sort_of answer
   sorted (reply.NotNow back) it is = ap sort is
   sorted (reply.Refused why back) it is = ap sort is.2
   sorted (reply.Ignored piece) it is = ap sort is
@@ -91,31 +91,31 @@ module _ {K V P A : Type 0} (m : Meaning K V P) where
   not_next reply.Next none e = none refl
   not_next answer none e = let f : Other ≡ GoesOn = e in cc
 
-  pub no_read : (answer : Reply K V P A) (it : replies.Reply Content) → ticket_in answer ≡ None → IsReply m answer it → TellsNoRead it
+  pub no_read : (answer : Reply K V P A) (it : model_reply.Reply Content) → ticket_in answer ≡ None → IsReply m answer it → IssuesNoRead it
   no_read answer it none is = reads_none it (λ e. not_read answer none (sym (sorted answer it is) ∙ e))
 
-  pub no_write : (answer : Reply K V P A) (it : replies.Reply Content) → block_in answer ≡ None → IsReply m answer it → TellsNoWrite it
+  pub no_write : (answer : Reply K V P A) (it : model_reply.Reply Content) → block_in answer ≡ None → IsReply m answer it → IssuesNoWrite it
   no_write answer it none is = writes_none it (λ e. not_write answer none (sym (sorted answer it is) ∙ e))
 
-  pub no_next : (answer : Reply K V P A) (it : replies.Reply Content) → (answer ≡ reply.Next → ⊥) → IsReply m answer it → EndsWrites it
-  no_next answer it none is = goes_on it (λ e. not_next answer none (sym (sorted answer it is) ∙ e))
+  pub no_next : (answer : Reply K V P A) (it : model_reply.Reply Content) → (answer ≡ reply.Next → ⊥) → IsReply m answer it → EndsWrites it
+  no_next answer it none is = wants_next_write it (λ e. not_next answer none (sym (sorted answer it is) ∙ e))
 
-  pub reads : (answer : Reply K V P A) (it : replies.Reply Content) (t : Ticket) → ticket_in answer ≡ Some t → IsReply m answer it → it ≡ replies.Read (ticket_of t)
-  reads (reply.Read u) it t e is = let f : Some u ≡ Some t = e in let same : u ≡ t = cc in is ∙ ap (λ k. replies.Read (ticket_of k)) same
+  pub reads : (answer : Reply K V P A) (it : model_reply.Reply Content) (t : Ticket) → ticket_in answer ≡ Some t → IsReply m answer it → it ≡ model_reply.Read (ticket_of t)
+  reads (reply.Read u) it t e is = let f : Some u ≡ Some t = e in let same : u ≡ t = cc in is ∙ ap (λ k. model_reply.Read (ticket_of k)) same
   reads answer it t e is = absurd (let f : None ≡ Some t = e in cc)
 
--- a step that comes back tells nothing
-pub back_told : {K V P A : Type 0} (answer : Reply K V P A) → IsHandedBack answer → ticket_in answer ≡ None
-back_told (reply.NotNow back) handed = refl
-back_told (reply.Refused why back) handed = refl
-back_told answer handed = absurd handed
+-- a step that comes back issues nothing
+pub back_issued : {K V P A : Type 0} (answer : Reply K V P A) → IsHandedBack answer → ticket_in answer ≡ None
+back_issued (reply.NotNow back) handed = refl
+back_issued (reply.Refused why back) handed = refl
+back_issued answer handed = absurd handed
 
 pub back_block : {K V P A : Type 0} (answer : Reply K V P A) → IsHandedBack answer → block_in answer ≡ None
 back_block (reply.NotNow back) handed = refl
 back_block (reply.Refused why back) handed = refl
 back_block answer handed = absurd handed
 
--- a reply into whose block writes are told
+-- a reply into whose block writes are issued
 pub writes_are : {K V P A : Type 0} (answer : Reply K V P A) (b : ℕ) → block_in answer ≡ Some b
     → (writes : Vec (Write A) A) × (answer ≡ reply.Write b writes)
 writes_are (reply.Write c writes) b e = let f : Some c ≡ Some b = e in let same : c ≡ b = cc in (writes, ap (λ k. reply.Write k writes) same)

@@ -1,14 +1,14 @@
 -- Moves one after the other.
 use Rattle.std.proofs.Common.{◌≡◌, ℕ, zero, suc, ◌+◌, List, [], ◌∷◌, ◌++◌, inl, length, replicate, Option, Some, None, slice_get, refl, sym, ap, subst, ◌∙◌, arith}
 use Rattle.std.specs.Prelude.{OnErr, Result, Ok, Err}
-use Rattle.foyer_model.specs.Access.{Pen}
+use Rattle.foyer_model.specs.Access.{BlockWrites}
 use Rattle.foyer_model.specs.Rules.{Rules, Splitting}
 use Rattle.foyer_model.specs.World.{World, WorldEvent, MayAllHappen, after, after_all}
 use Rattle.foyer_core.specs.Content.{Content, Meaning}
 use Rattle.foyer_core.specs.InOneBlock.{IsInOneBlock}
-use Rattle.foyer_core.specs.Meets.{machine}
-use Rattle.foyer_core.specs.Plain.{IsSpelled}
-use Rattle.foyer_core.specs.Sizes.{IsSound}
+use Rattle.foyer_core.specs.Refines.{machine}
+use Rattle.foyer_core.specs.CoreRules.{IsEncoded}
+use Rattle.foyer_core.specs.Sizes.{AreValid}
 use Rattle.foyer_core.specs.Standing.{IsStateOf}
 use Rattle.foyer_core.specs.declared.reply.Reply.{Reply}
 use Rattle.foyer_core.specs.declared.settings.Settings.{Settings}
@@ -16,12 +16,12 @@ use Rattle.foyer_core.specs.declared.state.Core.{Core}
 use Rattle.foyer_core.specs.declared.step.Ticket.{Ticket}
 use Rattle.foyer_run.specs.Moves.{AreMade, Makes, asked}
 use Rattle.foyer_run.specs.Due.{unread}
-use Rattle.foyer_run.specs.Running.{IsDue, IsMoved, IsRunning, at, told_of}
+use Rattle.foyer_run.specs.Running.{IsDue, IsMoved, IsRunning, at, issued_of}
 use Rattle.foyer_run.specs.Runs.{IsFront, IsRun}
 use Rattle.foyer_run.specs.declared.moves.Asked.{Asked}
 use Rattle.foyer_run.specs.declared.moves.Asked.TheVariants as asks
 use Rattle.foyer_run.specs.declared.moves.Move.{Move}
-use Rattle.foyer_run.specs.declared.moves.Told.{Told}
+use Rattle.foyer_run.specs.declared.moves.Issued.{Issued}
 use Rattle.foyer_run.proofs.ListLemmas.{append_none, append_twice}
 
 pub after_more : {C : Type 0} (rules : Rules C) (w : World C) (xs ys : List (WorldEvent C)) → after_all rules w (xs ++ ys) ≡ after_all rules (after_all rules w xs) ys
@@ -33,24 +33,24 @@ pub happen_more : {C : Type 0} (rules : Rules C) (Splits : Splitting C) (is_valu
 happen_more rules Splits is_value w [] ys first more = more
 happen_more rules Splits is_value w (x ∷ xs) ys first more = (first.0, happen_more rules Splits is_value (after rules w x) xs ys first.1 more)
 
-module _ {K V P : Type 0} (m : Meaning K V P) (s : Settings) (sound : IsSound s) where
+module _ {K V P : Type 0} (m : Meaning K V P) (s : Settings) (sound : AreValid s) where
   abbrev rules : Rules Content
   rules = machine m s sound
 
-  made_more : {A : Type 0} (first : ℕ) (pens : ℕ → Pen) (w : World Content) (xs : List (Move K V P A)) (x : Move K V P A) (events now : List (WorldEvent Content)) (said answers : List (Reply K V P A))
-      → AreMade m s sound first pens w xs events said → Makes m first pens (after_all rules w events) (asked x) now answers
-      → AreMade m s sound first pens w (xs ++ x ∷ []) (events ++ now) (said ++ answers)
-  made_more first pens w [] x events now said answers are made = record {
+  made_more : {A : Type 0} (first : ℕ) (block_writes : ℕ → BlockWrites) (w : World Content) (xs : List (Move K V P A)) (x : Move K V P A) (events now : List (WorldEvent Content)) (said answers : List (Reply K V P A))
+      → AreMade m s sound first block_writes w xs events said → Makes m first block_writes (after_all rules w events) (asked x) now answers
+      → AreMade m s sound first block_writes w (xs ++ x ∷ []) (events ++ now) (said ++ answers)
+  made_more first block_writes w [] x events now said answers are made = record {
     now = now;
     later = [];
     answers = answers;
     others = [];
     is = ap (λ es. es ++ now) are.0 ∙ sym (append_none now);
     said_is = ap (λ rs. rs ++ answers) are.1 ∙ sym (append_none answers);
-    made = subst (λ es. Makes m first pens (after_all rules w es) (asked x) now answers) are.0 made;
+    made = subst (λ es. Makes m first block_writes (after_all rules w es) (asked x) now answers) are.0 made;
     more = (refl, refl);
   }
-  made_more first pens w (y ∷ ys) x events now said answers are made = record {
+  made_more first block_writes w (y ∷ ys) x events now said answers are made = record {
     now = are.now;
     later = are.later ++ now;
     answers = are.answers;
@@ -58,43 +58,43 @@ module _ {K V P : Type 0} (m : Meaning K V P) (s : Settings) (sound : IsSound s)
     is = ap (λ es. es ++ now) are.is ∙ append_twice are.now are.later now;
     said_is = ap (λ rs. rs ++ answers) are.said_is ∙ append_twice are.answers are.others answers;
     made = are.made;
-    more = made_more first pens (after_all rules w are.now) ys x are.later now are.others answers are.more
-        (subst (λ v. Makes m first pens v (asked x) now answers) (ap (after_all rules w) are.is ∙ after_more rules w are.now are.later) made);
+    more = made_more first block_writes (after_all rules w are.now) ys x are.later now are.others answers are.more
+        (subst (λ v. Makes m first block_writes v (asked x) now answers) (ap (after_all rules w) are.is ∙ after_more rules w are.now are.later) made);
   }
 
   -- a move that names no step and no access
-  pub nothing_moves : {A : Type 0} (first : ℕ) (pens : ℕ → Pen) (x : Asked K V P A) (tickets tickets' : List (Option Ticket)) (told : List (Option Told)) (said said' : List (Reply K V P A)) (core : Core K V P A) (bytes : ℕ → ℕ → ℕ) (w : World Content)
-      → IsRunning m s first pens tickets told said core bytes w → x ≡ asks.Nothing → tickets' ≡ tickets → said' ≡ said
-      → IsMoved m s sound first pens x said tickets' told said' core bytes w
-  nothing_moves first pens x tickets tickets' told said said' core bytes w running is ts ss =
-      subst (λ y. IsMoved m s sound first pens y said tickets' told said' core bytes w) (sym is)
-      (subst (λ us. IsMoved m s sound first pens asks.Nothing said us told said' core bytes w) (sym ts)
-      (subst (λ rs. IsMoved m s sound first pens asks.Nothing said tickets told rs core bytes w) (sym ss)
+  pub nothing_moves : {A : Type 0} (first : ℕ) (block_writes : ℕ → BlockWrites) (x : Asked K V P A) (tickets tickets' : List (Option Ticket)) (issued : List (Option Issued)) (said said' : List (Reply K V P A)) (core : Core K V P A) (bytes : ℕ → ℕ → ℕ) (w : World Content)
+      → IsRunning m s first block_writes tickets issued said core bytes w → x ≡ asks.Nothing → tickets' ≡ tickets → said' ≡ said
+      → IsMoved m s sound first block_writes x said tickets' issued said' core bytes w
+  nothing_moves first block_writes x tickets tickets' issued said said' core bytes w running is ts ss =
+      subst (λ y. IsMoved m s sound first block_writes y said tickets' issued said' core bytes w) (sym is)
+      (subst (λ us. IsMoved m s sound first block_writes asks.Nothing said us issued said' core bytes w) (sym ts)
+      (subst (λ rs. IsMoved m s sound first block_writes asks.Nothing said tickets issued rs core bytes w) (sym ss)
       (record { events = []; answers = []; happened = tt; made = (refl, refl); replies = sym (append_none said); running = running })))
 
   -- these moves were made, and a run is under way
-  pub record IsGoing {A : Type 0} (w : World Content) (moves : List (Move K V P A)) (tickets : List (Option Ticket)) (told : List (Option Told)) (said : List (Reply K V P A)) (core : Core K V P A) (bytes : ℕ → ℕ → ℕ) : Type 0 where
+  pub record IsGoing {A : Type 0} (w : World Content) (moves : List (Move K V P A)) (tickets : List (Option Ticket)) (issued : List (Option Issued)) (said : List (Reply K V P A)) (core : Core K V P A) (bytes : ℕ → ℕ → ℕ) : Type 0 where
     pub events : List (WorldEvent Content)
-    pub happened : MayAllHappen rules (IsInOneBlock s.blob_index_size) (IsSpelled m.is_key m.is_value) w events
-    pub made : AreMade m s sound w.told w.pens w moves events said
-    pub running : IsRunning m s w.told w.pens tickets told said core bytes (after_all rules w events)
+    pub happened : MayAllHappen rules (IsInOneBlock s.blob_index_size) (IsEncoded m.is_key m.is_value) w events
+    pub made : AreMade m s sound w.issued w.block_writes w moves events said
+    pub running : IsRunning m s w.issued w.block_writes tickets issued said core bytes (after_all rules w events)
 
-  abbrev none_told : Option Told
-  none_told = None
+  abbrev none_issued : Option Issued
+  none_issued = None
 
-  none_at : (n f : ℕ) → at (slice_get (replicate n none_told) f) ≡ None
+  none_at : (n f : ℕ) → at (slice_get (replicate n none_issued) f) ≡ None
   none_at zero zero = refl
   none_at zero (suc f) = refl
   none_at (suc n) zero = refl
   none_at (suc n) (suc f) = none_at n f
 
-  replicated : (n : ℕ) → length (replicate n none_told) ≡ n
+  replicated : (n : ℕ) → length (replicate n none_issued) ≡ n
   replicated zero = refl
   replicated (suc n) = ap suc (replicated n)
 
-  pub going_first : {A : Type 0} (w : World Content) (told : List (Option Told)) (core : Core K V P A) (bytes : ℕ → ℕ → ℕ) → IsStateOf m s core w.core → ((b o : ℕ) → w.bytes b o ≡ bytes b o)
-      → told ≡ replicate s.flushers None → IsGoing w [] [] told [] core bytes
-  going_first {A} w told core bytes stands same is = record {
+  pub going_first : {A : Type 0} (w : World Content) (issued : List (Option Issued)) (core : Core K V P A) (bytes : ℕ → ℕ → ℕ) → IsStateOf m s core w.core → ((b o : ℕ) → w.bytes b o ≡ bytes b o)
+      → issued ≡ replicate s.flushers None → IsGoing w [] [] issued [] core bytes
+  going_first {A} w issued core bytes stands same is = record {
     events = [];
     happened = tt;
     made = (refl, refl);
@@ -104,28 +104,28 @@ module _ {K V P : Type 0} (m : Meaning K V P) (s : Settings) (sound : IsSound s)
       count = omega arith;
       loads = nothing;
       flushers = ap length is ∙ replicated s.flushers;
-      writes = λ f. subst (λ x. IsDue {K = K} {V = V} {P = P} {A = A} (w.pens f) [] x (w.pens f)) (sym (ap (λ xs. at (slice_get xs f)) is ∙ none_at s.flushers f)) (inl refl);
+      writes = λ f. subst (λ x. IsDue {K = K} {V = V} {P = P} {A = A} (w.block_writes f) [] x (w.block_writes f)) (sym (ap (λ xs. at (slice_get xs f)) is ∙ none_at s.flushers f)) (inl refl);
     };
   }
     where
-      nothing : (n : ℕ) (x : Option Ticket) → slice_get [] n ≡ Some x → unread (w.loads (w.told + n)) ≡ told_of x
+      nothing : (n : ℕ) (x : Option Ticket) → slice_get [] n ≡ Some x → unread (w.loads (w.issued + n)) ≡ issued_of x
       nothing zero x e = absurd (let f : None ≡ Some x = e in cc)
       nothing (suc n) x e = absurd (let f : None ≡ Some x = e in cc)
 
-  pub going_on : {A : Type 0} (w : World Content) (moves : List (Move K V P A)) (x : Move K V P A) (tickets tickets' : List (Option Ticket)) (told told' : List (Option Told)) (said said' : List (Reply K V P A)) (core core' : Core K V P A) (bytes bytes' : ℕ → ℕ → ℕ)
-      → (going : IsGoing w moves tickets told said core bytes) → IsMoved m s sound w.told w.pens (asked x) said tickets' told' said' core' bytes' (after_all rules w going.events)
-      → IsGoing w (moves ++ x ∷ []) tickets' told' said' core' bytes'
-  going_on w moves x tickets tickets' told told' said said' core core' bytes bytes' going moved = record {
+  pub going_on : {A : Type 0} (w : World Content) (moves : List (Move K V P A)) (x : Move K V P A) (tickets tickets' : List (Option Ticket)) (issued issued' : List (Option Issued)) (said said' : List (Reply K V P A)) (core core' : Core K V P A) (bytes bytes' : ℕ → ℕ → ℕ)
+      → (going : IsGoing w moves tickets issued said core bytes) → IsMoved m s sound w.issued w.block_writes (asked x) said tickets' issued' said' core' bytes' (after_all rules w going.events)
+      → IsGoing w (moves ++ x ∷ []) tickets' issued' said' core' bytes'
+  going_on w moves x tickets tickets' issued issued' said said' core core' bytes bytes' going moved = record {
     events = going.events ++ moved.events;
-    happened = happen_more rules (IsInOneBlock s.blob_index_size) (IsSpelled m.is_key m.is_value) w going.events moved.events going.happened moved.happened;
-    made = subst (λ rs. AreMade m s sound w.told w.pens w (moves ++ x ∷ []) (going.events ++ moved.events) rs) (sym moved.replies)
-        (made_more w.told w.pens w moves x going.events moved.events said moved.answers going.made moved.made);
-    running = subst (λ v. IsRunning m s w.told w.pens tickets' told' said' core' bytes' v) (sym (after_more rules w going.events moved.events)) moved.running;
+    happened = happen_more rules (IsInOneBlock s.blob_index_size) (IsEncoded m.is_key m.is_value) w going.events moved.events going.happened moved.happened;
+    made = subst (λ rs. AreMade m s sound w.issued w.block_writes w (moves ++ x ∷ []) (going.events ++ moved.events) rs) (sym moved.replies)
+        (made_more w.issued w.block_writes w moves x going.events moved.events said moved.answers going.made moved.made);
+    running = subst (λ v. IsRunning m s w.issued w.block_writes tickets' issued' said' core' bytes' v) (sym (after_more rules w going.events moved.events)) moved.running;
   }
 
-  pub gone : {A : Type 0} (w : World Content) (moves : List (Move K V P A)) (tickets : List (Option Ticket)) (told : List (Option Told)) (said : List (Reply K V P A)) (core : Core K V P A) (bytes : ℕ → ℕ → ℕ)
-      → IsGoing w moves tickets told said core bytes → IsRun m s sound w moves said core bytes
-  gone w moves tickets told said core bytes going = record {
+  pub gone : {A : Type 0} (w : World Content) (moves : List (Move K V P A)) (tickets : List (Option Ticket)) (issued : List (Option Issued)) (said : List (Reply K V P A)) (core : Core K V P A) (bytes : ℕ → ℕ → ℕ)
+      → IsGoing w moves tickets issued said core bytes → IsRun m s sound w moves said core bytes
+  gone w moves tickets issued said core bytes going = record {
     events = going.events;
     happened = going.happened;
     made = going.made;
@@ -134,10 +134,10 @@ module _ {K V P : Type 0} (m : Meaning K V P) (s : Settings) (sound : IsSound s)
   }
 
   -- where a run begins
-  pub going_begun : {A : Type 0} (w : World Content) (tickets : List (Option Ticket)) (told : List (Option Told)) (said : List (Reply K V P A)) (core : Core K V P A) (bytes : ℕ → ℕ → ℕ) → IsStateOf m s core w.core → ((b o : ℕ) → w.bytes b o ≡ bytes b o)
-      → tickets ≡ [] → told ≡ replicate s.flushers None → said ≡ [] → IsGoing w [] tickets told said core bytes
-  going_begun w tickets told said core bytes stands same ts is ss =
-      subst (λ us. IsGoing w [] us told said core bytes) (sym ts) (subst (λ rs. IsGoing w [] [] told rs core bytes) (sym ss) (going_first w told core bytes stands same is))
+  pub going_begun : {A : Type 0} (w : World Content) (tickets : List (Option Ticket)) (issued : List (Option Issued)) (said : List (Reply K V P A)) (core : Core K V P A) (bytes : ℕ → ℕ → ℕ) → IsStateOf m s core w.core → ((b o : ℕ) → w.bytes b o ≡ bytes b o)
+      → tickets ≡ [] → issued ≡ replicate s.flushers None → said ≡ [] → IsGoing w [] tickets issued said core bytes
+  going_begun w tickets issued said core bytes stands same ts is ss =
+      subst (λ us. IsGoing w [] us issued said core bytes) (sym ts) (subst (λ rs. IsGoing w [] [] issued rs core bytes) (sym ss) (going_first w issued core bytes stands same is))
 
 pub err_is : {T E P : Type 0} (o : Result T E) → P → OnErr o P
 err_is (Ok x) p = tt
@@ -155,14 +155,14 @@ module _ {K V P : Type 0} (m : Meaning K V P) where
   }
 
   -- these moves were made
-  pub front_of : {A : Type 0} (moves yielded left : List (Move K V P A)) (tickets : List (Option Ticket)) (told : List (Option Told)) (said : List (Reply K V P A)) (old new : Core K V P A) (bytes bytes' : ℕ → ℕ → ℕ)
+  pub front_of : {A : Type 0} (moves yielded left : List (Move K V P A)) (tickets : List (Option Ticket)) (issued : List (Option Issued)) (said : List (Reply K V P A)) (old new : Core K V P A) (bytes bytes' : ℕ → ℕ → ℕ)
       → moves ≡ yielded ++ left
-      → ((s : Settings) (sound : IsSound s) (w : World Content) → IsStateOf m s old w.core → ((b o : ℕ) → w.bytes b o ≡ bytes b o) → IsGoing m s sound w yielded tickets told said new bytes')
+      → ((s : Settings) (sound : AreValid s) (w : World Content) → IsStateOf m s old w.core → ((b o : ℕ) → w.bytes b o ≡ bytes b o) → IsGoing m s sound w yielded tickets issued said new bytes')
       → IsFront m moves old new bytes bytes'
-  front_of moves yielded left tickets told said old new bytes bytes' is going = record {
+  front_of moves yielded left tickets issued said old new bytes bytes' is going = record {
     front = yielded;
     rest = left;
     said = said;
     is = is;
-    runs = λ s sound w stands same. gone m s sound w yielded tickets told said new bytes' (going s sound w stands same);
+    runs = λ s sound w stands same. gone m s sound w yielded tickets issued said new bytes' (going s sound w stands same);
   }

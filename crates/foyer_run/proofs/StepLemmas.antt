@@ -1,19 +1,19 @@
 -- A step of a run, without an access before it.
 use Rattle.std.proofs.Common.{◌≡◌, ℕ, ◌+◌, ◌<◌, Bool, true, false, ◌&&◌, List, [], ◌∷◌, ◌++◌, ◌⊎◌, inl, inr, length, Option, Some, None, slice_get, refl, sym, ap, subst, ◌∙◌, arith}
 use Rattle.foyer_format.specs.declared.serde.ages.Age.{Age}
-use Rattle.foyer_model.specs.Access.{Load, Pen, loads_after, told_after, pens_after}
-use Rattle.foyer_model.specs.Event as history
-use Rattle.foyer_model.specs.Reply as replies
+use Rattle.foyer_model.specs.Access.{Load, BlockWrites, loads_after, issued_after, block_writes_after}
+use Rattle.foyer_model.specs.Event as model_event
+use Rattle.foyer_model.specs.Reply as model_reply
 use Rattle.foyer_model.specs.World.{World, Applies, IsFed}
 use Rattle.foyer_model.proofs.Basics.{put_same, put_other}
 use Rattle.foyer_core.specs.Answered.{HandsBack}
 use Rattle.foyer_core.specs.Asked.{step_of, ticket_of}
 use Rattle.foyer_core.specs.Content.{Content, Meaning, content, meaning}
 use Rattle.foyer_core.specs.InOneBlock.{IsInOneBlock}
-use Rattle.foyer_core.specs.Meets.{IsBuilt, IsHandedBack, IsMet, machine}
-use Rattle.foyer_core.specs.Plain.{IsSpelled}
+use Rattle.foyer_core.specs.Refines.{IsBuilt, IsHandedBack, IsRefined, machine}
+use Rattle.foyer_core.specs.CoreRules.{IsEncoded}
 use Rattle.foyer_core.specs.Replied.{IsReply}
-use Rattle.foyer_core.specs.Sizes.{IsSound}
+use Rattle.foyer_core.specs.Sizes.{AreValid}
 use Rattle.foyer_core.specs.Unchanged.{IsUnchanged}
 use Rattle.foyer_core.specs.declared.reply.Reply.{Reply}
 use Rattle.foyer_core.specs.declared.reply.Reply.TheVariants as reply
@@ -24,20 +24,20 @@ use Rattle.foyer_core.specs.declared.step.Step.TheVariants as step
 use Rattle.foyer_core.specs.declared.step.Ticket.{Ticket}
 use Rattle.foyer_core.proofs.StateLemmas.{unchanged_stands}
 use Rattle.foyer_run.specs.Due.{unread}
-use Rattle.foyer_run.specs.Running.{IsDue, IsFree, IsMoved, IsRunning, at, told_of, ticket_in, with_ticket}
+use Rattle.foyer_run.specs.Running.{IsDue, IsFree, IsMoved, IsRunning, at, issued_of, ticket_in, with_ticket}
 use Rattle.foyer_run.specs.declared.moves.Asked.TheVariants as asks
-use Rattle.foyer_run.specs.declared.moves.Told.{Told}
-use Rattle.foyer_run.proofs.DueLemmas.{loads_stay, told_stays, pens_stay, IsBeside}
+use Rattle.foyer_run.specs.declared.moves.Issued.{Issued}
+use Rattle.foyer_run.proofs.DueLemmas.{loads_stay, issued_stays, block_writes_stay, IsBeside}
 use Rattle.foyer_run.proofs.ListLemmas.{get_left, get_pushed, pushed_count}
-use Rattle.foyer_run.proofs.ReplyLemmas.{no_read, reads, back_told}
+use Rattle.foyer_run.proofs.ReplyLemmas.{no_read, reads, back_issued}
 
 -- the reads that are due
 abbrev pub AreUnread : {C : Type 0} → ℕ → List (Option Ticket) → (ℕ → Option (Load C)) → Type 0
-AreUnread first tickets loads = (n : ℕ) (x : Option Ticket) → slice_get tickets n ≡ Some x → unread (loads (first + n)) ≡ told_of x
+AreUnread first tickets loads = (n : ℕ) (x : Option Ticket) → slice_get tickets n ≡ Some x → unread (loads (first + n)) ≡ issued_of x
 
--- what can be encoded is spelled, whatever the key and the value
-abbrev pub Spells : {K V P : Type 0} → Meaning K V P → Type 0
-Spells {K} {V} m = (k : K) (v : V) → IsSpelled m.is_key m.is_value (content m k v)
+-- what can be encoded is encoded, whatever the key and the value
+abbrev pub Encodes : {K V P : Type 0} → Meaning K V P → Type 0
+Encodes {K} {V} m = (k : K) (v : V) → IsEncoded m.is_key m.is_value (content m k v)
 
 pub and_both : (a b : Bool) → (a && b) ≡ true → (a ≡ true) × (b ≡ true)
 and_both true true e = (refl, refl)
@@ -45,16 +45,16 @@ and_both true false e = absurd (let f : false ≡ true = e in cc)
 and_both false b e = absurd (let f : false ≡ true = e in cc)
 
 -- what codes say of what they encode
-pub spells_of : {K V P : Type 0} (key_of : K → List ℕ) (value_of : V → List ℕ) (encodes_key : K → Bool) (encodes_value : V → Bool) (is_key is_value : List ℕ → Bool) (age_of : P → Option Age)
+pub encodings_of : {K V P : Type 0} (key_of : K → List ℕ) (value_of : V → List ℕ) (encodes_key : K → Bool) (encodes_value : V → Bool) (is_key is_value : List ℕ → Bool) (age_of : P → Option Age)
     → ((k : K) → encodes_key k ≡ true → is_key (key_of k) ≡ true) → ((v : V) → encodes_value v ≡ true → is_value (value_of v) ≡ true)
-    → Spells (meaning key_of value_of encodes_key encodes_value is_key is_value age_of)
-spells_of key_of value_of encodes_key encodes_value is_key is_value age_of key value k v e =
+    → Encodes (meaning key_of value_of encodes_key encodes_value is_key is_value age_of)
+encodings_of key_of value_of encodes_key encodes_value is_key is_value age_of key value k v e =
     let both = and_both (encodes_key k) (encodes_value v) e in (key k both.0, value v both.1)
 
 -- more replies keep what is due
-pub due_more : {K V P A : Type 0} (before : Pen) (said more : List (Reply K V P A)) (x : Option Told) (pen : Pen) → IsDue before said x pen → IsDue before (said ++ more) x pen
-due_more before said more None pen is = is
-due_more before said more (Some x) pen is = record {
+pub due_more : {K V P A : Type 0} (before : BlockWrites) (said more : List (Reply K V P A)) (x : Option Issued) (pending : BlockWrites) → IsDue before said x pending → IsDue before (said ++ more) x pending
+due_more before said more None pending is = is
+due_more before said more (Some x) pending is = record {
   block = is.block;
   writes = is.writes;
   reply = get_left said more x.reply (reply.Write is.block is.writes) is.reply;
@@ -63,42 +63,42 @@ due_more before said more (Some x) pen is = record {
 
 module _ {K V P A : Type 0} (m : Meaning K V P) where
   -- the reads that are due after a step
-  pub unread_goes : (first told : ℕ) (tickets : List (Option Ticket)) (loads : ℕ → Option (Load Content)) (H : List (history.Event Content)) (kept : ℕ → Option ℕ)
-      (answer : Reply K V P A) (it : replies.Reply Content) → IsReply m answer it → told ≡ first + length tickets → AreUnread first tickets loads
-      → (told_after it told ≡ first + length (with_ticket (ticket_in answer) tickets)) × AreUnread first (with_ticket (ticket_in answer) tickets) (loads_after it H kept told loads)
-  unread_goes first told tickets loads H kept answer it is count are = go (ticket_in answer) refl
+  pub unread_goes : (first issued : ℕ) (tickets : List (Option Ticket)) (loads : ℕ → Option (Load Content)) (H : List (model_event.Event Content)) (kept : ℕ → Option ℕ)
+      (answer : Reply K V P A) (it : model_reply.Reply Content) → IsReply m answer it → issued ≡ first + length tickets → AreUnread first tickets loads
+      → (issued_after it issued ≡ first + length (with_ticket (ticket_in answer) tickets)) × AreUnread first (with_ticket (ticket_in answer) tickets) (loads_after it H kept issued loads)
+  unread_goes first issued tickets loads H kept answer it is count are = go (ticket_in answer) refl
     where
       pushed : (t : Ticket) (n : ℕ) (x : Option Ticket) → ((slice_get tickets n ≡ Some x) × (n < length tickets)) ⊎ ((n ≡ length tickets) × (Some t ≡ x))
-          → unread (loads_after (replies.Read (ticket_of t)) H kept told loads (first + n)) ≡ told_of x
+          → unread (loads_after (model_reply.Read (ticket_of t)) H kept issued loads (first + n)) ≡ issued_of x
       pushed t n x (inl old) =
-          ap unread (put_other loads told _ (first + n) (λ same. let lt : n < length tickets = old.1 in omega arith)) ∙ are n x old.0
+          ap unread (put_other loads issued _ (first + n) (λ same. let lt : n < length tickets = old.1 in omega arith)) ∙ are n x old.0
       pushed t n x (inr new) =
-          let same : first + n ≡ told = (let e : n ≡ length tickets = new.0 in omega arith) in
-          ap (λ k. unread (loads_after (replies.Read (ticket_of t)) H kept told loads k)) same
-          ∙ ap unread (put_same loads told _) ∙ ap told_of new.1
+          let same : first + n ≡ issued = (let e : n ≡ length tickets = new.0 in omega arith) in
+          ap (λ k. unread (loads_after (model_reply.Read (ticket_of t)) H kept issued loads k)) same
+          ∙ ap unread (put_same loads issued _) ∙ ap issued_of new.1
 
       go : (o : Option Ticket) → ticket_in answer ≡ o
-          → (told_after it told ≡ first + length (with_ticket o tickets)) × AreUnread first (with_ticket o tickets) (loads_after it H kept told loads)
+          → (issued_after it issued ≡ first + length (with_ticket o tickets)) × AreUnread first (with_ticket o tickets) (loads_after it H kept issued loads)
       go None e =
           let none = no_read m answer it e is in
-          (told_stays it told none ∙ count, λ n x here. loads_stay it H kept told loads (first + n) none ∙ are n x here)
+          (issued_stays it issued none ∙ count, λ n x here. loads_stay it H kept issued loads (first + n) none ∙ are n x here)
       go (Some t) e =
-          subst (λ r. (told_after r told ≡ first + length (tickets ++ Some t ∷ [])) × AreUnread first (tickets ++ Some t ∷ []) (loads_after r H kept told loads))
+          subst (λ r. (issued_after r issued ≡ first + length (tickets ++ Some t ∷ [])) × AreUnread first (tickets ++ Some t ∷ []) (loads_after r H kept issued loads))
           (sym (reads m answer it t e is)) (
             (let more : length (tickets ++ Some t ∷ []) ≡ length tickets + 1 = pushed_count tickets (Some t) in omega arith),
             λ n x here. pushed t n x (get_pushed tickets (Some t) n x here),
           )
 
-  -- what is free of accesses tells and reports no write
+  -- what is free of accesses issues and reports no write
   free_beside : (given : Step K V P A) → IsFree given → IsBeside (step_of m given)
   free_beside (step.LoadEnd ticket outcome) free = absurd free
   free_beside (step.FlushBlock f) free = absurd free
   free_beside (step.FlushWrote f outcome) free = absurd free
   free_beside given free = tt
 
-  module _ (s : Settings) (sound : IsSound s) (spells : Spells m) where
-    fed : (w : World Content) (given : Step K V P A) → IsFree given → IsFed (machine m s sound) (IsInOneBlock s.blob_index_size) (IsSpelled m.is_key m.is_value) w (step_of m given)
-    fed w (step.Enqueue piece size) free = (free, spells piece.key piece.value)
+  module _ (s : Settings) (sound : AreValid s) (encodes : Encodes m) where
+    fed : (w : World Content) (given : Step K V P A) → IsFree given → IsFed (machine m s sound) (IsInOneBlock s.blob_index_size) (IsEncoded m.is_key m.is_value) w (step_of m given)
+    fed w (step.Enqueue piece size) free = (free, encodes piece.key piece.value)
     fed w (step.LoadEnd ticket outcome) free = absurd free
     fed w (step.FlushWrote f outcome) free = absurd free
     fed w (step.ReclaimRead block outcome) free = absurd free
@@ -123,18 +123,18 @@ module _ {K V P A : Type 0} (m : Meaning K V P) where
     unchanged given (reply.Refused why back) old new handed back_is = back_is.1
     unchanged given answer old new handed back_is = absurd handed
 
-    -- a step that brings no result and tells no write
-    pub step_moves : (first : ℕ) (pens : ℕ → Pen) (given : Step K V P A) (answer : Reply K V P A) (tickets tickets' : List (Option Ticket)) (told : List (Option Told)) (said said' : List (Reply K V P A))
-        (old new : Core K V P A) (bytes : ℕ → ℕ → ℕ) (w : World Content) → IsRunning m s first pens tickets told said old bytes w → IsFree given
-        → HandsBack given answer old new → (IsBuilt given → IsMet m s sound given answer new w.core) → ((IsBuilt given → ⊥) → IsHandedBack answer)
+    -- a step that brings no result and issues no write
+    pub step_moves : (first : ℕ) (block_writes : ℕ → BlockWrites) (given : Step K V P A) (answer : Reply K V P A) (tickets tickets' : List (Option Ticket)) (issued : List (Option Issued)) (said said' : List (Reply K V P A))
+        (old new : Core K V P A) (bytes : ℕ → ℕ → ℕ) (w : World Content) → IsRunning m s first block_writes tickets issued said old bytes w → IsFree given
+        → HandsBack given answer old new → (IsBuilt given → IsRefined m s sound given answer new w.core) → ((IsBuilt given → ⊥) → IsHandedBack answer)
         → tickets' ≡ with_ticket (ticket_in answer) tickets → said' ≡ said ++ answer ∷ []
-        → IsMoved m s sound first pens (asks.Step given) said tickets' told said' new bytes w
-    step_moves first pens given answer tickets tickets' told said said' old new bytes w running free back meets later ts ss = go (built given)
+        → IsMoved m s sound first block_writes (asks.Step given) said tickets' issued said' new bytes w
+    step_moves first block_writes given answer tickets tickets' issued said said' old new bytes w running free back meets later ts ss = go (built given)
       where
-        go : IsBuilt given ⊎ (IsBuilt given → ⊥) → IsMoved m s sound first pens (asks.Step given) said tickets' told said' new bytes w
+        go : IsBuilt given ⊎ (IsBuilt given → ⊥) → IsMoved m s sound first block_writes (asks.Step given) said tickets' issued said' new bytes w
         go (inl is) =
             let met = meets is in
-            let reads = unread_goes first w.told tickets w.loads w.history w.kept answer met.it met.reply running.count running.loads in
+            let reads = unread_goes first w.issued tickets w.loads w.history w.kept answer met.it met.reply running.count running.loads in
             record {
               events = Applies (step_of m given) met.it met.after ∷ [];
               answers = answer ∷ [];
@@ -145,16 +145,16 @@ module _ {K V P A : Type 0} (m : Meaning K V P) where
                 stands = met.stands;
                 same = running.same;
                 count = reads.0 ∙ ap (λ xs. first + length xs) (sym ts);
-                loads = subst (λ xs. AreUnread first xs (loads_after met.it w.history w.kept w.told w.loads)) (sym ts) reads.1;
+                loads = subst (λ xs. AreUnread first xs (loads_after met.it w.history w.kept w.issued w.loads)) (sym ts) reads.1;
                 flushers = running.flushers;
-                writes = λ f. subst (λ xs. IsDue (pens f) xs (at (slice_get told f)) (pens_after met.it (step_of m given) w.pens f)) (sym ss)
-                    (due_more (pens f) said (answer ∷ []) (at (slice_get told f)) _
-                    (subst (λ all. IsDue (pens f) said (at (slice_get told f)) (all f)) (sym (pens_stay met.it (step_of m given) w.pens (free_beside given free))) (running.writes f)));
+                writes = λ f. subst (λ xs. IsDue (block_writes f) xs (at (slice_get issued f)) (block_writes_after met.it (step_of m given) w.block_writes f)) (sym ss)
+                    (due_more (block_writes f) said (answer ∷ []) (at (slice_get issued f)) _
+                    (subst (λ all. IsDue (block_writes f) said (at (slice_get issued f)) (all f)) (sym (block_writes_stay met.it (step_of m given) w.block_writes (free_beside given free))) (running.writes f)));
               };
             }
         go (inr not) =
             let handed = later not in
-            let same : tickets' ≡ tickets = ts ∙ ap (λ o. with_ticket o tickets) (back_told answer handed) in
+            let same : tickets' ≡ tickets = ts ∙ ap (λ o. with_ticket o tickets) (back_issued answer handed) in
             record {
               events = [];
               answers = answer ∷ [];
@@ -167,7 +167,7 @@ module _ {K V P A : Type 0} (m : Meaning K V P) where
                 count = running.count ∙ ap (λ xs. first + length xs) (sym same);
                 loads = subst (λ xs. AreUnread first xs w.loads) (sym same) running.loads;
                 flushers = running.flushers;
-                writes = λ f. subst (λ xs. IsDue (pens f) xs (at (slice_get told f)) (w.pens f)) (sym ss)
-                    (due_more (pens f) said (answer ∷ []) (at (slice_get told f)) _ (running.writes f));
+                writes = λ f. subst (λ xs. IsDue (block_writes f) xs (at (slice_get issued f)) (w.block_writes f)) (sym ss)
+                    (due_more (block_writes f) said (answer ∷ []) (at (slice_get issued f)) _ (running.writes f));
               };
             }

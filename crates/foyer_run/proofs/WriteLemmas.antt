@@ -5,18 +5,18 @@ use Rattle.std.proofs.lemmas.Option.{slice_get_within}
 use Rattle.std.specs.Prelude.{OnOk, OnErr, vec_len}
 use Rattle.std.specs.declared.vec.Vec.{Vec}
 use Rattle.foyer_device.specs.declared.error.Error.{Error}
-use Rattle.foyer_model.specs.Access.{Pen, Told as TellsPen, Under, will_cover, pen_begun, pen_ended, bytes_ended, result_of, loads_after, told_after, pens_after, IsTorn as IsTornIn}
-use Rattle.foyer_model.specs.Filling as filling
-use Rattle.foyer_model.specs.Placing.{laid}
+use Rattle.foyer_model.specs.Access.{BlockWrites, Issued as IssuesWrites, InFlight, will_cover, writes_begun, writes_ended, bytes_ended, result_of, loads_after, issued_after, block_writes_after, IsTorn as IsTornIn}
+use Rattle.foyer_model.specs.Position as model_position
+use Rattle.foyer_model.specs.Layout.{laid}
 use Rattle.foyer_model.specs.Rules.{Rules}
-use Rattle.foyer_model.specs.Step as plain
+use Rattle.foyer_model.specs.Step as model_step
 use Rattle.foyer_model.specs.World.{World, Applies, WriteBegins, WriteEnds, after}
 use Rattle.foyer_model.proofs.Basics.{put_at, put_same, put_other}
 use Rattle.foyer_core.specs.Asked.{went_well}
 use Rattle.foyer_core.specs.Content.{Content, Meaning}
-use Rattle.foyer_core.specs.Meets.{IsMet, machine}
+use Rattle.foyer_core.specs.Refines.{IsRefined, machine}
 use Rattle.foyer_core.specs.Replied.{IsReply, write_of}
-use Rattle.foyer_core.specs.Sizes.{IsSound}
+use Rattle.foyer_core.specs.Sizes.{AreValid}
 use Rattle.foyer_core.specs.declared.reply.Reply.{Reply}
 use Rattle.foyer_core.specs.declared.reply.Reply.TheVariants as reply
 use Rattle.foyer_core.specs.declared.reply.Write.{Write}
@@ -27,15 +27,15 @@ use Rattle.foyer_core.specs.declared.step.Ticket.{Ticket}
 use Rattle.foyer_core.proofs.StateLemmas.{set_here, set_there, set_count}
 use Rattle.foyer_run.specs.Disk.{IsTorn, IsWritten}
 use Rattle.foyer_run.specs.Due.{due}
-use Rattle.foyer_run.specs.Running.{IsDue, IsMoved, IsRunning, IsTold, at, next_of, ticket_in, with_ticket, write_at}
+use Rattle.foyer_run.specs.Running.{IsDue, IsMoved, IsRunning, IsIssued, at, next_of, ticket_in, with_ticket, write_at}
 use Rattle.foyer_run.specs.declared.moves.Asked.TheVariants as asks
-use Rattle.foyer_run.specs.declared.moves.Told.{Told}
-use Rattle.foyer_run.proofs.DueLemmas.{due_is, due_next, due_ended, due_failed, pens_elsewhere, unread_spoiled}
+use Rattle.foyer_run.specs.declared.moves.Issued.{Issued}
+use Rattle.foyer_run.proofs.DueLemmas.{due_is, due_next, due_ended, due_failed, block_writes_elsewhere, unread_torn}
 use Rattle.foyer_run.proofs.ListLemmas.{append_none, at_is, drop_at, drop_past, get_left}
 use Rattle.foyer_run.proofs.ReplyLemmas.{no_next}
 use Rattle.foyer_run.proofs.StepLemmas.{AreUnread, due_more, unread_goes}
 
--- a reply that tells no writes has none
+-- a reply that issues no writes has none
 pub none_at_all : {K V P A : Type 0} (answer : Reply K V P A) (n : ℕ) → ((b : ℕ) (ws : Vec (Write A) A) → answer ≡ reply.Write b ws → ⊥) → write_at (Some answer) n ≡ None
 none_at_all (reply.Write b ws) n not = absurd (not b ws refl)
 none_at_all answer n not = refl
@@ -54,8 +54,8 @@ done_is old new block w (Err e) wrote torn =
     subst (λ n. IsTorn old block w.offset n new) same torn
 
 -- and the one after it is next
-abbrev pub next_told : Told → Told
-next_told x = record { block = x.block; reply = x.reply; next = x.next + 1 }
+abbrev pub next_issued : Issued → Issued
+next_issued x = record { block = x.block; reply = x.reply; next = x.next + 1 }
 
 beside : (at offset n : ℕ) → (nat_le offset at && nat_lt at (offset + n)) ≡ false → (at < offset) ⊎ (offset + n ≤ at)
 beside at offset n e = go (nat_le offset at) refl
@@ -96,8 +96,8 @@ abbrev torn_of : Bool → (old new : ℕ → ℕ) → ℕ → ℕ
 torn_of true old new = old
 torn_of false old new = new
 
-bytes_are : {A : Type 0} (ok : Bool) (bytes old new : ℕ → ℕ → ℕ) (block : ℕ) (w : Write A) (ws : List filling.Write) → ((b o : ℕ) → bytes b o ≡ old b o)
-    → IsDone old new block w ok → (b o : ℕ) → bytes_ended ok (torn_of ok (bytes block) (new block)) (Under block [] (write_of w) ws) bytes b o ≡ new b o
+bytes_are : {A : Type 0} (ok : Bool) (bytes old new : ℕ → ℕ → ℕ) (block : ℕ) (w : Write A) (ws : List model_position.Write) → ((b o : ℕ) → bytes b o ≡ old b o)
+    → IsDone old new block w ok → (b o : ℕ) → bytes_ended ok (torn_of ok (bytes block) (new block)) (InFlight block [] (write_of w) ws) bytes b o ≡ new b o
 bytes_are true bytes old new block w ws same is b o =
     put_at (λ h. h o ≡ new b o) bytes block (laid (write_of w) (bytes block)) b
     (λ here. laid_is old new block w (bytes block) (same block) is o ∙ ap (λ c. new c o) (sym here))
@@ -107,21 +107,21 @@ bytes_are false bytes old new block w ws same is b o =
     (λ here. ap (λ c. new c o) (sym here))
     (λ ne. same b o ∙ sym (is b o (inl ne)))
 
-torn_is : {A : Type 0} (ok : Bool) (bytes old new : ℕ → ℕ → ℕ) (block : ℕ) (w : Write A) (ws : List filling.Write) → ((b o : ℕ) → bytes b o ≡ old b o)
-    → IsDone old new block w ok → IsTornIn bytes (Under block [] (write_of w) ws) (torn_of ok (bytes block) (new block))
+torn_is : {A : Type 0} (ok : Bool) (bytes old new : ℕ → ℕ → ℕ) (block : ℕ) (w : Write A) (ws : List model_position.Write) → ((b o : ℕ) → bytes b o ≡ old b o)
+    → IsDone old new block w ok → IsTornIn bytes (InFlight block [] (write_of w) ws) (torn_of ok (bytes block) (new block))
 torn_is true bytes old new block w ws same is o out = refl
 torn_is false bytes old new block w ws same is o out = is block o (inr out) ∙ sym (same block o)
 
-module _ {K V P : Type 0} (m : Meaning K V P) (s : Settings) (sound : IsSound s) where
+module _ {K V P : Type 0} (m : Meaning K V P) (s : Settings) (sound : AreValid s) where
   abbrev rules : Rules Content
   rules = machine m s sound
 
   -- a move whose write isn't due is passed over
-  pub write_passes : {A : Type 0} (first : ℕ) (pens : ℕ → Pen) (f : ℕ) (tickets : List (Option Ticket)) (told : List (Option Told)) (said : List (Reply K V P A))
-      (core : Core K V P A) (bytes : ℕ → ℕ → ℕ) (w : World Content) → IsRunning m s first pens tickets told said core bytes w
-      → (due (w.pens f) ≡ None) ⊎ (w.pens f ≡ pens f)
-      → IsMoved m s sound first pens (asks.FlushWrote f) said tickets told said core bytes w
-  write_passes first pens f tickets told said core bytes w running none = record {
+  pub write_passes : {A : Type 0} (first : ℕ) (block_writes : ℕ → BlockWrites) (f : ℕ) (tickets : List (Option Ticket)) (issued : List (Option Issued)) (said : List (Reply K V P A))
+      (core : Core K V P A) (bytes : ℕ → ℕ → ℕ) (w : World Content) → IsRunning m s first block_writes tickets issued said core bytes w
+      → (due (w.block_writes f) ≡ None) ⊎ (w.block_writes f ≡ block_writes f)
+      → IsMoved m s sound first block_writes (asks.FlushWrote f) said tickets issued said core bytes w
+  write_passes first block_writes f tickets issued said core bytes w running none = record {
     events = [];
     answers = [];
     happened = tt;
@@ -131,44 +131,44 @@ module _ {K V P : Type 0} (m : Meaning K V P) (s : Settings) (sound : IsSound s)
   }
 
   -- where no note of a write is kept, none is due
-  pub none_noted : {A : Type 0} (before : Pen) (said : List (Reply K V P A)) (x : Option Told) (pen : Pen) → IsDue before said x pen → x ≡ None
-      → (due pen ≡ None) ⊎ (pen ≡ before)
-  none_noted before said None pen is e = elim is [ inl same ↦ inr same | inr none ↦ inl none ]
-  none_noted before said (Some x) pen is e = absurd (let f : Some x ≡ None = e in cc)
+  pub none_noted : {A : Type 0} (before : BlockWrites) (said : List (Reply K V P A)) (x : Option Issued) (pending : BlockWrites) → IsDue before said x pending → x ≡ None
+      → (due pending ≡ None) ⊎ (pending ≡ before)
+  none_noted before said None pending is e = elim is [ inl same ↦ inr same | inr none ↦ inl none ]
+  none_noted before said (Some x) pending is e = absurd (let f : Some x ≡ None = e in cc)
 
   -- the note of a write that is kept
-  pub noted : {A : Type 0} (before : Pen) (said : List (Reply K V P A)) (x : Option Told) (y : Told) (pen : Pen) → IsDue before said x pen → x ≡ Some y → IsTold said y pen
-  noted before said x y pen is e = subst (λ z. IsDue before said z pen) e is
+  pub noted : {A : Type 0} (before : BlockWrites) (said : List (Reply K V P A)) (x : Option Issued) (y : Issued) (pending : BlockWrites) → IsDue before said x pending → x ≡ Some y → IsIssued said y pending
+  noted before said x y pending is e = subst (λ z. IsDue before said z pending) e is
 
   -- the writes that are left
-  left_writes : {A : Type 0} (said : List (Reply K V P A)) (x : Told) (pen : Pen) → (is : IsTold said x pen) → write_at (slice_get said x.reply) x.next ≡ slice_get is.writes.items x.next
-  left_writes said x pen is = ap (λ o. write_at o x.next) is.reply
+  left_writes : {A : Type 0} (said : List (Reply K V P A)) (x : Issued) (pending : BlockWrites) → (is : IsIssued said x pending) → write_at (slice_get said x.reply) x.next ≡ slice_get is.writes.items x.next
+  left_writes said x pending is = ap (λ o. write_at o x.next) is.reply
 
   -- where none is left, none is due
-  pub none_left : {A : Type 0} (said : List (Reply K V P A)) (x : Told) (pen : Pen) → IsTold said x pen → write_at (slice_get said x.reply) x.next ≡ None → due pen ≡ None
-  none_left said x pen is none =
-      is.due ∙ ap (λ ws. next_of x.block (map write_of ws)) (drop_past is.writes.items x.next (sym (left_writes said x pen is) ∙ none))
+  pub none_left : {A : Type 0} (said : List (Reply K V P A)) (x : Issued) (pending : BlockWrites) → IsIssued said x pending → write_at (slice_get said x.reply) x.next ≡ None → due pending ≡ None
+  none_left said x pending is none =
+      is.due ∙ ap (λ ws. next_of x.block (map write_of ws)) (drop_past is.writes.items x.next (sym (left_writes said x pending is) ∙ none))
 
   -- how the write is noted afterwards: the block's next one where it has another
-  abbrev pub IsNotedOn : {A : Type 0} → ℕ → Told → Bool → Reply K V P A → (old new : List (Option Told)) → Type 0
+  abbrev pub IsNotedOn : {A : Type 0} → ℕ → Issued → Bool → Reply K V P A → (old new : List (Option Issued)) → Type 0
   IsNotedOn f x ok answer old new =
-      ((ok ≡ true) × (answer ≡ reply.Next) × (new ≡ slice_set (slice_set old f None) f (Some (next_told x))))
+      ((ok ≡ true) × (answer ≡ reply.Next) × (new ≡ slice_set (slice_set old f None) f (Some (next_issued x))))
       ⊎ (((ok ≡ false) ⊎ (answer ≡ reply.Next → ⊥)) × (new ≡ slice_set old f None))
 
-  pub write_moves : {A : Type 0} (first : ℕ) (pens : ℕ → Pen) (f : ℕ) (x : Told) (write : Write A) (outcome : _) (answer : Reply K V P A)
-      (tickets tickets' : List (Option Ticket)) (told told' : List (Option Told)) (said said' : List (Reply K V P A)) (old new : Core K V P A) (bytes bytes' : ℕ → ℕ → ℕ) (w : World Content)
-      → IsRunning m s first pens tickets told said old bytes w
-      → at (slice_get told f) ≡ Some x → write_at (slice_get said x.reply) x.next ≡ Some write
+  pub write_moves : {A : Type 0} (first : ℕ) (block_writes : ℕ → BlockWrites) (f : ℕ) (x : Issued) (write : Write A) (outcome : _) (answer : Reply K V P A)
+      (tickets tickets' : List (Option Ticket)) (issued issued' : List (Option Issued)) (said said' : List (Reply K V P A)) (old new : Core K V P A) (bytes bytes' : ℕ → ℕ → ℕ) (w : World Content)
+      → IsRunning m s first block_writes tickets issued said old bytes w
+      → at (slice_get issued f) ≡ Some x → write_at (slice_get said x.reply) x.next ≡ Some write
       → IsDone bytes bytes' x.block write (went_well outcome)
-      → IsMet m s sound (step.FlushWrote f outcome) answer new w.core
-      → tickets' ≡ with_ticket (ticket_in answer) tickets → said' ≡ said ++ answer ∷ [] → IsNotedOn f x (went_well outcome) answer told told'
-      → IsMoved m s sound first pens (asks.FlushWrote f) said tickets' told' said' new bytes' w
-  write_moves first pens f x write outcome answer tickets tickets' told told' said said' old new bytes bytes' w running is_due is_next done met ts ss noted_on = record {
-    events = WriteBegins f ∷ WriteEnds f ok torn ∷ Applies (plain.FlushWrote f ok) met.it met.after ∷ [];
+      → IsRefined m s sound (step.FlushWrote f outcome) answer new w.core
+      → tickets' ≡ with_ticket (ticket_in answer) tickets → said' ≡ said ++ answer ∷ [] → IsNotedOn f x (went_well outcome) answer issued issued'
+      → IsMoved m s sound first block_writes (asks.FlushWrote f) said tickets' issued' said' new bytes' w
+  write_moves first block_writes f x write outcome answer tickets tickets' issued issued' said said' old new bytes bytes' w running is_due is_next done met ts ss noted_on = record {
+    events = WriteBegins f ∷ WriteEnds f ok torn ∷ Applies (model_step.FlushWrote f ok) met.it met.after ∷ [];
     answers = answer ∷ [];
     happened = (
       tt,
-      (subst (λ pen. IsTornIn w.bytes pen torn) (sym under) (torn_is ok w.bytes bytes bytes' x.block write rest running.same done), ((reported, met.follows), tt)),
+      (subst (λ pending. IsTornIn w.bytes pending torn) (sym under) (torn_is ok w.bytes bytes bytes' x.block write rest running.same done), ((reported, met.follows), tt)),
     );
     made = inr (
       ok,
@@ -179,9 +179,9 @@ module _ {K V P : Type 0} (m : Meaning K V P) (s : Settings) (sound : IsSound s)
     replies = ss;
     running = record {
       stands = met.stands;
-      same = λ b o. subst (λ pen. bytes_ended ok torn pen w.bytes b o ≡ bytes' b o) (sym under) (bytes_are ok w.bytes bytes bytes' x.block write rest running.same done b o);
+      same = λ b o. subst (λ pending. bytes_ended ok torn pending w.bytes b o ≡ bytes' b o) (sym under) (bytes_are ok w.bytes bytes bytes' x.block write rest running.same done b o);
       count = gone.0 ∙ ap (λ xs. first + length xs) (sym ts);
-      loads = subst (λ xs. AreUnread first xs (loads_after met.it w.history w.kept w.told w1.loads)) (sym ts) gone.1;
+      loads = subst (λ xs. AreUnread first xs (loads_after met.it w.history w.kept w.issued w1.loads)) (sym ts) gone.1;
       flushers = counted noted_on ∙ running.flushers;
       writes = λ g. flushes g (g == f) refl;
     };
@@ -193,18 +193,18 @@ module _ {K V P : Type 0} (m : Meaning K V P) (s : Settings) (sound : IsSound s)
       torn : ℕ → ℕ
       torn = torn_of ok (w.bytes x.block) (bytes' x.block)
 
-      noted_at : IsTold said x (w.pens f)
-      noted_at = noted (pens f) said (at (slice_get told f)) x (w.pens f) (running.writes f) is_due
+      noted_at : IsIssued said x (w.block_writes f)
+      noted_at = noted (block_writes f) said (at (slice_get issued f)) x (w.block_writes f) (running.writes f) is_due
 
-      rest : List filling.Write
+      rest : List model_position.Write
       rest = map write_of (drop (x.next + 1) noted_at.writes.items)
 
-      due_at : due (w.pens f) ≡ Some (x.block, write_of write ∷ rest)
+      due_at : due (w.block_writes f) ≡ Some (x.block, write_of write ∷ rest)
       due_at = noted_at.due
-          ∙ ap (λ ws. next_of x.block (map write_of ws)) (drop_at noted_at.writes.items x.next write (sym (left_writes said x (w.pens f) noted_at) ∙ is_next))
+          ∙ ap (λ ws. next_of x.block (map write_of ws)) (drop_at noted_at.writes.items x.next write (sym (left_writes said x (w.block_writes f) noted_at) ∙ is_next))
 
-      pen_at : w.pens f ≡ TellsPen x.block [] (write_of write ∷ rest)
-      pen_at = due_is (w.pens f) x.block (write_of write) rest due_at
+      writes_at : w.block_writes f ≡ IssuesWrites x.block [] (write_of write ∷ rest)
+      writes_at = due_is (w.block_writes f) x.block (write_of write) rest due_at
 
       w1 : World Content
       w1 = after rules w (WriteBegins f)
@@ -212,67 +212,67 @@ module _ {K V P : Type 0} (m : Meaning K V P) (s : Settings) (sound : IsSound s)
       w2 : World Content
       w2 = after rules w1 (WriteEnds f ok torn)
 
-      under : w1.pens f ≡ Under x.block [] (write_of write) rest
-      under = put_same w.pens f (pen_begun (w.pens f)) ∙ ap pen_begun pen_at
+      under : w1.block_writes f ≡ InFlight x.block [] (write_of write) rest
+      under = put_same w.block_writes f (writes_begun (w.block_writes f)) ∙ ap writes_begun writes_at
 
-      ended : w2.pens f ≡ TellsPen x.block (ok ∷ []) (if ok then rest else [])
-      ended = put_same w1.pens f (pen_ended ok (w1.pens f)) ∙ ap (pen_ended ok) under
+      ended : w2.block_writes f ≡ IssuesWrites x.block (ok ∷ []) (if ok then rest else [])
+      ended = put_same w1.block_writes f (writes_ended ok (w1.block_writes f)) ∙ ap (writes_ended ok) under
 
-      reported : result_of (w2.pens f) ≡ Some ok
+      reported : result_of (w2.block_writes f) ≡ Some ok
       reported = ap result_of ended
 
-      elsewhere : (g : ℕ) → (g ≡ f → ⊥) → w2.pens g ≡ w.pens g
-      elsewhere g ne = put_other w1.pens f (pen_ended ok (w1.pens f)) g ne ∙ put_other w.pens f (pen_begun (w.pens f)) g ne
+      elsewhere : (g : ℕ) → (g ≡ f → ⊥) → w2.block_writes g ≡ w.block_writes g
+      elsewhere g ne = put_other w1.block_writes f (writes_ended ok (w1.block_writes f)) g ne ∙ put_other w.block_writes f (writes_begun (w.block_writes f)) g ne
 
       left : AreUnread first tickets w1.loads
-      left n t here = unread_spoiled (will_cover (w.pens f)) (w.loads (first + n)) ∙ running.loads n t here
+      left n t here = unread_torn (will_cover (w.block_writes f)) (w.loads (first + n)) ∙ running.loads n t here
 
-      gone : (told_after met.it w.told ≡ first + length (with_ticket (ticket_in answer) tickets)) × AreUnread first (with_ticket (ticket_in answer) tickets) (loads_after met.it w.history w.kept w.told w1.loads)
-      gone = unread_goes m first w.told tickets w1.loads w.history w.kept answer met.it met.reply running.count left
+      gone : (issued_after met.it w.issued ≡ first + length (with_ticket (ticket_in answer) tickets)) × AreUnread first (with_ticket (ticket_in answer) tickets) (loads_after met.it w.history w.kept w.issued w1.loads)
+      gone = unread_goes m first w.issued tickets w1.loads w.history w.kept answer met.it met.reply running.count left
 
-      within : f < length told
-      within = slice_get_within told f (Some x) (at_is (slice_get told f) x is_due)
+      within : f < length issued
+      within = slice_get_within issued f (Some x) (at_is (slice_get issued f) x is_due)
 
-      counted : IsNotedOn f x ok answer told told' → length told' ≡ length told
-      counted (inl on) = ap length on.2 ∙ set_count (slice_set told f None) f (Some (next_told x)) ∙ set_count told f None
-      counted (inr over) = ap length over.1 ∙ set_count told f None
+      counted : IsNotedOn f x ok answer issued issued' → length issued' ≡ length issued
+      counted (inl on) = ap length on.2 ∙ set_count (slice_set issued f None) f (Some (next_issued x)) ∙ set_count issued f None
+      counted (inr over) = ap length over.1 ∙ set_count issued f None
 
-      away : (g : ℕ) → (g ≡ f → ⊥) → IsNotedOn f x ok answer told told' → slice_get told' g ≡ slice_get told g
-      away g ne (inl on) = ap (λ xs. slice_get xs g) on.2 ∙ set_there (slice_set told f None) f g (Some (next_told x)) ne ∙ set_there told f g None ne
-      away g ne (inr over) = ap (λ xs. slice_get xs g) over.1 ∙ set_there told f g None ne
+      away : (g : ℕ) → (g ≡ f → ⊥) → IsNotedOn f x ok answer issued issued' → slice_get issued' g ≡ slice_get issued g
+      away g ne (inl on) = ap (λ xs. slice_get xs g) on.2 ∙ set_there (slice_set issued f None) f g (Some (next_issued x)) ne ∙ set_there issued f g None ne
+      away g ne (inr over) = ap (λ xs. slice_get xs g) over.1 ∙ set_there issued f g None ne
 
-      pens' : ℕ → Pen
-      pens' = pens_after met.it (plain.FlushWrote f ok) w2.pens
+      block_writes' : ℕ → BlockWrites
+      block_writes' = block_writes_after met.it (model_step.FlushWrote f ok) w2.block_writes
 
       -- nothing is due of the flusher
-      over_at : ((ok ≡ false) ⊎ (answer ≡ reply.Next → ⊥)) → due (pens' f) ≡ None
-      over_at (inr last) = due_ended met.it f ok w2.pens x.block (if ok then rest else []) (no_next m answer met.it last met.reply) ended
+      over_at : ((ok ≡ false) ⊎ (answer ≡ reply.Next → ⊥)) → due (block_writes' f) ≡ None
+      over_at (inr last) = due_ended met.it f ok w2.block_writes x.block (if ok then rest else []) (no_next m answer met.it last met.reply) ended
       over_at (inl failed) =
-          subst (λ (b : Bool). due (pens_after met.it (plain.FlushWrote f b) w2.pens f) ≡ None) (sym failed)
-          (due_failed met.it f w2.pens x.block (ended ∙ ap (λ (b : Bool). TellsPen x.block (b ∷ []) (if b then rest else [])) failed))
+          subst (λ (b : Bool). due (block_writes_after met.it (model_step.FlushWrote f b) w2.block_writes f) ≡ None) (sym failed)
+          (due_failed met.it f w2.block_writes x.block (ended ∙ ap (λ (b : Bool). IssuesWrites x.block (b ∷ []) (if b then rest else [])) failed))
 
-      here : IsNotedOn f x ok answer told told' → IsDue (pens f) said' (at (slice_get told' f)) (pens' f)
+      here : IsNotedOn f x ok answer issued issued' → IsDue (block_writes f) said' (at (slice_get issued' f)) (block_writes' f)
       here (inl (well, next, is)) =
-          let length_is : length (slice_set told f None) ≡ length told = set_count told f None in
-          subst (λ o. IsDue (pens f) said' (at o) (pens' f))
-          (sym (ap (λ xs. slice_get xs f) is ∙ set_here (slice_set told f None) f (Some (next_told x)) (let lt : f < length told = within in omega arith)))
+          let length_is : length (slice_set issued f None) ≡ length issued = set_count issued f None in
+          subst (λ o. IsDue (block_writes f) said' (at o) (block_writes' f))
+          (sym (ap (λ xs. slice_get xs f) is ∙ set_here (slice_set issued f None) f (Some (next_issued x)) (let lt : f < length issued = within in omega arith)))
           (record {
             block = noted_at.block;
             writes = noted_at.writes;
             reply = ap (λ xs. slice_get xs x.reply) ss ∙ get_left said (answer ∷ []) x.reply (reply.Write noted_at.block noted_at.writes) noted_at.reply;
-            due = subst (λ r. due (pens_after r (plain.FlushWrote f ok) w2.pens f) ≡ next_of x.block rest) (sym (subst (λ r. IsReply m r met.it) next met.reply))
-                (due_next Content f ok w2.pens x.block rest (ended ∙ ap (λ (b : Bool). TellsPen x.block (ok ∷ []) (if b then rest else [])) well));
+            due = subst (λ r. due (block_writes_after r (model_step.FlushWrote f ok) w2.block_writes f) ≡ next_of x.block rest) (sym (subst (λ r. IsReply m r met.it) next met.reply))
+                (due_next Content f ok w2.block_writes x.block rest (ended ∙ ap (λ (b : Bool). IssuesWrites x.block (ok ∷ []) (if b then rest else [])) well));
           })
       here (inr (why, is)) =
-          subst (λ o. IsDue (pens f) said' (at o) (pens' f)) (sym (ap (λ xs. slice_get xs f) is ∙ set_here told f None within)) (inr (over_at why))
+          subst (λ o. IsDue (block_writes f) said' (at o) (block_writes' f)) (sym (ap (λ xs. slice_get xs f) is ∙ set_here issued f None within)) (inr (over_at why))
 
-      flushes : (g : ℕ) (e : Bool) → (g == f) ≡ e → IsDue (pens g) said' (at (slice_get told' g)) (pens' g)
+      flushes : (g : ℕ) (e : Bool) → (g == f) ≡ e → IsDue (block_writes g) said' (at (slice_get issued' g)) (block_writes' g)
       flushes g true e =
           let same : g ≡ f = grind (arith, nat_tests) in
-          subst (λ i. IsDue (pens i) said' (at (slice_get told' i)) (pens' i)) (sym same) (here noted_on)
+          subst (λ i. IsDue (block_writes i) said' (at (slice_get issued' i)) (block_writes' i)) (sym same) (here noted_on)
       flushes g false e =
           let ne : g ≡ f → ⊥ = λ same. grind (arith, nat_tests) in
-          subst (λ xs. IsDue (pens g) xs (at (slice_get told' g)) (pens' g)) (sym ss)
-          (subst (λ o. IsDue (pens g) (said ++ answer ∷ []) (at o) (pens' g)) (sym (away g ne noted_on))
-          (due_more (pens g) said (answer ∷ []) (at (slice_get told g)) (pens' g)
-          (subst (λ pen. IsDue (pens g) said (at (slice_get told g)) pen) (sym (pens_elsewhere met.it f g ok w2.pens ne ∙ elsewhere g ne)) (running.writes g))))
+          subst (λ xs. IsDue (block_writes g) xs (at (slice_get issued' g)) (block_writes' g)) (sym ss)
+          (subst (λ o. IsDue (block_writes g) (said ++ answer ∷ []) (at o) (block_writes' g)) (sym (away g ne noted_on))
+          (due_more (block_writes g) said (answer ∷ []) (at (slice_get issued g)) (block_writes' g)
+          (subst (λ pending. IsDue (block_writes g) said (at (slice_get issued g)) pending) (sym (block_writes_elsewhere met.it f g ok w2.block_writes ne ∙ elsewhere g ne)) (running.writes g))))

@@ -1,4 +1,4 @@
--- What a read or a write of a disk does to its bytes, told as the byte at each offset of each block.
+-- What a read or a write of a disk does to its bytes, said by the byte at each offset of each block.
 use Rattle.std.specs.Prelude.{◌≡◌, ℕ, ◌+◌, ◌<◌, ◌≤◌, ◌⊎◌, ◌≢◌, List, length, slice_index}
 
 -- these bytes stand at the offset of the block

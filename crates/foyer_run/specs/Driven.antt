@@ -3,22 +3,22 @@ use Rattle.std.specs.Prelude.{◌≡◌, ℕ, List}
 use Rattle.foyer_model.specs.World.{World, WorldEvent, MayAllHappen, after_all}
 use Rattle.foyer_core.specs.Content.{Content, Meaning}
 use Rattle.foyer_core.specs.InOneBlock.{IsInOneBlock}
-use Rattle.foyer_core.specs.Meets.{machine}
-use Rattle.foyer_core.specs.Plain.{IsSpelled}
-use Rattle.foyer_core.specs.Sizes.{IsSound}
+use Rattle.foyer_core.specs.Refines.{machine}
+use Rattle.foyer_core.specs.CoreRules.{IsEncoded}
+use Rattle.foyer_core.specs.Sizes.{AreValid}
 use Rattle.foyer_core.specs.Standing.{IsStateOf}
 use Rattle.foyer_core.specs.declared.settings.Settings.{Settings}
 use Rattle.foyer_core.specs.declared.state.Core.{Core}
 
 -- events that may happen from this world on lead to a world whose core and bytes these are
-pub record IsDriven {K V P A : Type 0} (m : Meaning K V P) (s : Settings) (sound : IsSound s) (w : World Content) (core : Core K V P A) (bytes : ℕ → ℕ → ℕ) : Type 0 where
+pub record IsDriven {K V P A : Type 0} (m : Meaning K V P) (s : Settings) (sound : AreValid s) (w : World Content) (core : Core K V P A) (bytes : ℕ → ℕ → ℕ) : Type 0 where
   pub events : List (WorldEvent Content)
-  pub happened : MayAllHappen (machine m s sound) (IsInOneBlock s.blob_index_size) (IsSpelled m.is_key m.is_value) w events
+  pub happened : MayAllHappen (machine m s sound) (IsInOneBlock s.blob_index_size) (IsEncoded m.is_key m.is_value) w events
   pub stands : IsStateOf m s core (after_all (machine m s sound) w events).core
   pub same : (b o : ℕ) → (after_all (machine m s sound) w events).bytes b o ≡ bytes b o
 
 -- from each world whose core and bytes are those before
 abbrev pub Drives : {K V P A : Type 0} → Meaning K V P → Core K V P A → Core K V P A → (ℕ → ℕ → ℕ) → (ℕ → ℕ → ℕ) → Type 0
 Drives m old new old_bytes new_bytes =
-    (s : Settings) (sound : IsSound s) (w : World Content) → IsStateOf m s old w.core → ((b o : ℕ) → w.bytes b o ≡ old_bytes b o)
+    (s : Settings) (sound : AreValid s) (w : World Content) → IsStateOf m s old w.core → ((b o : ℕ) → w.bytes b o ≡ old_bytes b o)
     → IsDriven m s sound w new new_bytes

@@ -1,67 +1,67 @@
 -- What holds of a run that began with an opened core: the laws, of its own events and replies.
 use Rattle.std.specs.Prelude.{◌≡◌, ◌≢◌, ℕ, ◌<◌, Bool, false, List, ◌∷◌, ◌++◌, Some}
-use Rattle.foyer_model.specs.Access.{Load, HasRead, Rest}
+use Rattle.foyer_model.specs.Access.{Load, ReadDone, Idle}
 use Rattle.foyer_model.specs.Event.{Put, newest}
 use Rattle.foyer_model.specs.Laws.{IsAmong, IsAnswer, WasQueued}
 use Rattle.foyer_model.specs.Numbers.{last_number}
 use Rattle.foyer_model.specs.Record.{Outcome, NoRecord, Holds}
-use Rattle.foyer_model.specs.Reply as replies
+use Rattle.foyer_model.specs.Reply as model_reply
 use Rattle.foyer_model.specs.Rules.{Rules}
 use Rattle.foyer_model.specs.State.{State}
-use Rattle.foyer_model.specs.Step.{Age, Came, Ticket, LoadBegin, LoadEnd}
+use Rattle.foyer_model.specs.Step.{Age, ReadResult, Ticket, LoadBegin, LoadEnd}
 use Rattle.foyer_model.specs.World.{World, WorldEvent, Applies, MayAllHappen, after_all}
 use Rattle.foyer_core.specs.Begins.{first_world}
 use Rattle.foyer_core.specs.Content.{Content, Meaning}
 use Rattle.foyer_core.specs.InOneBlock.{IsInOneBlock}
-use Rattle.foyer_core.specs.Meets.{machine}
-use Rattle.foyer_core.specs.Plain.{IsSpelled}
-use Rattle.foyer_core.specs.Sizes.{IsSound}
+use Rattle.foyer_core.specs.Refines.{machine}
+use Rattle.foyer_core.specs.CoreRules.{IsEncoded}
+use Rattle.foyer_core.specs.Sizes.{AreValid}
 use Rattle.foyer_core.specs.declared.reply.Reply.{Reply}
 use Rattle.foyer_core.specs.declared.settings.Settings.{Settings}
 use Rattle.foyer_run.specs.Moves.{AreMade}
 use Rattle.foyer_run.specs.declared.moves.Move.{Move}
 
 module _ {C : Type 0} (rules : Rules C) (first : World C) (events : List (WorldEvent C)) where
-  -- Where a look-up told a read, and after whatever came between a load ended with an entry by the bytes of that read,
+  -- Where a look-up issued a read, and after whatever came between a load ended with an entry by the bytes of that read,
   -- the entry was newest of its hash at the look-up.
   abbrev pub EntriesAreNewest : Type 0
   EntriesAreNewest =
-      (before between rest : List (WorldEvent C)) (h : ℕ) (throttled : Bool) (t : Ticket) (looked : State C) (result : Came) (c : C) (age : Age) (ended : State C) (l : Load C)
-      → events ≡ before ++ ((Applies (LoadBegin h throttled) (replies.Read t) looked ∷ between) ++ Applies (LoadEnd t result) (replies.Entry c age) ended ∷ rest)
-      → (after_all rules (after_all rules first before) (Applies (LoadBegin h throttled) (replies.Read t) looked ∷ between)).loads (after_all rules first before).told ≡ Some l
-      → l.phase ≡ HasRead result
+      (before between rest : List (WorldEvent C)) (h : ℕ) (throttled : Bool) (t : Ticket) (looked : State C) (result : ReadResult) (c : C) (age : Age) (ended : State C) (l : Load C)
+      → events ≡ before ++ ((Applies (LoadBegin h throttled) (model_reply.Read t) looked ∷ between) ++ Applies (LoadEnd t result) (model_reply.Entry c age) ended ∷ rest)
+      → (after_all rules (after_all rules first before) (Applies (LoadBegin h throttled) (model_reply.Read t) looked ∷ between)).loads (after_all rules first before).issued ≡ Some l
+      → l.read_state ≡ ReadDone result
       → newest h (after_all rules first before).history ≡ Some (Put h t.address.sequence (Holds c))
 
-  -- a look-up in these events told the read of this ticket, and this content was newest of its hash at that look-up
+  -- a look-up in these events issued the read of this ticket, and this content was newest of its hash at that look-up
   pub record WasNewest (before : List (WorldEvent C)) (t : Ticket) (c : C) : Type 0 where
     pub earlier : List (WorldEvent C)
     pub between : List (WorldEvent C)
     pub hash : ℕ
     pub throttled : Bool
     pub looked : State C
-    pub is : before ≡ earlier ++ Applies (LoadBegin hash throttled) (replies.Read t) looked ∷ between
+    pub is : before ≡ earlier ++ Applies (LoadBegin hash throttled) (model_reply.Read t) looked ∷ between
     pub put : newest hash (after_all rules first earlier).history ≡ Some (Put hash t.address.sequence (Holds c))
 
   -- whatever a load ends with was newest of its hash at its look-up
   abbrev pub AnswersAreNewest : Type 0
   AnswersAreNewest =
-      (before rest : List (WorldEvent C)) (t : Ticket) (result : Came) (c : C) (age : Age) (ended : State C)
-      → events ≡ before ++ Applies (LoadEnd t result) (replies.Entry c age) ended ∷ rest → WasNewest before t c
+      (before rest : List (WorldEvent C)) (t : Ticket) (result : ReadResult) (c : C) (age : Age) (ended : State C)
+      → events ≡ before ++ Applies (LoadEnd t result) (model_reply.Entry c age) ended ∷ rest → WasNewest before t c
 
-  -- Where the newest event of a hash was the put of a record, the look-up told a read, and the load by the bytes of that
+  -- Where the newest event of a hash was the put of a record, the look-up issued a read, and the load by the bytes of that
   -- read was answered by that record, or by the cause that is named for it.
   abbrev pub NewestAreAnswered : Type 0
   NewestAreAnswered =
-      (before after : List (WorldEvent C)) (h : ℕ) (reply : replies.Reply C) (looked : State C) (b s : ℕ) (x : Outcome C)
+      (before after : List (WorldEvent C)) (h : ℕ) (reply : model_reply.Reply C) (looked : State C) (b s : ℕ) (x : Outcome C)
       → events ≡ before ++ Applies (LoadBegin h false) reply looked ∷ after
       → (after_all rules first before).core.steps < last_number
       → (after_all rules first before).kept h ≡ Some b → newest h (after_all rules first before).history ≡ Some (Put h s x) → x ≢ NoRecord
-      → (t : Ticket) × (reply ≡ replies.Read t)
-      × ((between rest : List (WorldEvent C)) (result : Came) (answer : replies.Reply C) (ended : State C) (l : Load C) (d : ℕ)
+      → (t : Ticket) × (reply ≡ model_reply.Read t)
+      × ((between rest : List (WorldEvent C)) (result : ReadResult) (answer : model_reply.Reply C) (ended : State C) (l : Load C) (d : ℕ)
       → after ≡ between ++ Applies (LoadEnd t result) answer ended ∷ rest
-      → (after_all rules (after_all rules first before) (Applies (LoadBegin h false) (replies.Read t) looked ∷ between)).core.steps < last_number
-      → (after_all rules (after_all rules first before) (Applies (LoadBegin h false) (replies.Read t) looked ∷ between)).loads (after_all rules first before).told ≡ Some l
-      → l.phase ≡ HasRead result → l.kept ≡ Some d
+      → (after_all rules (after_all rules first before) (Applies (LoadBegin h false) (model_reply.Read t) looked ∷ between)).core.steps < last_number
+      → (after_all rules (after_all rules first before) (Applies (LoadBegin h false) (model_reply.Read t) looked ∷ between)).loads (after_all rules first before).issued ≡ Some l
+      → l.read_state ≡ ReadDone result → l.kept ≡ Some d
       → IsAnswer t result x answer)
 
   -- each put of the history is of the content of the Enqueue that got its sequence
@@ -72,10 +72,10 @@ module _ {C : Type 0} (rules : Rules C) (first : World C) (events : List (WorldE
 
 -- Events that may happen from an opened core on, over these bytes, which these moves name and whose replies these are:
 -- and the laws hold of them.
-pub record IsLawful {K V P A : Type 0} (m : Meaning K V P) (s : Settings) (sound : IsSound s) (bytes : ℕ → ℕ → ℕ) (moves : List (Move K V P A)) (said : List (Reply K V P A)) : Type 0 where
+pub record IsLawful {K V P A : Type 0} (m : Meaning K V P) (s : Settings) (sound : AreValid s) (bytes : ℕ → ℕ → ℕ) (moves : List (Move K V P A)) (said : List (Reply K V P A)) : Type 0 where
   pub events : List (WorldEvent Content)
-  pub happened : MayAllHappen (machine m s sound) (IsInOneBlock s.blob_index_size) (IsSpelled m.is_key m.is_value) (first_world (machine m s sound) bytes) events
-  pub made : AreMade m s sound 0 (λ f. Rest) (first_world (machine m s sound) bytes) moves events said
+  pub happened : MayAllHappen (machine m s sound) (IsInOneBlock s.blob_index_size) (IsEncoded m.is_key m.is_value) (first_world (machine m s sound) bytes) events
+  pub made : AreMade m s sound 0 (λ f. Idle) (first_world (machine m s sound) bytes) moves events said
   pub answers : AnswersAreNewest (machine m s sound) (first_world (machine m s sound) bytes) events
   pub entries : EntriesAreNewest (machine m s sound) (first_world (machine m s sound) bytes) events
   pub misses : NewestAreAnswered (machine m s sound) (first_world (machine m s sound) bytes) events

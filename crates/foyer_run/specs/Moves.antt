@@ -1,15 +1,15 @@
 -- What moves make: the events of the world that they name, and the replies of these.
 use Rattle.std.specs.Prelude.{◌≡◌, ℕ, ◌+◌, ◌≤◌, ◌⊎◌, Bool, List, [], ◌∷◌, ◌++◌, Some, None}
-use Rattle.foyer_model.specs.Access.{Pen}
-use Rattle.foyer_model.specs.Reply as replies
+use Rattle.foyer_model.specs.Access.{BlockWrites}
+use Rattle.foyer_model.specs.Reply as model_reply
 use Rattle.foyer_model.specs.State.{State}
-use Rattle.foyer_model.specs.Step as plain
+use Rattle.foyer_model.specs.Step as model_step
 use Rattle.foyer_model.specs.World.{World, WorldEvent, Applies, ReadBegins, ReadEnds, WriteBegins, WriteEnds, after_all}
 use Rattle.foyer_core.specs.Asked.{step_of}
 use Rattle.foyer_core.specs.Content.{Content, Meaning}
-use Rattle.foyer_core.specs.Meets.{IsBuilt, IsHandedBack, machine}
+use Rattle.foyer_core.specs.Refines.{IsBuilt, IsHandedBack, machine}
 use Rattle.foyer_core.specs.Replied.{IsReply}
-use Rattle.foyer_core.specs.Sizes.{IsSound}
+use Rattle.foyer_core.specs.Sizes.{AreValid}
 use Rattle.foyer_core.specs.declared.reply.Reply.{Reply}
 use Rattle.foyer_core.specs.declared.settings.Settings.{Settings}
 use Rattle.foyer_core.specs.declared.step.Step.{Step}
@@ -46,8 +46,8 @@ asked move.Close = asks.Step step.Close
 
 module _ {K V P A : Type 0} (m : Meaning K V P) where
   -- these accesses, then this step, with the one reply of it
-  pub record IsApplied (accesses : List (WorldEvent Content)) (given : plain.Step Content) (events : List (WorldEvent Content)) (said : List (Reply K V P A)) : Type 0 where
-    pub it : replies.Reply Content
+  pub record IsApplied (accesses : List (WorldEvent Content)) (given : model_step.Step Content) (events : List (WorldEvent Content)) (said : List (Reply K V P A)) : Type 0 where
+    pub it : model_reply.Reply Content
     pub after : State Content
     pub answer : Reply K V P A
     pub is : events ≡ accesses ++ Applies given it after ∷ []
@@ -69,23 +69,23 @@ module _ {K V P A : Type 0} (m : Meaning K V P) where
   abbrev pub IsStepped : Step K V P A → List (WorldEvent Content) → List (Reply K V P A) → Type 0
   IsStepped given events said = (IsBuilt given × IsApplied [] (step_of m given) events said) ⊎ IsLater given events said
 
-  -- What a move makes in a world, in a run whose first ticket has this number, and that began with these pens. A load
-  -- ends where its read was told and hasn't begun, with that read before it. A write is reported where one is due, with
-  -- that write before it: it is passed over only where none is due, or none was told in this run.
-  abbrev pub Makes : (first : ℕ) → (ℕ → Pen) → World Content → Asked K V P A → List (WorldEvent Content) → List (Reply K V P A) → Type 0
-  Makes first pens w (asks.Step given) events said = IsStepped given events said
-  Makes first pens w (asks.FlushBlock f) events said = IsStepped (step.FlushBlock f) events said
-  Makes first pens w (asks.LoadEnd n) events said =
-      (IsPassed events said × ((unread (w.loads (first + n)) ≡ None) ⊎ (w.told ≤ first + n)))
-      ⊎ ((t : plain.Ticket) × (came : plain.Came) × (unread (w.loads (first + n)) ≡ Some t)
-      × IsApplied (ReadBegins (first + n) ∷ ReadEnds (first + n) came ∷ []) (plain.LoadEnd t came) events said)
-  Makes first pens w (asks.FlushWrote f) events said =
-      (IsPassed events said × ((due (w.pens f) ≡ None) ⊎ (w.pens f ≡ pens f)))
-      ⊎ ((ok : Bool) × (torn : ℕ → ℕ) × (due (w.pens f) ≡ None → ⊥)
-      × IsApplied (WriteBegins f ∷ WriteEnds f ok torn ∷ []) (plain.FlushWrote f ok) events said)
-  Makes first pens w asks.Nothing events said = IsPassed events said
+  -- What a move makes in a world, in a run whose first ticket has this number, and that began with these writes of flushers. A load
+  -- ends where its read was issued and hasn't begun, with that read before it. A write is reported where one is due, with
+  -- that write before it: it is passed over only where none is due, or none was issued in this run.
+  abbrev pub Makes : (first : ℕ) → (ℕ → BlockWrites) → World Content → Asked K V P A → List (WorldEvent Content) → List (Reply K V P A) → Type 0
+  Makes first block_writes w (asks.Step given) events said = IsStepped given events said
+  Makes first block_writes w (asks.FlushBlock f) events said = IsStepped (step.FlushBlock f) events said
+  Makes first block_writes w (asks.LoadEnd n) events said =
+      (IsPassed events said × ((unread (w.loads (first + n)) ≡ None) ⊎ (w.issued ≤ first + n)))
+      ⊎ ((t : model_step.Ticket) × (came : model_step.ReadResult) × (unread (w.loads (first + n)) ≡ Some t)
+      × IsApplied (ReadBegins (first + n) ∷ ReadEnds (first + n) came ∷ []) (model_step.LoadEnd t came) events said)
+  Makes first block_writes w (asks.FlushWrote f) events said =
+      (IsPassed events said × ((due (w.block_writes f) ≡ None) ⊎ (w.block_writes f ≡ block_writes f)))
+      ⊎ ((ok : Bool) × (torn : ℕ → ℕ) × (due (w.block_writes f) ≡ None → ⊥)
+      × IsApplied (WriteBegins f ∷ WriteEnds f ok torn ∷ []) (model_step.FlushWrote f ok) events said)
+  Makes first block_writes w asks.Nothing events said = IsPassed events said
 
-module _ {K V P A : Type 0} (m : Meaning K V P) (s : Settings) (sound : IsSound s) (first : ℕ) (pens : ℕ → Pen) where
+module _ {K V P A : Type 0} (m : Meaning K V P) (s : Settings) (sound : AreValid s) (first : ℕ) (block_writes : ℕ → BlockWrites) where
   -- what the first move makes, and what those after it make
   pub record IsMadeFirst (w : World Content) (x : Move K V P A) (rest : World Content → List (WorldEvent Content) → List (Reply K V P A) → Type 0) (events : List (WorldEvent Content)) (said : List (Reply K V P A)) : Type 0 where
     pub now : List (WorldEvent Content)
@@ -94,7 +94,7 @@ module _ {K V P A : Type 0} (m : Meaning K V P) (s : Settings) (sound : IsSound 
     pub others : List (Reply K V P A)
     pub is : events ≡ now ++ later
     pub said_is : said ≡ answers ++ others
-    pub made : Makes m first pens w (asked x) now answers
+    pub made : Makes m first block_writes w (asked x) now answers
     pub more : rest (after_all (machine m s sound) w now) later others
 
   -- what moves make, one after the other

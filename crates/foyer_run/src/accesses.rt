@@ -2,7 +2,7 @@
 ghost use Rattle.std.specs.Prelude.{ℕ, List, ◌++◌, ◌≡◌, ◌∷◌, [], false, OnErr, IfOk};
 ghost use Rattle.foyer_model.specs.World.{WorldEvent};
 ghost use Rattle.foyer_core.specs.Content.{Content, Meaning, meaning};
-ghost use Rattle.foyer_core.specs.Sizes.{IsSound};
+ghost use Rattle.foyer_core.specs.Sizes.{AreValid};
 ghost use Rattle.foyer_core.specs.declared.settings.Settings.{Settings};
 ghost use Rattle.foyer_core.specs.declared.state.Core.{Core};
 ghost use Rattle.foyer_run.specs.Accesses.{Says, Writes, load_of};
@@ -15,7 +15,7 @@ ghost use Rattle.foyer_run.specs.Running.{IsFree};
 ghost use Rattle.foyer_run.specs.Runs.{IsFront};
 
 use crate::disk::Disk;
-use crate::moves::{goes_on, read_told, write_told};
+use crate::moves::{do_read, do_write, wants_next_write};
 use foyer_core::apply::Env;
 use foyer_core::reply::Reply;
 use foyer_core::state::Core;
@@ -23,7 +23,7 @@ use foyer_core::step::Step;
 use foyer_format::serde::{Code, Properties};
 use std::alloc::{AllocError, Allocator};
 
-/// Applies a step that brings no result of an access and tells no write: a run of the move that is this step.
+/// Applies a step that brings no result of an access and issues no write: a run of the move that is this step.
 pub fn step<K, V, P, A>(
     core: &mut Core<K, V, P, A>,
     env: &mut Env,
@@ -36,19 +36,19 @@ where
     A: Allocator + Clone,
     requires free { IsFree given }
     ensures runs { (x : Move K V P A) → asked x ≡ asks.Step given → (bytes : ℕ → ℕ → ℕ) → Says
-        (meaning K.spelling V.spelling K.encodes V.encodes K.is_spelling V.is_spelling P.age)
+        (meaning K.encoding V.encoding K.is_encodable V.is_encodable K.is_decodable V.is_decodable P.age)
         (x ∷ []) result core.old core.new bytes bytes }
     ensures drives { (bytes : ℕ → ℕ → ℕ) → Drives
-        (meaning K.spelling V.spelling K.encodes V.encodes K.is_spelling V.is_spelling P.age)
+        (meaning K.encoding V.encoding K.is_encodable V.is_encodable K.is_decodable V.is_decodable P.age)
         core.old core.new bytes bytes }
 {
     core.apply(env, given)
 }
 
-/// Looks a hash up, does the read that this tells, and brings what came of it: what the load answers. An entry is the
+/// Looks a hash up, does the read that this issues, and brings what came of it: what the load answers. An entry is the
 /// newest put of the hash, whatever led here. Where the newest event is a put, it is answered, or `Refused` for a
 /// failed read or for memory, unless the caller throttles, a reclaim of its block or a destroy began, or under two
-/// steps are left. `Err` is a refused growth: then nothing was read, and the load never ends.
+/// steps are left. `Err` is a refused allocation: then nothing was read, and the load never ends.
 pub fn load<K, V, P, A, D>(
     core: &mut Core<K, V, P, A>,
     env: &mut Env,
@@ -63,19 +63,19 @@ where
     A: Allocator + Clone,
     D: Disk,
     ensures runs { IfOk result (λ last. Says
-        (meaning K.spelling V.spelling K.encodes V.encodes K.is_spelling V.is_spelling P.age)
+        (meaning K.encoding V.encoding K.is_encodable V.is_encodable K.is_decodable V.is_decodable P.age)
         (load_of hash throttled) last core.old core.new (D.byte_at disk.old) (D.byte_at disk.new)) }
     ensures drives { Drives
-        (meaning K.spelling V.spelling K.encodes V.encodes K.is_spelling V.is_spelling P.age)
+        (meaning K.encoding V.encoding K.is_encodable V.is_encodable K.is_decodable V.is_decodable P.age)
         core.old core.new (D.byte_at disk.old) (D.byte_at disk.new) }
     ensures newest { IfOk result (IsNewest
-        (meaning K.spelling V.spelling K.encodes V.encodes K.is_spelling V.is_spelling P.age)
+        (meaning K.encoding V.encoding K.is_encodable V.is_encodable K.is_decodable V.is_decodable P.age)
         hash core.old (D.byte_at disk.old)) }
     ensures missed { IfOk result (λ last. throttled ≡ false → IsMissedOnly
-        (meaning K.spelling V.spelling K.encodes V.encodes K.is_spelling V.is_spelling P.age)
+        (meaning K.encoding V.encoding K.is_encodable V.is_encodable K.is_decodable V.is_decodable P.age)
         hash core.old (D.byte_at disk.old) last) }
     ensures front { OnErr result (IsFront
-        (meaning K.spelling V.spelling K.encodes V.encodes K.is_spelling V.is_spelling P.age)
+        (meaning K.encoding V.encoding K.is_encodable V.is_encodable K.is_decodable V.is_decodable P.age)
         (load_of hash throttled) core.old core.new (D.byte_at disk.old) (D.byte_at disk.new)) }
     ensures same { D.byte_at disk.new ≡ D.byte_at disk.old }
 {
@@ -83,7 +83,7 @@ where
         Reply::Read(ticket) => ticket,
         other => return Ok(other),
     };
-    let came = read_told(core.allocator().clone()?, disk, &ticket)?;
+    let came = do_read(core.allocator().clone()?, disk, &ticket)?;
     Ok(core.apply(
         env,
         Step::LoadEnd {
@@ -93,7 +93,7 @@ where
     ))
 }
 
-/// Asks a flusher for a block, does the writes that this tells in their order, and reports each: what was answered last,
+/// Asks a flusher for a block, does the writes that this issues in their order, and reports each: what was answered last,
 /// `None` where the block has no write or none that ended it. After a write that failed, and after a report that didn't
 /// ask for the next, the block's others aren't done.
 pub fn write_block<K, V, P, A, D>(
@@ -109,10 +109,10 @@ where
     A: Allocator + Clone,
     D: Disk,
     ensures writes { Writes
-        (meaning K.spelling V.spelling K.encodes V.encodes K.is_spelling V.is_spelling P.age)
+        (meaning K.encoding V.encoding K.is_encodable V.is_encodable K.is_decodable V.is_decodable P.age)
         flusher result core.old core.new (D.byte_at disk.old) (D.byte_at disk.new) }
     ensures drives { Drives
-        (meaning K.spelling V.spelling K.encodes V.encodes K.is_spelling V.is_spelling P.age)
+        (meaning K.encoding V.encoding K.is_encodable V.is_encodable K.is_decodable V.is_decodable P.age)
         core.old core.new (D.byte_at disk.old) (D.byte_at disk.new) }
 {
     let (block, writes) = match core.apply(env, Step::FlushBlock { flusher }) {
@@ -120,7 +120,7 @@ where
         other => return Some(other),
     };
     'writes: for write in &writes {
-        let wrote = write_told(disk, block, write);
+        let wrote = do_write(disk, block, write);
         let went_well = wrote.is_ok();
         let reply = core.apply(
             env,
@@ -129,7 +129,7 @@ where
                 result: wrote,
             },
         );
-        if !goes_on(went_well, &reply) {
+        if !wants_next_write(went_well, &reply) {
             return Some(reply);
         }
     }
@@ -139,7 +139,7 @@ where
 /// A history that led to a core and bytes goes on to those that they are driven to: so it does from an opening on, over
 /// any calls that drive a core, one after the other.
 pub fn histories_go_on<K, V, P, A>()
-    ensures { (m : Meaning K V P) (s : Settings) (sound : IsSound s) (first : ℕ → ℕ → ℕ) (events : List (WorldEvent Content))
+    ensures { (m : Meaning K V P) (s : Settings) (sound : AreValid s) (first : ℕ → ℕ → ℕ) (events : List (WorldEvent Content))
         (old new : Core K V P A) (bytes bytes' : ℕ → ℕ → ℕ) → IsHistory m s sound first events old bytes → Drives m old new bytes bytes'
         → (more : List (WorldEvent Content)) × IsHistory m s sound first (events ++ more) new bytes' }
 {}

@@ -1,4 +1,4 @@
-//! Runs of the core over a disk: each access that a reply tells is done once, and its true result is brought.
+//! Runs of the core over a disk: each access that a reply issues is done once, and its true result is brought.
 #![tactic(auto)]
 
 pub mod accesses;

@@ -19,7 +19,7 @@ use foyer_format::serde::{Code, Properties};
 use foyer_policy::keeper::Piece;
 use std::alloc::{AllocError, Allocator};
 
-/// A step without its result: a run does the access that was told, and brings what came of it.
+/// A step without its result: a run does the access that was issued, and brings what came of it.
 #[derive(Drop)]
 pub enum Move<K, V, P, A: Allocator> {
     Enqueue {
@@ -53,11 +53,11 @@ pub enum Move<K, V, P, A: Allocator> {
     FlushBlock {
         flusher: u32,
     },
-    /// Does the next write that was told to this flusher.
+    /// Does the next write that was issued to this flusher.
     FlushWrote {
         flusher: u32,
     },
-    /// Tells the outcome of the log.
+    /// Describes the outcome of the log.
     LogWrote {
         flusher: u32,
         result: Result<()>,
@@ -84,25 +84,25 @@ pub enum Move<K, V, P, A: Allocator> {
     Close,
 }
 
-// The writes of a block that a reply of the run told, and which of them comes next.
+// The writes of a block that a reply of the run issued, and which of them comes next.
 #[derive(Clone, Copy, Debug)]
-struct Told {
+struct Issued {
     block: BlockId,
     reply: usize,
     next: usize,
 }
 
-// What a run keeps: the reads that were told and haven't begun, by the number of their ticket, the writes of each
-// flusher that were told, and the replies.
+// What a run keeps: the reads that were issued and haven't begun, by the number of their ticket, the writes of each
+// flusher that were issued, and the replies.
 #[derive(Drop)]
 struct Kept<K, V, P, A: Allocator> {
     tickets: Vec<Option<Ticket>, A>,
-    told: Vec<Option<Told>, A>,
+    issued: Vec<Option<Issued>, A>,
     replies: Vec<Reply<K, V, P, A>, A>,
 }
 
-/// Does the read that a ticket tells. `Err` is a refused growth; a fault of the disk is the step's result.
-pub fn read_told<A: Allocator, D: Disk>(
+/// Does the read that a ticket issues. `Err` is a refused allocation; a fault of the disk is the step's result.
+pub fn do_read<A: Allocator, D: Disk>(
     alloc: A,
     disk: &mut D,
     ticket: &Ticket,
@@ -124,12 +124,8 @@ pub fn read_told<A: Allocator, D: Disk>(
     }
 }
 
-/// Does a write that a reply tells.
-pub fn write_told<A: Allocator, D: Disk>(
-    disk: &mut D,
-    block: BlockId,
-    write: &Write<A>,
-) -> Result<()>
+/// Does a write that a reply issues.
+pub fn do_write<A: Allocator, D: Disk>(disk: &mut D, block: BlockId, write: &Write<A>) -> Result<()>
     ensures wrote { OnOk result
         (IsWritten (D.byte_at disk.old) block write.now.offset write.now.bytes.items (D.byte_at disk.new)) }
     ensures torn { OnErr result
@@ -142,12 +138,12 @@ pub fn write_told<A: Allocator, D: Disk>(
 // What a move asks for.
 #[derive(Drop)]
 enum Asked<K, V, P, A: Allocator> {
-    // A step that brings no result of an access, and tells no write.
+    // A step that brings no result of an access, and issues no write.
     Step(Step<K, V, P, A>),
     FlushBlock(u32),
     LoadEnd(usize),
     FlushWrote(u32),
-    // The result of an access that no reply tells yet.
+    // The result of an access that no reply issues yet.
     Nothing,
 }
 
@@ -189,8 +185,8 @@ fn ask<K, V, P, A: Allocator>(x: Move<K, V, P, A>) -> Asked<K, V, P, A>
     }
 }
 
-// The ticket that a reply tells.
-pub(crate) fn told_ticket<K, V, P, A: Allocator>(reply: &Reply<K, V, P, A>) -> Option<Ticket>
+// The ticket that a reply issues.
+pub(crate) fn issued_ticket<K, V, P, A: Allocator>(reply: &Reply<K, V, P, A>) -> Option<Ticket>
     ensures { result ≡ ticket_in reply.now }
 {
     match reply {
@@ -199,8 +195,8 @@ pub(crate) fn told_ticket<K, V, P, A: Allocator>(reply: &Reply<K, V, P, A>) -> O
     }
 }
 
-// The block into which a reply tells writes.
-pub(crate) fn told_block<K, V, P, A: Allocator>(reply: &Reply<K, V, P, A>) -> Option<BlockId>
+// The block into which a reply issues writes.
+pub(crate) fn issued_block<K, V, P, A: Allocator>(reply: &Reply<K, V, P, A>) -> Option<BlockId>
     ensures { result ≡ block_in reply.now }
 {
     match reply {
@@ -209,7 +205,7 @@ pub(crate) fn told_block<K, V, P, A: Allocator>(reply: &Reply<K, V, P, A>) -> Op
     }
 }
 
-// Notes the ticket that a reply tells.
+// Notes the ticket that a reply issues.
 fn note_ticket<K, V, P, A: Allocator>(
     tickets: &mut Vec<Option<Ticket>, A>,
     reply: &Reply<K, V, P, A>,
@@ -217,14 +213,17 @@ fn note_ticket<K, V, P, A: Allocator>(
     requires room { vec_len tickets.old < vec_capacity tickets.old }
     ensures noted { tickets.new.items ≡ with_ticket (ticket_in reply.now) tickets.old.items }
 {
-    match told_ticket(reply) {
+    match issued_ticket(reply) {
         Some(ticket) => tickets.push_reserved(Some(ticket)),
         None => {}
     }
 }
 
 // Whether a write went well, and the block has another.
-pub(crate) fn goes_on<K, V, P, A: Allocator>(went_well: bool, reply: &Reply<K, V, P, A>) -> bool
+pub(crate) fn wants_next_write<K, V, P, A: Allocator>(
+    went_well: bool,
+    reply: &Reply<K, V, P, A>,
+) -> bool
     ensures { MatchBool result
         ((went_well ≡ true) × (reply.now ≡ Reply.Next))
         ((went_well ≡ false) ⊎ (reply.now ≡ Reply.Next → ⊥)) }
@@ -238,21 +237,21 @@ pub(crate) fn goes_on<K, V, P, A: Allocator>(went_well: bool, reply: &Reply<K, V
     }
 }
 
-// The write that a note tells of.
+// The write that a note is of.
 fn next_write<'a, K, V, P, A: Allocator>(
     replies: &'a [Reply<K, V, P, A>],
-    told: &Told,
+    issued: &Issued,
 ) -> Option<&'a Write<A>>
     ensures write { MatchOption result
-        (write_at (slice_get replies.now told.now.reply) told.now.next ≡ None)
-        (λ write. write_at (slice_get replies.now told.now.reply) told.now.next ≡ Some write.now) }
-    ensures room { IfSome result (λ _. told.now.next + 1 < 2 ^ 64) }
+        (write_at (slice_get replies.now issued.now.reply) issued.now.next ≡ None)
+        (λ write. write_at (slice_get replies.now issued.now.reply) issued.now.next ≡ Some write.now) }
+    ensures room { IfSome result (λ _. issued.now.next + 1 < 2 ^ 64) }
 {
-    let Some(reply) = replies.get(told.reply) else {
+    let Some(reply) = replies.get(issued.reply) else {
         return None;
     };
     match reply {
-        Reply::Write { block: _, writes } => writes.get(told.next),
+        Reply::Write { block: _, writes } => writes.get(issued.next),
         _ => None,
     }
 }
@@ -277,7 +276,7 @@ fn set_due<T: Copy, A: Allocator>(list: &mut Vec<Option<T>, A>, i: usize, x: Opt
     }
 }
 
-// Applies a step that brings no result, and tells no write.
+// Applies a step that brings no result, and issues no write.
 fn apply_step<K, V, P, A>(
     core: &mut Core<K, V, P, A>,
     env: &mut Env,
@@ -293,7 +292,7 @@ where
     requires tickets { vec_len kept.old.tickets < vec_capacity kept.old.tickets }
     requires replies { vec_len kept.old.replies < vec_capacity kept.old.replies }
     ensures moved { (bytes : ℕ → ℕ → ℕ) → Moves
-        (meaning K.spelling V.spelling K.encodes V.encodes K.is_spelling V.is_spelling P.age)
+        (meaning K.encoding V.encoding K.is_encodable V.is_encodable K.is_decodable V.is_decodable P.age)
         (Asked.Step step) kept.old kept.new core.old core.new bytes bytes }
     ensures one { vec_len kept.new.replies ≤ vec_len kept.old.replies + 1 }
 {
@@ -317,22 +316,22 @@ where
     requires tickets { vec_len kept.old.tickets < vec_capacity kept.old.tickets }
     requires replies { vec_len kept.old.replies < vec_capacity kept.old.replies }
     ensures moved { (bytes : ℕ → ℕ → ℕ) → Moves
-        (meaning K.spelling V.spelling K.encodes V.encodes K.is_spelling V.is_spelling P.age)
+        (meaning K.encoding V.encoding K.is_encodable V.is_encodable K.is_decodable V.is_decodable P.age)
         (Asked.FlushBlock flusher) kept.old kept.new core.old core.new bytes bytes }
     ensures one { vec_len kept.new.replies ≤ vec_len kept.old.replies + 1 }
 {
     let reply = core.apply(env, Step::FlushBlock { flusher });
     note_ticket(&mut kept.tickets, &reply);
-    let Some(block) = told_block(&reply) else {
+    let Some(block) = issued_block(&reply) else {
         kept.replies.push_reserved(reply);
         return;
     };
-    let told = Told {
+    let issued = Issued {
         block,
         reply: kept.replies.len(),
         next: 0,
     };
-    set_due(&mut kept.told, flusher as usize, Some(told));
+    set_due(&mut kept.issued, flusher as usize, Some(issued));
     kept.replies.push_reserved(reply);
 }
 
@@ -353,7 +352,7 @@ where
     requires tickets { vec_len kept.old.tickets < vec_capacity kept.old.tickets }
     requires replies { vec_len kept.old.replies < vec_capacity kept.old.replies }
     ensures moved { OnOk result (Moves
-        (meaning K.spelling V.spelling K.encodes V.encodes K.is_spelling V.is_spelling P.age)
+        (meaning K.encoding V.encoding K.is_encodable V.is_encodable K.is_decodable V.is_decodable P.age)
         (Asked.LoadEnd n) kept.old kept.new core.old core.new (D.byte_at disk.old) (D.byte_at disk.new)) }
     ensures stays { OnErr result (core.new ≡ core.old) }
     ensures same { D.byte_at disk.new ≡ D.byte_at disk.old }
@@ -363,7 +362,7 @@ where
     let Some(ticket) = get_due(kept.tickets.as_slice(), n) else {
         return Ok(());
     };
-    let came = read_told(core.allocator().clone()?, disk, &ticket)?;
+    let came = do_read(core.allocator().clone()?, disk, &ticket)?;
     set_due(&mut kept.tickets, n, None);
     let answer = core.apply(
         env,
@@ -395,24 +394,24 @@ where
     requires tickets { vec_len kept.old.tickets < vec_capacity kept.old.tickets }
     requires replies { vec_len kept.old.replies < vec_capacity kept.old.replies }
     ensures moved { Moves
-        (meaning K.spelling V.spelling K.encodes V.encodes K.is_spelling V.is_spelling P.age)
+        (meaning K.encoding V.encoding K.is_encodable V.is_encodable K.is_decodable V.is_decodable P.age)
         (Asked.FlushWrote flusher) kept.old kept.new core.old core.new (D.byte_at disk.old) (D.byte_at disk.new) }
     ensures one { vec_len kept.new.replies ≤ vec_len kept.old.replies + 1 }
 {
-    let Some(told) = get_due(kept.told.as_slice(), flusher as usize) else {
+    let Some(issued) = get_due(kept.issued.as_slice(), flusher as usize) else {
         return;
     };
-    let Some(write) = next_write(kept.replies.as_slice(), &told) else {
+    let Some(write) = next_write(kept.replies.as_slice(), &issued) else {
         return;
     };
-    let wrote = write_told(disk, told.block, write);
+    let wrote = do_write(disk, issued.block, write);
     let went_well = wrote.is_ok();
-    let following = Told {
-        block: told.block,
-        reply: told.reply,
-        next: told.next + 1,
+    let following = Issued {
+        block: issued.block,
+        reply: issued.reply,
+        next: issued.next + 1,
     };
-    set_due(&mut kept.told, flusher as usize, None);
+    set_due(&mut kept.issued, flusher as usize, None);
     let reply = core.apply(
         env,
         Step::FlushWrote {
@@ -421,15 +420,15 @@ where
         },
     );
     note_ticket(&mut kept.tickets, &reply);
-    if goes_on(went_well, &reply) {
-        set_due(&mut kept.told, flusher as usize, Some(following));
+    if wants_next_write(went_well, &reply) {
+        set_due(&mut kept.issued, flusher as usize, Some(following));
         kept.replies.push_reserved(reply);
         return;
     }
     kept.replies.push_reserved(reply);
 }
 
-// Makes one move. `Err` is a refused growth: then nothing changed but room.
+// Makes one move. `Err` is a refused allocation: then nothing changed but room.
 fn make<K, V, P, A, D>(
     core: &mut Core<K, V, P, A>,
     env: &mut Env,
@@ -444,7 +443,7 @@ where
     A: Allocator + Clone,
     D: Disk,
     ensures moved { OnOk result (Moves
-        (meaning K.spelling V.spelling K.encodes V.encodes K.is_spelling V.is_spelling P.age)
+        (meaning K.encoding V.encoding K.is_encodable V.is_encodable K.is_decodable V.is_decodable P.age)
         (asked x) kept.old kept.new core.old core.new (D.byte_at disk.old) (D.byte_at disk.new)) }
     ensures stays { OnErr result (core.new ≡ core.old) }
     ensures same { OnErr result (D.byte_at disk.new ≡ D.byte_at disk.old) }
@@ -464,17 +463,17 @@ where
 }
 
 // No write is due of any flusher.
-fn none_told<A: Allocator>(
+fn none_issued<A: Allocator>(
     alloc: A,
     flushers: usize,
-) -> std::result::Result<Vec<Option<Told>, A>, AllocError>
-    ensures none { IfOk result (λ told. told.items ≡ replicate flushers None) }
+) -> std::result::Result<Vec<Option<Issued>, A>, AllocError>
+    ensures none { IfOk result (λ issued. issued.items ≡ replicate flushers None) }
 {
-    let mut told = Vec::with_capacity(alloc, flushers)?;
+    let mut issued = Vec::with_capacity(alloc, flushers)?;
     'each_flusher: for _ in 0..flushers {
-        told.push(None)?;
+        issued.push(None)?;
     }
-    Ok(told)
+    Ok(issued)
 }
 
 // What a run of so many moves begins with.
@@ -484,20 +483,20 @@ fn begin<K, V, P, A: Allocator + Clone>(
     moves: usize,
 ) -> std::result::Result<Kept<K, V, P, A>, AllocError>
     ensures tickets { IfOk result (λ kept. kept.tickets.items ≡ []) }
-    ensures told { IfOk result (λ kept. kept.told.items ≡ replicate flushers None) }
+    ensures issued { IfOk result (λ kept. kept.issued.items ≡ replicate flushers None) }
     ensures replies { IfOk result (λ kept. kept.replies.items ≡ []) }
 {
     Ok(Kept {
         tickets: Vec::new(alloc.clone()?),
-        told: none_told(alloc.clone()?, flushers)?,
+        issued: none_issued(alloc.clone()?, flushers)?,
         replies: Vec::with_capacity(alloc.clone()?, moves)?,
     })
 }
 
 /// Runs the moves in order, and gives the replies of those that were steps.
 ///
-/// An access that a reply told is done when its move comes, once, and a fault of the disk is the step's result. A move
-/// whose access wasn't told in this run, or is done, is passed over; so is a write behind one that failed, or behind one
+/// An access that a reply issued is done when its move comes, once, and a fault of the disk is the step's result. A move
+/// whose access wasn't issued in this run, or is done, is passed over; so is a write behind one that failed, or behind one
 /// whose report came back. `Memory` where the result of an access, or the list of replies, couldn't be had: then some
 /// front of the moves was run, and the others are dropped.
 pub fn run<K, V, P, A, D>(
@@ -514,10 +513,10 @@ where
     D: Disk,
     ensures replies { IfOk result (λ replies. vec_len replies ≤ vec_len moves) }
     ensures runs { IfOk result (λ replies. Runs
-        (meaning K.spelling V.spelling K.encodes V.encodes K.is_spelling V.is_spelling P.age)
+        (meaning K.encoding V.encoding K.is_encodable V.is_encodable K.is_decodable V.is_decodable P.age)
         moves.items replies.items core.old core.new (D.byte_at disk.old) (D.byte_at disk.new)) }
     ensures front { OnErr result (IsFront
-        (meaning K.spelling V.spelling K.encodes V.encodes K.is_spelling V.is_spelling P.age)
+        (meaning K.encoding V.encoding K.is_encodable V.is_encodable K.is_decodable V.is_decodable P.age)
         moves.items core.old core.new (D.byte_at disk.old) (D.byte_at disk.new)) }
     ensures memory { IfErr result (λ e. e ≡ Memory) }
 {

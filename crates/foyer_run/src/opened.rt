@@ -2,7 +2,7 @@
 ghost use Rattle.std.specs.Prelude.{◌≡◌, ◌⊎◌, ◌≤◌, ◌*◌, ◌^◌, ℕ, IfOk, IfErr};
 ghost use Rattle.foyer_device.specs.declared.error.Error.TheVariants.{Config, Memory, OutOfRange};
 ghost use Rattle.foyer_core.specs.Content.{meaning};
-ghost use Rattle.foyer_core.specs.Sizes.{IsSound};
+ghost use Rattle.foyer_core.specs.Sizes.{AreValid};
 ghost use Rattle.foyer_run.specs.Lawful.{IsLawful};
 ghost use Rattle.foyer_run.specs.Texts.{of_texts};
 
@@ -35,11 +35,11 @@ where
     P: Properties + Drop,
     A: Allocator + Clone,
     D: Disk,
-    ensures sound { IfOk result (λ _. IsSound settings) }
-    ensures refused { IfErr result (λ e. (e ≡ Memory) ⊎ ((e ≡ Config) × (IsSound settings → ⊥))) }
-    ensures lawful { IfOk result (λ replies. (sound : IsSound settings) (bytes : ℕ → ℕ → ℕ)
+    ensures sound { IfOk result (λ _. AreValid settings) }
+    ensures refused { IfErr result (λ e. (e ≡ Memory) ⊎ ((e ≡ Config) × (AreValid settings → ⊥))) }
+    ensures lawful { IfOk result (λ replies. (sound : AreValid settings) (bytes : ℕ → ℕ → ℕ)
         → ((b o : ℕ) → bytes b o ≡ D.byte_at disk.old b o) → IsLawful
-        (meaning K.spelling V.spelling K.encodes V.encodes K.is_spelling V.is_spelling P.age)
+        (meaning K.encoding V.encoding K.is_encodable V.is_encodable K.is_decodable V.is_decodable P.age)
         settings sound bytes moves.items replies.items) }
 {
     let mut core = Core::open(alloc, settings)?;
@@ -54,10 +54,10 @@ pub fn run_texts<P: Properties + Drop>(
     settings: Settings,
     moves: Vec<Move<u64, String<Global>, P, Global>, Global>,
 ) -> Result<Vec<Reply<u64, String<Global>, P, Global>, Global>>
-    ensures sound { IfOk result (λ _. IsSound settings) }
-    ensures refused { IfErr result (λ e. (e ≡ Memory) ⊎ ((e ≡ Config) × (IsSound settings → ⊥))
+    ensures sound { IfOk result (λ _. AreValid settings) }
+    ensures refused { IfErr result (λ e. (e ≡ Memory) ⊎ ((e ≡ Config) × (AreValid settings → ⊥))
         ⊎ ((e ≡ OutOfRange) × (2 ^ 64 ≤ settings.blocks * settings.block_size))) }
-    ensures lawful { IfOk result (λ replies. (sound : IsSound settings)
+    ensures lawful { IfOk result (λ replies. (sound : AreValid settings)
         → IsLawful (of_texts P.age) settings sound (λ b o. 0) moves.items replies.items) }
 {
     let mut disk = MemoryDisk::new(alloc, settings.blocks, settings.block_size)?;

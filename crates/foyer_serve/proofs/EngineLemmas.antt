@@ -21,7 +21,7 @@ bytes_of d b o = if nat_lt o d.block_size then slice_index d.bytes.items (b * d.
 abbrev pub Drove : {A : Type 0} → Engine A → Engine A → Type 0
 Drove a b = Drives plain a.core b.core (bytes_of a.disk) (bytes_of b.disk)
 
--- what is told of a load's entry is the newest text
+-- what is answered of a load's entry is the newest text
 pub newest_got : {A : Type 0} (key : ℕ) (core : Core ℕ (String A) NoProperties A) (bytes : ℕ → ℕ → ℕ) (last : Reply ℕ (String A) NoProperties A) → IsNewest plain key core bytes last → IsNewestText key core bytes (got last)
 newest_got key core bytes (reply.Entry other text age) newest = (other, age, newest)
 newest_got key core bytes reply.Throttled newest = tt
@@ -33,7 +33,7 @@ put_got c (reply.Entry other text age) is = (other, is)
 put_got c (reply.Refused kind back) is = is
 put_got c last is = absurd is
 
--- and it is told of each put that is answered
+-- and it is answered of each put that is answered
 pub missed_got : {A : Type 0} (key : ℕ) (core : Core ℕ (String A) NoProperties A) (bytes : ℕ → ℕ → ℕ) (last : Reply ℕ (String A) NoProperties A) → IsMissedOnly plain key core bytes last → IsMissedText key core bytes (got last)
 missed_got key core bytes last missed = λ s sound first events history few b sequence c kept newer.
     put_got c last (missed s sound first events history few b sequence c kept newer)

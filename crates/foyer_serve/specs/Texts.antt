@@ -32,11 +32,11 @@ IsTextOrFault c (answer.Entry text) = (other : ℕ) × (content plain other text
 IsTextOrFault c (answer.Fault why) = (why ≡ kind.Io) ⊎ (why ≡ kind.Memory)
 IsTextOrFault c said = ⊥
 
--- so it is told of the newest put of a key, in every history that led to this core and these bytes: no miss
+-- so it is answered of the newest put of a key, in every history that led to this core and these bytes: no miss
 abbrev pub IsMissedText : {A : Type 0} → ℕ → Core ℕ (String A) NoProperties A → (ℕ → ℕ → ℕ) → Answer A → Type 0
 IsMissedText key core bytes said = OfPut plain key core bytes (λ c. IsTextOrFault c said)
 
--- what a load's reply is told as
+-- what a load's reply is answered as
 abbrev pub got : {A : Type 0} → Reply ℕ (String A) NoProperties A → Answer A
 got (reply.Entry key text age) = answer.Entry text
 got reply.Throttled = answer.Throttled
@@ -44,51 +44,51 @@ got (reply.Refused kind back) = answer.Fault kind
 got said = answer.Miss
 
 -- a load of this key was answered so, and nothing else happened
-pub record IsLoaded {A : Type 0} (key : ℕ) (old new : Core ℕ (String A) NoProperties A) (old_bytes new_bytes : ℕ → ℕ → ℕ) (told : Answer A) : Type 0 where
+pub record IsLoaded {A : Type 0} (key : ℕ) (old new : Core ℕ (String A) NoProperties A) (old_bytes new_bytes : ℕ → ℕ → ℕ) (answered : Answer A) : Type 0 where
   pub last : Reply ℕ (String A) NoProperties A
-  pub is : told ≡ got last
+  pub is : answered ≡ got last
   pub says : Says plain (load_of key false) last old new old_bytes new_bytes
 
 -- or memory for it was refused, and a front of it happened
 abbrev pub IsGot : {A : Type 0} → ℕ → (old new : Core ℕ (String A) NoProperties A) → (old_bytes new_bytes : ℕ → ℕ → ℕ) → Answer A → Type 0
-IsGot key old new old_bytes new_bytes told =
-    IsLoaded key old new old_bytes new_bytes told ⊎ ((told ≡ answer.Fault kind.Memory) × IsFront plain (load_of key false) old new old_bytes new_bytes)
+IsGot key old new old_bytes new_bytes answered =
+    IsLoaded key old new old_bytes new_bytes answered ⊎ ((answered ≡ answer.Fault kind.Memory) × IsFront plain (load_of key false) old new old_bytes new_bytes)
 
--- what an enqueue's reply is told as
+-- what an enqueue's reply is answered as
 abbrev pub put_as : {A : Type 0} → Reply ℕ (String A) NoProperties A → Answer A
 put_as (reply.Queued sequence) = answer.Queued
 put_as (reply.Refused kind back) = answer.Fault kind
 put_as said = answer.Ignored
 
 -- an Enqueue of this key and text was answered so, and nothing else happened
-pub record IsEnqueued {A : Type 0} (key : ℕ) (text : List ℕ) (old new : Core ℕ (String A) NoProperties A) (old_bytes new_bytes : ℕ → ℕ → ℕ) (told : Answer A) : Type 0 where
+pub record IsEnqueued {A : Type 0} (key : ℕ) (text : List ℕ) (old new : Core ℕ (String A) NoProperties A) (old_bytes new_bytes : ℕ → ℕ → ℕ) (answered : Answer A) : Type 0 where
   pub piece : Record ℕ (String A) NoProperties
   pub size : ℕ
   pub last : Reply ℕ (String A) NoProperties A
   pub key_is : piece.key ≡ key
   pub hash_is : piece.hash ≡ key
   pub value_is : string_bytes piece.value ≡ text
-  pub is : told ≡ put_as last
+  pub is : answered ≡ put_as last
   pub says : Says plain (move.Enqueue piece size ∷ []) last old new old_bytes new_bytes
 
 -- or memory for its piece was refused, and nothing happened
 abbrev pub IsPut : {A : Type 0} → ℕ → List ℕ → (old new : Core ℕ (String A) NoProperties A) → (old_bytes new_bytes : ℕ → ℕ → ℕ) → Answer A → Type 0
-IsPut key text old new old_bytes new_bytes told =
-    IsEnqueued key text old new old_bytes new_bytes told ⊎ ((told ≡ answer.Fault kind.Memory) × (new ≡ old) × (new_bytes ≡ old_bytes))
+IsPut key text old new old_bytes new_bytes answered =
+    IsEnqueued key text old new old_bytes new_bytes answered ⊎ ((answered ≡ answer.Fault kind.Memory) × (new ≡ old) × (new_bytes ≡ old_bytes))
 
--- what a delete's reply is told as
+-- what a delete's reply is answered as
 abbrev pub deleted_as : {A : Type 0} → Reply ℕ (String A) NoProperties A → Answer A
 deleted_as (reply.Refused kind back) = answer.Fault kind
 deleted_as said = answer.Ok
 
 -- a Delete of this key was answered so, and nothing else happened
-pub record IsDeleted {A : Type 0} (key : ℕ) (old new : Core ℕ (String A) NoProperties A) (old_bytes new_bytes : ℕ → ℕ → ℕ) (told : Answer A) : Type 0 where
+pub record IsDeleted {A : Type 0} (key : ℕ) (old new : Core ℕ (String A) NoProperties A) (old_bytes new_bytes : ℕ → ℕ → ℕ) (answered : Answer A) : Type 0 where
   pub last : Reply ℕ (String A) NoProperties A
-  pub is : told ≡ deleted_as last
+  pub is : answered ≡ deleted_as last
   pub says : Says plain (move.Delete key ∷ []) last old new old_bytes new_bytes
 
--- what a wait and a close are told as
+-- what a wait and a close are answered as
 abbrev pub IsOkOrFault : {A : Type 0} → Answer A → Type 0
 IsOkOrFault answer.Ok = Unit {0}
 IsOkOrFault (answer.Fault kind) = Unit {0}
-IsOkOrFault told = ⊥
+IsOkOrFault answered = ⊥

@@ -1,7 +1,7 @@
 //! The engine that the program keeps: a core over a disk in memory, driven on one thread.
 ghost use Rattle.std.specs.Prelude.{◌≡◌, ◌⊎◌, ◌≤◌, ◌*◌, ◌^◌, [], None, IfOk, IfErr, string_bytes};
 ghost use Rattle.foyer_device.specs.declared.error.Error.TheVariants.{Config, Memory, OutOfRange};
-ghost use Rattle.foyer_core.specs.Sizes.{IsSound};
+ghost use Rattle.foyer_core.specs.Sizes.{AreValid};
 ghost use Rattle.foyer_run.specs.Driven.{Drives};
 ghost use Rattle.foyer_run.specs.Newest.{IsHistory};
 ghost use Rattle.foyer_serve.specs.Texts.{IsDeleted, IsGot, IsMissedText, IsNewestText, IsOkOrFault, IsPut, deleted_as, got, plain, put_as};
@@ -45,9 +45,9 @@ pub enum Answer<A: Allocator> {
     Fault(ErrorKind),
 }
 
-type Told<A> = Reply<Key, String<A>, NoProperties, A>;
+type EngineReply<A> = Reply<Key, String<A>, NoProperties, A>;
 
-fn tell_put<A: Allocator>(last: Told<A>) -> Answer<A>
+fn answer_put<A: Allocator>(last: EngineReply<A>) -> Answer<A>
     ensures { result ≡ put_as last }
 {
     match last {
@@ -57,7 +57,7 @@ fn tell_put<A: Allocator>(last: Told<A>) -> Answer<A>
     }
 }
 
-fn tell_load<A: Allocator>(last: Told<A>) -> Answer<A>
+fn answer_load<A: Allocator>(last: EngineReply<A>) -> Answer<A>
     ensures { result ≡ got last }
 {
     match last {
@@ -72,7 +72,7 @@ fn tell_load<A: Allocator>(last: Told<A>) -> Answer<A>
     }
 }
 
-fn tell_delete<A: Allocator>(last: Told<A>) -> Answer<A>
+fn answer_delete<A: Allocator>(last: EngineReply<A>) -> Answer<A>
     ensures { result ≡ deleted_as last }
 {
     match last {
@@ -82,7 +82,7 @@ fn tell_delete<A: Allocator>(last: Told<A>) -> Answer<A>
 }
 
 // Whether a step did anything: none did that was out of turn, or found nothing.
-fn tell_step<A: Allocator>(last: Told<A>) -> std::result::Result<bool, ErrorKind> {
+fn answer_step<A: Allocator>(last: EngineReply<A>) -> std::result::Result<bool, ErrorKind> {
     match last {
         Reply::Refused(kind, _) => Err(kind),
         Reply::NotNow(_) | Reply::Empty => Ok(false),
@@ -91,10 +91,12 @@ fn tell_step<A: Allocator>(last: Told<A>) -> std::result::Result<bool, ErrorKind
 }
 
 // Whether a block was written: none was that was out of turn.
-fn tell_block<A: Allocator>(last: Option<Told<A>>) -> std::result::Result<bool, ErrorKind> {
+fn answer_block<A: Allocator>(
+    last: Option<EngineReply<A>>,
+) -> std::result::Result<bool, ErrorKind> {
     match last {
         Some(Reply::NoBlock) => Err(ErrorKind::NoSpace),
-        Some(last) => tell_step(last),
+        Some(last) => answer_step(last),
         None => Ok(true),
     }
 }
@@ -112,10 +114,10 @@ pub struct Engine<A: Allocator> {
 impl<A: Allocator + Clone> Engine<A> {
     /// Opens an engine that finds nothing, over zeroed memory that has every block.
     pub fn open(alloc: A, settings: Settings) -> Result<Engine<A>>
-        ensures sound { IfOk result (λ _. IsSound settings) }
-        ensures begins { IfOk result (λ engine. (sound : IsSound settings) → IsHistory plain settings sound (λ b o. 0) []
+        ensures sound { IfOk result (λ _. AreValid settings) }
+        ensures begins { IfOk result (λ engine. (sound : AreValid settings) → IsHistory plain settings sound (λ b o. 0) []
             engine.core (⟦<MemoryDisk<A> as Disk>⟧.byte_at engine.disk)) }
-        ensures refused { IfErr result (λ e. (e ≡ Memory) ⊎ ((e ≡ Config) × (IsSound settings → ⊥))
+        ensures refused { IfErr result (λ e. (e ≡ Memory) ⊎ ((e ≡ Config) × (AreValid settings → ⊥))
             ⊎ ((e ≡ OutOfRange) × (2 ^ 64 ≤ settings.blocks * settings.block_size))) }
         ensures disk { IfOk result (λ engine. (engine.disk.blocks ≡ settings.blocks)
             × (engine.disk.block_size ≡ settings.block_size)) }
@@ -150,7 +152,7 @@ impl<A: Allocator + Clone> Engine<A> {
             Err(error) => return Answer::Fault(error.kind()),
         };
         let size = EntrySerializer::estimated_size::<A, Key, String<A>>(piece.key(), piece.value());
-        tell_put(step(&mut self.core, &mut self.env, Step::Enqueue { piece, size }))
+        answer_put(step(&mut self.core, &mut self.env, Step::Enqueue { piece, size }))
     }
 
     /// The text of a key: the newest that was put, whatever came before. Where the newest event of the key is a put,
@@ -166,7 +168,7 @@ impl<A: Allocator + Clone> Engine<A> {
             (⟦<MemoryDisk<A> as Disk>⟧.byte_at self.old.disk) (⟦<MemoryDisk<A> as Disk>⟧.byte_at self.new.disk) }
     {
         match load(&mut self.core, &mut self.env, &mut self.disk, key, false) {
-            Ok(last) => tell_load(last),
+            Ok(last) => answer_load(last),
             Err(_) => Answer::Fault(ErrorKind::Memory),
         }
     }
@@ -179,19 +181,19 @@ impl<A: Allocator + Clone> Engine<A> {
         ensures driven { Drives plain self.old.core self.new.core
             (⟦<MemoryDisk<A> as Disk>⟧.byte_at self.old.disk) (⟦<MemoryDisk<A> as Disk>⟧.byte_at self.new.disk) }
     {
-        tell_delete(step(&mut self.core, &mut self.env, Step::Delete { hash: key }))
+        answer_delete(step(&mut self.core, &mut self.env, Step::Delete { hash: key }))
     }
 
     /// Queues a wait at each flusher, and flushes until no flusher has anything left to do.
     pub fn wait(&mut self) -> Answer<A>
-        ensures told { IsOkOrFault result }
+        ensures answered { IsOkOrFault result }
         ensures driven { Drives plain self.old.core self.new.core
             (⟦<MemoryDisk<A> as Disk>⟧.byte_at self.old.disk) (⟦<MemoryDisk<A> as Disk>⟧.byte_at self.new.disk) }
     {
         for flusher in 0..self.core.settings().flushers {
             let id = self.next_wait;
             let queued = step(&mut self.core, &mut self.env, Step::Wait { flusher, id });
-            if let Err(kind) = tell_step(queued) {
+            if let Err(kind) = answer_step(queued) {
                 return Answer::Fault(kind);
             }
             self.next_wait = id.wrapping_add(1);
@@ -201,19 +203,19 @@ impl<A: Allocator + Clone> Engine<A> {
 
     /// Takes no more puts, deletes and destroys, and waits.
     pub fn close(&mut self) -> Answer<A>
-        ensures told { IsOkOrFault result }
+        ensures answered { IsOkOrFault result }
         ensures driven { Drives plain self.old.core self.new.core
             (⟦<MemoryDisk<A> as Disk>⟧.byte_at self.old.disk) (⟦<MemoryDisk<A> as Disk>⟧.byte_at self.new.disk) }
     {
         let closed = step(&mut self.core, &mut self.env, Step::Close);
-        match tell_step(closed) {
+        match answer_step(closed) {
             Err(kind) => Answer::Fault(kind),
             Ok(_) => self.wait(),
         }
     }
 
     fn flush_all(&mut self) -> Answer<A>
-        ensures told { IsOkOrFault result }
+        ensures answered { IsOkOrFault result }
         ensures driven { Drives plain self.old.core self.new.core
             (⟦<MemoryDisk<A> as Disk>⟧.byte_at self.old.disk) (⟦<MemoryDisk<A> as Disk>⟧.byte_at self.new.disk) }
     {
@@ -234,10 +236,10 @@ impl<A: Allocator + Clone> Engine<A> {
         for _ in 0..u64::MAX {
             self.receive_all(flusher)?;
             let begin = step(&mut self.core, &mut self.env, Step::FlushBegin { flusher });
-            let has_begun = tell_step(begin)?;
+            let has_begun = answer_step(begin)?;
             self.write_all(flusher)?;
             let end = step(&mut self.core, &mut self.env, Step::FlushEnd { flusher });
-            let has_ended = tell_step(end)?;
+            let has_ended = answer_step(end)?;
             if !has_begun && !has_ended {
                 return Ok(());
             }
@@ -252,7 +254,7 @@ impl<A: Allocator + Clone> Engine<A> {
     {
         for _ in 0..u64::MAX {
             let received = step(&mut self.core, &mut self.env, Step::Receive { flusher });
-            if !tell_step(received)? {
+            if !answer_step(received)? {
                 return Ok(());
             }
         }
@@ -266,7 +268,7 @@ impl<A: Allocator + Clone> Engine<A> {
     {
         for _ in 0..u64::MAX {
             let wrote = write_block(&mut self.core, &mut self.env, &mut self.disk, flusher);
-            if !tell_block(wrote)? {
+            if !answer_block(wrote)? {
                 return Ok(());
             }
         }

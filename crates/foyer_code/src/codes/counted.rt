@@ -1,7 +1,7 @@
 //! The codes of bytes and of texts: the length as a number of 64 bits, and then the bytes.
 ghost use Rattle.std.specs.Prelude.{◌≡◌, ◌^◌, nat_lt, drop, length, true, false, Some, MatchOption, string_bytes};
 ghost use Rattle.foyer_code.specs.Codes.{counted, is_counted, is_sized_text, is_counted_text, bytes_read, text_read};
-ghost use Rattle.foyer_code.specs.CodeLaws.{one_list, bytes_spelled, bytes_coded, text_spelled, text_coded};
+ghost use Rattle.foyer_code.specs.CodeLaws.{one_list, bytes_encoded, bytes_coded, text_encoded, text_coded};
 
 use crate::coding::{Code, StorageKey, StorageValue};
 use crate::sinks::Sink;
@@ -29,11 +29,11 @@ fn counted_bytes(bytes: &[u8]) -> Option<&[u8]>
 }
 
 impl<A: Allocator> Code<A> for Vec<u8, A> {
-    ghost spelling = { λ v. counted v.items };
+    ghost encoding = { λ v. counted v.items };
 
-    ghost encodes = { λ v. nat_lt (length v.items) (2 ^ 64) };
+    ghost is_encodable = { λ v. nat_lt (length v.items) (2 ^ 64) };
 
-    ghost is_spelling = { is_counted };
+    ghost is_decodable = { is_counted };
 
     ghost same = { λ v w. v.items ≡ w.items };
 
@@ -57,7 +57,7 @@ impl<A: Allocator> Code<A> for Vec<u8, A> {
         8usize.saturating_add(self.len())
     }
 
-    ghost spelled = { λ v. bytes_spelled v.items };
+    ghost is_encoded = { λ v. bytes_encoded v.items };
 
     ghost one_value = { λ v w _ _ same. one_list v.items w.items same };
 
@@ -69,11 +69,11 @@ impl<A: Allocator + Send + Sync + 'static> StorageKey<A> for Vec<u8, A> {}
 impl<A: Allocator + Send + Sync + 'static> StorageValue<A> for Vec<u8, A> {}
 
 impl<A: Allocator> Code<A> for String<A> {
-    ghost spelling = { λ s. counted (string_bytes s) };
+    ghost encoding = { λ s. counted (string_bytes s) };
 
-    ghost encodes = { λ s. is_sized_text (string_bytes s) };
+    ghost is_encodable = { λ s. is_sized_text (string_bytes s) };
 
-    ghost is_spelling = { is_counted_text };
+    ghost is_decodable = { is_counted_text };
 
     ghost same = { λ s t. string_bytes s ≡ string_bytes t };
 
@@ -102,7 +102,7 @@ impl<A: Allocator> Code<A> for String<A> {
         self.len().saturating_add(8)
     }
 
-    ghost spelled = { λ s. text_spelled (string_bytes s) };
+    ghost is_encoded = { λ s. text_encoded (string_bytes s) };
 
     ghost one_value = { λ s t a b same. one_list (string_bytes s) (string_bytes t) same };
 
@@ -113,16 +113,16 @@ impl<A: Allocator + Send + Sync + 'static> StorageKey<A> for String<A> {}
 
 impl<A: Allocator + Send + Sync + 'static> StorageValue<A> for String<A> {}
 
-/// Bytes are what their spelling reads as.
+/// Bytes are what their encoding reads as.
 #[tactic(auto, using(crate::proofs::CodeLemmas::bytes_read_back))]
 pub fn bytes_read_back()
-    ensures { (v : _) → ⟦<Vec<u8> as Code<Global>>⟧.encodes v ≡ true
-        → bytes_read (⟦<Vec<u8> as Code<Global>>⟧.spelling v) ≡ Some v.items }
+    ensures { (v : _) → ⟦<Vec<u8> as Code<Global>>⟧.is_encodable v ≡ true
+        → bytes_read (⟦<Vec<u8> as Code<Global>>⟧.encoding v) ≡ Some v.items }
 {}
 
-/// Each text is what its spelling reads as.
+/// Each text is what its encoding reads as.
 #[tactic(auto, using(crate::proofs::CodeLemmas::text_read_back))]
 pub fn string_read_back()
-    ensures { (s : _) → ⟦<String as Code<Global>>⟧.encodes s ≡ true
-        → text_read (⟦<String as Code<Global>>⟧.spelling s) ≡ Some (string_bytes s) }
+    ensures { (s : _) → ⟦<String as Code<Global>>⟧.is_encodable s ≡ true
+        → text_read (⟦<String as Code<Global>>⟧.encoding s) ≡ Some (string_bytes s) }
 {}

@@ -1,7 +1,7 @@
 //! The code of a flag: one byte, 0 or 1.
 ghost use Rattle.std.specs.Prelude.{◌≡◌, Bool, Some, true, refl};
 ghost use Rattle.foyer_code.specs.Codes.{flag_bytes, is_flag, flag_read};
-ghost use Rattle.foyer_code.specs.FlagLaws.{one_flag, flag_spelled};
+ghost use Rattle.foyer_code.specs.FlagLaws.{one_flag, flag_encoded};
 
 use crate::coding::{Code, StorageKey, StorageValue};
 use crate::sinks::Sink;
@@ -9,11 +9,11 @@ use foyer_device::error::{Error, Result};
 use std::alloc::{Allocator, Global};
 
 impl<A: Allocator> Code<A> for bool {
-    ghost spelling = { flag_bytes };
+    ghost encoding = { flag_bytes };
 
-    ghost encodes = { λ _. true };
+    ghost is_encodable = { λ _. true };
 
-    ghost is_spelling = { is_flag };
+    ghost is_decodable = { is_flag };
 
     ghost same = { λ a b. a ≡ b };
 
@@ -36,7 +36,7 @@ impl<A: Allocator> Code<A> for bool {
         1
     }
 
-    ghost spelled = { λ b _. flag_spelled b };
+    ghost is_encoded = { λ b _. flag_encoded b };
 
     ghost one_value = { λ a b _ _ same. one_flag a b same };
 
@@ -47,8 +47,8 @@ impl<A: Allocator> StorageKey<A> for bool {}
 
 impl<A: Allocator> StorageValue<A> for bool {}
 
-/// Each flag is what its spelling reads as.
+/// Each flag is what its encoding reads as.
 #[tactic(auto, using(crate::proofs::CodeLemmas::flag_read_back))]
 pub fn bool_read_back()
-    ensures { (b : Bool) → flag_read (⟦<bool as Code<Global>>⟧.spelling b) ≡ Some b }
+    ensures { (b : Bool) → flag_read (⟦<bool as Code<Global>>⟧.encoding b) ≡ Some b }
 {}

@@ -3,7 +3,7 @@ ghost use Rattle.std.specs.Prelude.{◌≡◌, ℤ, Some};
 ghost use Rattle.std.specs.Int.{w8, w16, w32, w64, w128};
 ghost use Rattle.std.specs.Int.RustNames.{FitsSigned};
 ghost use Rattle.foyer_code.specs.Codes.{int_fits, int_bytes, is_number, int_read};
-ghost use Rattle.foyer_code.specs.IntLaws.{one_int, int_spelled, int_coded};
+ghost use Rattle.foyer_code.specs.IntLaws.{one_int, int_encoded, int_coded};
 
 use super::exactly;
 use crate::coding::{Code, StorageKey, StorageValue};
@@ -13,11 +13,11 @@ use std::alloc::{Allocator, Global};
 
 #[tactic(auto, using(crate::specs::IntLaws::ints))]
 impl<A: Allocator> Code<A> for i8 {
-    ghost spelling = { int_bytes w8 };
+    ghost encoding = { int_bytes w8 };
 
-    ghost encodes = { int_fits w8 };
+    ghost is_encodable = { int_fits w8 };
 
-    ghost is_spelling = { is_number w8 };
+    ghost is_decodable = { is_number w8 };
 
     ghost same = { λ n m. n ≡ m };
 
@@ -35,7 +35,7 @@ impl<A: Allocator> Code<A> for i8 {
         1
     }
 
-    ghost spelled = { int_spelled w8 };
+    ghost is_encoded = { int_encoded w8 };
 
     ghost one_value = { one_int w8 };
 
@@ -46,20 +46,20 @@ impl<A: Allocator> StorageKey<A> for i8 {}
 
 impl<A: Allocator> StorageValue<A> for i8 {}
 
-/// Each number of 8 bits with a sign is what its spelling reads as.
+/// Each number of 8 bits with a sign is what its encoding reads as.
 #[tactic(auto, using(crate::proofs::CodeLemmas::int_read_back_8))]
 pub fn i8_read_back()
     ensures { (z : ℤ) → FitsSigned w8 z
-        → int_read w8 (⟦<i8 as Code<Global>>⟧.spelling z) ≡ Some z }
+        → int_read w8 (⟦<i8 as Code<Global>>⟧.encoding z) ≡ Some z }
 {}
 
 #[tactic(auto, using(crate::specs::IntLaws::ints))]
 impl<A: Allocator> Code<A> for i16 {
-    ghost spelling = { int_bytes w16 };
+    ghost encoding = { int_bytes w16 };
 
-    ghost encodes = { int_fits w16 };
+    ghost is_encodable = { int_fits w16 };
 
-    ghost is_spelling = { is_number w16 };
+    ghost is_decodable = { is_number w16 };
 
     ghost same = { λ n m. n ≡ m };
 
@@ -77,7 +77,7 @@ impl<A: Allocator> Code<A> for i16 {
         2
     }
 
-    ghost spelled = { int_spelled w16 };
+    ghost is_encoded = { int_encoded w16 };
 
     ghost one_value = { one_int w16 };
 
@@ -88,20 +88,20 @@ impl<A: Allocator> StorageKey<A> for i16 {}
 
 impl<A: Allocator> StorageValue<A> for i16 {}
 
-/// Each number of 16 bits with a sign is what its spelling reads as.
+/// Each number of 16 bits with a sign is what its encoding reads as.
 #[tactic(auto, using(crate::proofs::CodeLemmas::int_read_back_16))]
 pub fn i16_read_back()
     ensures { (z : ℤ) → FitsSigned w16 z
-        → int_read w16 (⟦<i16 as Code<Global>>⟧.spelling z) ≡ Some z }
+        → int_read w16 (⟦<i16 as Code<Global>>⟧.encoding z) ≡ Some z }
 {}
 
 #[tactic(auto, using(crate::specs::IntLaws::ints))]
 impl<A: Allocator> Code<A> for i32 {
-    ghost spelling = { int_bytes w32 };
+    ghost encoding = { int_bytes w32 };
 
-    ghost encodes = { int_fits w32 };
+    ghost is_encodable = { int_fits w32 };
 
-    ghost is_spelling = { is_number w32 };
+    ghost is_decodable = { is_number w32 };
 
     ghost same = { λ n m. n ≡ m };
 
@@ -119,7 +119,7 @@ impl<A: Allocator> Code<A> for i32 {
         4
     }
 
-    ghost spelled = { int_spelled w32 };
+    ghost is_encoded = { int_encoded w32 };
 
     ghost one_value = { one_int w32 };
 
@@ -130,20 +130,20 @@ impl<A: Allocator> StorageKey<A> for i32 {}
 
 impl<A: Allocator> StorageValue<A> for i32 {}
 
-/// Each number of 32 bits with a sign is what its spelling reads as.
+/// Each number of 32 bits with a sign is what its encoding reads as.
 #[tactic(auto, using(crate::proofs::CodeLemmas::int_read_back_32))]
 pub fn i32_read_back()
     ensures { (z : ℤ) → FitsSigned w32 z
-        → int_read w32 (⟦<i32 as Code<Global>>⟧.spelling z) ≡ Some z }
+        → int_read w32 (⟦<i32 as Code<Global>>⟧.encoding z) ≡ Some z }
 {}
 
 #[tactic(auto, using(crate::specs::IntLaws::ints))]
 impl<A: Allocator> Code<A> for i64 {
-    ghost spelling = { int_bytes w64 };
+    ghost encoding = { int_bytes w64 };
 
-    ghost encodes = { int_fits w64 };
+    ghost is_encodable = { int_fits w64 };
 
-    ghost is_spelling = { is_number w64 };
+    ghost is_decodable = { is_number w64 };
 
     ghost same = { λ n m. n ≡ m };
 
@@ -161,7 +161,7 @@ impl<A: Allocator> Code<A> for i64 {
         8
     }
 
-    ghost spelled = { int_spelled w64 };
+    ghost is_encoded = { int_encoded w64 };
 
     ghost one_value = { one_int w64 };
 
@@ -172,20 +172,20 @@ impl<A: Allocator> StorageKey<A> for i64 {}
 
 impl<A: Allocator> StorageValue<A> for i64 {}
 
-/// Each number of 64 bits with a sign is what its spelling reads as.
+/// Each number of 64 bits with a sign is what its encoding reads as.
 #[tactic(auto, using(crate::proofs::CodeLemmas::int_read_back_64))]
 pub fn i64_read_back()
     ensures { (z : ℤ) → FitsSigned w64 z
-        → int_read w64 (⟦<i64 as Code<Global>>⟧.spelling z) ≡ Some z }
+        → int_read w64 (⟦<i64 as Code<Global>>⟧.encoding z) ≡ Some z }
 {}
 
 #[tactic(auto, using(crate::specs::IntLaws::ints))]
 impl<A: Allocator> Code<A> for i128 {
-    ghost spelling = { int_bytes w128 };
+    ghost encoding = { int_bytes w128 };
 
-    ghost encodes = { int_fits w128 };
+    ghost is_encodable = { int_fits w128 };
 
-    ghost is_spelling = { is_number w128 };
+    ghost is_decodable = { is_number w128 };
 
     ghost same = { λ n m. n ≡ m };
 
@@ -203,7 +203,7 @@ impl<A: Allocator> Code<A> for i128 {
         16
     }
 
-    ghost spelled = { int_spelled w128 };
+    ghost is_encoded = { int_encoded w128 };
 
     ghost one_value = { one_int w128 };
 
@@ -214,20 +214,20 @@ impl<A: Allocator> StorageKey<A> for i128 {}
 
 impl<A: Allocator> StorageValue<A> for i128 {}
 
-/// Each number of 128 bits with a sign is what its spelling reads as.
+/// Each number of 128 bits with a sign is what its encoding reads as.
 #[tactic(auto, using(crate::proofs::CodeLemmas::int_read_back_128))]
 pub fn i128_read_back()
     ensures { (z : ℤ) → FitsSigned w128 z
-        → int_read w128 (⟦<i128 as Code<Global>>⟧.spelling z) ≡ Some z }
+        → int_read w128 (⟦<i128 as Code<Global>>⟧.encoding z) ≡ Some z }
 {}
 
 #[tactic(auto, using(crate::specs::IntLaws::ints))]
 impl<A: Allocator> Code<A> for isize {
-    ghost spelling = { int_bytes w64 };
+    ghost encoding = { int_bytes w64 };
 
-    ghost encodes = { int_fits w64 };
+    ghost is_encodable = { int_fits w64 };
 
-    ghost is_spelling = { is_number w64 };
+    ghost is_decodable = { is_number w64 };
 
     ghost same = { λ n m. n ≡ m };
 
@@ -245,7 +245,7 @@ impl<A: Allocator> Code<A> for isize {
         8
     }
 
-    ghost spelled = { int_spelled w64 };
+    ghost is_encoded = { int_encoded w64 };
 
     ghost one_value = { one_int w64 };
 
@@ -256,9 +256,9 @@ impl<A: Allocator> StorageKey<A> for isize {}
 
 impl<A: Allocator> StorageValue<A> for isize {}
 
-/// Each number of an `isize` is what its spelling reads as.
+/// Each number of an `isize` is what its encoding reads as.
 #[tactic(auto, using(crate::proofs::CodeLemmas::int_read_back_64))]
 pub fn isize_read_back()
     ensures { (z : ℤ) → FitsSigned w64 z
-        → int_read w64 (⟦<isize as Code<Global>>⟧.spelling z) ≡ Some z }
+        → int_read w64 (⟦<isize as Code<Global>>⟧.encoding z) ≡ Some z }
 {}

@@ -2,7 +2,7 @@
 ghost use Rattle.std.specs.Prelude.{◌≡◌, ◌<◌, ◌^◌, ℕ, Some, nat_lt};
 ghost use Rattle.std.specs.Int.{w8, w16, w32, w64, w128};
 ghost use Rattle.foyer_code.specs.Codes.{number_bytes, is_number, number_read};
-ghost use Rattle.foyer_code.specs.CodeLaws.{one_number, number_spelled, number_coded};
+ghost use Rattle.foyer_code.specs.CodeLaws.{one_number, number_encoded, number_coded};
 
 use super::exactly;
 use crate::coding::{Code, StorageKey, StorageValue};
@@ -12,11 +12,11 @@ use std::alloc::{Allocator, Global};
 
 #[tactic(auto, using(crate::specs::CodeLaws::numbers))]
 impl<A: Allocator> Code<A> for u8 {
-    ghost spelling = { number_bytes w8 };
+    ghost encoding = { number_bytes w8 };
 
-    ghost encodes = { λ n. nat_lt n (2 ^ 8) };
+    ghost is_encodable = { λ n. nat_lt n (2 ^ 8) };
 
-    ghost is_spelling = { is_number w8 };
+    ghost is_decodable = { is_number w8 };
 
     ghost same = { λ n m. n ≡ m };
 
@@ -34,7 +34,7 @@ impl<A: Allocator> Code<A> for u8 {
         1
     }
 
-    ghost spelled = { number_spelled w8 };
+    ghost is_encoded = { number_encoded w8 };
 
     ghost one_value = { one_number w8 };
 
@@ -45,20 +45,20 @@ impl<A: Allocator> StorageKey<A> for u8 {}
 
 impl<A: Allocator> StorageValue<A> for u8 {}
 
-/// Each number of 8 bits is what its spelling reads as.
+/// Each number of 8 bits is what its encoding reads as.
 #[tactic(auto, using(crate::proofs::CodeLemmas::number_read_back_8))]
 pub fn u8_read_back()
     ensures { (n : ℕ) → n < 2 ^ 8
-        → number_read w8 (⟦<u8 as Code<Global>>⟧.spelling n) ≡ Some n }
+        → number_read w8 (⟦<u8 as Code<Global>>⟧.encoding n) ≡ Some n }
 {}
 
 #[tactic(auto, using(crate::specs::CodeLaws::numbers))]
 impl<A: Allocator> Code<A> for u16 {
-    ghost spelling = { number_bytes w16 };
+    ghost encoding = { number_bytes w16 };
 
-    ghost encodes = { λ n. nat_lt n (2 ^ 16) };
+    ghost is_encodable = { λ n. nat_lt n (2 ^ 16) };
 
-    ghost is_spelling = { is_number w16 };
+    ghost is_decodable = { is_number w16 };
 
     ghost same = { λ n m. n ≡ m };
 
@@ -76,7 +76,7 @@ impl<A: Allocator> Code<A> for u16 {
         2
     }
 
-    ghost spelled = { number_spelled w16 };
+    ghost is_encoded = { number_encoded w16 };
 
     ghost one_value = { one_number w16 };
 
@@ -87,20 +87,20 @@ impl<A: Allocator> StorageKey<A> for u16 {}
 
 impl<A: Allocator> StorageValue<A> for u16 {}
 
-/// Each number of 16 bits is what its spelling reads as.
+/// Each number of 16 bits is what its encoding reads as.
 #[tactic(auto, using(crate::proofs::CodeLemmas::number_read_back_16))]
 pub fn u16_read_back()
     ensures { (n : ℕ) → n < 2 ^ 16
-        → number_read w16 (⟦<u16 as Code<Global>>⟧.spelling n) ≡ Some n }
+        → number_read w16 (⟦<u16 as Code<Global>>⟧.encoding n) ≡ Some n }
 {}
 
 #[tactic(auto, using(crate::specs::CodeLaws::numbers))]
 impl<A: Allocator> Code<A> for u32 {
-    ghost spelling = { number_bytes w32 };
+    ghost encoding = { number_bytes w32 };
 
-    ghost encodes = { λ n. nat_lt n (2 ^ 32) };
+    ghost is_encodable = { λ n. nat_lt n (2 ^ 32) };
 
-    ghost is_spelling = { is_number w32 };
+    ghost is_decodable = { is_number w32 };
 
     ghost same = { λ n m. n ≡ m };
 
@@ -118,7 +118,7 @@ impl<A: Allocator> Code<A> for u32 {
         4
     }
 
-    ghost spelled = { number_spelled w32 };
+    ghost is_encoded = { number_encoded w32 };
 
     ghost one_value = { one_number w32 };
 
@@ -129,20 +129,20 @@ impl<A: Allocator> StorageKey<A> for u32 {}
 
 impl<A: Allocator> StorageValue<A> for u32 {}
 
-/// Each number of 32 bits is what its spelling reads as.
+/// Each number of 32 bits is what its encoding reads as.
 #[tactic(auto, using(crate::proofs::CodeLemmas::number_read_back_32))]
 pub fn u32_read_back()
     ensures { (n : ℕ) → n < 2 ^ 32
-        → number_read w32 (⟦<u32 as Code<Global>>⟧.spelling n) ≡ Some n }
+        → number_read w32 (⟦<u32 as Code<Global>>⟧.encoding n) ≡ Some n }
 {}
 
 #[tactic(auto, using(crate::specs::CodeLaws::numbers))]
 impl<A: Allocator> Code<A> for u64 {
-    ghost spelling = { number_bytes w64 };
+    ghost encoding = { number_bytes w64 };
 
-    ghost encodes = { λ n. nat_lt n (2 ^ 64) };
+    ghost is_encodable = { λ n. nat_lt n (2 ^ 64) };
 
-    ghost is_spelling = { is_number w64 };
+    ghost is_decodable = { is_number w64 };
 
     ghost same = { λ n m. n ≡ m };
 
@@ -160,7 +160,7 @@ impl<A: Allocator> Code<A> for u64 {
         8
     }
 
-    ghost spelled = { number_spelled w64 };
+    ghost is_encoded = { number_encoded w64 };
 
     ghost one_value = { one_number w64 };
 
@@ -171,20 +171,20 @@ impl<A: Allocator> StorageKey<A> for u64 {}
 
 impl<A: Allocator> StorageValue<A> for u64 {}
 
-/// Each number of 64 bits is what its spelling reads as.
+/// Each number of 64 bits is what its encoding reads as.
 #[tactic(auto, using(crate::proofs::CodeLemmas::number_read_back_64))]
 pub fn u64_read_back()
     ensures { (n : ℕ) → n < 2 ^ 64
-        → number_read w64 (⟦<u64 as Code<Global>>⟧.spelling n) ≡ Some n }
+        → number_read w64 (⟦<u64 as Code<Global>>⟧.encoding n) ≡ Some n }
 {}
 
 #[tactic(auto, using(crate::specs::CodeLaws::numbers))]
 impl<A: Allocator> Code<A> for u128 {
-    ghost spelling = { number_bytes w128 };
+    ghost encoding = { number_bytes w128 };
 
-    ghost encodes = { λ n. nat_lt n (2 ^ 128) };
+    ghost is_encodable = { λ n. nat_lt n (2 ^ 128) };
 
-    ghost is_spelling = { is_number w128 };
+    ghost is_decodable = { is_number w128 };
 
     ghost same = { λ n m. n ≡ m };
 
@@ -202,7 +202,7 @@ impl<A: Allocator> Code<A> for u128 {
         16
     }
 
-    ghost spelled = { number_spelled w128 };
+    ghost is_encoded = { number_encoded w128 };
 
     ghost one_value = { one_number w128 };
 
@@ -213,20 +213,20 @@ impl<A: Allocator> StorageKey<A> for u128 {}
 
 impl<A: Allocator> StorageValue<A> for u128 {}
 
-/// Each number of 128 bits is what its spelling reads as.
+/// Each number of 128 bits is what its encoding reads as.
 #[tactic(auto, using(crate::proofs::CodeLemmas::number_read_back_128))]
 pub fn u128_read_back()
     ensures { (n : ℕ) → n < 2 ^ 128
-        → number_read w128 (⟦<u128 as Code<Global>>⟧.spelling n) ≡ Some n }
+        → number_read w128 (⟦<u128 as Code<Global>>⟧.encoding n) ≡ Some n }
 {}
 
 #[tactic(auto, using(crate::specs::CodeLaws::numbers))]
 impl<A: Allocator> Code<A> for usize {
-    ghost spelling = { number_bytes w64 };
+    ghost encoding = { number_bytes w64 };
 
-    ghost encodes = { λ n. nat_lt n (2 ^ 64) };
+    ghost is_encodable = { λ n. nat_lt n (2 ^ 64) };
 
-    ghost is_spelling = { is_number w64 };
+    ghost is_decodable = { is_number w64 };
 
     ghost same = { λ n m. n ≡ m };
 
@@ -244,7 +244,7 @@ impl<A: Allocator> Code<A> for usize {
         8
     }
 
-    ghost spelled = { number_spelled w64 };
+    ghost is_encoded = { number_encoded w64 };
 
     ghost one_value = { one_number w64 };
 
@@ -255,9 +255,9 @@ impl<A: Allocator> StorageKey<A> for usize {}
 
 impl<A: Allocator> StorageValue<A> for usize {}
 
-/// Each number of a `usize` is what its spelling reads as.
+/// Each number of a `usize` is what its encoding reads as.
 #[tactic(auto, using(crate::proofs::CodeLemmas::number_read_back_64))]
 pub fn usize_read_back()
     ensures { (n : ℕ) → n < 2 ^ 64
-        → number_read w64 (⟦<usize as Code<Global>>⟧.spelling n) ≡ Some n }
+        → number_read w64 (⟦<usize as Code<Global>>⟧.encoding n) ≡ Some n }
 {}

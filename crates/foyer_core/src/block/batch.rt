@@ -7,20 +7,20 @@ ghost use Rattle.foyer_device.specs.declared.error.Error.TheVariants.{Memory};
 ghost use Rattle.foyer_block.specs.Index.{IndexMap};
 ghost use Rattle.foyer_block.specs.Insertion.{inserted_all};
 ghost use Rattle.foyer_model.specs.Flush.{released};
-ghost use Rattle.foyer_model.specs.State as plainly;
+ghost use Rattle.foyer_model.specs.State as model_state;
 ghost use Rattle.foyer_model.specs.State.{State};
-ghost use Rattle.foyer_model.specs.Step as plain;
-ghost use Rattle.foyer_core.specs.Batches.{StandsAt, IsDone, IsTold, told_next, told_wrote, told_ended, settled, failed_batch};
+ghost use Rattle.foyer_model.specs.Step as model_step;
+ghost use Rattle.foyer_core.specs.Batches.{StandsAt, FlusherStep, IsIssued, issued_next, issued_wrote, issued_ended, settled, failed_batch};
 ghost use Rattle.foyer_core.specs.Content.{Content, Meaning};
 ghost use Rattle.foyer_core.specs.Flushing.{IsFlusherAs, IsBatchAs};
-ghost use Rattle.foyer_core.specs.Sizes.{IsSound};
+ghost use Rattle.foyer_core.specs.Sizes.{AreValid};
 ghost use Rattle.foyer_core.specs.Standing.{AreBlocksAs};
-ghost use Rattle.foyer_core.specs.Turns.{MayBegin, HasBlock, IsWriting, IsWritten};
+ghost use Rattle.foyer_core.specs.FlushInTurn.{MayBegin, HasBlock, IsWriting, IsWritten};
 ghost use Rattle.foyer_core.specs.Unchanged.{seen};
 ghost use Rattle.foyer_core.specs.declared.block.batch.Wrote.TheVariants as wrote;
 ghost use Rattle.foyer_core.specs.declared.settings.Settings.{Settings};
 
-use crate::block::flusher::{Batch, Flusher, InvalidStats, Placed, Writing};
+use crate::block::flusher::{Batch, Flusher, InvalidStats, LaidOut, Writing};
 use crate::block::manager::{
     begin_to_wait, end_to_wait, filling_of, hand_out, invalidate_all, release,
 };
@@ -137,7 +137,7 @@ pub(crate) fn nothing_received<K, V, P, A: Allocator + Clone>(
 // Room for one block's placing, with one write.
 fn room_for_one<A: Allocator + Clone>(
     alloc: &A,
-) -> Result<(Vec<Write<A>, A>, VecDeque<Placed<A>, A>)>
+) -> Result<(Vec<Write<A>, A>, VecDeque<LaidOut<A>, A>)>
     ensures writes { IfOk result (λ p. (p.0.items ≡ []) × (0 < vec_capacity p.0) × (vec_len p.0 ≡ 0)) }
     ensures blocks { IfOk result (λ p. (p.1.items ≡ []) × (0 < deque_capacity p.1) × (deque_len p.1 ≡ 0)) }
     ensures refused { IsOkUnless result Memory }
@@ -150,10 +150,10 @@ fn room_for_one<A: Allocator + Clone>(
 impl<K, V, P, A: Allocator> Batch<K, V, P, A> {
     // The flusher's own block, if the next placing goes into it.
     fn goes_on_with(&self, own: Option<BlockId>) -> Option<BlockId>
-        ensures { MatchOption result (self.now.goes_on ≡ true → own ≡ None)
-            (λ b. (self.now.goes_on ≡ true) × (own ≡ Some b)) }
+        ensures { MatchOption result (self.now.continues_own_block ≡ true → own ≡ None)
+            (λ b. (self.now.continues_own_block ≡ true) × (own ≡ Some b)) }
     {
-        if self.goes_on { own } else { None }
+        if self.continues_own_block { own } else { None }
     }
 
     // The block that is being written.
@@ -177,27 +177,27 @@ impl<K, V, P, A: Allocator> Batch<K, V, P, A> {
         }
     }
 
-    // What isn't told yet will not be written.
+    // What isn't issued yet will not be written.
     fn drop_rest(&mut self)
         ensures none { self.new.blocks.items ≡ [] }
-        ensures rest { self.new ≡ record self.old { blocks = self.new.blocks; goes_on = false } }
+        ensures rest { self.new ≡ record self.old { blocks = self.new.blocks; continues_own_block = false } }
     {
         self.blocks.clear();
-        self.goes_on = false;
+        self.continues_own_block = false;
     }
 
     // The next placing goes into this block: gives its writes.
-    fn tell(&mut self, block: BlockId) -> Vec<Write<A>, A>
+    fn issue(&mut self, block: BlockId) -> Vec<Write<A>, A>
         requires idle { self.old.writing ≡ None }
         requires some { self.old.blocks.items ≢ [] }
-        ensures told { (m : Meaning K V P) (s : Settings) (own : Option ℕ) (it : plainly.Batch Content)
-            → IsBatchAs m s own self.old it → block < s.blocks → IsTold m s block result.items self.new it }
+        ensures issued { (m : Meaning K V P) (s : Settings) (own : Option ℕ) (it : model_state.Batch Content)
+            → IsBatchAs m s own self.old it → block < s.blocks → IsIssued m s block result.items self.new it }
     {
-        self.goes_on = false;
+        self.continues_own_block = false;
         let Some(placed) = self.blocks.pop_front() else {
             unreachable!()
         };
-        let Placed {
+        let LaidOut {
             writes,
             offset,
             records,
@@ -229,9 +229,9 @@ impl<K, V, P, A: Allocator + Clone> Flusher<K, V, P, A> {
     pub(crate) fn begin(&mut self, alloc: &A) -> Result<Vec<Tombstone, A>>
         requires { MayBegin self.old }
         ensures refused { OnErr result (self.new ≡ self.old) }
-        ensures begins { IfOk result (λ told. IsBegun self.old self.new told.items) }
+        ensures begins { IfOk result (λ issued. IsBegun self.old self.new issued.items) }
     {
-        let told = Vec::from_slice(alloc.clone()?, self.marks.as_slice())?;
+        let issued = Vec::from_slice(alloc.clone()?, self.marks.as_slice())?;
         let (mut writes, mut blocks) = room_for_one(alloc)?;
         let Received {
             buffer: no_bytes,
@@ -247,14 +247,14 @@ impl<K, V, P, A: Allocator + Clone> Flusher<K, V, P, A> {
         if bytes.len() > 0 {
             writes.push_reserved(Write { offset, bytes });
         }
-        blocks.push_back_reserved(Placed {
+        blocks.push_back_reserved(LaidOut {
             writes,
             offset,
             records: mem::replace(&mut self.records, no_records),
         });
         let batch = Batch {
             blocks,
-            goes_on: self.own.is_some(),
+            continues_own_block: self.own.is_some(),
             writing: None,
             marks: mem::replace(&mut self.marks, no_marks),
             invalid: mem::replace(&mut self.invalid, no_invalid),
@@ -265,10 +265,10 @@ impl<K, V, P, A: Allocator + Clone> Flusher<K, V, P, A> {
             None => {}
             Some(_) => unreachable!(),
         }
-        Ok(told)
+        Ok(issued)
     }
 
-    /// Whether the next block of the batch is to be told.
+    /// Whether the next block of the batch is to be issued.
     pub(crate) fn has_block(&self) -> bool
         ensures { IsTrue result ↔ HasBlock self.now }
     {
@@ -292,10 +292,10 @@ impl<K, V, P, A: Allocator + Clone> Flusher<K, V, P, A> {
         ensures clean_kept { OnErr result (clean.new ≡ clean.old) }
         ensures blocks_kept { OnErr result (blocks.new ≡ blocks.old) }
         ensures waiting_kept { OnErr result (waiting.new.items ≡ waiting.old.items) }
-        ensures done { IfOk result (λ next. (m : Meaning K V P) (s : Settings) (sound : IsSound s)
+        ensures done { IfOk result (λ next. (m : Meaning K V P) (s : Settings) (sound : AreValid s)
             (it : State Content) (slots : IndexMap)
             → StandsAt m s number it (seen self.old) slots blocks.old.items clean.old.items waiting.old.items
-            → IsDone m s sound (plain.FlushBlock number) number it (told_next next)
+            → FlusherStep m s sound (model_step.FlushBlock number) number it (issued_next next)
             (seen self.new) slots blocks.new.items clean.new.items waiting.new.items) }
     {
         waiting.reserve(1)?;
@@ -304,7 +304,7 @@ impl<K, V, P, A: Allocator + Clone> Flusher<K, V, P, A> {
         };
         if let Some(block) = batch.goes_on_with(self.own) {
             end_to_wait(waiting, number);
-            return Ok(Next::Block(block, batch.tell(block)));
+            return Ok(Next::Block(block, batch.issue(block)));
         }
         release(&mut self.own, blocks);
         match hand_out(clean, blocks, number) {
@@ -315,12 +315,12 @@ impl<K, V, P, A: Allocator + Clone> Flusher<K, V, P, A> {
             Some(block) => {
                 self.own = Some(block);
                 end_to_wait(waiting, number);
-                Ok(Next::Block(block, batch.tell(block)))
+                Ok(Next::Block(block, batch.issue(block)))
             }
         }
     }
 
-    /// Whether a told write is to be reported.
+    /// Whether an issued write is to be reported.
     pub(crate) fn is_writing(&self) -> bool
         ensures { IsTrue result ↔ IsWriting self.now }
     {
@@ -330,7 +330,7 @@ impl<K, V, P, A: Allocator + Clone> Flusher<K, V, P, A> {
         }
     }
 
-    /// Takes the result of the next told write. After the block's last one its records enter the index. After a fault,
+    /// Takes the result of the next issued write. After the block's last one its records enter the index. After a fault,
     /// or where the index can't grow, nothing of the batch's rest is written, and the block isn't written again in this
     /// filling.
     pub(crate) fn wrote(
@@ -341,10 +341,10 @@ impl<K, V, P, A: Allocator + Clone> Flusher<K, V, P, A> {
         first_offset: usize,
     ) -> Wrote
         requires { IsWriting self.old }
-        ensures done { (m : Meaning K V P) (s : Settings) (sound : IsSound s) (f : ℕ) (it : State Content)
+        ensures done { (m : Meaning K V P) (s : Settings) (sound : AreValid s) (f : ℕ) (it : State Content)
             (ids waiters : List ℕ) → first_offset ≡ s.blob_index_size
             → StandsAt m s f it (seen self.old) index.old blocks.old.items ids waiters
-            → IsDone m s sound (plain.FlushWrote f is_done) f it (told_wrote result)
+            → FlusherStep m s sound (model_step.FlushWrote f is_done) f it (issued_wrote result)
             (seen self.new) index.new blocks.new.items ids waiters }
     {
         let Some(batch) = &mut self.batch else {
@@ -381,11 +381,11 @@ impl<K, V, P, A: Allocator + Clone> Flusher<K, V, P, A> {
     fn fail(&mut self, blocks: &mut Vec<BlockState, A>, first_offset: usize) -> Wrote
         requires { IsSomeAnd self.old.batch (λ batch. batch.writing ≡ None) }
         ensures failed { result ≡ wrote.Failed }
-        ensures left { (m : Meaning K V P) (s : Settings) (it : plainly.Flusher Content) (batch : plainly.Batch Content)
+        ensures left { (m : Meaning K V P) (s : Settings) (it : model_state.Flusher Content) (batch : model_state.Batch Content)
             → first_offset ≡ s.blob_index_size → IsFlusherAs m s (seen self.old) it → it.batch ≡ Some batch
             → IsFlusherAs m s (seen self.new) (failed_batch first_offset it batch) }
-        ensures released { (s : Settings) (places : ℕ → plainly.Place) (fillings : ℕ → ℕ)
-            (stats : ℕ → plainly.Stats)
+        ensures released { (s : Settings) (places : ℕ → model_state.BlockSet) (fillings : ℕ → ℕ)
+            (stats : ℕ → model_state.Stats)
             → AreBlocksAs s blocks.old.items places fillings stats
             → AreBlocksAs s blocks.new.items (released self.old.own places) fillings stats }
     {
@@ -416,10 +416,10 @@ impl<K, V, P, A: Allocator + Clone> Flusher<K, V, P, A> {
     ) -> Ended<K, V, P, A>
         requires { IsWritten self.old }
         ensures ended { self.new.batch ≡ None }
-        ensures done { (m : Meaning K V P) (s : Settings) (sound : IsSound s) (f : ℕ) (it : State Content)
+        ensures done { (m : Meaning K V P) (s : Settings) (sound : AreValid s) (f : ℕ) (it : State Content)
             (ids waiters : List ℕ)
             → StandsAt m s f it (seen self.old) index.old blocks.old.items ids waiters
-            → IsDone m s sound (plain.FlushEnd f) f it (told_ended m result)
+            → FlusherStep m s sound (model_step.FlushEnd f) f it (issued_ended m result)
             (seen self.new) index.new blocks.new.items ids waiters }
     {
         let Some(batch) = self.batch.take() else {
@@ -427,7 +427,7 @@ impl<K, V, P, A: Allocator + Clone> Flusher<K, V, P, A> {
         };
         let Batch {
             blocks: _,
-            goes_on: _,
+            continues_own_block: _,
             writing: _,
             marks,
             invalid,

@@ -43,7 +43,7 @@ pub enum Submission<K, V, P, A: Allocator> {
 
 /// What a batch puts into one block.
 #[derive(Drop)]
-pub struct Placed<A: Allocator> {
+pub struct LaidOut<A: Allocator> {
     pub writes: Vec<Write<A>, A>,
     /// Where its data begin in the block, in bytes.
     pub offset: usize,
@@ -55,7 +55,7 @@ pub struct Placed<A: Allocator> {
 #[derive(Drop)]
 pub struct Writing<A: Allocator> {
     pub block: BlockId,
-    /// How many told writes have not been reported.
+    /// How many issued writes have not been reported.
     pub left: usize,
     /// Where the records' data begin in the block, in bytes.
     pub offset: usize,
@@ -66,10 +66,10 @@ pub struct Writing<A: Allocator> {
 /// What a flusher is writing.
 #[derive(Drop)]
 pub struct Batch<K, V, P, A: Allocator> {
-    /// The blocks that are not yet told, in order.
-    pub blocks: VecDeque<Placed<A>, A>,
+    /// The blocks that are not yet issued, in order.
+    pub blocks: VecDeque<LaidOut<A>, A>,
     /// Whether the first of them is the flusher's own block.
-    pub goes_on: bool,
+    pub continues_own_block: bool,
     pub writing: Option<Writing<A>>,
     pub marks: Vec<Tombstone, A>,
     pub invalid: Vec<InvalidStats, A>,

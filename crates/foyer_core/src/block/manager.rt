@@ -1,16 +1,16 @@
 //! The blocks of the core: which may be handed out, who waits for one, and what became invalid.
 ghost use Rattle.std.specs.Prelude.{◌≡◌, ◌<◌, ℕ, List, [], ◌∷◌, map, None, MatchOption, vec_len, vec_capacity, nat_lt};
-ghost use Rattle.foyer_model.specs.Flush.{first_usable, released, all_spoiled};
+ghost use Rattle.foyer_model.specs.Flush.{first_usable, released, all_invalidated};
 ghost use Rattle.foyer_model.specs.Ids.{with_id, without_id};
 ghost use Rattle.foyer_model.specs.Numbers.{last_number};
-ghost use Rattle.foyer_model.specs.State as plainly;
-ghost use Rattle.foyer_core.specs.Flushing.{spoil_of};
+ghost use Rattle.foyer_model.specs.State as model_state;
+ghost use Rattle.foyer_core.specs.Flushing.{invalid_of};
 ghost use Rattle.foyer_core.specs.Handing.{filling_in, IsFirstUsable, IsHanded};
 ghost use Rattle.foyer_core.specs.Standing.{AreBlocksAs, AreCleanAs};
 ghost use Rattle.foyer_core.specs.declared.settings.Settings.{Settings};
 
 use crate::block::flusher::InvalidStats;
-use crate::state::{BlockState, Place};
+use crate::state::{BlockSet, BlockState};
 use foyer_block::manager::BlockId;
 use std::alloc::Allocator;
 use std::collections::VecDeque;
@@ -55,8 +55,8 @@ pub(crate) fn hand_out<A: Allocator>(
     blocks: &mut Vec<BlockState, A>,
     flusher: u32,
 ) -> Option<BlockId>
-    ensures handed { (s : Settings) (places : ℕ → plainly.Place) (fillings : ℕ → ℕ)
-        (stats : ℕ → plainly.Stats) (ids : List ℕ)
+    ensures handed { (s : Settings) (places : ℕ → model_state.BlockSet) (fillings : ℕ → ℕ)
+        (stats : ℕ → model_state.Stats) (ids : List ℕ)
         → AreBlocksAs s blocks.old.items places fillings stats → AreCleanAs s clean.old.items ids
         → IsHanded s flusher blocks.new.items clean.new.items places fillings stats ids result }
 {
@@ -68,21 +68,21 @@ pub(crate) fn hand_out<A: Allocator>(
     };
     let state = &mut blocks[block as usize];
     state.filling += 1;
-    state.place = Place::Writing(flusher);
+    state.place = BlockSet::Writing(flusher);
     Some(block)
 }
 
 // A block that its flusher leaves may be reclaimed.
 pub(crate) fn release<A: Allocator>(own: &mut Option<BlockId>, blocks: &mut Vec<BlockState, A>)
     ensures left { own.new ≡ None }
-    ensures released { (s : Settings) (places : ℕ → plainly.Place) (fillings : ℕ → ℕ)
-        (stats : ℕ → plainly.Stats)
+    ensures released { (s : Settings) (places : ℕ → model_state.BlockSet) (fillings : ℕ → ℕ)
+        (stats : ℕ → model_state.Stats)
         → AreBlocksAs s blocks.old.items places fillings stats
         → AreBlocksAs s blocks.new.items (released own.old places) fillings stats }
 {
     if let Some(block) = own.take() {
         if let Some(state) = blocks.get_mut(block as usize) {
-            state.place = Place::Evictable;
+            state.place = BlockSet::Evictable;
         }
     }
 }
@@ -106,10 +106,10 @@ pub(crate) fn end_to_wait<A: Allocator>(waiting: &mut Vec<u32, A>, flusher: u32)
 
 // These bytes of a block became invalid.
 pub(crate) fn invalidate<A: Allocator>(blocks: &mut Vec<BlockState, A>, stats: &InvalidStats)
-    ensures { (s : Settings) (places : ℕ → plainly.Place) (fillings : ℕ → ℕ)
-        (known : ℕ → plainly.Stats)
+    ensures { (s : Settings) (places : ℕ → model_state.BlockSet) (fillings : ℕ → ℕ)
+        (known : ℕ → model_state.Stats)
         → AreBlocksAs s blocks.old.items places fillings known
-        → AreBlocksAs s blocks.new.items places fillings (all_spoiled (spoil_of stats.now ∷ []) known) }
+        → AreBlocksAs s blocks.new.items places fillings (all_invalidated (invalid_of stats.now ∷ []) known) }
 {
     if let Some(state) = blocks.get_mut(stats.block as usize) {
         state.invalid = state.invalid.saturating_add(stats.size);
@@ -121,10 +121,10 @@ pub(crate) fn invalidate_all<A: Allocator>(
     blocks: &mut Vec<BlockState, A>,
     invalid: &[InvalidStats],
 )
-    ensures { (s : Settings) (places : ℕ → plainly.Place) (fillings : ℕ → ℕ)
-        (known : ℕ → plainly.Stats)
+    ensures { (s : Settings) (places : ℕ → model_state.BlockSet) (fillings : ℕ → ℕ)
+        (known : ℕ → model_state.Stats)
         → AreBlocksAs s blocks.old.items places fillings known
-        → AreBlocksAs s blocks.new.items places fillings (all_spoiled (map spoil_of invalid.now) known) }
+        → AreBlocksAs s blocks.new.items places fillings (all_invalidated (map invalid_of invalid.now) known) }
 {
     for stats in invalid {
         invalidate(blocks, stats);

@@ -6,8 +6,8 @@ ghost use Rattle.foyer_format.specs.declared.serde.ages.Age.{Age as age};
 ghost use Rattle.foyer_model.specs.State.{State};
 ghost use Rattle.foyer_core.specs.Content.{Content, meaning};
 ghost use Rattle.foyer_core.specs.Flushing.{IsFlusherAs};
-ghost use Rattle.foyer_core.specs.Sizes.{IsSound};
-ghost use Rattle.foyer_core.specs.Taking.{IsPushed, IsLeftOut, Takes};
+ghost use Rattle.foyer_core.specs.Sizes.{AreValid};
+ghost use Rattle.foyer_core.specs.Taking.{IsPushed, IsLeftOut, TakesFront};
 ghost use Rattle.foyer_core.specs.declared.settings.Settings.{Settings};
 ghost use Rattle.foyer_core.specs.Unchanged.{seen};
 
@@ -46,12 +46,12 @@ fn push_record<K: Code<A>, V: Code<A>, P, A: Allocator>(
     requires room { room < 2 ^ 32 }
     requires len { length buffer.old < 2 ^ 32 }
     ensures pushed { IfOk result (λ done. MatchBool done
-        (IsPushed room piece.now.hash sequence ((K.encodes piece.now.key ≡ true) × (V.encodes piece.now.value ≡ true))
-        (length (V.spelling piece.now.value) + length (K.spelling piece.now.key))
-        (record_bytes piece.now.hash sequence (K.spelling piece.now.key) (V.spelling piece.now.value))
+        (IsPushed room piece.now.hash sequence ((K.is_encodable piece.now.key ≡ true) × (V.is_encodable piece.now.value ≡ true))
+        (length (V.encoding piece.now.value) + length (K.encoding piece.now.key))
+        (record_bytes piece.now.hash sequence (K.encoding piece.now.key) (V.encoding piece.now.value))
         buffer.old buffer.new records.old.items records.new.items)
-        (IsLeftOut room ((K.encodes piece.now.key ≡ true) × (V.encodes piece.now.value ≡ true))
-        (length (V.spelling piece.now.value) + length (K.spelling piece.now.key))
+        (IsLeftOut room ((K.is_encodable piece.now.key ≡ true) × (V.is_encodable piece.now.value ≡ true))
+        (length (V.encoding piece.now.value) + length (K.encoding piece.now.key))
         buffer.old buffer.new records.old.items records.new.items)) }
     ensures buffer_kept { OnErr result (buffer.new ≡ buffer.old) }
     ensures records_kept { OnErr result (records.new.items ≡ records.old.items) }
@@ -82,7 +82,7 @@ fn push_record<K: Code<A>, V: Code<A>, P, A: Allocator>(
 }
 
 // Appends what a mark made invalid, if it did.
-fn keep_spoils<A: Allocator>(invalid: &mut Vec<InvalidStats, A>, stats: Option<InvalidStats>)
+fn keep_invalidated<A: Allocator>(invalid: &mut Vec<InvalidStats, A>, stats: Option<InvalidStats>)
     requires { vec_len invalid.old < vec_capacity invalid.old }
     ensures { invalid.new.items ≡ invalid.old.items ++ option_to_list stats }
 {
@@ -119,16 +119,16 @@ impl<K, V, P, A: Allocator + Clone> Flusher<K, V, P, A> {
         Ok(())
     }
 
-    /// Takes the front of the queue. A refused growth leaves it there: `Memory`.
+    /// Takes the front of the queue. A refused allocation leaves it there: `Memory`.
     pub(crate) fn receive(&mut self, block_size: usize) -> Result<Taken<K, V, P, A>>
     where
         K: Code<A>,
         V: Code<A>,
         ensures refused { OnErr result (seen self.new ≡ seen self.old) }
-        ensures takes { (age_of : P → Option age) (s : Settings) (sound : IsSound s) (st : State Content) (f : ℕ)
+        ensures takes { (age_of : P → Option age) (s : Settings) (sound : AreValid s) (st : State Content) (f : ℕ)
             → block_size ≡ s.block_size
-            → IsFlusherAs (meaning K.spelling V.spelling K.encodes V.encodes K.is_spelling V.is_spelling age_of) s (seen self.old) (st.flushers f)
-            → Takes (meaning K.spelling V.spelling K.encodes V.encodes K.is_spelling V.is_spelling age_of) s sound st f result self.new }
+            → IsFlusherAs (meaning K.encoding V.encoding K.is_encodable V.is_encodable K.is_decodable V.is_decodable age_of) s (seen self.old) (st.flushers f)
+            → TakesFront (meaning K.encoding V.encoding K.is_encodable V.is_encodable K.is_decodable V.is_decodable age_of) s sound st f result self.new }
     {
         if self.queue.is_empty() {
             return Ok(Taken::Nothing);
@@ -165,7 +165,7 @@ impl<K, V, P, A: Allocator + Clone> Flusher<K, V, P, A> {
             }
             Some(Submission::Tombstone(info)) => {
                 self.marks.push_reserved(info.tombstone);
-                keep_spoils(&mut self.invalid, info.stats);
+                keep_invalidated(&mut self.invalid, info.stats);
                 Ok(Taken::Other)
             }
             Some(Submission::Wait { id }) => {

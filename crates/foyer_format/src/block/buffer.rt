@@ -83,7 +83,7 @@ impl<A: Allocator> Buffer<A> {
 
     /// Appends the record of a key and a value, padded with zeros to whole pages, and gives its
     /// length without the padding; `None` where it doesn't fit into `room` bytes. Memory where a
-    /// growth was refused. The bytes change only where a length is given.
+    /// allocation was refused. The bytes change only where a length is given.
     #[tactic(auto, using(crate::proofs::PageLaws::pages))]
     pub fn push<K: Code<A>, V: Code<A>>(
         &mut self,
@@ -97,13 +97,13 @@ impl<A: Allocator> Buffer<A> {
         requires room { room < 2 ^ 32 }
         requires len { length self.old < 2 ^ 32 }
         ensures pushed { IfOk result (λ r. IfSome r (Pushes self.old self.new
-            (record_bytes hash sequence (K.spelling key.now) (V.spelling value.now)))) }
+            (record_bytes hash sequence (K.encoding key.now) (V.encoding value.now)))) }
         ensures fits { IfOk result (λ r. OnSome r (FitsRoom room compression
-            ((K.encodes key.now ≡ true) × (V.encodes value.now ≡ true))
-            (length (V.spelling value.now) + length (K.spelling key.now)))) }
+            ((K.is_encodable key.now ≡ true) × (V.is_encodable value.now ≡ true))
+            (length (V.encoding value.now) + length (K.encoding key.now)))) }
         ensures lacks { IfOk result (λ r. IfNone r (FitsRoom room compression
-            ((K.encodes key.now ≡ true) × (V.encodes value.now ≡ true))
-            (length (V.spelling value.now) + length (K.spelling key.now)) → ⊥)) }
+            ((K.is_encodable key.now ≡ true) × (V.is_encodable value.now ≡ true))
+            (length (V.encoding value.now) + length (K.encoding key.now)) → ⊥)) }
         ensures kept { IfOk result (λ r. IfNone r (self.new ≡ self.old)) }
         ensures within { IfOk result (λ r. IfSome r (λ len. len ≤ room)) }
         ensures memory { IfErr result (λ e. e ≡ error.Memory) }

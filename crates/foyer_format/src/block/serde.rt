@@ -26,7 +26,7 @@ const ENTRY_MAGIC: u32 = 0x9703_2700;
 /// The bytes that a header takes.
 const HEADER_LEN: usize = 36;
 
-/// The header of a record: the lengths in bytes of its spelled key and value, and the checksum of
+/// The header of a record: the lengths in bytes of its encoded key and value, and the checksum of
 /// both.
 #[derive(Debug, PartialEq, Eq, Drop)]
 pub struct EntryHeader {
@@ -61,7 +61,7 @@ impl EntryHeader {
         BigEndian::write_u32(&mut buf[32..], word);
     }
 
-    /// The header that 36 bytes spell. MagicMismatch where they have another magic, else Parse
+    /// The header that 36 bytes encode. MagicMismatch where they have another magic, else Parse
     /// where the last byte names no compression; nothing else is refused.
     #[tactic(auto, using(crate::proofs::HeaderLemmas::header_again_of))]
     pub fn read(buf: &[u8]) -> Result<EntryHeader>
@@ -119,8 +119,8 @@ pub fn record_read_back()
 {}
 
 /// The pair of a record of this hash and this sequence, or `None` where the bytes are no such
-/// record. Unsupported where it is compressed, Parse where its value or its key isn't spelled
-/// right, Memory where a growth was refused; nothing else is refused.
+/// record. Unsupported where it is compressed, Parse where its value or its key isn't encoded
+/// right, Memory where an allocation was refused; nothing else is refused.
 #[tactic(auto, using(crate::proofs::RefusalLemmas::record_answers))]
 pub fn read_record<A: Allocator + Clone, K: Code<A> + Drop, V: Code<A> + Drop>(
     alloc: &A,
@@ -129,15 +129,15 @@ pub fn read_record<A: Allocator + Clone, K: Code<A> + Drop, V: Code<A> + Drop>(
     sequence: Sequence,
 ) -> Result<Option<(K, V)>>
     ensures pair { IfOk result (λ r. IfSome r (λ p.
-        pair_of K.is_spelling V.is_spelling bytes.now hash sequence
-        ≡ outcome.Pair (K.spelling p.0) (V.spelling p.1))) }
-    ensures encodes { IfOk result (λ r. IfSome r (λ p. (K.encodes p.0 ≡ true) × (V.encodes p.1 ≡ true))) }
+        pair_of K.is_decodable V.is_decodable bytes.now hash sequence
+        ≡ outcome.Pair (K.encoding p.0) (V.encoding p.1))) }
+    ensures is_encodable { IfOk result (λ r. IfSome r (λ p. (K.is_encodable p.0 ≡ true) × (V.is_encodable p.1 ≡ true))) }
     ensures absent { (result ≡ Ok None)
-        ↔ (pair_of K.is_spelling V.is_spelling bytes.now hash sequence ≡ outcome.NoRecord) }
+        ↔ (pair_of K.is_decodable V.is_decodable bytes.now hash sequence ≡ outcome.NoRecord) }
     ensures unsupported { (result ≡ Err error.Unsupported)
-        ↔ (pair_of K.is_spelling V.is_spelling bytes.now hash sequence ≡ outcome.Unsupported) }
+        ↔ (pair_of K.is_decodable V.is_decodable bytes.now hash sequence ≡ outcome.Unsupported) }
     ensures fault { IfErr result
-        (IsRecordFault (pair_of K.is_spelling V.is_spelling bytes.now hash sequence)) }
+        (IsRecordFault (pair_of K.is_decodable V.is_decodable bytes.now hash sequence)) }
 {
     find_record(alloc, bytes, hash, sequence)
 }
@@ -151,13 +151,13 @@ fn find_record<A: Allocator + Clone, K: Code<A> + Drop, V: Code<A> + Drop>(
     sequence: Sequence,
 ) -> Result<Option<(K, V)>>
     ensures pair { IfOk result (λ r. IfSome r (λ p.
-        pair_of K.is_spelling V.is_spelling bytes.now hash sequence
-        ≡ outcome.Pair (K.spelling p.0) (V.spelling p.1))) }
-    ensures encodes { IfOk result (λ r. IfSome r (λ p. (K.encodes p.0 ≡ true) × (V.encodes p.1 ≡ true))) }
+        pair_of K.is_decodable V.is_decodable bytes.now hash sequence
+        ≡ outcome.Pair (K.encoding p.0) (V.encoding p.1))) }
+    ensures is_encodable { IfOk result (λ r. IfSome r (λ p. (K.is_encodable p.0 ≡ true) × (V.is_encodable p.1 ≡ true))) }
     ensures absent { IfOk result (λ r. IfNone r
-        (pair_of K.is_spelling V.is_spelling bytes.now hash sequence ≡ outcome.NoRecord)) }
+        (pair_of K.is_decodable V.is_decodable bytes.now hash sequence ≡ outcome.NoRecord)) }
     ensures fault { IfErr result
-        (IsRecordFault (pair_of K.is_spelling V.is_spelling bytes.now hash sequence)) }
+        (IsRecordFault (pair_of K.is_decodable V.is_decodable bytes.now hash sequence)) }
 {
     let Some(header) = record_header(bytes, hash, sequence) else {
         return Ok(None);
@@ -173,24 +173,24 @@ fn read_body<A: Allocator + Clone, K: Code<A> + Drop, V: Code<A> + Drop>(
     body: &[u8],
 ) -> Result<Option<(K, V)>>
     ensures pair { IfOk result (λ r. IfSome r (λ p.
-        body_outcome K.is_spelling V.is_spelling header.now body.now
-        ≡ outcome.Pair (K.spelling p.0) (V.spelling p.1))) }
-    ensures encodes { IfOk result (λ r. IfSome r (λ p. (K.encodes p.0 ≡ true) × (V.encodes p.1 ≡ true))) }
+        body_outcome K.is_decodable V.is_decodable header.now body.now
+        ≡ outcome.Pair (K.encoding p.0) (V.encoding p.1))) }
+    ensures is_encodable { IfOk result (λ r. IfSome r (λ p. (K.is_encodable p.0 ≡ true) × (V.is_encodable p.1 ≡ true))) }
     ensures absent { IfOk result (λ r. IfNone r
-        (body_outcome K.is_spelling V.is_spelling header.now body.now ≡ outcome.NoRecord)) }
+        (body_outcome K.is_decodable V.is_decodable header.now body.now ≡ outcome.NoRecord)) }
     ensures fault { IfErr result
-        (IsRecordFault (body_outcome K.is_spelling V.is_spelling header.now body.now)) }
+        (IsRecordFault (body_outcome K.is_decodable V.is_decodable header.now body.now)) }
 {
     let key_len = header.key_len as usize;
     let value_len = header.value_len as usize;
-    let told = Some(header.checksum);
+    let given = Some(header.checksum);
     match EntryDeserializer::deserialize(
         alloc,
         body,
         key_len,
         value_len,
         header.compression,
-        told,
+        given,
     ) {
         Ok(pair) => Ok(Some(pair)),
         Err(e) => {

@@ -36,19 +36,19 @@ impl EntrySerializer {
         writer: &mut W,
     ) -> Result<KvInfo>
         ensures bytes { OnOk result (Appends (W.contents writer.old) (W.contents writer.new)
-            (V.spelling value.now ++ K.spelling key.now)) }
+            (V.encoding value.now ++ K.encoding key.now)) }
         ensures lens { IfOk result (λ info. IsWritten (W.taken writer.old)
-            (V.spelling value.now) (K.spelling key.now) info) }
+            (V.encoding value.now) (K.encoding key.now) info) }
         ensures plain { OnOk result (compression ≡ compression_of.None) }
-        ensures encoded { OnOk result ((V.encodes value.now ≡ true) × (K.encodes key.now ≡ true)) }
+        ensures encoded { OnOk result ((V.is_encodable value.now ≡ true) × (K.is_encodable key.now ≡ true)) }
         ensures room { OnOk result (Takes (W.room writer.old) (W.room writer.new)
-            (length (V.spelling value.now) + length (K.spelling key.now))) }
+            (length (V.encoding value.now) + length (K.encoding key.now))) }
         ensures borrow { W.borrow writer.new ≡ W.borrow writer.old }
         ensures kept { OnErr result (Extends (W.room writer.old) (W.room writer.new)
             (W.contents writer.old) (W.contents writer.new)) }
         ensures refused { IfErr result (IsSerializeFault compression
-            ((V.encodes value.now ≡ true) × (K.encodes key.now ≡ true)) (W.room writer.old)
-            (length (V.spelling value.now) + length (K.spelling key.now))) }
+            ((V.is_encodable value.now ≡ true) × (K.is_encodable key.now ≡ true)) (W.room writer.old)
+            (length (V.encoding value.now) + length (K.encoding key.now))) }
     {
         if compression != Compression::None {
             return Err(Error::Unsupported);
@@ -66,8 +66,8 @@ impl EntrySerializer {
 
     /// How many bytes both codes take together, at most `usize::MAX`.
     pub fn estimated_size<A: Allocator, K: Code<A>, V: Code<A>>(key: &K, value: &V) -> usize
-        ensures { K.encodes key.now ≡ true → V.encodes value.now ≡ true → result
-            ≡ min (length (V.spelling value.now) + length (K.spelling key.now)) (2 ^ 64 - 1) }
+        ensures { K.is_encodable key.now ≡ true → V.is_encodable value.now ≡ true → result
+            ≡ min (length (V.encoding value.now) + length (K.encoding key.now)) (2 ^ 64 - 1) }
     {
         key.estimated_size().saturating_add(value.estimated_size())
     }
@@ -106,9 +106,9 @@ pub struct EntryDeserializer;
 
 impl EntryDeserializer {
     /// The key and the value of the bytes. The first of these faults is answered: OutOfRange where
-    /// there are fewer bytes than both lengths together, ChecksumMismatch where a checksum was told
+    /// there are fewer bytes than both lengths together, ChecksumMismatch where a checksum was given
     /// and isn't theirs, Unsupported for another compression than `None`, Parse where a code
-    /// refuses them. Memory where a growth, or a clone of the allocator, was refused.
+    /// refuses them. Memory where an allocation, or a clone of the allocator, was refused.
     #[tactic(auto, using(crate::proofs::RefusalLemmas::decode_fault, crate::proofs::OuterFault::outer_faults))]
     pub fn deserialize<A: Allocator + Clone, K: Code<A> + Drop, V: Code<A> + Drop>(
         alloc: &A,
@@ -118,12 +118,12 @@ impl EntryDeserializer {
         compression: Compression,
         checksum: Option<u64>,
     ) -> Result<(K, V)>
-        ensures value { IfOk result (λ p. V.spelling p.1 ≡ take value_len bytes.now) }
-        ensures key { IfOk result (λ p. K.spelling p.0 ≡ take key_len (drop value_len bytes.now)) }
-        ensures encodes { IfOk result (λ p. (V.encodes p.1 ≡ true) × (K.encodes p.0 ≡ true)) }
-        ensures sound { OnOk result (entry_fault K.is_spelling V.is_spelling
+        ensures value { IfOk result (λ p. V.encoding p.1 ≡ take value_len bytes.now) }
+        ensures key { IfOk result (λ p. K.encoding p.0 ≡ take key_len (drop value_len bytes.now)) }
+        ensures is_encodable { IfOk result (λ p. (V.is_encodable p.1 ≡ true) × (K.is_encodable p.0 ≡ true)) }
+        ensures sound { OnOk result (entry_fault K.is_decodable V.is_decodable
             bytes.now key_len value_len compression checksum ≡ None) }
-        ensures fault { IfErr result (IsEntryFault (entry_fault K.is_spelling V.is_spelling
+        ensures fault { IfErr result (IsEntryFault (entry_fault K.is_decodable V.is_decodable
             bytes.now key_len value_len compression checksum)) }
         ensures memory { IfErr result (λ e. e ≡ Memory
             → V.takes_memory (take value_len bytes.now)

@@ -19,22 +19,22 @@ const ROOM: usize = 65536;
 // More allocations than two flushes make.
 const MOST_ALLOCATIONS: u64 = 1000;
 
-// What was answered, as numbers, and whether there was no memory to tell it.
+// What was answered, as numbers, and whether there was no memory to note it.
 #[derive(PartialEq, Drop)]
-struct Told {
+struct Noted {
     numbers: Vec<u64, Global>,
     is_short: bool,
 }
 
-impl Told {
-    fn new(alloc: Global) -> Told {
-        Told {
+impl Noted {
+    fn new(alloc: Global) -> Noted {
+        Noted {
             numbers: Vec::new(alloc),
             is_short: false,
         }
     }
 
-    fn tell(&mut self, number: u64) {
+    fn note(&mut self, number: u64) {
         if self.numbers.push(number).is_err() {
             self.is_short = true;
         }
@@ -48,42 +48,42 @@ struct Slices {
     too_long: Vec<u8, Global>,
 }
 
-fn tell_infos(told: &mut Told, bytes: &[u8], infos: &[BufferEntryInfo]) {
-    told.tell(Checksummer::checksum64(bytes));
+fn note_infos(noted: &mut Noted, bytes: &[u8], infos: &[BufferEntryInfo]) {
+    noted.note(Checksummer::checksum64(bytes));
     for info in infos {
-        told.tell(info.hash);
-        told.tell(info.sequence);
-        told.tell(info.offset as u64);
-        told.tell(info.len as u64);
+        noted.note(info.hash);
+        noted.note(info.sequence);
+        noted.note(info.offset as u64);
+        noted.note(info.len as u64);
     }
 }
 
-fn tell_part<A: Allocator>(told: &mut Told, part: &BlobPart<A>) {
-    told.tell(part.blob_block_offset as u64);
-    told.tell(part.part_blob_offset as u64);
-    told.tell(part.part_data.len() as u64);
-    told.tell(Checksummer::checksum64(part.part_data.as_slice()));
-    told.tell(Checksummer::checksum64(part.index.as_slice()));
+fn note_part<A: Allocator>(noted: &mut Noted, part: &BlobPart<A>) {
+    noted.note(part.blob_block_offset as u64);
+    noted.note(part.part_blob_offset as u64);
+    noted.note(part.part_data.len() as u64);
+    noted.note(Checksummer::checksum64(part.part_data.as_slice()));
+    noted.note(Checksummer::checksum64(part.index.as_slice()));
     for entry in &part.indices {
-        told.tell(entry.hash);
-        told.tell(u64::from(entry.offset));
-        told.tell(u64::from(entry.len));
+        noted.note(entry.hash);
+        noted.note(u64::from(entry.offset));
+        noted.note(u64::from(entry.len));
     }
 }
 
-fn tell_batch<A: Allocator>(told: &mut Told, batch: &Batch<A>) {
-    told.tell(batch.blocks.len() as u64);
+fn note_batch<A: Allocator>(noted: &mut Noted, batch: &Batch<A>) {
+    noted.note(batch.blocks.len() as u64);
     for block in &batch.blocks {
-        told.tell(block.blob_parts.len() as u64);
+        noted.note(block.blob_parts.len() as u64);
         for part in &block.blob_parts {
-            tell_part(told, part);
+            note_part(noted, part);
         }
     }
 }
 
-// Tells what a push answered. One that was refused leaves what was written, and is to come again.
+// Says what a push answered. One that was refused leaves what was written, and is to come again.
 fn is_answered<A: Allocator>(
-    told: &mut Told,
+    noted: &mut Noted,
     buffer: &Buffer<A>,
     written: usize,
     pushed: Result<bool>,
@@ -92,18 +92,18 @@ fn is_answered<A: Allocator>(
         Err(Error::Memory) if buffer.written() == written => Ok(false),
         Err(_) => Err(Error::Io),
         Ok(done) => {
-            told.tell(u64::from(done));
-            told.tell(buffer.written() as u64);
+            noted.note(u64::from(done));
+            noted.note(buffer.written() as u64);
             Ok(true)
         }
     }
 }
 
-fn push_again<A: Allocator>(told: &mut Told, buffer: &mut Buffer<A>, key: u64) -> Result<()> {
+fn push_again<A: Allocator>(noted: &mut Noted, buffer: &mut Buffer<A>, key: u64) -> Result<()> {
     for _ in 0..2 {
         let written = buffer.written();
         let pushed = buffer.push(&key, &1u64, key, Compression::None, key);
-        if is_answered(told, buffer, written, pushed)? {
+        if is_answered(noted, buffer, written, pushed)? {
             return Ok(());
         }
     }
@@ -111,7 +111,7 @@ fn push_again<A: Allocator>(told: &mut Told, buffer: &mut Buffer<A>, key: u64) -
 }
 
 fn push_slice_again<A: Allocator>(
-    told: &mut Told,
+    noted: &mut Noted,
     buffer: &mut Buffer<A>,
     slice: &[u8],
     hash: u64,
@@ -119,7 +119,7 @@ fn push_slice_again<A: Allocator>(
     for _ in 0..2 {
         let written = buffer.written();
         let pushed = buffer.push_slice(slice, hash, hash);
-        if is_answered(told, buffer, written, pushed)? {
+        if is_answered(noted, buffer, written, pushed)? {
             return Ok(());
         }
     }
@@ -188,21 +188,21 @@ fn split_again<A: Allocator + Clone>(
 // Fills a buffer with nine entries, and tries one that is too long. With the long entry in front
 // the list of them grows at a slice, with it at the end at a record.
 fn fill<A: Allocator>(
-    told: &mut Told,
+    noted: &mut Noted,
     buffer: &mut Buffer<A>,
     slices: &Slices,
     is_long_first: bool,
 ) -> Result<()> {
     if is_long_first {
-        push_slice_again(told, buffer, slices.long.as_slice(), 7)?;
+        push_slice_again(noted, buffer, slices.long.as_slice(), 7)?;
     }
     for key in 0..4 {
-        push_again(told, buffer, key)?;
-        push_slice_again(told, buffer, b"record", key)?;
+        push_again(noted, buffer, key)?;
+        push_slice_again(noted, buffer, b"record", key)?;
     }
-    push_slice_again(told, buffer, slices.too_long.as_slice(), 8)?;
+    push_slice_again(noted, buffer, slices.too_long.as_slice(), 8)?;
     if !is_long_first {
-        push_slice_again(told, buffer, slices.long.as_slice(), 7)?;
+        push_slice_again(noted, buffer, slices.long.as_slice(), 7)?;
     }
     Ok(())
 }
@@ -216,7 +216,7 @@ fn share_again<A: Allocator + Clone>(heap: &A, pages: IoSliceMut<A>) -> Result<I
 
 // Fills a buffer, and splits what it has.
 fn flush<A: Allocator + Clone>(
-    told: &mut Told,
+    noted: &mut Noted,
     heap: &A,
     ctx: &mut SplitCtx<A>,
     slices: &Slices,
@@ -226,24 +226,24 @@ fn flush<A: Allocator + Clone>(
     ensures { ctx.new.sizes ≡ ctx.old.sizes }
 {
     let mut buffer = Buffer::new(heap.clone()?, pages_again(heap, ROOM)?, GREATEST);
-    fill(told, &mut buffer, slices, is_long_first)?;
+    fill(noted, &mut buffer, slices, is_long_first)?;
     let (pages, infos) = buffer.finish();
-    tell_infos(told, pages.as_slice(), infos.as_slice());
+    note_infos(noted, pages.as_slice(), infos.as_slice());
     let bytes = share_again(heap, pages)?;
     let batch = split_again(heap, ctx, &bytes, infos.as_slice())?;
-    tell_batch(told, &batch);
+    note_batch(noted, &batch);
     Ok(())
 }
 
 // Two flushes; the second goes on in the block of the first.
-fn flushes<A: Allocator + Clone>(told: &mut Told, heap: &A, slices: &Slices) -> Result<()> {
+fn flushes<A: Allocator + Clone>(noted: &mut Noted, heap: &A, slices: &Slices) -> Result<()> {
     let made = match SplitCtx::new(heap.clone()?, 16384, 4096) {
         Err(Error::Memory) => SplitCtx::new(heap.clone()?, 16384, 4096),
         other => other,
     };
     let mut ctx = made?;
-    flush(told, heap, &mut ctx, slices, true)?;
-    flush(told, heap, &mut ctx, slices, false)
+    flush(noted, heap, &mut ctx, slices, true)?;
+    flush(noted, heap, &mut ctx, slices, false)
 }
 
 // What was refused is as good as what never came: tried again, it gives what a run without a refusal gives.
@@ -254,15 +254,15 @@ fn what_is_refused_may_come_again(rt: HostRuntime) -> std::result::Result<(), Fa
         long: vec![in alloc; 7u8; 5000]?,
         too_long: vec![in alloc; 7u8; GREATEST + 1]?,
     };
-    let mut wanted = Told::new(alloc);
+    let mut wanted = Noted::new(alloc);
     flushes(&mut wanted, &alloc, &slices)?;
     assert!(rt; !wanted.is_short);
     for n in 1..MOST_ALLOCATIONS {
         let heap = Refusing::new(alloc, n);
-        let mut told = Told::new(alloc);
-        let outcome = flushes(&mut told, &&heap, &slices);
+        let mut noted = Noted::new(alloc);
+        let outcome = flushes(&mut noted, &&heap, &slices);
         assert!(rt; outcome.is_ok(), "allocation {n}");
-        assert!(rt; told == wanted, "allocation {n}");
+        assert!(rt; noted == wanted, "allocation {n}");
         if !heap.has_refused() {
             assert!(rt; n > 20);
             return Ok(());

@@ -154,7 +154,7 @@ fn an_entry_is_written(rt: HostRuntime) -> Result<(), Fail> {
     Ok(())
 }
 
-// The pair of an entry's bytes, where this checksum is told.
+// The pair of an entry's bytes, where this checksum is noted.
 fn pair(alloc: Global, bytes: &[u8], sum: u64) -> Result<(u64, String), Error> {
     EntryDeserializer::deserialize(&alloc, bytes, 8, 9, Compression::None, Some(sum))
 }

@@ -1,6 +1,6 @@
 //! A script of every step that is built: each allocation refused in turn, and each call of its disk failed in turn.
 use crate::failing::Failing;
-use crate::tests::steps::{TestCore, TestReply, Told, Value, piece_of, word_of};
+use crate::tests::steps::{TestAge, TestCore, TestReply, Value, piece_of, word_of};
 use foyer_core::apply::Env;
 use foyer_core::reply::Reply;
 use foyer_core::settings::Settings;
@@ -10,7 +10,7 @@ use foyer_device::error::{Error, ErrorKind, Result};
 use foyer_format_vectors::refusing::Refusing;
 use foyer_policy::keeper::Piece;
 use foyer_run::memory::MemoryDisk;
-use foyer_run::moves::{read_told, write_told};
+use foyer_run::moves::{do_read, do_write};
 use std::alloc::{AllocError, Allocator, Global};
 use std::fmt::Write as _;
 use std::test::Fail;
@@ -81,16 +81,16 @@ const MOST_ALLOCATIONS: u64 = 2000;
 // A line that isn't there.
 const NO_LINE: usize = usize::MAX;
 
-type Life<A> = Step<u64, Value<A>, Told, A>;
+type Life<A> = Step<u64, Value<A>, TestAge, A>;
 
-// A core with its disk, its replies, and the accesses that it told last: a ticket, and the reply with the writes.
+// A core with its disk, its replies, and the accesses that it issued last: a ticket, and the reply with the writes.
 #[derive(Drop)]
 struct Driven<A: Allocator + Clone> {
     core: TestCore<A>,
     disk: Failing<MemoryDisk<A>>,
     ticket: Option<Ticket>,
     replies: Vec<TestReply<A>>,
-    told: usize,
+    issued: usize,
     next: usize,
     comes_again: bool,
 }
@@ -108,12 +108,12 @@ fn word_in(line: &str) -> &str {
     line.split_once(' ').unwrap_or((line, "")).0
 }
 
-// The end of the load that was told, with its read. `Err` where its bytes can't be had.
+// The end of the load that was issued, with its read. `Err` where its bytes can't be had.
 fn load_of<A: Allocator + Clone>(driven: &mut Driven<A>, heap: &A) -> Result<Option<Life<A>>> {
     let Some(ticket) = driven.ticket.take() else {
         return Ok(None);
     };
-    let outcome = read_told(heap.clone()?, &mut driven.disk, &ticket)?;
+    let outcome = do_read(heap.clone()?, &mut driven.disk, &ticket)?;
     Ok(Some(Step::LoadEnd {
         ticket,
         result: outcome,
@@ -134,13 +134,13 @@ fn put_of<A: Allocator + Clone>(
     }))
 }
 
-// The next write that was told, done.
+// The next write that was issued, done.
 fn wrote_of<A: Allocator + Clone>(driven: &mut Driven<A>) -> Option<Life<A>> {
-    let Reply::Write { block, writes } = driven.replies.get(driven.told)? else {
+    let Reply::Write { block, writes } = driven.replies.get(driven.issued)? else {
         return None;
     };
     let write = writes.get(driven.next)?;
-    let outcome = write_told(&mut driven.disk, *block, write);
+    let outcome = do_write(&mut driven.disk, *block, write);
     driven.next = if outcome.is_ok() {
         driven.next.saturating_add(1)
     } else {
@@ -177,7 +177,7 @@ fn plain_step<A: Allocator + Clone>(word: &str, number: u64) -> Life<A> {
     }
 }
 
-// The step of a line, with the result of the access that was told. None where none was told, `Err` where a growth of the
+// The step of a line, with the result of the access that was issued. None where none was issued, `Err` where an allocation of the
 // driver itself fails.
 fn step_of<A: Allocator + Clone>(
     driven: &mut Driven<A>,
@@ -204,7 +204,7 @@ fn push_number(text: &mut String, number: u64) -> std::result::Result<(), AllocE
 // The keys of the pieces, and the waits.
 fn push_ended<A: Allocator>(
     text: &mut String,
-    pieces: &[Piece<u64, Value<A>, Told, A>],
+    pieces: &[Piece<u64, Value<A>, TestAge, A>],
     waits: &[u64],
 ) -> std::result::Result<(), AllocError> {
     for piece in pieces {
@@ -217,8 +217,8 @@ fn push_ended<A: Allocator>(
     Ok(())
 }
 
-// Tells a reply in words, with what it carries.
-fn tell<A: Allocator>(
+// Describes a reply in words, with what it carries.
+fn answer<A: Allocator>(
     text: &mut String,
     reply: &TestReply<A>,
 ) -> std::result::Result<(), AllocError> {
@@ -262,7 +262,7 @@ fn push_fault(text: &mut String, error: &Error) -> std::result::Result<(), Alloc
     Ok(())
 }
 
-// Applies the step of a line, and tells its answer.
+// Applies the step of a line, and says its answer.
 fn answer<A: Allocator + Clone>(
     text: &mut String,
     driven: &mut Driven<A>,
@@ -275,14 +275,14 @@ fn answer<A: Allocator + Clone>(
         Err(error) => return push_fault(text, &error),
     };
     let reply = apply(driven, step);
-    tell(text, &reply)?;
+    answer(text, &reply)?;
     match &reply {
         Reply::Read(ticket) => driven.ticket = Some(*ticket),
         Reply::Write {
             block: _,
             writes: _,
         } => {
-            driven.told = driven.replies.len();
+            driven.issued = driven.replies.len();
             driven.next = 0;
         }
         _ => {}
@@ -326,7 +326,7 @@ fn opened<'a>(
         disk: Failing::new(memory, way.fails_at, 100),
         ticket: None,
         replies: Vec::new(alloc),
-        told: NO_LINE,
+        issued: NO_LINE,
         next: 0,
         comes_again: way.comes_again,
     })
@@ -357,7 +357,7 @@ fn live(alloc: Global, heap: &Refusing<Global>, script: &str, way: Way) -> Resul
     Ok(Run { answers, refused })
 }
 
-// A run on a heap that may refuse a growth. None where this is what failed the opening.
+// A run on a heap that may refuse an allocation. None where this is what failed the opening.
 fn lived(alloc: Global, heap: &Refusing<Global>, script: &str, way: Way) -> Result<Option<Run>> {
     match live(alloc, heap, script, way) {
         Ok(run) => Ok(Some(run)),
@@ -389,7 +389,7 @@ fn call_at(line: usize) -> u64 {
 
 // What the script is answered at a line where a call of the disk fails: calls are counted from 1, lines from 0. After a
 // failed write the record is missed, or the one before is answered, and the next batch takes another block; a failed read
-// is told, and the next one goes well.
+// is issued, and the next one goes well.
 fn expected(call: u64, at: usize, wanted: &str) -> &str {
     match (call, at) {
         (1, 28) => "failed",
@@ -466,7 +466,7 @@ fn run_as(
     Ok(Some(live(alloc, ample, SCRIPT, way)?))
 }
 
-// Whether a run in which a growth was refused answers as one in which its step was left out, or its write failed. Notes
+// Whether a run in which an allocation was refused answers as one in which its step was left out, or its write failed. Notes
 // the word of a line whose step was refused.
 fn is_as_another(
     alloc: Global,
@@ -489,7 +489,7 @@ fn is_as_another(
     Ok(first_other(run.answers.as_str(), after.answers.as_str(), at) == NO_LINE)
 }
 
-// A refused step is as good as one that is left out, and a refused growth of the index as good as a failed write: all
+// A refused step is as good as one that is left out, and a refused allocation of the index as good as a failed write: all
 // that is answered afterwards is what a run answers in which this happened, and no allocation is refused.
 #[test]
 fn each_refused_allocation_is_told(rt: HostRuntime) -> std::result::Result<(), Fail> {
@@ -533,13 +533,13 @@ const NO_PIECE: &str =
 const NO_READ: &str =
     "queued 1\nreceived\nbegan 1 0\nwrite 0\ncommitted 1\nended 1 /\nread\nno step Memory\ndeleted 2\nno\n";
 
-// Whether a life may be answered so in which a growth was refused.
+// Whether a life may be answered so in which an allocation was refused.
 fn is_allowed(answers: &str) -> bool {
     answers == WHOLE || answers == FAILED || answers == NO_PIECE || answers == NO_READ
 }
 
 // A refused step is as good as one that never came: applied again it gives what the run without a refusal gives. Only
-// a refused growth of the index at the end of a block fails its batch, and only a refused growth of the driver itself
+// a refused allocation of the index at the end of a block fails its batch, and only a refused allocation of the driver itself
 // leaves a step out.
 #[test]
 fn a_refused_step_may_come_again(rt: HostRuntime) -> std::result::Result<(), Fail> {

@@ -17,12 +17,12 @@ use std::alloc::{AllocError, Allocator, Global};
 use std::process::Abort;
 use std::test::Fail;
 
-// An entry's age, as a test tells it.
+// An entry's age, as a test gives it.
 #[derive(Clone, Copy, Debug, PartialEq, Eq)]
-pub struct Told(pub bool);
+pub struct TestAge(pub bool);
 
-impl Properties for Told {
-    ghost age = { λ told. if told.0 then Some Young else None };
+impl Properties for TestAge {
+    ghost age = { λ issued. if issued.0 then Some Young else None };
 
     fn age(&self) -> Option<Age> {
         if self.0 { Some(Age::Young) } else { None }
@@ -31,11 +31,11 @@ impl Properties for Told {
 
 pub type Value<A> = String<A>;
 
-pub type TestMove<A> = Move<u64, Value<A>, Told, A>;
+pub type TestMove<A> = Move<u64, Value<A>, TestAge, A>;
 
-pub type TestReply<A> = Reply<u64, Value<A>, Told, A>;
+pub type TestReply<A> = Reply<u64, Value<A>, TestAge, A>;
 
-pub type TestCore<A> = Core<u64, Value<A>, Told, A>;
+pub type TestCore<A> = Core<u64, Value<A>, TestAge, A>;
 
 // A piece of a key, which is its hash.
 pub fn piece_of<A: Allocator + Clone>(
@@ -43,9 +43,9 @@ pub fn piece_of<A: Allocator + Clone>(
     key: u64,
     text: &str,
     is_young: bool,
-) -> Result<Piece<u64, Value<A>, Told, A>> {
+) -> Result<Piece<u64, Value<A>, TestAge, A>> {
     let value = String::from_str(heap.clone()?, text)?;
-    Ok(Piece::new(heap.clone()?, key, value, key, Told(is_young))?)
+    Ok(Piece::new(heap.clone()?, key, value, key, TestAge(is_young))?)
 }
 
 // The move of a word and a number, which carries nothing else.

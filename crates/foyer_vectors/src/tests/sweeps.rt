@@ -1,5 +1,5 @@
 //! Each allocation refused in turn, and each read and write failed in turn.
-use crate::tests::program::told;
+use crate::tests::program::issued;
 use crate::tests::steps::check;
 use foyer_format_vectors::refusing::Refusing;
 use std::test::Fail;
@@ -21,7 +21,7 @@ fn may_be_answered(line: &str, wanted: &str, answer: &str, is_delete_refused: bo
 }
 
 // Whether these are eight answers, each of them allowed, and other ones than wanted, but for a miss, only of a program
-// that told of a fault by its status.
+// that showed a fault by its status.
 fn are_allowed(text: &str, has_fault: bool) -> bool {
     let mut is_delete_refused = false;
     let mut count = 0u32;
@@ -45,7 +45,7 @@ fn each_refused_allocation_of_the_program_is_told(rt: HostRuntime) -> Result<(),
     let words = [":memory:", "32768", "16384"];
     for n in 1..MOST_ALLOCATIONS {
         let heap = Refusing::new(rt.alloc(), n);
-        let (output, _, status) = told(rt.alloc(), &heap, &words, SCRIPT.as_bytes())?;
+        let (output, _, status) = issued(rt.alloc(), &heap, &words, SCRIPT.as_bytes())?;
         let text = str::from_utf8(output.as_slice()).map_err(|_| Fail::new("no text"))?;
         if !heap.has_refused() {
             assert_eq!(rt; text, ANSWERS);
@@ -62,7 +62,7 @@ fn each_refused_allocation_of_the_program_is_told(rt: HostRuntime) -> Result<(),
     Err(Fail::new("the script makes more allocations"))
 }
 
-// Two puts with their flushes and loads. Of a load's reads those that weren't told, or are done, are passed over.
+// Two puts with their flushes and loads. Of a load's reads those that weren't issued, or are done, are passed over.
 const LIFE: &str =
     "put 1 a\nreceive 0\nbegin 0\nblock 0\nwrote 0\nend 0\nlook 1\nread 0\nput 2 b\nreceive 0\nbegin 0\nblock 0\nwrote 0\nend 0\nlook 2\nread 0\nread 1\nlook 1\nread 0\nread 1\nread 2\n";
 

@@ -1,5 +1,5 @@
 use Rattle.std.specs.Prelude.{map}
-use Rattle.foyer_buffer.specs.Placing.{parts_of}
+use Rattle.foyer_buffer.specs.Layout.{parts_of}
 use Rattle.foyer_buffer.proofs.NestingLemmas.{places_nests}
 use Rattle.foyer_buffer.proofs.laws.batch_is_blocks.Goals as goal
 

@@ -1,4 +1,4 @@
-use Rattle.foyer_core.specs.Plain.{rules_of}
+use Rattle.foyer_core.specs.CoreRules.{rules_of}
 use Rattle.foyer_core.proofs.OpenedLemmas.{opened_stands, first_opened}
 use Rattle.foyer_core.proofs.laws.opening_begins.Goals as goal
 

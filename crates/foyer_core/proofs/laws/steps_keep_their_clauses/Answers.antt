@@ -1,5 +1,5 @@
 use Rattle.foyer_core.specs.InOneBlock.{IsInOneBlock}
-use Rattle.foyer_core.specs.Plain.{rules_of, IsSpelled}
+use Rattle.foyer_core.specs.CoreRules.{rules_of, IsEncoded}
 use Rattle.foyer_model.proofs.Companions.{queue_keeps_lem, commit_keeps_lem, not_now_keeps_lem}
 use Rattle.foyer_model.proofs.Determined.{is_determined_lem}
 use Rattle.foyer_model.proofs.Replies.{in_turn_replies_lem}
@@ -18,4 +18,4 @@ pub returns-clause-determined : goal.returns-clause-determined
 returns-clause-determined c = λ is_key is_value s sound. is_determined_lem (rules_of is_key is_value s sound) (IsInOneBlock s.blob_index_size)
 
 pub returns-clause-replies : goal.returns-clause-replies
-returns-clause-replies c = λ is_key is_value s sound. in_turn_replies_lem (rules_of is_key is_value s sound) (IsInOneBlock s.blob_index_size) (IsSpelled is_key is_value)
+returns-clause-replies c = λ is_key is_value s sound. in_turn_replies_lem (rules_of is_key is_value s sound) (IsInOneBlock s.blob_index_size) (IsEncoded is_key is_value)

@@ -81,7 +81,7 @@ impl<A: Allocator> Raw<A> {
 impl<A: Allocator + Clone> Clone for Raw<A> {
     ghost is_clone = { λ r s. s ≡ r };
 
-    /// The same bytes in memory of their own. It fails where a growth, or a clone of the allocator,
+    /// The same bytes in memory of their own. It fails where an allocation, or a clone of the allocator,
     /// was refused.
     fn clone(&self) -> std::result::Result<Raw<A>, AllocError> {
         let alloc = self.bytes.allocator().clone()?;

@@ -62,7 +62,7 @@ impl<A: Allocator> IoSlice<A> {
         self.end - self.start
     }
 
-    /// A range of these bytes, told from their start, as one more owner of the buffer; nothing is
+    /// A range of these bytes, counted from their start, as one more owner of the buffer; nothing is
     /// copied. Memory where the owners can't be counted any more.
     #[tactic(auto, using(crate::proofs::Parts::parts))]
     pub fn slice(&self, range: Range<usize>) -> Result<IoSlice<A>>

@@ -1,9 +1,9 @@
 use Rattle.std.proofs.Common.{rules, ◌≡◌, ◌<◌, ◌^◌, true, false, true≢false, length, ◌≤◌, refl, ap, sym, subst, ◌∙◌, arith}
-use Rattle.foyer_ffi.proofs.PlacedLemmas.{pushed, not_pushed}
+use Rattle.foyer_ffi.proofs.LayoutLemmas.{pushed, not_pushed}
 use Rattle.foyer_code.specs.CodeLaws.{sized_number}
 use Rattle.foyer_buffer.specs.Entries.{Entries, left_of}
 use Rattle.foyer_format.specs.Page.{page_up}
-use Rattle.foyer_ffi.specs.Placed.{record_len}
+use Rattle.foyer_ffi.specs.LaidOut.{record_len}
 use Rattle.foyer_ffi.proofs.placing.fill.Goals as goal
 
 pub returns-in_err-push-clause-room : goal.returns-in_err-push-clause-room

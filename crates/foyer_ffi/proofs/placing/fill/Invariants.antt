@@ -1,7 +1,7 @@
 use Rattle.std.proofs.Common.{◌≡◌, ◌+◌, ◌<◌, ◌≤◌, length}
 use Rattle.foyer_format.specs.Page.{page_up}
-use Rattle.foyer_ffi.specs.Placed.{record_len}
-use Rattle.foyer_ffi.proofs.PlacedLemmas.{AreLong}
+use Rattle.foyer_ffi.specs.LaidOut.{record_len}
+use Rattle.foyer_ffi.proofs.LayoutLemmas.{AreLong}
 use Rattle.foyer_ffi.proofs.placing.fill.Given as goal
 
 abbrev pub invariant-keys : goal.invariant-keys

@@ -62,18 +62,18 @@ impl<A: Allocator> Reserved<A> {
         sequence: Sequence,
     ) -> Result<bool>
         requires header { vec_len self.old.bytes + 36 ≤ vec_capacity self.old.bytes }
-        requires room { K.encodes key.now ≡ true → V.encodes value.now ≡ true
-            → vec_len self.old.bytes + 36 + length (V.spelling value.now)
-            + length (K.spelling key.now) ≤ vec_capacity self.old.bytes }
-        requires lens { K.encodes key.now ≡ true → V.encodes value.now ≡ true
-            → length (V.spelling value.now) + length (K.spelling key.now) < 2 ^ 32 }
+        requires room { K.is_encodable key.now ≡ true → V.is_encodable value.now ≡ true
+            → vec_len self.old.bytes + 36 + length (V.encoding value.now)
+            + length (K.encoding key.now) ≤ vec_capacity self.old.bytes }
+        requires lens { K.is_encodable key.now ≡ true → V.is_encodable value.now ≡ true
+            → length (V.encoding value.now) + length (K.encoding key.now) < 2 ^ 32 }
         ensures appended { IfOk result (λ done. MatchBool done
             (self.new.bytes.items ≡ self.old.bytes.items
-            ++ record_bytes hash sequence (K.spelling key.now) (V.spelling value.now))
+            ++ record_bytes hash sequence (K.encoding key.now) (V.encoding value.now))
             (self.new.bytes.items ≡ self.old.bytes.items)) }
         ensures encoded { IfOk result (λ done. MatchBool done
-            ((K.encodes key.now ≡ true) × (V.encodes value.now ≡ true))
-            (K.encodes key.now ≡ true → V.encodes value.now ≡ true → ⊥)) }
+            ((K.is_encodable key.now ≡ true) × (V.is_encodable value.now ≡ true))
+            (K.is_encodable key.now ≡ true → V.is_encodable value.now ≡ true → ⊥)) }
         ensures capacity { IfOk result (λ done. OnTrue done
             (vec_capacity self.old.bytes ≤ vec_capacity self.new.bytes)) }
         ensures memory { IfErr result (λ e. e ≡ error.Memory) }

@@ -1,6 +1,6 @@
 use Rattle.std.proofs.Common.{[], ◌∷◌, None, refl, sym, ap, subst}
 use Rattle.foyer_core.specs.Content.{meaning}
-use Rattle.foyer_core.specs.Meets.{IsMet}
+use Rattle.foyer_core.specs.Refines.{IsRefined}
 use Rattle.foyer_core.specs.declared.step.Step.TheVariants as step
 use Rattle.foyer_run.specs.Accesses.{load_of}
 use Rattle.foyer_run.specs.Driven.{Drives}
@@ -13,13 +13,13 @@ use Rattle.foyer_run.proofs.LoadLemmas.{come_is}
 use Rattle.foyer_run.proofs.MissedLemmas.{load_missed, look_up_missed}
 use Rattle.foyer_run.proofs.NewestLemmas.{load_newest, look_up_newest}
 use Rattle.foyer_run.proofs.RunLemmas.{err_is}
-use Rattle.foyer_run.proofs.StepLemmas.{spells_of}
+use Rattle.foyer_run.proofs.StepLemmas.{encodings_of}
 use Rattle.foyer_run.proofs.accesses.load.Goals as goal
 
 pub returns-in_default : goal.returns-in_default
 returns-in_default g c =
-    let m = meaning g.K.Code.spelling g.V.Code.spelling g.K.Code.encodes g.V.Code.encodes g.K.Code.is_spelling g.V.Code.is_spelling g.P.Properties.age in
-    let spells = spells_of g.K.Code.spelling g.V.Code.spelling g.K.Code.encodes g.V.Code.encodes g.K.Code.is_spelling g.V.Code.is_spelling g.P.Properties.age g.met.K.Code.spelled g.met.V.Code.spelled in
+    let m = meaning g.K.Code.encoding g.V.Code.encoding g.K.Code.is_encodable g.V.Code.is_encodable g.K.Code.is_decodable g.V.Code.is_decodable g.P.Properties.age in
+    let encodes = encodings_of g.K.Code.encoding g.V.Code.encoding g.K.Code.is_encodable g.V.Code.is_encodable g.K.Code.is_decodable g.V.Code.is_decodable g.P.Properties.age g.met.K.Code.is_encoded g.met.V.Code.is_encoded in
     let bytes = g.D.Disk.byte_at c.args.disk.now in
     let h = c.args.hash in
     let throttled = c.args.throttled in
@@ -27,7 +27,7 @@ returns-in_default g c =
     let says = says_last m (load_of h throttled) [] [] answer c.args.core.now c.apply.new.self bytes bytes
     (λ s sound w stands same.
     load_alone m s sound w h throttled answer c.apply.new.self bytes
-    (step_alone m s sound spells w (move.LoadBegin h throttled) (step.LoadBegin h throttled) answer c.args.core.now c.apply.new.self bytes stands same refl tt
+    (step_alone m s sound encodes w (move.LoadBegin h throttled) (step.LoadBegin h throttled) answer c.args.core.now c.apply.new.self bytes stands same refl tt
     c.apply.ensures.back (λ v at built. c.apply.ensures.meets built s sound v.core at) c.apply.ensures.later)
     (no_ticket answer c.in_default.not-Read)) in record {
       runs = says;
@@ -40,8 +40,8 @@ returns-in_default g c =
 
 pub returns-in_err-clone-clause-front : goal.returns-in_err-clone-clause-front
 returns-in_err-clone-clause-front g c =
-    let m = meaning g.K.Code.spelling g.V.Code.spelling g.K.Code.encodes g.V.Code.encodes g.K.Code.is_spelling g.V.Code.is_spelling g.P.Properties.age in
-    let spells = spells_of g.K.Code.spelling g.V.Code.spelling g.K.Code.encodes g.V.Code.encodes g.K.Code.is_spelling g.V.Code.is_spelling g.P.Properties.age g.met.K.Code.spelled g.met.V.Code.spelled in
+    let m = meaning g.K.Code.encoding g.V.Code.encoding g.K.Code.is_encodable g.V.Code.is_encodable g.K.Code.is_decodable g.V.Code.is_decodable g.P.Properties.age in
+    let encodes = encodings_of g.K.Code.encoding g.V.Code.encoding g.K.Code.is_encodable g.V.Code.is_encodable g.K.Code.is_decodable g.V.Code.is_decodable g.P.Properties.age g.met.K.Code.is_encoded g.met.V.Code.is_encoded in
     let bytes = g.D.Disk.byte_at c.args.disk.now in
     let h = c.args.hash in
     let throttled = c.args.throttled in
@@ -49,21 +49,21 @@ returns-in_err-clone-clause-front g c =
     err_is c.from_residual.result
     (front_is m (move.LoadBegin h throttled ∷ []) (move.LoadEnd 0 ∷ []) (with_ticket (ticket_in answer) []) (answer ∷ []) c.args.core.now c.apply.new.self bytes bytes
     (λ s sound w stands same.
-    step_alone m s sound spells w (move.LoadBegin h throttled) (step.LoadBegin h throttled) answer c.args.core.now c.apply.new.self bytes stands same refl tt
+    step_alone m s sound encodes w (move.LoadBegin h throttled) (step.LoadBegin h throttled) answer c.args.core.now c.apply.new.self bytes stands same refl tt
     c.apply.ensures.back (λ v at built. c.apply.ensures.meets built s sound v.core at) c.apply.ensures.later))
 
 pub returns-in_err-clone-clause-drives : goal.returns-in_err-clone-clause-drives
 returns-in_err-clone-clause-drives g c =
-    let m = meaning g.K.Code.spelling g.V.Code.spelling g.K.Code.encodes g.V.Code.encodes g.K.Code.is_spelling g.V.Code.is_spelling g.P.Properties.age in
-    let spells = spells_of g.K.Code.spelling g.V.Code.spelling g.K.Code.encodes g.V.Code.encodes g.K.Code.is_spelling g.V.Code.is_spelling g.P.Properties.age g.met.K.Code.spelled g.met.V.Code.spelled in
+    let m = meaning g.K.Code.encoding g.V.Code.encoding g.K.Code.is_encodable g.V.Code.is_encodable g.K.Code.is_decodable g.V.Code.is_decodable g.P.Properties.age in
+    let encodes = encodings_of g.K.Code.encoding g.V.Code.encoding g.K.Code.is_encodable g.V.Code.is_encodable g.K.Code.is_decodable g.V.Code.is_decodable g.P.Properties.age g.met.K.Code.is_encoded g.met.V.Code.is_encoded in
     let bytes = g.D.Disk.byte_at c.args.disk.now in
-    step_drives m spells (step.LoadBegin c.args.hash c.args.throttled) c.apply.result c.args.core.now c.apply.new.self bytes tt c.apply.ensures.back
+    step_drives m encodes (step.LoadBegin c.args.hash c.args.throttled) c.apply.result c.args.core.now c.apply.new.self bytes tt c.apply.ensures.back
     (λ s sound v at built. c.apply.ensures.meets built s sound v.core at) c.apply.ensures.later
 
 pub returns-in_err-came-clause-front : goal.returns-in_err-came-clause-front
 returns-in_err-came-clause-front g c =
-    let m = meaning g.K.Code.spelling g.V.Code.spelling g.K.Code.encodes g.V.Code.encodes g.K.Code.is_spelling g.V.Code.is_spelling g.P.Properties.age in
-    let spells = spells_of g.K.Code.spelling g.V.Code.spelling g.K.Code.encodes g.V.Code.encodes g.K.Code.is_spelling g.V.Code.is_spelling g.P.Properties.age g.met.K.Code.spelled g.met.V.Code.spelled in
+    let m = meaning g.K.Code.encoding g.V.Code.encoding g.K.Code.is_encodable g.V.Code.is_encodable g.K.Code.is_decodable g.V.Code.is_decodable g.P.Properties.age in
+    let encodes = encodings_of g.K.Code.encoding g.V.Code.encoding g.K.Code.is_encodable g.V.Code.is_encodable g.K.Code.is_decodable g.V.Code.is_decodable g.P.Properties.age g.met.K.Code.is_encoded g.met.V.Code.is_encoded in
     let bytes = g.D.Disk.byte_at c.args.disk.now in
     let h = c.args.hash in
     let throttled = c.args.throttled in
@@ -72,33 +72,33 @@ returns-in_err-came-clause-front g c =
     (subst (λ new. IsFront m (load_of h throttled) c.args.core.now c.apply.new.self bytes new) (sym c.in_err-came.ensures.same)
     (front_is m (move.LoadBegin h throttled ∷ []) (move.LoadEnd 0 ∷ []) (with_ticket (ticket_in answer) []) (answer ∷ []) c.args.core.now c.apply.new.self bytes bytes
     (λ s sound w stands same.
-    step_alone m s sound spells w (move.LoadBegin h throttled) (step.LoadBegin h throttled) answer c.args.core.now c.apply.new.self bytes stands same refl tt
+    step_alone m s sound encodes w (move.LoadBegin h throttled) (step.LoadBegin h throttled) answer c.args.core.now c.apply.new.self bytes stands same refl tt
     c.apply.ensures.back (λ v at built. c.apply.ensures.meets built s sound v.core at) c.apply.ensures.later)))
 
 pub returns-in_err-came-clause-drives : goal.returns-in_err-came-clause-drives
 returns-in_err-came-clause-drives g c =
-    let m = meaning g.K.Code.spelling g.V.Code.spelling g.K.Code.encodes g.V.Code.encodes g.K.Code.is_spelling g.V.Code.is_spelling g.P.Properties.age in
-    let spells = spells_of g.K.Code.spelling g.V.Code.spelling g.K.Code.encodes g.V.Code.encodes g.K.Code.is_spelling g.V.Code.is_spelling g.P.Properties.age g.met.K.Code.spelled g.met.V.Code.spelled in
+    let m = meaning g.K.Code.encoding g.V.Code.encoding g.K.Code.is_encodable g.V.Code.is_encodable g.K.Code.is_decodable g.V.Code.is_decodable g.P.Properties.age in
+    let encodes = encodings_of g.K.Code.encoding g.V.Code.encoding g.K.Code.is_encodable g.V.Code.is_encodable g.K.Code.is_decodable g.V.Code.is_decodable g.P.Properties.age g.met.K.Code.is_encoded g.met.V.Code.is_encoded in
     let bytes = g.D.Disk.byte_at c.args.disk.now in
     subst (λ new. Drives m c.args.core.now c.apply.new.self bytes new) (sym c.in_err-came.ensures.same)
-    (step_drives m spells (step.LoadBegin c.args.hash c.args.throttled) c.apply.result c.args.core.now c.apply.new.self bytes tt c.apply.ensures.back
+    (step_drives m encodes (step.LoadBegin c.args.hash c.args.throttled) c.apply.result c.args.core.now c.apply.new.self bytes tt c.apply.ensures.back
     (λ s sound v at built. c.apply.ensures.meets built s sound v.core at) c.apply.ensures.later)
 
 pub returns-clause-runs : goal.returns-clause-runs
 returns-clause-runs g c =
-    let m = meaning g.K.Code.spelling g.V.Code.spelling g.K.Code.encodes g.V.Code.encodes g.K.Code.is_spelling g.V.Code.is_spelling g.P.Properties.age in
-    let spells = spells_of g.K.Code.spelling g.V.Code.spelling g.K.Code.encodes g.V.Code.encodes g.K.Code.is_spelling g.V.Code.is_spelling g.P.Properties.age g.met.K.Code.spelled g.met.V.Code.spelled in
+    let m = meaning g.K.Code.encoding g.V.Code.encoding g.K.Code.is_encodable g.V.Code.is_encodable g.K.Code.is_decodable g.V.Code.is_decodable g.P.Properties.age in
+    let encodes = encodings_of g.K.Code.encoding g.V.Code.encoding g.K.Code.is_encodable g.V.Code.is_encodable g.K.Code.is_decodable g.V.Code.is_decodable g.P.Properties.age g.met.K.Code.is_encoded g.met.V.Code.is_encoded in
     let bytes = g.D.Disk.byte_at c.args.disk.now in
     let h = c.args.hash in
     let throttled = c.args.throttled in
-    let told = c.apply.result in
+    let issued = c.apply.result in
     let answer = c.apply-2.result in
     let tickets = with_ticket (ticket_in answer) (None ∷ []) in
-    says_last m (load_of h throttled) tickets (told ∷ []) answer c.args.core.now c.apply-2.new.self bytes (g.D.Disk.byte_at c.read_told.new.disk)
-    (subst (λ new. Goes m (load_of h throttled) tickets (told ∷ answer ∷ []) c.args.core.now c.apply-2.new.self bytes new) (sym c.in_ok-came.ensures.same)
+    says_last m (load_of h throttled) tickets (issued ∷ []) answer c.args.core.now c.apply-2.new.self bytes (g.D.Disk.byte_at c.do_read.new.disk)
+    (subst (λ new. Goes m (load_of h throttled) tickets (issued ∷ answer ∷ []) c.args.core.now c.apply-2.new.self bytes new) (sym c.in_ok-came.ensures.same)
     (λ s sound w stands same.
-    load_whole m s sound w h throttled c.in-Read.ticket c.in_ok-came.came told answer c.apply.new.self c.apply-2.new.self bytes
-    (step_alone m s sound spells w (move.LoadBegin h throttled) (step.LoadBegin h throttled) told c.args.core.now c.apply.new.self bytes stands same refl tt
+    load_whole m s sound w h throttled c.in-Read.ticket c.in_ok-came.came issued answer c.apply.new.self c.apply-2.new.self bytes
+    (step_alone m s sound encodes w (move.LoadBegin h throttled) (step.LoadBegin h throttled) issued c.args.core.now c.apply.new.self bytes stands same refl tt
     c.apply.ensures.back (λ v at built. c.apply.ensures.meets built s sound v.core at) c.apply.ensures.later)
     (ap ticket_in c.in-Read.is)
     (come_is bytes c.in-Read.ticket c.in_ok-came.came c.in_ok-came.ensures.read c.in_ok-came.ensures.len)
@@ -106,24 +106,24 @@ returns-clause-runs g c =
 
 pub returns-clause-newest : goal.returns-clause-newest
 returns-clause-newest g c =
-    let m = meaning g.K.Code.spelling g.V.Code.spelling g.K.Code.encodes g.V.Code.encodes g.K.Code.is_spelling g.V.Code.is_spelling g.P.Properties.age in
+    let m = meaning g.K.Code.encoding g.V.Code.encoding g.K.Code.is_encodable g.V.Code.is_encodable g.K.Code.is_decodable g.V.Code.is_decodable g.P.Properties.age in
     let bytes = g.D.Disk.byte_at c.args.disk.now in
     load_newest m c.args.hash c.args.throttled c.in-Read.ticket c.in_ok-came.came c.apply-2.result c.args.core.now c.apply.new.self c.apply-2.new.self bytes
-    (λ s sound v at. subst (λ r. IsMet m s sound (step.LoadBegin c.args.hash c.args.throttled) r c.apply.new.self v.core) c.in-Read.is (c.apply.ensures.meets tt s sound v.core at))
+    (λ s sound v at. subst (λ r. IsRefined m s sound (step.LoadBegin c.args.hash c.args.throttled) r c.apply.new.self v.core) c.in-Read.is (c.apply.ensures.meets tt s sound v.core at))
     (come_is bytes c.in-Read.ticket c.in_ok-came.came c.in_ok-came.ensures.read c.in_ok-came.ensures.len)
     (λ s sound v at. c.apply-2.ensures.meets tt s sound v.core at)
 
 pub returns-clause-missed : goal.returns-clause-missed
 returns-clause-missed g c = λ not.
-    let m = meaning g.K.Code.spelling g.V.Code.spelling g.K.Code.encodes g.V.Code.encodes g.K.Code.is_spelling g.V.Code.is_spelling g.P.Properties.age in
+    let m = meaning g.K.Code.encoding g.V.Code.encoding g.K.Code.is_encodable g.V.Code.is_encodable g.K.Code.is_decodable g.V.Code.is_decodable g.P.Properties.age in
     let bytes = g.D.Disk.byte_at c.args.disk.now in
     load_missed m c.args.hash c.args.throttled c.in-Read.ticket c.in_ok-came.came c.apply-2.result c.args.core.now c.apply.new.self c.apply-2.new.self bytes not
-    (λ s sound v at. subst (λ r. IsMet m s sound (step.LoadBegin c.args.hash c.args.throttled) r c.apply.new.self v.core) c.in-Read.is (c.apply.ensures.meets tt s sound v.core at))
+    (λ s sound v at. subst (λ r. IsRefined m s sound (step.LoadBegin c.args.hash c.args.throttled) r c.apply.new.self v.core) c.in-Read.is (c.apply.ensures.meets tt s sound v.core at))
     (come_is bytes c.in-Read.ticket c.in_ok-came.came c.in_ok-came.ensures.read c.in_ok-came.ensures.len)
     (λ s sound v at. c.apply-2.ensures.meets tt s sound v.core at)
 
 pub returns-clause-drives : goal.returns-clause-drives
 returns-clause-drives g c =
-    let m = meaning g.K.Code.spelling g.V.Code.spelling g.K.Code.encodes g.V.Code.encodes g.K.Code.is_spelling g.V.Code.is_spelling g.P.Properties.age in
-    says_drive m (load_of c.args.hash c.args.throttled) c.apply-2.result c.args.core.now c.apply-2.new.self (g.D.Disk.byte_at c.args.disk.now) (g.D.Disk.byte_at c.read_told.new.disk)
+    let m = meaning g.K.Code.encoding g.V.Code.encoding g.K.Code.is_encodable g.V.Code.is_encodable g.K.Code.is_decodable g.V.Code.is_decodable g.P.Properties.age in
+    says_drive m (load_of c.args.hash c.args.throttled) c.apply-2.result c.args.core.now c.apply-2.new.self (g.D.Disk.byte_at c.args.disk.now) (g.D.Disk.byte_at c.do_read.new.disk)
     (returns-clause-runs g c)

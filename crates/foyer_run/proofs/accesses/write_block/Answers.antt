@@ -1,7 +1,7 @@
 use Rattle.std.proofs.Common.{[], arith, None, Some, inl, inr, refl, sym, subst, ◌∙◌}
 use Rattle.foyer_block.proofs.Found.{slice_get_at}
 use Rattle.foyer_core.specs.Content.{meaning}
-use Rattle.foyer_core.specs.Meets.{IsMet}
+use Rattle.foyer_core.specs.Refines.{IsRefined}
 use Rattle.foyer_core.specs.declared.step.Step.TheVariants as step
 use Rattle.foyer_core.proofs.FlushTurns.{went_is}
 use Rattle.foyer_run.proofs.AccessLemmas.{no_block, writing_first, written_all, written_ends, written_none, written_on}
@@ -11,7 +11,7 @@ use Rattle.foyer_run.proofs.accesses.write_block.Goals as goal
 
 pub returns-in_default : goal.returns-in_default
 returns-in_default g c =
-    let m = meaning g.K.Code.spelling g.V.Code.spelling g.K.Code.encodes g.V.Code.encodes g.K.Code.is_spelling g.V.Code.is_spelling g.P.Properties.age in
+    let m = meaning g.K.Code.encoding g.V.Code.encoding g.K.Code.is_encodable g.V.Code.is_encodable g.K.Code.is_decodable g.V.Code.is_decodable g.P.Properties.age in
     let bytes = g.D.Disk.byte_at c.args.disk.now in
     let writes =
     written_none m c.args.flusher c.apply.result c.args.core.now c.apply.new.self bytes
@@ -20,7 +20,7 @@ returns-in_default g c =
 
 pub writes-init : goal.writes-init
 writes-init g c =
-    let m = meaning g.K.Code.spelling g.V.Code.spelling g.K.Code.encodes g.V.Code.encodes g.K.Code.is_spelling g.V.Code.is_spelling g.P.Properties.age in record {
+    let m = meaning g.K.Code.encoding g.V.Code.encoding g.K.Code.is_encodable g.V.Code.is_encodable g.K.Code.is_decodable g.V.Code.is_decodable g.P.Properties.age in record {
       ws = c.in-Write.writes;
       rest = [];
       rest_is = refl;
@@ -28,46 +28,46 @@ writes-init g c =
       items_are = sym c.deref-write-items.ensures.value;
       writing = λ s sound w stands same.
           writing_first m s sound w c.args.flusher c.in-Write.block c.in-Write.writes c.args.core.now c.apply.new.self (g.D.Disk.byte_at c.args.disk.now) stands same
-          (λ v at. subst (λ r. IsMet m s sound (step.FlushBlock c.args.flusher) r c.apply.new.self v.core) c.in-Write.is (c.apply.ensures.meets tt s sound v.core at));
+          (λ v at. subst (λ r. IsRefined m s sound (step.FlushBlock c.args.flusher) r c.apply.new.self v.core) c.in-Write.is (c.apply.ensures.meets tt s sound v.core at));
     }
 
-pub returns-then-not-goes_on : goal.returns-then-not-goes_on
-returns-then-not-goes_on g c =
-    let m = meaning g.K.Code.spelling g.V.Code.spelling g.K.Code.encodes g.V.Code.encodes g.K.Code.is_spelling g.V.Code.is_spelling g.P.Properties.age in
+pub returns-then-not-wants_next_write : goal.returns-then-not-wants_next_write
+returns-then-not-wants_next_write g c =
+    let m = meaning g.K.Code.encoding g.V.Code.encoding g.K.Code.is_encodable g.V.Code.is_encodable g.K.Code.is_decodable g.V.Code.is_decodable g.P.Properties.age in
     let b = c.in-Write.block in
     let before = g.D.Disk.byte_at c.writes.disk in
-    let after = g.D.Disk.byte_at c.write_told-wrote.new.disk in
+    let after = g.D.Disk.byte_at c.do_write-wrote.new.disk in
     let write = c.write-item.result in
-    let outcome = c.write_told-wrote.result in
+    let outcome = c.do_write-wrote.result in
     let at = slice_get_at c.deref-write-items.result.now c.writes.write-index write c.writes-test.true c.write-item.is in
     let ok = c.is_ok-went_well.ensures.value ∙ went_is outcome in
     let writes =
     written_ends m c.args.flusher b c.writes.write-index c.deref-write-items.result.now write outcome c.apply-reply.result c.args.core.now c.writes.core c.apply-reply.new.self
     (g.D.Disk.byte_at c.args.disk.now) before after c.writes.invariant at
-    (done_is before after b write outcome c.write_told-wrote.ensures.wrote c.write_told-wrote.ensures.torn)
+    (done_is before after b write outcome c.do_write-wrote.ensures.wrote c.do_write-wrote.ensures.torn)
     (λ s sound v at. c.apply-reply.ensures.meets tt s sound v.core at)
-    (elim c.if-not-goes_on.ensures [ inl failed ↦ inl (sym ok ∙ failed) | inr last ↦ inr last ]) in
+    (elim c.if-not-wants_next_write.ensures [ inl failed ↦ inl (sym ok ∙ failed) | inr last ↦ inr last ]) in
     record { writes = writes; drives = writes_drive m c.args.flusher (Some c.apply-reply.result) c.args.core.now c.apply-reply.new.self (g.D.Disk.byte_at c.args.disk.now) after writes }
 
 pub writes-preserved : goal.writes-preserved
 writes-preserved g c =
-    let m = meaning g.K.Code.spelling g.V.Code.spelling g.K.Code.encodes g.V.Code.encodes g.K.Code.is_spelling g.V.Code.is_spelling g.P.Properties.age in
+    let m = meaning g.K.Code.encoding g.V.Code.encoding g.K.Code.is_encodable g.V.Code.is_encodable g.K.Code.is_decodable g.V.Code.is_decodable g.P.Properties.age in
     let b = c.in-Write.block in
     let before = g.D.Disk.byte_at c.writes.disk in
-    let after = g.D.Disk.byte_at c.write_told-wrote.new.disk in
+    let after = g.D.Disk.byte_at c.do_write-wrote.new.disk in
     let write = c.write-item.result in
-    let outcome = c.write_told-wrote.result in
+    let outcome = c.do_write-wrote.result in
     let at = slice_get_at c.deref-write-items.result.now c.writes.write-index write c.writes-test.true c.write-item.is in
     let ok = c.is_ok-went_well.ensures.value ∙ went_is outcome in
     written_on m c.args.flusher b c.writes.write-index c.deref-write-items.result.now write outcome c.apply-reply.result c.args.core.now c.writes.core c.apply-reply.new.self
     (g.D.Disk.byte_at c.args.disk.now) before after c.writes.invariant c.writes-test.true at
-    (done_is before after b write outcome c.write_told-wrote.ensures.wrote c.write_told-wrote.ensures.torn)
+    (done_is before after b write outcome c.do_write-wrote.ensures.wrote c.do_write-wrote.ensures.torn)
     (λ s sound v at. c.apply-reply.ensures.meets tt s sound v.core at)
-    (sym ok ∙ c.if-not-goes_on.ensures.0) c.if-not-goes_on.ensures.1
+    (sym ok ∙ c.if-not-wants_next_write.ensures.0) c.if-not-wants_next_write.ensures.1
 
 pub returns : goal.returns
 returns g c =
-    let m = meaning g.K.Code.spelling g.V.Code.spelling g.K.Code.encodes g.V.Code.encodes g.K.Code.is_spelling g.V.Code.is_spelling g.P.Properties.age in
+    let m = meaning g.K.Code.encoding g.V.Code.encoding g.K.Code.is_encodable g.V.Code.is_encodable g.K.Code.is_decodable g.V.Code.is_decodable g.P.Properties.age in
     let bytes = g.D.Disk.byte_at c.args.disk.now in
     let after = g.D.Disk.byte_at c.writes.disk in
     let writes = written_all m c.args.flusher c.in-Write.block c.writes.write-index c.deref-write-items.result.now c.args.core.now c.writes.core bytes after c.writes.invariant c.writes-test.false in

@@ -4,5 +4,5 @@ use Rattle.foyer_run.proofs.accesses.write_block.Given as goal
 
 abbrev pub invariant-writes : goal.invariant-writes
 invariant-writes g l =
-    AreWritten (meaning g.K.Code.spelling g.V.Code.spelling g.K.Code.encodes g.V.Code.encodes g.K.Code.is_spelling g.V.Code.is_spelling g.P.Properties.age)
+    AreWritten (meaning g.K.Code.encoding g.V.Code.encoding g.K.Code.is_encodable g.V.Code.is_encodable g.K.Code.is_decodable g.V.Code.is_decodable g.P.Properties.age)
     l.flusher l.block l.write-index l.write-items l.fn.core l.core (g.D.Disk.byte_at l.fn.disk) (g.D.Disk.byte_at l.disk)

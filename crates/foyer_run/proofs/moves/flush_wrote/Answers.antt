@@ -3,76 +3,76 @@ use Rattle.std.specs.Prelude.{Some, slice_get, slice_set}
 use Rattle.foyer_core.specs.Content.{meaning}
 use Rattle.foyer_core.proofs.FlushTurns.{went_is}
 use Rattle.foyer_run.specs.Running.{at, write_at}
-use Rattle.foyer_run.proofs.WriteLemmas.{done_is, next_told, none_left, none_noted, noted, write_moves, write_passes}
+use Rattle.foyer_run.proofs.WriteLemmas.{done_is, next_issued, none_left, none_noted, noted, write_moves, write_passes}
 use Rattle.foyer_run.proofs.moves.flush_wrote.Goals as goal
 
 pub returns-in_default-clause-moved : goal.returns-in_default-clause-moved
-returns-in_default-clause-moved g c = λ s sound first pens w running.
-    let m = meaning g.K.Code.spelling g.V.Code.spelling g.K.Code.encodes g.V.Code.encodes g.K.Code.is_spelling g.V.Code.is_spelling g.P.Properties.age in
+returns-in_default-clause-moved g c = λ s sound first block_writes w running.
+    let m = meaning g.K.Code.encoding g.V.Code.encoding g.K.Code.is_encodable g.V.Code.is_encodable g.K.Code.is_decodable g.V.Code.is_decodable g.P.Properties.age in
     let f = c.args.flusher in
     let tickets = c.args.kept.now.tickets.items in
-    let told = c.args.kept.now.told.items in
+    let issued = c.args.kept.now.issued.items in
     let said = c.args.kept.now.replies.items in
     let bytes = g.D.Disk.byte_at c.args.disk.now in
-    write_passes m s sound first pens f tickets told said c.args.core.now bytes w running
-    (none_noted m s sound (pens f) said (at (slice_get told f)) (w.pens f) (running.writes f)
+    write_passes m s sound first block_writes f tickets issued said c.args.core.now bytes w running
+    (none_noted m s sound (block_writes f) said (at (slice_get issued f)) (w.block_writes f) (running.writes f)
     (ap (λ xs. at (slice_get xs f)) (sym c.as_slice.ensures.value) ∙ sym c.get_due.ensures ∙ c.in_default.is))
 
 pub returns-in_default-next_write-clause-moved : goal.returns-in_default-next_write-clause-moved
-returns-in_default-next_write-clause-moved g c = λ s sound first pens w running.
-    let m = meaning g.K.Code.spelling g.V.Code.spelling g.K.Code.encodes g.V.Code.encodes g.K.Code.is_spelling g.V.Code.is_spelling g.P.Properties.age in
+returns-in_default-next_write-clause-moved g c = λ s sound first block_writes w running.
+    let m = meaning g.K.Code.encoding g.V.Code.encoding g.K.Code.is_encodable g.V.Code.is_encodable g.K.Code.is_decodable g.V.Code.is_decodable g.P.Properties.age in
     let f = c.args.flusher in
     let tickets = c.args.kept.now.tickets.items in
-    let told = c.args.kept.now.told.items in
+    let issued = c.args.kept.now.issued.items in
     let said = c.args.kept.now.replies.items in
     let bytes = g.D.Disk.byte_at c.args.disk.now in
-    let x = c.in-Some.told in
-    write_passes m s sound first pens f tickets told said c.args.core.now bytes w running
-    (inl (none_left m s sound said x (w.pens f)
-    (noted m s sound (pens f) said (at (slice_get told f)) x (w.pens f) (running.writes f)
+    let x = c.in-Some.issued in
+    write_passes m s sound first block_writes f tickets issued said c.args.core.now bytes w running
+    (inl (none_left m s sound said x (w.block_writes f)
+    (noted m s sound (block_writes f) said (at (slice_get issued f)) x (w.block_writes f) (running.writes f)
     (ap (λ xs. at (slice_get xs f)) (sym c.as_slice.ensures.value) ∙ sym c.get_due.ensures ∙ c.in-Some.is))
     (ap (λ xs. write_at (slice_get xs x.reply) x.next) (sym c.as_slice-2.ensures.value) ∙ c.in_default-next_write.ensures.write)))
 
-pub returns-then-goes_on-clause-moved : goal.returns-then-goes_on-clause-moved
-returns-then-goes_on-clause-moved g c = λ s sound first pens w running.
-    let m = meaning g.K.Code.spelling g.V.Code.spelling g.K.Code.encodes g.V.Code.encodes g.K.Code.is_spelling g.V.Code.is_spelling g.P.Properties.age in
+pub returns-then-wants_next_write-clause-moved : goal.returns-then-wants_next_write-clause-moved
+returns-then-wants_next_write-clause-moved g c = λ s sound first block_writes w running.
+    let m = meaning g.K.Code.encoding g.V.Code.encoding g.K.Code.is_encodable g.V.Code.is_encodable g.K.Code.is_decodable g.V.Code.is_decodable g.P.Properties.age in
     let f = c.args.flusher in
     let tickets = c.args.kept.now.tickets.items in
-    let told = c.args.kept.now.told.items in
+    let issued = c.args.kept.now.issued.items in
     let said = c.args.kept.now.replies.items in
     let bytes = g.D.Disk.byte_at c.args.disk.now in
-    let outcome = c.write_told-wrote.result in
-    let x = c.in-Some.told in
+    let outcome = c.do_write-wrote.result in
+    let x = c.in-Some.issued in
     let write = c.in-Some-next_write.write.now in
     let ok = c.is_ok-went_well.ensures.value ∙ went_is outcome in
-    write_moves m s sound first pens f x write outcome c.apply-reply.result tickets c.note_ticket.new.tickets.items told c.set_due-then-goes_on.new.list.items said c.push_reserved.new.self.items
-    c.args.core.now c.apply-reply.new.self bytes (g.D.Disk.byte_at c.write_told-wrote.new.disk) w running
+    write_moves m s sound first block_writes f x write outcome c.apply-reply.result tickets c.note_ticket.new.tickets.items issued c.set_due-then-wants_next_write.new.list.items said c.push_reserved.new.self.items
+    c.args.core.now c.apply-reply.new.self bytes (g.D.Disk.byte_at c.do_write-wrote.new.disk) w running
     (ap (λ xs. at (slice_get xs f)) (sym c.as_slice.ensures.value) ∙ sym c.get_due.ensures ∙ c.in-Some.is)
     (ap (λ xs. write_at (slice_get xs x.reply) x.next) (sym c.as_slice-2.ensures.value) ∙ c.in-Some-next_write.ensures.write)
-    (done_is bytes (g.D.Disk.byte_at c.write_told-wrote.new.disk) x.block write outcome c.write_told-wrote.ensures.wrote c.write_told-wrote.ensures.torn)
+    (done_is bytes (g.D.Disk.byte_at c.do_write-wrote.new.disk) x.block write outcome c.do_write-wrote.ensures.wrote c.do_write-wrote.ensures.torn)
     (c.apply-reply.ensures.meets tt s sound w.core running.stands) c.note_ticket.ensures.noted c.push_reserved.ensures.items
     (inl (
-      sym ok ∙ c.if-goes_on.ensures.0,
-      c.if-goes_on.ensures.1,
-      c.set_due-then-goes_on.ensures.set ∙ ap (λ xs. slice_set xs f (Some (next_told x))) c.set_due.ensures.set,
+      sym ok ∙ c.if-wants_next_write.ensures.0,
+      c.if-wants_next_write.ensures.1,
+      c.set_due-then-wants_next_write.ensures.set ∙ ap (λ xs. slice_set xs f (Some (next_issued x))) c.set_due.ensures.set,
     ))
 
 pub returns-clause-moved : goal.returns-clause-moved
-returns-clause-moved g c = λ s sound first pens w running.
-    let m = meaning g.K.Code.spelling g.V.Code.spelling g.K.Code.encodes g.V.Code.encodes g.K.Code.is_spelling g.V.Code.is_spelling g.P.Properties.age in
+returns-clause-moved g c = λ s sound first block_writes w running.
+    let m = meaning g.K.Code.encoding g.V.Code.encoding g.K.Code.is_encodable g.V.Code.is_encodable g.K.Code.is_decodable g.V.Code.is_decodable g.P.Properties.age in
     let f = c.args.flusher in
     let tickets = c.args.kept.now.tickets.items in
-    let told = c.args.kept.now.told.items in
+    let issued = c.args.kept.now.issued.items in
     let said = c.args.kept.now.replies.items in
     let bytes = g.D.Disk.byte_at c.args.disk.now in
-    let outcome = c.write_told-wrote.result in
-    let x = c.in-Some.told in
+    let outcome = c.do_write-wrote.result in
+    let x = c.in-Some.issued in
     let write = c.in-Some-next_write.write.now in
     let ok = c.is_ok-went_well.ensures.value ∙ went_is outcome in
-    write_moves m s sound first pens f x write outcome c.apply-reply.result tickets c.note_ticket.new.tickets.items told c.set_due.new.list.items said c.push_reserved-2.new.self.items
-    c.args.core.now c.apply-reply.new.self bytes (g.D.Disk.byte_at c.write_told-wrote.new.disk) w running
+    write_moves m s sound first block_writes f x write outcome c.apply-reply.result tickets c.note_ticket.new.tickets.items issued c.set_due.new.list.items said c.push_reserved-2.new.self.items
+    c.args.core.now c.apply-reply.new.self bytes (g.D.Disk.byte_at c.do_write-wrote.new.disk) w running
     (ap (λ xs. at (slice_get xs f)) (sym c.as_slice.ensures.value) ∙ sym c.get_due.ensures ∙ c.in-Some.is)
     (ap (λ xs. write_at (slice_get xs x.reply) x.next) (sym c.as_slice-2.ensures.value) ∙ c.in-Some-next_write.ensures.write)
-    (done_is bytes (g.D.Disk.byte_at c.write_told-wrote.new.disk) x.block write outcome c.write_told-wrote.ensures.wrote c.write_told-wrote.ensures.torn)
+    (done_is bytes (g.D.Disk.byte_at c.do_write-wrote.new.disk) x.block write outcome c.do_write-wrote.ensures.wrote c.do_write-wrote.ensures.torn)
     (c.apply-reply.ensures.meets tt s sound w.core running.stands) c.note_ticket.ensures.noted c.push_reserved-2.ensures.items
-    (inr ((elim c.if-goes_on.ensures [ inl failed ↦ inl (sym ok ∙ failed) | inr last ↦ inr last ]), c.set_due.ensures.set))
+    (inr ((elim c.if-wants_next_write.ensures [ inl failed ↦ inl (sym ok ∙ failed) | inr last ↦ inr last ]), c.set_due.ensures.set))

@@ -7,21 +7,21 @@ use Rattle.foyer_run.proofs.moves.next_write.Goals as goal
 
 pub returns-in-Write-clause-write : goal.returns-in-Write-clause-write
 returns-in-Write-clause-write g c =
-    let n = c.args.told.now.next in
-    let found = found_at c.args.replies.now c.args.told.now.reply c.in-Some.reply.now c.in-Some.ensures.lookup.0 c.in-Some.ensures.lookup.1 in
+    let n = c.args.issued.now.next in
+    let found = found_at c.args.replies.now c.args.issued.now.reply c.in-Some.reply.now c.in-Some.ensures.lookup.0 c.in-Some.ensures.lookup.1 in
     subst (λ o. MatchOption c.get-in-Write.result (write_at o n ≡ None) (λ write. write_at o n ≡ Some write.now)) (sym (found ∙ ap Some c.in-Write.is))
     (subst (λ xs. MatchOption c.get-in-Write.result (slice_get xs n ≡ None) (λ write. slice_get xs n ≡ Some write.now)) c.deref.ensures.value
     (looked c.deref.result.now n c.get-in-Write.result c.get-in-Write.ensures.lookup.0 c.get-in-Write.ensures.lookup.1))
 
 pub returns-in-Write-clause-room : goal.returns-in-Write-clause-room
 returns-in-Write-clause-room g c =
-    has_room (length c.deref.result.now) c.args.told.now.next c.get-in-Write.result c.get-in-Write.ensures.lookup.0
+    has_room (length c.deref.result.now) c.args.issued.now.next c.get-in-Write.result c.get-in-Write.ensures.lookup.0
     (omega (arith, c.deref.ensures.len, c.in-Write.writes.small, c.in-Write.writes.ok))
 
 pub returns-in_default-reply : goal.returns-in_default-reply
 returns-in_default-reply g c = record {
   write =
-      ap (λ o. write_at o c.args.told.now.next) (found_at c.args.replies.now c.args.told.now.reply c.in-Some.reply.now c.in-Some.ensures.lookup.0 c.in-Some.ensures.lookup.1)
-      ∙ none_at_all c.in-Some.reply.now c.args.told.now.next c.in_default-reply.not-Write;
+      ap (λ o. write_at o c.args.issued.now.next) (found_at c.args.replies.now c.args.issued.now.reply c.in-Some.reply.now c.in-Some.ensures.lookup.0 c.in-Some.ensures.lookup.1)
+      ∙ none_at_all c.in-Some.reply.now c.args.issued.now.next c.in_default-reply.not-Write;
   room = tt;
 }

@@ -12,8 +12,8 @@ returns-then-room-estimated-clause-fits g c =
     let i = c.self.inside in
     let inv = c.self.invariant in
     let s = shown c.args.self.now i.pages.bytes i.entry_infos.items i.pages.written i.max_entry_size c.self.view_is inv.0 inv.1 i.pages.within inv.3 in
-    let v : List ℕ = g.V.Code.spelling c.args.value.now in
-    let k : List ℕ = g.K.Code.spelling c.args.key.now in (
+    let v : List ℕ = g.V.Code.encoding c.args.value.now in
+    let k : List ℕ = g.K.Code.encoding c.args.key.now in (
       λ e. absurd (never e),
       λ fits.
           let size = c.estimated_size-estimated.ensures fits.encoded.0 fits.encoded.1 in
@@ -29,8 +29,8 @@ returns-then-room-padded-clause-fits g c =
     let i = c.self.inside in
     let inv = c.self.invariant in
     let s = shown c.args.self.now i.pages.bytes i.entry_infos.items i.pages.written i.max_entry_size c.self.view_is inv.0 inv.1 i.pages.within inv.3 in
-    let v : List ℕ = g.V.Code.spelling c.args.value.now in
-    let k : List ℕ = g.K.Code.spelling c.args.key.now in (
+    let v : List ℕ = g.V.Code.encoding c.args.value.now in
+    let k : List ℕ = g.K.Code.encoding c.args.key.now in (
       λ e. absurd (never e),
       λ fits.
           let size = c.estimated_size-estimated.ensures fits.encoded.0 fits.encoded.1 in
@@ -45,8 +45,8 @@ pub put_record-requires : goal.put_record-requires
 put_record-requires g c =
     let i = c.self.inside in
     let inv = c.self.invariant in
-    let v : List ℕ = g.V.Code.spelling c.args.value.now in
-    let k : List ℕ = g.K.Code.spelling c.args.key.now in
+    let v : List ℕ = g.V.Code.encoding c.args.value.now in
+    let k : List ℕ = g.K.Code.encoding c.args.key.now in
     let holds = page_up-holds (c.serialized_len.result + c.estimated_size-estimated.result) in
     record {
       header = omega (arith, holds, c.serialized_len.ensures, c.whole_pages-padded.ensures, c.if-room-padded.false, c.min-room.ensures, c.left.ensures, i.pages.within);
@@ -88,11 +88,11 @@ pub returns-clause-pushed : goal.returns-clause-pushed
 returns-clause-pushed g c =
     let i = c.self.inside in
     let inv = c.self.invariant in
-    let v : List ℕ = g.V.Code.spelling c.args.value.now in
-    let k : List ℕ = g.K.Code.spelling c.args.key.now in
+    let v : List ℕ = g.V.Code.encoding c.args.value.now in
+    let k : List ℕ = g.K.Code.encoding c.args.key.now in
     let put = c.put_record.ensures in
     let done : c.put_record.result ≡ true = search rules in
-    let encoded : (g.K.Code.encodes c.args.key.now ≡ true) × (g.V.Code.encodes c.args.value.now ≡ true) = rw done at put.encoded in
+    let encoded : (g.K.Code.is_encodable c.args.key.now ≡ true) × (g.V.Code.is_encodable c.args.value.now ≡ true) = rw done at put.encoded in
     let size = c.estimated_size-estimated.ensures encoded.0 encoded.1 in
     let len : i.pages.written + 36 + length v + length k ≡ i.pages.written + (c.serialized_len.result + c.estimated_size-estimated.result) =
     omega (arith, c.serialized_len.ensures, size, c.if-room-estimated.false, c.min-room.ensures, inv.4) in
@@ -109,10 +109,10 @@ returns-clause-fits g c =
     let i = c.self.inside in
     let inv = c.self.invariant in
     let s = shown c.args.self.now i.pages.bytes i.entry_infos.items i.pages.written i.max_entry_size c.self.view_is inv.0 inv.1 i.pages.within inv.3 in
-    let v : List ℕ = g.V.Code.spelling c.args.value.now in
-    let k : List ℕ = g.K.Code.spelling c.args.key.now in
+    let v : List ℕ = g.V.Code.encoding c.args.value.now in
+    let k : List ℕ = g.K.Code.encoding c.args.key.now in
     let done : c.put_record.result ≡ true = search rules in
-    let encoded : (g.K.Code.encodes c.args.key.now ≡ true) × (g.V.Code.encodes c.args.value.now ≡ true) = rw done at c.put_record.ensures.encoded in
+    let encoded : (g.K.Code.is_encodable c.args.key.now ≡ true) × (g.V.Code.is_encodable c.args.value.now ≡ true) = rw done at c.put_record.ensures.encoded in
     let size = c.estimated_size-estimated.ensures encoded.0 encoded.1 in
     let room = c.min-room.ensures in
     let same : c.serialized_len.result + c.estimated_size-estimated.result ≡ 36 + (length v + length k) =

@@ -7,8 +7,8 @@ use Rattle.foyer_buffer.proofs.pages.Pages.put_record.Goals as goal
 pub seal-requires : goal.seal-requires
 seal-requires g c =
     let new = c.serialize.new.writer in
-    let v = g.V.Code.spelling c.args.value.now in
-    let k = g.K.Code.spelling c.args.key.now in
+    let v = g.V.Code.encoding c.args.value.now in
+    let k = g.K.Code.encoding c.args.key.now in
     let ends : new.written ≡ c.args.self.now.written + 36 + (length v + length k) =
     appended_len new.written (c.args.self.now.written + 36) new.bytes c.args.self.now.bytes _ new.within c.requires.header c.in-Ok.ensures.bytes
     ∙ ap (λ n. c.args.self.now.written + 36 + n) (length-append v k) in

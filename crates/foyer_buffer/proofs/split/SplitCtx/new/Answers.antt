@@ -1,6 +1,6 @@
 use Rattle.std.proofs.Common.{◌≡◌, ℕ, List, [], length, ap, ◌∙◌, arith}
 use Rattle.std.proofs.lemmas.List.{length-replicate}
-use Rattle.foyer_buffer.specs.Filling.{Context}
+use Rattle.foyer_buffer.specs.Position.{Context}
 use Rattle.foyer_blob.specs.OpenIndex.{entries_of}
 use Rattle.foyer_blob.specs.declared.blob.BlobEntryIndex.{BlobEntryIndex}
 use Rattle.foyer_blob.proofs.BlobLemmas.{entries_none}

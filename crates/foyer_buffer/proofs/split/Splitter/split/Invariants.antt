@@ -1,6 +1,6 @@
 use Rattle.std.proofs.Common.{◌≡◌, ◌+◌, ◌<◌, drop}
 use Rattle.foyer_blob.specs.Blob.{capacity_of}
-use Rattle.foyer_buffer.specs.Filling.{taken}
+use Rattle.foyer_buffer.specs.Position.{taken}
 use Rattle.foyer_buffer.specs.Splitting.{Going, sizes_of}
 use Rattle.foyer_buffer.proofs.split.Splitter.split.Given as goal
 

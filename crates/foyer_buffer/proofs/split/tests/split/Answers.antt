@@ -1,6 +1,6 @@
 use Rattle.std.proofs.Common.{◌≡◌, ◌+◌, ℕ, List, [], ◌∷◌, ◌++◌, ap, ◌∙◌, arith}
 use Rattle.std.proofs.lemmas.List.Elements.{All-nil, All-push}
-use Rattle.foyer_buffer.specs.Filling.{FitsBlock, taken}
+use Rattle.foyer_buffer.specs.Position.{FitsBlock, taken}
 use Rattle.foyer_format.specs.Page.{page_up}
 use Rattle.foyer_buffer.specs.declared.BufferEntryInfo.{BufferEntryInfo}
 use Rattle.foyer_format.proofs.PageLaws.{page_up-least}

@@ -1,8 +1,8 @@
 use Rattle.std.proofs.Common.{◌≡◌, ℕ, ◌<◌, length, map, ◌∷◌, [], slice_index_or, refl, sym, ◌∙◌, subst}
 use Rattle.std.proofs.lemmas.List.{at_drop_more, at_drop_all}
-use Rattle.foyer_model.specs.Flush.{all_spoiled}
-use Rattle.foyer_model.specs.State as plainly
-use Rattle.foyer_core.specs.Flushing.{spoil_of}
+use Rattle.foyer_model.specs.Flush.{all_invalidated}
+use Rattle.foyer_model.specs.State as model_state
+use Rattle.foyer_core.specs.Flushing.{invalid_of}
 use Rattle.foyer_core.specs.Standing.{AreBlocksAs}
 use Rattle.foyer_core.specs.declared.block.flusher.InvalidStats.{InvalidStats}
 use Rattle.foyer_core.proofs.block.manager.invalidate_all.Goals as goal
@@ -17,15 +17,15 @@ loop-stats-preserved g c = λ s places fillings stats are.
     let none : InvalidStats = record { block = 0; size = 0 } in
     let so = c.loop-stats.invariant s places fillings stats are in
     let lt : i < length xs = c.loop-stats-test.true in (
-      all_spoiled (spoil_of (slice_index_or xs i none) ∷ []) so.0,
+      all_invalidated (invalid_of (slice_index_or xs i none) ∷ []) so.0,
       c.invalidate.ensures s places fillings so.0 so.1,
-      sym (at_drop_more (λ l. all_spoiled (map spoil_of l) so.0) xs i none lt) ∙ so.2,
+      sym (at_drop_more (λ l. all_invalidated (map invalid_of l) so.0) xs i none lt) ∙ so.2,
     )
 
 pub returns : goal.returns
 returns g c = λ s places fillings stats are.
     let xs = c.args.invalid.now in
     let so = c.loop-stats.invariant s places fillings stats are in
-    let all : so.0 ≡ all_spoiled (map spoil_of xs) stats =
-    sym (at_drop_all (λ l. all_spoiled (map spoil_of l) so.0) xs c.loop-stats.stats-index c.loop-stats-test.false) ∙ so.2 in
-    subst (λ (now : ℕ → plainly.Stats). AreBlocksAs s c.loop-stats.blocks.items places fillings now) all so.1
+    let all : so.0 ≡ all_invalidated (map invalid_of xs) stats =
+    sym (at_drop_all (λ l. all_invalidated (map invalid_of l) so.0) xs c.loop-stats.stats-index c.loop-stats-test.false) ∙ so.2 in
+    subst (λ (now : ℕ → model_state.Stats). AreBlocksAs s c.loop-stats.blocks.items places fillings now) all so.1

@@ -1,7 +1,7 @@
 use Rattle.std.proofs.Common.{◌≡◌, ℕ, map, drop}
-use Rattle.foyer_model.specs.Flush.{all_spoiled}
-use Rattle.foyer_model.specs.State as plainly
-use Rattle.foyer_core.specs.Flushing.{spoil_of}
+use Rattle.foyer_model.specs.Flush.{all_invalidated}
+use Rattle.foyer_model.specs.State as model_state
+use Rattle.foyer_core.specs.Flushing.{invalid_of}
 use Rattle.foyer_core.specs.Standing.{AreBlocksAs}
 use Rattle.foyer_core.specs.declared.settings.Settings.{Settings}
 use Rattle.foyer_core.proofs.block.manager.invalidate_all.Given as goal
@@ -9,7 +9,7 @@ use Rattle.foyer_core.proofs.block.manager.invalidate_all.Given as goal
 -- what is left to be counted comes onto what stands
 abbrev pub invariant-loop-stats : goal.invariant-loop-stats
 invariant-loop-stats g l =
-    (s : Settings) (places : ℕ → plainly.Place) (fillings : ℕ → ℕ) (stats : ℕ → plainly.Stats)
+    (s : Settings) (places : ℕ → model_state.BlockSet) (fillings : ℕ → ℕ) (stats : ℕ → model_state.Stats)
     → AreBlocksAs s l.fn.blocks.items places fillings stats
-    → (now : ℕ → plainly.Stats) × AreBlocksAs s l.blocks.items places fillings now
-    × (all_spoiled (map spoil_of (drop l.stats-index l.invalid)) now ≡ all_spoiled (map spoil_of l.invalid) stats)
+    → (now : ℕ → model_state.Stats) × AreBlocksAs s l.blocks.items places fillings now
+    × (all_invalidated (map invalid_of (drop l.stats-index l.invalid)) now ≡ all_invalidated (map invalid_of l.invalid) stats)

@@ -2,7 +2,7 @@ use Rattle.std.proofs.Common.{◌≡◌, ◌<◌, ◌≤◌, length, slice_set, 
 use Rattle.foyer_model.specs.Flush.{released}
 use Rattle.foyer_core.specs.Standing.{AreBlocksAs}
 use Rattle.foyer_core.proofs.BlockLemmas.{block_left, no_block_left, past_end}
-use Rattle.foyer_core.specs.declared.state.Place.TheVariants as place
+use Rattle.foyer_core.specs.declared.state.BlockSet.TheVariants as place
 use Rattle.foyer_core.proofs.block.manager.release.Goals as goal
 
 pub returns-in-Some-get_mut-clause-released : goal.returns-in-Some-get_mut-clause-released

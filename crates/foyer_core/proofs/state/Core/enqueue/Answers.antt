@@ -2,11 +2,11 @@ use Rattle.std.proofs.Common.{true, false, inr, ◌≡◌, ◌+◌, ◌*◌, ◌
 use Rattle.foyer_device.specs.declared.error.ErrorKind.TheVariants as kind
 use Rattle.foyer_model.specs.Numbers.{put, last_number}
 use Rattle.foyer_model.specs.Queue.{IsIgnored}
-use Rattle.foyer_model.specs.Reply as replies
+use Rattle.foyer_model.specs.Reply as model_reply
 use Rattle.foyer_model.specs.State.{Piece}
 use Rattle.foyer_core.specs.Asked.{known_age}
 use Rattle.foyer_core.specs.Content.{content_of}
-use Rattle.foyer_core.specs.Meets.{machine}
+use Rattle.foyer_core.specs.Refines.{machine}
 use Rattle.foyer_core.specs.declared.block.flusher.Submission.TheVariants.{CacheEntry}
 use Rattle.foyer_core.specs.declared.step.Step.TheVariants as step
 use Rattle.foyer_core.proofs.Enqueued.{ignored_young, ignored_full, not_ignored}
@@ -39,7 +39,7 @@ returns-then-is_err-clause-back g c =
 
 pub returns-then-self-clause-meets : goal.returns-then-self-clause-meets
 returns-then-self-clause-meets g c = λ m ages s sound it stands few.
-    refused m s sound (step.Enqueue c.args.piece c.args.size) c.args.self.now _ it kind.Closed replies.Closed refl
+    refused m s sound (step.Enqueue c.args.piece c.args.size) c.args.self.now _ it kind.Closed model_reply.Closed refl
     (same c.args.self.now) stands
     (is_early m s c.args.self.now it stands few, (tt, stands.closed ∙ c.if-self.true))
 
@@ -47,15 +47,15 @@ pub returns-then-is_young-clause-meets : goal.returns-then-is_young-clause-meets
 returns-then-is_young-clause-meets g c = λ m ages s sound it stands few.
     let old = c.args.self.now in
     let same_age : m.age_of c.args.piece.properties ≡ g.P.Properties.age c.args.piece.properties = ap (λ f. f c.args.piece.properties) ages in
-    let told : g.P.Properties.age c.properties.result.now ≡ g.P.Properties.age c.args.piece.properties = ap g.P.Properties.age c.properties.ensures in
+    let issued : g.P.Properties.age c.properties.result.now ≡ g.P.Properties.age c.args.piece.properties = ap g.P.Properties.age c.properties.ensures in
     let ignored : IsIgnored (machine m s sound) it (known_age (m.age_of c.args.piece.properties)) = elim c.then-is_young.branch [
-      | then-is_young-via-then-is_young w ↦ ignored_young m s sound old it stands (m.age_of c.args.piece.properties) (same_age ∙ sym told ∙ w.if-is_young.ensures.0 refl)
+      | then-is_young-via-then-is_young w ↦ ignored_young m s sound old it stands (m.age_of c.args.piece.properties) (same_age ∙ sym issued ∙ w.if-is_young.ensures.0 refl)
       | then-is_young-via-else-is_young+then-min-self w ↦ ignored_full m s sound old it stands (m.age_of c.args.piece.properties)
           (omega (arith, w.if-min-self.true, w.min.ensures))
     ] in
     record {
       after = it;
-      it = replies.Ignored (content_of m c.args.piece);
+      it = model_reply.Ignored (content_of m c.args.piece);
       stands = stands;
       reply = refl;
       turns = (tt, (refl, stands.closed ∙ c.if-self.false, ignored, refl));
@@ -65,34 +65,34 @@ pub returns-then-self-2-clause-meets : goal.returns-then-self-2-clause-meets
 returns-then-self-2-clause-meets g c = λ m ages s sound it stands few.
     let old = c.args.self.now in
     let same_age : m.age_of c.args.piece.properties ≡ g.P.Properties.age c.args.piece.properties = ap (λ f. f c.args.piece.properties) ages in
-    let told : g.P.Properties.age c.properties.result.now ≡ g.P.Properties.age c.args.piece.properties = ap g.P.Properties.age c.properties.ensures in
+    let issued : g.P.Properties.age c.properties.result.now ≡ g.P.Properties.age c.args.piece.properties = ap g.P.Properties.age c.properties.ensures in
     let less : min old.queued last_number ≤ old.settings.submit_queue_size_threshold = omega (arith, c.if-min-self.false, c.min.ensures) in
     let taken : IsIgnored (machine m s sound) it (known_age (m.age_of c.args.piece.properties)) → ⊥ =
-    not_ignored m s sound old it stands (m.age_of c.args.piece.properties) (λ young. let e : false ≡ true = c.if-is_young.ensures.1 (told ∙ sym same_age ∙ young) in cc) less in
+    not_ignored m s sound old it stands (m.age_of c.args.piece.properties) (λ young. let e : false ≡ true = c.if-is_young.ensures.1 (issued ∙ sym same_age ∙ young) in cc) less in
     let next : it.next ≡ old.next = stands.next in
     let full : last_number ≤ it.next = omega (arith, c.if-self-2.true) in
-    refused m s sound (step.Enqueue c.args.piece c.args.size) old _ it kind.SequenceEnd replies.SequenceEnd refl (same old) stands
+    refused m s sound (step.Enqueue c.args.piece c.args.size) old _ it kind.SequenceEnd model_reply.SequenceEnd refl (same old) stands
     (inr (is_early m s old it stands few, (tt, taken, stands.closed ∙ c.if-self.false, full)))
 
 pub returns-then-is_err-clause-meets : goal.returns-then-is_err-clause-meets
 returns-then-is_err-clause-meets g c = λ m ages s sound it stands few.
     let old = c.args.self.now in
     let same_age : m.age_of c.args.piece.properties ≡ g.P.Properties.age c.args.piece.properties = ap (λ f. f c.args.piece.properties) ages in
-    let told : g.P.Properties.age c.properties.result.now ≡ g.P.Properties.age c.args.piece.properties = ap g.P.Properties.age c.properties.ensures in
+    let issued : g.P.Properties.age c.properties.result.now ≡ g.P.Properties.age c.args.piece.properties = ap g.P.Properties.age c.properties.ensures in
     let less : min old.queued last_number ≤ old.settings.submit_queue_size_threshold = omega (arith, c.if-min-self.false, c.min.ensures) in
     let taken : IsIgnored (machine m s sound) it (known_age (m.age_of c.args.piece.properties)) → ⊥ =
-    not_ignored m s sound old it stands (m.age_of c.args.piece.properties) (λ young. let e : false ≡ true = c.if-is_young.ensures.1 (told ∙ sym same_age ∙ young) in cc) less in
+    not_ignored m s sound old it stands (m.age_of c.args.piece.properties) (λ young. let e : false ≡ true = c.if-is_young.ensures.1 (issued ∙ sym same_age ∙ young) in cc) less in
     let next : it.next ≡ old.next = stands.next in
     let drawn : it.next < last_number = omega (arith, c.if-self-2.false) in
     let f = c.args.piece.hash % s.flushers in
     let x = Piece c.args.piece.hash it.next c.args.size (content_of m c.args.piece) in
-    refused m s sound (step.Enqueue c.args.piece c.args.size) old _ it kind.Memory replies.Memory refl
+    refused m s sound (step.Enqueue c.args.piece c.args.size) old _ it kind.Memory model_reply.Memory refl
     (returns-then-is_err-clause-back g c).1 stands (
       is_early m s old it stands few,
       (
         tt,
         (
-          replies.Queued it.next,
+          model_reply.Queued it.next,
           record it { flushers = put it.flushers f (with_queued (it.flushers f) x); next = it.next + 1 },
           (refl, stands.closed ∙ c.if-self.false, taken, drawn, refl),
           tt,
@@ -105,10 +105,10 @@ returns-clause-meets g c = λ m ages s sound it stands few.
     let old = c.args.self.now in
     let found = c.index_mut.result.now in
     let same_age : m.age_of c.args.piece.properties ≡ g.P.Properties.age c.args.piece.properties = ap (λ f. f c.args.piece.properties) ages in
-    let told : g.P.Properties.age c.properties.result.now ≡ g.P.Properties.age c.args.piece.properties = ap g.P.Properties.age c.properties.ensures in
+    let issued : g.P.Properties.age c.properties.result.now ≡ g.P.Properties.age c.args.piece.properties = ap g.P.Properties.age c.properties.ensures in
     let less : min old.queued last_number ≤ old.settings.submit_queue_size_threshold = omega (arith, c.if-min-self.false, c.min.ensures) in
     let taken : IsIgnored (machine m s sound) it (known_age (m.age_of c.args.piece.properties)) → ⊥ =
-    not_ignored m s sound old it stands (m.age_of c.args.piece.properties) (λ young. let e : false ≡ true = c.if-is_young.ensures.1 (told ∙ sym same_age ∙ young) in cc) less in
+    not_ignored m s sound old it stands (m.age_of c.args.piece.properties) (λ young. let e : false ≡ true = c.if-is_young.ensures.1 (issued ∙ sym same_age ∙ young) in cc) less in
     let next : it.next ≡ old.next = stands.next in
     let drawn : it.next < last_number = omega (arith, c.if-self-2.false) in
     let count : length old.flushers.items ≡ s.flushers = flushers_count m s old.flushers.items it.flushers stands.flushers in
@@ -123,7 +123,7 @@ returns-clause-meets g c = λ m ages s sound it stands few.
     let more : c.saturating_add-self.result ≡ old.queued + (c.args.size + 0) = omega (arith, c.saturating_add-self.ensures, c.ranges.size.fits) in
     record {
       after = record it { flushers = put it.flushers f (with_queued (it.flushers f) x); next = old.next + 1 };
-      it = replies.Queued old.next;
+      it = model_reply.Queued old.next;
       stands = record {
         sizes = stands.sizes;
         index = stands.index;

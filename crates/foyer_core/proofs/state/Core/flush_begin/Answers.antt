@@ -2,11 +2,11 @@ use Rattle.std.proofs.lemmas.Grind.{common_steps}
 use Rattle.std.proofs.Common.{true, false, ◌≡◌, ◌<◌, ◌∷◌, [], map, length, None, refl, ap, sym, ◌∙◌, arith}
 use Rattle.foyer_device.specs.declared.error.ErrorKind.TheVariants as kind
 use Rattle.foyer_model.specs.Receive.{HasReceived, turned}
-use Rattle.foyer_model.specs.Reply as replies
+use Rattle.foyer_model.specs.Reply as model_reply
 use Rattle.foyer_core.specs.Beginning.{IsBegun}
 use Rattle.foyer_core.specs.Flushing.{IsFlusherAs}
 use Rattle.foyer_core.specs.InOneBlock.{spread_of}
-use Rattle.foyer_core.specs.Meets.{machine}
+use Rattle.foyer_core.specs.Refines.{machine}
 use Rattle.foyer_core.specs.Replied.{mark_of}
 use Rattle.foyer_core.specs.Unchanged.{seen}
 use Rattle.foyer_core.specs.declared.step.Step.TheVariants as step
@@ -57,7 +57,7 @@ returns-in-Ok-clause-meets g c = λ m s sound it stands few.
     let blocks = spread_of (it.flushers f).context (it.flushers f).buffer ∷ [] in
     record {
       after = turned (machine m s sound) it f (begun m s sound it f found before);
-      it = replies.Began blocks (it.flushers f).marks;
+      it = model_reply.Began blocks (it.flushers f).marks;
       stands = record {
         sizes = stands.sizes;
         index = stands.index;
@@ -72,7 +72,7 @@ returns-in-Ok-clause-meets g c = λ m s sound it stands few.
         reclaims = stands.reclaims;
         destroy = stands.destroy;
       };
-      reply = (blocks, refl, ap (replies.Began blocks) (before.marks ∙ ap (map mark_of) (sym is.told)));
+      reply = (blocks, refl, ap (model_reply.Began blocks) (before.marks ∙ ap (map mark_of) (sym is.issued)));
       turns = ((there, turn.0, turn.1), begins m s sound it f found before);
     }
 
@@ -86,7 +86,7 @@ returns-in-Err-clause-meets g c = λ m s sound it stands few.
     let found = c.index_mut-found.result.now in
     let before : IsFlusherAs m s (seen found) (it.flushers f) = flusher_at m s old.flushers.items it.flushers f found stands.flushers within c.index_mut-found.ensures.value in
     let turn : ((it.flushers f).batch ≡ None) × HasReceived (it.flushers f) = may_begin m s sound it f found before (c.if-not-may_begin.ensures.0 refl) in
-    refused m s sound (step.FlushBegin f) old _ it kind.Memory replies.Memory refl (record {
+    refused m s sound (step.FlushBegin f) old _ it kind.Memory model_reply.Memory refl (record {
       index = refl;
       next = refl;
       steps = refl;
@@ -98,7 +98,7 @@ returns-in-Err-clause-meets g c = λ m s sound it stands few.
       clean = refl;
       waiting = refl;
     }) stands
-    (is_early m s old it stands few, ((there, turn.0, turn.1), (replies.Began (spread_of (it.flushers f).context (it.flushers f).buffer ∷ []) (it.flushers f).marks, turned (machine m s sound) it f (begun m s sound it f found before), begins m s sound it f found before, tt)))
+    (is_early m s old it stands few, ((there, turn.0, turn.1), (model_reply.Began (spread_of (it.flushers f).context (it.flushers f).buffer ∷ []) (it.flushers f).marks, turned (machine m s sound) it f (begun m s sound it f found before), begins m s sound it f found before, tt)))
 
 pub returns-then-flusher-len-clause-meets : goal.returns-then-flusher-len-clause-meets
 returns-then-flusher-len-clause-meets g c = grind (arith, common_steps)

@@ -2,9 +2,9 @@ use Rattle.std.proofs.lemmas.Grind.{common_steps}
 use Rattle.std.proofs.Common.{◌≡◌, ◌<◌, length, map, refl, ap, subst, arith}
 use Rattle.std.proofs.lemmas.Bool.{false≢true}
 use Rattle.foyer_model.specs.Numbers.{last_number}
-use Rattle.foyer_model.specs.Reply as replies
-use Rattle.foyer_model.specs.Step as steps
-use Rattle.foyer_core.specs.Batches.{IsDone, told_next}
+use Rattle.foyer_model.specs.Reply as model_reply
+use Rattle.foyer_model.specs.Step as model_step
+use Rattle.foyer_core.specs.Batches.{FlusherStep, issued_next}
 use Rattle.foyer_core.specs.Replied.{write_of}
 use Rattle.foyer_core.specs.Unchanged.{seen}
 use Rattle.foyer_core.proofs.FlushTurns.{stands_at, flusher_there, core_stands, has_block, wants_block, not_now, would_answer}
@@ -49,7 +49,7 @@ returns-in-Err-clause-meets g c = λ m s sound it stands few.
     let clean : c.next.new.clean.items ≡ core.clean.items = cc c.in-Err.ensures.clean_kept in
     record {
       after = it;
-      it = replies.Refused replies.Memory (steps.FlushBlock f);
+      it = model_reply.Refused model_reply.Memory (model_step.FlushBlock f);
       stands = unchanged_stands m s core _ it (record {
         index = refl;
         next = refl;
@@ -62,7 +62,7 @@ returns-in-Err-clause-meets g c = λ m s sound it stands few.
         clean = clean;
         waiting = c.in-Err.ensures.waiting_kept;
       }) stands;
-      reply = (replies.Memory, refl, refl);
+      reply = (model_reply.Memory, refl, refl);
       turns = (
         refl,
         (
@@ -83,11 +83,11 @@ returns-in-Ok-NoBlock-clause-meets g c = λ m s sound it stands few.
     let found = c.index_mut-found.result.now in
     let within : f < length core.flushers.items = omega (arith, c.len.ensures, c.if-flusher-len.false) in
     let at = stands_at m s core it f found stands within c.index_mut-found.ensures.value in
-    let done = subst (λ (n : Next g.row.A.Denot). IsDone m s sound (steps.FlushBlock f) f it (told_next n) (seen c.next.new.self) core.index c.next.new.blocks.items
+    let done = subst (λ (n : Next g.row.A.Denot). FlusherStep m s sound (model_step.FlushBlock f) f it (issued_next n) (seen c.next.new.self) core.index c.next.new.blocks.items
     c.next.new.clean.items c.next.new.waiting.items) c.in-Ok-NoBlock.field-0-is (c.in-Ok-NoBlock.ensures.done m s sound it core.index at) in
     record {
       after = done.after;
-      it = replies.NoBlock;
+      it = model_reply.NoBlock;
       stands = core_stands m s sound core _ it f c.next.new.self _ _ stands within done refl refl refl refl refl refl;
       reply = refl;
       turns = ((flusher_there m s core it f stands within, has_block m s found.own found.batch (it.flushers f).batch (at.flusher).batch (c.if-not-has_block.ensures.0 refl)), done.does);
@@ -100,11 +100,11 @@ returns-in-Ok-Block-clause-meets g c = λ m s sound it stands few.
     let found = c.index_mut-found.result.now in
     let within : f < length core.flushers.items = omega (arith, c.len.ensures, c.if-flusher-len.false) in
     let at = stands_at m s core it f found stands within c.index_mut-found.ensures.value in
-    let done = subst (λ (n : Next g.row.A.Denot). IsDone m s sound (steps.FlushBlock f) f it (told_next n) (seen c.next.new.self) core.index c.next.new.blocks.items
+    let done = subst (λ (n : Next g.row.A.Denot). FlusherStep m s sound (model_step.FlushBlock f) f it (issued_next n) (seen c.next.new.self) core.index c.next.new.blocks.items
     c.next.new.clean.items c.next.new.waiting.items) c.in-Ok-Block.field-0-is (c.in-Ok-Block.ensures.done m s sound it core.index at) in
     record {
       after = done.after;
-      it = replies.Written c.in-Ok-Block.block (map write_of c.in-Ok-Block.writes.items);
+      it = model_reply.Written c.in-Ok-Block.block (map write_of c.in-Ok-Block.writes.items);
       stands = core_stands m s sound core _ it f c.next.new.self _ _ stands within done refl refl refl refl refl refl;
       reply = refl;
       turns = ((flusher_there m s core it f stands within, has_block m s found.own found.batch (it.flushers f).batch (at.flusher).batch (c.if-not-has_block.ensures.0 refl)), done.does);

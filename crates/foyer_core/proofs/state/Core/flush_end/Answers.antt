@@ -1,7 +1,7 @@
 use Rattle.std.proofs.lemmas.Grind.{common_steps}
 use Rattle.std.proofs.Common.{◌<◌, length, map, refl, arith}
 use Rattle.std.proofs.lemmas.Bool.{false≢true}
-use Rattle.foyer_model.specs.Reply as replies
+use Rattle.foyer_model.specs.Reply as model_reply
 use Rattle.foyer_core.specs.Content.{content_of}
 use Rattle.foyer_core.proofs.FlushTurns.{stands_at, flusher_there, core_stands, is_written, was_written, not_now}
 use Rattle.foyer_core.proofs.FlusherLists.{same_seen}
@@ -40,7 +40,7 @@ returns-clause-meets g c = λ m s sound it stands few.
     let done = c.end-pieces.ensures.done m s sound f it core.clean.items core.waiting.items at in
     record {
       after = done.after;
-      it = replies.Ended (map (content_of m) c.end-pieces.result.pieces.items) c.end-pieces.result.waits.items;
+      it = model_reply.Ended (map (content_of m) c.end-pieces.result.pieces.items) c.end-pieces.result.waits.items;
       stands = core_stands m s sound core _ it f c.end-pieces.new.self _ _ stands within done refl refl refl refl refl refl;
       reply = refl;
       turns = ((flusher_there m s core it f stands within, is_written m s found.own found.batch (it.flushers f).batch (at.flusher).batch (c.if-not-is_written.ensures.0 refl)), done.does);

@@ -1,10 +1,10 @@
 use Rattle.std.proofs.lemmas.Grind.{common_steps}
 use Rattle.std.proofs.Common.{◌≡◌, ◌<◌, Bool, length, refl, ap, subst, ◌∙◌, arith}
 use Rattle.std.proofs.lemmas.Bool.{false≢true}
-use Rattle.foyer_model.specs.Reply as replies
-use Rattle.foyer_model.specs.Step as steps
+use Rattle.foyer_model.specs.Reply as model_reply
+use Rattle.foyer_model.specs.Step as model_step
 use Rattle.foyer_core.specs.Asked.{went_well}
-use Rattle.foyer_core.specs.Batches.{IsDone}
+use Rattle.foyer_core.specs.Batches.{FlusherStep}
 use Rattle.foyer_core.specs.Unchanged.{seen}
 use Rattle.foyer_core.proofs.FlushTurns.{stands_at, flusher_there, core_stands, is_writing, must_write, not_now, went_is}
 use Rattle.foyer_core.proofs.FlusherLists.{same_seen}
@@ -42,11 +42,11 @@ returns-in-Next-clause-meets g c = λ m s sound it stands few.
     let at = stands_at m s core it f found stands within c.index_mut-found.ensures.value in
     let size : core.settings.blob_index_size ≡ s.blob_index_size = ap (λ t. t.blob_index_size) stands.sizes in
     let ok : c.is_ok.result ≡ went_well c.args.outcome = c.is_ok.ensures.value ∙ went_is c.args.outcome in
-    let done = subst (λ (b : Bool). IsDone m s sound (steps.FlushWrote f b) f it replies.Next (seen c.wrote.new.self) c.wrote.new.index c.wrote.new.blocks.items
+    let done = subst (λ (b : Bool). FlusherStep m s sound (model_step.FlushWrote f b) f it model_reply.Next (seen c.wrote.new.self) c.wrote.new.index c.wrote.new.blocks.items
     core.clean.items core.waiting.items) ok (c.in-Next.ensures.done m s sound f it core.clean.items core.waiting.items size at) in
     record {
       after = done.after;
-      it = replies.Next;
+      it = model_reply.Next;
       stands = core_stands m s sound core _ it f c.wrote.new.self _ _ stands within done refl refl refl refl refl refl;
       reply = refl;
       turns = ((flusher_there m s core it f stands within, is_writing m s found.own found.batch (it.flushers f).batch (at.flusher).batch (c.if-not-is_writing.ensures.0 refl)), done.does);
@@ -61,11 +61,11 @@ returns-in-Committed-clause-meets g c = λ m s sound it stands few.
     let at = stands_at m s core it f found stands within c.index_mut-found.ensures.value in
     let size : core.settings.blob_index_size ≡ s.blob_index_size = ap (λ t. t.blob_index_size) stands.sizes in
     let ok : c.is_ok.result ≡ went_well c.args.outcome = c.is_ok.ensures.value ∙ went_is c.args.outcome in
-    let done = subst (λ (b : Bool). IsDone m s sound (steps.FlushWrote f b) f it (replies.Committed c.in-Committed.count) (seen c.wrote.new.self) c.wrote.new.index c.wrote.new.blocks.items
+    let done = subst (λ (b : Bool). FlusherStep m s sound (model_step.FlushWrote f b) f it (model_reply.Committed c.in-Committed.count) (seen c.wrote.new.self) c.wrote.new.index c.wrote.new.blocks.items
     core.clean.items core.waiting.items) ok (c.in-Committed.ensures.done m s sound f it core.clean.items core.waiting.items size at) in
     record {
       after = done.after;
-      it = replies.Committed c.in-Committed.count;
+      it = model_reply.Committed c.in-Committed.count;
       stands = core_stands m s sound core _ it f c.wrote.new.self _ _ stands within done refl refl refl refl refl refl;
       reply = refl;
       turns = ((flusher_there m s core it f stands within, is_writing m s found.own found.batch (it.flushers f).batch (at.flusher).batch (c.if-not-is_writing.ensures.0 refl)), done.does);
@@ -80,11 +80,11 @@ returns-in-Failed-clause-meets g c = λ m s sound it stands few.
     let at = stands_at m s core it f found stands within c.index_mut-found.ensures.value in
     let size : core.settings.blob_index_size ≡ s.blob_index_size = ap (λ t. t.blob_index_size) stands.sizes in
     let ok : c.is_ok.result ≡ went_well c.args.outcome = c.is_ok.ensures.value ∙ went_is c.args.outcome in
-    let done = subst (λ (b : Bool). IsDone m s sound (steps.FlushWrote f b) f it replies.Failed (seen c.wrote.new.self) c.wrote.new.index c.wrote.new.blocks.items
+    let done = subst (λ (b : Bool). FlusherStep m s sound (model_step.FlushWrote f b) f it model_reply.Failed (seen c.wrote.new.self) c.wrote.new.index c.wrote.new.blocks.items
     core.clean.items core.waiting.items) ok (c.in-Failed.ensures.done m s sound f it core.clean.items core.waiting.items size at) in
     record {
       after = done.after;
-      it = replies.Failed;
+      it = model_reply.Failed;
       stands = core_stands m s sound core _ it f c.wrote.new.self _ _ stands within done refl refl refl refl refl refl;
       reply = refl;
       turns = ((flusher_there m s core it f stands within, is_writing m s found.own found.batch (it.flushers f).batch (at.flusher).batch (c.if-not-is_writing.ensures.0 refl)), done.does);

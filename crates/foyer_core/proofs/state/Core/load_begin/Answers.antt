@@ -5,10 +5,10 @@ use Rattle.foyer_block.specs.declared.indexer.Index.TheVariants.{Address}
 use Rattle.foyer_model.specs.Load.{Looks, accessed}
 use Rattle.foyer_model.specs.Numbers.{put, plus}
 use Rattle.foyer_model.specs.Record.{Indexed}
-use Rattle.foyer_model.specs.Reply as replies
+use Rattle.foyer_model.specs.Reply as model_reply
 use Rattle.foyer_model.proofs.Basics.{put_same, put_other}
 use Rattle.foyer_core.specs.Asked.{address_of, ticket_of}
-use Rattle.foyer_core.specs.Meets.{machine}
+use Rattle.foyer_core.specs.Refines.{machine}
 use Rattle.foyer_core.specs.Standing.{slot_of, IsBlockAs, IsIndexedAs}
 use Rattle.foyer_core.specs.declared.step.Ticket.{Ticket}
 use Rattle.foyer_core.proofs.AccessLemmas.{blocks_set, more_accessed}
@@ -28,7 +28,7 @@ returns-then-address-state-clause-meets g c = λ m s sound it stands few.
     let known : IsBlockAs c.in-Some-get_mut.state.now (it.place a.block) (it.filling a.block) (it.stats a.block) = stands.blocks.all a.block c.in-Some-get_mut.state.now at in
     record {
       after = record it { index = put it.index c.args.hash None };
-      it = replies.Miss;
+      it = model_reply.Miss;
       stands = record {
         sizes = stands.sizes;
         index = subst (λ o. IsIndexedAs s c.remove.new.self (put it.index c.args.hash o)) (without_itself (address_of a) (it.index c.args.hash) slot)
@@ -47,7 +47,7 @@ returns-then-address-state-clause-meets g c = λ m s sound it stands few.
       reply = refl;
       turns = (
         tt,
-        subst (λ o. Looks (machine m s sound) it c.args.hash c.args.throttled o replies.Miss (record it { index = put it.index c.args.hash None })) (sym slot)
+        subst (λ o. Looks (machine m s sound) it c.args.hash c.args.throttled o model_reply.Miss (record it { index = put it.index c.args.hash None })) (sym slot)
             (c.if-throttled.false, (λ same. c.if-address-state.true (same ∙ known.filling)), refl),
       );
     }
@@ -67,7 +67,7 @@ returns-clause-meets g c = λ m s sound it stands few.
     let ticket : Ticket = record { hash = c.args.hash; address = a } in
     record {
       after = record it { stats = accessed (machine m s sound) it a.block };
-      it = replies.Read (ticket_of ticket);
+      it = model_reply.Read (ticket_of ticket);
       stands = record {
         sizes = stands.sizes;
         index = stands.index;
@@ -93,7 +93,7 @@ returns-clause-meets g c = λ m s sound it stands few.
       reply = refl;
       turns = (
         tt,
-        subst (λ o. Looks (machine m s sound) it c.args.hash c.args.throttled o (replies.Read (ticket_of ticket)) (record it { stats = accessed (machine m s sound) it a.block })) (sym slot)
+        subst (λ o. Looks (machine m s sound) it c.args.hash c.args.throttled o (model_reply.Read (ticket_of ticket)) (record it { stats = accessed (machine m s sound) it a.block })) (sym slot)
             (c.if-throttled.false, (c.if-address-state.false ∙ sym known.filling), refl, refl),
       );
     }

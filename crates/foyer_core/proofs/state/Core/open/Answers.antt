@@ -1,10 +1,10 @@
 use Rattle.std.proofs.Common.{refl, arith, ◌<◌}
-use Rattle.foyer_core.specs.Sizes.{IsSound}
+use Rattle.foyer_core.specs.Sizes.{AreValid}
 use Rattle.foyer_core.proofs.state.Core.open.Goals as goal
 
 pub invariant_of-result : goal.invariant_of-result
 invariant_of-result g c =
-    let sound : IsSound c.args.settings = c.in_ok-check.ensures.sound.0 refl in
+    let sound : AreValid c.args.settings = c.in_ok-check.ensures.sound.0 refl in
     let some : 0 < c.args.settings.flushers = sound.some_flusher in
     record { some_flusher = omega (arith, c.in_ok-flushers.ensures.count) }
 

@@ -1,12 +1,12 @@
 use Rattle.std.proofs.Common.{◌≡◌, ◌-◌, ◌<◌, length, [], None, Ok, refl, ap, sym, subst, arith}
 use Rattle.foyer_device.specs.declared.error.ErrorKind.TheVariants as kind
-use Rattle.foyer_model.specs.Receive.{turned, Takes as TakesOne}
-use Rattle.foyer_model.specs.Reply as replies
+use Rattle.foyer_model.specs.Receive.{turned, TakesFront as TakesOne}
+use Rattle.foyer_model.specs.Reply as model_reply
 use Rattle.foyer_core.specs.Content.{meaning}
 use Rattle.foyer_core.specs.Flushing.{IsFlusherAs}
-use Rattle.foyer_core.specs.Meets.{machine}
+use Rattle.foyer_core.specs.Refines.{machine}
 use Rattle.foyer_core.specs.Replied.{returned}
-use Rattle.foyer_core.specs.Taking.{IsTaken, NeedsRoom, Takes}
+use Rattle.foyer_core.specs.Taking.{IsReceivedAs, NeedsRoom, TakesFront}
 use Rattle.foyer_core.specs.Unchanged.{seen}
 use Rattle.foyer_core.specs.declared.step.Step.TheVariants as step
 use Rattle.foyer_core.proofs.QueueLemmas.{size_shrunk}
@@ -36,7 +36,7 @@ returns-in-Err-clause-back g c =
 
 pub returns-then-flusher-len-clause-meets : goal.returns-then-flusher-len-clause-meets
 returns-then-flusher-len-clause-meets g c = λ age_of s sound it stands few.
-    let m = meaning g.K.Code.spelling g.V.Code.spelling g.K.Code.encodes g.V.Code.encodes g.K.Code.is_spelling g.V.Code.is_spelling age_of in
+    let m = meaning g.K.Code.encoding g.V.Code.encoding g.K.Code.is_encodable g.V.Code.is_encodable g.K.Code.is_decodable g.V.Code.is_decodable age_of in
     let old = c.args.self.now in
     let f = c.args.flusher in
     let count : length old.flushers.items ≡ s.flushers = flushers_count m s old.flushers.items it.flushers stands.flushers in
@@ -44,7 +44,7 @@ returns-then-flusher-len-clause-meets g c = λ age_of s sound it stands few.
 
 pub returns-in-Err-clause-meets : goal.returns-in-Err-clause-meets
 returns-in-Err-clause-meets g c = λ age_of s sound it stands few.
-    let m = meaning g.K.Code.spelling g.V.Code.spelling g.K.Code.encodes g.V.Code.encodes g.K.Code.is_spelling g.V.Code.is_spelling age_of in
+    let m = meaning g.K.Code.encoding g.V.Code.encoding g.K.Code.is_encodable g.V.Code.is_encodable g.K.Code.is_decodable g.V.Code.is_decodable age_of in
     let old = c.args.self.now in
     let f = c.args.flusher in
     let count : length old.flushers.items ≡ s.flushers = flushers_count m s old.flushers.items it.flushers stands.flushers in
@@ -54,12 +54,12 @@ returns-in-Err-clause-meets g c = λ age_of s sound it stands few.
     let before : IsFlusherAs m s (seen found) (it.flushers f) = flusher_at m s old.flushers.items it.flushers f found stands.flushers within c.index_mut-found.ensures.value in
     let sizes : old.settings.block_size ≡ s.block_size = ap (λ x. x.block_size) stands.sizes in
     let needs : NeedsRoom m s sound it f = c.in-Err.ensures.takes age_of s sound it f sizes before in
-    refused m s sound (step.Receive f) old _ it kind.Memory replies.Memory refl (returns-in-Err-clause-back g c).1 stands
+    refused m s sound (step.Receive f) old _ it kind.Memory model_reply.Memory refl (returns-in-Err-clause-back g c).1 stands
     (is_early m s old it stands few, (there, (needs.reply, needs.after, needs.receives, needs.grows)))
 
 pub returns-in-Ok-Nothing-clause-meets : goal.returns-in-Ok-Nothing-clause-meets
 returns-in-Ok-Nothing-clause-meets g c = λ age_of s sound it stands few.
-    let m = meaning g.K.Code.spelling g.V.Code.spelling g.K.Code.encodes g.V.Code.encodes g.K.Code.is_spelling g.V.Code.is_spelling age_of in
+    let m = meaning g.K.Code.encoding g.V.Code.encoding g.K.Code.is_encodable g.V.Code.is_encodable g.K.Code.is_decodable g.V.Code.is_decodable age_of in
     let old = c.args.self.now in
     let f = c.args.flusher in
     let count : length old.flushers.items ≡ s.flushers = flushers_count m s old.flushers.items it.flushers stands.flushers in
@@ -69,10 +69,10 @@ returns-in-Ok-Nothing-clause-meets g c = λ age_of s sound it stands few.
     let before : IsFlusherAs m s (seen found) (it.flushers f) = flusher_at m s old.flushers.items it.flushers f found stands.flushers within c.index_mut-found.ensures.value in
     let sizes : old.settings.block_size ≡ s.block_size = ap (λ x. x.block_size) stands.sizes in
     let none : ((it.flushers f).queue ≡ []) × IsFlusherAs m s (seen c.receive.new.self) (it.flushers f) =
-    subst (λ x. Takes m s sound it f (Ok x) c.receive.new.self) c.in-Ok-Nothing.field-0-is (c.in-Ok-Nothing.ensures.takes age_of s sound it f sizes before) in
+    subst (λ x. TakesFront m s sound it f (Ok x) c.receive.new.self) c.in-Ok-Nothing.field-0-is (c.in-Ok-Nothing.ensures.takes age_of s sound it f sizes before) in
     record {
       after = it;
-      it = replies.Empty;
+      it = model_reply.Empty;
       stands = record {
         sizes = stands.sizes;
         index = stands.index;
@@ -88,12 +88,12 @@ returns-in-Ok-Nothing-clause-meets g c = λ age_of s sound it stands few.
         destroy = stands.destroy;
       };
       reply = refl;
-      turns = (there, subst (λ q. TakesOne (machine m s sound) it f q replies.Empty it) (sym none.0) refl);
+      turns = (there, subst (λ q. TakesOne (machine m s sound) it f q model_reply.Empty it) (sym none.0) refl);
     }
 
 pub returns-in-Ok-Other-clause-meets : goal.returns-in-Ok-Other-clause-meets
 returns-in-Ok-Other-clause-meets g c = λ age_of s sound it stands few.
-    let m = meaning g.K.Code.spelling g.V.Code.spelling g.K.Code.encodes g.V.Code.encodes g.K.Code.is_spelling g.V.Code.is_spelling age_of in
+    let m = meaning g.K.Code.encoding g.V.Code.encoding g.K.Code.is_encodable g.V.Code.is_encodable g.K.Code.is_decodable g.V.Code.is_decodable age_of in
     let old = c.args.self.now in
     let f = c.args.flusher in
     let count : length old.flushers.items ≡ s.flushers = flushers_count m s old.flushers.items it.flushers stands.flushers in
@@ -102,12 +102,12 @@ returns-in-Ok-Other-clause-meets g c = λ age_of s sound it stands few.
     let found = c.index_mut-found.result.now in
     let before : IsFlusherAs m s (seen found) (it.flushers f) = flusher_at m s old.flushers.items it.flushers f found stands.flushers within c.index_mut-found.ensures.value in
     let sizes : old.settings.block_size ≡ s.block_size = ap (λ x. x.block_size) stands.sizes in
-    let taken : IsTaken m s sound it f 0 None c.receive.new.self =
-    subst (λ x. Takes m s sound it f (Ok x) c.receive.new.self) c.in-Ok-Other.field-0-is (c.in-Ok-Other.ensures.takes age_of s sound it f sizes before) in
+    let taken : IsReceivedAs m s sound it f 0 None c.receive.new.self =
+    subst (λ x. TakesFront m s sound it f (Ok x) c.receive.new.self) c.in-Ok-Other.field-0-is (c.in-Ok-Other.ensures.takes age_of s sound it f sizes before) in
     let all : old.queued ≡ old.queued - 0 = omega arith in
     record {
       after = turned (machine m s sound) it f taken.after;
-      it = replies.Received None;
+      it = model_reply.Received None;
       stands = record {
         sizes = stands.sizes;
         index = stands.index;
@@ -128,7 +128,7 @@ returns-in-Ok-Other-clause-meets g c = λ age_of s sound it stands few.
 
 pub returns-in-Ok-Piece-clause-meets : goal.returns-in-Ok-Piece-clause-meets
 returns-in-Ok-Piece-clause-meets g c = λ age_of s sound it stands few.
-    let m = meaning g.K.Code.spelling g.V.Code.spelling g.K.Code.encodes g.V.Code.encodes g.K.Code.is_spelling g.V.Code.is_spelling age_of in
+    let m = meaning g.K.Code.encoding g.V.Code.encoding g.K.Code.is_encodable g.V.Code.is_encodable g.K.Code.is_decodable g.V.Code.is_decodable age_of in
     let old = c.args.self.now in
     let f = c.args.flusher in
     let count : length old.flushers.items ≡ s.flushers = flushers_count m s old.flushers.items it.flushers stands.flushers in
@@ -137,11 +137,11 @@ returns-in-Ok-Piece-clause-meets g c = λ age_of s sound it stands few.
     let found = c.index_mut-found.result.now in
     let before : IsFlusherAs m s (seen found) (it.flushers f) = flusher_at m s old.flushers.items it.flushers f found stands.flushers within c.index_mut-found.ensures.value in
     let sizes : old.settings.block_size ≡ s.block_size = ap (λ x. x.block_size) stands.sizes in
-    let taken : IsTaken m s sound it f c.in-Ok-Piece.size (returned m c.in-Ok-Piece.back) c.receive.new.self =
-    subst (λ x. Takes m s sound it f (Ok x) c.receive.new.self) c.in-Ok-Piece.field-0-is (c.in-Ok-Piece.ensures.takes age_of s sound it f sizes before) in
+    let taken : IsReceivedAs m s sound it f c.in-Ok-Piece.size (returned m c.in-Ok-Piece.back) c.receive.new.self =
+    subst (λ x. TakesFront m s sound it f (Ok x) c.receive.new.self) c.in-Ok-Piece.field-0-is (c.in-Ok-Piece.ensures.takes age_of s sound it f sizes before) in
     record {
       after = turned (machine m s sound) it f taken.after;
-      it = replies.Received (returned m c.in-Ok-Piece.back);
+      it = model_reply.Received (returned m c.in-Ok-Piece.back);
       stands = record {
         sizes = stands.sizes;
         index = stands.index;

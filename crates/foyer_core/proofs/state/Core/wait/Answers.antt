@@ -2,7 +2,7 @@ use Rattle.std.proofs.Common.{◌≡◌, ◌+◌, ◌<◌, ◌++◌, ◌∷◌, 
 use Rattle.foyer_model.specs.Numbers.{put, last_number}
 use Rattle.foyer_model.specs.Reply.{Memory, Done, Refused}
 use Rattle.foyer_model.specs.State.{Await}
-use Rattle.foyer_model.specs.Step as plain
+use Rattle.foyer_model.specs.Step as model_step
 use Rattle.foyer_core.specs.declared.block.flusher.Submission.TheVariants.{Wait}
 use Rattle.foyer_core.proofs.QueueLemmas.{with_queued, queue_pushed, size_grown}
 use Rattle.foyer_core.proofs.StateLemmas.{flushers_count, unchanged_stands}
@@ -38,7 +38,7 @@ returns-then-is_err-clause-meets g c = λ m s sound it stands few.
     let queued = with_queued (it.flushers c.args.flusher) (Await c.args.id) in
     record {
       after = it;
-      it = Refused Memory (plain.Wait c.args.flusher c.args.id);
+      it = Refused Memory (model_step.Wait c.args.flusher c.args.id);
       stands = unchanged_stands m s c.args.self.now _ it (returns-then-is_err-clause-back g c).1 stands;
       reply = (Memory, refl, refl);
       turns = (refl, (early, (there, (Done, record it { flushers = put it.flushers c.args.flusher queued }, refl, tt))), refl);

@@ -1,6 +1,6 @@
 use Rattle.std.proofs.Common.{◌≡◌, ◌*◌, ◌≤◌}
 use Rattle.std.specs.Prelude.{All}
-use Rattle.foyer_buffer.specs.Filling.{FitsBlock, taken}
+use Rattle.foyer_buffer.specs.Position.{FitsBlock, taken}
 use Rattle.foyer_format_vectors.proofs.tests.batches.split.Given as goal
 
 abbrev pub invariant-listed : goal.invariant-listed

@@ -7,13 +7,13 @@ pub returns-in-Ok-clause-newest : goal.returns-in-Ok-clause-newest
 returns-in-Ok-clause-newest g c =
     let core = c.args.self.now.core in
     let bytes = bytes_of c.args.self.now.disk in
-    subst (λ said. IsNewestText c.args.key core bytes said) (sym c.tell_load.ensures) (newest_got c.args.key core bytes c.in-Ok.last c.in-Ok.ensures.newest)
+    subst (λ said. IsNewestText c.args.key core bytes said) (sym c.answer_load.ensures) (newest_got c.args.key core bytes c.in-Ok.last c.in-Ok.ensures.newest)
 
 pub returns-in-Ok-clause-missed : goal.returns-in-Ok-clause-missed
 returns-in-Ok-clause-missed g c =
     let core = c.args.self.now.core in
     let bytes = bytes_of c.args.self.now.disk in
-    subst (λ said. IsMissedText c.args.key core bytes said) (sym c.tell_load.ensures) (missed_got c.args.key core bytes c.in-Ok.last (c.in-Ok.ensures.missed refl))
+    subst (λ said. IsMissedText c.args.key core bytes said) (sym c.answer_load.ensures) (missed_got c.args.key core bytes c.in-Ok.last (c.in-Ok.ensures.missed refl))
 
 pub returns-in-Err-clause-missed : goal.returns-in-Err-clause-missed
 returns-in-Err-clause-missed g c = λ s sound first events history few b sequence content kept newer. inr refl

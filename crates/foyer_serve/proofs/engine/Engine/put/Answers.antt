@@ -10,7 +10,7 @@ returns-clause-says g c = inl (record {
   key_is = c.in-Ok.ensures.ok.0;
   hash_is = c.in-Ok.ensures.ok.1;
   value_is = c.in-Ok.ensures.ok.2;
-  is = c.tell_put.ensures;
+  is = c.answer_put.ensures;
   says = c.step.ensures.runs (move.Enqueue c.in-Ok.piece c.estimated_size-size.result) refl _;
 })
 

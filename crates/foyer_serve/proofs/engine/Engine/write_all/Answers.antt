@@ -6,8 +6,8 @@ use Rattle.foyer_serve.proofs.engine.Engine.write_all.Goals as goal
 pub loop-init : goal.loop-init
 loop-init g c = drives_none plain c.args.self.now.core (bytes_of c.args.self.now.disk)
 
-pub returns-in_err-tell_block : goal.returns-in_err-tell_block
-returns-in_err-tell_block g c = record { driven = drives_more plain c.args.self.now.core c.loop.self.core c.write_block-wrote.new.core (bytes_of c.args.self.now.disk) (bytes_of c.loop.self.disk) (bytes_of c.write_block-wrote.new.disk) c.loop.invariant c.write_block-wrote.ensures.drives }
+pub returns-in_err-answer_block : goal.returns-in_err-answer_block
+returns-in_err-answer_block g c = record { driven = drives_more plain c.args.self.now.core c.loop.self.core c.write_block-wrote.new.core (bytes_of c.args.self.now.disk) (bytes_of c.loop.self.disk) (bytes_of c.write_block-wrote.new.disk) c.loop.invariant c.write_block-wrote.ensures.drives }
 
 pub returns-then-not-branch : goal.returns-then-not-branch
 returns-then-not-branch g c = record { driven = drives_more plain c.args.self.now.core c.loop.self.core c.write_block-wrote.new.core (bytes_of c.args.self.now.disk) (bytes_of c.loop.self.disk) (bytes_of c.write_block-wrote.new.disk) c.loop.invariant c.write_block-wrote.ensures.drives }

@@ -5,8 +5,8 @@ use Rattle.foyer_code.proofs.codes.counted.StringCode.decode.Goals as goal
 pub returns-in-Err-clause-found : goal.returns-in-Err-clause-found
 returns-in-Err-clause-found g c = tt
 
-pub returns-in-Err-clause-is_spelling : goal.returns-in-Err-clause-is_spelling
-returns-in-Err-clause-is_spelling g c = tt
+pub returns-in-Err-clause-is_decodable : goal.returns-in-Err-clause-is_decodable
+returns-in-Err-clause-is_decodable g c = tt
 
 pub returns-in_err-from_str-in-Ok-clause-memory : goal.returns-in_err-from_str-in-Ok-clause-memory
 returns-in_err-from_str-in-Ok-clause-memory g c = grind (arith, text_lemmas)
@@ -14,5 +14,5 @@ returns-in_err-from_str-in-Ok-clause-memory g c = grind (arith, text_lemmas)
 pub returns-in-Err-clause-refused : goal.returns-in-Err-clause-refused
 returns-in-Err-clause-refused g c = grind (arith, text_lemmas)
 
-pub returns-in_ok-from_str-in-Ok-clause-encodes : goal.returns-in_ok-from_str-in-Ok-clause-encodes
-returns-in_ok-from_str-in-Ok-clause-encodes g c = grind (arith, text_lemmas)
+pub returns-in_ok-from_str-in-Ok-clause-is_encodable : goal.returns-in_ok-from_str-in-Ok-clause-is_encodable
+returns-in_ok-from_str-in-Ok-clause-is_encodable g c = grind (arith, text_lemmas)

@@ -1,6 +1,6 @@
 use Rattle.std.proofs.Common.{◌≡◌, ◌+◌, ◌<◌, ◌≤◌, min, length, vec_len, [], ◌∷◌, ◌++◌, None, refl, ap, ◌∙◌, arith}
 use Rattle.foyer_core.specs.declared.block.flusher.Batch.{Batch}
-use Rattle.foyer_core.specs.declared.block.flusher.Placed.{Placed}
+use Rattle.foyer_core.specs.declared.block.flusher.LaidOut.{LaidOut}
 use Rattle.foyer_core.proofs.BeginLemmas.{one_write, no_write}
 use Rattle.foyer_core.proofs.block.flusher.Flusher.begin.Goals as goal
 use Rattle.foyer_core.proofs.block.flusher.Flusher.begin.Goals.{then-len-gt0, else-len-gt0}
@@ -8,10 +8,10 @@ use Rattle.foyer_core.proofs.block.flusher.Flusher.begin.Goals.{then-len-gt0, el
 pub returns-clause-begins : goal.returns-clause-begins
 returns-clause-begins g c =
     let old = c.args.self.now in
-    let one : Placed g.row.A.Denot = record { writes = c.if-len-gt0.writes; offset = old.next_offset; records = c.replace-2.result } in
+    let one : LaidOut g.row.A.Denot = record { writes = c.if-len-gt0.writes; offset = old.next_offset; records = c.replace-2.result } in
     let all : Batch g.row.K.Denot g.row.V.Denot g.row.P.Denot g.row.A.Denot = record {
       blocks = c.push_back_reserved.new.self;
-      goes_on = c.is_some.result;
+      continues_own_block = c.is_some.result;
       writing = None;
       marks = c.replace-3.result;
       invalid = c.replace-4.result;
@@ -25,9 +25,9 @@ returns-clause-begins g c =
     record {
       batch = all;
       placed = one;
-      told = c.in_ok-told.ensures.items ∙ c.as_slice.ensures.value;
+      issued = c.in_ok-issued.ensures.items ∙ c.as_slice.ensures.value;
       blocks = c.push_back_reserved.ensures.items ∙ ap (λ xs. xs ++ one ∷ []) c.in_ok-writes.ensures.blocks.0;
-      goes_on = c.is_some.ensures;
+      continues_own_block = c.is_some.ensures;
       writing = refl;
       marks = λ i. (c.replace-3.ensures.value i).items;
       invalid = λ i. (c.replace-4.ensures.value i).items;

@@ -1,9 +1,9 @@
 use Rattle.std.proofs.Common.{◌≡◌, Option, Some, map, sym, ap, subst, ◌∙◌}
 use Rattle.foyer_block.specs.Removal.{without_marks}
-use Rattle.foyer_model.specs.Flush.{all_spoiled}
-use Rattle.foyer_model.specs.Step as steps
-use Rattle.foyer_core.specs.Batches.{IsDone, told_ended}
-use Rattle.foyer_core.specs.Flushing.{spoil_of}
+use Rattle.foyer_model.specs.Flush.{all_invalidated}
+use Rattle.foyer_model.specs.Step as model_step
+use Rattle.foyer_core.specs.Batches.{FlusherStep, issued_ended}
+use Rattle.foyer_core.specs.Flushing.{invalid_of}
 use Rattle.foyer_core.specs.Standing.{AreBlocksAs}
 use Rattle.foyer_core.specs.Unchanged.{seen}
 use Rattle.foyer_core.specs.declared.block.flusher.Batch.{Batch}
@@ -16,9 +16,9 @@ returns-clause-done g c = λ m s sound f it ids waiters stands.
     let batch = c.in-Some.batch in
     let is : self.batch ≡ Some batch = cc in
     let gone = c.remove_marks.ensures ∙ ap (without_marks c.args.index.now) c.as_slice.ensures.value in
-    let blocks = subst (λ xs. AreBlocksAs s c.invalidate_all.new.blocks.items it.place it.filling (all_spoiled (map spoil_of xs) it.stats)) c.as_slice-2.ensures.value
+    let blocks = subst (λ xs. AreBlocksAs s c.invalidate_all.new.blocks.items it.place it.filling (all_invalidated (map invalid_of xs) it.stats)) c.as_slice-2.ensures.value
     (c.invalidate_all.ensures s it.place it.filling it.stats stands.blocks) in
-    subst (λ (o : Option (Batch g.row.K.Denot g.row.V.Denot g.row.P.Denot g.row.A.Denot)). IsDone m s sound (steps.FlushEnd f) f it (told_ended m (record { pieces = batch.pieces; waits = batch.waits }))
+    subst (λ (o : Option (Batch g.row.K.Denot g.row.V.Denot g.row.P.Denot g.row.A.Denot)). FlusherStep m s sound (model_step.FlushEnd f) f it (issued_ended m (record { pieces = batch.pieces; waits = batch.waits }))
     (record (seen self) { batch = o }) c.remove_marks.new.self c.invalidate_all.new.blocks.items ids waiters) (sym c.take.ensures.after)
     (ended m s sound f it (seen self) c.args.index.now c.args.blocks.now.items ids waiters stands batch is
     c.remove_marks.new.self c.invalidate_all.new.blocks.items gone blocks)

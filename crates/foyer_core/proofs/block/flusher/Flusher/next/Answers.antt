@@ -1,9 +1,9 @@
 use Rattle.std.proofs.Common.{ℕ, Option, Some, map, sym, ap, subst, ◌∙◌}
 use Rattle.foyer_model.specs.Flush.{released}
 use Rattle.foyer_model.specs.Ids.{with_id, without_id}
-use Rattle.foyer_model.specs.Reply as replies
-use Rattle.foyer_model.specs.Step as steps
-use Rattle.foyer_core.specs.Batches.{IsDone}
+use Rattle.foyer_model.specs.Reply as model_reply
+use Rattle.foyer_model.specs.Step as model_step
+use Rattle.foyer_core.specs.Batches.{FlusherStep}
 use Rattle.foyer_core.specs.Replied.{write_of}
 use Rattle.foyer_core.specs.Unchanged.{seen}
 use Rattle.foyer_core.proofs.NextLemmas.{next_own, next_clean, next_none}
@@ -15,7 +15,7 @@ returns-in-None-clause-done g c = λ m s sound it slots stands.
     let f = c.args.number in
     let left = c.release.ensures.released s it.place it.filling it.stats stands.blocks in
     let waits = c.begin_to_wait.ensures ∙ ap (with_id f) c.reserve.ensures.items in
-    subst (λ (o : Option ℕ). IsDone m s sound (steps.FlushBlock f) f it replies.NoBlock (record (seen self) { own = o; batch = Some c.in-Some.batch })
+    subst (λ (o : Option ℕ). FlusherStep m s sound (model_step.FlushBlock f) f it model_reply.NoBlock (record (seen self) { own = o; batch = Some c.in-Some.batch })
     slots c.hand_out.new.blocks.items c.hand_out.new.clean.items c.begin_to_wait.new.waiting.items) (sym c.release.ensures.left)
     (next_none m s sound f it (seen self) slots c.args.blocks.now.items c.args.clean.now.items c.args.waiting.now.items stands c.in-Some.batch c.in-Some.is
     c.begin_to_wait.new.waiting.items c.hand_out.new.blocks.items c.hand_out.new.clean.items c.in_default-goes_on_with.ensures
@@ -27,12 +27,12 @@ returns-in-Some-goes_on_with-clause-done g c = λ m s sound it slots stands.
     let f = c.args.number in
     let b = c.in-Some-goes_on_with.block in
     let waits = c.end_to_wait.ensures ∙ ap (without_id f) c.reserve.ensures.items in
-    subst (λ (o : Option ℕ). IsDone m s sound (steps.FlushBlock f) f it (replies.Written b (map write_of c.tell.result.items))
-    (record (seen self) { own = o; batch = Some c.tell.new.self }) slots c.args.blocks.now.items c.args.clean.now.items c.end_to_wait.new.waiting.items)
+    subst (λ (o : Option ℕ). FlusherStep m s sound (model_step.FlushBlock f) f it (model_reply.Written b (map write_of c.issue.result.items))
+    (record (seen self) { own = o; batch = Some c.issue.new.self }) slots c.args.blocks.now.items c.args.clean.now.items c.end_to_wait.new.waiting.items)
     (sym c.in-Some-goes_on_with.ensures.1)
     (next_own m s sound f it (seen self) slots c.args.blocks.now.items c.args.clean.now.items c.args.waiting.now.items stands c.in-Some.batch c.in-Some.is
-    c.end_to_wait.new.waiting.items c.tell.new.self b c.tell.result.items c.in-Some-goes_on_with.ensures.0 c.in-Some-goes_on_with.ensures.1
-    (c.tell.ensures.told m s) waits)
+    c.end_to_wait.new.waiting.items c.issue.new.self b c.issue.result.items c.in-Some-goes_on_with.ensures.0 c.in-Some-goes_on_with.ensures.1
+    (c.issue.ensures.issued m s) waits)
 
 pub returns-in-Some-hand_out-clause-done : goal.returns-in-Some-hand_out-clause-done
 returns-in-Some-hand_out-clause-done g c = λ m s sound it slots stands.
@@ -42,6 +42,6 @@ returns-in-Some-hand_out-clause-done g c = λ m s sound it slots stands.
     let left = c.release.ensures.released s it.place it.filling it.stats stands.blocks in
     let waits = c.end_to_wait-in-Some-hand_out.ensures ∙ ap (without_id f) c.reserve.ensures.items in
     next_clean m s sound f it (seen self) slots c.args.blocks.now.items c.args.clean.now.items c.args.waiting.now.items stands c.in-Some.batch c.in-Some.is
-    c.end_to_wait-in-Some-hand_out.new.waiting.items c.tell-in-Some-hand_out.new.self b c.tell-in-Some-hand_out.result.items c.hand_out.new.blocks.items c.hand_out.new.clean.items
+    c.end_to_wait-in-Some-hand_out.new.waiting.items c.issue-in-Some-hand_out.new.self b c.issue-in-Some-hand_out.result.items c.hand_out.new.blocks.items c.hand_out.new.clean.items
     c.in_default-goes_on_with.ensures
-    (c.in-Some-hand_out.ensures.handed s (released self.own it.place) it.filling it.stats it.clean left stands.clean) (c.tell-in-Some-hand_out.ensures.told m s) waits
+    (c.in-Some-hand_out.ensures.handed s (released self.own it.place) it.filling it.stats it.clean left stands.clean) (c.issue-in-Some-hand_out.ensures.issued m s) waits

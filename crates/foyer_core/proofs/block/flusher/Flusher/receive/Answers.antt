@@ -8,12 +8,12 @@ use Rattle.foyer_core.specs.Flushing.{IsFlusherAs}
 use Rattle.foyer_core.specs.Taking.{IsPushed, IsLeftOut}
 use Rattle.foyer_core.specs.Unchanged.{seen}
 use Rattle.foyer_core.specs.declared.block.flusher.Submission.TheVariants.{CacheEntry, Tombstone, Wait}
-use Rattle.foyer_core.proofs.TakenLemmas.{needs_room, some_needs_room, takes_err, wait_kept, mark_kept, spoils_listed, piece_kept, piece_back, short_buffer}
+use Rattle.foyer_core.proofs.TakenLemmas.{needs_room, some_needs_room, takes_err, wait_kept, mark_kept, invalidated_listed, piece_kept, piece_back, short_buffer}
 use Rattle.foyer_core.proofs.block.flusher.Flusher.receive.Goals as goal
 
 pub returns-in_err-make_room-clause-takes : goal.returns-in_err-make_room-clause-takes
 returns-in_err-make_room-clause-takes g c = λ age_of s sound st f size stands.
-    let m = meaning g.K.Code.spelling g.V.Code.spelling g.K.Code.encodes g.V.Code.encodes g.K.Code.is_spelling g.V.Code.is_spelling age_of in
+    let m = meaning g.K.Code.encoding g.V.Code.encoding g.K.Code.is_encodable g.V.Code.is_encodable g.K.Code.is_decodable g.V.Code.is_decodable age_of in
     let φ = seen c.make_room.new.self in
     let there : IsFlusherAs m s φ (st.flushers f) = subst (λ x. IsFlusherAs m s x (st.flushers f)) (sym c.make_room.ensures.kept) stands in
     takes_err m s sound st f c.from_residual.result _ c.from_residual.ensures.0
@@ -25,7 +25,7 @@ returns-in_err-make_room-clause-takes g c = λ age_of s sound st f size stands.
 
 pub returns-then-len-clause-takes : goal.returns-then-len-clause-takes
 returns-then-len-clause-takes g c = λ age_of s sound st f size stands.
-    let m = meaning g.K.Code.spelling g.V.Code.spelling g.K.Code.encodes g.V.Code.encodes g.K.Code.is_spelling g.V.Code.is_spelling age_of in
+    let m = meaning g.K.Code.encoding g.V.Code.encoding g.K.Code.is_encodable g.V.Code.is_encodable g.K.Code.is_decodable g.V.Code.is_decodable age_of in
     let φ = seen c.make_room.new.self in
     let there : IsFlusherAs m s φ (st.flushers f) = subst (λ x. IsFlusherAs m s x (st.flushers f)) (sym c.make_room.ensures.kept) stands in
     let short : length φ.buffer < 2 ^ 32 = short_buffer m s sound st f φ there in
@@ -33,7 +33,7 @@ returns-then-len-clause-takes g c = λ age_of s sound st f size stands.
 
 pub returns-in-Ok-true-clause-takes : goal.returns-in-Ok-true-clause-takes
 returns-in-Ok-true-clause-takes g c = λ age_of s sound st f size stands.
-    let m = meaning g.K.Code.spelling g.V.Code.spelling g.K.Code.encodes g.V.Code.encodes g.K.Code.is_spelling g.V.Code.is_spelling age_of in
+    let m = meaning g.K.Code.encoding g.V.Code.encoding g.K.Code.is_encodable g.V.Code.is_encodable g.K.Code.is_decodable g.V.Code.is_decodable age_of in
     let φ = seen c.make_room.new.self in
     let there : IsFlusherAs m s φ (st.flushers f) = subst (λ x. IsFlusherAs m s x (st.flushers f)) (sym c.make_room.ensures.kept) stands in
     let rest = c.pop_front.new.self.items in
@@ -43,15 +43,15 @@ returns-in-Ok-true-clause-takes g c = λ age_of s sound st f size stands.
     ∙ ap (λ n. min (n - φ.next_offset - length φ.buffer) (2 ^ 32 - 1)) size in
     let p = c.in-Some-CacheEntry.piece in
     let done : c.in-Ok-true.field-0 ≡ true = search rules in
-    let pushed : IsPushed c.room-room.result p.hash c.in-Some-CacheEntry.sequence ((g.K.Code.encodes p.key ≡ true) × (g.V.Code.encodes p.value ≡ true)) (length (g.V.Code.spelling p.value) + length (g.K.Code.spelling p.key))
-    (record_bytes p.hash c.in-Some-CacheEntry.sequence (g.K.Code.spelling p.key) (g.V.Code.spelling p.value)) φ.buffer c.push_record.new.buffer φ.records c.push_record.new.records.items = rw done at c.in-Ok-true.ensures.pushed in
-    piece_kept m s sound st f φ there p c.in-Some-CacheEntry.estimated_size c.in-Some-CacheEntry.sequence c.room-room.result (g.K.Code.encodes p.key) (g.V.Code.encodes p.value)
+    let pushed : IsPushed c.room-room.result p.hash c.in-Some-CacheEntry.sequence ((g.K.Code.is_encodable p.key ≡ true) × (g.V.Code.is_encodable p.value ≡ true)) (length (g.V.Code.encoding p.value) + length (g.K.Code.encoding p.key))
+    (record_bytes p.hash c.in-Some-CacheEntry.sequence (g.K.Code.encoding p.key) (g.V.Code.encoding p.value)) φ.buffer c.push_record.new.buffer φ.records c.push_record.new.records.items = rw done at c.in-Ok-true.ensures.pushed in
+    piece_kept m s sound st f φ there p c.in-Some-CacheEntry.estimated_size c.in-Some-CacheEntry.sequence c.room-room.result (g.K.Code.is_encodable p.key) (g.V.Code.is_encodable p.value)
     c.push_record.new.buffer c.push_record.new.records.items rest _ is room_is refl pushed
     (ap (λ ps. record φ { queue = rest; buffer = c.push_record.new.buffer; records = c.push_record.new.records.items; pieces = ps }) c.push_reserved.ensures.items)
 
 pub returns-in-Ok-false-clause-takes : goal.returns-in-Ok-false-clause-takes
 returns-in-Ok-false-clause-takes g c = λ age_of s sound st f size stands.
-    let m = meaning g.K.Code.spelling g.V.Code.spelling g.K.Code.encodes g.V.Code.encodes g.K.Code.is_spelling g.V.Code.is_spelling age_of in
+    let m = meaning g.K.Code.encoding g.V.Code.encoding g.K.Code.is_encodable g.V.Code.is_encodable g.K.Code.is_decodable g.V.Code.is_decodable age_of in
     let φ = seen c.make_room.new.self in
     let there : IsFlusherAs m s φ (st.flushers f) = subst (λ x. IsFlusherAs m s x (st.flushers f)) (sym c.make_room.ensures.kept) stands in
     let rest = c.pop_front.new.self.items in
@@ -61,14 +61,14 @@ returns-in-Ok-false-clause-takes g c = λ age_of s sound st f size stands.
     ∙ ap (λ n. min (n - φ.next_offset - length φ.buffer) (2 ^ 32 - 1)) size in
     let p = c.in-Some-CacheEntry.piece in
     let done : c.in-Ok-false.field-0 ≡ false = search rules in
-    let out : IsLeftOut c.room-room.result ((g.K.Code.encodes p.key ≡ true) × (g.V.Code.encodes p.value ≡ true)) (length (g.V.Code.spelling p.value) + length (g.K.Code.spelling p.key))
+    let out : IsLeftOut c.room-room.result ((g.K.Code.is_encodable p.key ≡ true) × (g.V.Code.is_encodable p.value ≡ true)) (length (g.V.Code.encoding p.value) + length (g.K.Code.encoding p.key))
     φ.buffer c.push_record.new.buffer φ.records c.push_record.new.records.items = rw done at c.in-Ok-false.ensures.pushed in
-    piece_back m s sound st f φ there p c.in-Some-CacheEntry.estimated_size c.in-Some-CacheEntry.sequence c.room-room.result (g.K.Code.encodes p.key) (g.V.Code.encodes p.value) rest _ is room_is refl out.lacks
+    piece_back m s sound st f φ there p c.in-Some-CacheEntry.estimated_size c.in-Some-CacheEntry.sequence c.room-room.result (g.K.Code.is_encodable p.key) (g.V.Code.is_encodable p.value) rest _ is room_is refl out.lacks
     (λ i. record φ { queue = rest; buffer = out.buffer i; records = out.entries i })
 
 pub returns-in-Err-clause-takes : goal.returns-in-Err-clause-takes
 returns-in-Err-clause-takes g c = λ age_of s sound st f size stands.
-    let m = meaning g.K.Code.spelling g.V.Code.spelling g.K.Code.encodes g.V.Code.encodes g.K.Code.is_spelling g.V.Code.is_spelling age_of in
+    let m = meaning g.K.Code.encoding g.V.Code.encoding g.K.Code.is_encodable g.V.Code.is_encodable g.K.Code.is_decodable g.V.Code.is_decodable age_of in
     let φ = seen c.make_room.new.self in
     let there : IsFlusherAs m s φ (st.flushers f) = subst (λ x. IsFlusherAs m s x (st.flushers f)) (sym c.make_room.ensures.kept) stands in
     let rest = c.pop_front.new.self.items in
@@ -77,18 +77,18 @@ returns-in-Err-clause-takes g c = λ age_of s sound st f size stands.
 
 pub returns-in-Some-Tombstone-clause-takes : goal.returns-in-Some-Tombstone-clause-takes
 returns-in-Some-Tombstone-clause-takes g c = λ age_of s sound st f size stands.
-    let m = meaning g.K.Code.spelling g.V.Code.spelling g.K.Code.encodes g.V.Code.encodes g.K.Code.is_spelling g.V.Code.is_spelling age_of in
+    let m = meaning g.K.Code.encoding g.V.Code.encoding g.K.Code.is_encodable g.V.Code.is_encodable g.K.Code.is_decodable g.V.Code.is_decodable age_of in
     let φ = seen c.make_room.new.self in
     let there : IsFlusherAs m s φ (st.flushers f) = subst (λ x. IsFlusherAs m s x (st.flushers f)) (sym c.make_room.ensures.kept) stands in
     let rest = c.pop_front.new.self.items in
     let info = c.in-Some-Tombstone.info in
     let is : φ.queue ≡ Tombstone info ∷ rest = c.in-Some-Tombstone.ensures.items ∙ ap (λ x. x ∷ rest) c.in-Some-Tombstone.field-0-is in
-    mark_kept m s sound st f φ there info (option_to_list info.stats) rest _ is (spoils_listed info.stats)
-    (λ i. record φ { queue = rest; marks = c.push_reserved-in-Some-Tombstone.ensures.items i; invalid = c.keep_spoils.ensures i })
+    mark_kept m s sound st f φ there info (option_to_list info.stats) rest _ is (invalidated_listed info.stats)
+    (λ i. record φ { queue = rest; marks = c.push_reserved-in-Some-Tombstone.ensures.items i; invalid = c.keep_invalidated.ensures i })
 
 pub returns-in-Some-Wait-clause-takes : goal.returns-in-Some-Wait-clause-takes
 returns-in-Some-Wait-clause-takes g c = λ age_of s sound st f size stands.
-    let m = meaning g.K.Code.spelling g.V.Code.spelling g.K.Code.encodes g.V.Code.encodes g.K.Code.is_spelling g.V.Code.is_spelling age_of in
+    let m = meaning g.K.Code.encoding g.V.Code.encoding g.K.Code.is_encodable g.V.Code.is_encodable g.K.Code.is_decodable g.V.Code.is_decodable age_of in
     let φ = seen c.make_room.new.self in
     let there : IsFlusherAs m s φ (st.flushers f) = subst (λ x. IsFlusherAs m s x (st.flushers f)) (sym c.make_room.ensures.kept) stands in
     let rest = c.pop_front.new.self.items in

@@ -1,7 +1,7 @@
 use Rattle.std.proofs.Common.{◌≡◌, ◌≤◌, ◌-◌, Bool, true, false, Some, length, sym, ap, subst, ◌∙◌, refl, arith}
-use Rattle.foyer_model.specs.Reply as replies
-use Rattle.foyer_model.specs.Step as steps
-use Rattle.foyer_core.specs.Batches.{IsDone}
+use Rattle.foyer_model.specs.Reply as model_reply
+use Rattle.foyer_model.specs.Step as model_step
+use Rattle.foyer_core.specs.Batches.{FlusherStep}
 use Rattle.foyer_core.specs.Unchanged.{seen}
 use Rattle.foyer_core.specs.declared.block.flusher.Batch.{Batch}
 use Rattle.foyer_core.proofs.WroteLemmas.{wrote_next, wrote_last, wrote_fails}
@@ -28,9 +28,9 @@ returns-then-left-gt1 g c = record {
       let writes : (c.in-Some.batch).writing ≡ Some w = sym c.take_writing.ensures.taken ∙ c.in-Some-take_writing.is in
       let left : c.put_writing.new.self ≡ record c.in-Some.batch { writing = Some (record w { left = w.left - 1 }) } =
       c.put_writing.ensures.rest ∙ ap (λ (b : Batch g.row.K.Denot g.row.V.Denot g.row.P.Denot g.row.A.Denot). record b { writing = Some (record w { left = w.left - 1 }) }) c.take_writing.ensures.rest in
-      subst (λ (ok : Bool). IsDone m s sound (steps.FlushWrote f ok) f it replies.Next (record (seen self) { batch = Some c.put_writing.new.self })
+      subst (λ (ok : Bool). FlusherStep m s sound (model_step.FlushWrote f ok) f it model_reply.Next (record (seen self) { batch = Some c.put_writing.new.self })
       c.args.index.now c.args.blocks.now.items ids waiters) (sym c.if-not-is_done.false)
-      (subst (λ b. IsDone m s sound (steps.FlushWrote f true) f it replies.Next (record (seen self) { batch = Some b })
+      (subst (λ b. FlusherStep m s sound (model_step.FlushWrote f true) f it model_reply.Next (record (seen self) { batch = Some b })
       c.args.index.now c.args.blocks.now.items ids waiters) (sym left)
       (wrote_next m s sound f it (seen self) c.args.index.now c.args.blocks.now.items ids waiters stands c.in-Some.batch c.in-Some.is w writes
       (w.left - 1) c.if-left-gt1.true refl));
@@ -43,9 +43,9 @@ returns-in-Some-commit g c = record {
       let w = c.in-Some-take_writing.writing in
       let writes : (c.in-Some.batch).writing ≡ Some w = sym c.take_writing.ensures.taken ∙ c.in-Some-take_writing.is in
       let count : c.in-Some-commit.count ≡ length w.records.items = omega (arith, w.records.ok.0, c.in-Some-commit.ensures.0) in
-      subst (λ (ok : Bool). IsDone m s sound (steps.FlushWrote f ok) f it (replies.Committed c.in-Some-commit.count) (record (seen self) { batch = Some c.take_writing.new.self })
+      subst (λ (ok : Bool). FlusherStep m s sound (model_step.FlushWrote f ok) f it (model_reply.Committed c.in-Some-commit.count) (record (seen self) { batch = Some c.take_writing.new.self })
       c.commit.new.index c.args.blocks.now.items ids waiters) (sym c.if-not-is_done.false)
-      (subst (λ b. IsDone m s sound (steps.FlushWrote f true) f it (replies.Committed c.in-Some-commit.count) (record (seen self) { batch = Some b })
+      (subst (λ b. FlusherStep m s sound (model_step.FlushWrote f true) f it (model_reply.Committed c.in-Some-commit.count) (record (seen self) { batch = Some b })
       c.commit.new.index c.args.blocks.now.items ids waiters) (sym c.take_writing.ensures.rest)
       (wrote_last m s sound f it (seen self) c.args.index.now c.args.blocks.now.items ids waiters stands c.in-Some.batch c.in-Some.is w writes
       c.in-Some-commit.count c.filling_of.result c.commit.new.index c.if-left-gt1.false c.filling_of.ensures count c.in-Some-commit.ensures.1));

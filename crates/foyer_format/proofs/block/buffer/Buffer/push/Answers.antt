@@ -7,15 +7,15 @@ use Rattle.foyer_format.proofs.block.buffer.Buffer.push.Goals as goal
 pub returns-clause-pushed : goal.returns-clause-pushed
 returns-clause-pushed g c =
     let done : c.in_ok-append_record.field-0 ≡ true = search rules in
-    let appended : c.append_record.new.self.bytes.items ≡ c.reserve.new.self.items ++ record_bytes c.args.hash c.args.sequence (g.K.Code.spelling c.args.key.now) (g.V.Code.spelling c.args.value.now) =
+    let appended : c.append_record.new.self.bytes.items ≡ c.reserve.new.self.items ++ record_bytes c.args.hash c.args.sequence (g.K.Code.encoding c.args.key.now) (g.V.Code.encoding c.args.value.now) =
     rw done at c.in_ok-append_record.ensures.appended in
-    let encoded : (g.K.Code.encodes c.args.key.now ≡ true) × (g.V.Code.encodes c.args.value.now ≡ true) = rw done at c.in_ok-append_record.ensures.encoded in
-    let size : c.estimated_size-estimated.result ≡ min (length (g.V.Code.spelling c.args.value.now) + length (g.K.Code.spelling c.args.key.now)) (2 ^ 64 - 1) = c.estimated_size-estimated.ensures encoded.0 encoded.1 in
-    let count = length-record_bytes c.args.hash c.args.sequence (g.K.Code.spelling c.args.key.now) (g.V.Code.spelling c.args.value.now) in
+    let encoded : (g.K.Code.is_encodable c.args.key.now ≡ true) × (g.V.Code.is_encodable c.args.value.now ≡ true) = rw done at c.in_ok-append_record.ensures.encoded in
+    let size : c.estimated_size-estimated.result ≡ min (length (g.V.Code.encoding c.args.value.now) + length (g.K.Code.encoding c.args.key.now)) (2 ^ 64 - 1) = c.estimated_size-estimated.ensures encoded.0 encoded.1 in
+    let count = length-record_bytes c.args.hash c.args.sequence (g.K.Code.encoding c.args.key.now) (g.V.Code.encoding c.args.value.now) in
     let before : c.reserve.new.self.items ≡ c.args.self.now = c.reserve.ensures.items ∙ c.self.view_is in
     pushes c.args.self.now c.append_record.new.self.bytes.items c.resize.new.self.items _ _ (c.len.result + c.whole_pages-padded.result) c.append_record.new.self.bytes.len
     (omega (arith, size, count, c.serialized_len.ensures))
-    (appended ∙ ap (λ t. t ++ record_bytes c.args.hash c.args.sequence (g.K.Code.spelling c.args.key.now) (g.V.Code.spelling c.args.value.now)) before)
+    (appended ∙ ap (λ t. t ++ record_bytes c.args.hash c.args.sequence (g.K.Code.encoding c.args.key.now) (g.V.Code.encoding c.args.value.now)) before)
     (omega (arith, c.len.ensures, c.whole_pages-padded.ensures, c.reserve.new.self.ok.0, ap length before))
     c.append_record.new.self.bytes.ok.0
     c.in_ok-resize.ensures.items

@@ -11,27 +11,27 @@ pub record Sizes : Type 0 where
 
 -- How far a filling of a block has come: its present blob begins at blob, the next data stand at
 -- this offset of the blob, and its index lists these.
-pub record Filling : Type 0 where
+pub record Position : Type 0 where
   pub blob : ℕ
   pub at : ℕ
   pub listed : List BlobEntryIndex
 
 -- where its data end in the block
-abbrev pub end_of : Filling → ℕ
+abbrev pub end_of : Position → ℕ
 end_of f = f.blob + f.at
 
 -- of a block into which nothing was written
-abbrev pub fresh : Sizes → Filling
+abbrev pub fresh : Sizes → Position
 fresh s = record { blob = 0; at = s.index; listed = [] }
 
 -- the next blob begins where the data of the blob before it end
-abbrev pub next_blob : Sizes → Filling → Filling
+abbrev pub next_blob : Sizes → Position → Position
 next_blob s f = record { blob = end_of f; at = s.index; listed = [] }
 
 -- where a splitter goes on
 pub record Context : Type 0 where
   pub sizes : Sizes
-  pub filling : Filling
+  pub filling : Position
 
 -- at the start of a block
 abbrev pub fresh_context : Sizes → Context
@@ -50,7 +50,7 @@ entries_from at (i ∷ is) =
     ∷ entries_from (at + page_up i.len) is
 
 -- the filling with these records behind it
-abbrev pub with_records : Filling → List BufferEntryInfo → Filling
+abbrev pub with_records : Position → List BufferEntryInfo → Position
 with_records f now =
     record { blob = f.blob; at = f.at + taken now; listed = f.listed ++ entries_from f.at now }
 

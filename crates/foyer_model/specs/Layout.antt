@@ -1,11 +1,11 @@
 -- What the placing of a batch must keep: the four facts that the laws need of a splitter.
 use Rattle.std.specs.Prelude.{◌≡◌, ◌≢◌, ℕ, suc, zero, ◌+◌, ◌-◌, ◌<◌, ◌≤◌, nat_le, nat_lt, ◌&&◌, if◌then◌else◌, List, [], ◌∷◌, ◌++◌, length, slice_index, ◌⊎◌}
 use Rattle.foyer_model.specs.Record.{Record}
-use Rattle.foyer_model.specs.Filling.{Filling, tail_of, Write, Part, Spread, records_in, records_of, last_end}
-use Rattle.foyer_model.specs.Rules.{Rules, empty_filling, Splitting}
+use Rattle.foyer_model.specs.Position.{Position, tail_of, Write, Part, BlockLayout, records_in, records_of, last_end}
+use Rattle.foyer_model.specs.Rules.{Rules, first_position, Splitting}
 
 -- where later writes of a filling may fall: at or behind its tail, or into the index of its present blob
-abbrev pub MayWrite : ℕ → Filling → ℕ → Type 0
+abbrev pub MayWrite : ℕ → Position → ℕ → Type 0
 MayWrite index_size f o = (tail_of f ≤ o) ⊎ ((f.blob ≤ o) × (o < f.blob + index_size))
 
 -- a block's bytes after a write
@@ -54,7 +54,7 @@ writes_in rules (p ∷ ps) = rules.writes_of p ++ writes_in rules ps
 -- What goes into one block: its writes fall only where the filling may still be written, and where it may be written
 -- afterwards it could before; after them, over any bytes, each record stands at its offset, behind the first index, and
 -- no later write falls into its pages.
-pub record IsPlaced {C : Type 0} (rules : Rules C) (f : Filling) (s : Spread C) : Type 0 where
+pub record IsLaidOut {C : Type 0} (rules : Rules C) (f : Position) (s : BlockLayout C) : Type 0 where
   pub within : AllWithin (MayWrite rules.index_size f) (writes_in rules s.parts)
   pub shrinks : (o : ℕ) → MayWrite rules.index_size s.end o → MayWrite rules.index_size f o
   pub stand : (g : ℕ → ℕ) → AllStand (all_laid (writes_in rules s.parts) g) (records_in s.parts)
@@ -62,12 +62,12 @@ pub record IsPlaced {C : Type 0} (rules : Rules C) (f : Filling) (s : Spread C) 
   pub behind : AllBehind rules.index_size (records_in s.parts)
 
 -- block after block, the first from f on, the others from nothing
-abbrev pub AllPlaced : {C : Type 0} → Rules C → Filling → List (Spread C) → Type 0
+abbrev pub AllPlaced : {C : Type 0} → Rules C → Position → List (BlockLayout C) → Type 0
 AllPlaced rules f [] = Unit {0}
-AllPlaced rules f (s ∷ ss) = IsPlaced rules f s × AllPlaced rules (empty_filling rules) ss
+AllPlaced rules f (s ∷ ss) = IsLaidOut rules f s × AllPlaced rules (first_position rules) ss
 
 -- a batch has at least one block and holds all of its records in order
-pub record IsSplit {C : Type 0} (rules : Rules C) (f : Filling) (records : List (Record C)) (blocks : List (Spread C)) : Type 0 where
+pub record IsSplit {C : Type 0} (rules : Rules C) (f : Position) (records : List (Record C)) (blocks : List (BlockLayout C)) : Type 0 where
   pub some : blocks ≢ []
   pub all : records_of blocks ≡ records
   pub placed : AllPlaced rules f blocks
@@ -75,7 +75,7 @@ pub record IsSplit {C : Type 0} (rules : Rules C) (f : Filling) (records : List 
 -- what is demanded of a way of placing
 abbrev pub KeepsRecords : {C : Type 0} → Rules C → Splitting C → Type 0
 KeepsRecords {C} rules Splits =
-    (f : Filling) (records : List (Record C)) (blocks : List (Spread C)) → Splits f records blocks → IsSplit rules f records blocks
+    (f : Position) (records : List (Record C)) (blocks : List (BlockLayout C)) → Splits f records blocks → IsSplit rules f records blocks
 
 -- the record fits into an empty block
 abbrev pub FitsBlock : {C : Type 0} → Rules C → List ℕ → Type 0
@@ -87,12 +87,12 @@ AllFitBlock rules [] = Unit {0}
 AllFitBlock rules (r ∷ rs) = FitsBlock rules r.bytes × AllFitBlock rules rs
 
 -- a filling at which a batch may begin: an empty one, or one that a batch has left
-abbrev pub IsLeft : {C : Type 0} → Rules C → Splitting C → Filling → Type 0
+abbrev pub IsLeft : {C : Type 0} → Rules C → Splitting C → Position → Type 0
 IsLeft {C} rules Splits f =
-    (f ≡ empty_filling rules)
-    ⊎ ((g : Filling) × (records : List (Record C)) × (blocks : List (Spread C)) × Splits g records blocks × (f ≡ last_end g blocks))
+    (f ≡ first_position rules)
+    ⊎ ((g : Position) × (records : List (Record C)) × (blocks : List (BlockLayout C)) × Splits g records blocks × (f ≡ last_end g blocks))
 
 -- from there on, records that fit into a block can always be placed
 abbrev pub PlacesAll : {C : Type 0} → Rules C → Splitting C → Type 0
 PlacesAll {C} rules Splits =
-    (f : Filling) (records : List (Record C)) → IsLeft rules Splits f → AllFitBlock rules records → (blocks : List (Spread C)) × Splits f records blocks
+    (f : Position) (records : List (Record C)) → IsLeft rules Splits f → AllFitBlock rules records → (blocks : List (BlockLayout C)) × Splits f records blocks

@@ -1,18 +1,18 @@
--- The plain placing keeps its records: what the plain machine asks of it.
+-- The plain placing keeps its records: what the model asks of it.
 use Rattle.std.proofs.Common.{◌≡◌, ℕ, zero, suc, ◌+◌, ◌-◌, ◌<◌, ◌≤◌, nat_le, nat_lt, Bool, true, false, inl, inr, List, [], ◌∷◌, ◌++◌, map, replicate, length, take, slice_index, refl, sym, ap, subst, ◌∙◌, arith}
 use Rattle.std.proofs.lemmas.Bool.Decides.{nat_tests}
 use Rattle.std.proofs.lemmas.List.{append-nil}
 use Rattle.foyer_format.specs.Page.{page_up}
-use Rattle.foyer_model.specs.Filling.{Filling, tail_of, Data, Write, records_in, last_end}
-use Rattle.foyer_model.specs.Placing.{MayWrite, laid, AllStand, IsBeside, AllOutside, AllBehind, IsPlaced, IsSplit, KeepsRecords, IsLeft, PlacesAll}
+use Rattle.foyer_model.specs.Position.{Position, tail_of, Data, Write, records_in, last_end}
+use Rattle.foyer_model.specs.Layout.{MayWrite, laid, AllStand, IsBeside, AllOutside, AllBehind, IsLaidOut, IsSplit, KeepsRecords, IsLeft, PlacesAll}
 use Rattle.foyer_model.specs.Receive.{bytes_taken}
 use Rattle.foyer_model.specs.Record.{Record}
 use Rattle.foyer_model.proofs.Basics.{take_read}
 use Rattle.foyer_core.specs.Content.{Content, Meaning}
 use Rattle.foyer_core.specs.InOneBlock.{padded, packed, laid_from, parts_of, spread_of, IsInOneBlock}
-use Rattle.foyer_core.specs.Meets.{machine}
-use Rattle.foyer_core.specs.Plain.{page_up_above}
-use Rattle.foyer_core.specs.Sizes.{IsSound}
+use Rattle.foyer_core.specs.Refines.{machine}
+use Rattle.foyer_core.specs.CoreRules.{page_up_above}
+use Rattle.foyer_core.specs.Sizes.{AreValid}
 use Rattle.foyer_core.specs.declared.settings.Settings.{Settings}
 
 length-both : {X : Type 0} (xs ys : List X) → length (xs ++ ys) ≡ length xs + length ys
@@ -77,7 +77,7 @@ module _ {C : Type 0} where
             ∙ index-right (padded r.bytes) (packed rs) (page_up (length r.bytes)) i (sym one)),
       )
 
-  all_outside : (blob index n : ℕ) (end : Filling) (rs : List (Record C)) → end.blob ≡ blob → blob + index ≤ n → n + bytes_taken page_up rs ≤ tail_of end
+  all_outside : (blob index n : ℕ) (end : Position) (rs : List (Record C)) → end.blob ≡ blob → blob + index ≤ n → n + bytes_taken page_up rs ≤ tail_of end
       → AllOutside page_up (MayWrite index end) (laid_from n rs)
   all_outside blob index n end [] same behind within = tt
   all_outside blob index n end (r ∷ rs) same behind within = (
@@ -93,7 +93,7 @@ module _ {C : Type 0} where
   all_records n [] = refl
   all_records n (r ∷ rs) = ap (λ xs. r ∷ xs) (all_records (n + page_up (length r.bytes)) rs)
 
-  pub in_parts : (f : Filling) (rs : List (Record C)) → records_in (parts_of f rs) ≡ laid_from (tail_of f) rs
+  pub in_parts : (f : Position) (rs : List (Record C)) → records_in (parts_of f rs) ≡ laid_from (tail_of f) rs
   in_parts f [] = refl
   in_parts f (r ∷ rs) = append-nil (laid_from (tail_of f) (r ∷ rs))
 
@@ -105,15 +105,15 @@ laid_there w g i lt =
     let at : w.offset + i - w.offset ≡ i = omega arith in
     rw (above, below) (ap (slice_index w.bytes) at)
 
-within_write : (f : Filling) (index o : ℕ) (w : Write) → w.offset ≡ tail_of f → (IsBeside w o → ⊥) → MayWrite index f o
+within_write : (f : Position) (index o : ℕ) (w : Write) → w.offset ≡ tail_of f → (IsBeside w o → ⊥) → MayWrite index f o
 within_write f index o w at inside = go (nat_le (tail_of f) o) refl
   where
     go : (t : Bool) → nat_le (tail_of f) o ≡ t → MayWrite index f o
     go true e = inl (grind (arith, nat_tests))
     go false e = absurd (inside (inl (let lt : o < tail_of f = grind (arith, nat_tests) in omega arith)))
 
-module _ {K V P : Type 0} (m : Meaning K V P) (s : Settings) (sound : IsSound s) where
-  one_placed : (f : Filling) (rs : List (Record Content)) → s.blob_index_size ≤ f.at → IsPlaced (machine m s sound) f (spread_of f rs)
+module _ {K V P : Type 0} (m : Meaning K V P) (s : Settings) (sound : AreValid s) where
+  one_placed : (f : Position) (rs : List (Record Content)) → s.blob_index_size ≤ f.at → IsLaidOut (machine m s sound) f (spread_of f rs)
   one_placed f [] behind = record {
     within = tt;
     shrinks = λ o may. elim may [ inl late ↦ inl (omega arith) | inr early ↦ inr early ];

@@ -20,7 +20,7 @@ pub record AreRecords (n records bytes : ℕ) : Type 0 where
   pub fits : 0 < count → page_up (record_len n) ≤ greatest
   pub sum : bytes ≡ count * page_up (record_len n)
 
--- Why not all records were laid out: a growth was refused, one takes more than it may, or all of them
+-- Why not all records were laid out: an allocation was refused, one takes more than it may, or all of them
 -- take more than 64 bits count.
 abbrev pub IsStop : (n records : ℕ) → Error → Type 0
 IsStop n records e =

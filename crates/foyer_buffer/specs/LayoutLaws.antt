@@ -3,12 +3,12 @@ use Rattle.std.specs.Prelude.{◌≡◌, ℕ, ◌+◌, ◌<◌, ◌≤◌, Bool,
 use Rattle.foyer_device.specs.Section.{Section, bytes_of}
 use Rattle.foyer_buffer.specs.BlockBytes.{all_laid, Each}
 use Rattle.foyer_buffer.specs.Entries.{Entries, IsFinished, IsPacked, entries_at}
-use Rattle.foyer_buffer.specs.Filling.{Sizes, Filling, FitsBlock, fresh, taken}
+use Rattle.foyer_buffer.specs.Position.{Sizes, Position, FitsBlock, fresh, taken}
 use Rattle.foyer_buffer.specs.Fills.{AreSizes, writes_of, records_in, Fills, Blocks, IsLaid}
 use Rattle.foyer_buffer.specs.Stored.{Stored, AreRecords, content_of, entry_of}
 use Rattle.foyer_buffer.specs.Holding.{all_read, Holds}
 use Rattle.foyer_buffer.specs.Listing.{Lists}
-use Rattle.foyer_buffer.specs.Placing.{IsPlaced, parts_of}
+use Rattle.foyer_buffer.specs.Layout.{IsLaidOut, parts_of}
 use Rattle.foyer_buffer.specs.declared.BufferEntryInfo.{BufferEntryInfo}
 use Rattle.foyer_blob.specs.declared.blob.BlobEntryIndex.{BlobEntryIndex}
 use Rattle.foyer_buffer.specs.declared.split.BlobPart.{BlobPart}
@@ -32,13 +32,13 @@ FinishedFits =
 -- a batch is one block after the other, the first going on where the context was
 abbrev pub BatchIsBlocks : Type 0 → Type 0
 BatchIsBlocks A =
-    (s : Sizes) (whole : Section) (infos : List BufferEntryInfo) (f g : Filling) (b : Batch A)
-    → IsPlaced s whole infos f b g → Blocks s whole 0 f infos (map parts_of b.blocks.items) g
+    (s : Sizes) (whole : Section) (infos : List BufferEntryInfo) (f g : Position) (b : Batch A)
+    → IsLaidOut s whole infos f b g → Blocks s whole 0 f infos (map parts_of b.blocks.items) g
 
 -- the parts of a block overlap nothing, and their records stand where their indices say
 abbrev pub BlockIsLaid : Type 0 → Type 0
 BlockIsLaid A =
-    (s : Sizes) (whole : Section) (start : ℕ) (f g : Filling)
+    (s : Sizes) (whole : Section) (start : ℕ) (f g : Position)
     (infos : List BufferEntryInfo) (parts : List (BlobPart A))
     → s.index ≤ f.at → start + taken infos ≤ length (bytes_of whole)
     → Fills s whole start f infos parts g → IsLaid s whole start f infos parts g
@@ -57,7 +57,7 @@ FreshHolds = (s : Sizes) (B : ℕ → ℕ) → AreSizes s → Holds s B (fresh s
 -- once the parts of a block are written, it holds their records behind what it held
 abbrev pub WrittenHolds : Type 0 → Type 0
 WrittenHolds A =
-    (s : Sizes) (whole : Section) (B : ℕ → ℕ) (start : ℕ) (f g : Filling) (es : List BlobEntryIndex)
+    (s : Sizes) (whole : Section) (B : ℕ → ℕ) (start : ℕ) (f g : Position) (es : List BlobEntryIndex)
     (infos : List BufferEntryInfo) (parts : List (BlobPart A))
     → AreSizes s → start + taken infos ≤ length (bytes_of whole) → Each (FitsBlock s) infos
     → Fills s whole start f infos parts g → Holds s B f es
@@ -66,5 +66,5 @@ WrittenHolds A =
 -- a block lists first what it holds, in order
 abbrev pub HeldIsListed : Type 0
 HeldIsListed =
-    (s : Sizes) (B : ℕ → ℕ) (f : Filling) (es all : List BlobEntryIndex)
+    (s : Sizes) (B : ℕ → ℕ) (f : Position) (es all : List BlobEntryIndex)
     → Holds s B f es → Lists s B all_read all → (rest : List BlobEntryIndex) × (all ≡ es ++ rest)

@@ -13,7 +13,7 @@ use Rattle.foyer_buffer.proofs.EntriesLemmas.{size_none, size_cons}
 use Rattle.foyer_format.proofs.PushLemmas.{length-record_bytes}
 use Rattle.foyer_format.specs.declared.compress.Compression.{Compression}
 use Rattle.foyer_format.specs.declared.compress.Compression.TheVariants as compression
-use Rattle.foyer_ffi.specs.Placed.{AreRecords, record_len, greatest}
+use Rattle.foyer_ffi.specs.LaidOut.{AreRecords, record_len, greatest}
 
 -- each entry has so many bytes
 abbrev pub AreLong : ℕ → List Entry → Type 0
@@ -51,12 +51,12 @@ pub record IsPushed (value : List ℕ) (old new : Entries) : Type 0 where
   pub room : new.room ≡ old.room
   pub count : length new.entries ≡ length old.entries + 1
 
-pub pushed : (old new : Entries) (key : ℕ) (value : List ℕ) (c : Compression) (encodes : Type 0) → key < 2 ^ 64
+pub pushed : (old new : Entries) (key : ℕ) (value : List ℕ) (c : Compression) (is_encodable : Type 0) → key < 2 ^ 64
     → AreLong (record_len (length value)) old.entries
     → new ≡ with_entry old key key (record_bytes key key (number_bytes w64 key) (counted value))
-    → FitsBuffer old c encodes (length (counted value) + length (number_bytes w64 key))
+    → FitsBuffer old c is_encodable (length (counted value) + length (number_bytes w64 key))
     → IsPushed value old new
-pushed old new key value c encodes word long is fits =
+pushed old new key value c is_encodable word long is fits =
     let len : length (number_bytes w64 key) ≡ 8 = number_length w64 key word in
     let total : 36 + (length (counted value) + length (number_bytes w64 key)) ≡ record_len (length value) =
     omega (arith, len, length-counted value) in
@@ -73,10 +73,10 @@ pushed old new key value c encodes word long is fits =
     })
 
 -- what a push refuses takes more than there is, or than it may
-pub not_pushed : (b : Entries) (key : ℕ) (value : List ℕ) (c : Compression) (encodes : Type 0) → key < 2 ^ 64 → c ≡ compression.None
-    → encodes → (FitsBuffer b c encodes (length (counted value) + length (number_bytes w64 key)) → ⊥)
+pub not_pushed : (b : Entries) (key : ℕ) (value : List ℕ) (c : Compression) (is_encodable : Type 0) → key < 2 ^ 64 → c ≡ compression.None
+    → is_encodable → (FitsBuffer b c is_encodable (length (counted value) + length (number_bytes w64 key)) → ⊥)
     → record_len (length value) ≤ left_of b → page_up (record_len (length value)) ≤ b.greatest → ⊥
-not_pushed b key value c encodes word plain coded refuses room most =
+not_pushed b key value c is_encodable word plain coded refuses room most =
     let len : length (number_bytes w64 key) ≡ 8 = number_length w64 key word in
     let total : 36 + (length (counted value) + length (number_bytes w64 key)) ≡ record_len (length value) =
     omega (arith, len, length-counted value) in

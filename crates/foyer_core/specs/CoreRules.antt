@@ -1,23 +1,23 @@
--- The plain machine that a core is: its sizes, and what its bytes mean.
+-- The model that a core is: its sizes, and what its bytes mean.
 use Rattle.std.specs.Prelude.{◌≡◌, ℕ, ◌-◌, ◌%◌, ◌^◌, ◌<◌, ◌≤◌, Bool, true, false, nat_lt, ◌&&◌, if◌then◌else◌, List, length, Option, Some, None}
 use Rattle.std.proofs.Common.{arith}
 use Rattle.foyer_format.specs.Page.{page_up}
 use Rattle.foyer_format.specs.Record.{Outcome, record_bytes, pair_of}
 use Rattle.foyer_format.specs.Record.Outcome.{NoRecord, Unsupported, Undecodable, Pair}
-use Rattle.foyer_model.specs.Filling.{tail_of}
-use Rattle.foyer_model.specs.Record as plain
+use Rattle.foyer_model.specs.Position.{tail_of}
+use Rattle.foyer_model.specs.Record as model_record
 use Rattle.foyer_model.specs.Rules.{Rules}
 use Rattle.foyer_core.specs.Content.{Content}
 use Rattle.foyer_core.specs.InOneBlock.{data_writes}
-use Rattle.foyer_core.specs.Sizes.{IsSound}
+use Rattle.foyer_core.specs.Sizes.{AreValid}
 use Rattle.foyer_core.specs.declared.settings.Settings.{Settings}
 
--- what bytes are, as the plain machine has it
-abbrev pub outcome_of : Outcome → plain.Outcome Content
-outcome_of NoRecord = plain.NoRecord
-outcome_of Unsupported = plain.NotSupported
-outcome_of Undecodable = plain.Undecodable
-outcome_of (Pair key value) = plain.Holds (record { key = key; value = value; is_encodable = true })
+-- what bytes are, as the model has it
+abbrev pub outcome_of : Outcome → model_record.Outcome Content
+outcome_of NoRecord = model_record.NoRecord
+outcome_of Unsupported = model_record.NotSupported
+outcome_of Undecodable = model_record.Undecodable
+outcome_of (Pair key value) = model_record.Holds (record { key = key; value = value; is_encodable = true })
 
 -- both codes succeed, and each length has 32 bits
 abbrev pub has_record : Content → Bool
@@ -27,9 +27,9 @@ has_record c = c.is_encodable && (nat_lt (length c.key) (2 ^ 32) && nat_lt (leng
 abbrev pub encoded : (hash sequence : ℕ) → Content → Option (List ℕ)
 encoded hash sequence c = if has_record c then Some (record_bytes hash sequence c.key c.value) else None
 
--- a content that callers have: what can be encoded is spelled as its codes say
-abbrev pub IsSpelled : (is_key is_value : List ℕ → Bool) → Content → Type 0
-IsSpelled is_key is_value c = c.is_encodable ≡ true → (is_key c.key ≡ true) × (is_value c.value ≡ true)
+-- a content that callers have: what can be encoded is encoded as its codes say
+abbrev pub IsEncoded : (is_key is_value : List ℕ → Bool) → Content → Type 0
+IsEncoded is_key is_value c = c.is_encodable ≡ true → (is_key c.key ≡ true) × (is_value c.value ≡ true)
 
 pub page_up_above : (n : ℕ) → n ≤ page_up n
 unfolding page_up
@@ -40,7 +40,7 @@ holds_page size some whole = omega arith
 
 -- The machine of these sizes and codes. Reclaims, pickers and a log aren't built yet; what is left of the block is the
 -- room of a flusher's buffer, and no index is written.
-abbrev pub rules_of : (is_key is_value : List ℕ → Bool) (s : Settings) → IsSound s → Rules Content
+abbrev pub rules_of : (is_key is_value : List ℕ → Bool) (s : Settings) → AreValid s → Rules Content
 rules_of is_key is_value s sound = record {
   flushers = s.flushers;
   blocks = s.blocks;

@@ -7,11 +7,11 @@ abbrev pub MayBegin : {K V P A : Type 0} → Flusher K V P A → Type 0
 MayBegin φ =
     (φ.batch ≡ None) × ((φ.records.items ≢ []) ⊎ ((φ.marks.items ≢ []) ⊎ (φ.waits.items ≢ [])))
 
--- the next block of the batch is to be told
+-- the next block of the batch is to be issued
 abbrev pub HasBlock : {K V P A : Type 0} → Flusher K V P A → Type 0
 HasBlock φ = IsSomeAnd φ.batch (λ batch. (batch.writing ≡ None) × (batch.blocks.items ≢ []))
 
--- a told write is to be reported
+-- an issued write is to be reported
 abbrev pub IsWriting : {K V P A : Type 0} → Flusher K V P A → Type 0
 IsWriting φ = IsSomeAnd φ.batch (λ batch. IsSome batch.writing)
 

@@ -5,7 +5,7 @@ use Rattle.foyer_model.specs.State.{State}
 use Rattle.foyer_model.specs.Rules.{Rules, Splitting}
 use Rattle.foyer_model.specs.Step.{Step}
 use Rattle.foyer_model.specs.Reply.{Reply, NotNow, Refused}
-use Rattle.foyer_model.specs.Does.{Does}
+use Rattle.foyer_model.specs.Changes.{Changes}
 use Rattle.foyer_model.specs.InTurn.{InTurn}
 use Rattle.foyer_model.specs.Refusal.{Draws, MayRefuse}
 
@@ -20,4 +20,4 @@ module _ {C : Type 0} (rules : Rules C) (Splits : Splitting C) (old : State C) w
   Follows step (Refused kind back) new = (back ≡ step) × MayRefuse rules Splits old kind step × (new ≡ old)
   Follows step reply new =
       (old.steps < last_number) × InTurn rules old step
-      × ((done : State C) × Does rules Splits old step reply done × (new ≡ record done { steps = old.steps + 1 }))
+      × ((done : State C) × Changes rules Splits old step reply done × (new ≡ record done { steps = old.steps + 1 }))

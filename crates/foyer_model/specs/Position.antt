@@ -4,13 +4,13 @@ use Rattle.foyer_model.specs.Record.{IndexEntry, Record}
 
 -- How far a filling of a block has come: its present blob begins at blob, the next data stand at this offset of the
 -- blob, and its index lists these.
-pub record Filling : Type 0 where
+pub record Position : Type 0 where
   pub blob : ℕ
   pub at : ℕ
   pub listed : List IndexEntry
 
 -- where its data end
-abbrev pub tail_of : Filling → ℕ
+abbrev pub tail_of : Position → ℕ
 tail_of f = f.blob + f.at
 
 -- what a write puts into a block
@@ -34,9 +34,9 @@ pub record Part (C : Type 0) : Type 0 where
   pub records : List (ℕ × Record C)
 
 -- what a batch puts into one block, and how far the block is filled then
-pub record Spread (C : Type 0) : Type 0 where
+pub record BlockLayout (C : Type 0) : Type 0 where
   pub parts : List (Part C)
-  pub end : Filling
+  pub end : Position
 
 -- the records of these parts, each with its offset
 abbrev pub records_in : {C : Type 0} → List (Part C) → List (ℕ × Record C)
@@ -44,11 +44,11 @@ records_in [] = []
 records_in (p ∷ ps) = p.records ++ records_in ps
 
 -- the records of a batch, in order
-abbrev pub records_of : {C : Type 0} → List (Spread C) → List (Record C)
+abbrev pub records_of : {C : Type 0} → List (BlockLayout C) → List (Record C)
 records_of [] = []
 records_of (s ∷ ss) = map (λ p. p.1) (records_in s.parts) ++ records_of ss
 
 -- where the last block of a batch ends, if it has one
-abbrev pub last_end : {C : Type 0} → Filling → List (Spread C) → Filling
+abbrev pub last_end : {C : Type 0} → Position → List (BlockLayout C) → Position
 last_end f [] = f
 last_end f (s ∷ ss) = last_end s.end ss
