@@ -3,7 +3,7 @@ use Rattle.std.proofs.Common.{ℕ, Bool, false, List, [], None}
 use Rattle.foyer_model.specs.Laws.{Demands}
 use Rattle.foyer_model.specs.Layout.{PlacesAll}
 use Rattle.foyer_core.specs.Content.{Meaning}
-use Rattle.foyer_core.specs.InOneBlock.{IsInOneBlock}
+use Rattle.foyer_core.specs.CoreRules.{layout}
 use Rattle.foyer_core.specs.CoreRules.{rules_of, IsEncoded}
 use Rattle.foyer_core.specs.Sizes.{AreValid}
 use Rattle.foyer_core.specs.declared.settings.Settings.{Settings}
@@ -22,12 +22,12 @@ any_meaning is_key is_value = record {
 }
 
 pub demands : (is_key is_value : List ℕ → Bool) (s : Settings) (sound : AreValid s)
-    → Demands (rules_of is_key is_value s sound) (IsInOneBlock s.blob_index_size) (IsEncoded is_key is_value)
+    → Demands (rules_of is_key is_value s sound) (layout s) (IsEncoded is_key is_value)
 demands is_key is_value s sound = record {
   trips = round_trip (any_meaning is_key is_value) s sound;
   places = keeps_records (any_meaning is_key is_value) s sound;
 }
 
 pub places : (is_key is_value : List ℕ → Bool) (s : Settings) (sound : AreValid s)
-    → PlacesAll (rules_of is_key is_value s sound) (IsInOneBlock s.blob_index_size)
+    → PlacesAll (rules_of is_key is_value s sound) (layout s)
 places is_key is_value s sound = places_all (any_meaning is_key is_value) s sound

@@ -10,7 +10,7 @@ use Rattle.foyer_model.specs.Step as model_step
 use Rattle.foyer_model.specs.Follows.{Follows}
 use Rattle.foyer_core.specs.Asked.{step_of}
 use Rattle.foyer_core.specs.Content.{Content, Meaning}
-use Rattle.foyer_core.specs.InOneBlock.{IsInOneBlock}
+use Rattle.foyer_core.specs.CoreRules.{layout}
 use Rattle.foyer_core.specs.Refines.{FollowsUncounted, machine, IsHandedBack, IsRefinedUncounted, IsRefined}
 use Rattle.foyer_core.specs.Replied.{IsReply}
 use Rattle.foyer_core.specs.Sizes.{AreValid}
@@ -110,7 +110,7 @@ module _ {K V P A : Type 0} (m : Meaning K V P) (s : Settings) (sound : AreValid
       destroy = (turned.stands).destroy;
     });
     reply = turned.reply;
-    follows = counted (machine m s sound) (IsInOneBlock s.blob_index_size) it (step_of m given) turned.it turned.after (ordinary m answer turned.it not turned.reply)
+    follows = counted (machine m s sound) (layout s) it (step_of m given) turned.it turned.after (ordinary m answer turned.it not turned.reply)
         (let same : it.steps ≡ old.steps = stands.steps in omega arith) turned.turns;
   }
 
@@ -121,7 +121,7 @@ module _ {K V P A : Type 0} (m : Meaning K V P) (s : Settings) (sound : AreValid
     it = model_reply.NotNow (step_of m back);
     stands = turned.stands;
     reply = refl;
-    follows = subst (λ r. FollowsUncounted (machine m s sound) (IsInOneBlock s.blob_index_size) it (step_of m given) r turned.after) turned.reply turned.turns;
+    follows = subst (λ r. FollowsUncounted (machine m s sound) (layout s) it (step_of m given) r turned.after) turned.reply turned.turns;
   }
 
   -- one that is refused
@@ -131,7 +131,7 @@ module _ {K V P A : Type 0} (m : Meaning K V P) (s : Settings) (sound : AreValid
     it = model_reply.Refused (turned.reply).0 (step_of m back);
     stands = turned.stands;
     reply = ((turned.reply).0, (turned.reply).1, refl);
-    follows = subst (λ r. FollowsUncounted (machine m s sound) (IsInOneBlock s.blob_index_size) it (step_of m given) r turned.after) (turned.reply).2 turned.turns;
+    follows = subst (λ r. FollowsUncounted (machine m s sound) (layout s) it (step_of m given) r turned.after) (turned.reply).2 turned.turns;
   }
 
   -- one that comes back

@@ -8,7 +8,7 @@ use Rattle.foyer_model.specs.State.{State}
 use Rattle.foyer_model.specs.Follows.{IsOutOfTurn}
 use Rattle.foyer_core.specs.Asked.{step_of}
 use Rattle.foyer_core.specs.Content.{Content, Meaning}
-use Rattle.foyer_core.specs.InOneBlock.{IsInOneBlock}
+use Rattle.foyer_core.specs.CoreRules.{layout}
 use Rattle.foyer_core.specs.Refines.{machine, IsRefinedUncounted}
 use Rattle.foyer_core.specs.Replied.{kind_of}
 use Rattle.foyer_core.specs.Sizes.{AreValid}
@@ -42,7 +42,7 @@ same core = record {
 module _ {K V P A : Type 0} (m : Meaning K V P) (s : Settings) (sound : AreValid s) (given : Step K V P A) (old new : Core K V P A) (it : State Content) where
   -- a step is refused for a cause
   pub refused : (why : ErrorKind) (k : model_reply.Kind) → kind_of why ≡ Some k → IsUnchanged old new → IsStateOf m s old it
-      → MayRefuse (machine m s sound) (IsInOneBlock s.blob_index_size) it k (step_of m given)
+      → MayRefuse (machine m s sound) (layout s) it k (step_of m given)
       → IsRefinedUncounted m s sound given (reply.Refused why given) new it
   refused why k is same stands cause = record {
     after = it;
@@ -54,7 +54,7 @@ module _ {K V P A : Type 0} (m : Meaning K V P) (s : Settings) (sound : AreValid
 
   -- a step is out of turn
   pub not_now : IsUnchanged old new → IsStateOf m s old it
-      → IsOutOfTurn (machine m s sound) (IsInOneBlock s.blob_index_size) it (step_of m given)
+      → IsOutOfTurn (machine m s sound) (layout s) it (step_of m given)
       → IsRefinedUncounted m s sound given (reply.NotNow given) new it
   not_now same stands out = record {
     after = it;

@@ -11,7 +11,8 @@ use Rattle.foyer_model.specs.State as model_state
 use Rattle.foyer_model.specs.Step as model_step
 use Rattle.foyer_core.specs.Content.{Content, Meaning, content_of}
 use Rattle.foyer_core.specs.Flushing.{IsFlusherAs, IsBatchAs, filled_to}
-use Rattle.foyer_core.specs.InOneBlock.{IsInOneBlock, all_writes}
+use Rattle.foyer_core.specs.InOneBlock.{all_writes}
+use Rattle.foyer_core.specs.CoreRules.{layout}
 use Rattle.foyer_core.specs.Refines.{machine}
 use Rattle.foyer_core.specs.Replied.{write_of}
 use Rattle.foyer_core.specs.Sizes.{AreValid}
@@ -42,7 +43,7 @@ pub record FlusherStep {K V P A : Type 0} (m : Meaning K V P) (s : Settings) (so
     (old : model_state.State Content) (answer : model_reply.Reply Content)
     (φ : Seen K V P A) (slots : IndexMap) (states : List BlockState) (ids waiters : List ℕ) : Type 0 where
   pub after : model_state.State Content
-  pub does : Changes (machine m s sound) (IsInOneBlock s.blob_index_size) old given answer after
+  pub does : Changes (machine m s sound) (layout s) old given answer after
   pub flusher : model_state.Flusher Content
   pub flushers : after.flushers ≡ put old.flushers f flusher
   pub it : IsFlusherAs m s φ flusher

@@ -6,9 +6,9 @@ use Rattle.foyer_format.specs.Record.{Outcome, record_bytes, pair_of}
 use Rattle.foyer_format.specs.Record.Outcome.{NoRecord, Unsupported, Undecodable, Pair}
 use Rattle.foyer_model.specs.Position.{tail_of}
 use Rattle.foyer_model.specs.Record as model_record
-use Rattle.foyer_model.specs.Rules.{Rules}
+use Rattle.foyer_model.specs.Rules.{Rules, Splitting}
 use Rattle.foyer_core.specs.Content.{Content}
-use Rattle.foyer_core.specs.InOneBlock.{data_writes}
+use Rattle.foyer_core.specs.InOneBlock.{IsInOneBlock, data_writes}
 use Rattle.foyer_core.specs.Sizes.{AreValid}
 use Rattle.foyer_core.specs.declared.settings.Settings.{Settings}
 
@@ -61,3 +61,7 @@ rules_of is_key is_value s sound = record {
   page_up_above = page_up_above;
   index_holds_page = holds_page s.blob_index_size sound.some_index sound.whole_index;
 }
+
+-- how a batch is laid out
+abbrev pub layout : Settings → Splitting Content
+layout s = IsInOneBlock s.blob_index_size

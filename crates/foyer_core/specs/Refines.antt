@@ -12,7 +12,7 @@ use Rattle.foyer_model.specs.Index.{without}
 use Rattle.foyer_model.specs.Numbers.{put}
 use Rattle.foyer_core.specs.Asked.{address_of, step_of}
 use Rattle.foyer_core.specs.Content.{Content, Meaning}
-use Rattle.foyer_core.specs.InOneBlock.{IsInOneBlock}
+use Rattle.foyer_core.specs.CoreRules.{layout}
 use Rattle.foyer_core.specs.CoreRules.{rules_of}
 use Rattle.foyer_core.specs.Replied.{IsReply}
 use Rattle.foyer_core.specs.Sizes.{AreValid}
@@ -64,7 +64,7 @@ pub record IsRefinedUncounted {K V P A : Type 0} (m : Meaning K V P) (s : Settin
   pub it : model_reply.Reply Content
   pub stands : IsStateOf m s new after
   pub reply : IsReply m answer it
-  pub turns : FollowsUncounted (machine m s sound) (IsInOneBlock s.blob_index_size) old (step_of m given) it after
+  pub turns : FollowsUncounted (machine m s sound) (layout s) old (step_of m given) it after
 
 abbrev pub RefinesUncounted : {K V P A : Type 0} → Meaning K V P → Step K V P A → Reply K V P A → Core K V P A → Core K V P A → Type 0
 RefinesUncounted m given answer old new =
@@ -77,7 +77,7 @@ pub record IsRefined {K V P A : Type 0} (m : Meaning K V P) (s : Settings) (soun
   pub it : model_reply.Reply Content
   pub stands : IsStateOf m s new after
   pub reply : IsReply m answer it
-  pub follows : Follows (machine m s sound) (IsInOneBlock s.blob_index_size) old (step_of m given) it after
+  pub follows : Follows (machine m s sound) (layout s) old (step_of m given) it after
 
 -- From each state of the model that a core stands for the machine of its sizes and codes makes this step, with this reply, to
 -- one that the core stands for afterwards.

@@ -8,7 +8,7 @@ ghost use Rattle.foyer_model.specs.Opened.{IsOpened as IsOpenedWorld};
 ghost use Rattle.foyer_model.specs.Layout.{PlacesAll};
 ghost use Rattle.foyer_core.specs.Begins.{first_state, first_world};
 ghost use Rattle.foyer_core.specs.Content.{Meaning};
-ghost use Rattle.foyer_core.specs.InOneBlock.{IsInOneBlock};
+ghost use Rattle.foyer_core.specs.CoreRules.{layout};
 ghost use Rattle.foyer_core.specs.Opened.{IsOpened};
 ghost use Rattle.foyer_core.specs.CoreRules.{rules_of, IsEncoded};
 ghost use Rattle.foyer_core.specs.Sizes.{AreValid};
@@ -20,9 +20,9 @@ ghost use Rattle.foyer_core.specs.declared.state.Core.{Core};
 /// its pair, and after its writes each record stands where it was placed.
 pub fn demands_are_met()
     ensures demands { (is_key is_value : List ℕ → Bool) (s : Settings) (sound : AreValid s)
-        → Demands (rules_of is_key is_value s sound) (IsInOneBlock s.blob_index_size) (IsEncoded is_key is_value) }
+        → Demands (rules_of is_key is_value s sound) (layout s) (IsEncoded is_key is_value) }
     ensures places { (is_key is_value : List ℕ → Bool) (s : Settings) (sound : AreValid s)
-        → PlacesAll (rules_of is_key is_value s sound) (IsInOneBlock s.blob_index_size) }
+        → PlacesAll (rules_of is_key is_value s sound) (layout s) }
 {}
 
 /// An opened core stands for the first state, and the world with that state is one that the laws begin with, over any
@@ -38,36 +38,36 @@ pub fn opening_begins<K, V, P, A>()
 /// at its look-up.
 pub fn answers_only()
     ensures entry { (is_key is_value : List ℕ → Bool) (s : Settings) (sound : AreValid s)
-        → AnswersOnly (rules_of is_key is_value s sound) (IsInOneBlock s.blob_index_size) (IsEncoded is_key is_value) }
+        → AnswersOnly (rules_of is_key is_value s sound) (layout s) (IsEncoded is_key is_value) }
     ensures run { (is_key is_value : List ℕ → Bool) (s : Settings) (sound : AreValid s)
-        → AnswersNewest (rules_of is_key is_value s sound) (IsInOneBlock s.blob_index_size) (IsEncoded is_key is_value) }
+        → AnswersNewest (rules_of is_key is_value s sound) (layout s) (IsEncoded is_key is_value) }
 {}
 
 /// A newest committed record is answered, unless the load was throttled, its read failed, or memory was refused.
 pub fn missed_only()
     ensures load { (is_key is_value : List ℕ → Bool) (s : Settings) (sound : AreValid s)
-        → MissedOnly (rules_of is_key is_value s sound) (IsInOneBlock s.blob_index_size) (IsEncoded is_key is_value) }
+        → MissedOnly (rules_of is_key is_value s sound) (layout s) (IsEncoded is_key is_value) }
     ensures run { (is_key is_value : List ℕ → Bool) (s : Settings) (sound : AreValid s)
-        → MissedNewest (rules_of is_key is_value s sound) (IsInOneBlock s.blob_index_size) (IsEncoded is_key is_value) }
+        → MissedNewest (rules_of is_key is_value s sound) (layout s) (IsEncoded is_key is_value) }
 {}
 
 /// Each put of the history is what the Enqueue that got its sequence handed in.
 pub fn puts_are_queued()
     ensures { (is_key is_value : List ℕ → Bool) (s : Settings) (sound : AreValid s)
-        → PutsAreQueued (rules_of is_key is_value s sound) (IsInOneBlock s.blob_index_size) (IsEncoded is_key is_value) }
+        → PutsAreQueued (rules_of is_key is_value s sound) (layout s) (IsEncoded is_key is_value) }
 {}
 
 /// A piece is ignored or handed back only where it may be; what was received is laid out, issued, and put when its block is
 /// written; a step is handed back only out of turn or for its cause.
 pub fn steps_keep_their_clauses()
     ensures queue { (is_key is_value : List ℕ → Bool) (s : Settings) (sound : AreValid s)
-        → QueueKeeps (rules_of is_key is_value s sound) (IsInOneBlock s.blob_index_size) }
+        → QueueKeeps (rules_of is_key is_value s sound) (layout s) }
     ensures commit { (is_key is_value : List ℕ → Bool) (s : Settings) (sound : AreValid s)
-        → CommitKeeps (rules_of is_key is_value s sound) (IsInOneBlock s.blob_index_size) }
+        → CommitKeeps (rules_of is_key is_value s sound) (layout s) }
     ensures not_now { (is_key is_value : List ℕ → Bool) (s : Settings) (sound : AreValid s)
-        → NotNowKeeps (rules_of is_key is_value s sound) (IsInOneBlock s.blob_index_size) }
+        → NotNowKeeps (rules_of is_key is_value s sound) (layout s) }
     ensures determined { (is_key is_value : List ℕ → Bool) (s : Settings) (sound : AreValid s)
-        → IsDetermined (rules_of is_key is_value s sound) (IsInOneBlock s.blob_index_size) }
+        → IsDetermined (rules_of is_key is_value s sound) (layout s) }
     ensures replies { (is_key is_value : List ℕ → Bool) (s : Settings) (sound : AreValid s)
-        → InTurnReplies (rules_of is_key is_value s sound) (IsInOneBlock s.blob_index_size) (IsEncoded is_key is_value) }
+        → InTurnReplies (rules_of is_key is_value s sound) (layout s) (IsEncoded is_key is_value) }
 {}

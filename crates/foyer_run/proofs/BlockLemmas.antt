@@ -8,7 +8,7 @@ use Rattle.foyer_model.specs.Follows.{Follows}
 use Rattle.foyer_model.specs.World.{World, Applies}
 use Rattle.foyer_model.proofs.Basics.{put_at}
 use Rattle.foyer_core.specs.Content.{Content, Meaning}
-use Rattle.foyer_core.specs.InOneBlock.{IsInOneBlock}
+use Rattle.foyer_core.specs.CoreRules.{layout}
 use Rattle.foyer_core.specs.Refines.{IsRefined, machine}
 use Rattle.foyer_core.specs.Replied.{IsReply, write_of}
 use Rattle.foyer_core.specs.Sizes.{AreValid}
@@ -101,8 +101,8 @@ module _ {K V P A : Type 0} (m : Meaning K V P) (s : Settings) (sound : AreValid
       flushes (inr (b, is, noted_as)) =
           let written = writes_are answer b is in
           let it_is : met.it ≡ model_reply.Written b (map write_of (written.0).items) = subst (λ r. IsReply m r met.it) written.1 met.reply in
-          let follows : Follows (machine m s sound) (IsInOneBlock s.blob_index_size) w.core (model_step.FlushBlock f) (model_reply.Written b (map write_of (written.0).items)) met.after =
-          subst (λ r. Follows (machine m s sound) (IsInOneBlock s.blob_index_size) w.core (model_step.FlushBlock f) r met.after) it_is met.follows in
+          let follows : Follows (machine m s sound) (layout s) w.core (model_step.FlushBlock f) (model_reply.Written b (map write_of (written.0).items)) met.after =
+          subst (λ r. Follows (machine m s sound) (layout s) w.core (model_step.FlushBlock f) r met.after) it_is met.follows in
           let there : f < s.flushers = (follows.1).0 in
           let within : f < length issued = (let e : length issued ≡ s.flushers = running.flushers in omega arith) in (
             ap length noted_as ∙ set_count issued f (Some (first_issued b (length said))) ∙ running.flushers,
@@ -117,6 +117,6 @@ module _ {K V P A : Type 0} (m : Meaning K V P) (s : Settings) (sound : AreValid
   flusher_there f b answer new w met is =
       let written = writes_are answer b is in
       let it_is : met.it ≡ model_reply.Written b (map write_of (written.0).items) = subst (λ r. IsReply m r met.it) written.1 met.reply in
-      let follows : Follows (machine m s sound) (IsInOneBlock s.blob_index_size) w.core (model_step.FlushBlock f) (model_reply.Written b (map write_of (written.0).items)) met.after =
-      subst (λ r. Follows (machine m s sound) (IsInOneBlock s.blob_index_size) w.core (model_step.FlushBlock f) r met.after) it_is met.follows in
+      let follows : Follows (machine m s sound) (layout s) w.core (model_step.FlushBlock f) (model_reply.Written b (map write_of (written.0).items)) met.after =
+      subst (λ r. Follows (machine m s sound) (layout s) w.core (model_step.FlushBlock f) r met.after) it_is met.follows in
       (follows.1).0

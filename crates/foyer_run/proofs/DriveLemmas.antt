@@ -4,7 +4,7 @@ use Rattle.foyer_model.specs.World.{World, WorldEvent, after_all}
 use Rattle.foyer_core.specs.Answered.{HandsBack}
 use Rattle.foyer_core.specs.Begins.{first_world}
 use Rattle.foyer_core.specs.Content.{Content, Meaning}
-use Rattle.foyer_core.specs.InOneBlock.{IsInOneBlock}
+use Rattle.foyer_core.specs.CoreRules.{layout}
 use Rattle.foyer_core.specs.Refines.{IsBuilt, IsHandedBack, IsRefined, machine}
 use Rattle.foyer_core.specs.CoreRules.{IsEncoded}
 use Rattle.foyer_core.specs.Sizes.{AreValid}
@@ -39,7 +39,7 @@ module _ {K V P A : Type 0} (m : Meaning K V P) where
       let v = after_all rules w one.events in
       let two = then s sound v one.stands one.same in record {
         events = one.events ++ two.events;
-        happened = happen_more rules (IsInOneBlock s.blob_index_size) (IsEncoded m.is_key m.is_value) w one.events two.events one.happened two.happened;
+        happened = happen_more rules (layout s) (IsEncoded m.is_key m.is_value) w one.events two.events one.happened two.happened;
         stands = subst (λ u. IsStateOf m s c u.core) (sym (after_more rules w one.events two.events)) two.stands;
         same = λ b o. ap (λ u. u.bytes b o) (after_more rules w one.events two.events) ∙ two.same b o;
       }
@@ -70,7 +70,7 @@ module _ {K V P A : Type 0} (m : Meaning K V P) where
       let moved = step_moves m s sound encodes w.issued w.block_writes given answer [] (with_ticket (ticket_in answer) []) (unnoted s) [] (answer ∷ []) old new bytes v going.running free back
       (meets s sound v (going.running).stands) later refl refl in record {
         events = going.events ++ moved.events;
-        happened = happen_more rules (IsInOneBlock s.blob_index_size) (IsEncoded m.is_key m.is_value) w going.events moved.events going.happened moved.happened;
+        happened = happen_more rules (layout s) (IsEncoded m.is_key m.is_value) w going.events moved.events going.happened moved.happened;
         stands = subst (λ u. IsStateOf m s new u.core) (sym (after_more rules w going.events moved.events)) (moved.running).stands;
         same = λ b o. ap (λ u. u.bytes b o) (after_more rules w going.events moved.events) ∙ (moved.running).same b o;
       }
@@ -94,7 +94,7 @@ module _ {K V P A : Type 0} (m : Meaning K V P) where
       let driven = drives s sound w history.stands history.same in (
         driven.events,
         record {
-          happened = happen_more rules (IsInOneBlock s.blob_index_size) (IsEncoded m.is_key m.is_value) begun events driven.events history.happened driven.happened;
+          happened = happen_more rules (layout s) (IsEncoded m.is_key m.is_value) begun events driven.events history.happened driven.happened;
           stands = subst (λ u. IsStateOf m s new u.core) (sym (after_more rules begun events driven.events)) driven.stands;
           same = λ b o. ap (λ u. u.bytes b o) (after_more rules begun events driven.events) ∙ driven.same b o;
         },

@@ -9,7 +9,7 @@ use Rattle.foyer_model.proofs.Promises.{answers_newest_lem, missed_newest_lem}
 use Rattle.foyer_model.proofs.PutsQueued.{puts_are_queued_lem}
 use Rattle.foyer_core.specs.Begins.{first_world}
 use Rattle.foyer_core.specs.Content.{Content, Meaning}
-use Rattle.foyer_core.specs.InOneBlock.{IsInOneBlock}
+use Rattle.foyer_core.specs.CoreRules.{layout}
 use Rattle.foyer_core.specs.Refines.{machine}
 use Rattle.foyer_core.specs.CoreRules.{IsEncoded}
 use Rattle.foyer_core.specs.Sizes.{AreValid}
@@ -40,7 +40,7 @@ module _ {K V P : Type 0} (m : Meaning K V P) (s : Settings) (sound : AreValid s
   rules = machine m s sound
 
   abbrev Splits : Splitting Content
-  Splits = IsInOneBlock s.blob_index_size
+  Splits = layout s
 
   abbrev is_value : Content → Type 0
   is_value = IsEncoded m.is_key m.is_value

@@ -19,7 +19,7 @@ use Rattle.foyer_model.proofs.Promises.{reached_more}
 use Rattle.foyer_core.specs.Asked.{step_of, ticket_of, came_of}
 use Rattle.foyer_core.specs.Begins.{first_world}
 use Rattle.foyer_core.specs.Content.{Content, Meaning}
-use Rattle.foyer_core.specs.InOneBlock.{IsInOneBlock}
+use Rattle.foyer_core.specs.CoreRules.{layout}
 use Rattle.foyer_core.specs.Refines.{IsRefined, machine}
 use Rattle.foyer_core.specs.CoreRules.{IsEncoded}
 use Rattle.foyer_core.specs.Replied.{IsReply}
@@ -92,11 +92,11 @@ module _ {K V P A : Type 0} (m : Meaning K V P) where
       → IsHistory m s sound first events core bytes → core.steps + 1 < last_number
       → (after_all (machine m s sound) (first_world (machine m s sound) first) events).kept h ≡ Some b
       → newest h (after_all (machine m s sound) (first_world (machine m s sound) first) events).history ≡ Some (Put h q (Holds c))
-      → Follows (machine m s sound) (IsInOneBlock s.blob_index_size) (after_all (machine m s sound) (first_world (machine m s sound) first) events).core (model_step.LoadBegin h false) answer looked
+      → Follows (machine m s sound) (layout s) (after_all (machine m s sound) (first_world (machine m s sound) first) events).core (model_step.LoadBegin h false) answer looked
       → (t : model_step.Ticket) × (answer ≡ model_reply.Read t) × (t.hash ≡ h)
   looked_up s sound first events h answer looked b q c core bytes history few kept newer follows =
       let rules = machine m s sound in
-      let Splits = IsInOneBlock s.blob_index_size in
+      let Splits = layout s in
       let is_value = IsEncoded m.is_key m.is_value in
       let w = after_all rules (first_world rules first) events in
       let reached : IsReached rules Splits is_value w = record { first = first_world rules first; events = events; opened = first_opened rules first; happened = history.happened; is = refl } in
@@ -129,7 +129,7 @@ module _ {K V P A : Type 0} (m : Meaning K V P) where
       → IsMissedOnly m h old bytes answer
   load_missed h throttled ticket outcome answer old mid new bytes not looks come loads = λ s sound first events history few b q c kept newer.
       let rules = machine m s sound in
-      let Splits = IsInOneBlock s.blob_index_size in
+      let Splits = layout s in
       let is_value = IsEncoded m.is_key m.is_value in
       let w = after_all rules (first_world rules first) events in
       let t = ticket_of ticket in

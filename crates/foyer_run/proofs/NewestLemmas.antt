@@ -17,7 +17,7 @@ use Rattle.foyer_model.proofs.Promises.{answers_newest_lem}
 use Rattle.foyer_core.specs.Asked.{age_of, ticket_of, came_of}
 use Rattle.foyer_core.specs.Begins.{first_world}
 use Rattle.foyer_core.specs.Content.{Content, Meaning, content}
-use Rattle.foyer_core.specs.InOneBlock.{IsInOneBlock}
+use Rattle.foyer_core.specs.CoreRules.{layout}
 use Rattle.foyer_core.specs.Refines.{IsRefined, machine}
 use Rattle.foyer_core.specs.CoreRules.{IsEncoded}
 use Rattle.foyer_core.specs.Sizes.{AreValid}
@@ -47,7 +47,7 @@ module _ {K V P A : Type 0} (m : Meaning K V P) where
   look_up_newest h throttled (reply.Entry key value age) old new bytes meets = λ s sound first events history.
       let w = after_all (machine m s sound) (first_world (machine m s sound) first) events in
       let met = meets s sound w history.stands in
-      let follows = subst (λ r. Follows (machine m s sound) (IsInOneBlock s.blob_index_size) w.core (model_step.LoadBegin h throttled) r met.after) met.reply met.follows in
+      let follows = subst (λ r. Follows (machine m s sound) (layout s) w.core (model_step.LoadBegin h throttled) r met.after) met.reply met.follows in
       absurd (no_entry (machine m s sound) w.core (follows.2).0 h throttled (w.core.index h) (content m key value) (age_of age) (follows.2).1)
   look_up_newest h throttled answer old new bytes meets = tt
 
@@ -59,7 +59,7 @@ module _ {K V P A : Type 0} (m : Meaning K V P) where
       → IsNewest m h old bytes answer
   load_newest h throttled ticket outcome (reply.Entry key value age) old mid new bytes looks come loads = λ s sound first events history.
       let rules = machine m s sound in
-      let Splits = IsInOneBlock s.blob_index_size in
+      let Splits = layout s in
       let is_value = IsEncoded m.is_key m.is_value in
       let w = after_all rules (first_world rules first) events in
       let t = ticket_of ticket in

@@ -5,7 +5,7 @@ use Rattle.foyer_model.specs.Access.{BlockWrites}
 use Rattle.foyer_model.specs.Rules.{Rules, Splitting}
 use Rattle.foyer_model.specs.World.{World, WorldEvent, MayAllHappen, after, after_all}
 use Rattle.foyer_core.specs.Content.{Content, Meaning}
-use Rattle.foyer_core.specs.InOneBlock.{IsInOneBlock}
+use Rattle.foyer_core.specs.CoreRules.{layout}
 use Rattle.foyer_core.specs.Refines.{machine}
 use Rattle.foyer_core.specs.CoreRules.{IsEncoded}
 use Rattle.foyer_core.specs.Sizes.{AreValid}
@@ -75,7 +75,7 @@ module _ {K V P : Type 0} (m : Meaning K V P) (s : Settings) (sound : AreValid s
   -- these moves were made, and a run is under way
   pub record IsGoing {A : Type 0} (w : World Content) (moves : List (Move K V P A)) (tickets : List (Option Ticket)) (issued : List (Option Issued)) (said : List (Reply K V P A)) (core : Core K V P A) (bytes : ℕ → ℕ → ℕ) : Type 0 where
     pub events : List (WorldEvent Content)
-    pub happened : MayAllHappen rules (IsInOneBlock s.blob_index_size) (IsEncoded m.is_key m.is_value) w events
+    pub happened : MayAllHappen rules (layout s) (IsEncoded m.is_key m.is_value) w events
     pub made : AreMade m s sound w.issued w.block_writes w moves events said
     pub running : IsRunning m s w.issued w.block_writes tickets issued said core bytes (after_all rules w events)
 
@@ -117,7 +117,7 @@ module _ {K V P : Type 0} (m : Meaning K V P) (s : Settings) (sound : AreValid s
       → IsGoing w (moves ++ x ∷ []) tickets' issued' said' core' bytes'
   going_on w moves x tickets tickets' issued issued' said said' core core' bytes bytes' going moved = record {
     events = going.events ++ moved.events;
-    happened = happen_more rules (IsInOneBlock s.blob_index_size) (IsEncoded m.is_key m.is_value) w going.events moved.events going.happened moved.happened;
+    happened = happen_more rules (layout s) (IsEncoded m.is_key m.is_value) w going.events moved.events going.happened moved.happened;
     made = subst (λ rs. AreMade m s sound w.issued w.block_writes w (moves ++ x ∷ []) (going.events ++ moved.events) rs) (sym moved.replies)
         (made_more w.issued w.block_writes w moves x going.events moved.events said moved.answers going.made moved.made);
     running = subst (λ v. IsRunning m s w.issued w.block_writes tickets' issued' said' core' bytes' v) (sym (after_more rules w going.events moved.events)) moved.running;

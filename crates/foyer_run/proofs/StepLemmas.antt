@@ -9,7 +9,7 @@ use Rattle.foyer_model.proofs.Basics.{put_same, put_other}
 use Rattle.foyer_core.specs.Answered.{HandsBack}
 use Rattle.foyer_core.specs.Asked.{step_of, ticket_of}
 use Rattle.foyer_core.specs.Content.{Content, Meaning, content, meaning}
-use Rattle.foyer_core.specs.InOneBlock.{IsInOneBlock}
+use Rattle.foyer_core.specs.CoreRules.{layout}
 use Rattle.foyer_core.specs.Refines.{IsBuilt, IsHandedBack, IsRefined, machine}
 use Rattle.foyer_core.specs.CoreRules.{IsEncoded}
 use Rattle.foyer_core.specs.Replied.{IsReply}
@@ -97,7 +97,7 @@ module _ {K V P A : Type 0} (m : Meaning K V P) where
   free_beside given free = tt
 
   module _ (s : Settings) (sound : AreValid s) (encodes : Encodes m) where
-    fed : (w : World Content) (given : Step K V P A) → IsFree given → IsFed (machine m s sound) (IsInOneBlock s.blob_index_size) (IsEncoded m.is_key m.is_value) w (step_of m given)
+    fed : (w : World Content) (given : Step K V P A) → IsFree given → IsFed (machine m s sound) (layout s) (IsEncoded m.is_key m.is_value) w (step_of m given)
     fed w (step.Enqueue piece size) free = (free, encodes piece.key piece.value)
     fed w (step.LoadEnd ticket outcome) free = absurd free
     fed w (step.FlushWrote f outcome) free = absurd free

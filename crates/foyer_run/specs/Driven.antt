@@ -2,7 +2,7 @@
 use Rattle.std.specs.Prelude.{◌≡◌, ℕ, List}
 use Rattle.foyer_model.specs.World.{World, WorldEvent, MayAllHappen, after_all}
 use Rattle.foyer_core.specs.Content.{Content, Meaning}
-use Rattle.foyer_core.specs.InOneBlock.{IsInOneBlock}
+use Rattle.foyer_core.specs.CoreRules.{layout}
 use Rattle.foyer_core.specs.Refines.{machine}
 use Rattle.foyer_core.specs.CoreRules.{IsEncoded}
 use Rattle.foyer_core.specs.Sizes.{AreValid}
@@ -13,7 +13,7 @@ use Rattle.foyer_core.specs.declared.state.Core.{Core}
 -- events that may happen from this world on lead to a world whose core and bytes these are
 pub record IsDriven {K V P A : Type 0} (m : Meaning K V P) (s : Settings) (sound : AreValid s) (w : World Content) (core : Core K V P A) (bytes : ℕ → ℕ → ℕ) : Type 0 where
   pub events : List (WorldEvent Content)
-  pub happened : MayAllHappen (machine m s sound) (IsInOneBlock s.blob_index_size) (IsEncoded m.is_key m.is_value) w events
+  pub happened : MayAllHappen (machine m s sound) (layout s) (IsEncoded m.is_key m.is_value) w events
   pub stands : IsStateOf m s core (after_all (machine m s sound) w events).core
   pub same : (b o : ℕ) → (after_all (machine m s sound) w events).bytes b o ≡ bytes b o
 

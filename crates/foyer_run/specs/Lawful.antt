@@ -12,7 +12,7 @@ use Rattle.foyer_model.specs.Step.{Age, ReadResult, Ticket, LoadBegin, LoadEnd}
 use Rattle.foyer_model.specs.World.{World, WorldEvent, Applies, MayAllHappen, after_all}
 use Rattle.foyer_core.specs.Begins.{first_world}
 use Rattle.foyer_core.specs.Content.{Content, Meaning}
-use Rattle.foyer_core.specs.InOneBlock.{IsInOneBlock}
+use Rattle.foyer_core.specs.CoreRules.{layout}
 use Rattle.foyer_core.specs.Refines.{machine}
 use Rattle.foyer_core.specs.CoreRules.{IsEncoded}
 use Rattle.foyer_core.specs.Sizes.{AreValid}
@@ -74,7 +74,7 @@ module _ {C : Type 0} (rules : Rules C) (first : World C) (events : List (WorldE
 -- and the laws hold of them.
 pub record IsLawful {K V P A : Type 0} (m : Meaning K V P) (s : Settings) (sound : AreValid s) (bytes : ℕ → ℕ → ℕ) (moves : List (Move K V P A)) (said : List (Reply K V P A)) : Type 0 where
   pub events : List (WorldEvent Content)
-  pub happened : MayAllHappen (machine m s sound) (IsInOneBlock s.blob_index_size) (IsEncoded m.is_key m.is_value) (first_world (machine m s sound) bytes) events
+  pub happened : MayAllHappen (machine m s sound) (layout s) (IsEncoded m.is_key m.is_value) (first_world (machine m s sound) bytes) events
   pub made : AreMade m s sound 0 (λ f. Idle) (first_world (machine m s sound) bytes) moves events said
   pub answers : AnswersAreNewest (machine m s sound) (first_world (machine m s sound) bytes) events
   pub entries : EntriesAreNewest (machine m s sound) (first_world (machine m s sound) bytes) events

@@ -7,7 +7,7 @@ use Rattle.foyer_model.specs.Record.{Holds}
 use Rattle.foyer_model.specs.World.{WorldEvent, MayAllHappen, after_all}
 use Rattle.foyer_core.specs.Begins.{first_world}
 use Rattle.foyer_core.specs.Content.{Content, Meaning, content}
-use Rattle.foyer_core.specs.InOneBlock.{IsInOneBlock}
+use Rattle.foyer_core.specs.CoreRules.{layout}
 use Rattle.foyer_core.specs.Refines.{machine}
 use Rattle.foyer_core.specs.CoreRules.{IsEncoded}
 use Rattle.foyer_core.specs.Sizes.{AreValid}
@@ -19,7 +19,7 @@ use Rattle.foyer_core.specs.declared.state.Core.{Core}
 
 -- these events led from an opened core over some bytes to this core and these bytes
 pub record IsHistory {K V P A : Type 0} (m : Meaning K V P) (s : Settings) (sound : AreValid s) (first : ℕ → ℕ → ℕ) (events : List (WorldEvent Content)) (core : Core K V P A) (bytes : ℕ → ℕ → ℕ) : Type 0 where
-  pub happened : MayAllHappen (machine m s sound) (IsInOneBlock s.blob_index_size) (IsEncoded m.is_key m.is_value) (first_world (machine m s sound) first) events
+  pub happened : MayAllHappen (machine m s sound) (layout s) (IsEncoded m.is_key m.is_value) (first_world (machine m s sound) first) events
   pub stands : IsStateOf m s core (after_all (machine m s sound) (first_world (machine m s sound) first) events).core
   pub same : (b o : ℕ) → (after_all (machine m s sound) (first_world (machine m s sound) first) events).bytes b o ≡ bytes b o
 

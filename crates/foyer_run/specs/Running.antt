@@ -8,7 +8,7 @@ use Rattle.foyer_model.specs.Step as model_step
 use Rattle.foyer_model.specs.World.{World, WorldEvent, MayAllHappen, after_all}
 use Rattle.foyer_core.specs.Asked.{ticket_of}
 use Rattle.foyer_core.specs.Content.{Content, Meaning}
-use Rattle.foyer_core.specs.InOneBlock.{IsInOneBlock}
+use Rattle.foyer_core.specs.CoreRules.{layout}
 use Rattle.foyer_core.specs.Refines.{machine}
 use Rattle.foyer_core.specs.CoreRules.{IsEncoded}
 use Rattle.foyer_core.specs.Replied.{write_of}
@@ -101,7 +101,7 @@ pub record IsRunning {K V P A : Type 0} (m : Meaning K V P) (s : Settings) (firs
 pub record IsMoved {K V P A : Type 0} (m : Meaning K V P) (s : Settings) (sound : AreValid s) (first : ℕ) (block_writes : ℕ → BlockWrites) (x : Asked K V P A) (before : List (Reply K V P A)) (tickets : List (Option Ticket)) (issued : List (Option Issued)) (said : List (Reply K V P A)) (core : Core K V P A) (bytes : ℕ → ℕ → ℕ) (w : World Content) : Type 0 where
   pub events : List (WorldEvent Content)
   pub answers : List (Reply K V P A)
-  pub happened : MayAllHappen (machine m s sound) (IsInOneBlock s.blob_index_size) (IsEncoded m.is_key m.is_value) w events
+  pub happened : MayAllHappen (machine m s sound) (layout s) (IsEncoded m.is_key m.is_value) w events
   pub made : Makes m first block_writes w x events answers
   pub replies : said ≡ before ++ answers
   pub running : IsRunning m s first block_writes tickets issued said core bytes (after_all (machine m s sound) w events)
