@@ -4,7 +4,8 @@ ghost use Rattle.std.specs.Prelude.{◌≡◌, ◌+◌, ◌^◌, ◌<◌, ◌≤
 ghost use Rattle.std.specs.Bool.{OnTrue, OnFalse};
 ghost use Rattle.foyer_device.specs.declared.error.Error.{Error as error};
 ghost use Rattle.foyer_format.specs.Page.{page_up};
-ghost use Rattle.foyer_buffer.specs.Entries.{FitsBuffer, IsFinished, with_entry, left_of, size_of};
+ghost use Rattle.foyer_buffer.specs.Entries.{EachTakes, FitsBuffer, IsFinished, IsPacked, entries_at, with_entry, left_of, size_of};
+ghost use Rattle.foyer_buffer.specs.Position.{taken};
 ghost use Rattle.foyer_format.specs.Record.{record_bytes};
 
 use super::BufferEntryInfo;
@@ -170,5 +171,30 @@ impl<A: Allocator> Buffer<A> {
         } = self;
         let Pages { bytes, .. } = pages;
         (bytes, entry_infos)
+    }
+
+    /// The buffer that was finished, with all that it had, to be filled further.
+    pub fn resume(
+        bytes: IoSliceMut<A>,
+        entry_infos: Vec<BufferEntryInfo, A>,
+        written: usize,
+        entry_limit: usize,
+    ) -> Buffer<A>
+        requires packed { IsPacked 0 entry_infos.items }
+        requires written { taken entry_infos.items ≡ written }
+        requires within { written ≤ length bytes }
+        requires each { EachTakes entry_limit entry_infos.items }
+        requires greatest { entry_limit < 2 ^ 32 }
+        ensures entries { result.entries ≡ entries_at bytes entry_infos.items }
+        ensures room { result.room ≡ length bytes }
+        ensures greatest { result.greatest ≡ entry_limit }
+    {
+        // A page buffer holds whole pages, as its length says.
+        let _ = bytes.len();
+        Buffer {
+            pages: Pages { bytes, written },
+            entry_infos,
+            max_entry_size: entry_limit,
+        }
     }
 }

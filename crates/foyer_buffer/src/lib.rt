@@ -23,7 +23,7 @@ pub use laws::{
 pub use split::{Batch, BlobPart, Block, SplitCtx, Splitter};
 
 /// Where a record stands in a buffer: its first byte, and its length without the padding.
-#[derive(Clone, Debug, Drop)]
+#[derive(Clone, Copy, Debug)]
 pub struct BufferEntryInfo {
     pub hash: u64,
     pub sequence: Sequence,

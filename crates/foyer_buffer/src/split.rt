@@ -106,6 +106,15 @@ impl<A: Allocator> SplitCtx<A> {
         })
     }
 
+    /// At the start of a block again, with an index without entries. It takes no memory.
+    pub fn reset(&mut self)
+        ensures { self.new ≡ fresh_context self.old.sizes }
+    {
+        self.current_blob_block_offset = 0;
+        self.current_part_blob_offset = self.blob_index_size;
+        self.current_blob_index.reset();
+    }
+
     // A split that begins here.
     fn begin(&self, alloc: &A) -> Result<Splitting<A>>
     where

@@ -4,7 +4,7 @@ use Rattle.std.proofs.lemmas.Bool.Decides.{nat_tests}
 use Rattle.std.proofs.lemmas.List.{append-nil}
 use Rattle.foyer_format.specs.Page.{page_up}
 use Rattle.foyer_model.specs.Position.{Position, tail_of, Data, Write, records_in, last_end}
-use Rattle.foyer_model.specs.Layout.{MayWrite, laid, AllStand, IsBeside, AllOutside, AllBehind, IsLaidOut, IsSplit, KeepsRecords, IsLeft, PlacesAll}
+use Rattle.foyer_model.specs.Layout.{MayWrite, laid, AllStand, IsBeside, AllOutside, AllBehind, KeepsBlock, KeepsBatch, KeepsRecords, IsLeft, PlacesAll}
 use Rattle.foyer_model.specs.Receive.{bytes_taken}
 use Rattle.foyer_model.specs.Record.{Record}
 use Rattle.foyer_model.proofs.Basics.{take_read}
@@ -113,7 +113,7 @@ within_write f index o w at inside = go (nat_le (tail_of f) o) refl
     go false e = absurd (inside (inl (let lt : o < tail_of f = grind (arith, nat_tests) in omega arith)))
 
 module _ {K V P : Type 0} (m : Meaning K V P) (s : Settings) (sound : AreValid s) where
-  one_placed : (f : Position) (rs : List (Record Content)) → s.blob_index_size ≤ f.at → IsLaidOut (machine m s sound) f (spread_of f rs)
+  one_placed : (f : Position) (rs : List (Record Content)) → s.blob_index_size ≤ f.at → KeepsBlock (machine m s sound) f (spread_of f rs)
   one_placed f [] behind = record {
     within = tt;
     shrinks = λ o may. elim may [ inl late ↦ inl (omega arith) | inr early ↦ inr early ];
@@ -134,7 +134,7 @@ module _ {K V P : Type 0} (m : Meaning K V P) (s : Settings) (sound : AreValid s
       w = record { role = Data; offset = f.blob + f.at; bytes = packed (r ∷ rs) }
 
   pub keeps_records : KeepsRecords (machine m s sound) (IsInOneBlock s.blob_index_size)
-  keeps_records f rs blocks split = subst (IsSplit (machine m s sound) f rs) (sym split.1) (record {
+  keeps_records f rs blocks split = subst (KeepsBatch (machine m s sound) f rs) (sym split.1) (record {
     some = λ e. cc;
     all = append-nil (map (λ p. p.1) (records_in (parts_of f rs))) ∙ ap (map (λ p. p.1)) (in_parts f rs) ∙ all_records (tail_of f) rs;
     placed = (one_placed f rs split.0, tt);

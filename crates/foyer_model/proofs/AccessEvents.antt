@@ -9,7 +9,7 @@ use Rattle.foyer_model.specs.State.{Writing, Flusher, BlockSet}
 use Rattle.foyer_model.specs.Rules.{Rules}
 use Rattle.foyer_model.specs.Step.{ReadResult, Bytes, Fault}
 use Rattle.foyer_model.specs.Layout.{laid, all_laid, read, AllStand, IsBeside, AllBehind}
-use Rattle.foyer_model.specs.Access.{BlockWrites, Idle, Issued, InFlight, CleanState, CleanIdle, Asked, CleanInFlight, CleanDone, ReadState, ReadIssued, Reading, ReadDone, Load, is_in, writes_covers, some_writes_covers, clean_covers, begun, read_torn, came, at_load, writes_begun, will_cover, writes_ended, bytes_ended, clean_will_cover, cleaned_page, bytes_cleaned, IsRead, IsTorn, IsTornClean}
+use Rattle.foyer_model.specs.Access.{BlockWrites, Idle, Issued, InFlight, CleanState, CleanIdle, CleanIssued, CleanInFlight, CleanDone, ReadState, ReadIssued, Reading, ReadDone, Load, is_in, writes_covers, some_writes_covers, clean_covers, begun, read_torn, came, at_load, writes_begun, will_cover, writes_ended, bytes_ended, clean_will_cover, cleaned_page, bytes_cleaned, IsRead, IsTorn, IsTornClean}
 use Rattle.foyer_model.specs.World.{World, covers, IsReadAt}
 use Rattle.foyer_model.proofs.Basics.{put_at, put_other, read_same, take_read, put_one}
 use Rattle.foyer_model.proofs.Invariant.{Ground, ground_of, InPages, Spares, WritesSpare, IsSolid, IsGood, writing_in, line_of, ReadStateHolds, IsPromised, LoadOk, AreLeft, AllWell, WritesFit, WritingOk, FlusherInvariant, WorldInvariant, one_owner}
@@ -79,7 +79,7 @@ module _ {C : Type 0} (rules : Rules C) where
   -- a clean covers the first page alone
   pub clean_spares : (clean_state : CleanState) (a : Address) (o : ℕ) → page ≤ a.offset → InPages rules a o → clean_covers clean_state o ≡ false
   clean_spares CleanIdle a o past inside = refl
-  clean_spares Asked a o past inside = refl
+  clean_spares CleanIssued a o past inside = refl
   clean_spares (CleanDone ok) a o past inside = refl
   clean_spares CleanInFlight a o past inside = go (nat_lt o page) refl
     where
@@ -176,7 +176,7 @@ module _ {C : Type 0} (rules : Rules C) where
   clean_will_spare b CleanIdle a o past inside = refl
   clean_will_spare b CleanInFlight a o past inside = refl
   clean_will_spare b (CleanDone ok) a o past inside = refl
-  clean_will_spare b Asked a o past inside = go (a.block == b) (nat_lt o page) refl
+  clean_will_spare b CleanIssued a o past inside = go (a.block == b) (nat_lt o page) refl
     where
       go : (s t : Bool) → nat_lt o page ≡ t → (s && t) ≡ false
       go true true e = absurd (let low : a.offset ≤ o = inside.0 in grind (arith, nat_tests, past, low, e))
@@ -347,7 +347,7 @@ module _ {C : Type 0} (rules : Rules C) where
   pub cleaned_behind : (bytes : ℕ → ℕ → ℕ) (b : ℕ) (clean_state : CleanState) (ok : Bool) (k : ℕ → ℕ) → IsTornClean bytes b clean_state k
       → (c o : ℕ) → page ≤ o → bytes_cleaned ok k b clean_state bytes c o ≡ bytes c o
   cleaned_behind bytes b CleanIdle ok k torn c o past = refl
-  cleaned_behind bytes b Asked ok k torn c o past = refl
+  cleaned_behind bytes b CleanIssued ok k torn c o past = refl
   cleaned_behind bytes b (CleanDone j) ok k torn c o past = refl
   cleaned_behind bytes b CleanInFlight ok k torn c o past =
       put_at (λ g. g o ≡ bytes c o) bytes b (if ok then cleaned_page (bytes b) else k) c

@@ -5,7 +5,7 @@ use Rattle.foyer_model.specs.Record.{Address, Outcome, Record}
 use Rattle.foyer_model.specs.Position.{Position, Write, BlockLayout, records_in, records_of, last_end}
 use Rattle.foyer_model.specs.State.{Writing, Batch, Flusher, BlockSet, Writes}
 use Rattle.foyer_model.specs.Rules.{Rules, first_position}
-use Rattle.foyer_model.specs.Layout.{MayWrite, all_laid, AllStand, AllOutside, AllBehind, writes_in, AllPlaced}
+use Rattle.foyer_model.specs.Layout.{MayWrite, all_laid, AllStand, AllOutside, AllBehind, writes_in, KeepsBlocks}
 use Rattle.foyer_model.specs.Flush.{released, writing_of}
 use Rattle.foyer_model.specs.Access.{BlockWrites, writes_of}
 use Rattle.foyer_model.specs.World.{World}
@@ -25,8 +25,8 @@ module _ {C : Type 0} (rules : Rules C) where
   start_other filled b e (Some c) true far = put_other filled b e c (λ at. far (ap (λ k. Some k) at))
 
   pub split_other : (filled : ℕ → Position) (b : ℕ) (e : Position) (own : Option ℕ) (continues_own_block : Bool) (blocks : List (BlockLayout C)) → (own ≡ Some b → ⊥)
-      → AllPlaced rules (start_of rules filled own continues_own_block) blocks → AllPlaced rules (start_of rules (put filled b e) own continues_own_block) blocks
-  split_other filled b e own continues_own_block blocks far ok = subst (λ g. AllPlaced rules g blocks) (sym (start_other filled b e own continues_own_block far)) ok
+      → KeepsBlocks rules (start_of rules filled own continues_own_block) blocks → KeepsBlocks rules (start_of rules (put filled b e) own continues_own_block) blocks
+  split_other filled b e own continues_own_block blocks far ok = subst (λ g. KeepsBlocks rules g blocks) (sym (start_other filled b e own continues_own_block far)) ok
 
   pub context_other : (filled : ℕ → Position) (b : ℕ) (e : Position) (own : Option ℕ) (blocks : List (BlockLayout C)) (context : Position) → (own ≡ Some b → ⊥)
       → context ≡ last_end (start_of rules filled own true) blocks → context ≡ last_end (start_of rules (put filled b e) own true) blocks
@@ -69,7 +69,7 @@ module _ {C : Type 0} (rules : Rules C) where
       → AllStand (all_laid (writes_in rules s.parts) (w.bytes b)) (records_in s.parts)
       → AllOutside rules.page_up (MayWrite rules.index_size s.end) (records_in s.parts)
       → AllBehind rules.index_size (records_in s.parts)
-      → AllPlaced rules (first_position rules) rest
+      → KeepsBlocks rules (first_position rules) rest
       → ((q : ℕ) → (q ≡ f → ⊥) → (w.core.flushers q).own ≡ Some b → ⊥)
       → ((q : ℕ) → (q ≡ f → ⊥) → (c : ℕ) → (w.core.flushers q).ready ≡ Some c → c ≡ b → ⊥)
       → (place b ≡ Writes f) → ((q c : ℕ) → (q ≡ f → ⊥) → w.core.place c ≡ Writes q → place c ≡ Writes q)
@@ -169,7 +169,7 @@ module _ {C : Type 0} (rules : Rules C) where
         buffer = t.buffer;
         marks = t.marks;
         queue = t.queue;
-        split = begun φ.own (subst (λ g. AllPlaced rules (start_of rules w.filled φ.own g) (blocks_in φ.batch)) goes_on_is t.split);
+        split = begun φ.own (subst (λ g. KeepsBlocks rules (start_of rules w.filled φ.own g) (blocks_in φ.batch)) goes_on_is t.split);
         context = t.context ∙ ap (λ bs. last_end (start_of rules w.filled φ.own true) bs) blocks_are ∙ ap (λ bs. last_end (start_of rules w.filled None true) bs) (sym blocks_are);
         owned = λ c p. absurd (let e : None ≡ Some c = p in cc);
         spare = leaves rules w.core.place w.filled f φ.own φ.ready t.either t.spare;
@@ -190,6 +190,6 @@ module _ {C : Type 0} (rules : Rules C) where
       goes_on_is : goes_on_in (w.core.flushers f).batch ≡ false
       goes_on_is = ap goes_on_in is ∙ fresh
 
-      begun : (own : Option ℕ) → AllPlaced rules (start_of rules w.filled own false) (blocks_in φ.batch) → AllPlaced rules (first_position rules) (blocks_in φ.batch)
+      begun : (own : Option ℕ) → KeepsBlocks rules (start_of rules w.filled own false) (blocks_in φ.batch) → KeepsBlocks rules (first_position rules) (blocks_in φ.batch)
       begun None ok = ok
       begun (Some c) ok = ok

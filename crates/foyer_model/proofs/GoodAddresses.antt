@@ -5,7 +5,7 @@ use Rattle.foyer_model.specs.Numbers.{put}
 use Rattle.foyer_model.specs.Record.{Address, Slot, Indexed, Mark, Outcome}
 use Rattle.foyer_model.specs.Position.{Write, BlockLayout}
 use Rattle.foyer_model.specs.Rules.{Rules}
-use Rattle.foyer_model.specs.Layout.{MayWrite, laid, read, IsBeside, AllWithin, writes_in, IsLaidOut}
+use Rattle.foyer_model.specs.Layout.{MayWrite, laid, read, IsBeside, AllWithin, writes_in, KeepsBlock}
 use Rattle.foyer_model.specs.Event.{Event, sequence_in, newest}
 use Rattle.foyer_model.specs.Access.{BlockWrites, Idle, Issued, InFlight, Load, writes_of, writes_ended, bytes_ended, IsTorn}
 use Rattle.foyer_model.proofs.Basics.{put_at, read_same, put_one, beside_or}
@@ -41,7 +41,7 @@ module _ {C : Type 0} (rules : Rules C) where
 
   -- a flusher goes on in its own block
   pub good_issued : (g : Ground) (block_writes : ℕ → BlockWrites) (h : ℕ) (a : Address) (x : Outcome C) (f b : ℕ) (s : BlockLayout C)
-      → IsLaidOut rules (g.filled b) s → IsGood rules g block_writes h a x
+      → KeepsBlock rules (g.filled b) s → IsGood rules g block_writes h a x
       → IsGood rules (record g { filled = put g.filled b s.end }) (put block_writes f (writes_of b (writes_in rules s.parts))) h a x
   good_issued g block_writes h a x f b s placed good =
       record {

@@ -6,7 +6,7 @@ use Rattle.foyer_model.specs.Position.{Position, Write, BlockLayout, records_of,
 use Rattle.foyer_model.specs.State.{Submission, Piece, Remove, Await, Reinsert, Writing, Batch, Flusher, BlockSet, Writes}
 use Rattle.foyer_model.specs.Rules.{Rules, flusher_of, first_position}
 use Rattle.foyer_model.specs.Step.{Bytes, Fault}
-use Rattle.foyer_model.specs.Layout.{MayWrite, laid, all_laid, read, AllStand, IsBeside, AllOutside, AllBehind, AllPlaced}
+use Rattle.foyer_model.specs.Layout.{MayWrite, laid, all_laid, read, AllStand, IsBeside, AllOutside, AllBehind, KeepsBlocks}
 use Rattle.foyer_model.specs.Event.{Event, Put, Deletion, sequence_in, newest}
 use Rattle.foyer_model.specs.Access.{BlockWrites, Idle, Issued, InFlight, ReadState, ReadIssued, Reading, ReadDone, Load}
 use Rattle.foyer_model.specs.World.{World, covers}
@@ -227,7 +227,7 @@ pub record FlusherInvariant {C : Type 0} (rules : Rules C) (g : Ground) (place :
   pub buffer : Each (RecordOk rules f) φ.buffer
   pub marks : Each (λ p. flusher_of rules p.0 ≡ f) φ.marks
   pub queue : Each (SubmissionOk rules f) φ.queue
-  pub split : AllPlaced rules (start_of rules g.filled φ.own (goes_on_in φ.batch)) (blocks_in φ.batch)
+  pub split : KeepsBlocks rules (start_of rules g.filled φ.own (goes_on_in φ.batch)) (blocks_in φ.batch)
   pub context : φ.context ≡ last_end (start_of rules g.filled φ.own true) (blocks_in φ.batch)
   pub owned : (b : ℕ) → φ.own ≡ Some b → place b ≡ Writes f
   pub spare : (b : ℕ) → φ.ready ≡ Some b → (place b ≡ Writes f) × (g.filled b ≡ first_position rules)

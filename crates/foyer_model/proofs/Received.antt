@@ -5,7 +5,7 @@ use Rattle.foyer_model.specs.Record.{Address, Given, Reread, Record}
 use Rattle.foyer_model.specs.Position.{Position, BlockLayout, last_end}
 use Rattle.foyer_model.specs.State.{Submission, Piece, Remove, Await, Reinsert, Flusher}
 use Rattle.foyer_model.specs.Rules.{Rules, flusher_of}
-use Rattle.foyer_model.specs.Layout.{AllPlaced, IsSplit}
+use Rattle.foyer_model.specs.Layout.{KeepsBlocks, KeepsBatch}
 use Rattle.foyer_model.specs.Flush.{is_some}
 use Rattle.foyer_model.specs.World.{World}
 use Rattle.foyer_model.proofs.Basics.{Ascends, ascends_from, ascends_to}
@@ -255,7 +255,7 @@ module _ {C : Type 0} (rules : Rules C) where
   start_same filled (Some b) = refl
 
   pub begun_batch : (w : World C) (f : ℕ) (blocks : List (BlockLayout C)) (pieces : List C) → WorldInvariant rules w → (w.core.flushers f).batch ≡ None
-      → IsSplit rules (w.core.flushers f).context (w.core.flushers f).buffer blocks
+      → KeepsBatch rules (w.core.flushers f).context (w.core.flushers f).buffer blocks
       → WorldInvariant rules (record w {
         core = record w.core {
           flushers = put w.core.flushers f (record (w.core.flushers f) {
@@ -288,7 +288,7 @@ module _ {C : Type 0} (rules : Rules C) where
         buffer = tt;
         marks = tt;
         queue = t.queue;
-        split = subst (λ g. AllPlaced rules g blocks) (t.context ∙ start_same w.filled φ.own) split.placed;
+        split = subst (λ g. KeepsBlocks rules g blocks) (t.context ∙ start_same w.filled φ.own) split.placed;
         context = ap (λ g. last_end g blocks) t.context;
         owned = t.owned;
         spare = t.spare;

@@ -10,7 +10,7 @@ use Rattle.foyer_model.specs.Rules.{Rules, flusher_of, first_position, Splitting
 use Rattle.foyer_model.specs.Step.{ReadResult, Bytes, Fault, Age, Ticket, Step, Enqueue, Delete, Wait, MayContains, LoadBegin, LoadEnd, Receive, FlushBegin, FlushBlock, FlushWrote, LogWrote, FlushEnd, ReclaimBegin, ReclaimRead, ReclaimForget, ReclaimCleaned, ReclaimIdle, DestroyBegin, DestroyClear, DestroyCleaned, Close}
 use Rattle.foyer_model.specs.Reply.{Reply, NotNow, Refused, Ignored, Queued, Deleted, Done, Miss, Throttled, Read, Entry, Empty, Received, Began, Written, NoBlock, Next, Committed, Failed, Ended, Picked, Listed, Cleans, Destroying, Cleared, Destroyed}
 use Rattle.foyer_model.specs.Index.{inserted, without}
-use Rattle.foyer_model.specs.Layout.{writes_in, IsLaidOut, AllPlaced}
+use Rattle.foyer_model.specs.Layout.{writes_in, KeepsBlock, KeepsBlocks}
 use Rattle.foyer_model.specs.Queue.{invalidated_by, queued, Enqueues, Deletes, Waits}
 use Rattle.foyer_model.specs.Load.{Looks, judged, Judges, Ends}
 use Rattle.foyer_model.specs.Receive.{pieces_of, turned, TakesFront}
@@ -235,7 +235,7 @@ module _ {C : Type 0} (rules : Rules C) (Splits : Splitting C) (is_value : C →
       (elim which [
         | inl (continues_own_block, own, eq) ↦
             subst (λ k. WorldInvariant rules (record w { core = k; filled = put w.filled b s.end; block_writes = put w.block_writes f (writes_of b (writes_in rules s.parts)) })) (sym eq)
-            (let placed : IsLaidOut rules (w.filled b) s = subst (λ g. IsLaidOut rules g s) (λ i. start_of rules w.filled (own i) (continues_own_block i)) split.0 in
+            (let placed : KeepsBlock rules (w.filled b) s = subst (λ g. KeepsBlock rules g s) (λ i. start_of rules w.filled (own i) (continues_own_block i)) split.0 in
             issued rules w f b batch s rest (Some b) w.core.filling w.core.place sound
             (λ i. record (w.core.flushers f) { own = own i; batch = batch_is i })
             (placed.stand (w.bytes b)) placed.outside placed.behind split.1
@@ -246,7 +246,7 @@ module _ {C : Type 0} (rules : Rules C) (Splits : Splitting C) (is_value : C →
         | inr (inl (fresh, ready, eq)) ↦
             subst (λ k. WorldInvariant rules (record w { core = k; filled = put w.filled b s.end; block_writes = put w.block_writes f (writes_of b (writes_in rules s.parts)) })) (sym eq)
             (let mine : (w.core.place b ≡ Writes f) × (w.filled b ≡ first_position rules) = (sound.flushers f).spare b ready in
-            let placed : IsLaidOut rules (w.filled b) s = subst (λ g. IsLaidOut rules g s) (sym mine.1) (begun fresh) in
+            let placed : KeepsBlock rules (w.filled b) s = subst (λ g. KeepsBlock rules g s) (sym mine.1) (begun fresh) in
             issued rules w f b batch s rest (w.core.flushers f).own w.core.filling w.core.place sound
             (λ i. record (w.core.flushers f) { batch = batch_is i })
             (placed.stand (w.bytes b)) placed.outside placed.behind split.1
@@ -256,7 +256,7 @@ module _ {C : Type 0} (rules : Rules C) (Splits : Splitting C) (is_value : C →
             (λ h a x. good_issued rules (ground_of w) w.block_writes h a x f b s placed) (λ a _ e. e))
         | inr (inr (fresh, none, clean, eq)) ↦
             subst (λ k. WorldInvariant rules (record w { core = k; filled = put w.filled b s.end; block_writes = put w.block_writes f (writes_of b (writes_in rules s.parts)) })) (sym eq)
-            (let placed : IsLaidOut rules (first_position rules) s = begun fresh in
+            (let placed : KeepsBlock rules (first_position rules) s = begun fresh in
             let place : w.core.place b ≡ Clean = is_clean b clean in
             issued rules w f b batch s rest (w.core.flushers f).own (put w.core.filling b (w.core.filling b + 1)) (put (released (w.core.flushers f).own w.core.place) b (Writes f)) sound
             (λ i. record (w.core.flushers f) { batch = batch_is i })
@@ -279,11 +279,11 @@ module _ {C : Type 0} (rules : Rules C) (Splits : Splitting C) (is_value : C →
       batch_is : (w.core.flushers f).batch ≡ Some (record batch { blocks = s ∷ rest; writing = None })
       batch_is = is ∙ (λ j. Some (record batch { blocks = blocks j; writing = wants.1 j }))
 
-      split : IsLaidOut rules (start_of rules w.filled (w.core.flushers f).own batch.continues_own_block) s × AllPlaced rules (first_position rules) rest
-      split = subst (λ k. AllPlaced rules (start_of rules w.filled (w.core.flushers f).own (goes_on_in k)) (blocks_in k)) batch_is (sound.flushers f).split
+      split : KeepsBlock rules (start_of rules w.filled (w.core.flushers f).own batch.continues_own_block) s × KeepsBlocks rules (first_position rules) rest
+      split = subst (λ k. KeepsBlocks rules (start_of rules w.filled (w.core.flushers f).own (goes_on_in k)) (blocks_in k)) batch_is (sound.flushers f).split
 
-      begun : batch.continues_own_block ≡ false → IsLaidOut rules (first_position rules) s
-      begun fresh = subst (λ g. IsLaidOut rules g s) (ap (start_of rules w.filled (w.core.flushers f).own) fresh ∙ start_fresh w.filled (w.core.flushers f).own) split.0
+      begun : batch.continues_own_block ≡ false → KeepsBlock rules (first_position rules) s
+      begun fresh = subst (λ g. KeepsBlock rules g s) (ap (start_of rules w.filled (w.core.flushers f).own) fresh ∙ start_fresh w.filled (w.core.flushers f).own) split.0
   issue_keeps w f batch reply new is wants is_clean ok sound = absurd ok
 
   -- of the loads, a reclaim or a destroy changes only what is kept

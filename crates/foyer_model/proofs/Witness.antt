@@ -4,7 +4,7 @@ use Rattle.std.proofs.lemmas.Bool.{eqb-true, eqb-false}
 use Rattle.std.proofs.lemmas.Bool.Decides.{nat_tests}
 use Rattle.foyer_model.specs.Record.{NoRecord, NotSupported, Undecodable, Holds, Source, Record}
 use Rattle.foyer_model.specs.Position.{Position, Data, Index, Write, BlockLayout, records_of}
-use Rattle.foyer_model.specs.Layout.{laid, all_laid, read, AllStand, writes_in, IsLaidOut, AllPlaced, IsSplit}
+use Rattle.foyer_model.specs.Layout.{laid, all_laid, read, AllStand, writes_in, KeepsBlock, KeepsBlocks, KeepsBatch}
 use Rattle.foyer_model.specs.World.{WorldEvent, MayAllHappen}
 use Rattle.foyer_model.specs.Laws.{Demands}
 use Rattle.foyer_model.specs.SmallCore.{small_pair, small_encode, small, IsSmall, three, filled_to, one_spread, no_spread, GoesTo, each_alone, SmallSplits}
@@ -49,8 +49,8 @@ small_trip h s (suc c) bytes small_c is =
     go true e true f false g true i = absurd (let at : suc c ≡ 101 = eqb-true (suc c) 101 i in let lt : nat_lt (suc c) 100 ≡ true = small_c in grind (arith, nat_tests))
     go true e true f false g false i = refl
 
-no_placed : (f : Position) → IsLaidOut small f (no_spread f)
-no_placed f = record { within = tt; shrinks = λ o may. may; stand = λ g. tt; outside = tt; behind = tt }
+no_kept : (f : Position) → KeepsBlock small f (no_spread f)
+no_kept f = record { within = tt; shrinks = λ o may. may; stand = λ g. tt; outside = tt; behind = tt }
 
 not_below : (o at n : ℕ) → (((o < at) ⊎ (at + n ≤ o)) → ⊥) → at ≤ o
 not_below o at n near = go (nat_lt o at) refl
@@ -60,7 +60,7 @@ not_below o at n near = go (nat_lt o at) refl
     go false e = grind (arith, nat_tests)
 
 one_placed : (at h s a b c : ℕ) (source : Source ℕ) → 4096 ≤ at → ((g : ℕ → ℕ) → AllStand (all_laid (writes_in small (one_spread at (three h s a b c source)).parts) g) ((at, three h s a b c source) ∷ []))
-    → IsLaidOut small (filled_to at) (one_spread at (three h s a b c source))
+    → KeepsBlock small (filled_to at) (one_spread at (three h s a b c source))
 one_placed at h s a b c source low stand = record {
   within = ((λ o near. inl (not_below o (0 + at) 3 near)), ((λ o near. absurd (near (inr (omega arith)))), tt));
   shrinks = λ o may. elim may [ inl past ↦ inl (let p : 0 + (at + 3) ≤ o = past in omega arith) | inr blob ↦ inr blob ];
@@ -93,8 +93,8 @@ alone_stands bs g = read_is bs _ 4096 (λ i lt.
     laid_beside small (record { role = Index; offset = 0; bytes = [] }) (laid (record { role = Data; offset = 4096; bytes = bs }) g) (4096 + i) (inr (omega arith))
     ∙ laid_at (record { role = Data; offset = 4096; bytes = bs }) g i lt)
 
-alone_placed : (r : Record ℕ) → IsLaidOut small (filled_to 4096) (one_spread 4096 r)
-alone_placed r = record {
+alone_kept : (r : Record ℕ) → KeepsBlock small (filled_to 4096) (one_spread 4096 r)
+alone_kept r = record {
   within = ((λ o near. inl (not_below o 4096 (length r.bytes) near)), ((λ o near. absurd (near (inr (omega arith)))), tt));
   shrinks = λ o may. elim may [ inl past ↦ inl (let p : 0 + (4096 + length r.bytes) ≤ o = past in omega arith) | inr blob ↦ inr blob ];
   stand = λ g. (alone_stands r.bytes g, tt);
@@ -108,22 +108,22 @@ alone_placed r = record {
   behind = (omega arith, tt);
 }
 
-all_alone : (rs : List (Record ℕ)) → AllPlaced small (filled_to 4096) (each_alone rs)
+all_alone : (rs : List (Record ℕ)) → KeepsBlocks small (filled_to 4096) (each_alone rs)
 all_alone [] = tt
-all_alone (r ∷ rs) = (alone_placed r, all_alone rs)
+all_alone (r ∷ rs) = (alone_kept r, all_alone rs)
 
 alone_records : (rs : List (Record ℕ)) → records_of (each_alone rs) ≡ rs
 alone_records [] = refl
 alone_records (r ∷ rs) = ap (λ k. r ∷ k) (alone_records rs)
 
-split_alone : (f : Position) (rs : List (Record ℕ)) (ss : List (BlockLayout ℕ)) → ss ≡ no_spread f ∷ each_alone rs → IsSplit small f rs ss
-split_alone f rs ss is = subst (λ k. IsSplit small f rs k) (sym is) (record { some = λ e. cc; all = alone_records rs; placed = (no_placed f, all_alone rs) })
+split_alone : (f : Position) (rs : List (Record ℕ)) (ss : List (BlockLayout ℕ)) → ss ≡ no_spread f ∷ each_alone rs → KeepsBatch small f rs ss
+split_alone f rs ss is = subst (λ k. KeepsBatch small f rs k) (sym is) (record { some = λ e. cc; all = alone_records rs; placed = (no_kept f, all_alone rs) })
 
 split_one : (at : ℕ) (f : Position) (rs : List (Record ℕ)) (ss : List (BlockLayout ℕ)) → GoesTo at f rs ss
-    → ((h s a b c : ℕ) (source : Source ℕ) → IsLaidOut small (filled_to at) (one_spread at (three h s a b c source))) → IsSplit small f rs ss
+    → ((h s a b c : ℕ) (source : Source ℕ) → KeepsBlock small (filled_to at) (one_spread at (three h s a b c source))) → KeepsBatch small f rs ss
 split_one at f rs ss (h, s, a, b, c, source, from, records, is) placed =
-    subst (λ k. IsSplit small k rs ss) (sym from) (subst (λ k. IsSplit small (filled_to at) k ss) (sym records)
-    (subst (λ k. IsSplit small (filled_to at) (three h s a b c source ∷ []) k) (sym is) (record { some = λ e. cc; all = refl; placed = (placed h s a b c source, tt) })))
+    subst (λ k. KeepsBatch small k rs ss) (sym from) (subst (λ k. KeepsBatch small (filled_to at) k ss) (sym records)
+    (subst (λ k. KeepsBatch small (filled_to at) (three h s a b c source ∷ []) k) (sym is) (record { some = λ e. cc; all = refl; placed = (placed h s a b c source, tt) })))
 
 pub small_demands : Demands small SmallSplits IsSmall
 small_demands = record {

@@ -19,7 +19,7 @@ pub data BlockWrites : Type 0 where
 -- the clean of a block: its first page becomes zeros
 pub data CleanState : Type 0 where
   CleanIdle : CleanState
-  Asked : CleanState
+  CleanIssued : CleanState
   CleanInFlight : CleanState
   CleanDone : (is_ok : Bool) → CleanState
 
@@ -92,9 +92,9 @@ block_writes_after reply step block_writes = block_writes
 
 -- a reclaim asks for the clean of its block, a destroy for that of each block
 abbrev pub cleans_after : {C : Type 0} → Reply C → Step C → (ℕ → CleanState) → ℕ → CleanState
-cleans_after (Cleans d) (ReclaimForget b) clean_states = put clean_states b Asked
+cleans_after (Cleans d) (ReclaimForget b) clean_states = put clean_states b CleanIssued
 cleans_after Done (ReclaimCleaned b ok) clean_states = put clean_states b CleanIdle
-cleans_after (Cleared bs) DestroyClear clean_states = λ b. if is_id_in b bs then Asked else clean_states b
+cleans_after (Cleared bs) DestroyClear clean_states = λ b. if is_id_in b bs then CleanIssued else clean_states b
 cleans_after Done (DestroyCleaned b ok) clean_states = put clean_states b CleanIdle
 cleans_after (Destroyed well) (DestroyCleaned b ok) clean_states = put clean_states b CleanIdle
 cleans_after reply step clean_states = clean_states
@@ -177,12 +177,12 @@ bytes_ended ok g pending bytes = bytes
 
 -- a clean begins
 abbrev pub clean_begun : CleanState → CleanState
-clean_begun Asked = CleanInFlight
+clean_begun CleanIssued = CleanInFlight
 clean_begun clean_state = clean_state
 
 -- what a clean that begins covers
 abbrev pub clean_will_cover : ℕ → CleanState → ℕ → ℕ → Bool
-clean_will_cover b Asked c o = c == b && nat_lt o page
+clean_will_cover b CleanIssued c o = c == b && nat_lt o page
 clean_will_cover b clean_state c o = false
 
 -- a clean ends

@@ -54,7 +54,7 @@ writes_in rules (p ∷ ps) = rules.writes_of p ++ writes_in rules ps
 -- What goes into one block: its writes fall only where the filling may still be written, and where it may be written
 -- afterwards it could before; after them, over any bytes, each record stands at its offset, behind the first index, and
 -- no later write falls into its pages.
-pub record IsLaidOut {C : Type 0} (rules : Rules C) (f : Position) (s : BlockLayout C) : Type 0 where
+pub record KeepsBlock {C : Type 0} (rules : Rules C) (f : Position) (s : BlockLayout C) : Type 0 where
   pub within : AllWithin (MayWrite rules.index_size f) (writes_in rules s.parts)
   pub shrinks : (o : ℕ) → MayWrite rules.index_size s.end o → MayWrite rules.index_size f o
   pub stand : (g : ℕ → ℕ) → AllStand (all_laid (writes_in rules s.parts) g) (records_in s.parts)
@@ -62,20 +62,20 @@ pub record IsLaidOut {C : Type 0} (rules : Rules C) (f : Position) (s : BlockLay
   pub behind : AllBehind rules.index_size (records_in s.parts)
 
 -- block after block, the first from f on, the others from nothing
-abbrev pub AllPlaced : {C : Type 0} → Rules C → Position → List (BlockLayout C) → Type 0
-AllPlaced rules f [] = Unit {0}
-AllPlaced rules f (s ∷ ss) = IsLaidOut rules f s × AllPlaced rules (first_position rules) ss
+abbrev pub KeepsBlocks : {C : Type 0} → Rules C → Position → List (BlockLayout C) → Type 0
+KeepsBlocks rules f [] = Unit {0}
+KeepsBlocks rules f (s ∷ ss) = KeepsBlock rules f s × KeepsBlocks rules (first_position rules) ss
 
 -- a batch has at least one block and holds all of its records in order
-pub record IsSplit {C : Type 0} (rules : Rules C) (f : Position) (records : List (Record C)) (blocks : List (BlockLayout C)) : Type 0 where
+pub record KeepsBatch {C : Type 0} (rules : Rules C) (f : Position) (records : List (Record C)) (blocks : List (BlockLayout C)) : Type 0 where
   pub some : blocks ≢ []
   pub all : records_of blocks ≡ records
-  pub placed : AllPlaced rules f blocks
+  pub placed : KeepsBlocks rules f blocks
 
 -- what is demanded of a way of placing
 abbrev pub KeepsRecords : {C : Type 0} → Rules C → Splitting C → Type 0
 KeepsRecords {C} rules Splits =
-    (f : Position) (records : List (Record C)) (blocks : List (BlockLayout C)) → Splits f records blocks → IsSplit rules f records blocks
+    (f : Position) (records : List (Record C)) (blocks : List (BlockLayout C)) → Splits f records blocks → KeepsBatch rules f records blocks
 
 -- the record fits into an empty block
 abbrev pub FitsBlock : {C : Type 0} → Rules C → List ℕ → Type 0
