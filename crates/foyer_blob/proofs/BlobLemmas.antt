@@ -1,5 +1,5 @@
 -- The entries of an index.
-use Rattle.std.proofs.Common.{◌≡◌, ℕ, zero, suc, ◌+◌, ◌*◌, ◌<◌, ◌≤◌, ◌^◌, List, [], ◌∷◌, ◌++◌, length, take, drop, refl, sym, ap, ◌∙◌, arith}
+use Rattle.std.proofs.Common.{◌≡◌, ℕ, zero, suc, ◌+◌, ◌*◌, ◌<◌, ◌≤◌, ◌^◌, List, [], ◌∷◌, ◌++◌, length, take, drop, refl, sym, ap, ◌∙◌, arith, Result, Ok, Err, IfErr}
 use Rattle.std.proofs.lemmas.List.{length-append, length-drop, length-take-le, drop-append-le, drop-drop, drop_at, take-append-drop}
 use Rattle.byteorder.specs.Endian.{big_bytes, big_number}
 use Rattle.byteorder.specs.Numbers.{big_number-reads_back, big_from-append}
@@ -127,3 +127,8 @@ unfolding entries_in
 entries_none b = refl
 
 pub ruleset entry_lemmas = (entries_more, entries_none)
+
+-- what holds whatever the error
+pub if_err : {A E P : Type 0} (r : Result A E) → P → IfErr r (λ e. P)
+if_err (Ok x) p = tt
+if_err (Err e) p = p

@@ -17,7 +17,16 @@ use foyer_format::serde::Checksummer;
 use std::alloc::Allocator;
 use std::marker::Model;
 
-/// Where the entries of an index begin.
+/// The bytes of an index's checksum, at its start.
+const CHECKSUM_LEN: usize = 8;
+
+/// Where its count stands.
+const COUNT_AT: usize = 8;
+
+/// The bytes of its count.
+const COUNT_LEN: usize = 4;
+
+/// Where its entries begin.
 const ENTRIES_AT: usize = 12;
 
 /// The bytes that an entry takes.
@@ -107,13 +116,13 @@ impl<A: Allocator> Model for BlobIndex<A> {
 
 impl<A: Allocator> BlobIndex<A> {
     /// How many bytes the checksum takes, at the index's start. It covers all bytes behind it.
-    pub const CHECKSUM_BYTES: usize = 8;
+    pub const CHECKSUM_BYTES: usize = CHECKSUM_LEN;
 
     /// Where the count stands.
-    pub const COUNT_OFFSET: usize = 8;
+    pub const COUNT_OFFSET: usize = COUNT_AT;
 
     /// How many bytes the count takes.
-    pub const COUNT_BYTES: usize = 4;
+    pub const COUNT_BYTES: usize = COUNT_LEN;
 
     /// Where the entries begin.
     pub const INDEX_OFFSET: usize = ENTRIES_AT;
@@ -225,9 +234,9 @@ fn seal_bytes(bytes: &mut [u8], count: usize)
     ensures rest { drop 12 bytes.new ≡ drop 12 bytes.old }
 {
     let word = (count as u32).to_be_bytes();
-    bytes[8..12].copy_from_slice(&word);
+    bytes[COUNT_AT..COUNT_AT + COUNT_LEN].copy_from_slice(&word);
     let checksum = body_sum(bytes);
-    bytes[..8].copy_from_slice(&checksum.to_be_bytes());
+    bytes[..CHECKSUM_LEN].copy_from_slice(&checksum.to_be_bytes());
 }
 
 // The checksum of what lies behind the checksum.
@@ -235,7 +244,7 @@ fn body_sum(bytes: &[u8]) -> u64
     requires { 8 ≤ length bytes.now }
     ensures { result ≡ xxh64 (drop 8 bytes.now) }
 {
-    Checksummer::checksum64(&bytes[8..])
+    Checksummer::checksum64(&bytes[CHECKSUM_LEN..])
 }
 
 #[tactic(auto, unfolding(foyer_format::specs::Header::number_at))]
@@ -274,11 +283,12 @@ impl BlobIndexReader {
         ensures none { IfOk result (λ found. IfNone found
             ((es : List BlobEntryIndex) → IsSealed bytes.now es → ⊥)) }
         ensures memory { IfErr result (λ e. e ≡ error.Memory) }
+        ensures due { IfErr result (λ _. (es : List BlobEntryIndex) × IsSealed bytes.now es) }
     {
         if bytes.len() < ENTRIES_AT || body_sum(bytes) != u64_at(bytes, 0) {
             return Ok(None);
         }
-        let count = u32_at(bytes, 8) as usize;
+        let count = u32_at(bytes, COUNT_AT) as usize;
         if count > (bytes.len() - ENTRIES_AT) / ENTRY_LEN {
             return Ok(None);
         }

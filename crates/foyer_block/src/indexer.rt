@@ -1,6 +1,6 @@
 //! The index: what each hash has, an address on the device or the mark of a delete.
 ghost use Rattle.std.specs.Prelude.{◌≡◌, ◌<◌, ◌↔◌, ℕ, List, MatchOption, IsTrue};
-ghost use Rattle.std.specs.Prelude.{IfOk, OnOk, OnErr, IsOkUnless};
+ghost use Rattle.std.specs.Prelude.{IfOk, OnOk, OnErr, IsOk, IsSome, IsOkUnless};
 ghost use Rattle.std.specs.Bool.{OnTrue, OnFalse};
 ghost use Rattle.std.specs.FinMap as map;
 ghost use Rattle.foyer_block.specs.Insertion.{displaced, inserted, inserted_all, all_left_out};
@@ -82,7 +82,8 @@ impl<A: Allocator + Clone> Indexer<A> {
         Ok(Indexer { shards, counts })
     }
 
-    /// Inserts a mark, and answers the address that doesn't stay. Memory is the only refusal.
+    /// Inserts a mark, and answers the address that doesn't stay. Memory is the only refusal, and comes only where the
+    /// hash has nothing yet.
     pub fn insert_tombstone(
         &mut self,
         hash: u64,
@@ -94,6 +95,7 @@ impl<A: Allocator + Clone> Indexer<A> {
             answer ≡ displaced (map.get self.old hash) (Index.Tombstone sequence)) }
         ensures err { OnErr result (self.new ≡ self.old) }
         ensures refused { IsOkUnless result Error.Memory }
+        ensures held { IsSome (map.get self.old hash) → IsOk result }
     {
         shards::enter(&mut self.shards, hash, Index::Tombstone(sequence))
     }

@@ -1,6 +1,6 @@
 //! The shards of the index: a hash lies in the shard of its number modulo the count of shards.
 ghost use Rattle.std.specs.Prelude.{◌≡◌, ◌<◌, ◌≤◌, ◌+◌, ◌%◌, ◌↔◌, length, take, slice_index};
-ghost use Rattle.std.specs.Prelude.{EachIndex, IfOk, OnOk, OnErr, IsOk, IsOkUnless, IsTrue};
+ghost use Rattle.std.specs.Prelude.{EachIndex, IfOk, OnOk, OnErr, IsOk, IsSome, IsOkUnless, IsTrue};
 ghost use Rattle.std.specs.Bool.{OnTrue, OnFalse};
 ghost use Rattle.std.specs.Option.{option_copied};
 ghost use Rattle.std.specs.FinMap as map;
@@ -80,6 +80,7 @@ fn enter_here<A: Allocator + Clone>(
     ensures err { OnErr result (HoldsSame shard.old shard.new) }
     ensures refused { IsOkUnless result Error.Memory }
     ensures succeeds { 0 < spare shard.old → IsOk result }
+    ensures held { IsSome (held_at shard.old hash) → IsOk result }
     ensures spare { spare shard.old ≤ spare shard.new + 1 }
 {
     if let Some(held) = shard.get_mut(&hash) {
@@ -109,6 +110,7 @@ pub(crate) fn enter<A: Allocator + Clone>(
     ensures len { length shards.new.items ≡ length shards.old.items }
     ensures refused { IsOkUnless result Error.Memory }
     ensures succeeds { 0 < room shards.old.items (hash % length shards.old.items) → IsOk result }
+    ensures held { IsSome (map.get (map_of shards.old.items) hash) → IsOk result }
     ensures room { TakesOnePlace shards.old.items shards.new.items hash }
 {
     let place = (hash % shards.len() as u64) as usize;

@@ -1,5 +1,5 @@
 -- Entries one behind another.
-use Rattle.std.proofs.Common.{◌≡◌, ℕ, ◌+◌, ◌-◌, ◌%◌, ◌≤◌, List, [], ◌∷◌, ◌++◌, take, drop, length, refl, sym, ap, ◌∙◌, arith}
+use Rattle.std.proofs.Common.{◌≡◌, ℕ, ◌+◌, ◌-◌, ◌%◌, ◌≤◌, List, [], ◌∷◌, ◌++◌, take, drop, length, refl, sym, ap, ◌∙◌, arith, Result, Ok, Err, OnErr}
 use Rattle.std.specs.Prelude.{IsTrue, true, false}
 use Rattle.std.proofs.lemmas.List.{length-drop, length-take-le, drop-take, take-take}
 use Rattle.foyer_format.specs.Page.{page_up}
@@ -128,3 +128,8 @@ keeps infos items i w padded most are packed sum each offset is_padded fits =
 -- no test that failed holds
 pub never : IsTrue false → ⊥
 never e = let f : false ≡ true = e in absurd (cc)
+
+-- what holds whatever the error
+pub on_err : {A E P : Type 0} (r : Result A E) → P → OnErr r P
+on_err (Ok x) p = tt
+on_err (Err e) p = p

@@ -98,6 +98,9 @@ impl<A: Allocator> Buffer<A> {
             (length (V.encoding value.now) + length (K.encoding key.now))) }
         ensures kept { IfOk result (λ done. OnFalse done (self.new ≡ self.old)) }
         ensures memory { IfErr result (λ e. e ≡ error.Memory) }
+        ensures due { OnErr result (FitsBuffer self.old compression
+            ((K.is_encodable key.now ≡ true) × (V.is_encodable value.now ≡ true))
+            (length (V.encoding value.now) + length (K.encoding key.now))) }
         ensures refused { OnErr result (self.new ≡ self.old) }
     {
         if compression != Compression::None {
@@ -137,6 +140,8 @@ impl<A: Allocator> Buffer<A> {
             × (page_up (length slice.now) ≤ self.old.greatest))) }
         ensures kept { IfOk result (λ done. OnFalse done (self.new ≡ self.old)) }
         ensures memory { IfErr result (λ e. e ≡ error.Memory) }
+        ensures due { OnErr result ((page_up (length slice.now) ≤ left_of self.old)
+            × (page_up (length slice.now) ≤ self.old.greatest)) }
         ensures refused { OnErr result (self.new ≡ self.old) }
     {
         let len = slice.len();

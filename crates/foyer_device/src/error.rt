@@ -1,6 +1,6 @@
 //! What a call answers in place of its result.
 ghost use Rattle.std.specs.Prelude.{◌≡◌};
-ghost use Rattle.foyer_device.specs.Error.{kind_of, IsWriterFault};
+ghost use Rattle.foyer_device.specs.Error.{kind_of, IsFaultOf};
 ghost use Rattle.foyer_device.specs.declared.error.Error.TheVariants.{Memory};
 
 use std::alloc::{AllocError, AllocFailed};
@@ -113,7 +113,7 @@ impl<T: Drop> From<AllocFailed<T>> for Error {
 
 // A writer that takes nothing more is full; every other failure is the writer's own.
 impl From<io::Error> for Error {
-    ghost from_gives = { λ _ e. IsWriterFault e };
+    ghost from_gives = { λ io e. IsFaultOf io e };
 
     fn from(e: io::Error) -> Error {
         match e.kind() {

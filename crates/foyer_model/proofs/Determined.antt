@@ -1,5 +1,6 @@
 -- The state afterwards is determined by the state before, the step and the reply.
 use Rattle.std.proofs.Common.{◌≡◌, ℕ, ◌+◌, Bool, true, false, List, [], ◌∷◌, ◌++◌, Option, Some, None, inl, inr, refl, sym, ap, ◌∙◌, arith}
+use Rattle.foyer_model.specs.Kind.{Kind}
 use Rattle.foyer_model.specs.Numbers.{put}
 use Rattle.foyer_model.specs.Ids.{without_id}
 use Rattle.foyer_model.specs.Record.{Slot, Indexed, Mark, Outcome, NoRecord, Holds, IndexEntry, Given}
@@ -216,7 +217,7 @@ module _ {C : Type 0} (rules : Rules C) (Splits : Splitting C) (old : State C) w
   clears_one (Cleared bs) one two p q = joined one two _ p.1 q.1
   clears_one reply one two p q = absurd p
 
-  cleans_one : (b : ℕ) (well : Bool) (d : Destroy) (reply : Reply C) (one two : State C) → CleansOne rules old b well d reply one → CleansOne rules old b well d reply two → one ≡ two
+  cleans_one : (b : ℕ) (well : Option Kind) (d : Destroy) (reply : Reply C) (one two : State C) → CleansOne rules old b well d reply one → CleansOne rules old b well d reply two → one ≡ two
   cleans_one b well (Cleaning left failed) reply one two p q = joined one two _ p.1 q.1
   cleans_one b well NoDestroy reply one two p q = absurd p
   cleans_one b well Begun reply one two p q = absurd p

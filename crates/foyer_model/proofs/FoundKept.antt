@@ -1,6 +1,7 @@
 -- A look-up finds the newest record, unless a reclaim or a destroy may have taken it.
 use Rattle.std.proofs.Common.{◌≡◌, ℕ, ◌+◌, ◌<◌, ◌==◌, Bool, true, false, if◌then◌else◌, List, [], ◌∷◌, map, take, Option, Some, None, ◌⊎◌, inl, inr, refl, sym, ap, subst, ◌∙◌, arith}
 use Rattle.std.proofs.lemmas.Bool.{eqb-true, eqb-false}
+use Rattle.foyer_model.specs.Kind.{Kind}
 use Rattle.foyer_model.specs.Numbers.{put}
 use Rattle.foyer_model.specs.Record.{Address, Slot, Indexed, Mark, Outcome, NoRecord, Holds, IndexEntry, Source, Given, Reread, Record}
 use Rattle.foyer_model.specs.Position.{Write, records_of}
@@ -68,11 +69,11 @@ module _ {C : Type 0} (rules : Rules C) (Splits : Splitting C) (is_value : C →
   plain_read w b came (Deleted s) new ok = ok
   plain_read w b came reply new ok = ok
 
-  plain_clean : (w : World C) (b : ℕ) (well : Bool) (reply : Reply C) (new : State C) → Stays new w.history w.kept → Kept (after rules w (Applies (DestroyCleaned b well) reply new))
+  plain_clean : (w : World C) (b : ℕ) (well : Option Kind) (reply : Reply C) (new : State C) → Stays new w.history w.kept → Kept (after rules w (Applies (DestroyCleaned b well) reply new))
   plain_clean w b well (Deleted s) new ok = ok
   plain_clean w b well reply new ok = ok
 
-  destroyed_kept : (w : World C) (b : ℕ) (well : Bool) (d : Destroy) (reply : Reply C) (new : State C) → CleansOne rules w.core b well d reply new → Kept w → Kept (after rules w (Applies (DestroyCleaned b well) reply new))
+  destroyed_kept : (w : World C) (b : ℕ) (well : Option Kind) (d : Destroy) (reply : Reply C) (new : State C) → CleansOne rules w.core b well d reply new → Kept w → Kept (after rules w (Applies (DestroyCleaned b well) reply new))
   destroyed_kept w b well (Cleaning left bad) reply new ok kept = plain_clean w b well reply new (issued_state w.history w.kept new _ ok.1 kept)
   destroyed_kept w b well NoDestroy reply new ok kept = absurd ok
   destroyed_kept w b well Begun reply new ok kept = absurd ok

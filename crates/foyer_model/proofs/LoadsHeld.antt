@@ -1,6 +1,8 @@
 -- A load ends with the record that its look-up promised, unless a reclaim or a destroy may have taken it.
 use Rattle.std.proofs.Common.{◌≡◌, ℕ, ◌<◌, ◌==◌, Bool, true, false, if◌then◌else◌, List, [], ◌∷◌, length, Option, Some, None, refl, sym, ap, subst, ◌∙◌}
 use Rattle.std.proofs.lemmas.Bool.{eqb-false}
+use Rattle.foyer_model.specs.Kind.{Kind}
+use Rattle.foyer_model.specs.Destroy.{first_fault}
 use Rattle.foyer_model.specs.Numbers.{put}
 use Rattle.foyer_model.specs.Ids.{without_id}
 use Rattle.foyer_model.specs.Record.{Address, Slot, Indexed, Mark, Outcome, NoRecord, Holds, IndexEntry}
@@ -167,7 +169,7 @@ module _ {C : Type 0} (rules : Rules C) (Splits : Splitting C) (is_value : C →
   plain_issued w b AllListed vs = tt
   plain_issued w b ToClean vs = tt
 
-  plain_clean : (left : List ℕ) (failed : Bool) → IsPlain (issued_after_clean {C = C} left failed)
+  plain_clean : (left : List ℕ) (failed : Option Kind) → IsPlain (issued_after_clean {C = C} left failed)
   plain_clean [] failed = tt
   plain_clean (b ∷ bs) failed = tt
 
@@ -187,8 +189,8 @@ module _ {C : Type 0} (rules : Rules C) (Splits : Splitting C) (is_value : C →
       scanned AllListed came given = absurd given
       scanned ToClean came given = absurd given
 
-  cleans_plain : (w : World C) (b : ℕ) (well : Bool) (d : Destroy) (reply : Reply C) (new : State C) → CleansOne rules w.core b well d reply new → IsPlain reply
-  cleans_plain w b well (Cleaning left failed) reply new ok = subst IsPlain (sym ok.0) (plain_clean (without_id b left) (if well then failed else true))
+  cleans_plain : (w : World C) (b : ℕ) (well : Option Kind) (d : Destroy) (reply : Reply C) (new : State C) → CleansOne rules w.core b well d reply new → IsPlain reply
+  cleans_plain w b well (Cleaning left failed) reply new ok = subst IsPlain (sym ok.0) (plain_clean (without_id b left) (first_fault failed well))
   cleans_plain w b well NoDestroy reply new ok = absurd ok
   cleans_plain w b well Begun reply new ok = absurd ok
 

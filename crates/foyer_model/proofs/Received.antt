@@ -254,7 +254,7 @@ module _ {C : Type 0} (rules : Rules C) where
   start_same filled None = refl
   start_same filled (Some b) = refl
 
-  pub begun_batch : (w : World C) (f : ℕ) (blocks : List (BlockLayout C)) (pieces : List C) → WorldInvariant rules w → (w.core.flushers f).batch ≡ None
+  pub begun_batch : (w : World C) (f : ℕ) (blocks : List (BlockLayout C)) (pieces : List (ℕ × C)) → WorldInvariant rules w → (w.core.flushers f).batch ≡ None
       → KeepsBatch rules (w.core.flushers f).context (w.core.flushers f).buffer blocks
       → WorldInvariant rules (record w {
         core = record w.core {

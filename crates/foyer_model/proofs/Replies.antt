@@ -2,6 +2,7 @@
 use Rattle.std.proofs.Common.{◌≡◌, ◌≢◌, ℕ, zero, suc, ◌+◌, ◌<◌, ◌≤◌, ◌==◌, nat_le, Bool, true, false, if◌then◌else◌, List, [], ◌∷◌, ◌++◌, length, take, Option, Some, None, ◌⊎◌, inl, inr, refl, sym, ap, subst, ◌∙◌, arith}
 use Rattle.std.proofs.lemmas.Bool.{eqb-true, eqb-false}
 use Rattle.std.proofs.lemmas.Bool.Decides.{nat_tests}
+use Rattle.foyer_model.specs.Destroy.{first_fault}
 use Rattle.foyer_model.specs.Numbers.{put, last_number}
 use Rattle.foyer_model.specs.Ids.{ids, without_id}
 use Rattle.foyer_model.specs.Record.{Address, Slot, Indexed, Mark, Outcome, NoRecord, NotSupported, Undecodable, Holds, IndexEntry}
@@ -342,20 +343,20 @@ module _ {C : Type 0} (rules : Rules C) (Splits : Splitting C) where
     ]
   ]
 
-  clean_plain : (left : List ℕ) (failed : Bool) → IsOrdinary (issued_after_clean {C = C} left failed)
+  clean_plain : (left : List ℕ) (failed : Option Kind) → IsOrdinary (issued_after_clean {C = C} left failed)
   clean_plain [] failed = tt
   clean_plain (b ∷ bs) failed = tt
 
-  destroyed_replies : (c : State C) (b : ℕ) (well : Bool) → c.steps < last_number → InTurn rules c (DestroyCleaned b well) → HasReply c (DestroyCleaned b well)
+  destroyed_replies : (c : State C) (b : ℕ) (well : Option Kind) → c.steps < last_number → InTurn rules c (DestroyCleaned b well) → HasReply c (DestroyCleaned b well)
   destroyed_replies c b well few turn = destroys c.destroy refl turn.1
     where
       destroys : (d : Destroy) → c.destroy ≡ d → AwaitsClean b d → HasReply c (DestroyCleaned b well)
       destroys NoDestroy is ok = absurd ok
       destroys Begun is ok = absurd ok
       destroys (Cleaning left failed) is ok =
-          answers c _ (DestroyCleaned b well) (issued_after_clean (without_id b left) (if well then failed else true)) (clean_plain (without_id b left) (if well then failed else true)) few turn
-          (subst (λ k. CleansOne rules c b well k (issued_after_clean (without_id b left) (if well then failed else true)) (record c {
-            destroy = after_clean (without_id b left) (if well then failed else true);
+          answers c _ (DestroyCleaned b well) (issued_after_clean (without_id b left) (first_fault failed well)) (clean_plain (without_id b left) (first_fault failed well)) few turn
+          (subst (λ k. CleansOne rules c b well k (issued_after_clean (without_id b left) (first_fault failed well)) (record c {
+            destroy = after_clean (without_id b left) (first_fault failed well);
             stats = put c.stats b no_stats;
           })) (sym is) (refl, refl))
 

@@ -1,5 +1,6 @@
 -- It stays through reclaims and destroys.
 use Rattle.std.proofs.Common.{◌≡◌, ℕ, ◌+◌, ◌<◌, ◌≤◌, nat_le, nat_lt, Bool, true, false, if◌then◌else◌, List, [], ◌∷◌, ◌++◌, length, take, Option, Some, None, inl, inr, refl, sym, ap, subst, ◌∙◌, arith}
+use Rattle.foyer_model.specs.Kind.{Kind}
 use Rattle.foyer_model.specs.Numbers.{put, last_number, plus}
 use Rattle.foyer_model.specs.Record.{Address, Slot, Indexed, Outcome, IndexEntry}
 use Rattle.foyer_model.specs.State.{Remove, Reinsert, BlockSet, Clean, Writes, Evictable, Reclaims, Stage, AtIndex, AtRecord, AllListed, ToClean, Reclaim, Destroy, NoDestroy, Begun, Cleaning, State}
@@ -104,7 +105,7 @@ module _ {C : Type 0} (rules : Rules C) where
       })
   clear_goes w reply new may few ok again = absurd ok
 
-  pub cleaned_goes : (w : World C) (b : ℕ) (well : Bool) (d : Destroy) (reply : Reply C) (new : State C) → CleansOne rules w.core b well d reply new → IsAgain rules w
+  pub cleaned_goes : (w : World C) (b : ℕ) (well : Option Kind) (d : Destroy) (reply : Reply C) (new : State C) → CleansOne rules w.core b well d reply new → IsAgain rules w
       → IsAgain rules (record w { core = new })
   cleaned_goes w b well (Cleaning left failed) reply new ok again = issued_state rules w new _ ok.1 again
   cleaned_goes w b well NoDestroy reply new ok again = absurd ok

@@ -1,5 +1,7 @@
 -- Each step and access keeps what is known of reinsertions.
 use Rattle.std.proofs.Common.{◌≡◌, ℕ, ◌<◌, ◌≤◌, Bool, true, false, if◌then◌else◌, List, [], ◌∷◌, Option, Some, None, ◌⊎◌, inl, inr, refl, sym, subst, ◌∙◌, arith}
+use Rattle.foyer_model.specs.Kind.{Kind}
+use Rattle.foyer_model.specs.Destroy.{first_fault}
 use Rattle.foyer_model.specs.Numbers.{last_number, page}
 use Rattle.foyer_model.specs.Ids.{without_id}
 use Rattle.foyer_model.specs.Record.{Address, Slot, Outcome}
@@ -82,15 +84,15 @@ module _ {C : Type 0} (rules : Rules C) where
       read_state h a x (ReadDone Fault) g was = was
       read_state h a x (ReadDone (Bytes bs)) g was = was ∙ sym (same h a x g)
 
-  is_issued : (left : List ℕ) (failed : Bool) → (issued_after_clean {C = C} left failed ≡ Done) ⊎ ((well : Bool) × (issued_after_clean {C = C} left failed ≡ Destroyed well))
-  is_issued [] failed = inr ((if failed then false else true), refl)
+  is_issued : (left : List ℕ) (failed : Option Kind) → (issued_after_clean {C = C} left failed ≡ Done) ⊎ ((well : Option Kind) × (issued_after_clean {C = C} left failed ≡ Destroyed well))
+  is_issued [] failed = inr (failed, refl)
   is_issued (b ∷ bs) failed = inl refl
 
-  destroyed_goes : (w : World C) (b : ℕ) (well : Bool) (d : Destroy) (reply : Reply C) (new : State C) → CleansOne rules w.core b well d reply new → IsAgain rules w
+  destroyed_goes : (w : World C) (b : ℕ) (well : Option Kind) (d : Destroy) (reply : Reply C) (new : State C) → CleansOne rules w.core b well d reply new → IsAgain rules w
       → IsAgain rules (after rules w (Applies (DestroyCleaned b well) reply new))
   destroyed_goes w b well (Cleaning left failed) reply new ok again =
       subst (λ r. IsAgain rules (after rules w (Applies (DestroyCleaned b well) r new))) (sym ok.0)
-      (elim (is_issued (without_id b left) (if well then failed else true)) [
+      (elim (is_issued (without_id b left) (first_fault failed well)) [
         | inl e ↦ subst (λ r. IsAgain rules (after rules w (Applies (DestroyCleaned b well) r new))) (sym e) (cleaned_goes rules w b well (Cleaning left failed) reply new ok again)
         | inr e ↦ subst (λ r. IsAgain rules (after rules w (Applies (DestroyCleaned b well) r new))) (sym e.1) (cleaned_goes rules w b well (Cleaning left failed) reply new ok again)
       ])

@@ -5,7 +5,7 @@ use Rattle.foyer_model.specs.Numbers.{put}
 use Rattle.foyer_model.specs.Record.{Mark}
 use Rattle.foyer_model.specs.State.{Remove, no_stats, NoDestroy, Begun, Cleaning, State}
 use Rattle.foyer_model.specs.Step.{Bytes, Young, Delete, LoadBegin, LoadEnd, Receive, FlushBegin, FlushBlock, LogWrote, FlushEnd, ReclaimIdle, DestroyBegin, DestroyClear, DestroyCleaned, Close}
-use Rattle.foyer_model.specs.Reply.{Closed, Refused, Deleted, Done, Answer, Miss, Read, Entry, Received, Began, Written, Ended, Destroying, Cleared, Destroyed}
+use Rattle.foyer_model.specs.Reply.{Io, Closed, Refused, Deleted, Done, Answer, Miss, Read, Entry, Received, Began, Written, Ended, Destroying, Cleared, Destroyed}
 use Rattle.foyer_model.specs.Index.{unmarked}
 use Rattle.foyer_model.specs.Layout.{writes_in}
 use Rattle.foyer_model.specs.Queue.{queued}
@@ -247,7 +247,7 @@ none_reclaimed zero = refl
 none_reclaimed (suc b) = let e : (suc b == 0) ≡ false = ne_eqb (suc b) 0 (λ is. omega arith) in rw e refl
 
 abbrev n99 : State ℕ
-n99 = record w99.core { index = λ h. None; filling = refilled 2 w99.core.filling; place = λ b. vacated (w99.core.place b); flushers = λ f. record (w99.core.flushers f) { own = None; ready = None; context = empty }; destroy = Cleaning (0 ∷ 1 ∷ []) false }
+n99 = record w99.core { index = λ h. None; filling = refilled 2 w99.core.filling; place = λ b. vacated (w99.core.place b); flushers = λ f. record (w99.core.flushers f) { own = None; ready = None; context = empty }; destroy = Cleaning (0 ∷ 1 ∷ []) None }
 
 abbrev pub e99 : WorldEvent ℕ
 e99 = Applies (DestroyClear) (Cleared (0 ∷ 1 ∷ [])) (counted w99.core n99)
@@ -277,10 +277,10 @@ pub may101 : MayHappen small SmallSplits IsSmall w101 e101
 may101 = (λ o past. refl)
 
 abbrev n102 : State ℕ
-n102 = record w102.core { destroy = Cleaning (1 ∷ []) false; stats = put w102.core.stats 0 no_stats }
+n102 = record w102.core { destroy = Cleaning (1 ∷ []) None; stats = put w102.core.stats 0 no_stats }
 
 abbrev pub e102 : WorldEvent ℕ
-e102 = Applies (DestroyCleaned 0 true) (Done) (counted w102.core n102)
+e102 = Applies (DestroyCleaned 0 None) (Done) (counted w102.core n102)
 
 abbrev pub w103 : World ℕ
 w103 = after small w102 e102
@@ -310,7 +310,7 @@ abbrev n105 : State ℕ
 n105 = record w105.core { destroy = NoDestroy; stats = put w105.core.stats 1 no_stats }
 
 abbrev pub e105 : WorldEvent ℕ
-e105 = Applies (DestroyCleaned 1 false) (Destroyed false) (counted w105.core n105)
+e105 = Applies (DestroyCleaned 1 (Some Io)) (Destroyed (Some Io)) (counted w105.core n105)
 
 abbrev pub w106 : World ℕ
 w106 = after small w105 e105

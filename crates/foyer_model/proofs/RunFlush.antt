@@ -193,7 +193,7 @@ abbrev n15 : State ℕ
 n15 = record (turned small w15.core 0 (record (w15.core.flushers 0) { batch = None })) { index = unmarked (batch_in (w15.core.flushers 0).batch).marks w15.core.index; stats = invalidated_unless (batch_in (w15.core.flushers 0).batch).logged (batch_in (w15.core.flushers 0).batch).invalidated w15.core.stats }
 
 abbrev pub e15 : WorldEvent ℕ
-e15 = Applies (FlushEnd 0) (Ended (5 ∷ []) []) (counted w15.core n15)
+e15 = Applies (FlushEnd 0) (Ended ((1, 5) ∷ []) []) (counted w15.core n15)
 
 abbrev pub w16 : World ℕ
 w16 = after small w15 e15

@@ -264,7 +264,7 @@ abbrev n37 : State ℕ
 n37 = record (turned small w37.core 0 (record (w37.core.flushers 0) { batch = None })) { index = unmarked (batch_in (w37.core.flushers 0).batch).marks w37.core.index; stats = invalidated_unless (batch_in (w37.core.flushers 0).batch).logged (batch_in (w37.core.flushers 0).batch).invalidated w37.core.stats }
 
 abbrev pub e37 : WorldEvent ℕ
-e37 = Applies (FlushEnd 0) (Ended (6 ∷ []) []) (counted w37.core n37)
+e37 = Applies (FlushEnd 0) (Ended ((3, 6) ∷ []) []) (counted w37.core n37)
 
 abbrev pub w38 : World ℕ
 w38 = after small w37 e37

@@ -132,7 +132,7 @@ abbrev nr26 : State ℕ
 nr26 = record (turned small wr26.core 0 (record (wr26.core.flushers 0) { batch = None })) { index = unmarked (batch_in (wr26.core.flushers 0).batch).marks wr26.core.index; stats = invalidated_unless (batch_in (wr26.core.flushers 0).batch).logged (batch_in (wr26.core.flushers 0).batch).invalidated wr26.core.stats }
 
 abbrev pub er26 : WorldEvent ℕ
-er26 = Applies (FlushEnd 0) (Ended (6 ∷ []) []) (counted wr26.core nr26)
+er26 = Applies (FlushEnd 0) (Ended ((18446744073709551614, 6) ∷ []) []) (counted wr26.core nr26)
 
 abbrev pub wr27 : World ℕ
 wr27 = after small wr26 er26

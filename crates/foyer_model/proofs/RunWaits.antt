@@ -201,7 +201,7 @@ abbrev n52 : State ℕ
 n52 = record (turned small w52.core 0 (record (w52.core.flushers 0) { batch = None })) { index = unmarked (batch_in (w52.core.flushers 0).batch).marks w52.core.index; stats = invalidated_unless (batch_in (w52.core.flushers 0).batch).logged (batch_in (w52.core.flushers 0).batch).invalidated w52.core.stats }
 
 abbrev pub e52 : WorldEvent ℕ
-e52 = Applies (FlushEnd 0) (Ended (6 ∷ []) []) (counted w52.core n52)
+e52 = Applies (FlushEnd 0) (Ended ((4, 6) ∷ []) []) (counted w52.core n52)
 
 abbrev pub w53 : World ℕ
 w53 = after small w52 e52

@@ -1,5 +1,6 @@
 -- What a flusher always has: so that its next step has a reply.
 use Rattle.std.proofs.Common.{◌≡◌, ◌≢◌, ℕ, Bool, true, false, List, [], ◌∷◌, ◌++◌, length, take, Option, Some, None, inl, inr, refl, sym, ap, subst, ◌∙◌}
+use Rattle.foyer_model.specs.Kind.{Kind}
 use Rattle.foyer_model.specs.Numbers.{put}
 use Rattle.foyer_model.specs.Record.{Slot, Indexed, Mark, Outcome, NoRecord, Holds, IndexEntry, Record}
 use Rattle.foyer_model.specs.Position.{Write, records_in}
@@ -229,7 +230,7 @@ module _ {C : Type 0} (rules : Rules C) (Splits : Splitting C) where
   })
   clears_served c new reply may ok served = absurd ok
 
-  cleans_served : (c new : State C) (b : ℕ) (well : Bool) (d : Destroy) (reply : Reply C) → CleansOne rules c b well d reply new → ((q : ℕ) → IsServed rules Splits (c.flushers q)) → (q : ℕ) → IsServed rules Splits (new.flushers q)
+  cleans_served : (c new : State C) (b : ℕ) (well : Option Kind) (d : Destroy) (reply : Reply C) → CleansOne rules c b well d reply new → ((q : ℕ) → IsServed rules Splits (c.flushers q)) → (q : ℕ) → IsServed rules Splits (new.flushers q)
   cleans_served c new b well (Cleaning left failed) reply ok served = served_as new _ ok.1 served
   cleans_served c new b well NoDestroy reply ok served = absurd ok
   cleans_served c new b well Begun reply ok served = absurd ok

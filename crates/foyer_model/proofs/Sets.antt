@@ -1,5 +1,6 @@
 -- What is true of the sets of blocks and of who waits.
 use Rattle.std.proofs.Common.{◌≡◌, ℕ, ◌+◌, ◌<◌, ◌≤◌, nat_lt, Bool, true, false, if◌then◌else◌, List, [], ◌∷◌, length, Option, Some, None, inl, inr, refl, sym, ap, subst, ◌∙◌, arith}
+use Rattle.foyer_model.specs.Kind.{Kind}
 use Rattle.foyer_model.specs.Numbers.{put, last_number, plus}
 use Rattle.foyer_model.specs.Ids.{is_id_in, with_id, AreDistinct}
 use Rattle.foyer_model.specs.Record.{Slot, Indexed, Mark, Outcome, NoRecord, Holds, IndexEntry}
@@ -288,7 +289,7 @@ module _ {C : Type 0} (rules : Rules C) where
   forgets_sets c new b (Some r) (Cleans d) ok sets = alike c new _ ok.1 (counted c sets)
   forgets_sets c new b r reply ok sets = absurd ok
 
-  cleans_sets : (c new : State C) (b : ℕ) (well : Bool) (d : Destroy) (reply : Reply C) → CleansOne rules c b well d reply new → AreSets rules c → AreSets rules (record new { steps = c.steps + 1 })
+  cleans_sets : (c new : State C) (b : ℕ) (well : Option Kind) (d : Destroy) (reply : Reply C) → CleansOne rules c b well d reply new → AreSets rules c → AreSets rules (record new { steps = c.steps + 1 })
   cleans_sets c new b well (Cleaning left failed) reply ok sets = alike c new _ ok.1 (counted c sets)
   cleans_sets c new b well NoDestroy reply ok sets = absurd ok
   cleans_sets c new b well Begun reply ok sets = absurd ok

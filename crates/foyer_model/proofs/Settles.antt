@@ -1,6 +1,7 @@
 -- Blocks that are neither clean nor being reclaimed stay in their filling.
 use Rattle.std.proofs.Common.{◌≡◌, ℕ, ◌+◌, ◌<◌, ◌==◌, nat_le, Bool, true, false, if◌then◌else◌, List, [], ◌∷◌, ◌++◌, Option, Some, None, inl, inr, refl, sym, ap, subst, ◌∙◌}
 use Rattle.std.proofs.lemmas.Bool.{eqb-true}
+use Rattle.foyer_model.specs.Kind.{Kind}
 use Rattle.foyer_model.specs.Numbers.{put}
 use Rattle.foyer_model.specs.Ids.{is_id_in, without_id, AreDistinct}
 use Rattle.foyer_model.specs.Record.{Address, Slot, Indexed, Mark, Outcome, NoRecord, Holds, IndexEntry, Source, Given, Reread, Record}
@@ -255,7 +256,7 @@ module _ {C : Type 0} (rules : Rules C) where
   })
   forgets c new b r reply ok = absurd ok
 
-  cleans : (c new : State C) (b : ℕ) (well : Bool) (d : Destroy) (reply : Reply C) → CleansOne rules c b well d reply new → Settles rules c new
+  cleans : (c new : State C) (b : ℕ) (well : Option Kind) (d : Destroy) (reply : Reply C) → CleansOne rules c b well d reply new → Settles rules c new
   cleans c new b well (Cleaning rest failed) reply ok = settled c new _ ok.1 (record { stays = λ b p q. (refl, (p, q)); listed = λ l. l; below = λ ok. ok })
   cleans c new b well NoDestroy reply ok = absurd ok
   cleans c new b well Begun reply ok = absurd ok

@@ -1,6 +1,8 @@
 -- Each event keeps a world sound, and so loads answer only what they promise.
 use Rattle.std.proofs.Common.{◌≡◌, ℕ, ◌+◌, ◌<◌, ◌≤◌, ◌==◌, nat_lt, Bool, true, false, if◌then◌else◌, List, [], ◌∷◌, ◌++◌, length, map, take, Option, Some, None, ◌⊎◌, inl, inr, refl, sym, ap, subst, ◌∙◌, arith}
 use Rattle.std.proofs.lemmas.Bool.{eqb-true, eqb-false}
+use Rattle.foyer_model.specs.Kind.{Kind}
+use Rattle.foyer_model.specs.Destroy.{first_fault}
 use Rattle.foyer_model.specs.Numbers.{put, last_number}
 use Rattle.foyer_model.specs.Ids.{is_id_in, without_id}
 use Rattle.foyer_model.specs.Record.{Slot, Indexed, Mark, Outcome, NoRecord, Holds, IndexEntry}
@@ -348,22 +350,22 @@ module _ {C : Type 0} (rules : Rules C) (Splits : Splitting C) (is_value : C →
       (cleared rules (record w { loads = λ n. load_unless (λ o. None) (w.loads n) }) (loads_left w (λ o. None) sound) few (λ f. (may.1 f).4))
   clear_keeps w reply new may few ok sound = absurd ok
 
-  cleaned_keeps : (w : World C) (b : ℕ) (well : Bool) (d : Destroy) (reply : Reply C) (new : State C) → CleansOne rules w.core b well d reply new → WorldInvariant rules w
+  cleaned_keeps : (w : World C) (b : ℕ) (well : Option Kind) (d : Destroy) (reply : Reply C) (new : State C) → CleansOne rules w.core b well d reply new → WorldInvariant rules w
       → WorldInvariant rules (record w { core = new })
   cleaned_keeps w b well (Cleaning left failed) reply new ok sound = subst (λ k. WorldInvariant rules (record w { core = k })) (sym ok.1) sound
   cleaned_keeps w b well NoDestroy reply new ok sound = absurd ok
   cleaned_keeps w b well Begun reply new ok sound = absurd ok
 
   -- what DestroyCleaned replies
-  is_issued : (left : List ℕ) (failed : Bool) → (issued_after_clean {C = C} left failed ≡ Done) ⊎ ((well : Bool) × (issued_after_clean {C = C} left failed ≡ Destroyed well))
-  is_issued [] failed = inr ((if failed then false else true), refl)
+  is_issued : (left : List ℕ) (failed : Option Kind) → (issued_after_clean {C = C} left failed ≡ Done) ⊎ ((well : Option Kind) × (issued_after_clean {C = C} left failed ≡ Destroyed well))
+  is_issued [] failed = inr (failed, refl)
   is_issued (b ∷ bs) failed = inl refl
 
-  destroyed_keeps : (w : World C) (b : ℕ) (well : Bool) (d : Destroy) (reply : Reply C) (new : State C) → CleansOne rules w.core b well d reply new → WorldInvariant rules w
+  destroyed_keeps : (w : World C) (b : ℕ) (well : Option Kind) (d : Destroy) (reply : Reply C) (new : State C) → CleansOne rules w.core b well d reply new → WorldInvariant rules w
       → WorldInvariant rules (after rules w (Applies (DestroyCleaned b well) reply new))
   destroyed_keeps w b well (Cleaning left failed) reply new ok sound =
       subst (λ r. WorldInvariant rules (after rules w (Applies (DestroyCleaned b well) r new))) (sym ok.0)
-      (elim (is_issued (without_id b left) (if well then failed else true)) [
+      (elim (is_issued (without_id b left) (first_fault failed well)) [
         | inl e ↦ subst (λ r. WorldInvariant rules (after rules w (Applies (DestroyCleaned b well) r new))) (sym e) (cleaned_keeps w b well (Cleaning left failed) reply new ok sound)
         | inr e ↦ subst (λ r. WorldInvariant rules (after rules w (Applies (DestroyCleaned b well) r new))) (sym e.1) (cleaned_keeps w b well (Cleaning left failed) reply new ok sound)
       ])

@@ -1,5 +1,6 @@
 -- Each put is one that was recovered or queued.
 use Rattle.std.proofs.Common.{◌≡◌, ℕ, ◌==◌, nat_le, Bool, true, false, ◌&&◌, if◌then◌else◌, List, [], ◌∷◌, ◌++◌, length, map, take, Option, Some, None, ◌⊎◌, inl, inr, refl, sym, ap, subst, ◌∙◌}
+use Rattle.foyer_model.specs.Kind.{Kind}
 use Rattle.foyer_model.specs.Numbers.{put}
 use Rattle.foyer_model.specs.Record.{Slot, Indexed, Mark, Outcome, NoRecord, Holds, IndexEntry, Source, Given, Reread, Record}
 use Rattle.foyer_model.specs.Position.{records_in, records_of}
@@ -312,7 +313,7 @@ module _ {C : Type 0} (rules : Rules C) (K : ℕ → ℕ → C → Type 0) (R : 
   })
   clears_traced w reply new ok traced = absurd ok
 
-  pub cleans_traced : (w : World C) (b : ℕ) (well : Bool) (d : Destroy) (reply : Reply C) (new : State C) → CleansOne rules w.core b well d reply new → IsTraced K R w → IsTracedIn K R new.flushers w.history
+  pub cleans_traced : (w : World C) (b : ℕ) (well : Option Kind) (d : Destroy) (reply : Reply C) (new : State C) → CleansOne rules w.core b well d reply new → IsTraced K R w → IsTracedIn K R new.flushers w.history
   cleans_traced w b well (Cleaning left failed) reply new ok traced = traced_as w.history new _ ok.1 traced
   cleans_traced w b well NoDestroy reply new ok traced = absurd ok
   cleans_traced w b well Begun reply new ok traced = absurd ok

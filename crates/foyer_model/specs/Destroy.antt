@@ -1,7 +1,8 @@
 -- Destroys.
-use Rattle.std.specs.Prelude.{◌≡◌, ℕ, ◌+◌, ◌<◌, nat_lt, Bool, true, false, if◌then◌else◌, List, [], ◌∷◌, None}
+use Rattle.std.specs.Prelude.{◌≡◌, ℕ, ◌+◌, ◌<◌, nat_lt, false, if◌then◌else◌, List, [], ◌∷◌, Option, Some, None}
 use Rattle.foyer_model.specs.Numbers.{put, last_number, plus}
 use Rattle.foyer_model.specs.Ids.{ids, without_id}
+use Rattle.foyer_model.specs.Kind.{Kind}
 use Rattle.foyer_model.specs.State.{Remove, Flusher, BlockSet, Clean, Writes, Evictable, Reclaims, no_stats, Destroy, NoDestroy, Begun, Cleaning, State}
 use Rattle.foyer_model.specs.Rules.{Rules, flusher_of, first_position}
 use Rattle.foyer_model.specs.Reply.{Reply, Done, Destroying, Cleared, Destroyed}
@@ -18,14 +19,19 @@ vacated Reclaims = Reclaims
 abbrev pub IsIdle : {C : Type 0} → Flusher C → Type 0
 IsIdle φ = (φ.queue ≡ []) × (φ.buffer ≡ []) × (φ.marks ≡ []) × (φ.waits ≡ []) × (φ.batch ≡ None)
 
+-- the fault that came first
+abbrev pub first_fault : Option Kind → Option Kind → Option Kind
+first_fault None fault = fault
+first_fault (Some kind) fault = Some kind
+
 -- where the last clean has come the destroy is over
-abbrev pub after_clean : List ℕ → Bool → Destroy
+abbrev pub after_clean : List ℕ → Option Kind → Destroy
 after_clean [] failed = NoDestroy
 after_clean (b ∷ bs) failed = Cleaning (b ∷ bs) failed
 
--- and the last reply says whether one failed
-abbrev pub issued_after_clean : {C : Type 0} → List ℕ → Bool → Reply C
-issued_after_clean [] failed = Destroyed (if failed then false else true)
+-- and the last reply carries the first fault
+abbrev pub issued_after_clean : {C : Type 0} → List ℕ → Option Kind → Reply C
+issued_after_clean [] failed = Destroyed failed
 issued_after_clean (b ∷ bs) failed = Done
 
 -- each block begins a new filling, up to the greatest count
@@ -49,14 +55,14 @@ module _ {C : Type 0} (rules : Rules C) (old : State C) where
         filling = refilled rules.blocks old.filling;
         place = λ b. vacated (old.place b);
         flushers = λ f. record (old.flushers f) { own = None; ready = None; context = first_position rules };
-        destroy = Cleaning (ids rules.blocks) false;
+        destroy = Cleaning (ids rules.blocks) None;
       })
   Clears reply new = ⊥
 
   -- once for each block, which stays in its set
-  abbrev pub CleansOne : ℕ → Bool → Destroy → Reply C → State C → Type 0
-  CleansOne b ok (Cleaning left failed) reply new =
-      (reply ≡ issued_after_clean (without_id b left) (if ok then failed else true))
-      × (new ≡ record old { destroy = after_clean (without_id b left) (if ok then failed else true); stats = put old.stats b no_stats })
-  CleansOne b ok NoDestroy reply new = ⊥
-  CleansOne b ok Begun reply new = ⊥
+  abbrev pub CleansOne : ℕ → Option Kind → Destroy → Reply C → State C → Type 0
+  CleansOne b fault (Cleaning left failed) reply new =
+      (reply ≡ issued_after_clean (without_id b left) (first_fault failed fault))
+      × (new ≡ record old { destroy = after_clean (without_id b left) (first_fault failed fault); stats = put old.stats b no_stats })
+  CleansOne b fault NoDestroy reply new = ⊥
+  CleansOne b fault Begun reply new = ⊥

@@ -13,15 +13,15 @@ abbrev pub bytes_taken : {C : Type 0} → (ℕ → ℕ) → List (Record C) → 
 bytes_taken page_up [] = 0
 bytes_taken page_up (r ∷ rs) = page_up (length r.bytes) + bytes_taken page_up rs
 
--- the contents of its pieces
-abbrev pub piece_of : {C : Type 0} → Source C → List C → List C
-piece_of (Given c) cs = c ∷ cs
-piece_of (Reread a) cs = cs
+-- in front of others, the content of a piece's record with its sequence
+abbrev pub piece_of : {C : Type 0} → (sequence : ℕ) → Source C → List (ℕ × C) → List (ℕ × C)
+piece_of sequence (Given c) others = (sequence, c) ∷ others
+piece_of sequence (Reread a) others = others
 
--- the contents of a buffer's pieces, in order
-abbrev pub pieces_of : {C : Type 0} → List (Record C) → List C
+-- the contents of a buffer's pieces with their sequences, in order
+abbrev pub pieces_of : {C : Type 0} → List (Record C) → List (ℕ × C)
 pieces_of [] = []
-pieces_of (r ∷ rs) = piece_of r.source (pieces_of rs)
+pieces_of (r ∷ rs) = piece_of r.sequence r.source (pieces_of rs)
 
 -- anything was received since the batch before: a record, a mark or a wait
 abbrev pub HasReceived : {C : Type 0} → Flusher C → Type 0

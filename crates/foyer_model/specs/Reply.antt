@@ -1,16 +1,8 @@
 -- The replies of the core. Each choice that a step makes stands in its reply.
 use Rattle.std.specs.Prelude.{ℕ, Bool, List, Option}
 use Rattle.foyer_model.specs.Position.{Write, BlockLayout}
+pub use Rattle.foyer_model.specs.Kind.{Kind, Io, Memory, Parse, Closed, Unsupported, SequenceEnd}
 use Rattle.foyer_model.specs.Step.{Age, Ticket, Step}
-
--- why a step is refused
-pub data Kind : Type 0 where
-  Io : Kind
-  Memory : Kind
-  Parse : Kind
-  Closed : Kind
-  Unsupported : Kind
-  SequenceEnd : Kind
 
 -- what a step answers
 pub data Reply (C : Type 0) : Type 0 where
@@ -33,11 +25,11 @@ pub data Reply (C : Type 0) : Type 0 where
   Next : Reply C
   Committed : (puts : ℕ) → Reply C
   Failed : Reply C
-  Ended : (pieces : List C) → (waits : List ℕ) → Reply C
+  Ended : (pieces : List (ℕ × C)) → (waits : List ℕ) → Reply C  -- the pieces with their sequences
   Picked : (block : ℕ) → (answers : List (Option ℕ)) → (probation : List ℕ) → Reply C  -- issues a read of its first index; the pickers' answers, and what they put on probation
   Scans : (block offset len : ℕ) → (verdicts : List Bool) → Reply C  -- issues a read; the filter's verdicts on what was listed
   Listed : (verdicts : List Bool) → Reply C
   Cleans : (block : ℕ) → Reply C  -- issues a clean
   Destroying : (sequence : ℕ) → Reply C
   Cleared : (blocks : List ℕ) → Reply C  -- issues a clean of each of these
-  Destroyed : (is_ok : Bool) → Reply C  -- whether every clean went well
+  Destroyed : (first_fault : Option Kind) → Reply C  -- of the cleans, if one failed

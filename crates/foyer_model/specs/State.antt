@@ -1,5 +1,6 @@
 -- The model's state of the core: maps are functions from numbers, queues are lists.
 use Rattle.std.specs.Prelude.{ℕ, Bool, false, List, Option}
+use Rattle.foyer_model.specs.Kind.{Kind}
 use Rattle.foyer_model.specs.Record.{Address, Slot, Record}
 use Rattle.foyer_model.specs.Position.{Position, Write, BlockLayout}
 
@@ -24,7 +25,7 @@ pub record Batch (C : Type 0) : Type 0 where
   pub writing : Option (Writing C)
   pub marks : List (ℕ × ℕ)  -- hashes with sequences
   pub invalidated : List (ℕ × ℕ)  -- blocks with the bytes that the marks made invalid
-  pub pieces : List C  -- to be given back at the end
+  pub pieces : List (ℕ × C)  -- to be given back at the end, with their sequences
   pub waits : List ℕ
   pub logged : Option Bool  -- whether the log took the marks, once it has answered
 
@@ -71,11 +72,11 @@ pub record Reclaim : Type 0 where
   pub listed : List (ℕ × Address)  -- hashes with addresses
   pub requeued : List (ℕ × Address)  -- those queued for reinsertion, the last one first
 
--- how far a destroy is: while it cleans, the blocks whose clean has yet to come, and whether one failed
+-- how far a destroy is: while it cleans, the blocks whose clean has yet to come, and the first fault of those that came
 pub data Destroy : Type 0 where
   NoDestroy : Destroy
   Begun : Destroy
-  Cleaning : (left : List ℕ) → (has_failed : Bool) → Destroy
+  Cleaning : (left : List ℕ) → (first_fault : Option Kind) → Destroy
 
 -- all that the core has
 pub record State (C : Type 0) : Type 0 where

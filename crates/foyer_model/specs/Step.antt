@@ -1,5 +1,6 @@
 -- The steps of the core.
-use Rattle.std.specs.Prelude.{ℕ, Bool, List}
+use Rattle.std.specs.Prelude.{ℕ, Bool, List, Option}
+use Rattle.foyer_model.specs.Kind.{Kind}
 use Rattle.foyer_model.specs.Record.{Address}
 
 -- what a read gave
@@ -39,5 +40,5 @@ pub data Step (C : Type 0) : Type 0 where
   ReclaimIdle : Step C
   DestroyBegin : Step C
   DestroyClear : Step C
-  DestroyCleaned : (block : ℕ) → (is_ok : Bool) → Step C
+  DestroyCleaned : (block : ℕ) → (fault : Option Kind) → Step C
   Close : Step C

@@ -1,5 +1,5 @@
 -- The world of the core: the bytes of every block, the core, and the accesses under way.
-use Rattle.std.specs.Prelude.{◌≡◌, ℕ, ◌≤◌, ◌==◌, nat_lt, Bool, ◌||◌, if◌then◌else◌, List, [], ◌∷◌, Option, Some, None}
+use Rattle.std.specs.Prelude.{◌≡◌, ℕ, ◌≤◌, ◌==◌, nat_lt, Bool, true, false, ◌||◌, if◌then◌else◌, List, [], ◌∷◌, Option, Some, None}
 use Rattle.foyer_model.specs.Numbers.{put, last_number}
 use Rattle.foyer_model.specs.Position.{Position, Write, BlockLayout}
 use Rattle.foyer_model.specs.Record.{Record}
@@ -11,6 +11,11 @@ use Rattle.foyer_model.specs.Follows.{Follows}
 use Rattle.foyer_model.specs.Event.{Event, events_of}
 use Rattle.foyer_model.specs.Kept.{kept_after}
 use Rattle.foyer_model.specs.Access.{BlockWrites, Issued, CleanState, CleanDone, ReadDone, Load, Scan, loads_after, issued_after, scans_after, block_writes_after, cleans_after, result_of, some_writes_covers, clean_covers, begun, read_torn, came, at_load, at_scan, writes_begun, will_cover, writes_ended, bytes_ended, clean_begun, clean_will_cover, clean_ended, bytes_cleaned, IsRead, IsTorn, IsTornClean}
+
+-- whether there is nothing
+abbrev pub is_none : {X : Type 0} → Option X → Bool
+is_none None = true
+is_none (Some x) = false
 
 -- a record that was committed, and where it stands
 pub record Stored (C : Type 0) : Type 0 where
@@ -160,7 +165,7 @@ module _ {C : Type 0} (rules : Rules C) (Splits : Splitting C) (is_value : C →
   IsFed w (FlushWrote f ok) = result_of (w.block_writes f) ≡ Some ok
   IsFed w (ReclaimRead b result) = (s : Scan) × (w.scans b ≡ Some s) × (s.read_state ≡ ReadDone result)
   IsFed w (ReclaimCleaned b ok) = w.clean_states b ≡ CleanDone ok
-  IsFed w (DestroyCleaned b ok) = w.clean_states b ≡ CleanDone ok
+  IsFed w (DestroyCleaned b fault) = w.clean_states b ≡ CleanDone (is_none fault)
   IsFed w step = Unit {0}
 
   -- what may happen: a step as the relation has it, an access as it was issued

@@ -7,6 +7,7 @@ use Rattle.foyer_buffer.specs.Position as laid
 use Rattle.foyer_buffer.specs.Fills.{AreSizes}
 use Rattle.foyer_buffer.specs.Holding.{Holds}
 use Rattle.foyer_buffer.proofs.HoldsLemmas.{holds_fresh}
+use Rattle.foyer_model.specs.Kind.{Kind}
 use Rattle.foyer_model.specs.Numbers.{put, last_number, plus, page}
 use Rattle.foyer_model.specs.Ids.{ids, is_id_in, without_id}
 use Rattle.foyer_model.specs.Record.{Indexed}
@@ -51,11 +52,11 @@ still_in d x (y ∷ ys) ne is = go (x == y) refl (still_in d x ys ne)
       | inr there ↦ later_in d y (without_id x ys) (rec there)
     ]
 
-awaits_after : (c : ℕ) (left : List ℕ) (failed : Bool) → AwaitsClean c (after_clean left failed) → is_id_in c left ≡ true
+awaits_after : (c : ℕ) (left : List ℕ) (failed : Option Kind) → AwaitsClean c (after_clean left failed) → is_id_in c left ≡ true
 awaits_after c [] failed a = absurd a
 awaits_after c (b ∷ bs) failed a = a
 
-after_awaits : (c : ℕ) (left : List ℕ) (failed : Bool) → is_id_in c left ≡ true → AwaitsClean c (after_clean left failed)
+after_awaits : (c : ℕ) (left : List ℕ) (failed : Option Kind) → is_id_in c left ≡ true → AwaitsClean c (after_clean left failed)
 after_awaits c [] failed a = absurd (let e : false ≡ true = a in cc)
 after_awaits c (b ∷ bs) failed a = a
 
@@ -68,7 +69,7 @@ module _ (A : Type 0) {C : Type 0} (rules : Rules C) (sizes : AreSizes (sizes_of
         filling = refilled rules.blocks v.filling;
         place = λ b. vacated (v.place b);
         flushers = λ f. record (v.flushers f) { own = None; ready = None; context = first_position rules };
-        destroy = Cleaning (ids rules.blocks) false;
+        destroy = Cleaning (ids rules.blocks) None;
         clean_states = λ b. if is_id_in b (ids rules.blocks) then CleanIssued else v.clean_states b;
         filled = λ b. if nat_lt b rules.blocks then first_position rules else v.filled b;
       })
@@ -133,7 +134,7 @@ module _ (A : Type 0) {C : Type 0} (rules : Rules C) (sizes : AreSizes (sizes_of
       dirt b false is e = absurd (elim (s.apart.dirty b e) [ inl soon ↦ subst (IsAt ToClean) (unread b) soon | inr awaits ↦ subst (AwaitsClean b) begun awaits ])
 
   -- a destroy has cleaned a block
-  pub destroyed : (v : Sight C) (b : ℕ) (left : List ℕ) (failed now_failed : Bool) → v.destroy ≡ Cleaning left failed → IsSafe A rules v
+  pub destroyed : (v : Sight C) (b : ℕ) (left : List ℕ) (failed now_failed : Option Kind) → v.destroy ≡ Cleaning left failed → IsSafe A rules v
       → IsSafe A rules (record v { destroy = after_clean (without_id b left) now_failed; clean_states = put v.clean_states b CleanIdle })
   destroyed v b left failed now_failed is s = record {
     low = s.low;

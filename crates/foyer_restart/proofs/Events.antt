@@ -1,6 +1,8 @@
 -- Each step and each access that goes well keeps a world safe.
 use Rattle.std.proofs.Common.{◌≡◌, ℕ, ◌+◌, ◌<◌, ◌==◌, nat_le, Bool, true, false, if◌then◌else◌, Option, Some, None, List, [], ◌∷◌, ◌++◌, inl, inr, refl, sym, ap, subst, ◌∙◌, arith}
 use Rattle.foyer_buffer.specs.BlockBytes.{read}
+use Rattle.foyer_model.specs.Kind.{Kind}
+use Rattle.foyer_model.specs.Destroy.{first_fault}
 use Rattle.foyer_model.specs.Numbers.{put, last_number}
 use Rattle.foyer_model.specs.Ids.{ids, without_id}
 use Rattle.foyer_model.specs.Record.{Address, Slot, IndexEntry, Record}
@@ -229,16 +231,16 @@ module _ (A : Type 0) {C : Type 0} (rules : Rules C) (Splits : Splitting C) (is_
       (cleans.cleared A rules real.format.sizes (sight_of w) turn.0 (λ f. (turn.1 f).4) turn.2 (fillings_few rules w.core known.sets few) s))
   clear_safe w reply new turn few ok known s = absurd ok
 
-  destroyed_safe : (w : World C) (b : ℕ) (good : Bool) (d : Destroy) (reply : Reply C) (new : State C) → w.core.destroy ≡ d → CleansOne rules w.core b good d reply new → IsSafe A rules (sight_of w) → At w (DestroyCleaned b good) reply new
+  destroyed_safe : (w : World C) (b : ℕ) (good : Option Kind) (d : Destroy) (reply : Reply C) (new : State C) → w.core.destroy ≡ d → CleansOne rules w.core b good d reply new → IsSafe A rules (sight_of w) → At w (DestroyCleaned b good) reply new
   destroyed_safe w b good (Cleaning left failed) reply new is ok s =
       subst (λ q. At w (DestroyCleaned b good) q new) (sym ok.0)
-      (subst (At w (DestroyCleaned b good) (issued_after_clean (without_id b left) (if good then failed else true))) (sym ok.1) (go (without_id b left) refl))
+      (subst (At w (DestroyCleaned b good) (issued_after_clean (without_id b left) (first_fault failed good))) (sym ok.1) (go (without_id b left) refl))
     where
-      done : IsSafe A rules (record (sight_of w) { destroy = after_clean (without_id b left) (if good then failed else true); clean_states = put w.clean_states b CleanIdle })
-      done = cleans.destroyed A rules real.format.sizes (sight_of w) b left failed (if good then failed else true) is s
+      done : IsSafe A rules (record (sight_of w) { destroy = after_clean (without_id b left) (first_fault failed good); clean_states = put w.clean_states b CleanIdle })
+      done = cleans.destroyed A rules real.format.sizes (sight_of w) b left failed (first_fault failed good) is s
 
       go : (l : List ℕ) → without_id b left ≡ l
-          → At w (DestroyCleaned b good) (issued_after_clean l (if good then failed else true)) (record w.core { destroy = after_clean (without_id b left) (if good then failed else true); stats = put w.core.stats b Rattle.foyer_model.specs.State.no_stats })
+          → At w (DestroyCleaned b good) (issued_after_clean l (first_fault failed good)) (record w.core { destroy = after_clean (without_id b left) (first_fault failed good); stats = put w.core.stats b Rattle.foyer_model.specs.State.no_stats })
       go [] e = done
       go (c ∷ cs) e = done
   destroyed_safe w b good NoDestroy reply new is ok s = absurd ok

@@ -1,6 +1,7 @@
 -- Each load was issued by a look-up.
 use Rattle.std.proofs.Common.{◌≡◌, ℕ, ◌==◌, Bool, true, false, List, [], ◌∷◌, ◌++◌, ◌⊎◌, inl, inr, Option, Some, None, refl, sym, ap, subst, ◌∙◌, arith}
 use Rattle.std.proofs.lemmas.Bool.Decides.{nat_tests}
+use Rattle.foyer_model.specs.Kind.{Kind}
 use Rattle.foyer_model.specs.Access.{Load, ReadState, at_load, begun, came, load_unless, read_torn, will_cover, clean_will_cover}
 use Rattle.foyer_model.specs.Destroy.{CleansOne, issued_after_clean}
 use Rattle.foyer_model.specs.Changes.{Changes}
@@ -99,11 +100,11 @@ module _ {C : Type 0} (rules : Rules C) (Splits : Splitting C) (is_value : C →
     forgets_none b None ok = ok
     forgets_none b (Some r) ok = ok
 
-    cleaned_none : (left : List ℕ) (failed : Bool) → issued ≡ issued_after_clean left failed → ⊥
+    cleaned_none : (left : List ℕ) (failed : Option Kind) → issued ≡ issued_after_clean left failed → ⊥
     cleaned_none [] failed e = cc
     cleaned_none (b ∷ bs) failed e = cc
 
-    cleans_none : (b : ℕ) (is_ok : Bool) (destroy : Destroy) → CleansOne rules old b is_ok destroy (Read t) new → ⊥
+    cleans_none : (b : ℕ) (is_ok : Option Kind) (destroy : Destroy) → CleansOne rules old b is_ok destroy (Read t) new → ⊥
     cleans_none b is_ok NoDestroy ok = ok
     cleans_none b is_ok Begun ok = ok
     cleans_none b is_ok (Cleaning left failed) ok = cleaned_none (without_id b left) _ ok.0

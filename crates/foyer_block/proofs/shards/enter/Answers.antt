@@ -1,5 +1,5 @@
-use Rattle.std.proofs.Common.{◌≡◌, ◌<◌, length, arith, subst}
-use Rattle.foyer_block.proofs.Found.{shard_of, inserted_here, answered_here, refused_here, room-slice_set, room-here}
+use Rattle.std.proofs.Common.{◌≡◌, ◌<◌, IsSome, length, arith, subst}
+use Rattle.foyer_block.proofs.Found.{shard_of, get-here, inserted_here, answered_here, refused_here, room-slice_set, room-here}
 use Rattle.foyer_block.proofs.shards.enter.Goals as goal
 
 pub returns-clause-answer : goal.returns-clause-answer
@@ -32,3 +32,10 @@ returns-clause-room g c =
     let len : c.len.result ≡ length c.args.shards.now.items = omega (arith, c.len.ensures) in
     let own = shard_of c.args.shards.now.items c.args.hash c.len.result c.index_mut.result.now len c.requires c.index_mut.ensures.value in
     room-slice_set c.args.shards.now.items c.args.hash _ c.index_mut.result.now c.enter_here.new.shard own c.enter_here.ensures.spare
+
+pub returns-clause-held : goal.returns-clause-held
+returns-clause-held g c = λ some.
+    let len : c.len.result ≡ length c.args.shards.now.items = omega (arith, c.len.ensures) in
+    let own = shard_of c.args.shards.now.items c.args.hash c.len.result c.index_mut.result.now len c.requires c.index_mut.ensures.value in
+    let here = get-here c.args.shards.now.items c.args.hash _ c.index_mut.result.now c.index_mut.result.now own in
+    c.enter_here.ensures.held (subst IsSome here some)

@@ -84,6 +84,18 @@ impl<A: Allocator> IoSlice<A> {
         })
     }
 
+    /// The whole buffer, to be written over, or this slice again where it has another owner.
+    pub fn try_into_unique(self) -> std::result::Result<IoSliceMut<A>, IoSlice<A>>
+        ensures whole { IfOk result (λ m. m ≡ self.whole) }
+        ensures handed_back { IfErr result (λ s. s ≡ self) }
+    {
+        let IoSlice { raw, start, end } = self;
+        match Arc::try_unwrap(raw) {
+            Ok(raw) => Ok(IoSliceMut::from_raw(raw)),
+            Err(raw) => Err(IoSlice { raw, start, end }),
+        }
+    }
+
     /// The whole buffer, to be written over; `None` where it has another owner.
     pub fn try_into_io_slice_mut(self) -> Option<IoSliceMut<A>>
         ensures { IfSome result (λ m. m ≡ self.whole) }

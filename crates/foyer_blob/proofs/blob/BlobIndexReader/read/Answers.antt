@@ -1,5 +1,6 @@
-use Rattle.std.proofs.Common.{arith, rules}
-use Rattle.foyer_blob.proofs.BlobLemmas.{sealed_from, entry_lemmas}
+use Rattle.std.proofs.Common.{ℕ, List, refl, arith, rules}
+use Rattle.foyer_blob.specs.Blob.{entries_in, IsSealed}
+use Rattle.foyer_blob.proofs.BlobLemmas.{sealed_from, if_err, entry_lemmas}
 use Rattle.foyer_blob.proofs.blob.BlobIndexReader.read.Goals as goal
 
 pub returns-clause-sealed : goal.returns-clause-sealed
@@ -13,3 +14,11 @@ entries-init g c = grind (arith, entry_lemmas)
 
 pub entries-preserved : goal.entries-preserved
 entries-preserved g c = grind (arith, entry_lemmas)
+
+pub returns-in_err-push-clause-due : goal.returns-in_err-push-clause-due
+returns-in_err-push-clause-due g c =
+    let b : List ℕ = c.args.bytes.now in
+    let n : ℕ = c.u32_at-count.result in
+    let due : IsSealed b (entries_in b n) =
+    sealed_from b (entries_in b n) n (omega arith) (search rules) (omega (arith, c.u32_at-count.ensures)) (omega arith) refl in
+    if_err c.from_residual.result (entries_in b n, due)

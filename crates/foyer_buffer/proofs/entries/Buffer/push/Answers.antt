@@ -4,7 +4,7 @@ use Rattle.std.proofs.lemmas.List.{drop-take}
 use Rattle.foyer_format.specs.Page.{page_up}
 use Rattle.foyer_format.specs.Record.{record_bytes}
 use Rattle.foyer_format.proofs.PageLaws.{page_up-holds, page_up-fewest, page_up-least}
-use Rattle.foyer_buffer.proofs.EntriesLemmas.{shown, one_more, none_more, keeps, never}
+use Rattle.foyer_buffer.proofs.EntriesLemmas.{shown, one_more, none_more, keeps, never, on_err}
 use Rattle.foyer_buffer.proofs.entries.Buffer.push.Goals as goal
 
 pub returns-then-room-estimated-clause-fits : goal.returns-then-room-estimated-clause-fits
@@ -127,3 +127,25 @@ returns-clause-fits g c =
       },
       λ _. refl,
     )
+
+pub returns-in_err-push-clause-due : goal.returns-in_err-push-clause-due
+returns-in_err-push-clause-due g c =
+    let i = c.self.inside in
+    let inv = c.self.invariant in
+    let s = shown c.args.self.now i.pages.bytes i.entry_infos.items i.pages.written i.max_entry_size c.self.view_is inv.0 inv.1 i.pages.within inv.3 in
+    let v : List ℕ = g.V.Code.encoding c.args.value.now in
+    let k : List ℕ = g.K.Code.encoding c.args.key.now in
+    let done : c.put_record.result ≡ true = search rules in
+    let encoded : (g.K.Code.is_encodable c.args.key.now ≡ true) × (g.V.Code.is_encodable c.args.value.now ≡ true) = rw done at c.put_record.ensures.encoded in
+    let size = c.estimated_size-estimated.ensures encoded.0 encoded.1 in
+    let room = c.min-room.ensures in
+    let same : c.serialized_len.result + c.estimated_size-estimated.result ≡ 36 + (length v + length k) =
+    omega (arith, c.serialized_len.ensures, size, c.if-room-estimated.false, room, inv.4) in
+    let padded = c.whole_pages-padded.ensures ∙ ap page_up same in
+    let holds = page_up-holds (36 + (length v + length k)) in
+    on_err c.from_residual.result (record {
+      plain = search rules;
+      encoded = encoded;
+      room = omega (arith, s.left, c.left.ensures, room, padded, holds, c.if-room-padded.false);
+      greatest = omega (arith, s.greatest, room, padded, c.if-room-padded.false);
+    })

@@ -1,7 +1,7 @@
 use Rattle.std.proofs.Common.{length, refl, arith}
 use Rattle.std.proofs.lemmas.Result.{MatchResult-from_err}
 use Rattle.foyer_format.proofs.PageLaws.{page_up-holds, page_up-fewest}
-use Rattle.foyer_buffer.proofs.EntriesLemmas.{shown, one_more, none_more, keeps, never}
+use Rattle.foyer_buffer.proofs.EntriesLemmas.{shown, one_more, none_more, keeps, never, on_err}
 use Rattle.foyer_buffer.proofs.entries.Buffer.push_slice.Goals as goal
 
 pub returns-then-room-len-clause-fits : goal.returns-then-room-len-clause-fits
@@ -63,4 +63,15 @@ returns-clause-fits g c =
         omega (arith, s.greatest, room, c.whole_pages-aligned.ensures, c.if-room-aligned.false),
       ),
       λ _. refl,
+    )
+
+pub returns-in_err-push-clause-due : goal.returns-in_err-push-clause-due
+returns-in_err-push-clause-due g c =
+    let i = c.self.inside in
+    let inv = c.self.invariant in
+    let s = shown c.args.self.now i.pages.bytes i.entry_infos.items i.pages.written i.max_entry_size c.self.view_is inv.0 inv.1 i.pages.within inv.3 in
+    let room = c.min-room.ensures in
+    on_err c.from_residual.result (
+      omega (arith, s.left, c.left.ensures, room, c.whole_pages-aligned.ensures, c.if-room-aligned.false),
+      omega (arith, s.greatest, room, c.whole_pages-aligned.ensures, c.if-room-aligned.false),
     )
