@@ -10,7 +10,7 @@ use Rattle.foyer_model.specs.Receive.{bytes_taken, pieces_of, HasReceived, turne
 use Rattle.foyer_model.specs.Record as model_record
 use Rattle.foyer_model.specs.Reply as model_reply
 use Rattle.foyer_model.specs.State as model_state
-use Rattle.foyer_core.specs.Content.{Content, Meaning, content_of}
+use Rattle.foyer_core.specs.Content.{Content, Meaning, content_of, contents_of}
 use Rattle.foyer_core.specs.Flushing.{filled_to, AreRecords, AreLaidOutAs, AreBatched, HasOwn, AreWriting, IsFlusherAs, invalid_of}
 use Rattle.foyer_core.specs.InOneBlock.{packed, parts_of, spread_of, all_writes, IsInOneBlock}
 use Rattle.foyer_core.specs.Refines.{machine}
@@ -42,13 +42,13 @@ no_write at bytes ws is read same few = subst (HasWrites at bytes) (sym is) (sym
 
 module _ {K V P : Type 0} (m : Meaning K V P) where
   -- the contents of what was received
-  pieces_are : (at : ℕ) (es : List HashedEntryAddress) (ps : List (Record K V P)) (rs : List (model_record.Record Content)) → AreRecords m at es ps rs → pieces_of rs ≡ map (content_of m) ps
+  pieces_are : (at : ℕ) (es : List HashedEntryAddress) (ps : List (Record K V P)) (rs : List (model_record.Record Content)) → AreRecords m at es ps rs → contents_of (pieces_of rs) ≡ map (content_of m) ps
   pieces_are at [] [] [] are = refl
   pieces_are at (e ∷ es) (p ∷ ps) (r ∷ rs) are =
       ap (λ x. with_source x rs) (are.0).source ∙ ap (λ cs. content_of m p ∷ cs) (pieces_are (at + page_up (length r.bytes)) es ps rs are.1)
     where
       with_source : model_record.Source Content → List (model_record.Record Content) → List Content
-      with_source x rest = pieces_of (record { hash = r.hash; sequence = r.sequence; bytes = r.bytes; source = x } ∷ rest)
+      with_source x rest = contents_of (pieces_of (record { hash = r.hash; sequence = r.sequence; bytes = r.bytes; source = x } ∷ rest))
   pieces_are at [] [] (r ∷ rs) are = absurd are
   pieces_are at [] (p ∷ ps) rs are = absurd are
   pieces_are at (e ∷ es) [] rs are = absurd are

@@ -12,6 +12,7 @@ pub issues_nothing : {K V P A : Type 0} (is_key is_value : List ℕ → Bool) (k
     → (given : Step K V P A) (answer : Reply K V P A) (old new : Core K V P A) → DescribesNothing answer
     → Describes is_key is_value key_of value_of given answer old new
 issues_nothing is_key is_value key_of value_of given (reply.Entry key value age) old new issues = absurd issues
+issues_nothing is_key is_value key_of value_of given (reply.Ignored back) old new issues = absurd issues
 issues_nothing is_key is_value key_of value_of given (reply.Queued sequence) old new issues = absurd issues
 issues_nothing is_key is_value key_of value_of given (reply.Deleted sequence) old new issues = absurd issues
 issues_nothing is_key is_value key_of value_of given (reply.Answer answer) old new issues = absurd issues
@@ -22,6 +23,7 @@ pub issues_queued : {K V P A : Type 0} (is_key is_value : List ℕ → Bool) (ke
     → (given : Step K V P A) (answer : Reply K V P A) (old new : Core K V P A) → Enqueues given answer old new
     → Describes is_key is_value key_of value_of given answer old new
 issues_queued is_key is_value key_of value_of given (reply.Entry key value age) old new issues = absurd issues
+issues_queued is_key is_value key_of value_of given (reply.Ignored back) old new issues = issues
 issues_queued is_key is_value key_of value_of given (reply.Queued sequence) old new issues = issues
 issues_queued is_key is_value key_of value_of given (reply.Deleted sequence) old new issues = absurd issues
 issues_queued is_key is_value key_of value_of given (reply.Answer answer) old new issues = absurd issues
@@ -32,6 +34,7 @@ pub issues_deleted : {K V P A : Type 0} (is_key is_value : List ℕ → Bool) (k
     → (given : Step K V P A) (answer : Reply K V P A) (old new : Core K V P A) → Deleting given answer old new
     → Describes is_key is_value key_of value_of given answer old new
 issues_deleted is_key is_value key_of value_of given (reply.Entry key value age) old new issues = absurd issues
+issues_deleted is_key is_value key_of value_of given (reply.Ignored back) old new issues = absurd issues
 issues_deleted is_key is_value key_of value_of given (reply.Queued sequence) old new issues = absurd issues
 issues_deleted is_key is_value key_of value_of given (reply.Deleted sequence) old new issues = issues
 issues_deleted is_key is_value key_of value_of given (reply.Answer answer) old new issues = absurd issues
@@ -42,6 +45,7 @@ pub issues_looked : {K V P A : Type 0} (is_key is_value : List ℕ → Bool) (ke
     → (given : Step K V P A) (answer : Reply K V P A) (old new : Core K V P A) → Looking given answer old
     → Describes is_key is_value key_of value_of given answer old new
 issues_looked is_key is_value key_of value_of given (reply.Entry key value age) old new issues = absurd issues
+issues_looked is_key is_value key_of value_of given (reply.Ignored back) old new issues = absurd issues
 issues_looked is_key is_value key_of value_of given (reply.Queued sequence) old new issues = absurd issues
 issues_looked is_key is_value key_of value_of given (reply.Deleted sequence) old new issues = absurd issues
 issues_looked is_key is_value key_of value_of given (reply.Answer answer) old new issues = absurd issues
@@ -52,6 +56,7 @@ pub issues_pair : {K V P A : Type 0} (is_key is_value : List ℕ → Bool) (key_
     → (given : Step K V P A) (answer : Reply K V P A) (old new : Core K V P A) → AnswersPair is_key is_value key_of value_of given answer
     → Describes is_key is_value key_of value_of given answer old new
 issues_pair is_key is_value key_of value_of given (reply.Entry key value age) old new issues = issues
+issues_pair is_key is_value key_of value_of given (reply.Ignored back) old new issues = absurd issues
 issues_pair is_key is_value key_of value_of given (reply.Queued sequence) old new issues = absurd issues
 issues_pair is_key is_value key_of value_of given (reply.Deleted sequence) old new issues = absurd issues
 issues_pair is_key is_value key_of value_of given (reply.Answer answer) old new issues = absurd issues
@@ -64,6 +69,8 @@ pub issues_counted : {K V P A : Type 0} (is_key is_value : List ℕ → Bool) (k
     → Describes is_key is_value key_of value_of given answer old new
     → Describes is_key is_value key_of value_of given answer old (record new { steps = n })
 issues_counted is_key is_value key_of value_of given (reply.Entry key value age) old new n issues = issues
+issues_counted is_key is_value key_of value_of (step.Enqueue piece size) (reply.Ignored back) old new n issues = issues
+issues_counted is_key is_value key_of value_of given (reply.Ignored back) old new n issues = absurd issues
 issues_counted is_key is_value key_of value_of (step.Enqueue piece size) (reply.Queued sequence) old new n issues = issues
 issues_counted is_key is_value key_of value_of given (reply.Queued sequence) old new n issues = absurd issues
 issues_counted is_key is_value key_of value_of (step.Delete hash) (reply.Deleted sequence) old new n issues = issues

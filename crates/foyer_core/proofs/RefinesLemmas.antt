@@ -80,7 +80,7 @@ module _ {K V P A : Type 0} (m : Meaning K V P) where
   ordinary reply.Next it not is = subst IsOrdinary (sym is) tt
   ordinary (reply.Committed n) it not is = subst IsOrdinary (sym is) tt
   ordinary reply.Failed it not is = subst IsOrdinary (sym is) tt
-  ordinary (reply.Ended pieces waits) it not is = subst IsOrdinary (sym is) tt
+  ordinary (reply.Ended pieces waits) it not is = subst IsOrdinary (sym is.2) tt
   ordinary (reply.Scan block offset len) it not is = absurd is
   ordinary reply.Listed it not is = absurd is
   ordinary (reply.Clean block) it not is = absurd is

@@ -14,7 +14,7 @@ use Rattle.foyer_model.specs.Record as model_record
 use Rattle.foyer_model.specs.Reply as model_reply
 use Rattle.foyer_model.specs.State as model_state
 use Rattle.foyer_model.specs.Step as model_step
-use Rattle.foyer_core.specs.Batches.{StandsAt, FlusherStep, settled, failed_batch, issued_wrote}
+use Rattle.foyer_core.specs.Batches.{StandsAt, FlusherStep, settled, failed_batch, issued_wrote, HasEnded}
 use Rattle.foyer_core.specs.Content.{Content, Meaning, content_of}
 use Rattle.foyer_core.specs.Flushing.{AreLaidOutAs, IsWritingAs, AreWriting, IsBatchAs, IsFlusherAs, invalid_of}
 use Rattle.foyer_core.specs.Handing.{filling_in}
@@ -264,7 +264,7 @@ pub ended : {K V P A : Type 0} (m : Meaning K V P) (s : Settings) (sound : AreVa
     (φ : Seen K V P A) (slots : IndexMap) (states : List BlockState) (ids waiters : List ℕ) → StandsAt m s f it φ slots states ids waiters
     → (batch : Batch K V P A) → φ.batch ≡ Some batch → (slots' : IndexMap) (states' : List BlockState)
     → slots' ≡ without_marks slots batch.marks.items → AreBlocksAs s states' it.place it.filling (all_invalidated (map invalid_of batch.invalid.items) it.stats)
-    → FlusherStep m s sound (model_step.FlushEnd f) f it (model_reply.Ended (map (content_of m) batch.pieces.items) batch.waits.items) (record φ { batch = None }) slots' states' ids waiters
+    → HasEnded m s sound f it batch.pieces.items batch.waits.items (record φ { batch = None }) slots' states' ids waiters
 ended m s sound f it φ slots states ids waiters stands batch is slots' states' gone blocks =
     let got = batched m s φ.own φ.batch (it.flushers f).batch (stands.flusher).batch batch is in
     let φs = stands.flusher in
@@ -273,38 +273,41 @@ ended m s sound f it φ slots states ids waiters stands batch is slots' states' 
       flushers = put it.flushers f (record (it.flushers f) { batch = None });
       index = unmarked (got.0).marks it.index;
       stats = invalidated_unless (got.0).logged (got.0).invalidated it.stats;
-    } in
-    record {
-      after = new;
-      does = subst (λ q. Finishes (machine m s sound) it f q (model_reply.Ended (map (content_of m) batch.pieces.items) batch.waits.items) new) (sym got.1)
-          (sym (got.2).pieces, sym (got.2).waits, refl);
-      flusher = record (it.flushers f) { batch = None };
-      flushers = refl;
-      it = record {
-        queue = φs.queue;
-        buffer = φs.buffer;
-        bytes = φs.bytes;
-        marks = φs.marks;
-        invalidated = φs.invalidated;
-        waits = φs.waits;
-        own = φs.own;
-        there = φs.there;
-        ready = φs.ready;
-        context = φs.context;
-        behind = φs.behind;
-        within = φs.within;
-        batch = tt;
-      };
-      queue = refl;
-      index = subst (λ k. IsIndexedAs s slots' (unmarked k it.index)) (sym (got.2).marks)
-          (subst (λ k. IsIndexedAs s k (unmarked (map mark_of batch.marks.items) it.index)) (sym gone) (unmarked_is s slots it.index batch.marks.items stands.index));
-      blocks = subst (λ o. AreBlocksAs s states' it.place it.filling (invalidated_unless o (got.0).invalidated it.stats)) (sym (got.2).logged)
-          (subst (λ k. AreBlocksAs s states' it.place it.filling (all_invalidated k it.stats)) (sym (got.2).invalidated) blocks);
-      clean = stands.clean;
-      waiting = stands.waiting;
-      next = refl;
-      steps = refl;
-      closed = refl;
-      reclaims = refl;
-      destroy = refl;
-    }
+    } in (
+      (got.0).pieces,
+      (got.2).pieces,
+      record {
+        after = new;
+        does = subst (λ q. Finishes (machine m s sound) it f q (model_reply.Ended (got.0).pieces batch.waits.items) new) (sym got.1)
+            (refl, sym (got.2).waits, refl);
+        flusher = record (it.flushers f) { batch = None };
+        flushers = refl;
+        it = record {
+          queue = φs.queue;
+          buffer = φs.buffer;
+          bytes = φs.bytes;
+          marks = φs.marks;
+          invalidated = φs.invalidated;
+          waits = φs.waits;
+          own = φs.own;
+          there = φs.there;
+          ready = φs.ready;
+          context = φs.context;
+          behind = φs.behind;
+          within = φs.within;
+          batch = tt;
+        };
+        queue = refl;
+        index = subst (λ k. IsIndexedAs s slots' (unmarked k it.index)) (sym (got.2).marks)
+            (subst (λ k. IsIndexedAs s k (unmarked (map mark_of batch.marks.items) it.index)) (sym gone) (unmarked_is s slots it.index batch.marks.items stands.index));
+        blocks = subst (λ o. AreBlocksAs s states' it.place it.filling (invalidated_unless o (got.0).invalidated it.stats)) (sym (got.2).logged)
+            (subst (λ k. AreBlocksAs s states' it.place it.filling (all_invalidated k it.stats)) (sym (got.2).invalidated) blocks);
+        clean = stands.clean;
+        waiting = stands.waiting;
+        next = refl;
+        steps = refl;
+        closed = refl;
+        reclaims = refl;
+        destroy = refl;
+      },
+    )

@@ -5,6 +5,7 @@ use Rattle.foyer_block.specs.Insertion.{inserted}
 use Rattle.foyer_block.specs.declared.indexer.Index.TheVariants as index
 use Rattle.foyer_format.specs.Record.{pair_of}
 use Rattle.foyer_format.specs.Record.Outcome.{Pair}
+use Rattle.foyer_policy.specs.Record.{Record}
 use Rattle.foyer_core.specs.declared.reply.Reply.{Reply}
 use Rattle.foyer_core.specs.declared.reply.Reply.TheVariants as reply
 use Rattle.foyer_core.specs.declared.state.Core.{Core}
@@ -49,11 +50,17 @@ Looks (step.LoadBegin hash throttled) ticket old =
     (ticket.hash ≡ hash) × (address_at old.index hash ≡ Some ticket.address)
 Looks given ticket old = ⊥
 
+-- the piece that an enqueue handed in comes back
+abbrev pub Returns : {K V P A : Type 0} → Step K V P A → Record K V P → Type 0
+Returns (step.Enqueue piece size) back = back ≡ piece
+Returns given back = ⊥
+
 -- what a reply says, beside that of a step that was handed back
 abbrev pub Describes : {K V P A : Type 0} → (List ℕ → Bool) → (List ℕ → Bool) → (K → List ℕ) → (V → List ℕ)
     → Step K V P A → Reply K V P A → Core K V P A → Core K V P A → Type 0
 Describes is_key is_value key_of value_of given (reply.Entry key value age) old new =
     BringsPair is_key is_value (key_of key) (value_of value) given
+Describes is_key is_value key_of value_of given (reply.Ignored back) old new = Returns given back
 Describes is_key is_value key_of value_of given (reply.Queued sequence) old new = Queues given sequence old new
 Describes is_key is_value key_of value_of given (reply.Deleted sequence) old new = Deletes given sequence old new
 Describes is_key is_value key_of value_of given (reply.Answer answer) old new = Asks given answer old
@@ -63,14 +70,16 @@ Describes is_key is_value key_of value_of given answer old new = Unit {0}
 -- a reply of another kind than those
 abbrev pub DescribesNothing : {K V P A : Type 0} → Reply K V P A → Type 0
 DescribesNothing (reply.Entry key value age) = ⊥
+DescribesNothing (reply.Ignored back) = ⊥
 DescribesNothing (reply.Queued sequence) = ⊥
 DescribesNothing (reply.Deleted sequence) = ⊥
 DescribesNothing (reply.Answer answer) = ⊥
 DescribesNothing (reply.Read ticket) = ⊥
 DescribesNothing answer = Unit {0}
 
--- of an enqueue's answers one has a sequence
+-- an enqueue's answer has a sequence, or the piece
 abbrev pub Enqueues : {K V P A : Type 0} → Step K V P A → Reply K V P A → Core K V P A → Core K V P A → Type 0
+Enqueues given (reply.Ignored back) old new = Returns given back
 Enqueues given (reply.Queued sequence) old new = Queues given sequence old new
 Enqueues given answer old new = DescribesNothing answer
 

@@ -2,9 +2,11 @@
 use Rattle.std.specs.Prelude.{ℕ, Bool, true, false, Option, Some, None, Result, Ok, Err}
 use Rattle.foyer_block.specs.declared.indexer.EntryAddress.{EntryAddress}
 use Rattle.foyer_device.specs.declared.error.Error.{Error}
+use Rattle.foyer_device.specs.declared.error.Error.TheVariants as error
 use Rattle.foyer_format.specs.declared.serde.ages.Age.{Age}
 use Rattle.foyer_format.specs.declared.serde.ages.Age.TheVariants as age
 use Rattle.std.specs.declared.vec.Vec.{Vec}
+use Rattle.foyer_model.specs.Kind.{Kind, Io, Memory}
 use Rattle.foyer_model.specs.Record.{Address}
 use Rattle.foyer_model.specs.Step as model_step
 use Rattle.foyer_core.specs.Content.{Content, Meaning, content_of}
@@ -36,6 +38,12 @@ abbrev pub went_well : {X : Type 0} → Result X Error → Bool
 went_well (Ok x) = true
 went_well (Err e) = false
 
+-- the fault of an access, if it failed: memory was refused, or the device failed
+abbrev pub fault_of : {X : Type 0} → Result X Error → Option Kind
+fault_of (Ok x) = None
+fault_of (Err error.Memory) = Some Memory
+fault_of (Err e) = Some Io
+
 abbrev pub step_of : {K V P A : Type 0} → Meaning K V P → Step K V P A → model_step.Step Content
 step_of m (step.Enqueue piece size) = model_step.Enqueue piece.hash size (known_age (m.age_of piece.properties)) (content_of m piece)
 step_of m (step.Delete hash) = model_step.Delete hash
@@ -56,5 +64,5 @@ step_of m (step.ReclaimCleaned block outcome) = model_step.ReclaimCleaned block 
 step_of m step.ReclaimIdle = model_step.ReclaimIdle
 step_of m step.DestroyBegin = model_step.DestroyBegin
 step_of m step.DestroyClear = model_step.DestroyClear
-step_of m (step.DestroyCleaned block outcome) = model_step.DestroyCleaned block (went_well outcome)
+step_of m (step.DestroyCleaned block outcome) = model_step.DestroyCleaned block (fault_of outcome)
 step_of m step.Close = model_step.Close

@@ -9,7 +9,8 @@ use Rattle.foyer_model.specs.Numbers.{put}
 use Rattle.foyer_model.specs.Reply as model_reply
 use Rattle.foyer_model.specs.State as model_state
 use Rattle.foyer_model.specs.Step as model_step
-use Rattle.foyer_core.specs.Content.{Content, Meaning, content_of}
+use Rattle.foyer_policy.specs.Record.{Record}
+use Rattle.foyer_core.specs.Content.{Content, Meaning, content_of, contents_of}
 use Rattle.foyer_core.specs.Flushing.{IsFlusherAs, IsBatchAs, filled_to}
 use Rattle.foyer_core.specs.InOneBlock.{all_writes}
 use Rattle.foyer_core.specs.CoreRules.{layout}
@@ -22,7 +23,6 @@ use Rattle.foyer_core.specs.declared.block.batch.Next.{Next}
 use Rattle.foyer_core.specs.declared.block.batch.Next.TheVariants as next
 use Rattle.foyer_core.specs.declared.block.batch.Wrote.{Wrote}
 use Rattle.foyer_core.specs.declared.block.batch.Wrote.TheVariants as wrote
-use Rattle.foyer_core.specs.declared.block.batch.Ended.{Ended}
 use Rattle.foyer_core.specs.declared.block.flusher.Batch.{Batch}
 use Rattle.foyer_core.specs.declared.reply.Write.{Write}
 use Rattle.foyer_core.specs.declared.settings.Settings.{Settings}
@@ -69,9 +69,12 @@ issued_wrote wrote.Next = model_reply.Next
 issued_wrote (wrote.Committed n) = model_reply.Committed n
 issued_wrote wrote.Failed = model_reply.Failed
 
--- the reply at a batch's end
-abbrev pub issued_ended : {K V P A : Type 0} → Meaning K V P → Ended K V P A → model_reply.Reply Content
-issued_ended m ended = model_reply.Ended (map (content_of m) ended.pieces.items) ended.waits.items
+-- the batch ended with this reply, and the rest is left so: the model's pieces have their sequences
+abbrev pub HasEnded : {K V P A : Type 0} → Meaning K V P → (s : Settings) → AreValid s → ℕ → model_state.State Content
+    → (pieces : List (Record K V P)) → (waits : List ℕ) → Seen K V P A → IndexMap → List BlockState → (ids waiters : List ℕ) → Type 0
+HasEnded m s sound f it pieces waits φ slots states ids waiters =
+    (ps : List (ℕ × Content)) × (contents_of ps ≡ map (content_of m) pieces)
+    × FlusherStep m s sound (model_step.FlushEnd f) f it (model_reply.Ended ps waits) φ slots states ids waiters
 
 -- the next block of a batch is issued: its first placing leaves the batch, and is being written
 pub record IsIssued {K V P A : Type 0} (m : Meaning K V P) (s : Settings) (b : ℕ) (written : List (Write A)) (batch : Batch K V P A)

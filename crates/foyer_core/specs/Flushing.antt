@@ -7,7 +7,7 @@ use Rattle.foyer_model.specs.Position.{Position, BlockLayout}
 use Rattle.foyer_model.specs.Receive.{bytes_taken}
 use Rattle.foyer_model.specs.Record as model_record
 use Rattle.foyer_model.specs.State as model_state
-use Rattle.foyer_core.specs.Content.{Content, Meaning, content_of}
+use Rattle.foyer_core.specs.Content.{Content, Meaning, content_of, contents_of}
 use Rattle.foyer_core.specs.InOneBlock.{packed, laid_from, parts_of, spread_of, all_writes}
 use Rattle.foyer_core.specs.Replied.{write_of, mark_of}
 use Rattle.foyer_core.specs.declared.block.flusher.Batch.{Batch}
@@ -92,7 +92,7 @@ pub record IsBatchAs {K V P A : Type 0} (m : Meaning K V P) (s : Settings) (own 
   pub writing : AreWriting m s batch.pieces.items batch.writing it.writing
   pub marks : it.marks ≡ map mark_of batch.marks.items
   pub invalidated : it.invalidated ≡ map invalid_of batch.invalid.items
-  pub pieces : it.pieces ≡ map (content_of m) batch.pieces.items
+  pub pieces : contents_of it.pieces ≡ map (content_of m) batch.pieces.items
   pub waits : it.waits ≡ batch.waits.items
   pub logged : it.logged ≡ None
 

@@ -6,6 +6,7 @@ pub mod Begins
 pub mod Content
 pub mod Flushing
 pub mod Handing
+pub mod Headline
 pub mod InOneBlock
 pub mod Refines
 pub mod Opened

@@ -1,5 +1,6 @@
 -- Steps of a core meet the model.
-use Rattle.std.specs.Prelude.{◌≡◌, ◌<◌, ◌^◌, ◌-◌}
+use Rattle.std.specs.Prelude.{◌≡◌, ◌⊎◌, ◌<◌, ◌^◌, ◌-◌}
+use Rattle.foyer_device.specs.declared.error.ErrorKind.TheVariants as kind
 use Rattle.foyer_model.specs.Changes.{Changes}
 use Rattle.foyer_model.specs.InTurn.{InTurn}
 use Rattle.foyer_model.specs.Refusal.{MayRefuse}
@@ -43,6 +44,10 @@ abbrev pub IsHandedBack : {K V P A : Type 0} → Reply K V P A → Type 0
 IsHandedBack (reply.NotNow back) = Unit {0}
 IsHandedBack (reply.Refused why back) = Unit {0}
 IsHandedBack answer = ⊥
+
+-- the step is out of turn, or the limit of steps is reached
+abbrev pub IsPutOff : {K V P A : Type 0} → Step K V P A → Reply K V P A → Type 0
+IsPutOff given answer = (answer ≡ reply.NotNow given) ⊎ (answer ≡ reply.Refused kind.SequenceEnd given)
 
 -- The relation of the model, but for the count of steps.
 abbrev pub FollowsUncounted : {C : Type 0} → Rules C → Splitting C → State C → model_step.Step C → model_reply.Reply C → State C → Type 0

@@ -7,7 +7,7 @@ use Rattle.foyer_policy.specs.Record.{Record}
 use Rattle.foyer_model.specs.Position as model_position
 use Rattle.foyer_model.specs.Reply as model_reply
 use Rattle.foyer_core.specs.Asked.{ticket_of, age_of, step_of}
-use Rattle.foyer_core.specs.Content.{Content, Meaning, content, content_of}
+use Rattle.foyer_core.specs.Content.{Content, Meaning, content, content_of, contents_of}
 use Rattle.foyer_core.specs.declared.reply.Reply.{Reply}
 use Rattle.foyer_core.specs.declared.reply.Reply.TheVariants as reply
 use Rattle.foyer_core.specs.declared.reply.Write.{Write}
@@ -56,7 +56,8 @@ IsReply m reply.NoBlock it = it ≡ model_reply.NoBlock
 IsReply m reply.Next it = it ≡ model_reply.Next
 IsReply m (reply.Committed puts) it = it ≡ model_reply.Committed puts
 IsReply m reply.Failed it = it ≡ model_reply.Failed
-IsReply m (reply.Ended pieces waits) it = it ≡ model_reply.Ended (map (content_of m) pieces.items) waits.items
+IsReply m (reply.Ended pieces waits) it =
+    (ps : List (ℕ × Content)) × (contents_of ps ≡ map (content_of m) pieces.items) × (it ≡ model_reply.Ended ps waits.items)
 IsReply m (reply.Scan block offset len) it = ⊥
 IsReply m reply.Listed it = ⊥
 IsReply m (reply.Clean block) it = ⊥

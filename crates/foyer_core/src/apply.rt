@@ -1,8 +1,9 @@
 //! The one call that changes the core.
-ghost use Rattle.std.specs.Prelude.{MatchBool};
+ghost use Rattle.std.specs.Prelude.{◌≡◌, ◌<◌, ◌-◌, ◌^◌, MatchBool};
 ghost use Rattle.foyer_core.specs.Answered.{HandsBack, Describes};
 ghost use Rattle.foyer_core.specs.Content.{meaning};
-ghost use Rattle.foyer_core.specs.Refines.{IsBuilt, IsHandedBack, RefinesUncounted, Refines};
+ghost use Rattle.foyer_core.specs.Refines.{IsBuilt, IsHandedBack, IsPutOff, RefinesUncounted, Refines};
+ghost use Rattle.foyer_core.specs.declared.reply.Reply.TheVariants as reply;
 
 use crate::reply::Reply;
 use crate::state::Core;
@@ -44,7 +45,8 @@ where
         ensures meets { IsBuilt step → Refines
             (meaning K.encoding V.encoding K.is_encodable V.is_encodable K.is_decodable V.is_decodable P.age)
             step result self.old self.new }
-        ensures later { (IsBuilt step → ⊥) → IsHandedBack result }
+        ensures later { (IsBuilt step → ⊥) → IsPutOff step result }
+        ensures not_now { (IsBuilt step → ⊥) → self.old.steps < 2 ^ 64 - 1 → result ≡ reply.NotNow step }
     {
         if self.steps == u64::MAX {
             return Reply::Refused(ErrorKind::SequenceEnd, step);
@@ -66,7 +68,7 @@ where
         ensures meets { IsBuilt step → RefinesUncounted
             (meaning K.encoding V.encoding K.is_encodable V.is_encodable K.is_decodable V.is_decodable P.age)
             step result self.old self.new }
-        ensures later { (IsBuilt step → ⊥) → IsHandedBack result }
+        ensures later { (IsBuilt step → ⊥) → result ≡ reply.NotNow step }
     {
         match step {
             Step::Enqueue { piece, size } => self.enqueue(piece, size),

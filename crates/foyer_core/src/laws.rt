@@ -9,6 +9,7 @@ ghost use Rattle.foyer_model.specs.Layout.{PlacesAll};
 ghost use Rattle.foyer_core.specs.Begins.{first_state, first_world};
 ghost use Rattle.foyer_core.specs.Content.{Meaning};
 ghost use Rattle.foyer_core.specs.CoreRules.{layout};
+ghost use Rattle.foyer_core.specs.Headline.{IsHeadline};
 ghost use Rattle.foyer_core.specs.Opened.{IsOpened};
 ghost use Rattle.foyer_core.specs.CoreRules.{rules_of, IsEncoded};
 ghost use Rattle.foyer_core.specs.Sizes.{AreValid};
@@ -32,6 +33,13 @@ pub fn opening_begins<K, V, P, A>()
         → IsOpened s core → IsStateOf m s core (first_state (rules_of m.is_key m.is_value s sound)) }
     ensures opened { (is_key is_value : List ℕ → Bool) (s : Settings) (sound : AreValid s) (bytes : ℕ → ℕ → ℕ)
         → IsOpenedWorld (rules_of is_key is_value s sound) (first_world (rules_of is_key is_value s sound) bytes) }
+{}
+
+/// The headline: whatever steps come, and whatever reads, writes and allocations fail, a load answers only the record
+/// that was newest of its hash at its look-up; a newest committed record is missed only for a named cause; an opening
+/// begins such a world; and what is queued, committed, reclaimed and put off keeps its clause.
+pub fn headline()
+    ensures { (is_key is_value : List ℕ → Bool) (s : Settings) (sound : AreValid s) → IsHeadline is_key is_value s sound }
 {}
 
 /// Whatever steps come, and whatever reads and writes do, a load answers only the record that was newest of its hash

@@ -1,5 +1,5 @@
 //! Opening.
-ghost use Rattle.std.specs.Prelude.{◌≡◌, ◌⊎◌, IfOk, IfErr, IsOkUnless, map, replicate, vec_len};
+ghost use Rattle.std.specs.Prelude.{◌≡◌, ◌⊎◌, Err, IfOk, IfErr, IsOkUnless, map, replicate, vec_len};
 ghost use Rattle.foyer_device.specs.declared.error.Error.TheVariants.{Memory, Config};
 ghost use Rattle.foyer_core.specs.Opened.{IsOpened, idle, unused, numbers_below};
 ghost use Rattle.foyer_core.specs.Sizes.{AreValid};
@@ -95,6 +95,7 @@ impl<K: Drop, V: Drop, P: Drop, A: Allocator + Clone> Core<K, V, P, A> {
         ensures opened { IfOk result (IsOpened settings) }
         ensures sound { IfOk result (λ _. AreValid settings) }
         ensures config { IfErr result (λ e. (e ≡ Memory) ⊎ ((e ≡ Config) × (AreValid settings → ⊥))) }
+        ensures unsound { (AreValid settings → ⊥) → result ≡ Err Config }
     {
         settings.check()?;
         let index = Indexer::new(alloc.clone()?, settings.indexer_shards)?;

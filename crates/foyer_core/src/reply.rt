@@ -86,6 +86,6 @@ pub enum Reply<K, V, P, A: Allocator> {
     Destroying(Sequence),
     /// The index is clear. Clean every block, and bring each result.
     Cleared,
-    /// The last block's clean came; whether every clean went well.
-    Destroyed(bool),
+    /// The last block's clean came; the kind of the first fault, if a clean failed.
+    Destroyed(Option<ErrorKind>),
 }

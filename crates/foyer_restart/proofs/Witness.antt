@@ -158,7 +158,7 @@ module _ (A : Type 0) (entries_of : ℕ → List ℕ → Option (List IndexEntry
   c2 = record (pushed_to rules c1 0 [] one) { steps = 2 }
 
   abbrev batch : Batch (List ℕ)
-  batch = record { blocks = sp ∷ []; continues_own_block = false; writing = None; marks = []; invalidated = []; pieces = (9 ∷ []) ∷ []; waits = []; logged = None }
+  batch = record { blocks = sp ∷ []; continues_own_block = false; writing = None; marks = []; invalidated = []; pieces = (1, 9 ∷ []) ∷ []; waits = []; logged = None }
 
   abbrev c3 : State (List ℕ)
   c3 = record (turned rules c2 0 (record (c2.flushers 0) { buffer = []; marks = []; invalidated = []; waits = []; context = end; batch = Some batch })) { steps = 3 }

@@ -6,7 +6,7 @@ use Rattle.foyer_model.specs.World.{World, after_all}
 use Rattle.foyer_core.specs.Answered.{HandsBack}
 use Rattle.foyer_core.specs.Asked.{went_well}
 use Rattle.foyer_core.specs.Content.{Content, Meaning}
-use Rattle.foyer_core.specs.Refines.{IsBuilt, IsHandedBack, IsRefined, machine}
+use Rattle.foyer_core.specs.Refines.{IsBuilt, IsHandedBack, IsPutOff, IsRefined, machine}
 use Rattle.foyer_core.specs.Sizes.{AreValid}
 use Rattle.foyer_core.specs.Standing.{IsStateOf}
 use Rattle.foyer_core.specs.declared.reply.Reply.{Reply}
@@ -55,7 +55,7 @@ module _ {K V P A : Type 0} (m : Meaning K V P) (s : Settings) (sound : AreValid
   -- a step that brings no result and issues no write, alone
   pub step_alone : (encodes : Encodes m) (w : World Content) (x : Move K V P A) (given : Step K V P A) (answer : Reply K V P A) (old new : Core K V P A) (bytes : ℕ → ℕ → ℕ)
       → IsStateOf m s old w.core → ((b o : ℕ) → w.bytes b o ≡ bytes b o) → asked x ≡ asks.Step given → IsFree given
-      → HandsBack given answer old new → ((v : World Content) → IsStateOf m s old v.core → IsBuilt given → IsRefined m s sound given answer new v.core) → ((IsBuilt given → ⊥) → IsHandedBack answer)
+      → HandsBack given answer old new → ((v : World Content) → IsStateOf m s old v.core → IsBuilt given → IsRefined m s sound given answer new v.core) → ((IsBuilt given → ⊥) → IsPutOff given answer)
       → IsGoing m s sound w (x ∷ []) (with_ticket (ticket_in answer) []) (unnoted s) (answer ∷ []) new bytes
   step_alone encodes w x given answer old new bytes stands same is free back meets later =
       let going = going_first m s sound w (unnoted s) old bytes stands same refl in

@@ -5,7 +5,7 @@ use Rattle.foyer_core.specs.Answered.{HandsBack}
 use Rattle.foyer_core.specs.Begins.{first_world}
 use Rattle.foyer_core.specs.Content.{Content, Meaning}
 use Rattle.foyer_core.specs.CoreRules.{layout}
-use Rattle.foyer_core.specs.Refines.{IsBuilt, IsHandedBack, IsRefined, machine}
+use Rattle.foyer_core.specs.Refines.{IsBuilt, IsHandedBack, IsPutOff, IsRefined, machine}
 use Rattle.foyer_core.specs.CoreRules.{IsEncoded}
 use Rattle.foyer_core.specs.Sizes.{AreValid}
 use Rattle.foyer_core.specs.Standing.{IsStateOf}
@@ -61,7 +61,7 @@ module _ {K V P A : Type 0} (m : Meaning K V P) where
   -- a step that brings no result and issues no write
   pub step_drives : (encodes : Encodes m) (given : Step K V P A) (answer : Reply K V P A) (old new : Core K V P A) (bytes : ℕ → ℕ → ℕ)
       → IsFree given → HandsBack given answer old new
-      → ((s : Settings) (sound : AreValid s) (v : World Content) → IsStateOf m s old v.core → IsBuilt given → IsRefined m s sound given answer new v.core) → ((IsBuilt given → ⊥) → IsHandedBack answer)
+      → ((s : Settings) (sound : AreValid s) (v : World Content) → IsStateOf m s old v.core → IsBuilt given → IsRefined m s sound given answer new v.core) → ((IsBuilt given → ⊥) → IsPutOff given answer)
       → Drives m old new bytes bytes
   step_drives encodes given answer old new bytes free back meets later s sound w stands same =
       let going = going_first m s sound w (unnoted s) old bytes stands same refl in
@@ -78,7 +78,7 @@ module _ {K V P A : Type 0} (m : Meaning K V P) where
   -- the same, as a run of the move that is this step
   pub step_says : (encodes : Encodes m) (x : Move K V P A) (given : Step K V P A) (answer : Reply K V P A) (old new : Core K V P A) (bytes : ℕ → ℕ → ℕ)
       → asked x ≡ asks.Step given → IsFree given → HandsBack given answer old new
-      → ((s : Settings) (sound : AreValid s) (v : World Content) → IsStateOf m s old v.core → IsBuilt given → IsRefined m s sound given answer new v.core) → ((IsBuilt given → ⊥) → IsHandedBack answer)
+      → ((s : Settings) (sound : AreValid s) (v : World Content) → IsStateOf m s old v.core → IsBuilt given → IsRefined m s sound given answer new v.core) → ((IsBuilt given → ⊥) → IsPutOff given answer)
       → Says m (x ∷ []) answer old new bytes bytes
   step_says encodes x given answer old new bytes is free back meets later =
       says_last m (x ∷ []) (with_ticket (ticket_in answer) []) [] answer old new bytes bytes

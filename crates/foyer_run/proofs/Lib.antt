@@ -13,3 +13,4 @@ pub mod ReplyLemmas
 pub mod RunLemmas
 pub mod StepLemmas
 pub mod WriteLemmas
+pub mod WaitingLemmas

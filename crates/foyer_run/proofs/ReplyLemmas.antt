@@ -1,9 +1,10 @@
 -- Replies that issue accesses, in the core and in the model.
-use Rattle.std.proofs.Common.{◌≡◌, ℕ, Some, None, refl, sym, ap, ◌∙◌}
+use Rattle.std.proofs.Common.{◌≡◌, ℕ, Some, None, refl, sym, ap, ◌∙◌, inl, inr, subst}
 use Rattle.foyer_model.specs.Reply as model_reply
 use Rattle.foyer_core.specs.Asked.{ticket_of}
 use Rattle.foyer_core.specs.Content.{Content, Meaning}
-use Rattle.foyer_core.specs.Refines.{IsHandedBack}
+use Rattle.foyer_core.specs.declared.step.Step.{Step}
+use Rattle.foyer_core.specs.Refines.{IsHandedBack, IsPutOff}
 use Rattle.foyer_core.specs.Replied.{IsReply}
 use Rattle.foyer_core.specs.declared.reply.Reply.{Reply}
 use Rattle.foyer_core.specs.declared.reply.Reply.TheVariants as reply
@@ -65,7 +66,7 @@ module _ {K V P A : Type 0} (m : Meaning K V P) where
   sorted reply.Next it is = ap sort is
   sorted (reply.Committed n) it is = ap sort is
   sorted reply.Failed it is = ap sort is
-  sorted (reply.Ended pieces waits) it is = ap sort is
+  sorted (reply.Ended pieces waits) it is = ap sort is.2
   sorted (reply.Scan block offset len) it is = absurd is
   sorted reply.Listed it is = absurd is
   sorted (reply.Clean block) it is = absurd is
@@ -105,6 +106,11 @@ module _ {K V P A : Type 0} (m : Meaning K V P) where
   reads answer it t e is = absurd (let f : None ≡ Some t = e in cc)
 
 -- a step that comes back issues nothing
+-- a step that is put off comes back
+pub put_off_back : {K V P A : Type 0} (given : Step K V P A) (answer : Reply K V P A) → IsPutOff given answer → IsHandedBack answer
+put_off_back given answer (inl e) = subst IsHandedBack (sym e) tt
+put_off_back given answer (inr e) = subst IsHandedBack (sym e) tt
+
 pub back_issued : {K V P A : Type 0} (answer : Reply K V P A) → IsHandedBack answer → ticket_in answer ≡ None
 back_issued (reply.NotNow back) handed = refl
 back_issued (reply.Refused why back) handed = refl

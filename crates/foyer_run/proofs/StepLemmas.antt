@@ -10,7 +10,7 @@ use Rattle.foyer_core.specs.Answered.{HandsBack}
 use Rattle.foyer_core.specs.Asked.{step_of, ticket_of}
 use Rattle.foyer_core.specs.Content.{Content, Meaning, content, meaning}
 use Rattle.foyer_core.specs.CoreRules.{layout}
-use Rattle.foyer_core.specs.Refines.{IsBuilt, IsHandedBack, IsRefined, machine}
+use Rattle.foyer_core.specs.Refines.{IsBuilt, IsHandedBack, IsPutOff, IsRefined, machine}
 use Rattle.foyer_core.specs.CoreRules.{IsEncoded}
 use Rattle.foyer_core.specs.Replied.{IsReply}
 use Rattle.foyer_core.specs.Sizes.{AreValid}
@@ -29,7 +29,7 @@ use Rattle.foyer_run.specs.declared.moves.Asked.TheVariants as asks
 use Rattle.foyer_run.specs.declared.moves.Issued.{Issued}
 use Rattle.foyer_run.proofs.DueLemmas.{loads_stay, issued_stays, block_writes_stay, IsBeside}
 use Rattle.foyer_run.proofs.ListLemmas.{get_left, get_pushed, pushed_count}
-use Rattle.foyer_run.proofs.ReplyLemmas.{no_read, reads, back_issued}
+use Rattle.foyer_run.proofs.ReplyLemmas.{put_off_back, no_read, reads, back_issued}
 
 -- the reads that are due
 abbrev pub AreUnread : {C : Type 0} → ℕ → List (Option Ticket) → (ℕ → Option (Load C)) → Type 0
@@ -126,7 +126,7 @@ module _ {K V P A : Type 0} (m : Meaning K V P) where
     -- a step that brings no result and issues no write
     pub step_moves : (first : ℕ) (block_writes : ℕ → BlockWrites) (given : Step K V P A) (answer : Reply K V P A) (tickets tickets' : List (Option Ticket)) (issued : List (Option Issued)) (said said' : List (Reply K V P A))
         (old new : Core K V P A) (bytes : ℕ → ℕ → ℕ) (w : World Content) → IsRunning m s first block_writes tickets issued said old bytes w → IsFree given
-        → HandsBack given answer old new → (IsBuilt given → IsRefined m s sound given answer new w.core) → ((IsBuilt given → ⊥) → IsHandedBack answer)
+        → HandsBack given answer old new → (IsBuilt given → IsRefined m s sound given answer new w.core) → ((IsBuilt given → ⊥) → IsPutOff given answer)
         → tickets' ≡ with_ticket (ticket_in answer) tickets → said' ≡ said ++ answer ∷ []
         → IsMoved m s sound first block_writes (asks.Step given) said tickets' issued said' new bytes w
     step_moves first block_writes given answer tickets tickets' issued said said' old new bytes w running free back meets later ts ss = go (built given)
@@ -153,13 +153,13 @@ module _ {K V P A : Type 0} (m : Meaning K V P) where
               };
             }
         go (inr not) =
-            let handed = later not in
+            let handed = put_off_back given answer (later not) in
             let same : tickets' ≡ tickets = ts ∙ ap (λ o. with_ticket o tickets) (back_issued answer handed) in
             record {
               events = [];
               answers = answer ∷ [];
               happened = tt;
-              made = inr (record { answer = answer; later = not; is = refl; said_is = refl; back = handed });
+              made = inr (record { answer = answer; later = not; is = refl; said_is = refl; back = later not });
               replies = ss;
               running = record {
                 stands = unchanged_stands m s old new w.core (unchanged given answer old new handed back) running.stands;

@@ -8,3 +8,4 @@ pub mod Newest
 pub mod Running
 pub mod Runs
 pub mod Texts
+pub mod Waiting

@@ -7,7 +7,7 @@ use Rattle.foyer_model.specs.Step as model_step
 use Rattle.foyer_model.specs.World.{World, WorldEvent, Applies, ReadBegins, ReadEnds, WriteBegins, WriteEnds, after_all}
 use Rattle.foyer_core.specs.Asked.{step_of}
 use Rattle.foyer_core.specs.Content.{Content, Meaning}
-use Rattle.foyer_core.specs.Refines.{IsBuilt, IsHandedBack, machine}
+use Rattle.foyer_core.specs.Refines.{IsBuilt, IsPutOff, machine}
 use Rattle.foyer_core.specs.Replied.{IsReply}
 use Rattle.foyer_core.specs.Sizes.{AreValid}
 use Rattle.foyer_core.specs.declared.reply.Reply.{Reply}
@@ -58,13 +58,13 @@ module _ {K V P A : Type 0} (m : Meaning K V P) where
   abbrev pub IsPassed : List (WorldEvent Content) → List (Reply K V P A) → Type 0
   IsPassed events said = (events ≡ []) × (said ≡ [])
 
-  -- a step that isn't built: nothing happens, and it comes back
+  -- a step that isn't built: nothing happens, and it is put off
   pub record IsLater (given : Step K V P A) (events : List (WorldEvent Content)) (said : List (Reply K V P A)) : Type 0 where
     pub answer : Reply K V P A
     pub later : IsBuilt given → ⊥
     pub is : events ≡ []
     pub said_is : said ≡ answer ∷ []
-    pub back : IsHandedBack answer
+    pub back : IsPutOff given answer
 
   abbrev pub IsStepped : Step K V P A → List (WorldEvent Content) → List (Reply K V P A) → Type 0
   IsStepped given events said = (IsBuilt given × IsApplied [] (step_of m given) events said) ⊎ IsLater given events said

@@ -1,7 +1,7 @@
 //! A disk in memory.
-ghost use Rattle.std.specs.Prelude.{◌≡◌, ℕ, ◌+◌, ◌*◌, ◌^◌, ◌<◌, ◌≤◌, ◌⊎◌, ◌↔◌, length, vec_len, vec_capacity, slice_index, nat_lt, if◌then◌else◌, IfOk, IfErr, IsOk, IsSome, IfSome, OnOk, OnErr};
+ghost use Rattle.std.specs.Prelude.{◌≡◌, ℕ, ◌+◌, ◌*◌, ◌^◌, ◌<◌, ◌≤◌, ◌⊎◌, ◌↔◌, length, vec_len, vec_capacity, slice_index, nat_lt, if◌then◌else◌, Err, IfOk, IfErr, IsOk, IsSome, IfSome, OnOk, OnErr};
 ghost use Rattle.foyer_run.specs.Disk.{IsRead, IsWritten, IsTorn, IsWithin};
-ghost use Rattle.foyer_device.specs.declared.error.Error.TheVariants.{Memory, OutOfRange};
+ghost use Rattle.foyer_device.specs.declared.error.Error.TheVariants.{Io, Memory, OutOfRange};
 
 use crate::disk::Disk;
 use foyer_block::manager::BlockId;
@@ -27,6 +27,7 @@ impl<A: Allocator> MemoryDisk<A> {
         ensures zeros { IfOk result (λ d. (b o : ℕ) → ⟦<MemoryDisk<A> as Disk>⟧.byte_at d b o ≡ 0) }
         ensures sizes { IfOk result (λ d. (d.blocks ≡ blocks) × (d.block_size ≡ block_size)) }
         ensures refused { IfErr result (λ e. (e ≡ Memory) ⊎ ((e ≡ OutOfRange) × (2 ^ 64 ≤ blocks * block_size))) }
+        ensures beyond { 2 ^ 64 ≤ blocks * block_size → result ≡ Err OutOfRange }
     {
         let Some(capacity) = (blocks as usize).checked_mul(block_size) else {
             return Err(Error::OutOfRange);
@@ -95,6 +96,10 @@ impl<A: Allocator> Disk for MemoryDisk<A> {
     ghost byte_at = { λ d b o. if nat_lt o d.block_size then slice_index d.bytes.items (b * d.block_size + o) else 0 };
 
     ghost surely_has = { λ d. IsWithin d.blocks d.block_size };
+
+    ghost may_have = { λ d. IsWithin d.blocks d.block_size };
+
+    ghost may_answer = { λ _ e. e ≡ Io };
 
     fn read<B: Allocator>(
         &mut self,

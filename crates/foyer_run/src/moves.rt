@@ -57,7 +57,7 @@ pub enum Move<K, V, P, A: Allocator> {
     FlushWrote {
         flusher: u32,
     },
-    /// Describes the outcome of the log.
+    /// Brings the outcome of the log.
     LogWrote {
         flusher: u32,
         result: Result<()>,
@@ -113,6 +113,8 @@ pub fn do_read<A: Allocator, D: Disk>(
         vec_len bytes ≡ page_up ticket.now.address.len)) }
     ensures succeeds { D.surely_has disk.old ticket.now.address.block ticket.now.address.offset (page_up ticket.now.address.len)
         → IfOk result IsOk }
+    ensures within { IfOk result (λ outcome. OnOk outcome (D.may_have disk.old ticket.now.address.block ticket.now.address.offset (page_up ticket.now.address.len))) }
+    ensures fault { IfOk result (λ outcome. IfErr outcome (D.may_answer disk.old)) }
     ensures same { D.byte_at disk.new ≡ D.byte_at disk.old }
 {
     let len = ticket.read_len();
@@ -131,6 +133,8 @@ pub fn do_write<A: Allocator, D: Disk>(disk: &mut D, block: BlockId, write: &Wri
     ensures torn { OnErr result
         (IsTorn (D.byte_at disk.old) block write.now.offset (vec_len write.now.bytes) (D.byte_at disk.new)) }
     ensures succeeds { D.surely_has disk.old block write.now.offset (vec_len write.now.bytes) → IsOk result }
+    ensures within { OnOk result (D.may_have disk.old block write.now.offset (vec_len write.now.bytes)) }
+    ensures fault { IfErr result (D.may_answer disk.old) }
 {
     disk.write(block, write.offset, write.bytes.as_slice())
 }

@@ -1,5 +1,5 @@
 //! Runs that begin with an opened core, and what the laws say of them.
-ghost use Rattle.std.specs.Prelude.{◌≡◌, ◌⊎◌, ◌≤◌, ◌*◌, ◌^◌, ℕ, IfOk, IfErr};
+ghost use Rattle.std.specs.Prelude.{◌≡◌, ◌⊎◌, ◌≤◌, ◌*◌, ◌^◌, ℕ, Err, IfOk, IfErr};
 ghost use Rattle.foyer_device.specs.declared.error.Error.TheVariants.{Config, Memory, OutOfRange};
 ghost use Rattle.foyer_core.specs.Content.{meaning};
 ghost use Rattle.foyer_core.specs.Sizes.{AreValid};
@@ -37,6 +37,7 @@ where
     D: Disk,
     ensures sound { IfOk result (λ _. AreValid settings) }
     ensures refused { IfErr result (λ e. (e ≡ Memory) ⊎ ((e ≡ Config) × (AreValid settings → ⊥))) }
+    ensures unsound { (AreValid settings → ⊥) → result ≡ Err Config }
     ensures lawful { IfOk result (λ replies. (sound : AreValid settings) (bytes : ℕ → ℕ → ℕ)
         → ((b o : ℕ) → bytes b o ≡ D.byte_at disk.old b o) → IsLawful
         (meaning K.encoding V.encoding K.is_encodable V.is_encodable K.is_decodable V.is_decodable P.age)

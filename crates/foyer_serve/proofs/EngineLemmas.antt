@@ -5,7 +5,7 @@ use Rattle.foyer_core.specs.Content.{Content}
 use Rattle.foyer_core.specs.declared.reply.Reply.{Reply}
 use Rattle.foyer_core.specs.declared.reply.Reply.TheVariants as reply
 use Rattle.foyer_core.specs.declared.state.Core.{Core}
-use Rattle.foyer_run.specs.Driven.{Drives}
+use Rattle.foyer_run.specs.Waiting.{Waits}
 use Rattle.foyer_run.specs.Newest.{IsMissedOnly, IsNewest, IsPutOrFault}
 use Rattle.foyer_run.specs.declared.memory.MemoryDisk.{MemoryDisk}
 use Rattle.std.specs.Prelude.{◌+◌, ◌*◌, nat_lt, if◌then◌else◌, slice_index}
@@ -17,9 +17,9 @@ use Rattle.foyer_serve.specs.declared.engine.NoProperties.{NoProperties}
 abbrev pub bytes_of : {A : Type 0} → MemoryDisk A → ℕ → ℕ → ℕ
 bytes_of d b o = if nat_lt o d.block_size then slice_index d.bytes.items (b * d.block_size + o) else 0
 
--- what its core and its bytes are driven to
-abbrev pub Drove : {A : Type 0} → Engine A → Engine A → Type 0
-Drove a b = Drives plain a.core b.core (bytes_of a.disk) (bytes_of b.disk)
+-- a wait's steps lead from one engine to another
+abbrev pub Waited : {A : Type 0} → Engine A → Engine A → Type 0
+Waited a b = Waits plain a.core b.core (bytes_of a.disk) (bytes_of b.disk)
 
 -- what is answered of a load's entry is the newest text
 pub newest_got : {A : Type 0} (key : ℕ) (core : Core ℕ (String A) NoProperties A) (bytes : ℕ → ℕ → ℕ) (last : Reply ℕ (String A) NoProperties A) → IsNewest plain key core bytes last → IsNewestText key core bytes (got last)

@@ -1,6 +1,7 @@
 -- What the program's engine answers, of keys that are numbers and values that are texts without an age of their own.
-use Rattle.std.specs.Prelude.{◌≡◌, ◌⊎◌, ℕ, false, List, [], ◌∷◌, None, string_bytes}
+use Rattle.std.specs.Prelude.{◌≡◌, ◌⊎◌, ℕ, ◌+◌, ◌-◌, ◌^◌, min, Bool, true, false, List, [], ◌∷◌, length, Option, Some, None, Result, Ok, Err, string_bytes}
 use Rattle.std.specs.declared.string.String.{String}
+use Rattle.foyer_device.specs.declared.error.ErrorKind.{ErrorKind}
 use Rattle.foyer_device.specs.declared.error.ErrorKind.TheVariants as kind
 use Rattle.foyer_format.specs.declared.serde.ages.Age.{Age}
 use Rattle.foyer_policy.specs.Record.{Record}
@@ -60,7 +61,7 @@ put_as (reply.Queued sequence) = answer.Queued
 put_as (reply.Refused kind back) = answer.Fault kind
 put_as said = answer.Ignored
 
--- an Enqueue of this key and text was answered so, and nothing else happened
+-- an Enqueue of this key and text, with the size of both codes, was answered so, and nothing else happened
 pub record IsEnqueued {A : Type 0} (key : ℕ) (text : List ℕ) (old new : Core ℕ (String A) NoProperties A) (old_bytes new_bytes : ℕ → ℕ → ℕ) (answered : Answer A) : Type 0 where
   pub piece : Record ℕ (String A) NoProperties
   pub size : ℕ
@@ -68,6 +69,7 @@ pub record IsEnqueued {A : Type 0} (key : ℕ) (text : List ℕ) (old new : Core
   pub key_is : piece.key ≡ key
   pub hash_is : piece.hash ≡ key
   pub value_is : string_bytes piece.value ≡ text
+  pub size_is : (plain {A = A}).is_encodable piece.key piece.value ≡ true → size ≡ min (length ((plain {A = A}).value_of piece.value) + length ((plain {A = A}).key_of piece.key)) (2 ^ 64 - 1)
   pub is : answered ≡ put_as last
   pub says : Says plain (move.Enqueue piece size ∷ []) last old new old_bytes new_bytes
 
@@ -86,6 +88,19 @@ pub record IsDeleted {A : Type 0} (key : ℕ) (old new : Core ℕ (String A) NoP
   pub last : Reply ℕ (String A) NoProperties A
   pub is : answered ≡ deleted_as last
   pub says : Says plain (move.Delete key ∷ []) last old new old_bytes new_bytes
+
+-- whether a step did anything, or why it was refused
+abbrev pub done_as : {A : Type 0} → Reply ℕ (String A) NoProperties A → Result Bool ErrorKind
+done_as (reply.Refused kind back) = Err kind
+done_as (reply.NotNow back) = Ok false
+done_as reply.Empty = Ok false
+done_as said = Ok true
+
+-- whether a block was written: without a clean block there is no space for it
+abbrev pub wrote_as : {A : Type 0} → Option (Reply ℕ (String A) NoProperties A) → Result Bool ErrorKind
+wrote_as None = Ok true
+wrote_as (Some reply.NoBlock) = Err kind.NoSpace
+wrote_as (Some said) = done_as said
 
 -- what a wait and a close are answered as
 abbrev pub IsOkOrFault : {A : Type 0} → Answer A → Type 0

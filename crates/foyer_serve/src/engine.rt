@@ -4,7 +4,8 @@ ghost use Rattle.foyer_device.specs.declared.error.Error.TheVariants.{Config, Me
 ghost use Rattle.foyer_core.specs.Sizes.{AreValid};
 ghost use Rattle.foyer_run.specs.Driven.{Drives};
 ghost use Rattle.foyer_run.specs.Newest.{IsHistory};
-ghost use Rattle.foyer_serve.specs.Texts.{IsDeleted, IsGot, IsMissedText, IsNewestText, IsOkOrFault, IsPut, deleted_as, got, plain, put_as};
+ghost use Rattle.foyer_run.specs.Waiting.{Closes, Waits};
+ghost use Rattle.foyer_serve.specs.Texts.{IsDeleted, IsGot, IsMissedText, IsNewestText, IsOkOrFault, IsPut, deleted_as, done_as, got, plain, put_as, wrote_as};
 
 use foyer_core::apply::Env;
 use foyer_core::reply::Reply;
@@ -33,15 +34,22 @@ impl Properties for NoProperties {
 
 type Key = u64;
 
-/// What the program prints for a line, beside faults.
+/// What a call of the engine answers.
 #[derive(Drop)]
 pub enum Answer<A: Allocator> {
+    /// The text is queued until the next wait or close.
     Queued,
+    /// The text isn't taken: too much is queued.
     Ignored,
+    /// The key's text.
     Entry(String<A>),
+    /// The device is throttled: never of this engine, which loads without a throttle.
     Throttled,
+    /// The key has no text that was written.
     Miss,
+    /// The delete, the wait or the close is done.
     Ok,
+    /// The call was refused.
     Fault(ErrorKind),
 }
 
@@ -82,7 +90,9 @@ fn answer_delete<A: Allocator>(last: EngineReply<A>) -> Answer<A>
 }
 
 // Whether a step did anything: none did that was out of turn, or found nothing.
-fn answer_step<A: Allocator>(last: EngineReply<A>) -> std::result::Result<bool, ErrorKind> {
+fn answer_step<A: Allocator>(last: EngineReply<A>) -> std::result::Result<bool, ErrorKind>
+    ensures { result ≡ done_as last }
+{
     match last {
         Reply::Refused(kind, _) => Err(kind),
         Reply::NotNow(_) | Reply::Empty => Ok(false),
@@ -91,9 +101,9 @@ fn answer_step<A: Allocator>(last: EngineReply<A>) -> std::result::Result<bool, 
 }
 
 // Whether a block was written: none was that was out of turn.
-fn answer_block<A: Allocator>(
-    last: Option<EngineReply<A>>,
-) -> std::result::Result<bool, ErrorKind> {
+fn answer_block<A: Allocator>(last: Option<EngineReply<A>>) -> std::result::Result<bool, ErrorKind>
+    ensures { result ≡ wrote_as last }
+{
     match last {
         Some(Reply::NoBlock) => Err(ErrorKind::NoSpace),
         Some(last) => answer_step(last),
@@ -184,10 +194,11 @@ impl<A: Allocator + Clone> Engine<A> {
         answer_delete(step(&mut self.core, &mut self.env, Step::Delete { hash: key }))
     }
 
-    /// Queues a wait at each flusher, and flushes until no flusher has anything left to do.
+    /// Queues a wait at each flusher, and flushes until no flusher has anything left to do. It puts, deletes and loads
+    /// nothing, and closes nothing.
     pub fn wait(&mut self) -> Answer<A>
         ensures answered { IsOkOrFault result }
-        ensures driven { Drives plain self.old.core self.new.core
+        ensures waited { Waits plain self.old.core self.new.core
             (⟦<MemoryDisk<A> as Disk>⟧.byte_at self.old.disk) (⟦<MemoryDisk<A> as Disk>⟧.byte_at self.new.disk) }
     {
         for flusher in 0..self.core.settings().flushers {
@@ -201,10 +212,10 @@ impl<A: Allocator + Clone> Engine<A> {
         self.flush_all()
     }
 
-    /// Takes no more puts, deletes and destroys, and waits.
+    /// Takes no more puts, deletes and destroys, and waits: nothing else.
     pub fn close(&mut self) -> Answer<A>
         ensures answered { IsOkOrFault result }
-        ensures driven { Drives plain self.old.core self.new.core
+        ensures closed { Closes plain self.old.core self.new.core
             (⟦<MemoryDisk<A> as Disk>⟧.byte_at self.old.disk) (⟦<MemoryDisk<A> as Disk>⟧.byte_at self.new.disk) }
     {
         let closed = step(&mut self.core, &mut self.env, Step::Close);
@@ -216,7 +227,7 @@ impl<A: Allocator + Clone> Engine<A> {
 
     fn flush_all(&mut self) -> Answer<A>
         ensures answered { IsOkOrFault result }
-        ensures driven { Drives plain self.old.core self.new.core
+        ensures waited { Waits plain self.old.core self.new.core
             (⟦<MemoryDisk<A> as Disk>⟧.byte_at self.old.disk) (⟦<MemoryDisk<A> as Disk>⟧.byte_at self.new.disk) }
     {
         for flusher in 0..self.core.settings().flushers {
@@ -230,7 +241,7 @@ impl<A: Allocator + Clone> Engine<A> {
 
     // Flushes until nothing is queued or received at a flusher.
     fn flush(&mut self, flusher: u32) -> std::result::Result<(), ErrorKind>
-        ensures driven { Drives plain self.old.core self.new.core
+        ensures waited { Waits plain self.old.core self.new.core
             (⟦<MemoryDisk<A> as Disk>⟧.byte_at self.old.disk) (⟦<MemoryDisk<A> as Disk>⟧.byte_at self.new.disk) }
     {
         for _ in 0..u64::MAX {
@@ -249,7 +260,7 @@ impl<A: Allocator + Clone> Engine<A> {
 
     // Takes all that is queued. A piece that is handed back doesn't fit, and is dropped.
     fn receive_all(&mut self, flusher: u32) -> std::result::Result<(), ErrorKind>
-        ensures driven { Drives plain self.old.core self.new.core
+        ensures waited { Waits plain self.old.core self.new.core
             (⟦<MemoryDisk<A> as Disk>⟧.byte_at self.old.disk) (⟦<MemoryDisk<A> as Disk>⟧.byte_at self.new.disk) }
     {
         for _ in 0..u64::MAX {
@@ -263,7 +274,7 @@ impl<A: Allocator + Clone> Engine<A> {
 
     // Writes the blocks of the batch.
     fn write_all(&mut self, flusher: u32) -> std::result::Result<(), ErrorKind>
-        ensures driven { Drives plain self.old.core self.new.core
+        ensures waited { Waits plain self.old.core self.new.core
             (⟦<MemoryDisk<A> as Disk>⟧.byte_at self.old.disk) (⟦<MemoryDisk<A> as Disk>⟧.byte_at self.new.disk) }
     {
         for _ in 0..u64::MAX {

@@ -6,7 +6,7 @@
 
 mod answer;
 mod command;
-mod engine;
+pub mod engine;
 mod lines;
 mod options;
 pub mod serve;

@@ -16,6 +16,17 @@ pub struct Line {
     end: usize,
 }
 
+/// What `Lines::fill` found.
+#[derive(Clone, Copy, Debug, PartialEq, Eq)]
+pub enum Filled {
+    /// More was read.
+    More,
+    /// The input has ended.
+    End,
+    /// Memory doesn't hold the line that has begun: all of it, up to its end, is passed over.
+    TooLong,
+}
+
 /// A reader's lines. A line is lent from the buffer, which grows only where one line is longer than it.
 #[derive(Drop)]
 pub struct Lines<R: Read + Drop, A: Allocator> {
@@ -25,6 +36,8 @@ pub struct Lines<R: Read + Drop, A: Allocator> {
     start: usize,
     searched: usize,
     end: usize,
+    // Whether what comes next is the rest of a line that was too long.
+    is_skipping: bool,
     ghost in_order: { start ≤ searched },
     ghost searched_in: { searched ≤ end },
     ghost in_buffer: { end ≤ vec_len buffer },
@@ -39,11 +52,15 @@ impl<R: Read + Drop, A: Allocator> Lines<R, A> {
             start: 0,
             searched: 0,
             end: 0,
+            is_skipping: false,
         })
     }
 
     /// The next line that was read whole already.
     pub fn next_whole(&mut self) -> Option<Line> {
+        if self.is_skipping {
+            self.skip_rest();
+        }
         let rest = &self.buffer.as_slice()[self.searched..self.end];
         match memchr(b'\n', rest) {
             Some(place) => {
@@ -86,21 +103,25 @@ impl<R: Read + Drop, A: Allocator> Lines<R, A> {
         }
     }
 
-    /// Reads more, again where a read was interrupted. False at the end of the input.
-    pub fn fill(&mut self) -> io::Result<bool> {
+    /// Reads more, again where a read was interrupted. A buffer that a line fills grows first; where it can't, nothing is
+    /// read, and the line is passed over.
+    pub fn fill(&mut self) -> io::Result<Filled> {
         if self.start > 0 {
             self.move_to_front();
         }
         if self.end == self.buffer.len() {
             let more = self.buffer.len();
-            self.buffer.resize(more.saturating_add(more), 0)?;
+            if self.buffer.resize(more.saturating_add(more), 0).is_err() {
+                self.skip_line();
+                return Ok(Filled::TooLong);
+            }
         }
         for _ in 0..u64::MAX {
             let room = &mut self.buffer.as_mut_slice()[self.end..];
             match self.input.read(room) {
                 Ok(count) => {
                     self.end += count;
-                    return Ok(count > 0);
+                    return Ok(if count > 0 { Filled::More } else { Filled::End });
                 }
                 Err(error) => {
                     if error.kind() != io::ErrorKind::Interrupted {
@@ -109,7 +130,28 @@ impl<R: Read + Drop, A: Allocator> Lines<R, A> {
                 }
             }
         }
-        Ok(false)
+        Ok(Filled::End)
+    }
+
+    // Lets go of a line that fills the buffer.
+    fn skip_line(&mut self) {
+        self.start = 0;
+        self.searched = 0;
+        self.end = 0;
+        self.is_skipping = true;
+    }
+
+    // Passes over the rest of a line that was too long, as far as it has been read.
+    fn skip_rest(&mut self) {
+        let rest = &self.buffer.as_slice()[self.searched..self.end];
+        match memchr(b'\n', rest) {
+            Some(place) => {
+                self.searched += place + 1;
+                self.is_skipping = false;
+            }
+            None => self.searched = self.end,
+        }
+        self.start = self.searched;
     }
 
     fn move_to_front(&mut self) {

@@ -2,7 +2,7 @@
 use crate::answer::{print, print_fault};
 use crate::command::Command;
 use crate::engine::{Answer, Engine};
-use crate::lines::Lines;
+use crate::lines::{Filled, Lines};
 use crate::options::{Options, USAGE};
 use foyer_device::error::{Error, ErrorKind, Result};
 use std::alloc::Allocator;
@@ -119,11 +119,18 @@ where
             answer_line(engine, lines.bytes(line), output, is_well)?;
         }
         output.flush()?;
-        if !lines.fill()? {
-            if let Some(line) = lines.last() {
-                answer_line(engine, lines.bytes(line), output, is_well)?;
+        match lines.fill()? {
+            Filled::More => {}
+            Filled::TooLong => {
+                *is_well = false;
+                print_fault(output, ErrorKind::Memory)?;
             }
-            return Ok(());
+            Filled::End => {
+                if let Some(line) = lines.last() {
+                    answer_line(engine, lines.bytes(line), output, is_well)?;
+                }
+                return Ok(());
+            }
         }
     }
     Ok(())

@@ -1,4 +1,5 @@
 mod every_step;
 mod program;
+mod readme;
 mod steps;
 mod sweeps;

@@ -10,7 +10,7 @@ ghost use Rattle.foyer_model.specs.Flush.{released};
 ghost use Rattle.foyer_model.specs.State as model_state;
 ghost use Rattle.foyer_model.specs.State.{State};
 ghost use Rattle.foyer_model.specs.Step as model_step;
-ghost use Rattle.foyer_core.specs.Batches.{StandsAt, FlusherStep, IsIssued, issued_next, issued_wrote, issued_ended, settled, failed_batch};
+ghost use Rattle.foyer_core.specs.Batches.{StandsAt, FlusherStep, IsIssued, issued_next, issued_wrote, HasEnded, settled, failed_batch};
 ghost use Rattle.foyer_core.specs.Content.{Content, Meaning};
 ghost use Rattle.foyer_core.specs.Flushing.{IsFlusherAs, IsBatchAs};
 ghost use Rattle.foyer_core.specs.Sizes.{AreValid};
@@ -419,7 +419,7 @@ impl<K, V, P, A: Allocator + Clone> Flusher<K, V, P, A> {
         ensures done { (m : Meaning K V P) (s : Settings) (sound : AreValid s) (f : ℕ) (it : State Content)
             (ids waiters : List ℕ)
             → StandsAt m s f it (seen self.old) index.old blocks.old.items ids waiters
-            → FlusherStep m s sound (model_step.FlushEnd f) f it (issued_ended m result)
+            → HasEnded m s sound f it result.pieces.items result.waits.items
             (seen self.new) index.new blocks.new.items ids waiters }
     {
         let Some(batch) = self.batch.take() else {

@@ -1,5 +1,5 @@
 //! The header of a record, and reading a record back.
-ghost use Rattle.std.specs.Prelude.{◌≡◌, ◌+◌, ◌<◌, ◌^◌, ◌↔◌, ℕ, List, Bool, true, length, take, Ok, Err, None, IfOk, IfSome, IfNone, IfErr};
+ghost use Rattle.std.specs.Prelude.{◌≡◌, ◌⊎◌, ◌+◌, ◌<◌, ◌^◌, ◌↔◌, ℕ, List, Bool, true, length, take, drop, Ok, Err, None, IfOk, IfSome, IfNone, IfErr};
 ghost use Rattle.foyer_format.specs.Header.{header_bytes, header_of, FitsFields};
 ghost use Rattle.foyer_format.specs.Vectors.{HeaderVector};
 ghost use Rattle.foyer_format.specs.Record.{body_outcome, pair_of, record_bytes};
@@ -138,6 +138,10 @@ pub fn read_record<A: Allocator + Clone, K: Code<A> + Drop, V: Code<A> + Drop>(
         ↔ (pair_of K.is_decodable V.is_decodable bytes.now hash sequence ≡ outcome.Unsupported) }
     ensures fault { IfErr result
         (IsRecordFault (pair_of K.is_decodable V.is_decodable bytes.now hash sequence)) }
+    ensures memory { IfErr result (λ e. e ≡ error.Memory → (value_len key_len : ℕ)
+        × (V.takes_memory (take value_len (drop 36 bytes.now))
+        ⊎ K.takes_memory (take key_len (drop value_len (drop 36 bytes.now)))
+        ⊎ (A.is_infallible alloc.now → ⊥))) }
 {
     find_record(alloc, bytes, hash, sequence)
 }
@@ -158,6 +162,10 @@ fn find_record<A: Allocator + Clone, K: Code<A> + Drop, V: Code<A> + Drop>(
         (pair_of K.is_decodable V.is_decodable bytes.now hash sequence ≡ outcome.NoRecord)) }
     ensures fault { IfErr result
         (IsRecordFault (pair_of K.is_decodable V.is_decodable bytes.now hash sequence)) }
+    ensures memory { IfErr result (λ e. e ≡ error.Memory → (value_len key_len : ℕ)
+        × (V.takes_memory (take value_len (drop 36 bytes.now))
+        ⊎ K.takes_memory (take key_len (drop value_len (drop 36 bytes.now)))
+        ⊎ (A.is_infallible alloc.now → ⊥))) }
 {
     let Some(header) = record_header(bytes, hash, sequence) else {
         return Ok(None);
@@ -180,6 +188,10 @@ fn read_body<A: Allocator + Clone, K: Code<A> + Drop, V: Code<A> + Drop>(
         (body_outcome K.is_decodable V.is_decodable header.now body.now ≡ outcome.NoRecord)) }
     ensures fault { IfErr result
         (IsRecordFault (body_outcome K.is_decodable V.is_decodable header.now body.now)) }
+    ensures memory { IfErr result (λ e. e ≡ error.Memory
+        → V.takes_memory (take header.now.value_len body.now)
+        ⊎ K.takes_memory (take header.now.key_len (drop header.now.value_len body.now))
+        ⊎ (A.is_infallible alloc.now → ⊥)) }
 {
     let key_len = header.key_len as usize;
     let value_len = header.value_len as usize;

@@ -96,6 +96,18 @@ fn record(alloc: Global, len: usize) -> Result<Vec<u8>, Error> {
     Ok(bytes)
 }
 
+const RECORD: [u8; 53] = [
+    0, 0, 0, 8, 0, 0, 0, 9, 0, 0, 0, 0, 0, 0, 0, 1, 0, 0, 0, 0, 0, 0, 0, 1, 0x97, 0xCF, 0xC8, 0x7E,
+    0x4A, 0xC2, 0x0E, 0xA7, 0x97, 0x03, 0x27, 0x00, 1, 0, 0, 0, 0, 0, 0, 0, 97, 1, 0, 0, 0, 0, 0,
+    0, 0,
+];
+
+#[test]
+fn a_record_has_its_bytes(rt: HostRuntime) -> Result<(), Fail> {
+    assert_eq!(rt; record(rt.alloc(), 53)?.as_slice(), RECORD.as_slice());
+    Ok(())
+}
+
 // The pair of hash and sequence in so many of these bytes.
 fn read(
     alloc: Global,

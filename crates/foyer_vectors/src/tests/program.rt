@@ -5,7 +5,7 @@ use std::process::Abort;
 use std::test::Fail;
 
 // What the program prints for these words and this input, with its status.
-pub fn issued<A: Allocator + Clone>(
+pub fn print_of<A: Allocator + Clone>(
     alloc: Global,
     engine: A,
     words: &[&str],
@@ -28,7 +28,7 @@ fn check(
     output: &str,
     status: u8,
 ) -> Result<(), Fail> {
-    let (printed, errors, ended) = issued(rt.alloc(), rt.alloc(), words, input.as_bytes())?;
+    let (printed, errors, ended) = print_of(rt.alloc(), rt.alloc(), words, input.as_bytes())?;
     assert_eq!(rt; printed.as_slice(), output.as_bytes(), "for {input}");
     assert_eq!(rt; errors.len(), 0);
     assert_eq!(rt; ended, status, "for {input}");
@@ -76,7 +76,7 @@ fn what_does_not_fit_the_block_is_missed(rt: HostRuntime) -> Result<(), Fail> {
 }
 
 #[test]
-fn bad_lines_are_told_and_passed(rt: HostRuntime) -> Result<(), Fail> {
+fn bad_lines_are_answered_and_passed(rt: HostRuntime) -> Result<(), Fail> {
     check(
         &rt,
         &SMALL,
@@ -88,7 +88,7 @@ fn bad_lines_are_told_and_passed(rt: HostRuntime) -> Result<(), Fail> {
 
 #[test]
 fn a_line_that_is_no_text_is_bad(rt: HostRuntime) -> Result<(), Fail> {
-    let (output, _, status) = issued(rt.alloc(), rt.alloc(), &SMALL, b"put 1 \xff\nget 1\n")?;
+    let (output, _, status) = print_of(rt.alloc(), rt.alloc(), &SMALL, b"put 1 \xff\nget 1\n")?;
     assert_eq!(rt; output.as_slice(), b"bad line\nmiss\n".as_slice());
     assert_eq!(rt; status, 1);
     Ok(())
@@ -124,7 +124,7 @@ fn a_destroy_is_not_supported_yet(rt: HostRuntime) -> Result<(), Fail> {
 
 // Nothing is printed but the usage, as an error.
 fn is_usage(alloc: Global, words: &[&str]) -> Result<bool, Fail> {
-    let (output, errors, status) = issued(alloc, alloc, words, b"put 1 a\n")?;
+    let (output, errors, status) = print_of(alloc, alloc, words, b"put 1 a\n")?;
     let usage = b"usage: foyerdisk DIR CAPACITY BLOCK\n";
     Ok(output.is_empty() && errors.as_slice() == usage.as_slice() && status == 2)
 }

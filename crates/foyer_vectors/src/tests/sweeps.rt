@@ -1,7 +1,8 @@
 //! Each allocation refused in turn, and each read and write failed in turn.
-use crate::tests::program::issued;
+use crate::tests::program::print_of;
 use crate::tests::steps::check;
 use foyer_format_vectors::refusing::Refusing;
+use std::alloc::Global;
 use std::test::Fail;
 
 const SCRIPT: &str = "put 1 a\nwait\nget 1\ndel 1\nget 1\nput 2 b\nwait\nget 2\n";
@@ -45,7 +46,7 @@ fn each_refused_allocation_of_the_program_is_told(rt: HostRuntime) -> Result<(),
     let words = [":memory:", "32768", "16384"];
     for n in 1..MOST_ALLOCATIONS {
         let heap = Refusing::new(rt.alloc(), n);
-        let (output, _, status) = issued(rt.alloc(), &heap, &words, SCRIPT.as_bytes())?;
+        let (output, _, status) = print_of(rt.alloc(), &heap, &words, SCRIPT.as_bytes())?;
         let text = str::from_utf8(output.as_slice()).map_err(|_| Fail::new("no text"))?;
         if !heap.has_refused() {
             assert_eq!(rt; text, ANSWERS);
@@ -60,6 +61,51 @@ fn each_refused_allocation_of_the_program_is_told(rt: HostRuntime) -> Result<(),
         assert!(rt; are_allowed(text, status == 1), "allocation {n}");
     }
     Err(Fail::new("the script makes more allocations"))
+}
+
+// Of the runs in which one allocation is refused, how many print `passed_over`. The one without a refusal prints `whole`.
+fn count_runs(alloc: Global, input: &[u8], whole: &[u8], passed_over: &[u8]) -> Result<u32, Fail> {
+    let words = [":memory:", "32768", "16384"];
+    let mut count = 0u32;
+    for n in 1..MOST_ALLOCATIONS {
+        let heap = Refusing::new(alloc, n);
+        let (output, _, status) = print_of(alloc, &heap, &words, input)?;
+        if !heap.has_refused() {
+            if output.as_slice() != whole {
+                return Err(Fail::new("another output without a refusal"));
+            }
+            return Ok(count);
+        }
+        if output.as_slice() == passed_over && status == 1 {
+            count = count.saturating_add(1);
+        }
+    }
+    Err(Fail::new("the lines make more allocations"))
+}
+
+// The line is no command, and longer than the input's buffer, also once that was doubled: so only the buffer's own
+// allocations make it a fault.
+#[test]
+fn a_line_that_memory_does_not_hold_is_passed_over(rt: HostRuntime) -> Result<(), Fail> {
+    let alloc = rt.alloc();
+    let mut input = Vec::from_slice(alloc, b"put 1 a\nwait\n")?;
+    input.resize(200_000, b'x')?;
+    let ends = count_runs(
+        alloc,
+        input.as_slice(),
+        b"queued\nok\nbad line\n",
+        b"queued\nok\nfault Memory\n",
+    )?;
+    assert_eq!(rt; ends, 2);
+    input.extend_from_slice(b"\nget 1\n")?;
+    let goes_on = count_runs(
+        alloc,
+        input.as_slice(),
+        b"queued\nok\nbad line\nentry a\n",
+        b"queued\nok\nfault Memory\nentry a\n",
+    )?;
+    assert_eq!(rt; goes_on, 2);
+    Ok(())
 }
 
 // Two puts with their flushes and loads. Of a load's reads those that weren't issued, or are done, are passed over.

@@ -39,11 +39,11 @@ returns-clause-meets g c = λ m s sound it stands few.
     let at = stands_at m s core it f found stands within c.index_mut-found.ensures.value in
     let done = c.end-pieces.ensures.done m s sound f it core.clean.items core.waiting.items at in
     record {
-      after = done.after;
-      it = model_reply.Ended (map (content_of m) c.end-pieces.result.pieces.items) c.end-pieces.result.waits.items;
-      stands = core_stands m s sound core _ it f c.end-pieces.new.self _ _ stands within done refl refl refl refl refl refl;
-      reply = refl;
-      turns = ((flusher_there m s core it f stands within, is_written m s found.own found.batch (it.flushers f).batch (at.flusher).batch (c.if-not-is_written.ensures.0 refl)), done.does);
+      after = (done.2).after;
+      it = model_reply.Ended done.0 c.end-pieces.result.waits.items;
+      stands = core_stands m s sound core _ it f c.end-pieces.new.self _ _ stands within done.2 refl refl refl refl refl refl;
+      reply = (done.0, done.1, refl);
+      turns = ((flusher_there m s core it f stands within, is_written m s found.own found.batch (it.flushers f).batch (at.flusher).batch (c.if-not-is_written.ensures.0 refl)), (done.2).does);
     }
 
 pub returns-then-flusher-len-clause-meets : goal.returns-then-flusher-len-clause-meets

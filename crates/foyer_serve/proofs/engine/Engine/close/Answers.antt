@@ -1,12 +1,14 @@
-use Rattle.foyer_run.proofs.DriveLemmas.{drives_more}
+use Rattle.std.proofs.Common.{refl}
+use Rattle.foyer_run.specs.declared.moves.Move.TheVariants as move
+use Rattle.foyer_run.proofs.WaitingLemmas.{closes_more, closes_said}
 use Rattle.foyer_serve.specs.Texts.{plain}
 use Rattle.foyer_serve.proofs.EngineLemmas.{bytes_of}
 use Rattle.foyer_serve.proofs.engine.Engine.close.Goals as goal
 
-pub returns-in-Err-clause-driven : goal.returns-in-Err-clause-driven
-returns-in-Err-clause-driven g c =
-    c.step-closed.ensures.drives (bytes_of c.args.self.now.disk)
+pub returns-in-Err-clause-closed : goal.returns-in-Err-clause-closed
+returns-in-Err-clause-closed g c =
+    closes_said plain c.step-closed.result c.args.self.now.core c.step-closed.new.core (bytes_of c.args.self.now.disk) (c.step-closed.ensures.runs move.Close refl (bytes_of c.args.self.now.disk))
 
-pub returns-in-Ok-clause-driven : goal.returns-in-Ok-clause-driven
-returns-in-Ok-clause-driven g c =
-    drives_more plain c.args.self.now.core c.step-closed.new.core c.wait.new.self.core (bytes_of c.args.self.now.disk) (bytes_of c.args.self.now.disk) (bytes_of c.wait.new.self.disk) (c.step-closed.ensures.drives (bytes_of c.args.self.now.disk)) (c.wait.ensures.driven)
+pub returns-in-Ok-clause-closed : goal.returns-in-Ok-clause-closed
+returns-in-Ok-clause-closed g c =
+    closes_more plain c.args.self.now.core c.step-closed.new.core c.wait.new.self.core (bytes_of c.args.self.now.disk) (bytes_of c.args.self.now.disk) (bytes_of c.wait.new.self.disk) (closes_said plain c.step-closed.result c.args.self.now.core c.step-closed.new.core (bytes_of c.args.self.now.disk) (c.step-closed.ensures.runs move.Close refl (bytes_of c.args.self.now.disk))) (c.wait.ensures.waited)

@@ -1,5 +1,5 @@
-use Rattle.foyer_serve.proofs.EngineLemmas.{Drove}
+use Rattle.foyer_serve.proofs.EngineLemmas.{Waited}
 use Rattle.foyer_serve.proofs.engine.Engine.flush.Given as goal
 
 abbrev pub invariant-loop : goal.invariant-loop
-invariant-loop g l = Drove l.fn.self l.self
+invariant-loop g l = Waited l.fn.self l.self

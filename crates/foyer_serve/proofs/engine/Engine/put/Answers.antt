@@ -1,4 +1,4 @@
-use Rattle.std.proofs.Common.{inl, refl}
+use Rattle.std.proofs.Common.{inl, refl, rules}
 use Rattle.foyer_run.specs.declared.moves.Move.TheVariants as move
 use Rattle.foyer_serve.proofs.engine.Engine.put.Goals as goal
 
@@ -10,6 +10,7 @@ returns-clause-says g c = inl (record {
   key_is = c.in-Ok.ensures.ok.0;
   hash_is = c.in-Ok.ensures.ok.1;
   value_is = c.in-Ok.ensures.ok.2;
+  size_is = λ is. search rules;
   is = c.answer_put.ensures;
   says = c.step.ensures.runs (move.Enqueue c.in-Ok.piece c.estimated_size-size.result) refl _;
 })

@@ -1,0 +1,139 @@
+-- Drives by steps of one kind: a wait's, or a close's.
+use Rattle.std.proofs.Common.{◌≡◌, ℕ, zero, suc, Bool, List, [], ◌∷◌, ◌++◌, length, replicate, Option, Some, None, inl, inr, sym, ap, subst, ◌∙◌}
+use Rattle.foyer_model.specs.Step as model_step
+use Rattle.foyer_model.specs.World.{World, WorldEvent, Applies, ReadBegins, ReadEnds, WriteBegins, WriteEnds, after_all}
+use Rattle.foyer_model.specs.Access.{BlockWrites}
+use Rattle.foyer_core.specs.Asked.{step_of}
+use Rattle.foyer_core.specs.Content.{Content, Meaning}
+use Rattle.foyer_core.specs.CoreRules.{layout, IsEncoded}
+use Rattle.foyer_core.specs.Refines.{machine}
+use Rattle.foyer_core.specs.Sizes.{AreValid}
+use Rattle.foyer_core.specs.Standing.{IsStateOf}
+use Rattle.foyer_core.specs.declared.reply.Reply.{Reply}
+use Rattle.foyer_core.specs.declared.reply.Reply.TheVariants as reply
+use Rattle.foyer_core.specs.declared.settings.Settings.{Settings}
+use Rattle.foyer_core.specs.declared.state.Core.{Core}
+use Rattle.foyer_core.specs.declared.step.Step.TheVariants as step
+use Rattle.foyer_run.specs.Accesses.{Says, Writes, writes_of}
+use Rattle.foyer_run.specs.Driven.{IsDriven}
+use Rattle.foyer_run.specs.Moves.{asked, AreMade, Makes, IsStepped}
+use Rattle.foyer_run.specs.Runs.{Runs}
+use Rattle.foyer_run.specs.Waiting.{AllSteps, IsWaiting, IsClosing, DrivesBy, Waits, Closes}
+use Rattle.foyer_run.specs.declared.moves.Asked.{Asked}
+use Rattle.foyer_run.specs.declared.moves.Asked.TheVariants as asks
+use Rattle.foyer_run.specs.declared.moves.Move.{Move}
+use Rattle.foyer_run.specs.declared.moves.Move.TheVariants as move
+use Rattle.foyer_run.proofs.RunLemmas.{after_more, happen_more}
+
+all_join : {C : Type 0} (Is : model_step.Step C → Type 0) (one two : List (WorldEvent C)) → AllSteps Is one → AllSteps Is two → AllSteps Is (one ++ two)
+all_join Is [] two all others = others
+all_join Is (Applies given answer after ∷ one) two all others = (all.0, all_join Is one two all.1 others)
+all_join Is (event ∷ one) two all others = all_join Is one two all others
+
+closing_join : {C : Type 0} (one two : List (WorldEvent C)) → IsClosing one → AllSteps IsWaiting two → IsClosing (one ++ two)
+closing_join [] two is others = absurd is
+closing_join (Applies model_step.Close answer after ∷ one) two is others = all_join IsWaiting one two is others
+closing_join (event ∷ one) two is others = absurd is
+
+module _ {K V P A : Type 0} (m : Meaning K V P) where
+  -- the steps that a move may make are of this kind
+  abbrev MakesOnly : (model_step.Step Content → Type 0) → Asked K V P A → Type 0
+  MakesOnly Is (asks.Step given) = Is (step_of m given)
+  MakesOnly Is (asks.FlushBlock f) = Is (model_step.FlushBlock f)
+  MakesOnly Is (asks.LoadEnd n) = (t : model_step.Ticket) (came : model_step.ReadResult) → Is (model_step.LoadEnd t came)
+  MakesOnly Is (asks.FlushWrote f) = (is_ok : Bool) → Is (model_step.FlushWrote f is_ok)
+  MakesOnly Is asks.Nothing = Unit {0}
+
+  abbrev AllMake : (model_step.Step Content → Type 0) → List (Move K V P A) → Type 0
+  AllMake Is [] = Unit {0}
+  AllMake Is (x ∷ xs) = MakesOnly Is (asked x) × AllMake Is xs
+
+  stepped_only : (Is : model_step.Step Content → Type 0) (given : _) (events : List (WorldEvent Content)) (said : List (Reply K V P A)) → IsStepped m given events said → Is (step_of m given) → AllSteps Is events
+  stepped_only Is given events said (inl applied) is = subst (AllSteps Is) (sym (applied.1).is) (is, tt)
+  stepped_only Is given events said (inr later) is = subst (AllSteps Is) (sym later.is) tt
+
+  makes_only : (Is : model_step.Step Content → Type 0) (first : ℕ) (block_writes : ℕ → BlockWrites) (w : World Content) (x : Asked K V P A) (events : List (WorldEvent Content)) (said : List (Reply K V P A))
+      → Makes m first block_writes w x events said → MakesOnly Is x → AllSteps Is events
+  makes_only Is first block_writes w (asks.Step given) events said made is = stepped_only Is given events said made is
+  makes_only Is first block_writes w (asks.FlushBlock f) events said made is = stepped_only Is (step.FlushBlock f) events said made is
+  makes_only Is first block_writes w (asks.LoadEnd n) events said (inl passed) is = subst (AllSteps Is) (sym (passed.0).0) tt
+  makes_only Is first block_writes w (asks.LoadEnd n) events said (inr (t, came, due, applied)) is = subst (AllSteps Is) (sym applied.is) (is t came, tt)
+  makes_only Is first block_writes w (asks.FlushWrote f) events said (inl passed) is = subst (AllSteps Is) (sym (passed.0).0) tt
+  makes_only Is first block_writes w (asks.FlushWrote f) events said (inr (is_ok, torn, due, applied)) is = subst (AllSteps Is) (sym applied.is) (is is_ok, tt)
+  makes_only Is first block_writes w asks.Nothing events said made is = subst (AllSteps Is) (sym made.0) tt
+
+  made_only : (s : Settings) (sound : AreValid s) (Is : model_step.Step Content → Type 0) (first : ℕ) (block_writes : ℕ → BlockWrites) (moves : List (Move K V P A)) (w : World Content) (events : List (WorldEvent Content)) (said : List (Reply K V P A))
+      → AreMade m s sound first block_writes w moves events said → AllMake Is moves → AllSteps Is events
+  made_only s sound Is first block_writes [] w events said made all = subst (AllSteps Is) (sym made.0) tt
+  made_only s sound Is first block_writes (x ∷ xs) w events said made all =
+      subst (AllSteps Is) (sym made.is) (all_join Is made.now made.later
+      (makes_only Is first block_writes w (asked x) made.now made.answers made.made all.0)
+      (made_only s sound Is first block_writes xs (after_all (machine m s sound) w made.now) made.later made.others made.more all.1))
+
+  -- a run of such moves
+  runs_by : (Is : model_step.Step Content → Type 0) (moves : List (Move K V P A)) (said : List (Reply K V P A)) (a b : Core K V P A) (x y : ℕ → ℕ → ℕ)
+      → AllMake Is moves → Runs m moves said a b x y → DrivesBy (AllSteps Is) m a b x y
+  runs_by Is moves said a b x y all runs s sound w stands same =
+      let run = runs s sound w stands same in
+      (record { events = run.events; happened = run.happened; stands = run.stands; same = run.same }, made_only s sound Is w.issued w.block_writes moves w run.events said run.made all)
+
+  -- nothing happens
+  pub waits_none : (core : Core K V P A) (bytes : ℕ → ℕ → ℕ) → Waits m core core bytes bytes
+  waits_none core bytes s sound w stands same = (record { events = []; happened = tt; stands = stands; same = same }, tt)
+
+  -- one after the other
+  pub waits_more : (a b c : Core K V P A) (x y z : ℕ → ℕ → ℕ) → Waits m a b x y → Waits m b c y z → Waits m a c x z
+  waits_more a b c x y z first then s sound w stands same =
+      let one = first s sound w stands same in
+      let rules = machine m s sound in
+      let v = after_all rules w (one.0).events in
+      let two = then s sound v (one.0).stands (one.0).same in (
+        record {
+          events = (one.0).events ++ (two.0).events;
+          happened = happen_more rules (layout s) (IsEncoded m.is_key m.is_value) w (one.0).events (two.0).events (one.0).happened (two.0).happened;
+          stands = subst (λ u. IsStateOf m s c u.core) (sym (after_more rules w (one.0).events (two.0).events)) (two.0).stands;
+          same = λ b o. ap (λ u. u.bytes b o) (after_more rules w (one.0).events (two.0).events) ∙ (two.0).same b o;
+        },
+        all_join IsWaiting (one.0).events (two.0).events one.1 two.1,
+      )
+
+  -- one step of a wait
+  pub waits_said : (y : Move K V P A) (last : Reply K V P A) (a b : Core K V P A) (bytes : ℕ → ℕ → ℕ) → MakesOnly IsWaiting (asked y) → Says m (y ∷ []) last a b bytes bytes → Waits m a b bytes bytes
+  waits_said y last a b bytes is says = runs_by IsWaiting (y ∷ []) (says.before ++ last ∷ []) a b bytes bytes (is, tt) says.runs
+
+  writes_wait : (f n : ℕ) → AllMake IsWaiting (replicate n (move.FlushWrote f))
+  writes_wait f zero = tt
+  writes_wait f (suc n) = ((λ is_ok. tt), writes_wait f n)
+
+  -- a block and its writes
+  pub waits_wrote : (f : ℕ) (last : Option (Reply K V P A)) (a b : Core K V P A) (x y : ℕ → ℕ → ℕ) → Writes m f last a b x y → Waits m a b x y
+  waits_wrote f None a b x y all =
+      runs_by IsWaiting (writes_of f (length all.writes.items)) (reply.Write all.block all.writes ∷ replicate (length all.writes.items) reply.Next) a b x y (tt, writes_wait f (length all.writes.items)) all.runs
+  waits_wrote f (Some last) a b x y until =
+      runs_by IsWaiting (writes_of f until.count) ((until.says).before ++ last ∷ []) a b x y (tt, writes_wait f until.count) (until.says).runs
+
+  -- a Close
+  pub closes_said : (last : Reply K V P A) (a b : Core K V P A) (bytes : ℕ → ℕ → ℕ) → Says m (move.Close ∷ []) last a b bytes bytes → Closes m a b bytes bytes
+  closes_said last a b bytes says s sound w stands same =
+      let run = (says.runs) s sound w stands same in
+      (record { events = run.events; happened = run.happened; stands = run.stands; same = run.same }, subst IsClosing (sym (run.made).is) (go (run.made).now (run.made).later ((run.made).more).0 (run.made).made))
+    where
+      go : (now later : List (WorldEvent Content)) {said : List (Reply K V P A)} → later ≡ [] → IsStepped m step.Close now said → IsClosing (now ++ later)
+      go now later none (inl applied) = subst (λ l. IsClosing (now ++ l)) (sym none) (subst (λ n. IsClosing (n ++ [])) (sym (applied.1).is) tt)
+      go now later none (inr not) = absurd (not.later tt)
+
+  -- and a wait behind it
+  pub closes_more : (a b c : Core K V P A) (x y z : ℕ → ℕ → ℕ) → Closes m a b x y → Waits m b c y z → Closes m a c x z
+  closes_more a b c x y z first then s sound w stands same =
+      let one = first s sound w stands same in
+      let rules = machine m s sound in
+      let v = after_all rules w (one.0).events in
+      let two = then s sound v (one.0).stands (one.0).same in (
+        record {
+          events = (one.0).events ++ (two.0).events;
+          happened = happen_more rules (layout s) (IsEncoded m.is_key m.is_value) w (one.0).events (two.0).events (one.0).happened (two.0).happened;
+          stands = subst (λ u. IsStateOf m s c u.core) (sym (after_more rules w (one.0).events (two.0).events)) (two.0).stands;
+          same = λ b o. ap (λ u. u.bytes b o) (after_more rules w (one.0).events (two.0).events) ∙ (two.0).same b o;
+        },
+        closing_join (one.0).events (two.0).events one.1 two.1,
+      )

@@ -1,0 +1,42 @@
+//! The example of the README, word for word, and what it gives.
+use foyer_core::apply::Env;
+use foyer_core::reply::Reply;
+use foyer_core::settings::Settings;
+use foyer_core::state::Core;
+use foyer_core::step::Step;
+use foyer_device::error::Result;
+use foyer_format::serde::EntrySerializer;
+use foyer_policy::keeper::Piece;
+use foyer_serve::engine::{Answer, Engine, NoProperties};
+use std::alloc::Global;
+use std::test::Fail;
+
+/// A core by itself gives one reply to each step, and touches no disk.
+fn first_sequence(alloc: Global) -> Result<Option<u64>> {
+    let mut core = Core::open(alloc, Settings::new(1, 16384))?;
+    let value = String::from_str(alloc, "a")?;
+    let piece = Piece::new(alloc, 1u64, value, 1, NoProperties)?;
+    let size = EntrySerializer::estimated_size::<Global, u64, String>(piece.key(), piece.value());
+    match core.apply(&mut Env {}, Step::Enqueue { piece, size }) {
+        Reply::Queued(sequence) => Ok(Some(sequence)),
+        _ => Ok(None),
+    }
+}
+
+/// The program's engine drives a core over a disk in memory.
+fn is_read_back(alloc: Global) -> Result<bool> {
+    let mut engine = Engine::open(alloc, Settings::new(1, 16384))?;
+    let _ = engine.put(1, "a");
+    let _ = engine.wait();
+    match engine.get(1) {
+        Answer::Entry(text) => Ok(text.as_str() == "a"),
+        _ => Ok(false),
+    }
+}
+
+#[test]
+fn the_example_of_the_readme_runs(rt: HostRuntime) -> std::result::Result<(), Fail> {
+    assert!(rt; first_sequence(rt.alloc())? == Some(1));
+    assert!(rt; is_read_back(rt.alloc())?);
+    Ok(())
+}
