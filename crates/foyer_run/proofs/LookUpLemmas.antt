@@ -10,7 +10,7 @@ use Rattle.foyer_model.specs.Ids.{without_id}
 use Rattle.foyer_model.specs.Kept.{unless}
 use Rattle.foyer_model.specs.Load.{Ends, Judges, judged}
 use Rattle.foyer_model.specs.Numbers.{put}
-use Rattle.foyer_model.specs.Receive.{Takes}
+use Rattle.foyer_model.specs.Receive.{TakesFront}
 use Rattle.foyer_model.specs.Reclaim.{Forgets, Lists, Rereads, Scanned, stage_after, stage_behind, issued_at}
 use Rattle.foyer_model.specs.Record.{IndexEntry, Outcome, NoRecord, NotSupported, Undecodable, Holds}
 use Rattle.foyer_model.specs.Reply.{Reply, Read, Picked, Cleared, Done, Listed}
@@ -37,7 +37,7 @@ module _ {C : Type 0} (rules : Rules C) (Splits : Splitting C) (is_value : C →
     abbrev issued : Reply C
     issued = Read t
 
-    takes_none : (f : ℕ) (queue : List (Submission C)) → Takes rules old f queue (Read t) new → ⊥
+    takes_none : (f : ℕ) (queue : List (Submission C)) → TakesFront rules old f queue (Read t) new → ⊥
     takes_none f [] ok = ok
     takes_none f (Piece h s n c ∷ rest) ok = ok
     takes_none f (Remove h s invalidated ∷ rest) ok = ok

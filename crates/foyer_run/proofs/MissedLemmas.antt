@@ -66,6 +66,7 @@ module _ {K V P A : Type 0} (m : Meaning K V P) where
   put_or_fault c (reply.Refused kind.SequenceEnd back) it (k, issued, is) what = absurd (of_kind c model_reply.SequenceEnd k (step_of m back) issued (subst (Gives c) is what))
   put_or_fault c (reply.Refused why back) it (k, issued, is) what = absurd (let e : None ≡ Some k = issued in cc)
   put_or_fault c (reply.Began blocks marks) it (ss, count, is) what = absurd (subst (Gives c) is what)
+  put_or_fault c (reply.Ended pieces waits) it (ps, same, is) what = absurd (subst (Gives c) is what)
   put_or_fault c (reply.Scan b o n) it is what = absurd is
   put_or_fault c reply.Listed it is what = absurd is
   put_or_fault c (reply.Clean b) it is what = absurd is
@@ -78,6 +79,7 @@ module _ {K V P A : Type 0} (m : Meaning K V P) where
   issues_read : (answer : Reply K V P A) (t : model_step.Ticket) → IsReply m answer (model_reply.Read t) → (ticket : Ticket) × (ticket_in answer ≡ Some ticket)
   issues_read (reply.Read ticket) t is = (ticket, refl)
   issues_read (reply.Began blocks marks) t (ss, count, is) = absurd (cc)
+  issues_read (reply.Ended pieces waits) t (ps, same, is) = absurd (cc)
   issues_read (reply.Scan b o n) t is = absurd is
   issues_read reply.Listed t is = absurd is
   issues_read (reply.Clean b) t is = absurd is
