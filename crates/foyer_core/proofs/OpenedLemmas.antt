@@ -105,6 +105,7 @@ module _ {K V P A : Type 0} (m : Meaning K V P) (s : Settings) (sound : AreValid
     flushers = subst (λ xs. AreFlushersAs m s xs (λ f. plain_idle (machine m s sound))) (sym opened.flushers) (record {
       count = replicate_count s.flushers (idle s.blob_index_size);
       all = λ f x is. idle_stands x (replicate_at s.flushers f (idle s.blob_index_size) x is);
+      beyond = λ f over. (refl, refl, refl, refl, refl);
     });
     queued = record {
       sum = opened.queued ∙ sym (no_sizes s.flushers (machine m s sound));

@@ -3,6 +3,7 @@ use Rattle.std.proofs.Common.{◌≡◌, ℕ, zero, suc, ◌+◌, ◌<◌, ◌�
 use Rattle.std.proofs.lemmas.Bool.Decides.{nat_tests}
 use Rattle.std.proofs.lemmas.Option.{slice_get_read, slice_get-map}
 use Rattle.foyer_model.specs.Numbers.{put, plus, last_number}
+use Rattle.foyer_model.specs.Destroy.{IsIdle}
 use Rattle.foyer_model.specs.Queue.{queue_size, size_queued}
 use Rattle.foyer_model.specs.State as model_state
 use Rattle.foyer_model.proofs.Basics.{put_at, put_same, put_other}
@@ -45,7 +46,7 @@ pub some_is : {X : Type 0} {x y : X} → Some x ≡ Some y → x ≡ y
 some_is e = cc
 
 module _ {K V P A : Type 0} (m : Meaning K V P) (s : Settings) where
-  -- as many flushers as the sizes issue
+  -- as many flushers as the sizes say
   pub flushers_count : (φs : List (Flusher K V P A)) (its : ℕ → model_state.Flusher Content)
       → AreFlushersAs m s (map seen φs) its → length φs ≡ s.flushers
   flushers_count φs its are = sym (map_count seen φs) ∙ are.count
@@ -65,6 +66,7 @@ module _ {K V P A : Type 0} (m : Meaning K V P) (s : Settings) where
     all = λ g x is. put_at (λ it. IsFlusherAs m s x it) its f after g
         (λ same. subst (λ x. IsFlusherAs m s x after) (some_is (sym (here g same) ∙ is)) stands)
         (λ ne. are.all g x (sym (ap (λ xs. slice_get xs g) (set_map seen φs f ψ) ∙ set_there (map seen φs) f g (seen ψ) ne) ∙ is));
+    beyond = λ g over. subst IsIdle (sym (put_other its f after g (λ same. let c : length φs ≡ s.flushers = flushers_count φs its are in omega arith))) (are.beyond g over);
   }
     where
       here : (g : ℕ) → g ≡ f → slice_get (map seen (slice_set φs f ψ)) g ≡ Some (seen ψ)
@@ -80,6 +82,7 @@ module _ {K V P A : Type 0} (m : Meaning K V P) (s : Settings) where
       record {
         count = changed.count;
         all = λ g x is. subst (λ k. IsFlusherAs m s x k) (put_at (λ k. k ≡ its g) its f (its f) g (λ e. ap its (sym e)) (λ ne. refl)) (changed.all g x is);
+        beyond = are.beyond;
       }
 
   -- a core that is unchanged stands for the same states

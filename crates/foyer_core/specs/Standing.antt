@@ -5,6 +5,7 @@ use Rattle.foyer_block.specs.Index.{IndexMap}
 use Rattle.foyer_block.specs.declared.indexer.EntryAddress.{EntryAddress}
 use Rattle.foyer_block.specs.declared.indexer.Index.{Index}
 use Rattle.foyer_block.specs.declared.indexer.Index.TheVariants.{Address, Tombstone}
+use Rattle.foyer_model.specs.Destroy.{IsIdle}
 use Rattle.foyer_model.specs.Ids.{AreDistinct}
 use Rattle.foyer_model.specs.Record as model_record
 use Rattle.foyer_model.specs.State as model_state
@@ -55,10 +56,11 @@ pub record AreCleanAs (s : Settings) (ids : List ℕ) (clean : List ℕ) : Type 
   pub there : AllBelow s.blocks ids
   pub once : AreDistinct ids
 
--- the flushers by their numbers
+-- the flushers by their numbers; beyond them nothing waits anywhere
 pub record AreFlushersAs {K V P A : Type 0} (m : Meaning K V P) (s : Settings) (φs : List (Seen K V P A)) (its : ℕ → model_state.Flusher Content) : Type 0 where
   pub count : length φs ≡ s.flushers
   pub all : (f : ℕ) (φ : Seen K V P A) → slice_get φs f ≡ Some φ → IsFlusherAs m s φ (its f)
+  pub beyond : (f : ℕ) → s.flushers ≤ f → IsIdle (its f)
 
 -- the sizes of a queue's pieces
 abbrev pub size_in : {C : Type 0} → List (model_state.Submission C) → ℕ

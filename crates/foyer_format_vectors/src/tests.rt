@@ -1,5 +1,6 @@
 mod batches;
 mod buffers;
 mod codes;
+mod errors;
 mod formats;
 mod indices;

@@ -36,7 +36,11 @@ fn is_encoded<C: Code<Global> + PartialEq + Drop>(
 }
 
 // The same, where memory is ample.
-fn is_encodable<C: Code<Global> + PartialEq + Drop>(alloc: Global, value: &C, bytes: &[u8]) -> bool {
+fn is_encodable<C: Code<Global> + PartialEq + Drop>(
+    alloc: Global,
+    value: &C,
+    bytes: &[u8],
+) -> bool {
     matches!(is_encoded(alloc, value, bytes), Ok(true))
 }
 
