@@ -1,0 +1,3 @@
+//! What the engine's disk is made of.
+
+pub mod engine;

@@ -1,0 +1,4 @@
+//! Engines that read and write the partitions of a device.
+#![tactic(auto)]
+
+pub mod io;

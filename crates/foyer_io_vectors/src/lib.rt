@@ -1,0 +1,5 @@
+//! Tests of devices and engines, with the worked rows.
+#![tactic(auto)]
+
+#[cfg(test)]
+mod tests;
