@@ -1,0 +1,4 @@
+pub mod IndexBytesLemmas
+pub mod WalkLemmas
+pub mod RunLemmas
+pub mod ScanLemmas

@@ -1,0 +1,14 @@
+pub mod ClearingLemmas
+pub mod ConsultLemmas
+pub mod BlockStateLemmas
+pub mod IdLemmas
+pub mod InitialLemmas
+pub mod ManagedLemmas
+pub mod MarkLemmas
+pub mod MayLemmas
+pub mod ModelPickLemmas
+pub mod QueueLemmas
+pub mod StandsLemmas
+pub mod StatisticsLemmas
+pub mod WaitingLemmas
+pub mod WorstLemmas

@@ -1,0 +1,11 @@
+pub mod BlockSets
+pub mod Clearing
+pub mod Existence
+pub mod IdList
+pub mod Initial
+pub mod Managed
+pub mod ModelPicks
+pub mod Pickers
+pub mod Picks
+pub mod Queues
+pub mod Statistics

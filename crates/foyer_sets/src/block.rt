@@ -1,0 +1,10 @@
+//! Blocks.
+
+pub mod eviction;
+mod fifo;
+mod ids;
+pub mod manager;
+mod picker;
+mod queue;
+mod ratio;
+pub mod states;

@@ -1,0 +1,67 @@
+//! A picker of any kind.
+ghost use Rattle.std.specs.Prelude.{◌≡◌, ℕ, List, [], Option};
+ghost use Rattle.foyer_device.specs.declared.error.Error.TheVariants.{Memory};
+
+use crate::block::eviction::{EvictionInfo, EvictionPicker};
+use crate::block::fifo::FifoPicker;
+use crate::block::ratio::InvalidRatioPicker;
+use foyer_block::manager::BlockId;
+use foyer_device::error::Result;
+use std::alloc::Global;
+
+/// One of the pickers of this crate, held by value, or another one that the caller has boxed.
+#[derive(Drop)]
+pub enum AnyPicker {
+    InvalidRatio(InvalidRatioPicker),
+    Fifo(FifoPicker),
+    Boxed(Box<dyn EvictionPicker + Send>),
+}
+
+impl EvictionPicker for AnyPicker {
+    ghost use Rattle.foyer_sets.specs.Pickers.{Info, fifo_answer, fifo_marks, ratio_answer};
+    ghost use Rattle.foyer_sets.specs.declared.block.picker.AnyPicker.TheVariants.{InvalidRatio, Fifo, Boxed};
+
+    ghost answer = { λ p info. elim p as (λ _. Option ℕ) [
+      | InvalidRatio q ↦ ratio_answer q.num q.den q.block_size info
+      | Fifo q ↦ fifo_answer q info
+      | Boxed q ↦ (EvictionPicker-box q).answer q.value info
+    ] };
+
+    ghost marks = { λ p info. elim p as (λ _. List ℕ) [
+      | InvalidRatio q ↦ []
+      | Fifo q ↦ fifo_marks q info
+      | Boxed q ↦ (EvictionPicker-box q).marks q.value info
+    ] };
+
+    fn init(&mut self, alloc: Global, blocks: &[BlockId], block_size: usize) -> Result<()> {
+        match self {
+            AnyPicker::InvalidRatio(picker) => picker.init(alloc, blocks, block_size),
+            AnyPicker::Fifo(picker) => picker.init(alloc, blocks, block_size),
+            AnyPicker::Boxed(picker) => picker.init(alloc, blocks, block_size),
+        }
+    }
+
+    fn pick(&self, info: EvictionInfo<'_>, probation: &mut Vec<BlockId>) -> Option<BlockId> {
+        match self {
+            AnyPicker::InvalidRatio(picker) => picker.pick(info, probation),
+            AnyPicker::Fifo(picker) => picker.pick(info, probation),
+            AnyPicker::Boxed(picker) => picker.pick(info, probation),
+        }
+    }
+
+    fn on_block_evictable(&mut self, info: EvictionInfo<'_>, block: BlockId) {
+        match self {
+            AnyPicker::InvalidRatio(picker) => picker.on_block_evictable(info, block),
+            AnyPicker::Fifo(picker) => picker.on_block_evictable(info, block),
+            AnyPicker::Boxed(picker) => picker.on_block_evictable(info, block),
+        }
+    }
+
+    fn on_block_evict(&mut self, info: EvictionInfo<'_>, block: BlockId) {
+        match self {
+            AnyPicker::InvalidRatio(picker) => picker.on_block_evict(info, block),
+            AnyPicker::Fifo(picker) => picker.on_block_evict(info, block),
+            AnyPicker::Boxed(picker) => picker.on_block_evict(info, block),
+        }
+    }
+}

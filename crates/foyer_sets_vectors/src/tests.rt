@@ -1,0 +1,3 @@
+mod manager;
+mod pickers;
+mod scans;
