@@ -14,8 +14,8 @@ ghost use Rattle.foyer_run.specs.declared.moves.Move.{Move};
 ghost use Rattle.foyer_run.specs.Running.{IsFree};
 ghost use Rattle.foyer_run.specs.Runs.{IsFront};
 
-use crate::disk::Disk;
-use crate::moves::{do_read, do_write, wants_next_write};
+use crate::disk::{Disk, do_read, do_write};
+use crate::moves::wants_next_write;
 use foyer_core::apply::Env;
 use foyer_core::reply::Reply;
 use foyer_core::state::Core;

@@ -1,11 +1,14 @@
 //! What the core's accesses go to.
-ghost use Rattle.std.specs.Prelude.{◌≡◌, ◌≤◌, ℕ, length, vec_len, vec_capacity, IsOk, IfErr, OnOk, OnErr};
+ghost use Rattle.std.specs.Prelude.{◌≡◌, ◌≤◌, ℕ, length, vec_len, vec_capacity, IsOk, IfOk, IfErr, OnOk, OnErr};
 ghost use Rattle.foyer_device.specs.declared.error.Error.{Error as error};
+ghost use Rattle.foyer_format.specs.Page.{page_up};
 ghost use Rattle.foyer_run.specs.Disk.{IsRead, IsWritten, IsTorn};
 
 use foyer_block::manager::BlockId;
+use foyer_core::reply::Write;
+use foyer_core::step::Ticket;
 use foyer_device::error::Result;
-use std::alloc::Allocator;
+use std::alloc::{AllocError, Allocator};
 
 /// Blocks of bytes. Its bytes stay but for what `write` changes.
 pub trait Disk {
@@ -48,4 +51,42 @@ pub trait Disk {
         ensures succeeds { surely_has self.old block offset (length bytes.now) → IsOk result }
         ensures within { OnOk result (may_have self.old block offset (length bytes.now)) }
         ensures fault { IfErr result (may_answer self.old) };
+}
+
+/// Does the read that a ticket issues. `Err` is a refused allocation; a fault of the disk is the step's result.
+pub fn do_read<A: Allocator, D: Disk>(
+    alloc: A,
+    disk: &mut D,
+    ticket: &Ticket,
+) -> std::result::Result<Result<Vec<u8, A>>, AllocError>
+    ensures read { IfOk result (λ outcome. IfOk outcome (λ bytes.
+        IsRead (D.byte_at disk.old) ticket.now.address.block ticket.now.address.offset bytes.items)) }
+    ensures len { IfOk result (λ outcome. IfOk outcome (λ bytes.
+        vec_len bytes ≡ page_up ticket.now.address.len)) }
+    ensures succeeds { D.surely_has disk.old ticket.now.address.block ticket.now.address.offset (page_up ticket.now.address.len)
+        → IfOk result IsOk }
+    ensures within { IfOk result (λ outcome. OnOk outcome (D.may_have disk.old ticket.now.address.block ticket.now.address.offset (page_up ticket.now.address.len))) }
+    ensures fault { IfOk result (λ outcome. IfErr outcome (D.may_answer disk.old)) }
+    ensures same { D.byte_at disk.new ≡ D.byte_at disk.old }
+{
+    let len = ticket.read_len();
+    let mut bytes = Vec::with_capacity(alloc, len)?;
+    let (block, offset) = (ticket.address.block, ticket.address.offset as usize);
+    match disk.read(block, offset, len, &mut bytes) {
+        Ok(()) => Ok(Ok(bytes)),
+        Err(error) => Ok(Err(error)),
+    }
+}
+
+/// Does a write that a reply issues.
+pub fn do_write<A: Allocator, D: Disk>(disk: &mut D, block: BlockId, write: &Write<A>) -> Result<()>
+    ensures wrote { OnOk result
+        (IsWritten (D.byte_at disk.old) block write.now.offset write.now.bytes.items (D.byte_at disk.new)) }
+    ensures torn { OnErr result
+        (IsTorn (D.byte_at disk.old) block write.now.offset (vec_len write.now.bytes) (D.byte_at disk.new)) }
+    ensures succeeds { D.surely_has disk.old block write.now.offset (vec_len write.now.bytes) → IsOk result }
+    ensures within { OnOk result (D.may_have disk.old block write.now.offset (vec_len write.now.bytes)) }
+    ensures fault { IfErr result (D.may_answer disk.old) }
+{
+    disk.write(block, write.offset, write.bytes.as_slice())
 }

@@ -8,7 +8,7 @@ ghost use Rattle.foyer_run.specs.Moves.{asked};
 ghost use Rattle.foyer_run.specs.Running.{AsksFreely, IsFree, Moves, ticket_in, block_in, with_ticket, write_at, at};
 ghost use Rattle.foyer_run.specs.Runs.{Runs, IsFront};
 
-use crate::disk::Disk;
+use crate::disk::{Disk, do_read, do_write};
 use foyer_block::manager::BlockId;
 use foyer_core::apply::Env;
 use foyer_core::reply::{Reply, Write};
@@ -99,44 +99,6 @@ struct Kept<K, V, P, A: Allocator> {
     tickets: Vec<Option<Ticket>, A>,
     issued: Vec<Option<Issued>, A>,
     replies: Vec<Reply<K, V, P, A>, A>,
-}
-
-/// Does the read that a ticket issues. `Err` is a refused allocation; a fault of the disk is the step's result.
-pub fn do_read<A: Allocator, D: Disk>(
-    alloc: A,
-    disk: &mut D,
-    ticket: &Ticket,
-) -> std::result::Result<Result<Vec<u8, A>>, AllocError>
-    ensures read { IfOk result (λ outcome. IfOk outcome (λ bytes.
-        IsRead (D.byte_at disk.old) ticket.now.address.block ticket.now.address.offset bytes.items)) }
-    ensures len { IfOk result (λ outcome. IfOk outcome (λ bytes.
-        vec_len bytes ≡ page_up ticket.now.address.len)) }
-    ensures succeeds { D.surely_has disk.old ticket.now.address.block ticket.now.address.offset (page_up ticket.now.address.len)
-        → IfOk result IsOk }
-    ensures within { IfOk result (λ outcome. OnOk outcome (D.may_have disk.old ticket.now.address.block ticket.now.address.offset (page_up ticket.now.address.len))) }
-    ensures fault { IfOk result (λ outcome. IfErr outcome (D.may_answer disk.old)) }
-    ensures same { D.byte_at disk.new ≡ D.byte_at disk.old }
-{
-    let len = ticket.read_len();
-    let mut bytes = Vec::with_capacity(alloc, len)?;
-    let (block, offset) = (ticket.address.block, ticket.address.offset as usize);
-    match disk.read(block, offset, len, &mut bytes) {
-        Ok(()) => Ok(Ok(bytes)),
-        Err(error) => Ok(Err(error)),
-    }
-}
-
-/// Does a write that a reply issues.
-pub fn do_write<A: Allocator, D: Disk>(disk: &mut D, block: BlockId, write: &Write<A>) -> Result<()>
-    ensures wrote { OnOk result
-        (IsWritten (D.byte_at disk.old) block write.now.offset write.now.bytes.items (D.byte_at disk.new)) }
-    ensures torn { OnErr result
-        (IsTorn (D.byte_at disk.old) block write.now.offset (vec_len write.now.bytes) (D.byte_at disk.new)) }
-    ensures succeeds { D.surely_has disk.old block write.now.offset (vec_len write.now.bytes) → IsOk result }
-    ensures within { OnOk result (D.may_have disk.old block write.now.offset (vec_len write.now.bytes)) }
-    ensures fault { IfErr result (D.may_answer disk.old) }
-{
-    disk.write(block, write.offset, write.bytes.as_slice())
 }
 
 // What a move asks for.

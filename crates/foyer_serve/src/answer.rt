@@ -1,4 +1,8 @@
 //! The lines that the program prints.
+ghost use Rattle.std.specs.Prelude.{◌≡◌, OnOk};
+ghost use Rattle.std.specs.Io.KnownBytes.{Appends};
+ghost use Rattle.foyer_serve.specs.Lines.{ended, fault_text, kind_name, text_of};
+
 use crate::engine::Answer;
 use foyer_device::error::ErrorKind;
 use std::alloc::Allocator;
@@ -6,7 +10,9 @@ use std::io;
 use std::io::Write;
 
 /// The name of a kind of error, as a fault prints it.
-pub fn name_of(kind: ErrorKind) -> &'static str {
+pub fn name_of(kind: ErrorKind) -> &'static str
+    ensures { result.now ≡ kind_name kind }
+{
     match kind {
         ErrorKind::Io => "Io",
         ErrorKind::Memory => "Memory",
@@ -25,14 +31,20 @@ pub fn name_of(kind: ErrorKind) -> &'static str {
 }
 
 /// Prints `fault` and the kind's name.
-pub fn print_fault<W: Write>(output: &mut W, kind: ErrorKind) -> io::Result<()> {
+pub fn print_fault<W: Write>(output: &mut W, kind: ErrorKind) -> io::Result<()>
+    ensures { OnOk result
+        (Appends (W.contents output.old) (W.contents output.new) (ended (fault_text kind))) }
+{
     output.write_all(b"fault ")?;
     output.write_all(name_of(kind).as_bytes())?;
     output.write_all(b"\n")
 }
 
 /// Prints an answer's line.
-pub fn print<W: Write, A: Allocator>(output: &mut W, answer: &Answer<A>) -> io::Result<()> {
+pub fn print<W: Write, A: Allocator>(output: &mut W, answer: &Answer<A>) -> io::Result<()>
+    ensures { OnOk result
+        (Appends (W.contents output.old) (W.contents output.new) (ended (text_of answer.now))) }
+{
     match answer {
         Answer::Queued => output.write_all(b"queued\n"),
         Answer::Ignored => output.write_all(b"ignored\n"),

@@ -1,5 +1,8 @@
 //! The lines that the program understands.
-ghost use Rattle.std.specs.Prelude.{◌<◌, IfSome};
+ghost use Rattle.std.specs.Prelude.{◌≡◌, ℕ, ◌-◌, ◌<◌, IfSome, MatchOption, slice_index};
+ghost use Rattle.foyer_serve.specs.declared.command.Command.{Command};
+ghost use Rattle.std.specs.Char.{IsAsciiDigit, IsNotAsciiDigit};
+ghost use Rattle.foyer_serve.specs.Lines.{AreFour, IsLine, IsNumber};
 
 use memchr::memchr;
 
@@ -16,7 +19,9 @@ pub enum Command<'a> {
 
 // A digit's number. None for any other byte.
 fn digit(byte: u8) -> Option<u64>
-    ensures { IfSome result (λ n. n < 10) }
+    ensures small { IfSome result (λ n. n < 10) }
+    ensures value { MatchOption result (IsNotAsciiDigit byte)
+        (λ n. IsAsciiDigit byte × (n ≡ byte - 48)) }
 {
     if byte.is_ascii_digit() {
         Some(u64::from(byte - b'0'))
@@ -25,27 +30,42 @@ fn digit(byte: u8) -> Option<u64>
     }
 }
 
+// The number of four digits. None where one is no digit.
+fn four_digits(four: &[u8; 4]) -> Option<u64>
+    ensures { MatchOption result
+        ((k : ℕ) × (k < 4) × IsNotAsciiDigit (slice_index four.now k)) (AreFour four.now) }
+{
+    let high = digit(four[0])? * 10 + digit(four[1])?;
+    let low = digit(four[2])? * 10 + digit(four[3])?;
+    Some(high * 100 + low)
+}
+
 /// A number of decimal digits alone, at most `u64::MAX`.
-pub fn number(digits: &[u8]) -> Option<u64> {
+pub fn number(digits: &[u8]) -> Option<u64>
+    ensures { MatchOption result ((n : ℕ) → ¬ (IsNumber digits.now n)) (IsNumber digits.now) }
+{
     if digits.is_empty() {
         return None;
     }
     let (fours, rest) = digits.as_chunks::<4>();
     let mut value = 0u64;
     for four in fours {
-        let high = digit(four[0])? * 10 + digit(four[1])?;
-        let low = digit(four[2])? * 10 + digit(four[3])?;
-        value = value.checked_mul(10_000)?.checked_add(high * 100 + low)?;
+        let number = four_digits(four)?;
+        value = value.checked_mul(10_000)?.checked_add(number)?;
     }
     for byte in rest {
-        value = value.checked_mul(10)?.checked_add(digit(*byte)?)?;
+        let digit = digit(*byte)?;
+        value = value.checked_mul(10)?.checked_add(digit)?;
     }
     Some(value)
 }
 
 impl<'a> Command<'a> {
     /// Reads a line without its end. None where it is no command, or isn't UTF-8.
-    pub fn parse(line: &'a [u8]) -> Option<Command<'a>> {
+    pub fn parse(line: &'a [u8]) -> Option<Command<'a>>
+        ensures { MatchOption result ((c : Command) → ¬ (IsLine line.entry.now c))
+            (IsLine line.entry.now) }
+    {
         if let Some(rest) = line.strip_prefix(b"get ") {
             let key = number(rest)?;
             return Some(Command::Get { key });

@@ -1,6 +1,6 @@
 //! A script of every step that is built: each allocation refused in turn, and each call of its disk failed in turn.
 use crate::failing::Failing;
-use crate::tests::steps::{TestAge, TestCore, TestReply, Value, piece_of, word_of};
+use crate::tests::steps::{TestAge, TestCore, TestReply, Value, describe, piece_of};
 use foyer_core::apply::Env;
 use foyer_core::reply::Reply;
 use foyer_core::settings::Settings;
@@ -8,9 +8,8 @@ use foyer_core::state::Core;
 use foyer_core::step::{Step, Ticket};
 use foyer_device::error::{Error, ErrorKind, Result};
 use foyer_format_vectors::refusing::Refusing;
-use foyer_policy::keeper::Piece;
+use foyer_run::disk::{do_read, do_write};
 use foyer_run::memory::MemoryDisk;
-use foyer_run::moves::{do_read, do_write};
 use std::alloc::{AllocError, Allocator, Global};
 use std::fmt::Write as _;
 use std::test::Fail;
@@ -76,7 +75,7 @@ const GROWING: &str = "put delete wait receive begin block wrote load";
 const CALLS: u64 = 5;
 
 // More allocations than the script makes.
-const MOST_ALLOCATIONS: u64 = 2000;
+pub(crate) const MOST_ALLOCATIONS: u64 = 2000;
 
 // A line that isn't there.
 const NO_LINE: usize = usize::MAX;
@@ -195,57 +194,6 @@ fn step_of<A: Allocator + Clone>(
     }
 }
 
-// A number behind a blank.
-fn push_number(text: &mut String, number: u64) -> std::result::Result<(), AllocError> {
-    write!(text, " {number}")?;
-    Ok(())
-}
-
-// The keys of the pieces, and the waits.
-fn push_ended<A: Allocator>(
-    text: &mut String,
-    pieces: &[Piece<u64, Value<A>, TestAge, A>],
-    waits: &[u64],
-) -> std::result::Result<(), AllocError> {
-    for piece in pieces {
-        push_number(text, *piece.key())?;
-    }
-    text.push_str(" /")?;
-    for id in waits {
-        push_number(text, *id)?;
-    }
-    Ok(())
-}
-
-// Describes a reply in words, with what it carries.
-fn answer<A: Allocator>(
-    text: &mut String,
-    reply: &TestReply<A>,
-) -> std::result::Result<(), AllocError> {
-    text.push_str(word_of(reply))?;
-    match reply {
-        Reply::Refused(kind, _) => write!(text, " {kind:?}")?,
-        Reply::Queued(sequence) => push_number(text, *sequence)?,
-        Reply::Deleted(sequence) => push_number(text, *sequence)?,
-        Reply::Entry {
-            key: _,
-            value,
-            age: _,
-        } => write!(text, " {value}")?,
-        Reply::Began { blocks, marks } => {
-            push_number(text, *blocks as u64)?;
-            push_number(text, marks.len() as u64)?;
-        }
-        Reply::Write { block, writes: _ } => push_number(text, *block as u64)?,
-        Reply::Committed(count) => push_number(text, *count as u64)?,
-        Reply::Ended { pieces, waits } => {
-            push_ended(text, pieces.as_slice(), waits.as_slice())?;
-        }
-        _ => {}
-    }
-    Ok(())
-}
-
 // Applies a step, and where it is to come again one that is refused for memory once more.
 fn apply<A: Allocator + Clone>(driven: &mut Driven<A>, step: Life<A>) -> TestReply<A> {
     match driven.core.apply(&mut Env {}, step) {
@@ -275,7 +223,7 @@ fn answer<A: Allocator + Clone>(
         Err(error) => return push_fault(text, &error),
     };
     let reply = apply(driven, step);
-    answer(text, &reply)?;
+    describe(text, &reply)?;
     match &reply {
         Reply::Read(ticket) => driven.ticket = Some(*ticket),
         Reply::Write {
@@ -293,20 +241,20 @@ fn answer<A: Allocator + Clone>(
 
 // What a run of a script answered, a line each, and the line at which the heap refused.
 #[derive(Drop)]
-struct Run {
-    answers: String,
+pub(crate) struct Run {
+    pub(crate) answers: String,
     refused: usize,
 }
 
 // How a script is run: the call of the disk that fails, the line that is left out, and whether a refused step comes again.
 #[derive(Clone, Copy)]
-struct Way {
-    fails_at: u64,
-    omitted: usize,
-    comes_again: bool,
+pub(crate) struct Way {
+    pub(crate) fails_at: u64,
+    pub(crate) omitted: usize,
+    pub(crate) comes_again: bool,
 }
 
-const PLAIN: Way = Way {
+pub(crate) const PLAIN: Way = Way {
     fails_at: 0,
     omitted: NO_LINE,
     comes_again: false,
@@ -358,7 +306,12 @@ fn live(alloc: Global, heap: &Refusing<Global>, script: &str, way: Way) -> Resul
 }
 
 // A run on a heap that may refuse an allocation. None where this is what failed the opening.
-fn lived(alloc: Global, heap: &Refusing<Global>, script: &str, way: Way) -> Result<Option<Run>> {
+pub(crate) fn lived(
+    alloc: Global,
+    heap: &Refusing<Global>,
+    script: &str,
+    way: Way,
+) -> Result<Option<Run>> {
     match live(alloc, heap, script, way) {
         Ok(run) => Ok(Some(run)),
         Err(Error::Memory) if heap.has_refused() => Ok(None),
@@ -418,7 +371,7 @@ fn wanted_where(alloc: Global, call: u64) -> Result<String> {
 }
 
 #[test]
-fn each_failed_call_of_the_disk_is_told(rt: HostRuntime) -> std::result::Result<(), Fail> {
+fn each_failed_call_of_the_disk_is_reported(rt: HostRuntime) -> std::result::Result<(), Fail> {
     let alloc = rt.alloc();
     let heap = Refusing::new(alloc, 0);
     for fails_at in 0..CALLS + 2 {
@@ -492,7 +445,7 @@ fn is_as_another(
 // A refused step is as good as one that is left out, and a refused allocation of the index as good as a failed write: all
 // that is answered afterwards is what a run answers in which this happened, and no allocation is refused.
 #[test]
-fn each_refused_allocation_is_told(rt: HostRuntime) -> std::result::Result<(), Fail> {
+fn each_refused_allocation_is_reported(rt: HostRuntime) -> std::result::Result<(), Fail> {
     let alloc = rt.alloc();
     let ample = Refusing::new(alloc, 0);
     let whole = wanted_where(alloc, 0)?;
@@ -513,53 +466,4 @@ fn each_refused_allocation_is_told(rt: HostRuntime) -> std::result::Result<(), F
         );
     }
     Err(Fail::new("the script makes more allocations"))
-}
-
-// A put, its flush, a load, and a delete.
-const LIFE: &str = "put 1 a\nreceive\nbegin\nblock\nwrote\nend\nlook 1\nload\ndelete 1\nask 1\n";
-
-// The answers where the index has no room at the end of the block.
-const FAILED: &str =
-    "queued 1\nreceived\nbegan 1 0\nwrite 0\nfailed\nended 1 /\nmiss\nleft out\ndeleted 2\nno\n";
-
-const WHOLE: &str =
-    "queued 1\nreceived\nbegan 1 0\nwrite 0\ncommitted 1\nended 1 /\nread\nentry a\ndeleted 2\nno\n";
-
-// The answers where the driver has no room for its piece.
-const NO_PIECE: &str =
-    "no step Memory\nempty\nnot now\nnot now\nleft out\nnot now\nmiss\nleft out\ndeleted 1\nno\n";
-
-// The answers where the driver has no room for what it reads.
-const NO_READ: &str =
-    "queued 1\nreceived\nbegan 1 0\nwrite 0\ncommitted 1\nended 1 /\nread\nno step Memory\ndeleted 2\nno\n";
-
-// Whether a life may be answered so in which an allocation was refused.
-fn is_allowed(answers: &str) -> bool {
-    answers == WHOLE || answers == FAILED || answers == NO_PIECE || answers == NO_READ
-}
-
-// A refused step is as good as one that never came: applied again it gives what the run without a refusal gives. Only
-// a refused allocation of the index at the end of a block fails its batch, and only a refused allocation of the driver itself
-// leaves a step out.
-#[test]
-fn a_refused_step_may_come_again(rt: HostRuntime) -> std::result::Result<(), Fail> {
-    let alloc = rt.alloc();
-    let way = Way {
-        comes_again: true,
-        ..PLAIN
-    };
-    for n in 1..MOST_ALLOCATIONS {
-        let heap = Refusing::new(alloc, n);
-        let Some(run) = lived(alloc, &heap, LIFE, way)? else {
-            continue;
-        };
-        let answers = run.answers.as_str();
-        if !heap.has_refused() {
-            assert_eq!(rt; answers, WHOLE);
-            assert!(rt; n > 20);
-            return Ok(());
-        }
-        assert!(rt; is_allowed(answers), "allocation {n}");
-    }
-    Err(Fail::new("the life makes more allocations"))
 }

@@ -14,6 +14,7 @@ use foyer_run::memory::MemoryDisk;
 use foyer_run::moves::{Move, run};
 use foyer_run::opened::run_texts;
 use std::alloc::{AllocError, Allocator, Global};
+use std::fmt::Write as _;
 use std::process::Abort;
 use std::test::Fail;
 
@@ -270,5 +271,56 @@ fn texts_are_run_from_an_opening(rt: HostRuntime) -> std::result::Result<(), Fai
         words.as_str(),
         "queued\nreceived\nbegan\nwrite\ncommitted\nended\nread\nentry a\n"
     );
+    Ok(())
+}
+
+// A number behind a blank.
+fn push_number(text: &mut String, number: u64) -> std::result::Result<(), AllocError> {
+    write!(text, " {number}")?;
+    Ok(())
+}
+
+// The keys of the pieces, and the waits.
+fn push_ended<A: Allocator>(
+    text: &mut String,
+    pieces: &[Piece<u64, Value<A>, TestAge, A>],
+    waits: &[u64],
+) -> std::result::Result<(), AllocError> {
+    for piece in pieces {
+        push_number(text, *piece.key())?;
+    }
+    text.push_str(" /")?;
+    for id in waits {
+        push_number(text, *id)?;
+    }
+    Ok(())
+}
+
+// Describes a reply in words, with what it carries.
+pub(crate) fn describe<A: Allocator>(
+    text: &mut String,
+    reply: &TestReply<A>,
+) -> std::result::Result<(), AllocError> {
+    text.push_str(word_of(reply))?;
+    match reply {
+        Reply::Refused(kind, _) => write!(text, " {kind:?}")?,
+        Reply::Queued(sequence) => push_number(text, *sequence)?,
+        Reply::Deleted(sequence) => push_number(text, *sequence)?,
+        Reply::Entry {
+            key: _,
+            value,
+            age: _,
+        } => write!(text, " {value}")?,
+        Reply::Began { blocks, marks } => {
+            push_number(text, *blocks as u64)?;
+            push_number(text, marks.len() as u64)?;
+        }
+        Reply::Write { block, writes: _ } => push_number(text, *block as u64)?,
+        Reply::Committed(count) => push_number(text, *count as u64)?,
+        Reply::Ended { pieces, waits } => {
+            push_ended(text, pieces.as_slice(), waits.as_slice())?;
+        }
+        _ => {}
+    }
     Ok(())
 }

@@ -42,7 +42,7 @@ fn are_allowed(text: &str, has_fault: bool) -> bool {
 }
 
 #[test]
-fn each_refused_allocation_of_the_program_is_told(rt: HostRuntime) -> Result<(), Fail> {
+fn each_refused_allocation_of_the_program_is_reported(rt: HostRuntime) -> Result<(), Fail> {
     let words = [":memory:", "32768", "16384"];
     for n in 1..MOST_ALLOCATIONS {
         let heap = Refusing::new(rt.alloc(), n);
@@ -131,7 +131,7 @@ fn wanted_at(n: u64) -> &'static str {
 }
 
 #[test]
-fn each_failed_call_of_the_disk_is_told(rt: HostRuntime) -> Result<(), Fail> {
+fn each_failed_call_of_the_disk_is_reported(rt: HostRuntime) -> Result<(), Fail> {
     for n in 0..6 {
         check(&rt, 2, n, LIFE, wanted_at(n))?;
     }

@@ -1,5 +1,5 @@
 use Rattle.std.proofs.Common.{rules}
-use Rattle.foyer_run.proofs.moves.do_write.Goals as goal
+use Rattle.foyer_run.proofs.disk.do_write.Goals as goal
 
 pub returns-clause-wrote : goal.returns-clause-wrote
 returns-clause-wrote g c = search rules depth 1

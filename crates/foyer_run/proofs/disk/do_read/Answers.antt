@@ -1,5 +1,5 @@
 use Rattle.std.proofs.Common.{rules}
-use Rattle.foyer_run.proofs.moves.do_read.Goals as goal
+use Rattle.foyer_run.proofs.disk.do_read.Goals as goal
 
 pub returns-in-Ok-clause-read : goal.returns-in-Ok-clause-read
 returns-in-Ok-clause-read g c = search rules depth 1

@@ -1,0 +1,64 @@
+-- The lines that the program reads and prints.
+use Rattle.std.specs.Prelude.{◌≡◌, ℕ, ◌+◌, ◌-◌, ◌*◌, ◌^◌, ◌<◌, List, [], ◌∷◌, ◌++◌, codes, slice_index, string_bytes}
+use Rattle.std.specs.Char.{IsAsciiDigit}
+use Rattle.std.specs.Str.{IsUtf8}
+use Rattle.std.specs.Str.Parse.{IsNumeral, digits_value}
+use Rattle.foyer_device.specs.declared.error.ErrorKind.{ErrorKind}
+use Rattle.foyer_device.specs.declared.error.ErrorKind.TheVariants as kind
+use Rattle.foyer_serve.specs.declared.command.Command.{Command}
+use Rattle.foyer_serve.specs.declared.command.Command.TheVariants as command
+use Rattle.foyer_serve.specs.declared.engine.Answer.{Answer}
+use Rattle.foyer_serve.specs.declared.engine.Answer.TheVariants as answer
+
+-- one decimal digit or more, and nothing else, that write the number, which fits 64 bits
+abbrev pub IsNumber : List ℕ → ℕ → Type 0
+IsNumber digits n = IsNumeral 10 digits × (digits_value 10 digits ≡ n) × (n < 2 ^ 64)
+
+-- four decimal digits that write the number
+abbrev pub AreFour : List ℕ → ℕ → Type 0
+AreFour four n =
+    IsAsciiDigit (slice_index four 0) × IsAsciiDigit (slice_index four 1) × IsAsciiDigit (slice_index four 2) × IsAsciiDigit (slice_index four 3)
+    × (n ≡ (slice_index four 0 - 48) * 1000 + (slice_index four 1 - 48) * 100 + (slice_index four 2 - 48) * 10 + (slice_index four 3 - 48))
+
+-- the line, without its end, is this command
+abbrev pub IsLine : List ℕ → Command → Type 0
+IsLine line (command.Put key text) = (digits : List ℕ) × IsNumber digits key × IsUtf8 text.now × (line ≡ codes "put " ++ (digits ++ (codes " " ++ text.now)))
+IsLine line (command.Get key) = (digits : List ℕ) × IsNumber digits key × (line ≡ codes "get " ++ digits)
+IsLine line (command.Delete key) = (digits : List ℕ) × IsNumber digits key × (line ≡ codes "del " ++ digits)
+IsLine line command.Wait = line ≡ codes "wait"
+IsLine line command.Destroy = line ≡ codes "destroy"
+IsLine line command.Close = line ≡ codes "close"
+
+-- the name that a fault is printed with
+abbrev pub kind_name : ErrorKind → List ℕ
+kind_name kind.Io = codes "Io"
+kind_name kind.Memory = codes "Memory"
+kind_name kind.Config = codes "Config"
+kind_name kind.Parse = codes "Parse"
+kind_name kind.MagicMismatch = codes "MagicMismatch"
+kind_name kind.ChecksumMismatch = codes "ChecksumMismatch"
+kind_name kind.OutOfRange = codes "OutOfRange"
+kind_name kind.BufferSizeLimit = codes "BufferSizeLimit"
+kind_name kind.NoSpace = codes "NoSpace"
+kind_name kind.Recover = codes "Recover"
+kind_name kind.Closed = codes "Closed"
+kind_name kind.Unsupported = codes "Unsupported"
+kind_name kind.SequenceEnd = codes "SequenceEnd"
+
+-- a text and the line feed that ends it
+abbrev pub ended : List ℕ → List ℕ
+ended text = text ++ 10 ∷ []
+
+-- the line, without its end, that a fault is printed as
+abbrev pub fault_text : ErrorKind → List ℕ
+fault_text kind = codes "fault " ++ kind_name kind
+
+-- the line, without its end, that an answer is printed as
+abbrev pub text_of : {A : Type 0} → Answer A → List ℕ
+text_of answer.Queued = codes "queued"
+text_of answer.Ignored = codes "ignored"
+text_of (answer.Entry text) = codes "entry " ++ string_bytes text
+text_of answer.Throttled = codes "throttled"
+text_of answer.Miss = codes "miss"
+text_of answer.Ok = codes "ok"
+text_of (answer.Fault kind) = fault_text kind
