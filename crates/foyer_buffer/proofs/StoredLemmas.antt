@@ -124,7 +124,7 @@ stored_records (i ∷ is) D W blob at0 at k start0 start n there starts same roo
       stored_records is D W blob at0 (at + page_up i.len) (k + page_up i.len) start0 (start + page_up i.len) n (omega arith) (omega arith) same room (omega arith),
     )
 
--- and have the entries of the part, told from the block's start
+-- and have the entries of the part, counted from the block's start
 pub stored_entries : (now : List BufferEntryInfo) (D : List ℕ) (blob at0 at k : ℕ) → at ≡ at0 + k → k + taken now ≤ length D
     → map entry_of (stored_at blob at0 D (entries_from at now)) ≡ placed blob (entries_from at now)
 stored_entries [] D blob at0 at k there within =
