@@ -7,9 +7,9 @@ pub record Extent : Type 0 where
   pub start : ℕ
   pub len : ℕ
 
--- where an address of the extent lies in its file; one past its end counts as its end
+-- where an offset of the extent lies in its file; one past its end counts as its end
 abbrev pub place : Extent → ℕ → ℕ
-place e address = e.start + min address e.len
+place e offset = e.start + min offset e.len
 
 -- no byte of the one is a byte of the other
 abbrev pub AreApart : Extent → Extent → Type 0

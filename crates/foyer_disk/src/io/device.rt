@@ -57,10 +57,10 @@ pub trait Partition {
     fn size(&self) -> usize
         ensures { result ≡ bytes self.now };
 
-    /// The file in which an address of the partition lies, and where there. An address past the end counts as the end.
-    fn translate(&self, address: u64) -> (RawFile, u64)
+    /// The file in which an offset of the partition lies, and where there. An offset past the end counts as the end.
+    fn translate(&self, offset: u64) -> (RawFile, u64)
         ensures file { result.0.0 ≡ (extent self.now).file }
-        ensures place { result.1 ≡ place (extent self.now) address };
+        ensures place { result.1 ≡ place (extent self.now) offset };
 }
 
 /// Bytes in which partitions are made.

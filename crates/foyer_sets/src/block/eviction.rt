@@ -47,10 +47,10 @@ pub trait EvictionPicker: Drop {
         ensures marks { probation.new.items ≡ marks self.now (picker_info info.entry.blocks.now info.entry.evictable.now info.entry.clean) };
 
     /// A block has become evictable.
-    fn on_block_evictable(&mut self, info: EvictionInfo<'_>, block: BlockId);
+    fn on_block_evictable(&mut self, info: EvictionInfo<'_>, id: BlockId);
 
     /// A block is reclaimed.
-    fn on_block_evict(&mut self, info: EvictionInfo<'_>, block: BlockId);
+    fn on_block_evict(&mut self, info: EvictionInfo<'_>, id: BlockId);
 }
 
 impl BlockState {

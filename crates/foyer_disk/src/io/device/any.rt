@@ -68,12 +68,12 @@ impl Partition for AnyPartition {
         }
     }
 
-    fn translate(&self, address: u64) -> (RawFile, u64) {
+    fn translate(&self, offset: u64) -> (RawFile, u64) {
         match self {
-            AnyPartition::File(x) => x.translate(address),
-            AnyPartition::Fs(x) => x.translate(address),
-            AnyPartition::Memory(x) => x.translate(address),
-            AnyPartition::Noop(x) => x.translate(address),
+            AnyPartition::File(x) => x.translate(offset),
+            AnyPartition::Fs(x) => x.translate(offset),
+            AnyPartition::Memory(x) => x.translate(offset),
+            AnyPartition::Noop(x) => x.translate(offset),
         }
     }
 }

@@ -287,8 +287,8 @@ impl<P: Partition> Partition for CombinedPartition<P> {
         self.partition.size()
     }
 
-    fn translate(&self, address: u64) -> (RawFile, u64) {
-        let (file, at) = self.partition.translate(address);
+    fn translate(&self, offset: u64) -> (RawFile, u64) {
+        let (file, at) = self.partition.translate(offset);
         (RawFile(self.base + file.0), at)
     }
 }

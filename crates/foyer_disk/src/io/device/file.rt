@@ -104,8 +104,8 @@ impl Partition for FilePartition {
         self.slot.size
     }
 
-    fn translate(&self, address: u64) -> (RawFile, u64) {
-        (RawFile(0), self.slot.translate(address))
+    fn translate(&self, offset: u64) -> (RawFile, u64) {
+        (RawFile(0), self.slot.translate(offset))
     }
 }
 

@@ -144,8 +144,8 @@ impl Partition for FsPartition {
         self.size
     }
 
-    fn translate(&self, address: u64) -> (RawFile, u64) {
-        (RawFile(self.id), address.min(self.size as u64))
+    fn translate(&self, offset: u64) -> (RawFile, u64) {
+        (RawFile(self.id), offset.min(self.size as u64))
     }
 }
 

@@ -82,8 +82,8 @@ impl Partition for MemoryPartition {
         self.slot.size
     }
 
-    fn translate(&self, address: u64) -> (RawFile, u64) {
-        (RawFile(0), self.slot.translate(address))
+    fn translate(&self, offset: u64) -> (RawFile, u64) {
+        (RawFile(0), self.slot.translate(offset))
     }
 }
 

@@ -72,7 +72,7 @@ impl Partition for NoopPartition {
         self.size
     }
 
-    fn translate(&self, _address: u64) -> (RawFile, u64) {
+    fn translate(&self, _offset: u64) -> (RawFile, u64) {
         (RawFile(0), 0)
     }
 }

@@ -94,8 +94,8 @@ impl<P: Partition> Partition for PartialPartition<P> {
         self.partition.size()
     }
 
-    fn translate(&self, address: u64) -> (RawFile, u64) {
-        self.partition.translate(address)
+    fn translate(&self, offset: u64) -> (RawFile, u64) {
+        self.partition.translate(offset)
     }
 }
 

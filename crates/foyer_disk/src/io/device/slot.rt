@@ -10,10 +10,10 @@ pub(super) struct Slot {
 }
 
 impl Slot {
-    // Where an address of it lies in the file.
-    pub(super) fn translate(&self, address: u64) -> u64
-        ensures { result ≡ self.now.start + min address self.now.size }
+    // Where an offset of it lies in the file.
+    pub(super) fn translate(&self, offset: u64) -> u64
+        ensures { result ≡ self.now.start + min offset self.now.size }
     {
-        self.start + address.min(self.size as u64)
+        self.start + offset.min(self.size as u64)
     }
 }
