@@ -10,20 +10,22 @@ use Rattle.foyer_model.specs.Receive.{bytes_taken, pieces_of, HasReceived, turne
 use Rattle.foyer_model.specs.Record as model_record
 use Rattle.foyer_model.specs.Reply as model_reply
 use Rattle.foyer_model.specs.State as model_state
-use Rattle.foyer_core.specs.Content.{Content, Meaning, content_of, contents_of}
-use Rattle.foyer_core.specs.Flushing.{filled_to, AreRecords, AreLaidOutAs, AreBatched, HasOwn, AreWriting, IsFlusherAs, invalid_of}
-use Rattle.foyer_core.specs.InOneBlock.{packed, parts_of, spread_of, all_writes, IsInOneBlock}
-use Rattle.foyer_core.specs.Refines.{machine}
-use Rattle.foyer_core.specs.CoreRules.{page_up_above}
-use Rattle.foyer_core.specs.Replied.{write_of, mark_of}
-use Rattle.foyer_core.specs.Sizes.{AreValid}
+use Rattle.foyer_rules.specs.Content.{Content, Meaning, content_of, contents_of}
+use Rattle.foyer_core.specs.Flushing.{filled_to, AreRecords, AreLaidOutAs, AreBatched, HasOwn, AreWriting, IsFlusherAs}
+use Rattle.foyer_standing.specs.Addresses.{invalid_of}
+use Rattle.foyer_rules.specs.InOneBlock.{packed, parts_of, spread_of, all_writes, IsInOneBlock}
+use Rattle.foyer_rules.specs.CoreRules.{machine}
+use Rattle.foyer_rules.specs.CoreRules.{page_up_above}
+use Rattle.foyer_core.specs.Replied.{write_of}
+use Rattle.foyer_standing.specs.Addresses.{mark_of}
+use Rattle.foyer_rules.specs.Sizes.{AreValid}
 use Rattle.foyer_core.specs.FlushInTurn.{MayBegin}
 use Rattle.foyer_core.specs.Unchanged.{seen}
 use Rattle.foyer_core.specs.declared.block.flusher.Batch.{Batch}
 use Rattle.foyer_core.specs.declared.block.flusher.Flusher.{Flusher}
 use Rattle.foyer_core.specs.declared.block.flusher.Writing.{Writing}
-use Rattle.foyer_core.specs.declared.settings.Settings.{Settings}
-use Rattle.foyer_core.proofs.LayoutLemmas.{packed-len}
+use Rattle.foyer_rules.specs.declared.settings.Settings.{Settings}
+use Rattle.foyer_rules.proofs.LayoutLemmas.{packed-len}
 use Rattle.foyer_core.specs.Beginning.{HasWrites, IsBegun}
 use Rattle.foyer_core.specs.declared.reply.Write.{Write}
 

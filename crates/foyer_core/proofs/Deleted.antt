@@ -7,11 +7,11 @@ use Rattle.foyer_block.specs.declared.indexer.Index.{Index}
 use Rattle.foyer_block.specs.declared.indexer.Index.TheVariants.{Address, Tombstone}
 use Rattle.foyer_format.specs.Page.{page_up}
 use Rattle.foyer_model.specs.Queue.{invalidated_by}
-use Rattle.foyer_core.specs.Content.{Meaning}
-use Rattle.foyer_core.specs.Refines.{machine}
-use Rattle.foyer_core.specs.Sizes.{AreValid}
-use Rattle.foyer_core.specs.Standing.{slot_of}
-use Rattle.foyer_core.specs.declared.settings.Settings.{Settings}
+use Rattle.foyer_rules.specs.Content.{Meaning}
+use Rattle.foyer_rules.specs.CoreRules.{machine}
+use Rattle.foyer_rules.specs.Sizes.{AreValid}
+use Rattle.foyer_standing.specs.Standing.{slot_of}
+use Rattle.foyer_rules.specs.declared.settings.Settings.{Settings}
 
 -- the bytes of an address, with its block
 abbrev pub bytes_of : Option EntryAddress → List (ℕ × ℕ)

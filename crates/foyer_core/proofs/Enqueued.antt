@@ -7,11 +7,11 @@ use Rattle.foyer_model.specs.Queue.{size_queued, IsIgnored}
 use Rattle.foyer_model.specs.State.{State}
 use Rattle.foyer_model.specs.Step as model_step
 use Rattle.foyer_core.specs.Asked.{known_age}
-use Rattle.foyer_core.specs.Content.{Content, Meaning}
-use Rattle.foyer_core.specs.Refines.{machine}
-use Rattle.foyer_core.specs.Sizes.{AreValid}
-use Rattle.foyer_core.specs.Standing.{IsStateOf}
-use Rattle.foyer_core.specs.declared.settings.Settings.{Settings}
+use Rattle.foyer_rules.specs.Content.{Content, Meaning}
+use Rattle.foyer_rules.specs.CoreRules.{machine}
+use Rattle.foyer_rules.specs.Sizes.{AreValid}
+use Rattle.foyer_core.specs.StateOf.{IsStateOf}
+use Rattle.foyer_rules.specs.declared.settings.Settings.{Settings}
 use Rattle.foyer_core.specs.declared.state.Core.{Core}
 use Rattle.foyer_core.proofs.StateLemmas.{size_queued_is}
 

@@ -9,15 +9,15 @@ use Rattle.foyer_model.specs.Receive.{bytes_taken}
 use Rattle.foyer_model.specs.Record as model_record
 use Rattle.foyer_model.specs.State as model_state
 use Rattle.foyer_core.specs.Batches.{IsIssued}
-use Rattle.foyer_core.specs.Content.{Content, Meaning}
+use Rattle.foyer_rules.specs.Content.{Content, Meaning}
 use Rattle.foyer_core.specs.Flushing.{AreRecords, IsLaidOutAs, AreLaidOutAs, IsWritingAs, AreWriting, IsBatchAs, AreBatched, filled_to}
-use Rattle.foyer_core.specs.InOneBlock.{laid_from, parts_of, all_writes}
+use Rattle.foyer_rules.specs.InOneBlock.{laid_from, parts_of, all_writes}
 use Rattle.foyer_core.specs.Replied.{write_of}
 use Rattle.foyer_core.specs.declared.block.flusher.Batch.{Batch}
 use Rattle.foyer_core.specs.declared.block.flusher.LaidOut.{LaidOut}
 use Rattle.foyer_core.specs.declared.block.flusher.Writing.{Writing}
 use Rattle.foyer_core.specs.declared.reply.Write.{Write}
-use Rattle.foyer_core.specs.declared.settings.Settings.{Settings}
+use Rattle.foyer_rules.specs.declared.settings.Settings.{Settings}
 
 module _ {K V P A : Type 0} (m : Meaning K V P) (s : Settings) where
   -- a batch holds one placing at most

@@ -11,11 +11,12 @@ use Rattle.foyer_model.specs.State as model_state
 use Rattle.foyer_model.specs.Step as model_step
 use Rattle.foyer_core.specs.Asked.{went_well, step_of}
 use Rattle.foyer_core.specs.Batches.{StandsAt, FlusherStep}
-use Rattle.foyer_core.specs.Content.{Content, Meaning}
+use Rattle.foyer_rules.specs.Content.{Content, Meaning}
 use Rattle.foyer_core.specs.Flushing.{AreLaidOutAs, AreWriting, AreBatched}
-use Rattle.foyer_core.specs.Refines.{machine, IsRefinedUncounted}
-use Rattle.foyer_core.specs.Sizes.{AreValid}
-use Rattle.foyer_core.specs.Standing.{IsStateOf, AreFlushersAs, size_in, size_of_all}
+use Rattle.foyer_rules.specs.CoreRules.{machine}
+use Rattle.foyer_core.specs.Refines.{IsRefinedUncounted}
+use Rattle.foyer_rules.specs.Sizes.{AreValid}
+use Rattle.foyer_core.specs.StateOf.{IsStateOf, AreFlushersAs, size_in, size_of_all}
 use Rattle.foyer_core.specs.FlushInTurn.{HasBlock}
 use Rattle.foyer_core.specs.Unchanged.{seen, IsUnchanged}
 use Rattle.foyer_core.proofs.FlushLemmas.{none_placed, none_written}
@@ -26,8 +27,8 @@ use Rattle.foyer_core.specs.declared.block.flusher.Flusher.{Flusher}
 use Rattle.foyer_core.specs.declared.block.flusher.LaidOut.{LaidOut}
 use Rattle.foyer_core.specs.declared.block.flusher.Writing.{Writing}
 use Rattle.foyer_core.specs.declared.reply.Reply.TheVariants as reply
-use Rattle.foyer_core.specs.declared.settings.Settings.{Settings}
-use Rattle.foyer_core.specs.declared.state.BlockState.{BlockState}
+use Rattle.foyer_rules.specs.declared.settings.Settings.{Settings}
+use Rattle.foyer_standing.specs.declared.blocks.BlockState.{BlockState}
 use Rattle.foyer_core.specs.declared.state.Core.{Core}
 use Rattle.foyer_core.specs.declared.step.Step.{Step}
 use Rattle.foyer_policy.specs.Record.{Record}

@@ -16,13 +16,14 @@ use Rattle.foyer_model.specs.Record.{NoRecord, Holds}
 use Rattle.foyer_model.specs.Reply as model_reply
 use Rattle.foyer_model.specs.State.{State}
 use Rattle.foyer_core.specs.Asked.{ticket_of, age_of}
-use Rattle.foyer_core.specs.Content.{Content, Meaning, content}
-use Rattle.foyer_core.specs.Refines.{machine, IsRefinedUncounted, missed}
-use Rattle.foyer_core.specs.CoreRules.{outcome_of}
-use Rattle.foyer_core.specs.Sizes.{AreValid}
-use Rattle.foyer_core.specs.Standing.{IsStateOf}
+use Rattle.foyer_rules.specs.Content.{Content, Meaning, content}
+use Rattle.foyer_rules.specs.CoreRules.{machine}
+use Rattle.foyer_core.specs.Refines.{IsRefinedUncounted, missed}
+use Rattle.foyer_rules.specs.CoreRules.{outcome_of}
+use Rattle.foyer_rules.specs.Sizes.{AreValid}
+use Rattle.foyer_core.specs.StateOf.{IsStateOf}
 use Rattle.foyer_core.specs.declared.reply.Reply.TheVariants as reply
-use Rattle.foyer_core.specs.declared.settings.Settings.{Settings}
+use Rattle.foyer_rules.specs.declared.settings.Settings.{Settings}
 use Rattle.foyer_core.specs.declared.state.Core.{Core}
 use Rattle.foyer_core.specs.declared.step.Step.TheVariants as step
 use Rattle.foyer_core.specs.declared.step.Ticket.{Ticket}

@@ -11,21 +11,21 @@ use Rattle.foyer_model.specs.Reply as model_reply
 use Rattle.foyer_model.specs.State as model_state
 use Rattle.foyer_model.specs.Step as model_step
 use Rattle.foyer_core.specs.Batches.{StandsAt, FlusherStep, IsIssued}
-use Rattle.foyer_core.specs.Content.{Content, Meaning}
+use Rattle.foyer_rules.specs.Content.{Content, Meaning}
 use Rattle.foyer_core.specs.Flushing.{IsBatchAs, AreBatched, HasOwn, IsThere, IsFlusherAs}
-use Rattle.foyer_core.specs.Handing.{IsHanded}
-use Rattle.foyer_core.specs.InOneBlock.{all_writes}
-use Rattle.foyer_core.specs.Refines.{machine}
+use Rattle.foyer_standing.specs.Handing.{IsHanded}
+use Rattle.foyer_rules.specs.InOneBlock.{all_writes}
+use Rattle.foyer_rules.specs.CoreRules.{machine}
 use Rattle.foyer_core.specs.Replied.{write_of}
-use Rattle.foyer_core.specs.Sizes.{AreValid}
-use Rattle.foyer_core.specs.Standing.{AreBlocksAs}
+use Rattle.foyer_rules.specs.Sizes.{AreValid}
+use Rattle.foyer_standing.specs.Standing.{AreBlocksAs}
 use Rattle.foyer_core.specs.Unchanged.{Seen}
 use Rattle.foyer_core.proofs.FlushLemmas.{batched, placed_one}
 use Rattle.foyer_core.specs.declared.block.flusher.Batch.{Batch}
 use Rattle.foyer_core.specs.declared.block.flusher.LaidOut.{LaidOut}
 use Rattle.foyer_core.specs.declared.reply.Write.{Write}
-use Rattle.foyer_core.specs.declared.settings.Settings.{Settings}
-use Rattle.foyer_core.specs.declared.state.BlockState.{BlockState}
+use Rattle.foyer_rules.specs.declared.settings.Settings.{Settings}
+use Rattle.foyer_standing.specs.declared.blocks.BlockState.{BlockState}
 
 module _ {K V P : Type 0} (m : Meaning K V P) (s : Settings) (sound : AreValid s) where
   -- the writes of parts, as the machine of a core has them

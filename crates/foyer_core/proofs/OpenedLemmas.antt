@@ -5,22 +5,23 @@ use Rattle.std.specs.FinMap.{get-empty}
 use Rattle.std.specs.Ordering.{nat_cmp}
 use Rattle.foyer_block.specs.declared.indexer.Index.TheVariants.{Address}
 use Rattle.foyer_model.specs.Ids.{ids, is_id_in, AreDistinct}
-use Rattle.foyer_model.specs.Opened.{IsOpened as IsOpenedWorld, idle as plain_idle, clean_among}
+use Rattle.foyer_model.specs.Opened.{idle as plain_idle}
 use Rattle.foyer_model.specs.Rules.{Rules}
 use Rattle.foyer_model.specs.State as model_state
 use Rattle.foyer_model.proofs.Ids.{distinct_append}
-use Rattle.foyer_core.specs.Begins.{first_state, first_world}
-use Rattle.foyer_core.specs.Content.{Content, Meaning}
+use Rattle.foyer_rules.specs.Begins.{first_state}
+use Rattle.foyer_rules.specs.Content.{Content, Meaning}
 use Rattle.foyer_core.specs.Flushing.{IsFlusherAs}
-use Rattle.foyer_core.specs.Refines.{machine}
+use Rattle.foyer_rules.specs.CoreRules.{machine}
 use Rattle.foyer_core.specs.Opened.{IsOpened, idle, unused, numbers_below}
-use Rattle.foyer_core.specs.Sizes.{AreValid}
-use Rattle.foyer_core.specs.Standing.{IsStateOf, IsIndexedAs, AreFlushersAs, AreBlocksAs, AreCleanAs, AllBelow, IsBlockAs, slot_of, size_of_all}
+use Rattle.foyer_rules.specs.Sizes.{AreValid}
+use Rattle.foyer_core.specs.StateOf.{IsStateOf, AreFlushersAs, size_of_all}
+use Rattle.foyer_standing.specs.Standing.{IsIndexedAs, AreBlocksAs, AreCleanAs, AllBelow, IsBlockAs, slot_of}
 use Rattle.foyer_core.specs.Unchanged.{Seen}
-use Rattle.foyer_core.specs.declared.settings.Settings.{Settings}
-use Rattle.foyer_core.specs.declared.state.BlockState.{BlockState}
+use Rattle.foyer_rules.specs.declared.settings.Settings.{Settings}
+use Rattle.foyer_standing.specs.declared.blocks.BlockState.{BlockState}
 use Rattle.foyer_core.specs.declared.state.Core.{Core}
-use Rattle.foyer_core.proofs.StateLemmas.{some_is}
+use Rattle.foyer_standing.proofs.ListLemmas.{some_is}
 
 replicate_count : {X : Type 0} (n : ℕ) (x : X) → length (replicate n x) ≡ n
 replicate_count zero x = refl
@@ -66,10 +67,6 @@ distinct_ids (suc n) = distinct_append n (ids n) (not_among n (ids n) (ids_below
 no_sizes : (n : ℕ) (rules : Rules Content) → size_of_all n (λ f. plain_idle rules) ≡ 0
 no_sizes zero rules = refl
 no_sizes (suc n) rules = let rest : size_of_all n (λ f. plain_idle rules) ≡ 0 = no_sizes n rules in omega arith
-
-all_clean : (xs : List ℕ) → clean_among (λ b. model_state.Clean) xs ≡ xs
-all_clean [] = refl
-all_clean (x ∷ xs) = ap (λ ys. x ∷ ys) (all_clean xs)
 
 block_stands : (it : BlockState) → unused ≡ it → IsBlockAs it model_state.Clean 0 model_state.no_stats
 block_stands it is = subst (λ x. IsBlockAs x model_state.Clean 0 model_state.no_stats) is (record { place = refl; filling = refl; stats = refl })
@@ -124,32 +121,3 @@ module _ {K V P A : Type 0} (m : Meaning K V P) (s : Settings) (sound : AreValid
     reclaims = λ b. refl;
     destroy = refl;
   }
-
-pub first_opened : {C : Type 0} (rules : Rules C) (bytes : ℕ → ℕ → ℕ) → IsOpenedWorld rules (first_world rules bytes)
-first_opened rules bytes = record {
-  found = [];
-  all = tt;
-  index = λ h. refl;
-  history = refl;
-  kept = λ h. refl;
-  place = λ b. inl refl;
-  clean = sym (all_clean (ids rules.blocks));
-  first = let lt : 0 < 1 = omega arith in lt;
-  last = omega arith;
-  steps = refl;
-  closed = refl;
-  flushers = λ f. refl;
-  waiting = refl;
-  filling = λ b. refl;
-  stats = λ b. refl;
-  reclaims = λ b. refl;
-  destroy = refl;
-  filled = λ b. refl;
-  begun_writes = refl;
-  committed = refl;
-  loads = λ n. refl;
-  issued = refl;
-  scans = λ b. refl;
-  block_writes = λ f. refl;
-  clean_states = λ b. refl;
-}

@@ -2,13 +2,13 @@
 use Rattle.std.proofs.Common.{◌≡◌, ℕ, ◌+◌, ◌-◌, ◌*◌, ◌^◌, ◌<◌, ◌≤◌, List, [], ◌∷◌, ◌++◌, map, length, slice_set, slice_index_or, sym, ap, subst, ◌∙◌, arith}
 use Rattle.foyer_model.specs.Numbers.{put}
 use Rattle.foyer_model.specs.State as model_state
-use Rattle.foyer_core.specs.Content.{Content, Meaning}
+use Rattle.foyer_rules.specs.Content.{Content, Meaning}
 use Rattle.foyer_core.specs.Flushing.{IsFlusherAs, submission_of}
-use Rattle.foyer_core.specs.Standing.{AreFlushersAs, IsSizedAs, size_in, size_of_all}
+use Rattle.foyer_core.specs.StateOf.{AreFlushersAs, IsSizedAs, size_in, size_of_all}
 use Rattle.foyer_core.specs.Unchanged.{seen}
 use Rattle.foyer_core.specs.declared.block.flusher.Flusher.{Flusher}
 use Rattle.foyer_core.specs.declared.block.flusher.Submission.{Submission}
-use Rattle.foyer_core.specs.declared.settings.Settings.{Settings}
+use Rattle.foyer_rules.specs.declared.settings.Settings.{Settings}
 use Rattle.foyer_core.proofs.Opening.{map-end}
 use Rattle.foyer_core.proofs.StateLemmas.{flusher_at, flusher_put, size_put, size_pushed}
 

@@ -13,16 +13,16 @@ use Rattle.foyer_policy.specs.Record.{Record}
 use Rattle.foyer_model.specs.Receive.{bytes_taken, Fits}
 use Rattle.foyer_model.specs.Record as model_record
 use Rattle.foyer_model.specs.State as model_state
-use Rattle.foyer_core.specs.Content.{Content, Meaning}
+use Rattle.foyer_rules.specs.Content.{Content, Meaning}
 use Rattle.foyer_core.specs.Flushing.{IsRecordOf, AreRecords, IsFlusherAs}
-use Rattle.foyer_core.specs.InOneBlock.{padded, packed}
-use Rattle.foyer_core.specs.Refines.{machine}
-use Rattle.foyer_core.specs.CoreRules.{has_record, encoded, page_up_above}
-use Rattle.foyer_core.specs.Sizes.{AreValid}
+use Rattle.foyer_rules.specs.InOneBlock.{padded, packed}
+use Rattle.foyer_rules.specs.CoreRules.{machine}
+use Rattle.foyer_rules.specs.CoreRules.{has_record, encoded, page_up_above}
+use Rattle.foyer_rules.specs.Sizes.{AreValid}
 use Rattle.foyer_core.specs.Unchanged.{Seen}
-use Rattle.foyer_core.specs.declared.settings.Settings.{Settings}
-use Rattle.foyer_core.proofs.LayoutLemmas.{packed-len}
-use Rattle.foyer_core.proofs.TripLemmas.{left, right, some_is}
+use Rattle.foyer_rules.specs.declared.settings.Settings.{Settings}
+use Rattle.foyer_rules.proofs.LayoutLemmas.{packed-len}
+use Rattle.foyer_rules.proofs.TripLemmas.{left, right, some_is}
 
 module _ {K V P : Type 0} (m : Meaning K V P) where
   -- one record more behind the others

@@ -9,16 +9,17 @@ use Rattle.foyer_model.specs.State.{State}
 use Rattle.foyer_model.specs.Step as model_step
 use Rattle.foyer_model.specs.Follows.{Follows}
 use Rattle.foyer_core.specs.Asked.{step_of}
-use Rattle.foyer_core.specs.Content.{Content, Meaning}
-use Rattle.foyer_core.specs.CoreRules.{layout}
-use Rattle.foyer_core.specs.Refines.{FollowsUncounted, machine, IsHandedBack, IsRefinedUncounted, IsRefined}
+use Rattle.foyer_rules.specs.Content.{Content, Meaning}
+use Rattle.foyer_rules.specs.CoreRules.{layout}
+use Rattle.foyer_core.specs.Refines.{FollowsUncounted, IsHandedBack, IsRefinedUncounted, IsRefined}
+use Rattle.foyer_rules.specs.CoreRules.{machine}
 use Rattle.foyer_core.specs.Replied.{IsReply}
-use Rattle.foyer_core.specs.Sizes.{AreValid}
-use Rattle.foyer_core.specs.Standing.{IsStateOf}
+use Rattle.foyer_rules.specs.Sizes.{AreValid}
+use Rattle.foyer_core.specs.StateOf.{IsStateOf}
 use Rattle.foyer_core.specs.Unchanged.{IsUnchanged}
 use Rattle.foyer_core.specs.declared.reply.Reply.{Reply}
 use Rattle.foyer_core.specs.declared.reply.Reply.TheVariants as reply
-use Rattle.foyer_core.specs.declared.settings.Settings.{Settings}
+use Rattle.foyer_rules.specs.declared.settings.Settings.{Settings}
 use Rattle.foyer_core.specs.declared.state.Core.{Core}
 use Rattle.foyer_core.specs.declared.step.Step.{Step}
 use Rattle.foyer_core.proofs.StateLemmas.{unchanged_stands}

@@ -13,25 +13,26 @@ use Rattle.foyer_model.specs.Receive.{bytes_taken, Fits, TakesFront as TakesOne,
 use Rattle.foyer_model.specs.Record as model_record
 use Rattle.foyer_model.specs.Reply as model_reply
 use Rattle.foyer_model.specs.State as model_state
-use Rattle.foyer_core.specs.Content.{Content, Meaning, content_of}
-use Rattle.foyer_core.specs.Flushing.{AreRecords, IsFlusherAs, submission_of, invalid_of_all, invalid_of}
-use Rattle.foyer_core.specs.InOneBlock.{padded}
-use Rattle.foyer_core.specs.Refines.{machine}
-use Rattle.foyer_core.specs.CoreRules.{encoded}
-use Rattle.foyer_core.specs.Replied.{mark_of}
-use Rattle.foyer_core.specs.Sizes.{AreValid}
-use Rattle.foyer_core.specs.Standing.{size_in}
+use Rattle.foyer_rules.specs.Content.{Content, Meaning, content_of}
+use Rattle.foyer_core.specs.Flushing.{AreRecords, IsFlusherAs, submission_of, invalid_of_all}
+use Rattle.foyer_standing.specs.Addresses.{invalid_of}
+use Rattle.foyer_rules.specs.InOneBlock.{padded}
+use Rattle.foyer_rules.specs.CoreRules.{machine}
+use Rattle.foyer_rules.specs.CoreRules.{encoded}
+use Rattle.foyer_standing.specs.Addresses.{mark_of}
+use Rattle.foyer_rules.specs.Sizes.{AreValid}
+use Rattle.foyer_core.specs.StateOf.{size_in}
 use Rattle.foyer_core.specs.Taking.{entry_at, IsPushed, IsReceivedAs, NeedsRoom, TakesFront}
 use Rattle.foyer_core.specs.Unchanged.{Seen, seen}
 use Rattle.foyer_core.specs.declared.block.flusher.Flusher.{Flusher}
-use Rattle.foyer_core.specs.declared.block.flusher.InvalidStats.{InvalidStats}
+use Rattle.foyer_standing.specs.declared.blocks.InvalidStats.{InvalidStats}
 use Rattle.foyer_core.specs.declared.block.flusher.Submission.{Submission}
 use Rattle.foyer_core.specs.declared.block.flusher.Submission.TheVariants as submission
 use Rattle.foyer_core.specs.declared.block.flusher.TombstoneInfo.{TombstoneInfo}
 use Rattle.foyer_core.specs.declared.block.receive.Taken.{Taken}
-use Rattle.foyer_core.specs.declared.settings.Settings.{Settings}
+use Rattle.foyer_rules.specs.declared.settings.Settings.{Settings}
 use Rattle.foyer_core.proofs.Opening.{map-end}
-use Rattle.foyer_core.proofs.LayoutLemmas.{packed-len}
+use Rattle.foyer_rules.proofs.LayoutLemmas.{packed-len}
 use Rattle.foyer_core.proofs.ReceiveLemmas.{records_end, packed_end, taken_end, pushed_bytes, has_room, lacks_room}
 
 le_or : (a b : ℕ) → (a ≤ b) ⊎ (a ≤ b → ⊥)

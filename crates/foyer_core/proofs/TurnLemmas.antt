@@ -7,15 +7,16 @@ use Rattle.foyer_model.specs.Reply as model_reply
 use Rattle.foyer_model.specs.State.{State}
 use Rattle.foyer_model.specs.Follows.{IsOutOfTurn}
 use Rattle.foyer_core.specs.Asked.{step_of}
-use Rattle.foyer_core.specs.Content.{Content, Meaning}
-use Rattle.foyer_core.specs.CoreRules.{layout}
-use Rattle.foyer_core.specs.Refines.{machine, IsRefinedUncounted}
+use Rattle.foyer_rules.specs.Content.{Content, Meaning}
+use Rattle.foyer_rules.specs.CoreRules.{layout}
+use Rattle.foyer_rules.specs.CoreRules.{machine}
+use Rattle.foyer_core.specs.Refines.{IsRefinedUncounted}
 use Rattle.foyer_core.specs.Replied.{kind_of}
-use Rattle.foyer_core.specs.Sizes.{AreValid}
-use Rattle.foyer_core.specs.Standing.{IsStateOf}
+use Rattle.foyer_rules.specs.Sizes.{AreValid}
+use Rattle.foyer_core.specs.StateOf.{IsStateOf}
 use Rattle.foyer_core.specs.Unchanged.{IsUnchanged}
 use Rattle.foyer_core.specs.declared.reply.Reply.TheVariants as reply
-use Rattle.foyer_core.specs.declared.settings.Settings.{Settings}
+use Rattle.foyer_rules.specs.declared.settings.Settings.{Settings}
 use Rattle.foyer_core.specs.declared.state.Core.{Core}
 use Rattle.foyer_core.specs.declared.step.Step.{Step}
 use Rattle.foyer_core.proofs.StateLemmas.{unchanged_stands}

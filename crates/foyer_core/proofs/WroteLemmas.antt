@@ -15,24 +15,26 @@ use Rattle.foyer_model.specs.Reply as model_reply
 use Rattle.foyer_model.specs.State as model_state
 use Rattle.foyer_model.specs.Step as model_step
 use Rattle.foyer_core.specs.Batches.{StandsAt, FlusherStep, settled, failed_batch, issued_wrote, HasEnded}
-use Rattle.foyer_core.specs.Content.{Content, Meaning, content_of}
-use Rattle.foyer_core.specs.Flushing.{AreLaidOutAs, IsWritingAs, AreWriting, IsBatchAs, IsFlusherAs, invalid_of}
-use Rattle.foyer_core.specs.Handing.{filling_in}
-use Rattle.foyer_core.specs.InOneBlock.{laid_from}
-use Rattle.foyer_core.specs.Refines.{machine}
-use Rattle.foyer_core.specs.Replied.{mark_of}
-use Rattle.foyer_core.specs.Sizes.{AreValid}
-use Rattle.foyer_core.specs.Standing.{AreBlocksAs, IsIndexedAs}
+use Rattle.foyer_rules.specs.Content.{Content, Meaning}
+use Rattle.foyer_core.specs.Flushing.{AreLaidOutAs, IsWritingAs, AreWriting, IsBatchAs, IsFlusherAs}
+use Rattle.foyer_standing.specs.Addresses.{invalid_of}
+use Rattle.foyer_standing.specs.Handing.{filling_in}
+use Rattle.foyer_rules.specs.InOneBlock.{laid_from}
+use Rattle.foyer_rules.specs.CoreRules.{machine}
+use Rattle.foyer_standing.specs.Addresses.{mark_of}
+use Rattle.foyer_rules.specs.Sizes.{AreValid}
+use Rattle.foyer_standing.specs.Standing.{AreBlocksAs, IsIndexedAs}
 use Rattle.foyer_core.specs.Unchanged.{Seen}
-use Rattle.foyer_core.proofs.BlockLemmas.{filling_at}
+use Rattle.foyer_standing.proofs.BlockLemmas.{filling_at}
 use Rattle.foyer_core.proofs.FlushLemmas.{batched, written}
-use Rattle.foyer_core.proofs.IndexLemmas.{committed, puts_all, unmarked_is}
+use Rattle.foyer_core.proofs.CommitLemmas.{committed, puts_all}
+use Rattle.foyer_standing.proofs.IndexLemmas.{unmarked_is}
 use Rattle.foyer_core.specs.declared.block.batch.Wrote.{Wrote as Answer}
 use Rattle.foyer_core.specs.declared.block.batch.Wrote.TheVariants as answers
 use Rattle.foyer_core.specs.declared.block.flusher.Batch.{Batch}
 use Rattle.foyer_core.specs.declared.block.flusher.Writing.{Writing}
-use Rattle.foyer_core.specs.declared.settings.Settings.{Settings}
-use Rattle.foyer_core.specs.declared.state.BlockState.{BlockState}
+use Rattle.foyer_rules.specs.declared.settings.Settings.{Settings}
+use Rattle.foyer_standing.specs.declared.blocks.BlockState.{BlockState}
 
 first_left : (ws : List Write) → 0 < length ws → (first : Write) × (rest : List Write) × (ws ≡ first ∷ rest)
 first_left [] some = absurd (omega arith)

@@ -1,21 +1,17 @@
 -- A core's step as the model's.
 use Rattle.std.specs.Prelude.{ℕ, Bool, true, false, Option, Some, None, Result, Ok, Err}
-use Rattle.foyer_block.specs.declared.indexer.EntryAddress.{EntryAddress}
 use Rattle.foyer_device.specs.declared.error.Error.{Error}
 use Rattle.foyer_device.specs.declared.error.Error.TheVariants as error
 use Rattle.foyer_format.specs.declared.serde.ages.Age.{Age}
 use Rattle.foyer_format.specs.declared.serde.ages.Age.TheVariants as age
 use Rattle.std.specs.declared.vec.Vec.{Vec}
 use Rattle.foyer_model.specs.Kind.{Kind, Io, Memory}
-use Rattle.foyer_model.specs.Record.{Address}
 use Rattle.foyer_model.specs.Step as model_step
-use Rattle.foyer_core.specs.Content.{Content, Meaning, content_of}
+use Rattle.foyer_rules.specs.Content.{Content, Meaning, content_of}
+use Rattle.foyer_standing.specs.Addresses.{address_of}
 use Rattle.foyer_core.specs.declared.step.Step.{Step}
 use Rattle.foyer_core.specs.declared.step.Step.TheVariants as step
 use Rattle.foyer_core.specs.declared.step.Ticket.{Ticket}
-
-abbrev pub address_of : EntryAddress → Address
-address_of a = record { block = a.block; offset = a.offset; len = a.len; sequence = a.sequence; filling = a.filling }
 
 abbrev pub ticket_of : Ticket → model_step.Ticket
 ticket_of t = record { hash = t.hash; address = address_of t.address }

@@ -10,14 +10,14 @@ use Rattle.foyer_model.specs.Reply as model_reply
 use Rattle.foyer_model.specs.State as model_state
 use Rattle.foyer_model.specs.Step as model_step
 use Rattle.foyer_policy.specs.Record.{Record}
-use Rattle.foyer_core.specs.Content.{Content, Meaning, content_of, contents_of}
+use Rattle.foyer_rules.specs.Content.{Content, Meaning, content_of, contents_of}
 use Rattle.foyer_core.specs.Flushing.{IsFlusherAs, IsBatchAs, filled_to}
-use Rattle.foyer_core.specs.InOneBlock.{all_writes}
-use Rattle.foyer_core.specs.CoreRules.{layout}
-use Rattle.foyer_core.specs.Refines.{machine}
+use Rattle.foyer_rules.specs.InOneBlock.{all_writes}
+use Rattle.foyer_rules.specs.CoreRules.{layout}
+use Rattle.foyer_rules.specs.CoreRules.{machine}
 use Rattle.foyer_core.specs.Replied.{write_of}
-use Rattle.foyer_core.specs.Sizes.{AreValid}
-use Rattle.foyer_core.specs.Standing.{IsIndexedAs, AreBlocksAs, AreCleanAs}
+use Rattle.foyer_rules.specs.Sizes.{AreValid}
+use Rattle.foyer_standing.specs.Standing.{IsIndexedAs, AreBlocksAs, AreCleanAs}
 use Rattle.foyer_core.specs.Unchanged.{Seen}
 use Rattle.foyer_core.specs.declared.block.batch.Next.{Next}
 use Rattle.foyer_core.specs.declared.block.batch.Next.TheVariants as next
@@ -25,8 +25,8 @@ use Rattle.foyer_core.specs.declared.block.batch.Wrote.{Wrote}
 use Rattle.foyer_core.specs.declared.block.batch.Wrote.TheVariants as wrote
 use Rattle.foyer_core.specs.declared.block.flusher.Batch.{Batch}
 use Rattle.foyer_core.specs.declared.reply.Write.{Write}
-use Rattle.foyer_core.specs.declared.settings.Settings.{Settings}
-use Rattle.foyer_core.specs.declared.state.BlockState.{BlockState}
+use Rattle.foyer_rules.specs.declared.settings.Settings.{Settings}
+use Rattle.foyer_standing.specs.declared.blocks.BlockState.{BlockState}
 
 -- a flusher of a state of the model, with what a flush changes beside it
 pub record StandsAt {K V P A : Type 0} (m : Meaning K V P) (s : Settings) (f : ℕ) (it : model_state.State Content)

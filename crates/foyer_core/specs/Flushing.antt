@@ -7,20 +7,18 @@ use Rattle.foyer_model.specs.Position.{Position, BlockLayout}
 use Rattle.foyer_model.specs.Receive.{bytes_taken}
 use Rattle.foyer_model.specs.Record as model_record
 use Rattle.foyer_model.specs.State as model_state
-use Rattle.foyer_core.specs.Content.{Content, Meaning, content_of, contents_of}
-use Rattle.foyer_core.specs.InOneBlock.{packed, laid_from, parts_of, spread_of, all_writes}
-use Rattle.foyer_core.specs.Replied.{write_of, mark_of}
+use Rattle.foyer_rules.specs.Content.{Content, Meaning, content_of, contents_of}
+use Rattle.foyer_rules.specs.InOneBlock.{packed, laid_from, parts_of, spread_of, all_writes}
+use Rattle.foyer_core.specs.Replied.{write_of}
+use Rattle.foyer_standing.specs.Addresses.{mark_of, invalid_of}
 use Rattle.foyer_core.specs.declared.block.flusher.Batch.{Batch}
 use Rattle.foyer_core.specs.Unchanged.{Seen}
-use Rattle.foyer_core.specs.declared.block.flusher.InvalidStats.{InvalidStats}
+use Rattle.foyer_standing.specs.declared.blocks.InvalidStats.{InvalidStats}
 use Rattle.foyer_core.specs.declared.block.flusher.LaidOut.{LaidOut}
 use Rattle.foyer_core.specs.declared.block.flusher.Submission.{Submission}
 use Rattle.foyer_core.specs.declared.block.flusher.Submission.TheVariants as submission
 use Rattle.foyer_core.specs.declared.block.flusher.Writing.{Writing}
-use Rattle.foyer_core.specs.declared.settings.Settings.{Settings}
-
-abbrev pub invalid_of : InvalidStats → ℕ × ℕ
-invalid_of stats = (stats.block, stats.size)
+use Rattle.foyer_rules.specs.declared.settings.Settings.{Settings}
 
 abbrev pub invalid_of_all : Option InvalidStats → List (ℕ × ℕ)
 invalid_of_all None = []

@@ -1,10 +1,10 @@
 -- A core that was opened and found nothing.
 use Rattle.std.specs.Prelude.{◌≡◌, ℕ, zero, suc, false, List, [], ◌∷◌, ◌++◌, None, map, replicate}
 use Rattle.std.specs.FinMap as index
-use Rattle.foyer_core.specs.declared.settings.Settings.{Settings}
-use Rattle.foyer_core.specs.declared.state.BlockState.{BlockState}
+use Rattle.foyer_rules.specs.declared.settings.Settings.{Settings}
+use Rattle.foyer_standing.specs.declared.blocks.BlockState.{BlockState}
 use Rattle.foyer_core.specs.declared.state.Core.{Core}
-use Rattle.foyer_core.specs.declared.state.BlockSet.TheVariants as place
+use Rattle.foyer_standing.specs.declared.blocks.BlockSet.TheVariants as place
 use Rattle.foyer_core.specs.Unchanged.{Seen, seen}
 
 -- a flusher that has nothing, and whose first data go to this offset

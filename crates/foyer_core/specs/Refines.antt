@@ -11,16 +11,16 @@ use Rattle.foyer_model.specs.Step as model_step
 use Rattle.foyer_model.specs.Follows.{IsOutOfTurn, Follows}
 use Rattle.foyer_model.specs.Index.{without}
 use Rattle.foyer_model.specs.Numbers.{put}
-use Rattle.foyer_core.specs.Asked.{address_of, step_of}
-use Rattle.foyer_core.specs.Content.{Content, Meaning}
-use Rattle.foyer_core.specs.CoreRules.{layout}
-use Rattle.foyer_core.specs.CoreRules.{rules_of}
+use Rattle.foyer_standing.specs.Addresses.{address_of}
+use Rattle.foyer_core.specs.Asked.{step_of}
+use Rattle.foyer_rules.specs.Content.{Content, Meaning}
 use Rattle.foyer_core.specs.Replied.{IsReply}
-use Rattle.foyer_core.specs.Sizes.{AreValid}
-use Rattle.foyer_core.specs.Standing.{IsStateOf}
+use Rattle.foyer_rules.specs.CoreRules.{layout, machine}
+use Rattle.foyer_rules.specs.Sizes.{AreValid}
+use Rattle.foyer_core.specs.StateOf.{IsStateOf}
 use Rattle.foyer_core.specs.declared.reply.Reply.{Reply}
 use Rattle.foyer_core.specs.declared.reply.Reply.TheVariants as reply
-use Rattle.foyer_core.specs.declared.settings.Settings.{Settings}
+use Rattle.foyer_rules.specs.declared.settings.Settings.{Settings}
 use Rattle.foyer_core.specs.declared.state.Core.{Core}
 use Rattle.foyer_core.specs.declared.step.Step.{Step}
 use Rattle.foyer_core.specs.declared.step.Step.TheVariants as step
@@ -54,10 +54,6 @@ abbrev pub FollowsUncounted : {C : Type 0} → Rules C → Splitting C → State
 FollowsUncounted rules Splits old given (model_reply.NotNow back) new = (back ≡ given) × IsOutOfTurn rules Splits old given × (new ≡ old)
 FollowsUncounted rules Splits old given (model_reply.Refused kind back) new = (back ≡ given) × MayRefuse rules Splits old kind given × (new ≡ old)
 FollowsUncounted rules Splits old given answer new = InTurn rules old given × Changes rules Splits old given answer new
-
--- the machine of a core
-abbrev pub machine : {K V P : Type 0} → Meaning K V P → (s : Settings) → AreValid s → Rules Content
-machine m s sound = rules_of m.is_key m.is_value s sound
 
 -- the very address of a ticket leaves the index
 abbrev pub missed : State Content → Ticket → State Content

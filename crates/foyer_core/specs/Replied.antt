@@ -1,13 +1,13 @@
 -- A core's reply as the model's.
 use Rattle.std.specs.Prelude.{◌≡◌, ℕ, List, map, length, Option, Some, None}
-use Rattle.foyer_block.specs.declared.tombstone.Tombstone.{Tombstone}
 use Rattle.foyer_device.specs.declared.error.ErrorKind.{ErrorKind}
 use Rattle.foyer_device.specs.declared.error.ErrorKind.TheVariants as kind
 use Rattle.foyer_policy.specs.Record.{Record}
 use Rattle.foyer_model.specs.Position as model_position
 use Rattle.foyer_model.specs.Reply as model_reply
 use Rattle.foyer_core.specs.Asked.{ticket_of, age_of, step_of}
-use Rattle.foyer_core.specs.Content.{Content, Meaning, content, content_of, contents_of}
+use Rattle.foyer_rules.specs.Content.{Content, Meaning, content, content_of, contents_of}
+use Rattle.foyer_standing.specs.Addresses.{mark_of}
 use Rattle.foyer_core.specs.declared.reply.Reply.{Reply}
 use Rattle.foyer_core.specs.declared.reply.Reply.TheVariants as reply
 use Rattle.foyer_core.specs.declared.reply.Write.{Write}
@@ -25,9 +25,6 @@ kind_of other = None
 -- a write of records
 abbrev pub write_of : {A : Type 0} → Write A → model_position.Write
 write_of w = record { role = model_position.Data; offset = w.offset; bytes = w.bytes.items }
-
-abbrev pub mark_of : Tombstone → ℕ × ℕ
-mark_of mark = (mark.hash, mark.sequence)
 
 abbrev pub returned : {K V P : Type 0} → Meaning K V P → Option (Record K V P) → Option Content
 returned m None = None

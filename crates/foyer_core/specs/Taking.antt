@@ -9,17 +9,17 @@ use Rattle.foyer_model.specs.Refusal.{Allocates}
 use Rattle.foyer_model.specs.Reply as model_reply
 use Rattle.foyer_model.specs.State as model_state
 use Rattle.foyer_model.specs.Step as model_step
-use Rattle.foyer_core.specs.Content.{Content, Meaning}
+use Rattle.foyer_rules.specs.Content.{Content, Meaning}
 use Rattle.foyer_core.specs.Flushing.{IsFlusherAs}
-use Rattle.foyer_core.specs.Refines.{machine}
+use Rattle.foyer_rules.specs.CoreRules.{machine}
 use Rattle.foyer_core.specs.Replied.{returned}
-use Rattle.foyer_core.specs.Sizes.{AreValid}
-use Rattle.foyer_core.specs.Standing.{size_in}
+use Rattle.foyer_rules.specs.Sizes.{AreValid}
+use Rattle.foyer_core.specs.StateOf.{size_in}
 use Rattle.foyer_core.specs.Unchanged.{seen}
 use Rattle.foyer_core.specs.declared.block.flusher.Flusher.{Flusher}
 use Rattle.foyer_core.specs.declared.block.receive.Taken.{Taken}
 use Rattle.foyer_core.specs.declared.block.receive.Taken.TheVariants as taken
-use Rattle.foyer_core.specs.declared.settings.Settings.{Settings}
+use Rattle.foyer_rules.specs.declared.settings.Settings.{Settings}
 
 -- the entry of a record that is put at an offset of a buffer
 abbrev pub entry_at : (offset hash sequence len : ℕ) → HashedEntryAddress

@@ -5,7 +5,7 @@ use Rattle.foyer_block.specs.declared.tombstone.Tombstone.{Tombstone}
 use Rattle.foyer_policy.specs.Record.{Record}
 use Rattle.foyer_core.specs.declared.block.flusher.Batch.{Batch}
 use Rattle.foyer_core.specs.declared.block.flusher.Flusher.{Flusher}
-use Rattle.foyer_core.specs.declared.block.flusher.InvalidStats.{InvalidStats}
+use Rattle.foyer_standing.specs.declared.blocks.InvalidStats.{InvalidStats}
 use Rattle.foyer_core.specs.declared.block.flusher.Submission.{Submission}
 use Rattle.foyer_core.specs.declared.state.Core.{Core}
 

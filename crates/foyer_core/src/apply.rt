@@ -1,7 +1,7 @@
 //! The one call that changes the core.
 ghost use Rattle.std.specs.Prelude.{◌≡◌, ◌<◌, ◌-◌, ◌^◌, MatchBool};
 ghost use Rattle.foyer_core.specs.Answered.{HandsBack, Describes};
-ghost use Rattle.foyer_core.specs.Content.{meaning};
+ghost use Rattle.foyer_rules.specs.Content.{meaning};
 ghost use Rattle.foyer_core.specs.Refines.{IsBuilt, IsHandedBack, IsPutOff, RefinesUncounted, Refines};
 ghost use Rattle.foyer_core.specs.declared.reply.Reply.TheVariants as reply;
 

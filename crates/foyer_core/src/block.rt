@@ -2,5 +2,4 @@
 
 pub(crate) mod batch;
 pub mod flusher;
-mod manager;
 pub(crate) mod receive;

@@ -2,7 +2,7 @@
 ghost use Rattle.std.specs.Prelude.{Option};
 ghost use Rattle.foyer_format.specs.declared.serde.ages.Age.{Age as age};
 ghost use Rattle.foyer_core.specs.Answered.{HandsBack, DescribesNothing};
-ghost use Rattle.foyer_core.specs.Content.{Meaning, meaning};
+ghost use Rattle.foyer_rules.specs.Content.{Meaning, meaning};
 ghost use Rattle.foyer_core.specs.Refines.{RefinesUncounted};
 ghost use Rattle.foyer_core.specs.declared.step.Step.TheVariants as step;
 

@@ -13,6 +13,8 @@ mod load;
 mod open;
 mod queue;
 pub mod reply;
-pub mod settings;
+
+pub use foyer_rules::settings;
+
 pub mod state;
 pub mod step;

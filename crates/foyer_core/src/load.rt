@@ -3,20 +3,21 @@ ghost use Rattle.std.specs.Prelude.{◌≡◌, Option, slice_get};
 ghost use Rattle.foyer_format.specs.declared.serde.ages.Age.{Age as age};
 ghost use Rattle.foyer_core.specs.Answered.{HandsBack, AnswersPair, Looking};
 ghost use Rattle.foyer_model.specs.State.{State};
-ghost use Rattle.foyer_core.specs.Content.{Content, Meaning, meaning};
+ghost use Rattle.foyer_rules.specs.Content.{Content, Meaning, meaning};
 ghost use Rattle.foyer_core.specs.Refines.{RefinesUncounted, missed};
-ghost use Rattle.foyer_core.specs.Standing.{IsStateOf};
-ghost use Rattle.foyer_core.specs.declared.settings.Settings.{Settings};
+ghost use Rattle.foyer_core.specs.StateOf.{IsStateOf};
+ghost use Rattle.foyer_rules.specs.declared.settings.Settings.{Settings};
 ghost use Rattle.foyer_core.specs.declared.reply.Reply.TheVariants as reply;
 ghost use Rattle.foyer_core.specs.declared.step.Step.TheVariants as step;
 
 use crate::reply::Reply;
-use crate::state::{BlockState, Core};
+use crate::state::Core;
 use crate::step::{Step, Ticket};
 use foyer_block::manager::BlockId;
 use foyer_device::error::{ErrorKind, Result};
 use foyer_format::block::serde::read_record;
 use foyer_format::serde::{Age, Code};
+use foyer_standing::blocks::BlockState;
 use std::alloc::Allocator;
 
 // The step that brings what was read for a ticket.

@@ -2,16 +2,17 @@
 ghost use Rattle.std.specs.Prelude.{◌≡◌, ◌⊎◌, Err, IfOk, IfErr, IsOkUnless, map, replicate, vec_len};
 ghost use Rattle.foyer_device.specs.declared.error.Error.TheVariants.{Memory, Config};
 ghost use Rattle.foyer_core.specs.Opened.{IsOpened, idle, unused, numbers_below};
-ghost use Rattle.foyer_core.specs.Sizes.{AreValid};
+ghost use Rattle.foyer_rules.specs.Sizes.{AreValid};
 ghost use Rattle.foyer_core.specs.Unchanged.{seen};
 
 use crate::block::batch::{Received, nothing_received};
 use crate::block::flusher::Flusher;
 use crate::settings::Settings;
-use crate::state::{BlockSet, BlockState, Core};
+use crate::state::Core;
 use foyer_block::indexer::Indexer;
 use foyer_block::manager::BlockId;
 use foyer_device::error::Result;
+use foyer_standing::blocks::{BlockSet, BlockState};
 use std::alloc::Allocator;
 use std::collections::VecDeque;
 

@@ -4,13 +4,13 @@ ghost use Rattle.foyer_block.specs.Index.{address_at};
 ghost use Rattle.foyer_core.specs.declared.reply.Reply.TheVariants as reply;
 ghost use Rattle.foyer_core.specs.Answered.{HandsBack, DescribesNothing, Enqueues, Deleting};
 ghost use Rattle.foyer_core.specs.Unchanged.{IsUnchanged};
-ghost use Rattle.foyer_core.specs.Content.{Meaning};
+ghost use Rattle.foyer_rules.specs.Content.{Meaning};
 ghost use Rattle.foyer_core.specs.Refines.{RefinesUncounted};
 ghost use Rattle.foyer_core.specs.declared.step.Step.TheVariants as step;
 ghost use Rattle.foyer_format.specs.Page.{page_up};
 ghost use Rattle.foyer_format.specs.declared.serde.ages.Age.TheVariants as age;
 
-use crate::block::flusher::{InvalidStats, Submission, TombstoneInfo};
+use crate::block::flusher::{Submission, TombstoneInfo};
 use crate::reply::Reply;
 use crate::state::Core;
 use crate::step::Step;
@@ -20,6 +20,7 @@ use foyer_device::error::ErrorKind;
 use foyer_format::block::buffer::PAGE;
 use foyer_format::serde::{Age, Properties};
 use foyer_policy::keeper::Piece;
+use foyer_standing::blocks::InvalidStats;
 use std::alloc::Allocator;
 
 // The bytes of a block that a mark makes invalid where it pushes this address out.

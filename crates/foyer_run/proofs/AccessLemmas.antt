@@ -5,20 +5,21 @@ use Rattle.foyer_device.specs.declared.error.Error.{Error}
 use Rattle.foyer_model.specs.World.{World, after_all}
 use Rattle.foyer_core.specs.Answered.{HandsBack}
 use Rattle.foyer_core.specs.Asked.{went_well}
-use Rattle.foyer_core.specs.Content.{Content, Meaning}
-use Rattle.foyer_core.specs.Refines.{IsBuilt, IsHandedBack, IsPutOff, IsRefined, machine}
-use Rattle.foyer_core.specs.Sizes.{AreValid}
-use Rattle.foyer_core.specs.Standing.{IsStateOf}
+use Rattle.foyer_rules.specs.Content.{Content, Meaning}
+use Rattle.foyer_core.specs.Refines.{IsBuilt, IsHandedBack, IsPutOff, IsRefined}
+use Rattle.foyer_rules.specs.CoreRules.{machine}
+use Rattle.foyer_rules.specs.Sizes.{AreValid}
+use Rattle.foyer_core.specs.StateOf.{IsStateOf}
 use Rattle.foyer_core.specs.declared.reply.Reply.{Reply}
 use Rattle.foyer_core.specs.declared.reply.Reply.TheVariants as reply
 use Rattle.foyer_core.specs.declared.reply.Write.{Write}
-use Rattle.foyer_core.specs.declared.settings.Settings.{Settings}
+use Rattle.foyer_rules.specs.declared.settings.Settings.{Settings}
 use Rattle.foyer_core.specs.declared.state.Core.{Core}
 use Rattle.foyer_core.specs.declared.step.Step.{Step}
 use Rattle.foyer_core.specs.declared.step.Step.TheVariants as step
 use Rattle.foyer_core.specs.declared.step.Ticket.{Ticket}
 use Rattle.foyer_core.proofs.Opening.{replicate-end}
-use Rattle.foyer_core.proofs.StateLemmas.{set_count, set_here}
+use Rattle.foyer_standing.proofs.ListLemmas.{set_count, set_here}
 use Rattle.foyer_run.specs.Accesses.{Says, WritesAll, WritesUntil, load_of, writes_of}
 use Rattle.foyer_run.specs.Moves.{asked}
 use Rattle.foyer_run.specs.Running.{IsFree, IsMoved, at, block_in, ticket_in, with_ticket}

@@ -7,19 +7,20 @@ use Rattle.foyer_model.specs.Step as model_step
 use Rattle.foyer_model.specs.Follows.{Follows}
 use Rattle.foyer_model.specs.World.{World, Applies}
 use Rattle.foyer_model.proofs.Basics.{put_at}
-use Rattle.foyer_core.specs.Content.{Content, Meaning}
-use Rattle.foyer_core.specs.CoreRules.{layout}
-use Rattle.foyer_core.specs.Refines.{IsRefined, machine}
+use Rattle.foyer_rules.specs.Content.{Content, Meaning}
+use Rattle.foyer_rules.specs.CoreRules.{layout}
+use Rattle.foyer_core.specs.Refines.{IsRefined}
+use Rattle.foyer_rules.specs.CoreRules.{machine}
 use Rattle.foyer_core.specs.Replied.{IsReply, write_of}
-use Rattle.foyer_core.specs.Sizes.{AreValid}
+use Rattle.foyer_rules.specs.Sizes.{AreValid}
 use Rattle.foyer_core.specs.declared.reply.Reply.{Reply}
 use Rattle.foyer_core.specs.declared.reply.Reply.TheVariants as reply
 use Rattle.foyer_core.specs.declared.reply.Write.{Write}
-use Rattle.foyer_core.specs.declared.settings.Settings.{Settings}
+use Rattle.foyer_rules.specs.declared.settings.Settings.{Settings}
 use Rattle.foyer_core.specs.declared.state.Core.{Core}
 use Rattle.foyer_core.specs.declared.step.Step.TheVariants as step
 use Rattle.foyer_core.specs.declared.step.Ticket.{Ticket}
-use Rattle.foyer_core.proofs.StateLemmas.{set_here, set_there, set_count}
+use Rattle.foyer_standing.proofs.ListLemmas.{set_here, set_there, set_count}
 use Rattle.foyer_run.specs.Running.{IsDue, IsMoved, IsRunning, at, block_in, ticket_in, with_ticket}
 use Rattle.foyer_run.specs.declared.moves.Asked.TheVariants as asks
 use Rattle.foyer_run.specs.declared.moves.Issued.{Issued}

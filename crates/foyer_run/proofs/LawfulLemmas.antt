@@ -7,17 +7,17 @@ use Rattle.foyer_model.specs.Step.{LoadBegin, LoadEnd}
 use Rattle.foyer_model.specs.World.{World, WorldEvent, Applies, MayAllHappen, after, after_all}
 use Rattle.foyer_model.proofs.Promises.{answers_newest_lem, missed_newest_lem}
 use Rattle.foyer_model.proofs.PutsQueued.{puts_are_queued_lem}
-use Rattle.foyer_core.specs.Begins.{first_world}
-use Rattle.foyer_core.specs.Content.{Content, Meaning}
-use Rattle.foyer_core.specs.CoreRules.{layout}
-use Rattle.foyer_core.specs.Refines.{machine}
-use Rattle.foyer_core.specs.CoreRules.{IsEncoded}
-use Rattle.foyer_core.specs.Sizes.{AreValid}
+use Rattle.foyer_rules.specs.Begins.{first_world}
+use Rattle.foyer_rules.specs.Content.{Content, Meaning}
+use Rattle.foyer_rules.specs.CoreRules.{layout}
+use Rattle.foyer_rules.specs.CoreRules.{machine}
+use Rattle.foyer_rules.specs.CoreRules.{IsEncoded}
+use Rattle.foyer_rules.specs.Sizes.{AreValid}
 use Rattle.foyer_core.specs.declared.reply.Reply.{Reply}
-use Rattle.foyer_core.specs.declared.settings.Settings.{Settings}
+use Rattle.foyer_rules.specs.declared.settings.Settings.{Settings}
 use Rattle.foyer_core.specs.declared.state.Core.{Core}
-use Rattle.foyer_core.proofs.LawLemmas.{demands}
-use Rattle.foyer_core.proofs.OpenedLemmas.{first_opened}
+use Rattle.foyer_rules.proofs.LawLemmas.{demands}
+use Rattle.foyer_rules.proofs.FirstWorld.{first_opened}
 use Rattle.foyer_run.specs.Lawful.{AnswersAreNewest, EntriesAreNewest, NewestAreAnswered, PutsWereQueued, IsLawful}
 use Rattle.foyer_run.specs.Runs.{IsRun}
 use Rattle.foyer_run.specs.declared.moves.Move.{Move}

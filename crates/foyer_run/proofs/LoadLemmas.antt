@@ -13,15 +13,16 @@ use Rattle.foyer_model.specs.Step as model_step
 use Rattle.foyer_model.specs.World.{World, Applies, ReadBegins, ReadEnds, covers, after, IsReadAt}
 use Rattle.foyer_model.proofs.Basics.{put_same, put_other}
 use Rattle.foyer_core.specs.Asked.{ticket_of, came_of}
-use Rattle.foyer_core.specs.Content.{Content, Meaning}
-use Rattle.foyer_core.specs.Refines.{IsRefined, machine}
-use Rattle.foyer_core.specs.Sizes.{AreValid}
+use Rattle.foyer_rules.specs.Content.{Content, Meaning}
+use Rattle.foyer_core.specs.Refines.{IsRefined}
+use Rattle.foyer_rules.specs.CoreRules.{machine}
+use Rattle.foyer_rules.specs.Sizes.{AreValid}
 use Rattle.foyer_core.specs.declared.reply.Reply.{Reply}
-use Rattle.foyer_core.specs.declared.settings.Settings.{Settings}
+use Rattle.foyer_rules.specs.declared.settings.Settings.{Settings}
 use Rattle.foyer_core.specs.declared.state.Core.{Core}
 use Rattle.foyer_core.specs.declared.step.Step.TheVariants as step
 use Rattle.foyer_core.specs.declared.step.Ticket.{Ticket}
-use Rattle.foyer_core.proofs.StateLemmas.{set_here, set_there, set_count, some_is}
+use Rattle.foyer_standing.proofs.ListLemmas.{set_here, set_there, set_count, some_is}
 use Rattle.foyer_run.specs.Disk.{IsRead}
 use Rattle.foyer_run.specs.Due.{unread}
 use Rattle.foyer_run.specs.Running.{IsDue, IsMoved, IsRunning, at, issued_of, ticket_in, with_ticket}

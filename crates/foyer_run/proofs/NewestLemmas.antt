@@ -15,21 +15,22 @@ use Rattle.foyer_model.specs.World.{World, Applies, ReadBegins, ReadEnds, IsRead
 use Rattle.foyer_model.proofs.Basics.{put_same}
 use Rattle.foyer_model.proofs.Promises.{answers_newest_lem}
 use Rattle.foyer_core.specs.Asked.{age_of, ticket_of, came_of}
-use Rattle.foyer_core.specs.Begins.{first_world}
-use Rattle.foyer_core.specs.Content.{Content, Meaning, content}
-use Rattle.foyer_core.specs.CoreRules.{layout}
-use Rattle.foyer_core.specs.Refines.{IsRefined, machine}
-use Rattle.foyer_core.specs.CoreRules.{IsEncoded}
-use Rattle.foyer_core.specs.Sizes.{AreValid}
-use Rattle.foyer_core.specs.Standing.{IsStateOf}
+use Rattle.foyer_rules.specs.Begins.{first_world}
+use Rattle.foyer_rules.specs.Content.{Content, Meaning, content}
+use Rattle.foyer_rules.specs.CoreRules.{layout}
+use Rattle.foyer_core.specs.Refines.{IsRefined}
+use Rattle.foyer_rules.specs.CoreRules.{machine}
+use Rattle.foyer_rules.specs.CoreRules.{IsEncoded}
+use Rattle.foyer_rules.specs.Sizes.{AreValid}
+use Rattle.foyer_core.specs.StateOf.{IsStateOf}
 use Rattle.foyer_core.specs.declared.reply.Reply.{Reply}
 use Rattle.foyer_core.specs.declared.reply.Reply.TheVariants as reply
-use Rattle.foyer_core.specs.declared.settings.Settings.{Settings}
+use Rattle.foyer_rules.specs.declared.settings.Settings.{Settings}
 use Rattle.foyer_core.specs.declared.state.Core.{Core}
 use Rattle.foyer_core.specs.declared.step.Step.TheVariants as step
 use Rattle.foyer_core.specs.declared.step.Ticket.{Ticket}
-use Rattle.foyer_core.proofs.LawLemmas.{demands}
-use Rattle.foyer_core.proofs.OpenedLemmas.{first_opened}
+use Rattle.foyer_rules.proofs.LawLemmas.{demands}
+use Rattle.foyer_rules.proofs.FirstWorld.{first_opened}
 use Rattle.foyer_run.specs.Newest.{IsNewest}
 use Rattle.foyer_run.proofs.LoadLemmas.{IsCome, began, ended, ends, gives, load_at}
 

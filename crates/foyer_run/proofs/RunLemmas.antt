@@ -4,14 +4,14 @@ use Rattle.std.specs.Prelude.{OnErr, Result, Ok, Err}
 use Rattle.foyer_model.specs.Access.{BlockWrites}
 use Rattle.foyer_model.specs.Rules.{Rules, Splitting}
 use Rattle.foyer_model.specs.World.{World, WorldEvent, MayAllHappen, after, after_all}
-use Rattle.foyer_core.specs.Content.{Content, Meaning}
-use Rattle.foyer_core.specs.CoreRules.{layout}
-use Rattle.foyer_core.specs.Refines.{machine}
-use Rattle.foyer_core.specs.CoreRules.{IsEncoded}
-use Rattle.foyer_core.specs.Sizes.{AreValid}
-use Rattle.foyer_core.specs.Standing.{IsStateOf}
+use Rattle.foyer_rules.specs.Content.{Content, Meaning}
+use Rattle.foyer_rules.specs.CoreRules.{layout}
+use Rattle.foyer_rules.specs.CoreRules.{machine}
+use Rattle.foyer_rules.specs.CoreRules.{IsEncoded}
+use Rattle.foyer_rules.specs.Sizes.{AreValid}
+use Rattle.foyer_core.specs.StateOf.{IsStateOf}
 use Rattle.foyer_core.specs.declared.reply.Reply.{Reply}
-use Rattle.foyer_core.specs.declared.settings.Settings.{Settings}
+use Rattle.foyer_rules.specs.declared.settings.Settings.{Settings}
 use Rattle.foyer_core.specs.declared.state.Core.{Core}
 use Rattle.foyer_core.specs.declared.step.Ticket.{Ticket}
 use Rattle.foyer_run.specs.Moves.{AreMade, Makes, asked}

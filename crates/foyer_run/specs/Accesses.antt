@@ -1,7 +1,7 @@
 -- A load and a block's writes, each with its accesses in their place: as runs of moves.
 use Rattle.std.specs.Prelude.{ℕ, Bool, List, [], ◌∷◌, ◌++◌, length, replicate, Option, Some, None}
 use Rattle.std.specs.declared.vec.Vec.{Vec}
-use Rattle.foyer_core.specs.Content.{Meaning}
+use Rattle.foyer_rules.specs.Content.{Meaning}
 use Rattle.foyer_core.specs.declared.reply.Reply.{Reply}
 use Rattle.foyer_core.specs.declared.reply.Reply.TheVariants as reply
 use Rattle.foyer_core.specs.declared.reply.Write.{Write}

@@ -1,13 +1,13 @@
 -- What a core and its disk's bytes are driven to.
 use Rattle.std.specs.Prelude.{◌≡◌, ℕ, List}
 use Rattle.foyer_model.specs.World.{World, WorldEvent, MayAllHappen, after_all}
-use Rattle.foyer_core.specs.Content.{Content, Meaning}
-use Rattle.foyer_core.specs.CoreRules.{layout}
-use Rattle.foyer_core.specs.Refines.{machine}
-use Rattle.foyer_core.specs.CoreRules.{IsEncoded}
-use Rattle.foyer_core.specs.Sizes.{AreValid}
-use Rattle.foyer_core.specs.Standing.{IsStateOf}
-use Rattle.foyer_core.specs.declared.settings.Settings.{Settings}
+use Rattle.foyer_rules.specs.Content.{Content, Meaning}
+use Rattle.foyer_rules.specs.CoreRules.{layout}
+use Rattle.foyer_rules.specs.CoreRules.{machine}
+use Rattle.foyer_rules.specs.CoreRules.{IsEncoded}
+use Rattle.foyer_rules.specs.Sizes.{AreValid}
+use Rattle.foyer_core.specs.StateOf.{IsStateOf}
+use Rattle.foyer_rules.specs.declared.settings.Settings.{Settings}
 use Rattle.foyer_core.specs.declared.state.Core.{Core}
 
 -- events that may happen from this world on lead to a world whose core and bytes these are

@@ -5,16 +5,16 @@ use Rattle.foyer_model.specs.Event.{Put, newest}
 use Rattle.foyer_model.specs.Numbers.{last_number}
 use Rattle.foyer_model.specs.Record.{Holds}
 use Rattle.foyer_model.specs.World.{WorldEvent, MayAllHappen, after_all}
-use Rattle.foyer_core.specs.Begins.{first_world}
-use Rattle.foyer_core.specs.Content.{Content, Meaning, content}
-use Rattle.foyer_core.specs.CoreRules.{layout}
-use Rattle.foyer_core.specs.Refines.{machine}
-use Rattle.foyer_core.specs.CoreRules.{IsEncoded}
-use Rattle.foyer_core.specs.Sizes.{AreValid}
-use Rattle.foyer_core.specs.Standing.{IsStateOf}
+use Rattle.foyer_rules.specs.Begins.{first_world}
+use Rattle.foyer_rules.specs.Content.{Content, Meaning, content}
+use Rattle.foyer_rules.specs.CoreRules.{layout}
+use Rattle.foyer_rules.specs.CoreRules.{machine}
+use Rattle.foyer_rules.specs.CoreRules.{IsEncoded}
+use Rattle.foyer_rules.specs.Sizes.{AreValid}
+use Rattle.foyer_core.specs.StateOf.{IsStateOf}
 use Rattle.foyer_core.specs.declared.reply.Reply.{Reply}
 use Rattle.foyer_core.specs.declared.reply.Reply.TheVariants as reply
-use Rattle.foyer_core.specs.declared.settings.Settings.{Settings}
+use Rattle.foyer_rules.specs.declared.settings.Settings.{Settings}
 use Rattle.foyer_core.specs.declared.state.Core.{Core}
 
 -- these events led from an opened core over some bytes to this core and these bytes

@@ -1,9 +1,9 @@
 //! A load and a block's writes, each with its accesses in their place.
 ghost use Rattle.std.specs.Prelude.{ℕ, List, ◌++◌, ◌≡◌, ◌∷◌, [], false, OnErr, IfOk};
 ghost use Rattle.foyer_model.specs.World.{WorldEvent};
-ghost use Rattle.foyer_core.specs.Content.{Content, Meaning, meaning};
-ghost use Rattle.foyer_core.specs.Sizes.{AreValid};
-ghost use Rattle.foyer_core.specs.declared.settings.Settings.{Settings};
+ghost use Rattle.foyer_rules.specs.Content.{Content, Meaning, meaning};
+ghost use Rattle.foyer_rules.specs.Sizes.{AreValid};
+ghost use Rattle.foyer_rules.specs.declared.settings.Settings.{Settings};
 ghost use Rattle.foyer_core.specs.declared.state.Core.{Core};
 ghost use Rattle.foyer_run.specs.Accesses.{Says, Writes, load_of};
 ghost use Rattle.foyer_run.specs.Driven.{Drives};

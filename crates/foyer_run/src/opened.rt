@@ -1,8 +1,8 @@
 //! Runs that begin with an opened core, and what the laws say of them.
 ghost use Rattle.std.specs.Prelude.{◌≡◌, ◌⊎◌, ◌≤◌, ◌*◌, ◌^◌, ℕ, Err, IfOk, IfErr};
 ghost use Rattle.foyer_device.specs.declared.error.Error.TheVariants.{Config, Memory, OutOfRange};
-ghost use Rattle.foyer_core.specs.Content.{meaning};
-ghost use Rattle.foyer_core.specs.Sizes.{AreValid};
+ghost use Rattle.foyer_rules.specs.Content.{meaning};
+ghost use Rattle.foyer_rules.specs.Sizes.{AreValid};
 ghost use Rattle.foyer_run.specs.Lawful.{IsLawful};
 ghost use Rattle.foyer_run.specs.Texts.{of_texts};
 

@@ -1,7 +1,7 @@
 -- An engine that is driven.
 use Rattle.std.proofs.Common.{ℕ}
 use Rattle.std.specs.declared.string.String.{String}
-use Rattle.foyer_core.specs.Content.{Content}
+use Rattle.foyer_rules.specs.Content.{Content}
 use Rattle.foyer_core.specs.declared.reply.Reply.{Reply}
 use Rattle.foyer_core.specs.declared.reply.Reply.TheVariants as reply
 use Rattle.foyer_core.specs.declared.state.Core.{Core}

@@ -5,7 +5,7 @@ use Rattle.foyer_device.specs.declared.error.ErrorKind.{ErrorKind}
 use Rattle.foyer_device.specs.declared.error.ErrorKind.TheVariants as kind
 use Rattle.foyer_format.specs.declared.serde.ages.Age.{Age}
 use Rattle.foyer_policy.specs.Record.{Record}
-use Rattle.foyer_core.specs.Content.{Content, Meaning, content}
+use Rattle.foyer_rules.specs.Content.{Content, Meaning, content}
 use Rattle.foyer_core.specs.declared.reply.Reply.{Reply}
 use Rattle.foyer_core.specs.declared.reply.Reply.TheVariants as reply
 use Rattle.foyer_core.specs.declared.state.Core.{Core}

@@ -1,7 +1,7 @@
 //! The engine that the program keeps: a core over a disk in memory, driven on one thread.
 ghost use Rattle.std.specs.Prelude.{◌≡◌, ◌⊎◌, ◌≤◌, ◌*◌, ◌^◌, [], None, IfOk, IfErr, string_bytes};
 ghost use Rattle.foyer_device.specs.declared.error.Error.TheVariants.{Config, Memory, OutOfRange};
-ghost use Rattle.foyer_core.specs.Sizes.{AreValid};
+ghost use Rattle.foyer_rules.specs.Sizes.{AreValid};
 ghost use Rattle.foyer_run.specs.Driven.{Drives};
 ghost use Rattle.foyer_run.specs.Newest.{IsHistory};
 ghost use Rattle.foyer_run.specs.Waiting.{Closes, Waits};

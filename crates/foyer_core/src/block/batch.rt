@@ -11,27 +11,27 @@ ghost use Rattle.foyer_model.specs.State as model_state;
 ghost use Rattle.foyer_model.specs.State.{State};
 ghost use Rattle.foyer_model.specs.Step as model_step;
 ghost use Rattle.foyer_core.specs.Batches.{StandsAt, FlusherStep, IsIssued, issued_next, issued_wrote, HasEnded, settled, failed_batch};
-ghost use Rattle.foyer_core.specs.Content.{Content, Meaning};
+ghost use Rattle.foyer_rules.specs.Content.{Content, Meaning};
 ghost use Rattle.foyer_core.specs.Flushing.{IsFlusherAs, IsBatchAs};
-ghost use Rattle.foyer_core.specs.Sizes.{AreValid};
-ghost use Rattle.foyer_core.specs.Standing.{AreBlocksAs};
+ghost use Rattle.foyer_rules.specs.Sizes.{AreValid};
+ghost use Rattle.foyer_standing.specs.Standing.{AreBlocksAs};
 ghost use Rattle.foyer_core.specs.FlushInTurn.{MayBegin, HasBlock, IsWriting, IsWritten};
 ghost use Rattle.foyer_core.specs.Unchanged.{seen};
 ghost use Rattle.foyer_core.specs.declared.block.batch.Wrote.TheVariants as wrote;
-ghost use Rattle.foyer_core.specs.declared.settings.Settings.{Settings};
+ghost use Rattle.foyer_rules.specs.declared.settings.Settings.{Settings};
 
-use crate::block::flusher::{Batch, Flusher, InvalidStats, LaidOut, Writing};
-use crate::block::manager::{
-    begin_to_wait, end_to_wait, filling_of, hand_out, invalidate_all, release,
-};
+use crate::block::flusher::{Batch, Flusher, LaidOut, Writing};
 use crate::reply::Write;
-use crate::state::BlockState;
 use foyer_block::indexer::{HashedEntryAddress, Indexer};
 use foyer_block::manager::BlockId;
 use foyer_block::tombstone::Tombstone;
 use foyer_device::error::Result;
 use foyer_format::block::buffer::Buffer;
 use foyer_policy::keeper::Piece;
+use foyer_standing::blocks::{BlockState, InvalidStats};
+use foyer_standing::manager::{
+    begin_to_wait, end_to_wait, filling_of, hand_out, invalidate_all, release,
+};
 use std::alloc::Allocator;
 use std::collections::VecDeque;
 use std::mem;

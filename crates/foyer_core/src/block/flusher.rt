@@ -6,16 +6,9 @@ use foyer_block::tombstone::Tombstone;
 use foyer_format::block::buffer::Buffer;
 use foyer_format::block::serde::Sequence;
 use foyer_policy::keeper::Piece;
+use foyer_standing::blocks::InvalidStats;
 use std::alloc::Allocator;
 use std::collections::VecDeque;
-
-/// Bytes of a block that a mark made invalid.
-#[derive(Clone, Copy, Debug, PartialEq, Eq)]
-pub struct InvalidStats {
-    pub block: BlockId,
-    /// In bytes, whole pages.
-    pub size: usize,
-}
 
 /// A mark, and what it made invalid.
 #[derive(Clone, Copy, Debug)]

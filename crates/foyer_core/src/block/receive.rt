@@ -4,20 +4,21 @@ ghost use Rattle.std.specs.VecDeque.{deque_len, deque_capacity};
 ghost use Rattle.foyer_format.specs.Record.{record_bytes};
 ghost use Rattle.foyer_format.specs.declared.serde.ages.Age.{Age as age};
 ghost use Rattle.foyer_model.specs.State.{State};
-ghost use Rattle.foyer_core.specs.Content.{Content, meaning};
+ghost use Rattle.foyer_rules.specs.Content.{Content, meaning};
 ghost use Rattle.foyer_core.specs.Flushing.{IsFlusherAs};
-ghost use Rattle.foyer_core.specs.Sizes.{AreValid};
+ghost use Rattle.foyer_rules.specs.Sizes.{AreValid};
 ghost use Rattle.foyer_core.specs.Taking.{IsPushed, IsLeftOut, TakesFront};
-ghost use Rattle.foyer_core.specs.declared.settings.Settings.{Settings};
+ghost use Rattle.foyer_rules.specs.declared.settings.Settings.{Settings};
 ghost use Rattle.foyer_core.specs.Unchanged.{seen};
 
-use crate::block::flusher::{Flusher, InvalidStats, Submission};
+use crate::block::flusher::{Flusher, Submission};
 use foyer_block::indexer::{EntryAddress, HashedEntryAddress};
 use foyer_device::error::Result;
 use foyer_format::block::buffer::Buffer;
 use foyer_format::compress::Compression;
 use foyer_format::serde::Code;
 use foyer_policy::keeper::Piece;
+use foyer_standing::blocks::InvalidStats;
 use std::alloc::Allocator;
 
 // A buffer's first reservation, in bytes.

@@ -1,5 +1,6 @@
-use Rattle.foyer_core.specs.CoreRules.{rules_of}
-use Rattle.foyer_core.proofs.OpenedLemmas.{opened_stands, first_opened}
+use Rattle.foyer_rules.specs.CoreRules.{rules_of}
+use Rattle.foyer_core.proofs.OpenedLemmas.{opened_stands}
+use Rattle.foyer_rules.proofs.FirstWorld.{first_opened}
 use Rattle.foyer_core.proofs.laws.opening_begins.Goals as goal
 
 pub returns-clause-stands : goal.returns-clause-stands

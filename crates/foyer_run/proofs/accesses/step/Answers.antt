@@ -1,4 +1,4 @@
-use Rattle.foyer_core.specs.Content.{meaning}
+use Rattle.foyer_rules.specs.Content.{meaning}
 use Rattle.foyer_run.proofs.DriveLemmas.{step_drives, step_says}
 use Rattle.foyer_run.proofs.StepLemmas.{encodings_of}
 use Rattle.foyer_run.proofs.accesses.step.Goals as goal

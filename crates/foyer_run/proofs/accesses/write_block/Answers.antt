@@ -1,6 +1,6 @@
 use Rattle.std.proofs.Common.{[], arith, None, Some, inl, inr, refl, sym, subst, ◌∙◌}
 use Rattle.foyer_block.proofs.Found.{slice_get_at}
-use Rattle.foyer_core.specs.Content.{meaning}
+use Rattle.foyer_rules.specs.Content.{meaning}
 use Rattle.foyer_core.specs.Refines.{IsRefined}
 use Rattle.foyer_core.specs.declared.step.Step.TheVariants as step
 use Rattle.foyer_core.proofs.FlushTurns.{went_is}

@@ -1,4 +1,4 @@
-use Rattle.foyer_core.specs.Content.{meaning}
+use Rattle.foyer_rules.specs.Content.{meaning}
 use Rattle.foyer_run.proofs.AccessLemmas.{AreWritten}
 use Rattle.foyer_run.proofs.accesses.write_block.Given as goal
 

@@ -1,4 +1,4 @@
-use Rattle.foyer_core.specs.Content.{meaning}
+use Rattle.foyer_rules.specs.Content.{meaning}
 use Rattle.foyer_run.proofs.StepLemmas.{encodings_of, step_moves}
 use Rattle.foyer_run.proofs.moves.apply_step.Goals as goal
 

@@ -1,6 +1,6 @@
 use Rattle.std.proofs.Common.{arith, inl, inr, refl, sym, ap, ◌∙◌}
 use Rattle.std.specs.Prelude.{Some, length, slice_set, ◌≡◌}
-use Rattle.foyer_core.specs.Content.{meaning}
+use Rattle.foyer_rules.specs.Content.{meaning}
 use Rattle.foyer_run.proofs.BlockLemmas.{block_moves, first_issued}
 use Rattle.foyer_run.proofs.moves.flush_block.Goals as goal
 

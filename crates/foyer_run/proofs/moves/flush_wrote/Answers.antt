@@ -1,6 +1,6 @@
 use Rattle.std.proofs.Common.{inl, inr, sym, ap, ◌∙◌}
 use Rattle.std.specs.Prelude.{Some, slice_get, slice_set}
-use Rattle.foyer_core.specs.Content.{meaning}
+use Rattle.foyer_rules.specs.Content.{meaning}
 use Rattle.foyer_core.proofs.FlushTurns.{went_is}
 use Rattle.foyer_run.specs.Running.{at, write_at}
 use Rattle.foyer_run.proofs.WriteLemmas.{done_is, next_issued, none_left, none_noted, noted, write_moves, write_passes}

@@ -1,5 +1,5 @@
 use Rattle.std.proofs.Common.{sym, ◌∙◌, rules}
-use Rattle.foyer_core.specs.Content.{meaning}
+use Rattle.foyer_rules.specs.Content.{meaning}
 use Rattle.foyer_run.specs.Moves.{asked}
 use Rattle.foyer_run.proofs.RunLemmas.{nothing_moves}
 use Rattle.foyer_run.proofs.moves.make.Goals as goal

@@ -1,7 +1,7 @@
 use Rattle.std.proofs.Common.{◌≡◌, ◌+◌, ◌++◌, ◌∷◌, [], None, arith, length, replicate, sym, ap, subst, ◌∙◌}
 use Rattle.foyer_model.specs.World.{after_all}
-use Rattle.foyer_core.specs.Content.{meaning}
-use Rattle.foyer_core.specs.Refines.{machine}
+use Rattle.foyer_rules.specs.Content.{meaning}
+use Rattle.foyer_rules.specs.CoreRules.{machine}
 use Rattle.foyer_run.specs.Runs.{IsFront, IsRun}
 use Rattle.foyer_run.proofs.ListLemmas.{append_none, append_twice, empty_is, pushed_count}
 use Rattle.foyer_run.proofs.RunLemmas.{err_is, front_none, front_of, going_begun, going_on, gone}

@@ -1,9 +1,9 @@
 use Rattle.std.proofs.Common.{◌≡◌, ◌≤◌, ℕ, vec_len, length, ◌++◌}
 use Rattle.foyer_model.specs.World.{World}
-use Rattle.foyer_core.specs.Content.{Content, meaning}
-use Rattle.foyer_core.specs.Sizes.{AreValid}
-use Rattle.foyer_core.specs.Standing.{IsStateOf}
-use Rattle.foyer_core.specs.declared.settings.Settings.{Settings}
+use Rattle.foyer_rules.specs.Content.{Content, meaning}
+use Rattle.foyer_rules.specs.Sizes.{AreValid}
+use Rattle.foyer_core.specs.StateOf.{IsStateOf}
+use Rattle.foyer_rules.specs.declared.settings.Settings.{Settings}
 use Rattle.foyer_run.proofs.RunLemmas.{IsGoing}
 use Rattle.foyer_run.proofs.moves.run.Given as goal
 

@@ -1,6 +1,6 @@
-use Rattle.foyer_core.specs.Begins.{first_world}
-use Rattle.foyer_core.specs.Content.{meaning}
-use Rattle.foyer_core.specs.Refines.{machine}
+use Rattle.foyer_rules.specs.Begins.{first_world}
+use Rattle.foyer_rules.specs.Content.{meaning}
+use Rattle.foyer_rules.specs.CoreRules.{machine}
 use Rattle.foyer_core.proofs.OpenedLemmas.{opened_stands}
 use Rattle.foyer_run.proofs.LawfulLemmas.{lawful}
 use Rattle.foyer_run.proofs.opened.open_and_run.Goals as goal

@@ -1,5 +1,5 @@
 use Rattle.std.proofs.Common.{◌+◌, ◌-◌, ◌^◌, ◌<◌, refl, arith}
-use Rattle.foyer_core.specs.Content.{meaning}
+use Rattle.foyer_rules.specs.Content.{meaning}
 use Rattle.foyer_core.proofs.RefinesLemmas.{met, met_back, met_at_end}
 use Rattle.foyer_core.proofs.state.Core.apply.Goals as goal
 

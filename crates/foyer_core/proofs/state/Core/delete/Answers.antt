@@ -9,13 +9,13 @@ use Rattle.foyer_model.specs.Record.{Mark}
 use Rattle.foyer_model.specs.Reply as model_reply
 use Rattle.foyer_model.specs.State.{Remove}
 use Rattle.foyer_core.specs.Flushing.{invalid_of_all}
-use Rattle.foyer_core.specs.Refines.{machine}
-use Rattle.foyer_core.specs.Standing.{IsIndexedAs}
+use Rattle.foyer_rules.specs.CoreRules.{machine}
+use Rattle.foyer_standing.specs.Standing.{IsIndexedAs}
 use Rattle.foyer_core.specs.declared.block.flusher.Submission.TheVariants.{Tombstone}
 use Rattle.foyer_core.specs.declared.step.Step.TheVariants as step
 use Rattle.foyer_core.proofs.Deleted.{bytes_of, pushed_out}
 use Rattle.foyer_core.proofs.QueueLemmas.{with_queued, queue_pushed_at, size_grown}
-use Rattle.foyer_core.proofs.SlotLemmas.{index_inserted}
+use Rattle.foyer_standing.proofs.SlotLemmas.{index_inserted}
 use Rattle.foyer_core.proofs.StateLemmas.{flushers_count}
 use Rattle.foyer_core.proofs.TurnLemmas.{is_early, same, refused}
 use Rattle.foyer_core.specs.Unchanged.{seen}

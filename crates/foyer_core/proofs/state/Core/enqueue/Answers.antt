@@ -5,8 +5,8 @@ use Rattle.foyer_model.specs.Queue.{IsIgnored}
 use Rattle.foyer_model.specs.Reply as model_reply
 use Rattle.foyer_model.specs.State.{Piece}
 use Rattle.foyer_core.specs.Asked.{known_age}
-use Rattle.foyer_core.specs.Content.{content_of}
-use Rattle.foyer_core.specs.Refines.{machine}
+use Rattle.foyer_rules.specs.Content.{content_of}
+use Rattle.foyer_rules.specs.CoreRules.{machine}
 use Rattle.foyer_core.specs.declared.block.flusher.Submission.TheVariants.{CacheEntry}
 use Rattle.foyer_core.specs.declared.step.Step.TheVariants as step
 use Rattle.foyer_core.proofs.Enqueued.{ignored_young, ignored_full, not_ignored}

@@ -5,9 +5,9 @@ use Rattle.foyer_model.specs.Receive.{HasReceived, turned}
 use Rattle.foyer_model.specs.Reply as model_reply
 use Rattle.foyer_core.specs.Beginning.{IsBegun}
 use Rattle.foyer_core.specs.Flushing.{IsFlusherAs}
-use Rattle.foyer_core.specs.InOneBlock.{spread_of}
-use Rattle.foyer_core.specs.Refines.{machine}
-use Rattle.foyer_core.specs.Replied.{mark_of}
+use Rattle.foyer_rules.specs.InOneBlock.{spread_of}
+use Rattle.foyer_rules.specs.CoreRules.{machine}
+use Rattle.foyer_standing.specs.Addresses.{mark_of}
 use Rattle.foyer_core.specs.Unchanged.{seen}
 use Rattle.foyer_core.specs.declared.step.Step.TheVariants as step
 use Rattle.foyer_core.proofs.BeginLemmas.{begun, begins, begun_stands, may_begin, may_begin_back}

@@ -7,12 +7,13 @@ use Rattle.foyer_model.specs.Numbers.{put, plus}
 use Rattle.foyer_model.specs.Record.{Indexed}
 use Rattle.foyer_model.specs.Reply as model_reply
 use Rattle.foyer_model.proofs.Basics.{put_same, put_other}
-use Rattle.foyer_core.specs.Asked.{address_of, ticket_of}
-use Rattle.foyer_core.specs.Refines.{machine}
-use Rattle.foyer_core.specs.Standing.{slot_of, IsBlockAs, IsIndexedAs}
+use Rattle.foyer_standing.specs.Addresses.{address_of}
+use Rattle.foyer_core.specs.Asked.{ticket_of}
+use Rattle.foyer_rules.specs.CoreRules.{machine}
+use Rattle.foyer_standing.specs.Standing.{slot_of, IsBlockAs, IsIndexedAs}
 use Rattle.foyer_core.specs.declared.step.Ticket.{Ticket}
-use Rattle.foyer_core.proofs.AccessLemmas.{blocks_set, more_accessed}
-use Rattle.foyer_core.proofs.SlotLemmas.{held_address, index_removed, without_itself}
+use Rattle.foyer_standing.proofs.AccessLemmas.{blocks_set, more_accessed}
+use Rattle.foyer_standing.proofs.SlotLemmas.{held_address, index_removed, without_itself}
 use Rattle.foyer_core.proofs.state.Core.load_begin.Goals as goal
 
 pub returns-then-address-state-clause-meets : goal.returns-then-address-state-clause-meets

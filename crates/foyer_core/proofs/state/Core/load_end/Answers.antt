@@ -11,9 +11,10 @@ use Rattle.foyer_model.specs.Step as model_step
 use Rattle.foyer_model.specs.Load.{judged, age_at}
 use Rattle.foyer_model.specs.Record.{Outcome, Holds}
 use Rattle.foyer_core.specs.Asked.{ticket_of, age_of as asked_age}
-use Rattle.foyer_core.specs.Content.{Content, content, meaning}
-use Rattle.foyer_core.specs.Refines.{machine, IsRefinedUncounted}
-use Rattle.foyer_core.specs.Standing.{IsBlockAs}
+use Rattle.foyer_rules.specs.Content.{Content, content, meaning}
+use Rattle.foyer_rules.specs.CoreRules.{machine}
+use Rattle.foyer_core.specs.Refines.{IsRefinedUncounted}
+use Rattle.foyer_standing.specs.Standing.{IsBlockAs}
 use Rattle.foyer_core.specs.declared.reply.Reply.TheVariants as reply
 use Rattle.foyer_core.specs.declared.step.Step.TheVariants as step
 use Rattle.foyer_core.proofs.LoadLemmas.{judged_past, judged_now, misses, answers, refuses}

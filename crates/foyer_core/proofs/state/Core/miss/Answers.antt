@@ -1,4 +1,4 @@
-use Rattle.foyer_core.proofs.SlotLemmas.{index_removed}
+use Rattle.foyer_standing.proofs.SlotLemmas.{index_removed}
 use Rattle.foyer_core.proofs.state.Core.miss.Goals as goal
 
 pub returns-clause-meets : goal.returns-clause-meets

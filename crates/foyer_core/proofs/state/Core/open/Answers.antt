@@ -1,5 +1,5 @@
 use Rattle.std.proofs.Common.{refl, arith}
-use Rattle.foyer_core.specs.Sizes.{AreValid}
+use Rattle.foyer_rules.specs.Sizes.{AreValid}
 use Rattle.foyer_core.proofs.state.Core.open.Goals as goal
 
 pub returns-clause-unsound : goal.returns-clause-unsound

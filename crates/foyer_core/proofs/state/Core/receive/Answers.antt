@@ -2,9 +2,9 @@ use Rattle.std.proofs.Common.{◌≡◌, ◌-◌, ◌<◌, length, [], None, Ok,
 use Rattle.foyer_device.specs.declared.error.ErrorKind.TheVariants as kind
 use Rattle.foyer_model.specs.Receive.{turned, TakesFront as TakesOne}
 use Rattle.foyer_model.specs.Reply as model_reply
-use Rattle.foyer_core.specs.Content.{meaning}
+use Rattle.foyer_rules.specs.Content.{meaning}
 use Rattle.foyer_core.specs.Flushing.{IsFlusherAs}
-use Rattle.foyer_core.specs.Refines.{machine}
+use Rattle.foyer_rules.specs.CoreRules.{machine}
 use Rattle.foyer_core.specs.Replied.{returned}
 use Rattle.foyer_core.specs.Taking.{IsReceivedAs, NeedsRoom, TakesFront}
 use Rattle.foyer_core.specs.Unchanged.{seen}

@@ -2,8 +2,8 @@ use Rattle.std.proofs.Common.{◌≡◌, Option, Some, map, sym, ap, subst, ◌�
 use Rattle.foyer_block.specs.Removal.{without_marks}
 use Rattle.foyer_model.specs.Flush.{all_invalidated}
 use Rattle.foyer_core.specs.Batches.{FlusherStep, HasEnded}
-use Rattle.foyer_core.specs.Flushing.{invalid_of}
-use Rattle.foyer_core.specs.Standing.{AreBlocksAs}
+use Rattle.foyer_standing.specs.Addresses.{invalid_of}
+use Rattle.foyer_standing.specs.Standing.{AreBlocksAs}
 use Rattle.foyer_core.specs.Unchanged.{seen}
 use Rattle.foyer_core.specs.declared.block.flusher.Batch.{Batch}
 use Rattle.foyer_core.proofs.WroteLemmas.{ended}

@@ -3,7 +3,7 @@ use Rattle.std.proofs.Common.{rules, option_to_list, ◌≡◌, ◌+◌, ◌-◌
 use Rattle.std.proofs.lemmas.Bool.{eq-eqb}
 use Rattle.std.specs.VecDeque.{deque_len}
 use Rattle.foyer_format.specs.Record.{record_bytes}
-use Rattle.foyer_core.specs.Content.{meaning}
+use Rattle.foyer_rules.specs.Content.{meaning}
 use Rattle.foyer_core.specs.Flushing.{IsFlusherAs}
 use Rattle.foyer_core.specs.Taking.{IsPushed, IsLeftOut}
 use Rattle.foyer_core.specs.Unchanged.{seen}

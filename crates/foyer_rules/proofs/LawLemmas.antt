@@ -1,0 +1,33 @@
+-- The demands of the laws, for every code and all sizes.
+use Rattle.std.proofs.Common.{ℕ, Bool, false, List, [], None}
+use Rattle.foyer_model.specs.Laws.{Demands}
+use Rattle.foyer_model.specs.Layout.{PlacesAll}
+use Rattle.foyer_rules.specs.Content.{Meaning}
+use Rattle.foyer_rules.specs.CoreRules.{layout}
+use Rattle.foyer_rules.specs.CoreRules.{rules_of, IsEncoded}
+use Rattle.foyer_rules.specs.Sizes.{AreValid}
+use Rattle.foyer_rules.specs.declared.settings.Settings.{Settings}
+use Rattle.foyer_rules.proofs.LayoutLemmas.{keeps_records, places_all}
+use Rattle.foyer_rules.proofs.TripLemmas.{round_trip}
+
+-- the demands don't depend on the types of keys and values
+abbrev any_meaning : (is_key is_value : List ℕ → Bool) → Meaning ℕ ℕ ℕ
+any_meaning is_key is_value = record {
+  key_of = λ k. [];
+  value_of = λ v. [];
+  is_encodable = λ k v. false;
+  is_key = is_key;
+  is_value = is_value;
+  age_of = λ p. None;
+}
+
+pub demands : (is_key is_value : List ℕ → Bool) (s : Settings) (sound : AreValid s)
+    → Demands (rules_of is_key is_value s sound) (layout s) (IsEncoded is_key is_value)
+demands is_key is_value s sound = record {
+  trips = round_trip (any_meaning is_key is_value) s sound;
+  places = keeps_records (any_meaning is_key is_value) s sound;
+}
+
+pub places : (is_key is_value : List ℕ → Bool) (s : Settings) (sound : AreValid s)
+    → PlacesAll (rules_of is_key is_value s sound) (layout s)
+places is_key is_value s sound = places_all (any_meaning is_key is_value) s sound

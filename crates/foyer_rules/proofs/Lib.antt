@@ -1,0 +1,4 @@
+pub mod FirstWorld
+pub mod LawLemmas
+pub mod LayoutLemmas
+pub mod TripLemmas

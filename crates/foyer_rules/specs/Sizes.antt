@@ -1,0 +1,13 @@
+-- Sizes that go together.
+use Rattle.std.specs.Prelude.{◌≡◌, ◌%◌, ◌^◌, ◌<◌, ◌≤◌}
+use Rattle.foyer_rules.specs.declared.settings.Settings.{Settings}
+
+pub record AreValid (s : Settings) : Type 0 where
+  pub some_flusher : 0 < s.flushers
+  pub some_shard : 0 < s.indexer_shards
+  pub enough_blocks : s.flushers ≤ s.blocks
+  pub whole_block : s.block_size % 4096 ≡ 0
+  pub offsets_fit : s.block_size ≤ 2 ^ 32
+  pub whole_index : s.blob_index_size % 4096 ≡ 0
+  pub some_index : 0 < s.blob_index_size
+  pub room : s.blob_index_size < s.block_size

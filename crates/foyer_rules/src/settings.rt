@@ -1,0 +1,77 @@
+//! The sizes that a core is opened with.
+ghost use Rattle.std.specs.Prelude.{◌≡◌, ◌^◌, ◌↔◌, IsOk, IsOkUnless};
+ghost use Rattle.foyer_rules.specs.Sizes.{AreValid};
+
+use foyer_device::error::{Error, Result};
+use foyer_format::block::buffer::PAGE;
+
+/// The bytes of a blob index where none are given.
+pub const DEFAULT_BLOB_INDEX_SIZE: usize = PAGE;
+
+/// The shards of the index where none are given.
+pub const DEFAULT_INDEXER_SHARDS: usize = 64;
+
+/// The flushers where none are given.
+pub const DEFAULT_FLUSHERS: u32 = 1;
+
+/// The bytes that may be queued where none are given: 16 MiB.
+pub const DEFAULT_SUBMIT_QUEUE_SIZE_THRESHOLD: usize = 16 * 1024 * 1024;
+
+/// The greatest block: offsets in a block have 32 bits.
+pub const MAX_BLOCK_SIZE: usize = 1 << 32;
+
+/// The sizes that a core is opened with.
+#[derive(Clone, Copy, Debug, PartialEq, Eq)]
+pub struct Settings {
+    /// How many blocks the device has.
+    pub blocks: u32,
+    /// The bytes of a block, whole pages.
+    pub block_size: usize,
+    /// The bytes of a blob index, whole pages.
+    pub blob_index_size: usize,
+    /// How many flushers there are.
+    pub flushers: u32,
+    /// Into how many shards the index is divided.
+    pub indexer_shards: usize,
+    /// A piece is ignored where the sizes of those queued sum to more than this, in bytes.
+    pub submit_queue_size_threshold: usize,
+}
+
+impl Settings {
+    /// So many blocks of this size; all else at its default.
+    pub fn new(blocks: u32, block_size: usize) -> Settings
+        ensures sizes { (result.blocks ≡ blocks) × (result.block_size ≡ block_size) }
+        ensures defaults { (result.blob_index_size ≡ 4096) × (result.flushers ≡ 1) × (result.indexer_shards ≡ 64)
+            × (result.submit_queue_size_threshold ≡ 2 ^ 24) }
+    {
+        Settings {
+            blocks,
+            block_size,
+            blob_index_size: DEFAULT_BLOB_INDEX_SIZE,
+            flushers: DEFAULT_FLUSHERS,
+            indexer_shards: DEFAULT_INDEXER_SHARDS,
+            submit_queue_size_threshold: DEFAULT_SUBMIT_QUEUE_SIZE_THRESHOLD,
+        }
+    }
+
+    /// `Config` where the sizes don't go together: no flusher, no shard, a block that isn't whole pages, or is larger
+    /// than an offset can say, or has no room behind its first index, or fewer blocks than flushers.
+    pub fn check(&self) -> Result<()>
+        ensures sound { IsOk result ↔ AreValid self.now }
+        ensures refused { IsOkUnless result Error.Config }
+    {
+        if self.flushers == 0 || self.indexer_shards == 0 || self.blocks < self.flushers {
+            return Err(Error::Config);
+        }
+        if self.block_size % PAGE != 0 || self.block_size > MAX_BLOCK_SIZE {
+            return Err(Error::Config);
+        }
+        if self.blob_index_size == 0
+            || self.blob_index_size % PAGE != 0
+            || self.blob_index_size >= self.block_size
+        {
+            return Err(Error::Config);
+        }
+        Ok(())
+    }
+}
