@@ -1,6 +1,10 @@
 -- Sizes that go together.
-use Rattle.std.specs.Prelude.{◌≡◌, ◌%◌, ◌^◌, ◌<◌, ◌≤◌}
+use Rattle.std.specs.Prelude.{◌≡◌, ℕ, ◌*◌, ◌/◌, ◌%◌, ◌^◌, ◌<◌, ◌≤◌, ◌==◌, if◌then◌else◌}
 use Rattle.foyer_rules.specs.declared.settings.Settings.{Settings}
+
+-- the bytes of a flusher's buffer: its share of the pool, in whole pages
+abbrev pub buffer_room : Settings → ℕ
+buffer_room s = if s.flushers == 0 then 0 else s.buffer_pool_size / s.flushers / 4096 * 4096
 
 pub record AreValid (s : Settings) : Type 0 where
   pub some_flusher : 0 < s.flushers
@@ -11,3 +15,4 @@ pub record AreValid (s : Settings) : Type 0 where
   pub whole_index : s.blob_index_size % 4096 ≡ 0
   pub some_index : 0 < s.blob_index_size
   pub room : s.blob_index_size < s.block_size
+  pub some_buffer : 0 < buffer_room s

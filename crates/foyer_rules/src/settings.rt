@@ -1,6 +1,6 @@
 //! The sizes that a core is opened with.
 ghost use Rattle.std.specs.Prelude.{◌≡◌, ◌^◌, ◌↔◌, IsOk, IsOkUnless};
-ghost use Rattle.foyer_rules.specs.Sizes.{AreValid};
+ghost use Rattle.foyer_rules.specs.Sizes.{AreValid, buffer_room};
 
 use foyer_device::error::{Error, Result};
 use foyer_format::block::buffer::PAGE;
@@ -16,6 +16,9 @@ pub const DEFAULT_FLUSHERS: u32 = 1;
 
 /// The bytes that may be queued where none are given: 16 MiB.
 pub const DEFAULT_SUBMIT_QUEUE_SIZE_THRESHOLD: usize = 16 * 1024 * 1024;
+
+/// The bytes of all flushers' buffers together where none are given: 16 MiB.
+pub const DEFAULT_BUFFER_POOL_SIZE: usize = 16 * 1024 * 1024;
 
 /// The greatest block: offsets in a block have 32 bits.
 pub const MAX_BLOCK_SIZE: usize = 1 << 32;
@@ -35,6 +38,8 @@ pub struct Settings {
     pub indexer_shards: usize,
     /// A piece is ignored where the sizes of those queued sum to more than this, in bytes.
     pub submit_queue_size_threshold: usize,
+    /// The bytes of all flushers' buffers together, of which each has an equal share of whole pages.
+    pub buffer_pool_size: usize,
 }
 
 impl Settings {
@@ -42,7 +47,7 @@ impl Settings {
     pub fn new(blocks: u32, block_size: usize) -> Settings
         ensures sizes { (result.blocks ≡ blocks) × (result.block_size ≡ block_size) }
         ensures defaults { (result.blob_index_size ≡ 4096) × (result.flushers ≡ 1) × (result.indexer_shards ≡ 64)
-            × (result.submit_queue_size_threshold ≡ 2 ^ 24) }
+            × (result.submit_queue_size_threshold ≡ 2 ^ 24) × (result.buffer_pool_size ≡ 2 ^ 24) }
     {
         Settings {
             blocks,
@@ -51,11 +56,23 @@ impl Settings {
             flushers: DEFAULT_FLUSHERS,
             indexer_shards: DEFAULT_INDEXER_SHARDS,
             submit_queue_size_threshold: DEFAULT_SUBMIT_QUEUE_SIZE_THRESHOLD,
+            buffer_pool_size: DEFAULT_BUFFER_POOL_SIZE,
         }
     }
 
+    /// The bytes of one flusher's buffer: its share of the pool, in whole pages; 0 without a flusher.
+    pub fn buffer_room(&self) -> usize
+        ensures { result ≡ buffer_room self.now }
+    {
+        if self.flushers == 0 {
+            return 0;
+        }
+        self.buffer_pool_size / self.flushers as usize / PAGE * PAGE
+    }
+
     /// `Config` where the sizes don't go together: no flusher, no shard, a block that isn't whole pages, or is larger
-    /// than an offset can say, or has no room behind its first index, or fewer blocks than flushers.
+    /// than an offset can say, or has no room behind its first index, fewer blocks than flushers, or a pool that has no
+    /// page for each flusher.
     pub fn check(&self) -> Result<()>
         ensures sound { IsOk result ↔ AreValid self.now }
         ensures refused { IsOkUnless result Error.Config }
@@ -70,6 +87,9 @@ impl Settings {
             || self.blob_index_size % PAGE != 0
             || self.blob_index_size >= self.block_size
         {
+            return Err(Error::Config);
+        }
+        if self.buffer_room() == 0 {
             return Err(Error::Config);
         }
         Ok(())
