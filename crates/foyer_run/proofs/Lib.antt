@@ -3,6 +3,8 @@ pub mod BlockLemmas
 pub mod BlockPlaces
 pub mod DriveLemmas
 pub mod DueLemmas
+pub mod FlusherSteps
+pub mod IdleLemmas
 pub mod LawfulLemmas
 pub mod ListLemmas
 pub mod LoadLemmas
@@ -10,6 +12,7 @@ pub mod LookUpLemmas
 pub mod MissedLemmas
 pub mod NewestLemmas
 pub mod ReplyLemmas
+pub mod RestLemmas
 pub mod RunLemmas
 pub mod StepLemmas
 pub mod WriteLemmas

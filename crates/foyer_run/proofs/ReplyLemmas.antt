@@ -12,6 +12,7 @@ use Rattle.foyer_core.specs.declared.reply.Write.{Write}
 use Rattle.foyer_core.specs.declared.step.Ticket.{Ticket}
 use Rattle.std.specs.declared.vec.Vec.{Vec}
 use Rattle.foyer_run.specs.Running.{ticket_in, block_in}
+use Rattle.foyer_core.proofs.RefinesLemmas.{IsOrdinary}
 use Rattle.foyer_run.proofs.DueLemmas.{IssuesNoRead, IssuesNoWrite, EndsWrites}
 
 -- which access a reply is about
@@ -19,18 +20,23 @@ data Sort : Type 0 where
   Reads : Sort
   Writes : Sort
   GoesOn : Sort
+  Back : Sort
   Other : Sort
 
 abbrev sort : model_reply.Reply Content → Sort
 sort (model_reply.Read t) = Reads
 sort (model_reply.Written b ws) = Writes
 sort model_reply.Next = GoesOn
+sort (model_reply.NotNow back) = Back
+sort (model_reply.Refused kind back) = Back
 sort it = Other
 
 abbrev sort_of : {K V P A : Type 0} → Reply K V P A → Sort
 sort_of (reply.Read t) = Reads
 sort_of (reply.Write b ws) = Writes
 sort_of reply.Next = GoesOn
+sort_of (reply.NotNow back) = Back
+sort_of (reply.Refused why back) = Back
 sort_of answer = Other
 
 reads_none : (it : model_reply.Reply Content) → (sort it ≡ Reads → ⊥) → IssuesNoRead it
@@ -44,6 +50,11 @@ writes_none it ne = tt
 wants_next_write : (it : model_reply.Reply Content) → (sort it ≡ GoesOn → ⊥) → EndsWrites it
 wants_next_write model_reply.Next ne = absurd (ne refl)
 wants_next_write it ne = tt
+
+counts : (it : model_reply.Reply Content) → (sort it ≡ Back → ⊥) → IsOrdinary it
+counts (model_reply.NotNow back) ne = absurd (ne refl)
+counts (model_reply.Refused kind back) ne = absurd (ne refl)
+counts it ne = tt
 
 module _ {K V P A : Type 0} (m : Meaning K V P) where
   sorted : (answer : Reply K V P A) (it : model_reply.Reply Content) → IsReply m answer it → sort it ≡ sort_of answer
@@ -78,19 +89,37 @@ module _ {K V P A : Type 0} (m : Meaning K V P) where
   not_read (reply.Read t) none e = let f : Some t ≡ None = none in cc
   not_read (reply.Write b ws) none e = let f : Writes ≡ Reads = e in cc
   not_read reply.Next none e = let f : GoesOn ≡ Reads = e in cc
+  not_read (reply.NotNow back) none e = let f : Back ≡ Reads = e in cc
+  not_read (reply.Refused why back) none e = let f : Back ≡ Reads = e in cc
   not_read answer none e = let f : Other ≡ Reads = e in cc
 
   not_write : (answer : Reply K V P A) → block_in answer ≡ None → sort_of answer ≡ Writes → ⊥
   not_write (reply.Read t) none e = let f : Reads ≡ Writes = e in cc
   not_write (reply.Write b ws) none e = let f : Some b ≡ None = none in cc
   not_write reply.Next none e = let f : GoesOn ≡ Writes = e in cc
+  not_write (reply.NotNow back) none e = let f : Back ≡ Writes = e in cc
+  not_write (reply.Refused why back) none e = let f : Back ≡ Writes = e in cc
   not_write answer none e = let f : Other ≡ Writes = e in cc
 
   not_next : (answer : Reply K V P A) → (answer ≡ reply.Next → ⊥) → sort_of answer ≡ GoesOn → ⊥
   not_next (reply.Read t) none e = let f : Reads ≡ GoesOn = e in cc
   not_next (reply.Write b ws) none e = let f : Writes ≡ GoesOn = e in cc
   not_next reply.Next none e = none refl
+  not_next (reply.NotNow back) none e = let f : Back ≡ GoesOn = e in cc
+  not_next (reply.Refused why back) none e = let f : Back ≡ GoesOn = e in cc
   not_next answer none e = let f : Other ≡ GoesOn = e in cc
+
+  not_back : (answer : Reply K V P A) → (IsHandedBack answer → ⊥) → sort_of answer ≡ Back → ⊥
+  not_back (reply.NotNow back) none e = none tt
+  not_back (reply.Refused why back) none e = none tt
+  not_back (reply.Read t) none e = let f : Reads ≡ Back = e in cc
+  not_back (reply.Write b ws) none e = let f : Writes ≡ Back = e in cc
+  not_back reply.Next none e = let f : GoesOn ≡ Back = e in cc
+  not_back answer none e = let f : Other ≡ Back = e in cc
+
+  -- what doesn't come back counts
+  pub ordinary : (answer : Reply K V P A) (it : model_reply.Reply Content) → (IsHandedBack answer → ⊥) → IsReply m answer it → IsOrdinary it
+  ordinary answer it none is = counts it (λ e. not_back answer none (sym (sorted answer it is) ∙ e))
 
   pub no_read : (answer : Reply K V P A) (it : model_reply.Reply Content) → ticket_in answer ≡ None → IsReply m answer it → IssuesNoRead it
   no_read answer it none is = reads_none it (λ e. not_read answer none (sym (sorted answer it is) ∙ e))

@@ -101,16 +101,21 @@ module _ {K V P A : Type 0} (m : Meaning K V P) where
   pub waits_said : (y : Move K V P A) (last : Reply K V P A) (a b : Core K V P A) (bytes : ℕ → ℕ → ℕ) → MakesOnly IsWaiting (asked y) → Says m (y ∷ []) last a b bytes bytes → Waits m a b bytes bytes
   waits_said y last a b bytes is says = runs_by IsWaiting (y ∷ []) (says.before ++ last ∷ []) a b bytes bytes (is, tt) says.runs
 
-  writes_wait : (core : Core K V P A) (f n : ℕ) → AllMake IsWaiting (replicate n (move.FlushWrote f))
-  writes_wait core f zero = tt
-  writes_wait core f (suc n) = ((λ is_ok. tt), writes_wait core f n)
+  writes_by : (Is : model_step.Step Content → Type 0) (core : Core K V P A) (f n : ℕ) → ((is_ok : Bool) → Is (model_step.FlushWrote f is_ok)) → AllMake Is (replicate n (move.FlushWrote f))
+  writes_by Is core f zero are = tt
+  writes_by Is core f (suc n) are = (are, writes_by Is core f n are)
 
-  -- a block and its writes
+  -- a block and its writes, where their steps are of this kind
+  pub wrote_by : (Is : model_step.Step Content → Type 0) (f : ℕ) → Is (model_step.FlushBlock f) → ((is_ok : Bool) → Is (model_step.FlushWrote f is_ok))
+      → (last : Option (Reply K V P A)) (a b : Core K V P A) (x y : ℕ → ℕ → ℕ) → Writes m f last a b x y → DrivesBy (AllSteps Is) m a b x y
+  wrote_by Is f is are None a b x y all =
+      runs_by Is (writes_of f (length all.writes.items)) (reply.Write all.block all.writes ∷ replicate (length all.writes.items) reply.Next) a b x y (is, writes_by Is a f (length all.writes.items) are) all.runs
+  wrote_by Is f is are (Some last) a b x y until =
+      runs_by Is (writes_of f until.count) ((until.says).before ++ last ∷ []) a b x y (is, writes_by Is a f until.count are) (until.says).runs
+
+  -- those of a wait
   pub waits_wrote : (f : ℕ) (last : Option (Reply K V P A)) (a b : Core K V P A) (x y : ℕ → ℕ → ℕ) → Writes m f last a b x y → Waits m a b x y
-  waits_wrote f None a b x y all =
-      runs_by IsWaiting (writes_of f (length all.writes.items)) (reply.Write all.block all.writes ∷ replicate (length all.writes.items) reply.Next) a b x y (tt, writes_wait a f (length all.writes.items)) all.runs
-  waits_wrote f (Some last) a b x y until =
-      runs_by IsWaiting (writes_of f until.count) ((until.says).before ++ last ∷ []) a b x y (tt, writes_wait a f until.count) (until.says).runs
+  waits_wrote f last a b x y writes = wrote_by IsWaiting f tt (λ is_ok. tt) last a b x y writes
 
   -- a Close
   pub closes_said : (last : Reply K V P A) (a b : Core K V P A) (bytes : ℕ → ℕ → ℕ) → Says m (move.Close ∷ []) last a b bytes bytes → Closes m a b bytes bytes

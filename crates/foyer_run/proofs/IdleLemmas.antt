@@ -1,0 +1,52 @@
+-- Flushers that are idle: in one state of the model that a core stands for, and so in each. Nothing else of a flush's
+-- proof looks into the core's own flusher.
+use Rattle.std.proofs.Common.{◌≡◌, ℕ, List, [], ◌∷◌, length, map, Option, Some, None, inl, inr, refl, sym, ap, ◌∙◌, arith}
+use Rattle.std.proofs.lemmas.Option.{slice_get_cases}
+use Rattle.foyer_block.specs.declared.indexer.HashedEntryAddress.{HashedEntryAddress}
+use Rattle.foyer_policy.specs.Record.{Record}
+use Rattle.foyer_model.specs.Destroy.{IsIdle}
+use Rattle.foyer_model.specs.Record as model_record
+use Rattle.foyer_model.specs.State.{Flusher, State}
+use Rattle.foyer_model.specs.State as model_state
+use Rattle.foyer_rules.specs.Content.{Content, Meaning}
+use Rattle.foyer_rules.specs.declared.settings.Settings.{Settings}
+use Rattle.foyer_core.specs.Flushing.{AreBatched, AreRecords, IsFlusherAs}
+use Rattle.foyer_core.specs.StateOf.{IsStateOf}
+use Rattle.foyer_core.specs.Unchanged.{Seen, seen}
+use Rattle.foyer_core.specs.declared.block.flusher.Batch.{Batch}
+use Rattle.foyer_core.specs.declared.state.Core.{Core}
+
+no_records : {K V P : Type 0} (m : Meaning K V P) (at : ℕ) (es : List HashedEntryAddress) (ps : List (Record K V P)) (xs ys : List (model_record.Record Content))
+    → AreRecords m at es ps xs → AreRecords m at es ps ys → xs ≡ [] → ys ≡ []
+no_records m at [] [] xs [] one two e = refl
+no_records m at [] [] xs (y ∷ ys) one two e = absurd two
+no_records m at (e ∷ es) (p ∷ ps) [] ys one two is = absurd one
+no_records m at (e ∷ es) (p ∷ ps) (x ∷ xs) ys one two is = absurd (let f : x ∷ xs ≡ [] = is in cc)
+no_records m at es ps xs ys one two e = absurd one
+
+module _ {K V P A : Type 0} (m : Meaning K V P) where
+  no_batch : (s s' : Settings) (own : Option ℕ) (batch : Option (Batch K V P A)) (x y : Option (model_state.Batch Content))
+      → AreBatched m s own batch x → AreBatched m s' own batch y → x ≡ None → y ≡ None
+  no_batch s s' own None x None one two e = refl
+  no_batch s s' own None x (Some b) one two e = absurd two
+  no_batch s s' own (Some batch) None y one two e = absurd one
+  no_batch s s' own (Some batch) (Some b) y one two e = absurd (let f : Some b ≡ None = e in cc)
+
+  idle_as : (s s' : Settings) (φ : Seen K V P A) (x y : Flusher Content) → IsFlusherAs m s φ x → IsFlusherAs m s' φ y → IsIdle x → IsIdle y
+  idle_as s s' φ x y one two idle = (
+    two.queue ∙ sym one.queue ∙ idle.0,
+    no_records m 0 φ.records φ.pieces x.buffer y.buffer one.buffer two.buffer idle.1,
+    two.marks ∙ sym one.marks ∙ idle.2,
+    two.waits ∙ sym one.waits ∙ idle.3,
+    no_batch s s' φ.own φ.batch x.batch y.batch one.batch two.batch idle.4,
+  )
+
+  -- what is idle in one state that a core stands for is idle in each
+  pub idle_in_each : (core : Core K V P A) (s s' : Settings) (it it' : State Content) (f : ℕ) → IsStateOf m s core it → IsStateOf m s' core it' → IsIdle (it.flushers f) → IsIdle (it'.flushers f)
+  idle_in_each core s s' it it' f one two idle =
+      let same : s.flushers ≡ s'.flushers = ap (λ k. k.flushers) (sym one.sizes ∙ two.sizes) in
+      let count : length (map seen core.flushers.items) ≡ s.flushers = (one.flushers).count in
+      elim ((slice_get_cases (map seen core.flushers.items) f).1) [
+        | inl (φ, lt, there, read) ↦ idle_as s s' φ (it.flushers f) (it'.flushers f) ((one.flushers).all f φ there) ((two.flushers).all f φ there) idle
+        | inr (le, none) ↦ (two.flushers).beyond f (omega (arith, le))
+      ]

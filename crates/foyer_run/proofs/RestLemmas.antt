@@ -1,0 +1,255 @@
+-- What leads a core to rest: the steps of a flush, one after the other.
+use Rattle.std.proofs.Common.{◌≡◌, ◌≢◌, ℕ, ◌+◌, ◌<◌, ◌≤◌, Bool, true, List, [], ◌∷◌, Option, None, inl, inr, refl, sym, ap, subst, ◌∙◌, arith}
+use Rattle.std.proofs.lemmas.Bool.{cases_lt}
+use Rattle.foyer_model.specs.Destroy.{IsIdle}
+use Rattle.foyer_model.specs.Follows.{Follows}
+use Rattle.foyer_model.specs.Receive.{HasReceived, TakesFront}
+use Rattle.foyer_model.specs.Reply as model_reply
+use Rattle.foyer_model.specs.State.{Flusher, State}
+use Rattle.foyer_model.specs.Step as model_step
+use Rattle.foyer_model.specs.World.{World, after_all}
+use Rattle.foyer_rules.specs.Begins.{first_world}
+use Rattle.foyer_rules.specs.Content.{Content, Meaning}
+use Rattle.foyer_rules.specs.CoreRules.{IsEncoded, layout, machine}
+use Rattle.foyer_rules.specs.Sizes.{AreValid}
+use Rattle.foyer_rules.specs.declared.settings.Settings.{Settings}
+use Rattle.foyer_core.specs.Refines.{IsHandedBack, Refines}
+use Rattle.foyer_core.specs.Replied.{IsReply}
+use Rattle.foyer_core.specs.StateOf.{IsStateOf}
+use Rattle.foyer_core.specs.declared.reply.Reply.{Reply}
+use Rattle.foyer_core.specs.declared.reply.Reply.TheVariants as reply
+use Rattle.foyer_core.specs.declared.state.Core.{Core}
+use Rattle.foyer_core.specs.declared.step.Step.{Step}
+use Rattle.foyer_core.specs.declared.step.Step.TheVariants as step
+use Rattle.foyer_core.proofs.RefinesLemmas.{IsOrdinary}
+use Rattle.foyer_run.specs.Accesses.{Writes}
+use Rattle.foyer_run.specs.AtRest.{BeginsNone, ComesToRest, EndsBatch, EndsBatchOnce, KeepsOthers, Leads, LeavesAllIdle, LeavesIdle, LeavesIdleBelow, MayNotBegin, TakesQueue}
+use Rattle.foyer_run.specs.Waiting.{Waits}
+use Rattle.foyer_run.proofs.FlusherSteps.{IsOf, all_keep, begins_none_more, begins_none_same, finishes_ends, follows_keep, keeps_more, keeps_same, receives_none, takes_empty}
+use Rattle.foyer_run.proofs.IdleLemmas.{idle_in_each}
+use Rattle.foyer_run.proofs.ReplyLemmas.{ordinary}
+use Rattle.foyer_run.proofs.WaitingLemmas.{wrote_by}
+
+-- a reply that says that there was nothing to do
+abbrev pub SaysNothing : {K V P A : Type 0} → Reply K V P A → Type 0
+SaysNothing (reply.NotNow back) = Unit {0}
+SaysNothing reply.Empty = Unit {0}
+SaysNothing answer = ⊥
+
+none_received : {X : Type 0} (xs : List X) → (xs ≢ [] → ⊥) → xs ≡ []
+none_received [] none = refl
+none_received (x ∷ xs) none = absurd (none (λ e. let f : x ∷ xs ≡ [] = e in cc))
+
+-- an idle flusher has received nothing
+idle_unreceived : {C : Type 0} (φ : Flusher C) → IsIdle φ → HasReceived φ → ⊥
+idle_unreceived φ idle (inl some) = some idle.1
+idle_unreceived φ idle (inr (inl some)) = some idle.2
+idle_unreceived φ idle (inr (inr some)) = some idle.3
+
+-- any two states
+abbrev pub IsAny : State Content → State Content → Type 0
+IsAny it after = Unit {0}
+
+module _ {K V P A : Type 0} (m : Meaning K V P) where
+  pub comes_to_rest : (a b : Core K V P A) → Leads m LeavesAllIdle a b → ComesToRest m a b
+  comes_to_rest a b leads = λ s sound it at f s' it' at'.
+      let led = leads s sound it at in
+      idle_in_each m b s s' led.0 it' f led.1 at' (led.2 f)
+
+  -- also from what leads there
+  pub rest_after : (R : State Content → State Content → Type 0) (a b c : Core K V P A) → Leads m R a b → ComesToRest m b c → ComesToRest m a c
+  rest_after R a b c leads rest = λ s sound it at. let led = leads s sound it at in rest s sound led.0 led.1
+
+  -- nothing happens
+  pub leads_none : (R : State Content → State Content → Type 0) (core : Core K V P A) → ((it : State Content) → R it it) → Leads m R core core
+  leads_none R core same = λ s sound it at. (it, at, same it)
+
+  -- one after the other
+  pub leads_more : (Q R T : State Content → State Content → Type 0) (a b c : Core K V P A) → ((x y z : State Content) → Q x y → R y z → T x z)
+      → Leads m Q a b → Leads m R b c → Leads m T a c
+  leads_more Q R T a b c join one two = λ s sound it at.
+      let first = one s sound it at in
+      let second = two s sound first.0 first.1 in
+      (second.0, second.1, join it first.0 second.0 first.2 second.2)
+
+  -- whatever the states are
+  pub waits_lead : (a b : Core K V P A) (x y : ℕ → ℕ → ℕ) → Waits m a b x y → Leads m IsAny a b
+  waits_lead a b x y waits = λ s sound it at.
+      let w = record (first_world (machine m s sound) x) { core = it } in
+      let waited = waits s sound w at (λ b o. refl) in
+      ((after_all (machine m s sound) w (waited.0).events).core, (waited.0).stands, tt)
+
+  pub step_leads : (given : Step K V P A) (answer : Reply K V P A) (a b : Core K V P A) → Refines m given answer a b → Leads m IsAny a b
+  step_leads given answer a b refines = λ s sound it at. let met = refines s sound it at in (met.after, met.stands, tt)
+
+  -- a block and its writes leave the other flushers alone
+  pub wrote_keeps : (f : ℕ) (last : Option (Reply K V P A)) (a b : Core K V P A) (x y : ℕ → ℕ → ℕ) → Writes m f last a b x y → Leads m (KeepsOthers f) a b
+  wrote_keeps f last a b x y writes = λ s sound it at.
+      let rules = machine m s sound in
+      let w = record (first_world rules x) { core = it } in
+      let driven = wrote_by m (IsOf f) f refl (λ is_ok. refl) last a b x y writes s sound w at (λ b o. refl) in
+      ((after_all rules w (driven.0).events).core, (driven.0).stands, all_keep rules (layout s) (IsEncoded m.is_key m.is_value) w f (driven.0).events (driven.0).happened driven.1)
+
+  module _ (f : ℕ) (answer : Reply K V P A) (a b : Core K V P A) where
+    -- what is received begins no batch
+    pub receive_leads : Refines m (step.Receive f) answer a b → Leads m (BeginsNone f) a b
+    receive_leads refines = λ s sound it at.
+        let met = refines s sound it at in
+        (met.after, met.stands, receives_none (machine m s sound) (layout s) it met.after f met.it met.follows)
+
+    -- and where nothing is, the queue is empty
+    pub receive_ends : SaysNothing answer → Refines m (step.Receive f) answer a b → Leads m (TakesQueue f) a b
+    receive_ends nothing refines = λ s sound it at.
+        let met = refines s sound it at in
+        (met.after, met.stands, (receives_none (machine m s sound) (layout s) it met.after f met.it met.follows, go s sound it at answer nothing met.it met.reply met.after met.follows))
+      where
+        beyond : (s : Settings) (it : State Content) → IsStateOf m s a it → (f < s.flushers → ⊥) → (it.flushers f).queue ≡ []
+        beyond s it at not = elim (cases_lt f s.flushers) [ inl lt ↦ absurd (not lt) | inr le ↦ ((at.flushers).beyond f le).0 ]
+
+        taken : (s : Settings) (sound : AreValid s) (it done : State Content) (queue : _) → queue ≡ [] → TakesFront (machine m s sound) it f queue model_reply.Empty done → (done.flushers f).queue ≡ (it.flushers f).queue
+        taken s sound it done queue e ok =
+            let same : done ≡ it = subst (λ q. TakesFront (machine m s sound) it f q model_reply.Empty done) e ok in
+            ap (λ k. (k.flushers f).queue) same
+
+        none_taken : (s : Settings) (sound : AreValid s) (it after : State Content) → Follows (machine m s sound) (layout s) it (model_step.Receive f) model_reply.Empty after → (after.flushers f).queue ≡ []
+        none_taken s sound it after (few, turn, (done, does, eq)) =
+            let empty = takes_empty (machine m s sound) it done f (it.flushers f).queue does in
+            ap (λ k. (k.flushers f).queue) eq ∙ taken s sound it done (it.flushers f).queue empty does ∙ empty
+
+        go : (s : Settings) (sound : AreValid s) (it : State Content) → IsStateOf m s a it → (said : Reply K V P A) → SaysNothing said → (r : model_reply.Reply Content) → IsReply m said r → (after : State Content)
+            → Follows (machine m s sound) (layout s) it (model_step.Receive f) r after → (after.flushers f).queue ≡ []
+        go s sound it at (reply.NotNow back) nothing r is after follows =
+            let late = subst (λ k. Follows (machine m s sound) (layout s) it (model_step.Receive f) k after) is follows in
+            ap (λ k. (k.flushers f).queue) late.2 ∙ beyond s it at ((late.1).2)
+        go s sound it at reply.Empty nothing r is after follows =
+            let done = subst (λ k. Follows (machine m s sound) (layout s) it (model_step.Receive f) k after) is follows in
+            none_taken s sound it after done
+        go s sound it at said nothing r is after follows = absurd nothing
+
+    -- a batch that isn't begun: there is one, or nothing was received
+    pub begin_not : SaysNothing answer → Refines m (step.FlushBegin f) answer a b → Leads m (MayNotBegin f) a b
+    begin_not nothing refines = λ s sound it at.
+        let met = refines s sound it at in
+        (met.after, met.stands, go s sound it at answer nothing met.it met.reply met.after met.follows)
+      where
+        never : (s : Settings) (sound : AreValid s) (it after : State Content) → Follows (machine m s sound) (layout s) it (model_step.FlushBegin f) model_reply.Empty after → ⊥
+        never s sound it after (few, turn, (done, does, eq)) = does
+
+        go : (s : Settings) (sound : AreValid s) (it : State Content) → IsStateOf m s a it → (said : Reply K V P A) → SaysNothing said → (r : model_reply.Reply Content) → IsReply m said r → (after : State Content)
+            → Follows (machine m s sound) (layout s) it (model_step.FlushBegin f) r after → MayNotBegin f it after
+        go s sound it at (reply.NotNow back) nothing r is after follows =
+            let late = subst (λ k. Follows (machine m s sound) (layout s) it (model_step.FlushBegin f) k after) is follows in (
+              late.2,
+              λ none received. elim (cases_lt f s.flushers) [
+                | inl lt ↦ (late.1).2 (lt, none, received)
+                | inr le ↦ idle_unreceived (it.flushers f) ((at.flushers).beyond f le) received
+              ],
+            )
+        go s sound it at reply.Empty nothing r is after follows =
+            absurd (never s sound it after (subst (λ k. Follows (machine m s sound) (layout s) it (model_step.FlushBegin f) k after) is follows))
+        go s sound it at said nothing r is after follows = absurd nothing
+
+    pub begin_keeps : Refines m (step.FlushBegin f) answer a b → Leads m (KeepsOthers f) a b
+    begin_keeps refines = λ s sound it at.
+        let met = refines s sound it at in
+        (met.after, met.stands, follows_keep (machine m s sound) (layout s) it met.after f (model_step.FlushBegin f) met.it refl met.follows)
+
+    -- a batch that is ended is over
+    pub end_leads : (IsHandedBack answer → ⊥) → Refines m (step.FlushEnd f) answer a b → Leads m (EndsBatch f) a b
+    end_leads not refines = λ s sound it at.
+        let met = refines s sound it at in
+        (met.after, met.stands, go s sound it met.after met.it (ordinary m answer met.it not met.reply) met.follows)
+      where
+        go : (s : Settings) (sound : AreValid s) (it after : State Content) (r : model_reply.Reply Content) → IsOrdinary r
+            → Follows (machine m s sound) (layout s) it (model_step.FlushEnd f) r after → EndsBatch f it after
+        go s sound it after (model_reply.NotNow back) is follows = absurd is
+        go s sound it after (model_reply.Refused k back) is follows = absurd is
+        go s sound it after r is (few, turn, (done, does, eq)) =
+            let ends = finishes_ends (machine m s sound) it done f (it.flushers f).batch r does in
+            (λ g ne. ap (λ k. k.flushers g) eq ∙ ends.0 g ne, ap (λ k. (k.flushers f).batch) eq ∙ ends.1)
+
+-- one relation after another
+
+takes_then : {C : Type 0} (f : ℕ) (x y z : State C) → BeginsNone f x y → TakesQueue f y z → TakesQueue f x z
+takes_then f x y z one two = (begins_none_more f x y z one two.0, two.1)
+
+-- what a turn of a flush did before, and what it takes
+once_then : {C : Type 0} (has_ended : Bool) (f : ℕ) (x y z : State C) → EndsBatchOnce has_ended f x y → TakesQueue f y z
+    → EndsBatchOnce has_ended f x z × ((z.flushers f).queue ≡ [])
+once_then has_ended f x y z one two = ((keeps_more f x y z one.0 (two.0).0, λ ended. (two.0).1 (one.1 ended)), two.1)
+
+-- after a batch that is over, with an empty queue, a flusher that may not begin is idle
+idle_then : {C : Type 0} (has_ended : Bool) → has_ended ≡ true → (f : ℕ) (x y z : State C)
+    → EndsBatchOnce has_ended f x y × ((y.flushers f).queue ≡ []) → MayNotBegin f y z → LeavesIdle f x z
+idle_then has_ended ended f x y z one two =
+    let none = (one.0).1 ended in
+    let unreceived = two.1 none in
+    let idle : IsIdle (y.flushers f) = (
+      one.1,
+      none_received (y.flushers f).buffer (λ some. unreceived (inl some)),
+      none_received (y.flushers f).marks (λ some. unreceived (inr (inl some))),
+      none_received (y.flushers f).waits (λ some. unreceived (inr (inr some))),
+      none,
+    ) in
+    (keeps_more f x y z (one.0).0 (keeps_same f y z two.0), subst (λ k. IsIdle (k.flushers f)) (sym two.0) idle)
+
+ended_then : {C : Type 0} (f : ℕ) (x y z : State C) → KeepsOthers f x y → EndsBatch f y z → EndsBatchOnce true f x z
+ended_then f x y z one two = (keeps_more f x y z one two.0, λ ended. two.1)
+
+-- one more flusher is idle
+below_then : {C : Type 0} (n next : ℕ) → next ≡ n + 1 → (x y z : State C) → LeavesIdleBelow n x y → LeavesIdle n y z → LeavesIdleBelow next x z
+below_then n next e x y z one two = λ f lt.
+    elim (cases_lt f n) [
+      | inl less ↦ subst IsIdle (sym (two.0 f (λ same. absurd (omega (arith, less, same))))) (one f less)
+      | inr more ↦ let same : f ≡ n = omega (arith, lt, more, e) in subst (λ g. IsIdle (z.flushers g)) (sym same) two.1
+    ]
+
+-- so are all
+pub all_idle : {K V P A : Type 0} (m : Meaning K V P) (a b : Core K V P A) (n : ℕ) → n ≡ a.settings.flushers → Leads m (LeavesIdleBelow n) a b → Leads m LeavesAllIdle a b
+all_idle m a b n is leads = λ s sound it at.
+    let led = leads s sound it at in
+    let count : n ≡ s.flushers = is ∙ ap (λ k. k.flushers) at.sizes in (
+      led.0,
+      led.1,
+      λ f. elim (cases_lt f n) [
+        | inl lt ↦ led.2 f lt
+        | inr le ↦ ((led.1).flushers).beyond f (omega (arith, le, count))
+      ],
+    )
+
+module _ {K V P A : Type 0} (m : Meaning K V P) (f : ℕ) (a b c : Core K V P A) where
+  module _ (answer : Reply K V P A) where
+    -- one more piece is received
+    pub receive_more : Leads m (BeginsNone f) a b → Refines m (step.Receive f) answer b c → Leads m (BeginsNone f) a c
+    receive_more led refines = leads_more m (BeginsNone f) (BeginsNone f) (BeginsNone f) a b c (begins_none_more f) led (receive_leads m f answer b c refines)
+
+    -- and then none is left
+    pub receive_over : SaysNothing answer → Leads m (BeginsNone f) a b → Refines m (step.Receive f) answer b c → Leads m (TakesQueue f) a c
+    receive_over nothing led refines = leads_more m (BeginsNone f) (TakesQueue f) (TakesQueue f) a b c (takes_then f) led (receive_ends m f answer b c nothing refines)
+
+  -- one more block is written
+  pub write_more : (last : Option (Reply K V P A)) (x y : ℕ → ℕ → ℕ) → Leads m (KeepsOthers f) a b → Writes m f last b c x y → Leads m (KeepsOthers f) a c
+  write_more last x y led writes = leads_more m (KeepsOthers f) (KeepsOthers f) (KeepsOthers f) a b c (keeps_more f) led (wrote_keeps m f last b c x y writes)
+
+  -- one more flusher is idle
+  pub idle_more : (next : ℕ) → next ≡ f + 1 → Leads m (LeavesIdleBelow f) a b → Leads m (LeavesIdle f) b c → Leads m (LeavesIdleBelow next) a c
+  idle_more next is led idle = leads_more m (LeavesIdleBelow f) (LeavesIdle f) (LeavesIdleBelow next) a b c (below_then f next is) led idle
+
+-- a turn of a flush, up to its batch: from what the turns before did, the queue is taken, and a batch begins or may not
+module _ {K V P A : Type 0} (m : Meaning K V P) (f : ℕ) (has_ended : Bool) (begun : Reply K V P A) (a b c d : Core K V P A) (led : Leads m (EndsBatchOnce has_ended f) a b)
+    (taken : Leads m (TakesQueue f) b c) (begins : Refines m (step.FlushBegin f) begun c d) where
+  pub flush_over : has_ended ≡ true → SaysNothing begun → Leads m (LeavesIdle f) a d
+  flush_over ended nothing =
+      leads_more m (λ x y. EndsBatchOnce has_ended f x y × ((y.flushers f).queue ≡ [])) (MayNotBegin f) (LeavesIdle f) a c d (idle_then has_ended ended f)
+      (leads_more m (EndsBatchOnce has_ended f) (TakesQueue f) (λ x y. EndsBatchOnce has_ended f x y × ((y.flushers f).queue ≡ [])) a b c (once_then has_ended f) led taken)
+      (begin_not m f begun c d nothing begins)
+
+  -- and on to its end
+  pub flush_more : (ended : Reply K V P A) (e g : Core K V P A) → (IsHandedBack ended → ⊥) → Leads m (KeepsOthers f) d e → Refines m (step.FlushEnd f) ended e g → Leads m (EndsBatchOnce true f) a g
+  flush_more ended e g not written ends =
+      leads_more m (KeepsOthers f) (EndsBatch f) (EndsBatchOnce true f) a e g (ended_then f)
+      (leads_more m (KeepsOthers f) (KeepsOthers f) (KeepsOthers f) a d e (keeps_more f)
+      (leads_more m (KeepsOthers f) (KeepsOthers f) (KeepsOthers f) a c d (keeps_more f)
+      (leads_more m (EndsBatchOnce has_ended f) (TakesQueue f) (KeepsOthers f) a b c (λ x y z one two. keeps_more f x y z one.0 (two.0).0) led taken)
+      (begin_keeps m f begun c d begins)) written)
+      (end_leads m f ended e g not ends)

@@ -1,0 +1,63 @@
+-- Flushers that have nothing left to do, and what leads a core there.
+use Rattle.std.specs.Prelude.{◌≡◌, ◌≢◌, ℕ, ◌<◌, Bool, true, [], None}
+use Rattle.foyer_model.specs.Destroy.{IsIdle}
+use Rattle.foyer_model.specs.Receive.{HasReceived}
+use Rattle.foyer_model.specs.State.{State}
+use Rattle.foyer_rules.specs.Content.{Content, Meaning}
+use Rattle.foyer_rules.specs.Sizes.{AreValid}
+use Rattle.foyer_rules.specs.declared.settings.Settings.{Settings}
+use Rattle.foyer_core.specs.StateOf.{IsStateOf}
+use Rattle.foyer_core.specs.declared.state.Core.{Core}
+
+-- nothing is queued, received, kept or in a batch at this flusher, in each state of the model that the core stands for
+abbrev pub IsFlusherIdle : {K V P A : Type 0} → Meaning K V P → ℕ → Core K V P A → Type 0
+IsFlusherIdle m f core = (s : Settings) (it : State Content) → IsStateOf m s core it → IsIdle (it.flushers f)
+
+-- and so it is at each flusher
+abbrev pub IsAtRest : {K V P A : Type 0} → Meaning K V P → Core K V P A → Type 0
+IsAtRest m core = (f : ℕ) → IsFlusherIdle m f core
+
+-- a core that stood for a state of the model is at rest afterwards
+abbrev pub ComesToRest : {K V P A : Type 0} → Meaning K V P → Core K V P A → Core K V P A → Type 0
+ComesToRest m old new = (s : Settings) → AreValid s → (it : State Content) → IsStateOf m s old it → IsAtRest m new
+
+-- From each state that the core before stands for to one that the core afterwards stands for, related to it so.
+abbrev pub Leads : {K V P A : Type 0} → Meaning K V P → (State Content → State Content → Type 0) → Core K V P A → Core K V P A → Type 0
+Leads m Relates old new =
+    (s : Settings) → AreValid s → (it : State Content) → IsStateOf m s old it → (after : State Content) × IsStateOf m s new after × Relates it after
+
+-- every other flusher has what it had
+abbrev pub KeepsOthers : {C : Type 0} → ℕ → State C → State C → Type 0
+KeepsOthers f old new = (g : ℕ) → g ≢ f → new.flushers g ≡ old.flushers g
+
+-- this flusher has no batch that it hadn't
+abbrev pub BeginsNone : {C : Type 0} → ℕ → State C → State C → Type 0
+BeginsNone f old new = KeepsOthers f old new × ((old.flushers f).batch ≡ None → (new.flushers f).batch ≡ None)
+
+-- this flusher's queue is taken up to its end
+abbrev pub TakesQueue : {C : Type 0} → ℕ → State C → State C → Type 0
+TakesQueue f old new = BeginsNone f old new × ((new.flushers f).queue ≡ [])
+
+-- nothing changes, and this flusher has a batch or has received nothing
+abbrev pub MayNotBegin : {C : Type 0} → ℕ → State C → State C → Type 0
+MayNotBegin f old new = (new ≡ old) × ((old.flushers f).batch ≡ None → HasReceived (old.flushers f) → ⊥)
+
+-- this flusher's batch is over
+abbrev pub EndsBatch : {C : Type 0} → ℕ → State C → State C → Type 0
+EndsBatch f old new = KeepsOthers f old new × ((new.flushers f).batch ≡ None)
+
+-- and it is, once this is true
+abbrev pub EndsBatchOnce : {C : Type 0} → Bool → ℕ → State C → State C → Type 0
+EndsBatchOnce has_ended f old new = KeepsOthers f old new × (has_ended ≡ true → (new.flushers f).batch ≡ None)
+
+-- this flusher has nothing left to do
+abbrev pub LeavesIdle : {C : Type 0} → ℕ → State C → State C → Type 0
+LeavesIdle f old new = KeepsOthers f old new × IsIdle (new.flushers f)
+
+-- the first n flushers have nothing left to do
+abbrev pub LeavesIdleBelow : {C : Type 0} → ℕ → State C → State C → Type 0
+LeavesIdleBelow n old new = (f : ℕ) → f < n → IsIdle (new.flushers f)
+
+-- no flusher has
+abbrev pub LeavesAllIdle : {C : Type 0} → State C → State C → Type 0
+LeavesAllIdle old new = (f : ℕ) → IsIdle (new.flushers f)
