@@ -1,7 +1,9 @@
 -- An engine that is driven.
-use Rattle.std.proofs.Common.{ℕ}
+use Rattle.std.proofs.Common.{◌≡◌, ℕ, Bool, true, false, Result, Ok, Err, ◌∙◌}
 use Rattle.std.specs.declared.string.String.{String}
+use Rattle.foyer_device.specs.declared.error.ErrorKind.{ErrorKind}
 use Rattle.foyer_rules.specs.Content.{Content}
+use Rattle.foyer_core.specs.Refines.{IsHandedBack}
 use Rattle.foyer_core.specs.declared.reply.Reply.{Reply}
 use Rattle.foyer_core.specs.declared.reply.Reply.TheVariants as reply
 use Rattle.foyer_core.specs.declared.state.Core.{Core}
@@ -9,7 +11,8 @@ use Rattle.foyer_run.specs.Waiting.{Waits}
 use Rattle.foyer_run.specs.Newest.{IsMissedOnly, IsNewest, IsPutOrFault}
 use Rattle.foyer_run.specs.declared.memory.MemoryDisk.{MemoryDisk}
 use Rattle.std.specs.Prelude.{◌+◌, ◌*◌, nat_lt, if◌then◌else◌, slice_index}
-use Rattle.foyer_serve.specs.Texts.{IsMissedText, IsNewestText, IsTextOrFault, got, plain}
+use Rattle.foyer_run.proofs.RestLemmas.{SaysNothing}
+use Rattle.foyer_serve.specs.Texts.{IsMissedText, IsNewestText, IsTextOrFault, done_as, got, plain}
 use Rattle.foyer_serve.specs.declared.engine.Engine.{Engine}
 use Rattle.foyer_serve.specs.declared.engine.NoProperties.{NoProperties}
 
@@ -37,3 +40,15 @@ put_got c last is = absurd is
 pub missed_got : {A : Type 0} (key : ℕ) (core : Core ℕ (String A) NoProperties A) (bytes : ℕ → ℕ → ℕ) (last : Reply ℕ (String A) NoProperties A) → IsMissedOnly plain key core bytes last → IsMissedText key core bytes (got last)
 missed_got key core bytes last missed = λ s sound first events history few b sequence c kept newer.
     put_got c last (missed s sound first events history few b sequence c kept newer)
+
+-- a step that did nothing, and one that did something
+pub done_nothing : {A : Type 0} (last : Reply ℕ (String A) NoProperties A) (did : Bool) → done_as last ≡ Ok did → did ≡ false → SaysNothing last
+done_nothing (reply.NotNow back) did is none = tt
+done_nothing reply.Empty did is none = tt
+done_nothing (reply.Refused kind back) did is none = absurd (let e : Err kind ≡ Ok did = is in cc)
+done_nothing last did is none = absurd (let e : Ok true ≡ Ok did = is in cc)
+
+pub done_something : {A : Type 0} (last : Reply ℕ (String A) NoProperties A) (did : Bool) → done_as last ≡ Ok did → did ≡ true → IsHandedBack last → ⊥
+done_something (reply.NotNow back) did is done = let e : Ok false ≡ Ok did = is in cc
+done_something (reply.Refused kind back) did is done = let e : Err kind ≡ Ok did = is in cc
+done_something last did is done = λ back. absurd back

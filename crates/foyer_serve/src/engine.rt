@@ -2,6 +2,7 @@
 ghost use Rattle.std.specs.Prelude.{◌≡◌, ◌⊎◌, ◌≤◌, ◌*◌, ◌^◌, [], None, IfOk, IfErr, string_bytes};
 ghost use Rattle.foyer_device.specs.declared.error.Error.TheVariants.{Config, Memory, OutOfRange};
 ghost use Rattle.foyer_rules.specs.Sizes.{AreValid};
+ghost use Rattle.foyer_run.specs.AtRest.{ComesToRest, KeepsOthers, Leads, LeavesAllIdle, LeavesIdle, TakesQueue};
 ghost use Rattle.foyer_run.specs.Driven.{Drives};
 ghost use Rattle.foyer_run.specs.Newest.{IsHistory};
 ghost use Rattle.foyer_run.specs.Waiting.{Closes, Waits};
@@ -195,9 +196,11 @@ impl<A: Allocator + Clone> Engine<A> {
     }
 
     /// Queues a wait at each flusher, and flushes until no flusher has anything left to do. It puts, deletes and loads
-    /// nothing, and closes nothing.
+    /// nothing, and closes nothing. `Io`: a flusher's batch can't be ended, since a write of it was never reported.
+    /// `SequenceEnd`: the limit of steps is reached, or 2^64 - 1 turns weren't enough.
     pub fn wait(&mut self) -> Answer<A>
         ensures answered { IsOkOrFault result }
+        ensures rest { result ≡ Answer.Ok → ComesToRest plain self.old.core self.new.core }
         ensures waited { Waits plain self.old.core self.new.core
             (⟦<MemoryDisk<A> as Disk>⟧.byte_at self.old.disk) (⟦<MemoryDisk<A> as Disk>⟧.byte_at self.new.disk) }
     {
@@ -215,6 +218,7 @@ impl<A: Allocator + Clone> Engine<A> {
     /// Takes no more puts, deletes and destroys, and waits: nothing else.
     pub fn close(&mut self) -> Answer<A>
         ensures answered { IsOkOrFault result }
+        ensures rest { result ≡ Answer.Ok → ComesToRest plain self.old.core self.new.core }
         ensures closed { Closes plain self.old.core self.new.core
             (⟦<MemoryDisk<A> as Disk>⟧.byte_at self.old.disk) (⟦<MemoryDisk<A> as Disk>⟧.byte_at self.new.disk) }
     {
@@ -225,8 +229,10 @@ impl<A: Allocator + Clone> Engine<A> {
         }
     }
 
+    // A wait is queued at each flusher.
     fn flush_all(&mut self) -> Answer<A>
         ensures answered { IsOkOrFault result }
+        ensures leads { result ≡ Answer.Ok → Leads plain LeavesAllIdle self.old.core self.new.core }
         ensures waited { Waits plain self.old.core self.new.core
             (⟦<MemoryDisk<A> as Disk>⟧.byte_at self.old.disk) (⟦<MemoryDisk<A> as Disk>⟧.byte_at self.new.disk) }
     {
@@ -239,27 +245,34 @@ impl<A: Allocator + Clone> Engine<A> {
         Answer::Ok
     }
 
-    // Flushes until nothing is queued or received at a flusher.
+    // Flushes until nothing is queued or received at a flusher where a wait is queued, so that a batch is under way in
+    // each turn but the last. One that isn't ended by then has a write that was never reported.
     fn flush(&mut self, flusher: u32) -> std::result::Result<(), ErrorKind>
+        ensures leads { IfOk result (λ _. Leads plain (LeavesIdle flusher) self.old.core self.new.core) }
         ensures waited { Waits plain self.old.core self.new.core
             (⟦<MemoryDisk<A> as Disk>⟧.byte_at self.old.disk) (⟦<MemoryDisk<A> as Disk>⟧.byte_at self.new.disk) }
     {
+        let mut has_ended = false;
         for _ in 0..u64::MAX {
             self.receive_all(flusher)?;
             let begin = step(&mut self.core, &mut self.env, Step::FlushBegin { flusher });
             let has_begun = answer_step(begin)?;
-            self.write_all(flusher)?;
-            let end = step(&mut self.core, &mut self.env, Step::FlushEnd { flusher });
-            let has_ended = answer_step(end)?;
-            if !has_begun && !has_ended {
+            if has_ended && !has_begun {
                 return Ok(());
             }
+            self.write_all(flusher)?;
+            let end = step(&mut self.core, &mut self.env, Step::FlushEnd { flusher });
+            if !answer_step(end)? {
+                return Err(ErrorKind::Io);
+            }
+            has_ended = true;
         }
-        Ok(())
+        Err(ErrorKind::SequenceEnd)
     }
 
     // Takes all that is queued. A piece that is handed back doesn't fit, and is dropped.
     fn receive_all(&mut self, flusher: u32) -> std::result::Result<(), ErrorKind>
+        ensures leads { IfOk result (λ _. Leads plain (TakesQueue flusher) self.old.core self.new.core) }
         ensures waited { Waits plain self.old.core self.new.core
             (⟦<MemoryDisk<A> as Disk>⟧.byte_at self.old.disk) (⟦<MemoryDisk<A> as Disk>⟧.byte_at self.new.disk) }
     {
@@ -269,11 +282,12 @@ impl<A: Allocator + Clone> Engine<A> {
                 return Ok(());
             }
         }
-        Ok(())
+        Err(ErrorKind::SequenceEnd)
     }
 
     // Writes the blocks of the batch.
     fn write_all(&mut self, flusher: u32) -> std::result::Result<(), ErrorKind>
+        ensures leads { IfOk result (λ _. Leads plain (KeepsOthers flusher) self.old.core self.new.core) }
         ensures waited { Waits plain self.old.core self.new.core
             (⟦<MemoryDisk<A> as Disk>⟧.byte_at self.old.disk) (⟦<MemoryDisk<A> as Disk>⟧.byte_at self.new.disk) }
     {
@@ -283,6 +297,6 @@ impl<A: Allocator + Clone> Engine<A> {
                 return Ok(());
             }
         }
-        Ok(())
+        Err(ErrorKind::SequenceEnd)
     }
 }

@@ -1,5 +1,7 @@
 use Rattle.std.proofs.Common.{refl}
 use Rattle.foyer_run.specs.declared.moves.Move.TheVariants as move
+use Rattle.foyer_core.specs.declared.step.Step.TheVariants as step
+use Rattle.foyer_run.proofs.RestLemmas.{IsAny, rest_after, step_leads}
 use Rattle.foyer_run.proofs.WaitingLemmas.{closes_more, closes_said}
 use Rattle.foyer_serve.specs.Texts.{plain}
 use Rattle.foyer_serve.proofs.EngineLemmas.{bytes_of}
@@ -12,3 +14,8 @@ returns-in-Err-clause-closed g c =
 pub returns-in-Ok-clause-closed : goal.returns-in-Ok-clause-closed
 returns-in-Ok-clause-closed g c =
     closes_more plain c.args.self.now.core c.step-closed.new.core c.wait.new.self.core (bytes_of c.args.self.now.disk) (bytes_of c.args.self.now.disk) (bytes_of c.wait.new.self.disk) (closes_said plain c.step-closed.result c.args.self.now.core c.step-closed.new.core (bytes_of c.args.self.now.disk) (c.step-closed.ensures.runs move.Close refl (bytes_of c.args.self.now.disk))) (c.wait.ensures.waited)
+
+pub returns-in-Ok-clause-rest : goal.returns-in-Ok-clause-rest
+returns-in-Ok-clause-rest g c = λ ok.
+    rest_after plain IsAny c.args.self.now.core c.step-closed.new.core c.wait.new.self.core
+    (step_leads plain step.Close c.step-closed.result c.args.self.now.core c.step-closed.new.core (c.step-closed.ensures.meets tt)) (c.wait.ensures.rest ok)

@@ -1,5 +1,7 @@
+use Rattle.foyer_run.specs.AtRest.{EndsBatchOnce, Leads}
+use Rattle.foyer_serve.specs.Texts.{plain}
 use Rattle.foyer_serve.proofs.EngineLemmas.{Waited}
 use Rattle.foyer_serve.proofs.engine.Engine.flush.Given as goal
 
 abbrev pub invariant-loop : goal.invariant-loop
-invariant-loop g l = Waited l.fn.self l.self
+invariant-loop g l = Waited l.fn.self l.self × Leads plain (EndsBatchOnce l.has_ended l.flusher) l.fn.self.core l.self.core

@@ -1,18 +1,33 @@
+use Rattle.std.proofs.Common.{◌≡◌, ◌+◌, refl, ap, arith}
+use Rattle.foyer_run.specs.AtRest.{LeavesIdleBelow}
+use Rattle.foyer_run.proofs.RestLemmas.{all_idle, idle_more, leads_none}
 use Rattle.foyer_run.proofs.WaitingLemmas.{waits_more, waits_none}
 use Rattle.foyer_serve.specs.Texts.{plain}
 use Rattle.foyer_serve.proofs.EngineLemmas.{bytes_of}
 use Rattle.foyer_serve.proofs.engine.Engine.flush_all.Goals as goal
 
 pub loop-flusher-init : goal.loop-flusher-init
-loop-flusher-init g c = waits_none plain c.args.self.now.core (bytes_of c.args.self.now.disk)
+loop-flusher-init g c = (
+  waits_none plain c.args.self.now.core (bytes_of c.args.self.now.disk),
+  leads_none plain (LeavesIdleBelow 0) c.args.self.now.core (λ it f below. absurd (omega (arith, below))),
+)
 
 pub returns-in-Err-clause-waited : goal.returns-in-Err-clause-waited
 returns-in-Err-clause-waited g c =
-    waits_more plain c.args.self.now.core c.loop-flusher.self.core c.flush.new.self.core (bytes_of c.args.self.now.disk) (bytes_of c.loop-flusher.self.disk) (bytes_of c.flush.new.self.disk) c.loop-flusher.invariant (c.flush.ensures.waited)
+    waits_more plain c.args.self.now.core c.loop-flusher.self.core c.flush.new.self.core (bytes_of c.args.self.now.disk) (bytes_of c.loop-flusher.self.disk) (bytes_of c.flush.new.self.disk) c.loop-flusher.invariant.0 (c.flush.ensures.waited)
 
 pub loop-flusher-preserved : goal.loop-flusher-preserved
-loop-flusher-preserved g c = waits_more plain c.args.self.now.core c.loop-flusher.self.core c.flush.new.self.core (bytes_of c.args.self.now.disk) (bytes_of c.loop-flusher.self.disk) (bytes_of c.flush.new.self.disk) c.loop-flusher.invariant (c.flush.ensures.waited)
+loop-flusher-preserved g c = (
+  waits_more plain c.args.self.now.core c.loop-flusher.self.core c.flush.new.self.core (bytes_of c.args.self.now.disk) (bytes_of c.loop-flusher.self.disk) (bytes_of c.flush.new.self.disk) c.loop-flusher.invariant.0 (c.flush.ensures.waited),
+  idle_more plain c.loop-flusher.flusher c.args.self.now.core c.loop-flusher.self.core c.flush.new.self.core (c.loop-flusher.flusher + 1) refl c.loop-flusher.invariant.1 c.in-Ok.ensures.leads,
+)
+
+pub returns-clause-leads : goal.returns-clause-leads
+returns-clause-leads g c = λ ok.
+    let counted : c.settings-flusher-end.result.flushers ≡ c.args.self.now.core.settings.flushers = ap (λ s. s.flushers) c.settings-flusher-end.ensures in
+    let all : c.loop-flusher.flusher ≡ c.args.self.now.core.settings.flushers = omega (arith, counted, c.loop-flusher-test.false, c.loop-flusher.auto.flusher-end) in
+    all_idle plain c.args.self.now.core c.loop-flusher.self.core c.loop-flusher.flusher all c.loop-flusher.invariant.1
 
 pub returns-clause-waited : goal.returns-clause-waited
 returns-clause-waited g c =
-    c.loop-flusher.invariant
+    c.loop-flusher.invariant.0

@@ -1,5 +1,7 @@
+use Rattle.foyer_run.specs.AtRest.{Leads, LeavesIdleBelow}
+use Rattle.foyer_serve.specs.Texts.{plain}
 use Rattle.foyer_serve.proofs.EngineLemmas.{Waited}
 use Rattle.foyer_serve.proofs.engine.Engine.flush_all.Given as goal
 
 abbrev pub invariant-loop-flusher : goal.invariant-loop-flusher
-invariant-loop-flusher g l = Waited l.fn.self l.self
+invariant-loop-flusher g l = Waited l.fn.self l.self × Leads plain (LeavesIdleBelow l.flusher) l.fn.self.core l.self.core

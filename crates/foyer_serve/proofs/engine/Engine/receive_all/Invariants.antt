@@ -1,5 +1,7 @@
+use Rattle.foyer_run.specs.AtRest.{BeginsNone, Leads}
+use Rattle.foyer_serve.specs.Texts.{plain}
 use Rattle.foyer_serve.proofs.EngineLemmas.{Waited}
 use Rattle.foyer_serve.proofs.engine.Engine.receive_all.Given as goal
 
 abbrev pub invariant-loop : goal.invariant-loop
-invariant-loop g l = Waited l.fn.self l.self
+invariant-loop g l = Waited l.fn.self l.self × Leads plain (BeginsNone l.flusher) l.fn.self.core l.self.core

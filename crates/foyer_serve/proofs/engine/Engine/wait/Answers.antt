@@ -1,5 +1,6 @@
 use Rattle.std.proofs.Common.{refl}
 use Rattle.foyer_run.specs.declared.moves.Move.TheVariants as move
+use Rattle.foyer_run.proofs.RestLemmas.{IsAny, comes_to_rest, rest_after, waits_lead}
 use Rattle.foyer_run.proofs.WaitingLemmas.{waits_more, waits_none, waits_said}
 use Rattle.foyer_serve.specs.Texts.{plain}
 use Rattle.foyer_serve.proofs.EngineLemmas.{bytes_of}
@@ -18,3 +19,9 @@ loop-flusher-preserved g c = waits_more plain c.args.self.now.core c.loop-flushe
 pub returns-clause-waited : goal.returns-clause-waited
 returns-clause-waited g c =
     waits_more plain c.args.self.now.core c.loop-flusher.self.core c.flush_all.new.self.core (bytes_of c.args.self.now.disk) (bytes_of c.loop-flusher.self.disk) (bytes_of c.flush_all.new.self.disk) c.loop-flusher.invariant (c.flush_all.ensures.waited)
+
+pub returns-clause-rest : goal.returns-clause-rest
+returns-clause-rest g c = λ ok.
+    rest_after plain IsAny c.args.self.now.core c.loop-flusher.self.core c.flush_all.new.self.core
+    (waits_lead plain c.args.self.now.core c.loop-flusher.self.core (bytes_of c.args.self.now.disk) (bytes_of c.loop-flusher.self.disk) c.loop-flusher.invariant)
+    (comes_to_rest plain c.loop-flusher.self.core c.flush_all.new.self.core (c.flush_all.ensures.leads ok))
