@@ -5,7 +5,7 @@ use Rattle.foyer_core.specs.Answered.{HandsBack}
 use Rattle.foyer_rules.specs.Begins.{first_world}
 use Rattle.foyer_rules.specs.Content.{Content, Meaning}
 use Rattle.foyer_rules.specs.CoreRules.{layout}
-use Rattle.foyer_core.specs.Refines.{IsBuilt, IsHandedBack, IsPutOff, IsRefined}
+use Rattle.foyer_core.specs.Refines.{IsBuilt, IsPutOff, IsRefined}
 use Rattle.foyer_rules.specs.CoreRules.{machine}
 use Rattle.foyer_rules.specs.CoreRules.{IsEncoded}
 use Rattle.foyer_rules.specs.Sizes.{AreValid}

@@ -1,5 +1,5 @@
 -- What the steps of one flusher's flushes do to its batch and its queue, and that they leave the other flushers alone.
-use Rattle.std.proofs.Common.{◌≡◌, ◌≢◌, ℕ, Bool, true, false, List, [], ◌∷◌, Option, Some, None, inl, inr, refl, sym, ap, subst, ◌∙◌}
+use Rattle.std.proofs.Common.{◌≡◌, ℕ, Bool, true, List, [], ◌∷◌, Option, Some, None, inl, inr, refl, ap, subst, ◌∙◌}
 use Rattle.foyer_model.specs.Changes.{Changes}
 use Rattle.foyer_model.specs.Flush.{Begins, Describes, Finishes, Logs, Wrote}
 use Rattle.foyer_model.specs.Follows.{Follows}

@@ -1,5 +1,5 @@
 -- What leads a core to rest: the steps of a flush, one after the other.
-use Rattle.std.proofs.Common.{◌≡◌, ◌≢◌, ℕ, ◌+◌, ◌<◌, ◌≤◌, Bool, true, List, [], ◌∷◌, Option, None, inl, inr, refl, sym, ap, subst, ◌∙◌, arith}
+use Rattle.std.proofs.Common.{◌≡◌, ◌≢◌, ℕ, ◌+◌, ◌<◌, Bool, true, List, [], ◌∷◌, Option, inl, inr, refl, sym, ap, subst, ◌∙◌, arith}
 use Rattle.std.proofs.lemmas.Bool.{cases_lt}
 use Rattle.foyer_model.specs.Destroy.{IsIdle}
 use Rattle.foyer_model.specs.Follows.{Follows}
@@ -7,7 +7,7 @@ use Rattle.foyer_model.specs.Receive.{HasReceived, TakesFront}
 use Rattle.foyer_model.specs.Reply as model_reply
 use Rattle.foyer_model.specs.State.{Flusher, State}
 use Rattle.foyer_model.specs.Step as model_step
-use Rattle.foyer_model.specs.World.{World, after_all}
+use Rattle.foyer_model.specs.World.{after_all}
 use Rattle.foyer_rules.specs.Begins.{first_world}
 use Rattle.foyer_rules.specs.Content.{Content, Meaning}
 use Rattle.foyer_rules.specs.CoreRules.{IsEncoded, layout, machine}
@@ -25,7 +25,7 @@ use Rattle.foyer_core.proofs.RefinesLemmas.{IsOrdinary}
 use Rattle.foyer_run.specs.Accesses.{Writes}
 use Rattle.foyer_run.specs.AtRest.{BeginsNone, ComesToRest, EndsBatch, EndsBatchOnce, KeepsOthers, Leads, LeavesAllIdle, LeavesIdle, LeavesIdleBelow, MayNotBegin, TakesQueue}
 use Rattle.foyer_run.specs.Waiting.{Waits}
-use Rattle.foyer_run.proofs.FlusherSteps.{IsOf, all_keep, begins_none_more, begins_none_same, finishes_ends, follows_keep, keeps_more, keeps_same, receives_none, takes_empty}
+use Rattle.foyer_run.proofs.FlusherSteps.{IsOf, all_keep, begins_none_more, finishes_ends, follows_keep, keeps_more, keeps_same, receives_none, takes_empty}
 use Rattle.foyer_run.proofs.IdleLemmas.{idle_in_each}
 use Rattle.foyer_run.proofs.ReplyLemmas.{ordinary}
 use Rattle.foyer_run.proofs.WaitingLemmas.{wrote_by}

@@ -1,7 +1,7 @@
 -- Drives by steps of one kind: a wait's, or a close's.
 use Rattle.std.proofs.Common.{◌≡◌, ℕ, zero, suc, Bool, List, [], ◌∷◌, ◌++◌, length, replicate, Option, Some, None, inl, inr, sym, ap, subst, ◌∙◌}
 use Rattle.foyer_model.specs.Step as model_step
-use Rattle.foyer_model.specs.World.{World, WorldEvent, Applies, ReadBegins, ReadEnds, WriteBegins, WriteEnds, after_all}
+use Rattle.foyer_model.specs.World.{World, WorldEvent, Applies, after_all}
 use Rattle.foyer_model.specs.Access.{BlockWrites}
 use Rattle.foyer_core.specs.Asked.{step_of}
 use Rattle.foyer_rules.specs.Content.{Content, Meaning}
@@ -15,7 +15,6 @@ use Rattle.foyer_rules.specs.declared.settings.Settings.{Settings}
 use Rattle.foyer_core.specs.declared.state.Core.{Core}
 use Rattle.foyer_core.specs.declared.step.Step.TheVariants as step
 use Rattle.foyer_run.specs.Accesses.{Says, Writes, writes_of}
-use Rattle.foyer_run.specs.Driven.{IsDriven}
 use Rattle.foyer_run.specs.Moves.{asked, AreMade, Makes, IsStepped}
 use Rattle.foyer_run.specs.Runs.{Runs}
 use Rattle.foyer_run.specs.Waiting.{AllSteps, IsWaiting, IsClosing, DrivesBy, Waits, Closes}

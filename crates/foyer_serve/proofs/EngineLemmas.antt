@@ -1,7 +1,6 @@
 -- An engine that is driven.
-use Rattle.std.proofs.Common.{◌≡◌, ℕ, Bool, true, false, Result, Ok, Err, ◌∙◌}
+use Rattle.std.proofs.Common.{◌≡◌, ℕ, Bool, true, false, Ok, Err}
 use Rattle.std.specs.declared.string.String.{String}
-use Rattle.foyer_device.specs.declared.error.ErrorKind.{ErrorKind}
 use Rattle.foyer_rules.specs.Content.{Content}
 use Rattle.foyer_core.specs.Refines.{IsHandedBack}
 use Rattle.foyer_core.specs.declared.reply.Reply.{Reply}
