@@ -1,5 +1,6 @@
 -- A flusher's step in the whole core.
 use Rattle.std.proofs.Common.{◌≡◌, ◌≢◌, ℕ, ◌+◌, ◌-◌, ◌*◌, ◌^◌, ◌<◌, ◌≤◌, false, List, [], ◌∷◌, length, map, slice_set, slice_index_or, Option, Some, None, IsSome, IsSomeAnd, Result, Ok, Err, is_ok, inl, refl, sym, ap, subst, ◌∙◌, arith}
+use Rattle.std.specs.Prelude.{MatchOption}
 use Rattle.foyer_block.specs.Index.{IndexMap}
 use Rattle.foyer_device.specs.declared.error.Error.{Error}
 use Rattle.foyer_model.specs.Flush.{Describes}
@@ -10,28 +11,31 @@ use Rattle.foyer_model.specs.Reply as model_reply
 use Rattle.foyer_model.specs.State as model_state
 use Rattle.foyer_model.specs.Step as model_step
 use Rattle.foyer_core.specs.Asked.{went_well, step_of}
-use Rattle.foyer_core.specs.Batches.{StandsAt, FlusherStep}
+use Rattle.foyer_flusher.specs.FlusherSteps.{StandsAt, FlusherStep}
 use Rattle.foyer_rules.specs.Content.{Content, Meaning}
-use Rattle.foyer_core.specs.Flushing.{AreLaidOutAs, AreWriting, AreBatched}
+use Rattle.foyer_flusher.specs.Flushing.{AreWriting, AreBatched}
 use Rattle.foyer_rules.specs.CoreRules.{machine}
 use Rattle.foyer_core.specs.Refines.{IsRefinedUncounted}
 use Rattle.foyer_rules.specs.Sizes.{AreValid}
-use Rattle.foyer_core.specs.StateOf.{IsStateOf, AreFlushersAs, size_in, size_of_all}
-use Rattle.foyer_core.specs.FlushInTurn.{HasBlock}
-use Rattle.foyer_core.specs.Unchanged.{seen, IsUnchanged}
-use Rattle.foyer_core.proofs.FlushLemmas.{none_placed, none_written}
-use Rattle.foyer_core.proofs.NextLemmas.{would_issue}
+use Rattle.foyer_core.specs.StateOf.{IsStateOf, AreFlushersAs, size_of_all}
+use Rattle.foyer_flusher.specs.Taking.{size_in}
+use Rattle.foyer_flusher.specs.FlushInTurn.{HasBlock}
+use Rattle.foyer_flusher.specs.Seen.{seen}
+use Rattle.foyer_core.specs.Unchanged.{IsUnchanged}
+use Rattle.foyer_flusher.proofs.FlushLemmas.{none_laid, none_written}
+use Rattle.foyer_buffer.specs.Layout.{parts_of}
+use Rattle.foyer_buffer.specs.declared.split.Block.{Block}
+use Rattle.foyer_placing.specs.Bridge.{AreBlocksAs as AreLaidOutAs}
+use Rattle.foyer_flusher.proofs.NextLemmas.{would_issue}
 use Rattle.foyer_core.proofs.StateLemmas.{flushers_count, flusher_at, flusher_put, size_put, unchanged_stands}
-use Rattle.foyer_core.specs.declared.block.flusher.Batch.{Batch}
-use Rattle.foyer_core.specs.declared.block.flusher.Flusher.{Flusher}
-use Rattle.foyer_core.specs.declared.block.flusher.LaidOut.{LaidOut}
-use Rattle.foyer_core.specs.declared.block.flusher.Writing.{Writing}
+use Rattle.foyer_flusher.specs.declared.flusher.Batch.{Batch}
+use Rattle.foyer_flusher.specs.declared.flusher.Flusher.{Flusher}
+use Rattle.foyer_flusher.specs.declared.flusher.Writing.{Writing}
 use Rattle.foyer_core.specs.declared.reply.Reply.TheVariants as reply
 use Rattle.foyer_rules.specs.declared.settings.Settings.{Settings}
 use Rattle.foyer_standing.specs.declared.blocks.BlockState.{BlockState}
 use Rattle.foyer_core.specs.declared.state.Core.{Core}
 use Rattle.foyer_core.specs.declared.step.Step.{Step}
-use Rattle.foyer_policy.specs.Record.{Record}
 
 pub went_is : {X : Type 0} (r : Result X Error) → is_ok r ≡ went_well r
 went_is (Ok x) = refl
@@ -89,21 +93,20 @@ module _ {K V P A : Type 0} (m : Meaning K V P) (s : Settings) where
         destroy = done.destroy ∙ stands.destroy;
       }
 
-  some_placed : (pieces : List (Record K V P)) (xs : List (LaidOut A)) → AreLaidOutAs m s pieces xs [] → xs ≡ []
-  some_placed pieces [] are = refl
-  some_placed pieces (x ∷ []) are = absurd are
-  some_placed pieces (x ∷ y ∷ xs) are = absurd are
+  none_laid_here : (xs : List (Block A)) → AreLaidOutAs {C = Content} (map parts_of xs) [] → xs ≡ []
+  none_laid_here [] are = refl
+  none_laid_here (x ∷ xs) are = absurd are
 
-  none_written_here : (pieces : List (Record K V P)) (o : Option (Writing A)) → AreWriting m s pieces o None → o ≡ None
-  none_written_here pieces None are = refl
-  none_written_here pieces (Some w) are = absurd are
+  none_written_here : (o : Option (Writing A)) → AreWriting s o None → o ≡ None
+  none_written_here None are = refl
+  none_written_here (Some w) are = absurd are
 
-  -- what is in turn for a flusher, and for the plain one
+  -- what is in turn for a flusher, and for the model's
   pub has_block : (own : Option ℕ) (o : Option (Batch K V P A)) (p : Option (model_state.Batch Content)) → AreBatched m s own o p
       → IsSomeAnd o (λ batch. (batch.writing ≡ None) × (batch.blocks.items ≢ [])) → model.WantsBlock p
   has_block own (Some batch) (Some it) are has = (
-    λ none. has.1 (some_placed batch.pieces.items batch.blocks.items (subst (λ ss. AreLaidOutAs m s batch.pieces.items batch.blocks.items ss) none are.blocks)),
-    none_written m s batch.pieces.items batch.writing it.writing are.writing has.0,
+    λ none. has.1 (none_laid_here batch.blocks.items (subst (λ layouts. AreLaidOutAs (map parts_of batch.blocks.items) layouts) none are.blocks)),
+    none_written m s batch.writing it.writing are.writing has.0,
   )
   has_block own (Some batch) None are has = absurd are
   has_block own None p are has = absurd has
@@ -111,48 +114,48 @@ module _ {K V P A : Type 0} (m : Meaning K V P) (s : Settings) where
   pub wants_block : (own : Option ℕ) (o : Option (Batch K V P A)) (p : Option (model_state.Batch Content)) → AreBatched m s own o p
       → model.WantsBlock p → IsSomeAnd o (λ batch. (batch.writing ≡ None) × (batch.blocks.items ≢ []))
   wants_block own (Some batch) (Some it) are wants = (
-    none_written_here batch.pieces.items batch.writing (subst (λ v. AreWriting m s batch.pieces.items batch.writing v) wants.1 are.writing),
-    λ none. wants.0 (none_placed m s batch.pieces.items batch.blocks.items it.blocks are.blocks none),
+    none_written_here batch.writing (subst (λ v. AreWriting s batch.writing v) wants.1 are.writing),
+    λ none. wants.0 (none_laid batch.blocks.items it.blocks are.blocks none),
   )
   wants_block own o None are wants = absurd wants
   wants_block own None (Some it) are wants = absurd are
 
-  some_writing : (pieces : List (Record K V P)) (o : Option (Writing A)) (v : Option (model_state.Writing Content)) → AreWriting m s pieces o v → IsSome o
+  some_writing : (o : Option (Writing A)) (v : Option (model_state.Writing Content)) → AreWriting s o v → IsSome o
       → (w : model_state.Writing Content) × (v ≡ Some w)
-  some_writing pieces None v are is = absurd (cc)
-  some_writing pieces (Some w) None are is = absurd are
-  some_writing pieces (Some w) (Some v) are is = (v, refl)
+  some_writing None v are is = absurd (cc)
+  some_writing (Some w) None are is = absurd are
+  some_writing (Some w) (Some v) are is = (v, refl)
 
-  writing_some : (pieces : List (Record K V P)) (o : Option (Writing A)) (v : Option (model_state.Writing Content)) → AreWriting m s pieces o v
+  writing_some : (o : Option (Writing A)) (v : Option (model_state.Writing Content)) → AreWriting s o v
       → (w : model_state.Writing Content) → v ≡ Some w → IsSome o
-  writing_some pieces None None are w is = absurd (cc)
-  writing_some pieces None (Some v) are w is = absurd are
-  writing_some pieces (Some o) v are w is = refl
+  writing_some None None are w is = absurd (cc)
+  writing_some None (Some v) are w is = absurd are
+  writing_some (Some o) v are w is = refl
 
   pub is_writing : (own : Option ℕ) (o : Option (Batch K V P A)) (p : Option (model_state.Batch Content)) → AreBatched m s own o p
       → IsSomeAnd o (λ batch. IsSome batch.writing) → model.IsWriting p
-  is_writing own (Some batch) (Some it) are has = some_writing batch.pieces.items batch.writing it.writing are.writing has
+  is_writing own (Some batch) (Some it) are has = some_writing batch.writing it.writing are.writing has
   is_writing own (Some batch) None are has = absurd are
   is_writing own None p are has = absurd has
 
   pub must_write : (own : Option ℕ) (o : Option (Batch K V P A)) (p : Option (model_state.Batch Content)) → AreBatched m s own o p
       → model.IsWriting p → IsSomeAnd o (λ batch. IsSome batch.writing)
-  must_write own (Some batch) (Some it) are is = writing_some batch.pieces.items batch.writing it.writing are.writing is.0 is.1
+  must_write own (Some batch) (Some it) are is = writing_some batch.writing it.writing are.writing is.0 is.1
   must_write own o None are is = absurd is
   must_write own None (Some it) are is = absurd are
 
   pub is_written : (own : Option ℕ) (o : Option (Batch K V P A)) (p : Option (model_state.Batch Content)) → AreBatched m s own o p
       → IsSomeAnd o (λ batch. (batch.writing ≡ None) × (batch.blocks.items ≡ [])) → model.IsWritten false p
   is_written own (Some batch) (Some it) are has =
-      (none_placed m s batch.pieces.items batch.blocks.items it.blocks are.blocks has.1, none_written m s batch.pieces.items batch.writing it.writing are.writing has.0, inl refl)
+      (none_laid batch.blocks.items it.blocks are.blocks has.1, none_written m s batch.writing it.writing are.writing has.0, inl refl)
   is_written own (Some batch) None are has = absurd are
   is_written own None p are has = absurd has
 
   pub was_written : (own : Option ℕ) (o : Option (Batch K V P A)) (p : Option (model_state.Batch Content)) → AreBatched m s own o p
       → model.IsWritten false p → IsSomeAnd o (λ batch. (batch.writing ≡ None) × (batch.blocks.items ≡ []))
   was_written own (Some batch) (Some it) are is = (
-    none_written_here batch.pieces.items batch.writing (subst (λ v. AreWriting m s batch.pieces.items batch.writing v) is.1 are.writing),
-    some_placed batch.pieces.items batch.blocks.items (subst (λ ss. AreLaidOutAs m s batch.pieces.items batch.blocks.items ss) is.0 are.blocks),
+    none_written_here batch.writing (subst (λ v. AreWriting s batch.writing v) is.1 are.writing),
+    none_laid_here batch.blocks.items (subst (λ layouts. AreLaidOutAs (map parts_of batch.blocks.items) layouts) is.0 are.blocks),
   )
   was_written own o None are is = absurd is
   was_written own None (Some it) are is = absurd are
@@ -184,3 +187,9 @@ module _ {K V P A : Type 0} (m : Meaning K V P) (s : Settings) where
           × Describes (machine m s sound) it f (it.flushers f).batch answer new × Allocates {C = Content} (model_step.FlushBlock f) answer
       go None e has = absurd has
       go (Some batch) e has = would_issue m s sound f it (seen φ) slots states ids waiters stands batch e has.1
+
+  -- as many blocks as the batch that began has
+  pub begun_count : (o : Option (Batch K V P A)) (batch : Batch K V P A) (n : ℕ) → o ≡ Some batch
+      → MatchOption o (n ≡ 0) (λ x. n ≡ length x.blocks.items) → length batch.blocks.items ≡ n
+  begun_count None batch n is count = absurd (cc)
+  begun_count (Some x) batch n is count = let same : x ≡ batch = cc in sym (count ∙ ap (λ (y : Batch K V P A). length y.blocks.items) same)

@@ -1,8 +1,8 @@
 -- The flushers, when one of them only made room.
 use Rattle.std.proofs.Common.{◌≡◌, ℕ, List, map, slice_set, slice_index_or, ◌∙◌, ap}
 use Rattle.std.proofs.Math.Seq.{map-set_same}
-use Rattle.foyer_core.specs.declared.block.flusher.Flusher.{Flusher}
-use Rattle.foyer_core.specs.Unchanged.{seen}
+use Rattle.foyer_flusher.specs.declared.flusher.Flusher.{Flusher}
+use Rattle.foyer_flusher.specs.Seen.{seen}
 
 -- a flusher in the place of one that has the same
 pub same_seen : {K V P A : Type 0} (φs : List (Flusher K V P A)) (i : ℕ) (φ ψ : Flusher K V P A)

@@ -11,13 +11,14 @@ use Rattle.foyer_model.specs.State as model_state
 use Rattle.foyer_model.proofs.Ids.{distinct_append}
 use Rattle.foyer_rules.specs.Begins.{first_state}
 use Rattle.foyer_rules.specs.Content.{Content, Meaning}
-use Rattle.foyer_core.specs.Flushing.{IsFlusherAs}
+use Rattle.foyer_flusher.specs.Flushing.{IsFlusherAs}
 use Rattle.foyer_rules.specs.CoreRules.{machine}
-use Rattle.foyer_core.specs.Opened.{IsOpened, idle, unused, numbers_below}
+use Rattle.foyer_core.specs.Opened.{IsOpened, unused, numbers_below}
+use Rattle.foyer_flusher.specs.Idle.{idle}
 use Rattle.foyer_rules.specs.Sizes.{AreValid}
 use Rattle.foyer_core.specs.StateOf.{IsStateOf, AreFlushersAs, size_of_all}
 use Rattle.foyer_standing.specs.Standing.{IsIndexedAs, AreBlocksAs, AreCleanAs, AllBelow, IsBlockAs, slot_of}
-use Rattle.foyer_core.specs.Unchanged.{Seen}
+use Rattle.foyer_flusher.specs.Seen.{Seen}
 use Rattle.foyer_rules.specs.declared.settings.Settings.{Settings}
 use Rattle.foyer_standing.specs.declared.blocks.BlockState.{BlockState}
 use Rattle.foyer_core.specs.declared.state.Core.{Core}
@@ -72,20 +73,25 @@ block_stands : (it : BlockState) → unused ≡ it → IsBlockAs it model_state.
 block_stands it is = subst (λ x. IsBlockAs x model_state.Clean 0 model_state.no_stats) is (record { place = refl; filling = refl; stats = refl })
 
 module _ {K V P A : Type 0} (m : Meaning K V P) (s : Settings) (sound : AreValid s) where
-  idle_stands : (x : Seen K V P A) → idle s.blob_index_size ≡ x → IsFlusherAs m s x (plain_idle (machine m s sound))
+  idle_stands : (x : Seen K V P A) → idle s ≡ x → IsFlusherAs m s x (plain_idle (machine m s sound))
   idle_stands x is = subst (λ y. IsFlusherAs m s y (plain_idle (machine m s sound))) is (record {
     queue = refl;
-    buffer = tt;
-    bytes = refl;
+    buffer = refl;
+    room = refl;
+    greatest = let lt : s.blob_index_size < s.block_size = sound.room in omega arith;
+    given = tt;
     marks = refl;
     invalidated = refl;
     waits = refl;
     own = refl;
     there = tt;
     ready = refl;
+    sizes = refl;
     context = refl;
-    behind = let le : s.blob_index_size ≤ s.blob_index_size = omega arith in le;
-    within = let lt : s.blob_index_size < s.block_size = sound.room in omega arith;
+    goes_on = record {
+      past = let le : s.blob_index_size ≤ s.blob_index_size = omega arith in le;
+      room = let page : 4096 ≤ s.blob_index_size = (machine m s sound).index_holds_page in omega arith;
+    };
     batch = tt;
   })
 
@@ -100,8 +106,8 @@ module _ {K V P A : Type 0} (m : Meaning K V P) (s : Settings) (sound : AreValid
     steps = sym opened.steps;
     closed = sym opened.closed;
     flushers = subst (λ xs. AreFlushersAs m s xs (λ f. plain_idle (machine m s sound))) (sym opened.flushers) (record {
-      count = replicate_count s.flushers (idle s.blob_index_size);
-      all = λ f x is. idle_stands x (replicate_at s.flushers f (idle s.blob_index_size) x is);
+      count = replicate_count s.flushers (idle s);
+      all = λ f x is. idle_stands x (replicate_at s.flushers f (idle s) x is);
       beyond = λ f over. (refl, refl, refl, refl, refl);
     });
     queued = record {

@@ -3,16 +3,17 @@ use Rattle.std.proofs.Common.{◌≡◌, ℕ, ◌+◌, ◌-◌, ◌*◌, ◌^◌
 use Rattle.foyer_model.specs.Numbers.{put}
 use Rattle.foyer_model.specs.State as model_state
 use Rattle.foyer_rules.specs.Content.{Content, Meaning}
-use Rattle.foyer_core.specs.Flushing.{IsFlusherAs, submission_of}
-use Rattle.foyer_core.specs.StateOf.{AreFlushersAs, IsSizedAs, size_in, size_of_all}
-use Rattle.foyer_core.specs.Unchanged.{seen}
-use Rattle.foyer_core.specs.declared.block.flusher.Flusher.{Flusher}
-use Rattle.foyer_core.specs.declared.block.flusher.Submission.{Submission}
+use Rattle.foyer_flusher.specs.Flushing.{IsFlusherAs, submission_of}
+use Rattle.foyer_core.specs.StateOf.{AreFlushersAs, IsSizedAs, size_of_all}
+use Rattle.foyer_flusher.specs.Taking.{size_in}
+use Rattle.foyer_flusher.specs.Seen.{seen}
+use Rattle.foyer_flusher.specs.declared.flusher.Flusher.{Flusher}
+use Rattle.foyer_flusher.specs.declared.flusher.Submission.{Submission}
 use Rattle.foyer_rules.specs.declared.settings.Settings.{Settings}
 use Rattle.foyer_core.proofs.Opening.{map-end}
 use Rattle.foyer_core.proofs.StateLemmas.{flusher_at, flusher_put, size_put, size_pushed}
 
--- the plain flusher with one submission more
+-- the model's flusher with one submission more
 abbrev pub with_queued : model_state.Flusher Content → model_state.Submission Content → model_state.Flusher Content
 with_queued φ x = record φ { queue = φ.queue ++ x ∷ [] }
 
@@ -27,16 +28,18 @@ module _ {K V P A : Type 0} (m : Meaning K V P) (s : Settings) where
       (subst (λ y. IsFlusherAs m s y (with_queued (its f) (submission_of m x))) (sym pushed) (record {
         queue = ap (λ q. q ++ submission_of m x ∷ []) stands.queue ∙ sym (map-end (submission_of m) φ.queue.items x);
         buffer = stands.buffer;
-        bytes = stands.bytes;
+        room = stands.room;
+        greatest = stands.greatest;
+        given = stands.given;
         marks = stands.marks;
         invalidated = stands.invalidated;
         waits = stands.waits;
         own = stands.own;
         there = stands.there;
         ready = stands.ready;
+        sizes = stands.sizes;
         context = stands.context;
-        behind = stands.behind;
-        within = stands.within;
+        goes_on = stands.goes_on;
         batch = stands.batch;
       }))
 

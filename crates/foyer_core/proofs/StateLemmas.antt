@@ -8,12 +8,14 @@ use Rattle.foyer_model.specs.Queue.{queue_size, size_queued}
 use Rattle.foyer_model.specs.State as model_state
 use Rattle.foyer_model.proofs.Basics.{put_at, put_same, put_other}
 use Rattle.foyer_rules.specs.Content.{Content, Meaning}
-use Rattle.foyer_core.specs.Flushing.{IsFlusherAs}
-use Rattle.foyer_core.specs.StateOf.{AreFlushersAs, IsSizedAs, IsStateOf, size_in, size_of_all}
+use Rattle.foyer_flusher.specs.Flushing.{IsFlusherAs}
+use Rattle.foyer_core.specs.StateOf.{AreFlushersAs, IsSizedAs, IsStateOf, size_of_all}
+use Rattle.foyer_flusher.specs.Taking.{size_in}
 use Rattle.foyer_standing.specs.Standing.{IsIndexedAs, AreBlocksAs, AreCleanAs}
 use Rattle.foyer_standing.proofs.ListLemmas.{map_count, set_map, set_here, set_there, set_count, some_is}
-use Rattle.foyer_core.specs.Unchanged.{seen, IsUnchanged}
-use Rattle.foyer_core.specs.declared.block.flusher.Flusher.{Flusher}
+use Rattle.foyer_flusher.specs.Seen.{seen}
+use Rattle.foyer_core.specs.Unchanged.{IsUnchanged}
+use Rattle.foyer_flusher.specs.declared.flusher.Flusher.{Flusher}
 use Rattle.foyer_rules.specs.declared.settings.Settings.{Settings}
 use Rattle.foyer_core.specs.declared.state.Core.{Core}
 

@@ -1,12 +1,7 @@
 pub mod Answered
 pub mod Asked
-pub mod Batches
-pub mod Beginning
-pub mod FlushInTurn
-pub mod Flushing
 pub mod Opened
 pub mod Refines
 pub mod Replied
 pub mod StateOf
-pub mod Taking
 pub mod Unchanged

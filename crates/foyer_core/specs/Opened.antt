@@ -1,27 +1,12 @@
 -- A core that was opened and found nothing.
-use Rattle.std.specs.Prelude.{◌≡◌, ℕ, zero, suc, false, List, [], ◌∷◌, ◌++◌, None, map, replicate}
+use Rattle.std.specs.Prelude.{◌≡◌, ◌-◌, ℕ, zero, suc, false, List, [], ◌∷◌, ◌++◌, None, map, replicate}
 use Rattle.std.specs.FinMap as index
+use Rattle.foyer_flusher.specs.Idle.{idle}
 use Rattle.foyer_rules.specs.declared.settings.Settings.{Settings}
 use Rattle.foyer_standing.specs.declared.blocks.BlockState.{BlockState}
 use Rattle.foyer_core.specs.declared.state.Core.{Core}
 use Rattle.foyer_standing.specs.declared.blocks.BlockSet.TheVariants as place
-use Rattle.foyer_core.specs.Unchanged.{Seen, seen}
-
--- a flusher that has nothing, and whose first data go to this offset
-abbrev pub idle : {K V P A : Type 0} → ℕ → Seen K V P A
-idle first_offset =
-    record {
-      queue = [];
-      buffer = [];
-      records = [];
-      marks = [];
-      invalid = [];
-      pieces = [];
-      waits = [];
-      next_offset = first_offset;
-      own = None;
-      batch = None;
-    }
+use Rattle.foyer_flusher.specs.Seen.{seen}
 
 -- a block that was never handed out
 abbrev pub unused : BlockState
@@ -40,7 +25,7 @@ pub record IsOpened {K V P A : Type 0} (settings : Settings) (core : Core K V P 
   pub steps : core.steps ≡ 0
   pub closed : core.closed ≡ false
   pub queued : core.queued ≡ 0
-  pub flushers : map seen core.flushers.items ≡ replicate settings.flushers (idle settings.blob_index_size)
+  pub flushers : map seen core.flushers.items ≡ replicate settings.flushers (idle settings)
   pub blocks : core.blocks.items ≡ replicate settings.blocks unused
   pub clean : core.clean.items ≡ numbers_below settings.blocks
   pub waiting : core.waiting.items ≡ []

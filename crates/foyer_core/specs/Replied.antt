@@ -2,15 +2,15 @@
 use Rattle.std.specs.Prelude.{◌≡◌, ℕ, List, map, length, Option, Some, None}
 use Rattle.foyer_device.specs.declared.error.ErrorKind.{ErrorKind}
 use Rattle.foyer_device.specs.declared.error.ErrorKind.TheVariants as kind
-use Rattle.foyer_policy.specs.Record.{Record}
 use Rattle.foyer_model.specs.Position as model_position
 use Rattle.foyer_model.specs.Reply as model_reply
 use Rattle.foyer_core.specs.Asked.{ticket_of, age_of, step_of}
-use Rattle.foyer_rules.specs.Content.{Content, Meaning, content, content_of, contents_of}
+use Rattle.foyer_flusher.specs.Issuing.{write_of}
+use Rattle.foyer_rules.specs.Content.{Content, Meaning, content, content_of, contents_of, returned}
 use Rattle.foyer_standing.specs.Addresses.{mark_of}
 use Rattle.foyer_core.specs.declared.reply.Reply.{Reply}
 use Rattle.foyer_core.specs.declared.reply.Reply.TheVariants as reply
-use Rattle.foyer_core.specs.declared.reply.Write.{Write}
+use Rattle.foyer_flusher.specs.declared.flusher.Write.{Write}
 
 -- the kinds by which a step is refused
 abbrev pub kind_of : ErrorKind → Option model_reply.Kind
@@ -21,14 +21,6 @@ kind_of kind.Closed = Some model_reply.Closed
 kind_of kind.Unsupported = Some model_reply.Unsupported
 kind_of kind.SequenceEnd = Some model_reply.SequenceEnd
 kind_of other = None
-
--- a write of records
-abbrev pub write_of : {A : Type 0} → Write A → model_position.Write
-write_of w = record { role = model_position.Data; offset = w.offset; bytes = w.bytes.items }
-
-abbrev pub returned : {K V P : Type 0} → Meaning K V P → Option (Record K V P) → Option Content
-returned m None = None
-returned m (Some piece) = Some (content_of m piece)
 
 -- What a reply says. How a batch was laid out isn't said, but into how many blocks; the replies of reclaims and destroys
 -- aren't given yet.

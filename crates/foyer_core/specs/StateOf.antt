@@ -5,8 +5,9 @@ use Rattle.foyer_model.specs.State as model_state
 use Rattle.foyer_rules.specs.Content.{Content, Meaning}
 use Rattle.foyer_rules.specs.declared.settings.Settings.{Settings}
 use Rattle.foyer_standing.specs.Standing.{IsIndexedAs, AreBlocksAs, AreCleanAs}
-use Rattle.foyer_core.specs.Flushing.{IsFlusherAs}
-use Rattle.foyer_core.specs.Unchanged.{Seen, seen}
+use Rattle.foyer_flusher.specs.Flushing.{IsFlusherAs}
+use Rattle.foyer_flusher.specs.Seen.{Seen, seen}
+use Rattle.foyer_flusher.specs.Taking.{size_in}
 use Rattle.foyer_core.specs.declared.state.Core.{Core}
 
 -- the flushers by their numbers; beyond them nothing waits anywhere
@@ -14,14 +15,6 @@ pub record AreFlushersAs {K V P A : Type 0} (m : Meaning K V P) (s : Settings) (
   pub count : length φs ≡ s.flushers
   pub all : (f : ℕ) (φ : Seen K V P A) → slice_get φs f ≡ Some φ → IsFlusherAs m s φ (its f)
   pub beyond : (f : ℕ) → s.flushers ≤ f → IsIdle (its f)
-
--- the sizes of a queue's pieces
-abbrev pub size_in : {C : Type 0} → List (model_state.Submission C) → ℕ
-size_in [] = 0
-size_in (model_state.Piece h q n c ∷ rest) = n + size_in rest
-size_in (model_state.Remove h q invalidated ∷ rest) = size_in rest
-size_in (model_state.Await i ∷ rest) = size_in rest
-size_in (model_state.Reinsert h bytes a ∷ rest) = size_in rest
 
 -- the sizes of the pieces queued at the first n flushers
 abbrev pub size_of_all : {C : Type 0} → ℕ → (ℕ → model_state.Flusher C) → ℕ

@@ -1,5 +1,3 @@
 //! Flushers, and the blocks that they fill; the reclaimer comes here.
 
-pub(crate) mod batch;
-pub mod flusher;
-pub(crate) mod receive;
+pub use foyer_flusher::flusher;

@@ -6,8 +6,8 @@ ghost use Rattle.foyer_rules.specs.Content.{Meaning, meaning};
 ghost use Rattle.foyer_core.specs.Refines.{RefinesUncounted};
 ghost use Rattle.foyer_core.specs.declared.step.Step.TheVariants as step;
 
-use crate::block::batch::{Ended, Next, Wrote};
-use crate::block::receive::Taken;
+use foyer_flusher::batch::{Ended, Next, Wrote};
+use foyer_flusher::receive::Taken;
 use crate::reply::Reply;
 use crate::state::Core;
 use crate::step::Step;
@@ -30,7 +30,7 @@ impl<K, V, P, A: Allocator + Clone> Core<K, V, P, A> {
             return Reply::NotNow(Step::Receive { flusher });
         }
         let found = &mut self.flushers[flusher as usize];
-        match found.receive(self.settings.block_size) {
+        match found.receive(&self.alloc) {
             Err(_) => Reply::Refused(ErrorKind::Memory, Step::Receive { flusher }),
             Ok(Taken::Nothing) => Reply::Empty,
             Ok(Taken::Other) => Reply::Received(None),
@@ -54,7 +54,10 @@ impl<K, V, P, A: Allocator + Clone> Core<K, V, P, A> {
             return Reply::NotNow(Step::FlushBegin { flusher });
         }
         match found.begin(&self.alloc) {
-            Ok(marks) => Reply::Began { blocks: 1, marks },
+            Ok(marks) => Reply::Began {
+                blocks: found.block_count(),
+                marks,
+            },
             Err(_) => Reply::Refused(ErrorKind::Memory, Step::FlushBegin { flusher }),
         }
     }
@@ -72,6 +75,7 @@ impl<K, V, P, A: Allocator + Clone> Core<K, V, P, A> {
             return Reply::NotNow(Step::FlushBlock { flusher });
         }
         match found.next(
+            &self.alloc,
             flusher,
             &mut self.clean,
             &mut self.blocks,
@@ -101,13 +105,7 @@ impl<K, V, P, A: Allocator + Clone> Core<K, V, P, A> {
                 result: outcome,
             });
         }
-        let first_offset = self.settings.blob_index_size;
-        match found.wrote(
-            outcome.is_ok(),
-            &mut self.index,
-            &mut self.blocks,
-            first_offset,
-        ) {
+        match found.wrote(outcome.is_ok(), &mut self.index, &mut self.blocks) {
             Wrote::Next => Reply::Next,
             Wrote::Committed(count) => Reply::Committed(count),
             Wrote::Failed => Reply::Failed,

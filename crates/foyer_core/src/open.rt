@@ -1,12 +1,12 @@
 //! Opening.
 ghost use Rattle.std.specs.Prelude.{◌≡◌, ◌⊎◌, Err, IfOk, IfErr, IsOkUnless, map, replicate, vec_len};
 ghost use Rattle.foyer_device.specs.declared.error.Error.TheVariants.{Memory, Config};
-ghost use Rattle.foyer_core.specs.Opened.{IsOpened, idle, unused, numbers_below};
+ghost use Rattle.foyer_core.specs.Opened.{IsOpened, unused, numbers_below};
+ghost use Rattle.foyer_flusher.specs.Idle.{idle};
 ghost use Rattle.foyer_rules.specs.Sizes.{AreValid};
-ghost use Rattle.foyer_core.specs.Unchanged.{seen};
+ghost use Rattle.foyer_flusher.specs.Seen.{seen};
 
-use crate::block::batch::{Received, nothing_received};
-use crate::block::flusher::Flusher;
+use foyer_flusher::flusher::Flusher;
 use crate::settings::Settings;
 use crate::state::Core;
 use foyer_block::indexer::Indexer;
@@ -16,51 +16,19 @@ use foyer_standing::blocks::{BlockSet, BlockState};
 use std::alloc::Allocator;
 use std::collections::VecDeque;
 
-impl<K, V, P, A: Allocator> Flusher<K, V, P, A> {
-    // A flusher that has nothing, and takes no memory.
-    fn new(alloc: &A, first_offset: usize) -> Result<Flusher<K, V, P, A>>
-    where
-        A: Clone,
-        ensures idle { IfOk result (λ φ. seen φ ≡ idle first_offset) }
-        ensures refused { IsOkUnless result Memory }
-    {
-        let queue_alloc = alloc.clone()?;
-        let Received {
-            buffer,
-            records,
-            marks,
-            invalid,
-            pieces,
-            waits,
-        } = nothing_received(alloc)?;
-        Ok(Flusher {
-            queue: VecDeque::new(queue_alloc),
-            buffer,
-            records,
-            marks,
-            invalid,
-            pieces,
-            waits,
-            next_offset: first_offset,
-            own: None,
-            batch: None,
-        })
-    }
-}
-
 // So many flushers that have nothing.
 fn idle_flushers<K: Drop, V: Drop, P: Drop, A: Allocator + Clone>(
     alloc: &A,
-    count: u32,
-    first_offset: usize,
+    settings: &Settings,
 ) -> Result<Vec<Flusher<K, V, P, A>, A>>
-    ensures idle { IfOk result (λ φs. map seen φs.items ≡ replicate count (idle first_offset)) }
-    ensures count { IfOk result (λ φs. vec_len φs ≡ count) }
+    requires { AreValid settings.now }
+    ensures idle { IfOk result (λ φs. map seen φs.items ≡ replicate settings.now.flushers (idle settings.now)) }
+    ensures count { IfOk result (λ φs. vec_len φs ≡ settings.now.flushers) }
     ensures refused { IsOkUnless result Memory }
 {
-    let mut flushers = Vec::with_capacity(alloc.clone()?, count as usize)?;
-    'each_flusher: for _ in 0..count {
-        flushers.push(Flusher::new(alloc, first_offset)?)?;
+    let mut flushers = Vec::with_capacity(alloc.clone()?, settings.flushers as usize)?;
+    'each_flusher: for _ in 0..settings.flushers {
+        flushers.push(Flusher::new(alloc, settings)?)?;
     }
     Ok(flushers)
 }
@@ -100,7 +68,7 @@ impl<K: Drop, V: Drop, P: Drop, A: Allocator + Clone> Core<K, V, P, A> {
     {
         settings.check()?;
         let index = Indexer::new(alloc.clone()?, settings.indexer_shards)?;
-        let flushers = idle_flushers(&alloc, settings.flushers, settings.blob_index_size)?;
+        let flushers = idle_flushers(&alloc, &settings)?;
         let (blocks, clean) = clean_blocks(&alloc, settings.blocks)?;
         Ok(Core {
             waiting: Vec::new(alloc.clone()?),

@@ -10,7 +10,7 @@ ghost use Rattle.foyer_core.specs.declared.step.Step.TheVariants as step;
 ghost use Rattle.foyer_format.specs.Page.{page_up};
 ghost use Rattle.foyer_format.specs.declared.serde.ages.Age.TheVariants as age;
 
-use crate::block::flusher::{Submission, TombstoneInfo};
+use foyer_flusher::flusher::{Submission, TombstoneInfo};
 use crate::reply::Reply;
 use crate::state::Core;
 use crate::step::Step;

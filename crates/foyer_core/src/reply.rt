@@ -8,13 +8,7 @@ use foyer_format::serde::Age;
 use foyer_policy::keeper::Piece;
 use std::alloc::Allocator;
 
-/// A write that a reply issues: these bytes, whole pages, at this offset of the block.
-#[derive(Drop)]
-pub struct Write<A: Allocator> {
-    /// In bytes from the block's start.
-    pub offset: usize,
-    pub bytes: Vec<u8, A>,
-}
+pub use foyer_flusher::flusher::{Write, WriteBytes};
 
 /// The answer to a step.
 #[derive(Drop)]

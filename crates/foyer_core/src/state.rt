@@ -1,7 +1,7 @@
 //! The state of the core.
 ghost use Rattle.std.specs.Prelude.{◌≡◌, ◌<◌, vec_len};
 
-use crate::block::flusher::Flusher;
+use foyer_flusher::flusher::Flusher;
 use crate::settings::Settings;
 use foyer_block::indexer::Indexer;
 use foyer_block::manager::BlockId;

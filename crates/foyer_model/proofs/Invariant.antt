@@ -10,6 +10,7 @@ use Rattle.foyer_model.specs.Layout.{MayWrite, laid, all_laid, read, AllStand, I
 use Rattle.foyer_model.specs.Event.{Event, Put, Deletion, sequence_in, newest}
 use Rattle.foyer_model.specs.Access.{BlockWrites, Idle, Issued, InFlight, ReadState, ReadIssued, Reading, ReadDone, Load}
 use Rattle.foyer_model.specs.World.{World, covers}
+pub use Rattle.foyer_model.specs.Widths.{Each}
 use Rattle.foyer_model.proofs.Basics.{Ascends}
 
 -- what the invariant sees of a world
@@ -51,10 +52,6 @@ ground_in v = record { filled = v.filled; filling = v.filling; bytes = v.bytes }
 
 abbrev pub ground_of : {C : Type 0} → World C → Ground
 ground_of w = record { filled = w.filled; filling = w.core.filling; bytes = w.bytes }
-
-abbrev pub Each : {A : Type 0} → (A → Type 0) → List A → Type 0
-Each P [] = Unit {0}
-Each P (x ∷ xs) = P x × Each P xs
 
 -- the pages of an address
 abbrev pub InPages : {C : Type 0} → Rules C → Address → ℕ → Type 0

@@ -45,7 +45,7 @@ has_put {C} rules core bytes h (p ∷ ps) all = go (p.0 == h) refl (has_put rule
 
 -- what an opening gives a hash
 pub record IsRecovered {C : Type 0} (rules : Rules C) (w : World C) (h : ℕ) (a : Address) : Type 0 where
-  pub found : IsFound rules w.core a
+  pub found : IsFound rules w.core h a
   pub event : newest h w.history ≡ Some (Put h a.sequence (rules.pair_of (read (w.bytes a.block) a.offset a.len) h a.sequence))
 
 abbrev pub FoundOk : {C : Type 0} → Rules C → World C → ℕ → Option Slot → Type 0
@@ -53,21 +53,21 @@ FoundOk rules w h None = newest h w.history ≡ None
 FoundOk rules w h (Some (Mark s)) = ⊥
 FoundOk rules w h (Some (Indexed a)) = IsRecovered rules w h a
 
-abbrev IsThere : {C : Type 0} → Rules C → State C → Option Slot → Type 0
-IsThere rules core None = Unit {0}
-IsThere rules core (Some (Mark s)) = ⊥
-IsThere rules core (Some (Indexed a)) = IsFound rules core a
+abbrev IsThere : {C : Type 0} → Rules C → State C → ℕ → Option Slot → Type 0
+IsThere rules core h None = Unit {0}
+IsThere rules core h (Some (Mark s)) = ⊥
+IsThere rules core h (Some (Indexed a)) = IsFound rules core h a
 
-is_there : {C : Type 0} (rules : Rules C) (core : State C) (h : ℕ) (ps : List (ℕ × Address)) → AllFound rules core ps → IsThere rules core (slot_among h ps)
+is_there : {C : Type 0} (rules : Rules C) (core : State C) (h : ℕ) (ps : List (ℕ × Address)) → AllFound rules core ps → IsThere rules core h (slot_among h ps)
 is_there rules core h [] all = tt
-is_there rules core h (p ∷ ps) all = go (p.0 == h) (is_there rules core h ps all.2)
+is_there rules core h (p ∷ ps) all = go (p.0 == h) refl (is_there rules core h ps all.2)
   where
-    go : (t : Bool) → IsThere rules core (slot_among h ps) → IsThere rules core (if t then Some (Indexed p.1) else slot_among h ps)
-    go true rest = all.0
-    go false rest = rest
+    go : (t : Bool) → (p.0 == h) ≡ t → IsThere rules core h (slot_among h ps) → IsThere rules core h (if t then Some (Indexed p.1) else slot_among h ps)
+    go true e rest = subst (λ k. IsFound rules core k p.1) (eqb-true p.0 h e) all.0
+    go false e rest = rest
 
 module _ {C : Type 0} (rules : Rules C) where
-  both_ok : (w : World C) (h : ℕ) (slot : Option Slot) → IsThere rules w.core slot → HasPut rules w.bytes h (newest h w.history) slot → FoundOk rules w h slot
+  both_ok : (w : World C) (h : ℕ) (slot : Option Slot) → IsThere rules w.core h slot → HasPut rules w.bytes h (newest h w.history) slot → FoundOk rules w h slot
   both_ok w h None there put = put
   both_ok w h (Some (Mark s)) there put = absurd put
   both_ok w h (Some (Indexed a)) there put = record { found = there; event = put }

@@ -1,5 +1,5 @@
 -- What is in turn has a reply.
-use Rattle.std.proofs.Common.{◌≡◌, ◌≢◌, ℕ, zero, suc, ◌+◌, ◌<◌, ◌≤◌, ◌==◌, nat_le, Bool, true, false, if◌then◌else◌, List, [], ◌∷◌, ◌++◌, length, take, Option, Some, None, ◌⊎◌, inl, inr, refl, sym, ap, subst, ◌∙◌, arith}
+use Rattle.std.proofs.Common.{◌≡◌, ◌≢◌, ℕ, zero, suc, ◌+◌, ◌<◌, ◌≤◌, ◌==◌, nat_le, Bool, true, false, List, [], ◌∷◌, ◌++◌, length, take, Option, Some, None, ◌⊎◌, inl, inr, refl, sym, ap, subst, ◌∙◌, arith}
 use Rattle.std.proofs.lemmas.Bool.{eqb-true, eqb-false}
 use Rattle.std.proofs.lemmas.Bool.Decides.{nat_tests}
 use Rattle.foyer_model.specs.Destroy.{first_fault}
@@ -13,6 +13,7 @@ use Rattle.foyer_model.specs.Step.{ReadResult, Bytes, Fault, Age, Fresh, Young, 
 use Rattle.foyer_model.specs.Reply.{Kind, Io, Parse, Closed, Unsupported, SequenceEnd, Reply, NotNow, Refused, Ignored, Queued, Deleted, Done, Answer, Miss, Throttled, Read, Entry, Empty, Received, Began, Written, NoBlock, Next, Committed, Failed, Ended, Picked, Listed, Cleans, Destroying, Cleared}
 use Rattle.foyer_model.specs.Index.{is_address, holds, without, forgotten, unmarked}
 use Rattle.foyer_model.specs.Layout.{writes_in, PlacesAll}
+use Rattle.foyer_model.specs.Widths.{StateHasWidths}
 use Rattle.foyer_model.specs.Queue.{size_queued, queued, IsIgnored}
 use Rattle.foyer_model.specs.Load.{Looks, judged, age_at, Judges}
 use Rattle.foyer_model.specs.Receive.{bytes_taken, turned, Fits, TakesFront}
@@ -29,6 +30,7 @@ use Rattle.foyer_model.proofs.Invariant.{writing_in, goes_on_in}
 use Rattle.foyer_model.proofs.FlushEnds.{failed}
 use Rattle.foyer_model.proofs.FlushBlocks.{issued}
 use Rattle.foyer_model.proofs.Served.{IsServed, reached_served}
+use Rattle.foyer_model.proofs.Widths.{widths_stay_lem}
 
 pub last_of : (xs : List ℕ) → (xs ≡ []) ⊎ ((others : List ℕ) × (x : ℕ) × (xs ≡ others ++ x ∷ []))
 last_of [] = inl refl
@@ -98,7 +100,10 @@ module _ {C : Type 0} (rules : Rules C) (Splits : Splitting C) where
 
   fits_or : (c : State C) (φ : Flusher C) (bytes : List ℕ) → Fits rules c φ bytes ⊎ (Fits rules c φ bytes → ⊥)
   fits_or c φ bytes = elim (le_or (bytes_taken rules.page_up φ.buffer + rules.page_up (length bytes)) (rules.room φ.context)) [
-    | inl room ↦ elim (le_or (rules.index_size + rules.page_up (length bytes)) rules.block_size) [ inl fits ↦ inl (room, fits) | inr not ↦ inr (λ f. not f.1) ]
+    | inl room ↦ elim (le_or (rules.index_size + rules.page_up (length bytes)) rules.block_size) [
+      | inl fits ↦ elim (le_or 1 (length bytes)) [ inl some ↦ inl (room, (omega arith, fits)) | inr not ↦ inr (λ f. not (let some : 0 < length bytes = (f.1).0 in omega arith)) ]
+      | inr not ↦ inr (λ f. not (f.1).1)
+    ]
     | inr not ↦ inr (λ f. not f.0)
   ]
 
@@ -361,30 +366,30 @@ module _ {C : Type 0} (rules : Rules C) (Splits : Splitting C) where
           })) (sym is) (refl, refl))
 
   -- each step
-  replies : (c : State C) → c.steps < last_number → ((q : ℕ) → IsServed rules Splits (c.flushers q)) → PlacesAll rules Splits → (step : Step C) → InTurn rules c step → HasReply c step
-  replies c few served places (Enqueue h n age k) turn = enqueue_replies c h n age k few
-  replies c few served places (Delete h) turn = delete_replies c h few
-  replies c few served places (Wait f i) turn = answers c _ (Wait f i) Done tt few turn refl
-  replies c few served places (MayContains h) turn = answers c c (MayContains h) (Answer (is_address (c.index h))) tt few turn (refl, refl)
-  replies c few served places (LoadBegin h throttled) turn = look_replies c h throttled few
-  replies c few served places (LoadEnd t came) turn = load_replies c t came few turn
-  replies c few served places (Receive f) turn = receive_replies c f few turn
-  replies c few served places (FlushBegin f) turn =
-      let split : (blocks : List (BlockLayout C)) × Splits (c.flushers f).context (c.flushers f).buffer blocks = places (c.flushers f).context (c.flushers f).buffer (served f).continues_own_block (served f).fit in
+  replies : (c : State C) → c.steps < last_number → ((q : ℕ) → IsServed rules Splits (c.flushers q)) → StateHasWidths c → PlacesAll rules Splits → (step : Step C) → InTurn rules c step → HasReply c step
+  replies c few served wide places (Enqueue h n age k) turn = enqueue_replies c h n age k few
+  replies c few served wide places (Delete h) turn = delete_replies c h few
+  replies c few served wide places (Wait f i) turn = answers c _ (Wait f i) Done tt few turn refl
+  replies c few served wide places (MayContains h) turn = answers c c (MayContains h) (Answer (is_address (c.index h))) tt few turn (refl, refl)
+  replies c few served wide places (LoadBegin h throttled) turn = look_replies c h throttled few
+  replies c few served wide places (LoadEnd t came) turn = load_replies c t came few turn
+  replies c few served wide places (Receive f) turn = receive_replies c f few turn
+  replies c few served wide places (FlushBegin f) turn =
+      let split : (blocks : List (BlockLayout C)) × Splits (c.flushers f).context (c.flushers f).buffer blocks = places (c.flushers f).context (c.flushers f).buffer (served f).begins (wide.flushers f).buffer (served f).fit in
       answers c _ (FlushBegin f) (Began split.0 (c.flushers f).marks) tt few turn (refl, split.1, refl)
-  replies c few served places (FlushBlock f) turn = issue_replies c f few turn (served f)
-  replies c few served places (FlushWrote f good) turn = wrote_replies c f good few turn (served f)
-  replies c few served places (LogWrote f well) turn = log_replies c f well few turn
-  replies c few served places (FlushEnd f) turn = end_replies c f few turn
-  replies c few served places ReclaimBegin turn = pick_replies c few turn
-  replies c few served places (ReclaimRead b came) turn = read_replies c b came few turn
-  replies c few served places (ReclaimForget b) turn = forget_replies c b few turn
-  replies c few served places (ReclaimCleaned b well) turn = clean_replies c b well few turn
-  replies c few served places ReclaimIdle turn = answers c c ReclaimIdle (Answer (running rules.blocks c.reclaims == 0)) tt few turn (refl, refl)
-  replies c few served places DestroyBegin turn = destroy_replies c few turn
-  replies c few served places DestroyClear turn = answers c _ DestroyClear (Cleared (ids rules.blocks)) tt few turn (refl, refl)
-  replies c few served places (DestroyCleaned b well) turn = destroyed_replies c b well few turn
-  replies c few served places Close turn = answers c _ Close Done tt few turn (refl, refl)
+  replies c few served wide places (FlushBlock f) turn = issue_replies c f few turn (served f)
+  replies c few served wide places (FlushWrote f good) turn = wrote_replies c f good few turn (served f)
+  replies c few served wide places (LogWrote f well) turn = log_replies c f well few turn
+  replies c few served wide places (FlushEnd f) turn = end_replies c f few turn
+  replies c few served wide places ReclaimBegin turn = pick_replies c few turn
+  replies c few served wide places (ReclaimRead b came) turn = read_replies c b came few turn
+  replies c few served wide places (ReclaimForget b) turn = forget_replies c b few turn
+  replies c few served wide places (ReclaimCleaned b well) turn = clean_replies c b well few turn
+  replies c few served wide places ReclaimIdle turn = answers c c ReclaimIdle (Answer (running rules.blocks c.reclaims == 0)) tt few turn (refl, refl)
+  replies c few served wide places DestroyBegin turn = destroy_replies c few turn
+  replies c few served wide places DestroyClear turn = answers c _ DestroyClear (Cleared (ids rules.blocks)) tt few turn (refl, refl)
+  replies c few served wide places (DestroyCleaned b well) turn = destroyed_replies c b well few turn
+  replies c few served wide places Close turn = answers c _ Close Done tt few turn (refl, refl)
 
   pub in_turn_replies_lem : (is_value : C → Type 0) → InTurnReplies rules Splits is_value
-  in_turn_replies_lem is_value w step demands places reached few turn = replies w.core few (reached_served rules Splits is_value w reached) places step turn
+  in_turn_replies_lem is_value w step demands places reached few turn = replies w.core few (reached_served rules Splits is_value w demands.places reached) (widths_stay_lem rules Splits is_value w demands reached) places step turn

@@ -1,5 +1,5 @@
 -- Each step and access keeps what is known of reinsertions.
-use Rattle.std.proofs.Common.{◌≡◌, ℕ, ◌<◌, ◌≤◌, Bool, true, false, if◌then◌else◌, List, [], ◌∷◌, Option, Some, None, ◌⊎◌, inl, inr, refl, sym, subst, ◌∙◌, arith}
+use Rattle.std.proofs.Common.{◌≡◌, ℕ, ◌<◌, ◌≤◌, Bool, false, List, [], ◌∷◌, Option, Some, None, ◌⊎◌, inl, inr, refl, sym, subst, ◌∙◌, arith}
 use Rattle.foyer_model.specs.Kind.{Kind}
 use Rattle.foyer_model.specs.Destroy.{first_fault}
 use Rattle.foyer_model.specs.Numbers.{last_number, page}

@@ -76,7 +76,7 @@ abbrev pub w87 : World ℕ
 w87 = after small w86 e86
 
 pub may86 : MayHappen small SmallSplits IsSmall w86 e86
-may86 = (tt, (lit< tt, tt, (n86, (refl, refl, lit< tt, refl), refl)))
+may86 = (omega arith, (lit< tt, tt, (n86, (refl, refl, lit< tt, refl), refl)))
 
 abbrev n87 : State ℕ
 n87 = w87.core
@@ -349,4 +349,4 @@ abbrev pub w109 : World ℕ
 w109 = after small w108 e108
 
 pub may108 : MayHappen small SmallSplits IsSmall w108 e108
-may108 = (tt, (refl, (lit< tt, (tt, refl)), refl))
+may108 = (omega arith, (refl, (lit< tt, (tt, refl)), refl))

@@ -47,7 +47,7 @@ abbrev pub w3 : World ℕ
 w3 = after small w2 e2
 
 pub may2 : MayHappen small SmallSplits IsSmall w2 e2
-may2 = (tt, (refl, (lit< tt, (tt, (Deleted 2, record (queued small w2.core 0 (Remove 7 2 [])) { next = 3; index = put w2.core.index 7 (Some (Mark 2)) }, (refl, refl, lit< tt, refl), tt))), refl))
+may2 = (omega arith, (refl, (lit< tt, (tt, (Deleted 2, record (queued small w2.core 0 (Remove 7 2 [])) { next = 3; index = put w2.core.index 7 (Some (Mark 2)) }, (refl, refl, lit< tt, refl), tt))), refl))
 
 abbrev pub e3 : WorldEvent ℕ
 e3 = Applies (FlushBegin 0) (NotNow (FlushBegin 0)) w3.core
@@ -68,7 +68,7 @@ abbrev pub w5 : World ℕ
 w5 = after small w4 e4
 
 pub may4 : MayHappen small SmallSplits IsSmall w4 e4
-may4 = (tt, (lit< tt, lit< tt, (n4, (7 ∷ 1 ∷ 5 ∷ [], refl, (omega arith, omega arith), refl), refl)))
+may4 = (tt, (lit< tt, lit< tt, (n4, (7 ∷ 1 ∷ 5 ∷ [], refl, (omega arith, (omega arith, omega arith)), refl), refl)))
 
 abbrev n5 : State ℕ
 n5 = w5.core

@@ -185,7 +185,7 @@ abbrev pub w31 : World ℕ
 w31 = after small w30 e30
 
 pub may30 : MayHappen small SmallSplits IsSmall w30 e30
-may30 = (tt, (lit< tt, lit< tt, (n30, (9 ∷ 3 ∷ 6 ∷ [], refl, (omega arith, omega arith), refl), refl)))
+may30 = (tt, (lit< tt, lit< tt, (n30, (9 ∷ 3 ∷ 6 ∷ [], refl, (omega arith, (omega arith, omega arith)), refl), refl)))
 
 abbrev n31 : State ℕ
 n31 = turned small w31.core 0 (record (w31.core.flushers 0) {

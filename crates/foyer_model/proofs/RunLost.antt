@@ -49,7 +49,7 @@ abbrev pub wr20 : World ℕ
 wr20 = after small wr19 er19
 
 pub mayr19 : MayHappen small SmallSplits IsSmall wr19 er19
-mayr19 = (tt, (lit< tt, lit< tt, (nr19, (9 ∷ 18446744073709551614 ∷ 6 ∷ [], refl, (omega arith, omega arith), refl), refl)))
+mayr19 = (tt, (lit< tt, lit< tt, (nr19, (9 ∷ 18446744073709551614 ∷ 6 ∷ [], refl, (omega arith, (omega arith, omega arith)), refl), refl)))
 
 abbrev nr20 : State ℕ
 nr20 = turned small wr20.core 0 (record (wr20.core.flushers 0) {

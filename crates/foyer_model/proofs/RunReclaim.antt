@@ -183,7 +183,7 @@ abbrev pub w72 : World ℕ
 w72 = after small w71 e71
 
 pub may71 : MayHappen small SmallSplits IsSmall w71 e71
-may71 = (tt, (lit< tt, lit< tt, (n71, inl (refl, (omega arith, omega arith), refl), refl)))
+may71 = (tt, (lit< tt, lit< tt, (n71, inl (refl, (omega arith, (omega arith, omega arith)), refl), refl)))
 
 abbrev n72 : State ℕ
 n72 = turned small w72.core 0 (record (w72.core.flushers 0) {

@@ -1,5 +1,6 @@
 -- A run that begins with recovered addresses: records that aren't supported, don't decode, are broken, and one that is whole.
 use Rattle.std.proofs.Common.{◌≡◌, ℕ, zero, suc, ◌+◌, ◌<◌, ◌≤◌, ◌==◌, Bool, true, false, if◌then◌else◌, List, [], ◌∷◌, slice_index, None, ◌⊎◌, inl, inr, refl, arith, lit<}
+use Rattle.std.proofs.lemmas.Bool.{eqb-true}
 use Rattle.foyer_model.specs.Numbers.{put}
 use Rattle.foyer_model.specs.Record.{Address}
 use Rattle.foyer_model.specs.Position.{Data}
@@ -58,15 +59,15 @@ wr0 = record {
   clean_states = λ _. CleanIdle;
 }
 
-is_found : (s o : ℕ) → s < 5 → 4096 ≤ o → o + 3 ≤ 8192 → IsFound small wr0.core (found_at s o)
-is_found s o lt low high = record { filling = refl; sequence = omega arith; block = lit< tt; place = refl; behind = low; within = high }
+is_found : (s o : ℕ) → s < 5 → 4096 ≤ o → o + 3 ≤ 8192 → IsFound small wr0.core s (found_at s o)
+is_found s o lt low high = record { hash = omega arith; filling = refl; sequence = omega arith; block = lit< tt; place = refl; behind = low; within = high }
 
-places : (b : ℕ) → (found_place b ≡ Clean) ⊎ (found_place b ≡ Evictable)
-places b = go (b == 0)
+places : (b : ℕ) → (found_place b ≡ Clean) ⊎ ((b < 2) × (found_place b ≡ Evictable))
+places b = go (b == 0) refl
   where
-    go : (t : Bool) → ((if t then Evictable else Clean) ≡ Clean) ⊎ ((if t then Evictable else Clean) ≡ Evictable)
-    go true = inr refl
-    go false = inl refl
+    go : (t : Bool) → (b == 0) ≡ t → ((if t then Evictable else Clean) ≡ Clean) ⊎ ((b < 2) × ((if t then Evictable else Clean) ≡ Evictable))
+    go true e = inr ((let zero : b ≡ 0 = eqb-true b 0 e in omega arith), refl)
+    go false e = inl refl
 
 pub opened_recovered : IsOpened small wr0
 opened_recovered = record {

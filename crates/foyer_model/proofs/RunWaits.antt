@@ -122,7 +122,7 @@ abbrev pub w46 : World ℕ
 w46 = after small w45 e45
 
 pub may45 : MayHappen small SmallSplits IsSmall w45 e45
-may45 = (tt, (lit< tt, lit< tt, (n45, (9 ∷ 4 ∷ 6 ∷ [], refl, (omega arith, omega arith), refl), refl)))
+may45 = (tt, (lit< tt, lit< tt, (n45, (9 ∷ 4 ∷ 6 ∷ [], refl, (omega arith, (omega arith, omega arith)), refl), refl)))
 
 abbrev n46 : State ℕ
 n46 = turned small w46.core 0 (record (w46.core.flushers 0) {

@@ -8,7 +8,9 @@ use Rattle.foyer_model.specs.State.{Submission, Piece, Remove, Await, Reinsert, 
 use Rattle.foyer_model.specs.Rules.{Rules, flusher_of, Splitting}
 use Rattle.foyer_model.specs.Step.{ReadResult, Bytes, Fault, Age, Ticket, Step, Enqueue, Delete, Wait, MayContains, LoadBegin, LoadEnd, Receive, FlushBegin, FlushBlock, FlushWrote, LogWrote, FlushEnd, ReclaimBegin, ReclaimRead, ReclaimForget, ReclaimCleaned, ReclaimIdle, DestroyBegin, DestroyClear, DestroyCleaned, Close}
 use Rattle.foyer_model.specs.Reply.{Reply, NotNow, Refused, Ignored, Queued, Deleted, Done, Miss, Throttled, Read, Entry, Empty, Received, Began, Written, NoBlock, Next, Committed, Failed, Ended, Picked, Cleans, Destroying, Cleared}
-use Rattle.foyer_model.specs.Layout.{writes_in, FitsBlock, AllFitBlock, IsLeft}
+use Rattle.foyer_model.specs.Widths.{RecordsHaveWidths, StateHasWidths}
+use Rattle.foyer_model.specs.Layout.{writes_in, FitsBlock, AllFitBlock, KeepsRecords, MayBegin}
+use Rattle.foyer_model.specs.Layout.MayBegin.{empty_block, after_batch}
 use Rattle.foyer_model.specs.Queue.{invalidated_by, queued, Enqueues, Deletes, Waits}
 use Rattle.foyer_model.specs.Load.{Looks, judged, Judges, Ends}
 use Rattle.foyer_model.specs.Receive.{TakesFront}
@@ -20,10 +22,12 @@ use Rattle.foyer_model.specs.Changes.{Changes}
 use Rattle.foyer_model.specs.Follows.{Follows}
 use Rattle.foyer_model.specs.Access.{came}
 use Rattle.foyer_model.specs.World.{World, WorldEvent, Applies, ReadBegins, ReadEnds, ScanBegins, ScanEnds, WriteBegins, WriteEnds, CleanBegins, CleanEnds, after, after_all, MayHappen, MayAllHappen}
+use Rattle.foyer_model.specs.Opened.{IsOpened}
 use Rattle.foyer_model.specs.Laws.{IsReached}
 use Rattle.foyer_model.proofs.Basics.{put_one}
 use Rattle.foyer_model.proofs.Invariant.{writing_in, goes_on_in}
 use Rattle.foyer_model.proofs.FlushEnds.{failed}
+use Rattle.foyer_model.proofs.Widths.{event_wide, opened_wide}
 
 -- its own block where a batch goes on in it, a write where a block is written, records that fit into a block, and a
 -- splitter that goes on where a batch may begin
@@ -31,7 +35,7 @@ pub record IsServed {C : Type 0} (rules : Rules C) (Splits : Splitting C) (φ : 
   pub owner : goes_on_in φ.batch ≡ true → (b : ℕ) × (φ.own ≡ Some b)
   pub some : (w : Writing C) → writing_in φ.batch ≡ Some w → w.left ≢ []
   pub fit : AllFitBlock rules φ.buffer
-  pub continues_own_block : IsLeft rules Splits φ.context
+  pub begins : MayBegin rules Splits φ.context
 
 module _ {C : Type 0} (rules : Rules C) (Splits : Splitting C) where
   fit_more : (rs : List (Record C)) (r : Record C) → FitsBlock rules r.bytes → AllFitBlock rules rs → AllFitBlock rules (rs ++ r ∷ [])
@@ -51,7 +55,7 @@ module _ {C : Type 0} (rules : Rules C) (Splits : Splitting C) where
     owner = λ is. let r : (b : ℕ) × (φ.own ≡ Some b) = ok.owner (sym (ap goes_on_in batch) ∙ is) in (r.0, own ∙ r.1);
     some = λ w is. ok.some w (sym (ap writing_in batch) ∙ is);
     fit = subst (AllFitBlock rules) (sym buffer) ok.fit;
-    continues_own_block = subst (IsLeft rules Splits) (sym context) ok.continues_own_block;
+    begins = subst (MayBegin rules Splits) (sym context) ok.begins;
   }
 
   queued_served : (c new : State C) (f : ℕ) (sub : Submission C) → new.flushers ≡ (queued rules c f sub).flushers → ((q : ℕ) → IsServed rules Splits (c.flushers q)) → (q : ℕ) → IsServed rules Splits (new.flushers q)
@@ -61,13 +65,13 @@ module _ {C : Type 0} (rules : Rules C) (Splits : Splitting C) where
   takes_served : (c new : State C) (f : ℕ) (queue : List (Submission C)) (reply : Reply C) → TakesFront rules c f queue reply new → ((q : ℕ) → IsServed rules Splits (c.flushers q)) → (q : ℕ) → IsServed rules Splits (new.flushers q)
   takes_served c new f [] Empty ok served = served_as new c ok served
   takes_served c new f (Piece h s n k ∷ rest) (Received None) (bytes, encoded, fits, eq) served =
-      served_as new _ eq (one_served c f _ (λ t. record { owner = t.owner; some = t.some; fit = fit_more (c.flushers f).buffer _ fits.1 t.fit; continues_own_block = t.continues_own_block }) served)
+      served_as new _ eq (one_served c f _ (λ t. record { owner = t.owner; some = t.some; fit = fit_more (c.flushers f).buffer _ fits.1 t.fit; begins = t.begins }) served)
   takes_served c new f (Piece h s n k ∷ rest) (Received (Some d)) ok served = served_as new _ ok.2 (one_served c f _ (same_served (c.flushers f) _ refl refl refl refl) served)
   takes_served c new f (Remove h s invalidated ∷ rest) (Received None) ok served = served_as new _ ok (one_served c f _ (same_served (c.flushers f) _ refl refl refl refl) served)
   takes_served c new f (Await i ∷ rest) (Received None) ok served = served_as new _ ok (one_served c f _ (same_served (c.flushers f) _ refl refl refl refl) served)
   takes_served c new f (Reinsert h bytes a ∷ rest) (Received None) ok served =
       elim ok [
-        | inl (held, fits, eq) ↦ served_as new _ eq (one_served c f _ (λ t. record { owner = t.owner; some = t.some; fit = fit_more (c.flushers f).buffer _ fits.1 t.fit; continues_own_block = t.continues_own_block }) served)
+        | inl (held, fits, eq) ↦ served_as new _ eq (one_served c f _ (λ t. record { owner = t.owner; some = t.some; fit = fit_more (c.flushers f).buffer _ fits.1 t.fit; begins = t.begins }) served)
         | inr (dropped, eq) ↦ served_as new _ eq (one_served c f _ (same_served (c.flushers f) _ refl refl refl refl) served)
       ]
   takes_served c new f queue reply ok served = absurd ok
@@ -76,14 +80,14 @@ module _ {C : Type 0} (rules : Rules C) (Splits : Splitting C) where
   some_is None e = absurd (let f : false ≡ true = e in cc)
   some_is (Some b) e = (b, refl)
 
-  begins_served : (c new : State C) (f : ℕ) (reply : Reply C) → Begins rules Splits c f reply new → ((q : ℕ) → IsServed rules Splits (c.flushers q)) → (q : ℕ) → IsServed rules Splits (new.flushers q)
-  begins_served c new f (Began blocks marks) ok served = served_as new _ ok.2 (one_served c f _ (λ t. record {
+  begins_served : (c new : State C) (f : ℕ) (reply : Reply C) → RecordsHaveWidths (c.flushers f).buffer → Begins rules Splits c f reply new → ((q : ℕ) → IsServed rules Splits (c.flushers q)) → (q : ℕ) → IsServed rules Splits (new.flushers q)
+  begins_served c new f (Began blocks marks) widths ok served = served_as new _ ok.2 (one_served c f _ (λ t. record {
     owner = some_is (c.flushers f).own;
     some = λ w is. absurd (let e : None ≡ Some w = is in cc);
     fit = tt;
-    continues_own_block = inr ((c.flushers f).context, (c.flushers f).buffer, blocks, ok.1, refl);
+    begins = after_batch t.begins widths t.fit ok.1;
   }) served)
-  begins_served c new f reply ok served = absurd ok
+  begins_served c new f reply widths ok served = absurd ok
 
   abbrev left_or : List Write → Option (Writing C) → List Write
   left_or ws None = ws
@@ -98,7 +102,7 @@ module _ {C : Type 0} (rules : Rules C) (Splits : Splitting C) where
     owner = λ e. absurd (let g : false ≡ true = sym (ap goes_on_in is ∙ ok.0) ∙ e in cc);
     some = t.some;
     fit = t.fit;
-    continues_own_block = t.continues_own_block;
+    begins = t.begins;
   }) served)
   issues_served c new f (Some batch) (Written b writes) is (s, rest, blocks, all, which) served =
       elim which [
@@ -112,7 +116,7 @@ module _ {C : Type 0} (rules : Rules C) (Splits : Splitting C) where
         owner = λ e. absurd (let g : false ≡ true = e in cc);
         some = λ w. written_some b (writes_in rules s.parts) (records_in s.parts) w;
         fit = t.fit;
-        continues_own_block = t.continues_own_block;
+        begins = t.begins;
       }) served
   issues_served c new f batch reply is ok served = absurd ok
 
@@ -121,19 +125,19 @@ module _ {C : Type 0} (rules : Rules C) (Splits : Splitting C) where
     owner = λ e. t.owner (ap goes_on_in is ∙ e);
     some = λ w same none. let e : second ∷ rest ≡ [] = ap (left_or (second ∷ rest)) same ∙ none in cc;
     fit = t.fit;
-    continues_own_block = t.continues_own_block;
+    begins = t.begins;
   }) served)
   wrote_served c new f true (Some batch) (Committed n) is (r, last, writing, left, count, eq) served = served_as new _ eq (one_served c f _ (λ t. record {
     owner = λ e. t.owner (ap goes_on_in is ∙ e);
     some = λ w same. absurd (let e : None ≡ Some w = same in cc);
     fit = t.fit;
-    continues_own_block = t.continues_own_block;
+    begins = t.begins;
   }) served)
   wrote_served c new f good (Some batch) Failed is (r, first, rest, writing, left, grown, eq) served = served_as new _ eq (one_served c f _ (λ t. record {
     owner = λ e. absurd (let g : false ≡ true = e in cc);
     some = λ w same. absurd (let e : None ≡ Some w = same in cc);
     fit = t.fit;
-    continues_own_block = inl refl;
+    begins = empty_block;
   }) served)
   wrote_served c new f good batch reply is ok served = absurd ok
 
@@ -142,7 +146,7 @@ module _ {C : Type 0} (rules : Rules C) (Splits : Splitting C) where
     owner = λ e. t.owner (ap goes_on_in is ∙ e);
     some = λ w same. t.some w (ap writing_in is ∙ same);
     fit = t.fit;
-    continues_own_block = t.continues_own_block;
+    begins = t.begins;
   }) served)
   logs_served c new f well batch reply is ok served = absurd ok
 
@@ -151,7 +155,7 @@ module _ {C : Type 0} (rules : Rules C) (Splits : Splitting C) where
     owner = λ e. absurd (let g : false ≡ true = e in cc);
     some = λ w same. absurd (let e : None ≡ Some w = same in cc);
     fit = t.fit;
-    continues_own_block = t.continues_own_block;
+    begins = t.begins;
   }) served)
   finishes_served c new f batch reply ok served = absurd ok
 
@@ -226,7 +230,7 @@ module _ {C : Type 0} (rules : Rules C) (Splits : Splitting C) where
     owner = λ e. absurd (let g : false ≡ true = sym (ap goes_on_in ((may.1 f).4)) ∙ e in cc);
     some = (served f).some;
     fit = (served f).fit;
-    continues_own_block = inl refl;
+    begins = empty_block;
   })
   clears_served c new reply may ok served = absurd ok
 
@@ -235,55 +239,58 @@ module _ {C : Type 0} (rules : Rules C) (Splits : Splitting C) where
   cleans_served c new b well NoDestroy reply ok served = absurd ok
   cleans_served c new b well Begun reply ok served = absurd ok
 
-  does_served : (c new : State C) (step : Step C) (reply : Reply C) → InTurn rules c step → Changes rules Splits c step reply new → ((q : ℕ) → IsServed rules Splits (c.flushers q)) → (q : ℕ) → IsServed rules Splits (new.flushers q)
-  does_served c new (Enqueue h n age k) reply turn ok served = enqueues_served c new h n age k reply ok served
-  does_served c new (Delete h) reply turn ok served = deletes_served c new h reply ok served
-  does_served c new (Wait f i) reply turn ok served = waits_served c new f i reply ok served
-  does_served c new (MayContains h) reply turn ok served = served_as new c ok.1 served
-  does_served c new (LoadBegin h throttled) reply turn ok served = looks_served c new h throttled (c.index h) reply ok served
-  does_served c new (LoadEnd t came) reply turn ok served = ends_served c new t came reply ok served
-  does_served c new (Receive f) reply turn ok served = takes_served c new f (c.flushers f).queue reply ok served
-  does_served c new (FlushBegin f) reply turn ok served = begins_served c new f reply ok served
-  does_served c new (FlushBlock f) reply turn ok served = issues_served c new f (c.flushers f).batch reply refl ok served
-  does_served c new (FlushWrote f good) reply turn ok served = wrote_served c new f good (c.flushers f).batch reply refl ok served
-  does_served c new (LogWrote f well) reply turn ok served = logs_served c new f well (c.flushers f).batch reply refl ok served
-  does_served c new (FlushEnd f) reply turn ok served = finishes_served c new f (c.flushers f).batch reply ok served
-  does_served c new ReclaimBegin reply turn ok served = picks_served c new reply ok served
-  does_served c new (ReclaimRead b came) reply turn ok served = reads_served c new b (c.reclaims b) came reply ok served
-  does_served c new (ReclaimForget b) reply turn ok served = forgets_served c new b (c.reclaims b) reply ok served
-  does_served c new (ReclaimCleaned b well) reply turn ok served = cleaned_served c new b reply ok served
-  does_served c new ReclaimIdle reply turn ok served = served_as new c ok.1 served
-  does_served c new DestroyBegin reply turn ok served = destroys_served c new reply ok served
-  does_served c new DestroyClear reply turn ok served = clears_served c new reply turn ok served
-  does_served c new (DestroyCleaned b well) reply turn ok served = cleans_served c new b well c.destroy reply ok served
-  does_served c new Close reply turn ok served = served_as new _ ok.1 served
+  does_served : (c new : State C) (step : Step C) (reply : Reply C) → StateHasWidths c → InTurn rules c step → Changes rules Splits c step reply new → ((q : ℕ) → IsServed rules Splits (c.flushers q)) → (q : ℕ) → IsServed rules Splits (new.flushers q)
+  does_served c new (Enqueue h n age k) reply wide turn ok served = enqueues_served c new h n age k reply ok served
+  does_served c new (Delete h) reply wide turn ok served = deletes_served c new h reply ok served
+  does_served c new (Wait f i) reply wide turn ok served = waits_served c new f i reply ok served
+  does_served c new (MayContains h) reply wide turn ok served = served_as new c ok.1 served
+  does_served c new (LoadBegin h throttled) reply wide turn ok served = looks_served c new h throttled (c.index h) reply ok served
+  does_served c new (LoadEnd t came) reply wide turn ok served = ends_served c new t came reply ok served
+  does_served c new (Receive f) reply wide turn ok served = takes_served c new f (c.flushers f).queue reply ok served
+  does_served c new (FlushBegin f) reply wide turn ok served = begins_served c new f reply (wide.flushers f).buffer ok served
+  does_served c new (FlushBlock f) reply wide turn ok served = issues_served c new f (c.flushers f).batch reply refl ok served
+  does_served c new (FlushWrote f good) reply wide turn ok served = wrote_served c new f good (c.flushers f).batch reply refl ok served
+  does_served c new (LogWrote f well) reply wide turn ok served = logs_served c new f well (c.flushers f).batch reply refl ok served
+  does_served c new (FlushEnd f) reply wide turn ok served = finishes_served c new f (c.flushers f).batch reply ok served
+  does_served c new ReclaimBegin reply wide turn ok served = picks_served c new reply ok served
+  does_served c new (ReclaimRead b came) reply wide turn ok served = reads_served c new b (c.reclaims b) came reply ok served
+  does_served c new (ReclaimForget b) reply wide turn ok served = forgets_served c new b (c.reclaims b) reply ok served
+  does_served c new (ReclaimCleaned b well) reply wide turn ok served = cleaned_served c new b reply ok served
+  does_served c new ReclaimIdle reply wide turn ok served = served_as new c ok.1 served
+  does_served c new DestroyBegin reply wide turn ok served = destroys_served c new reply ok served
+  does_served c new DestroyClear reply wide turn ok served = clears_served c new reply turn ok served
+  does_served c new (DestroyCleaned b well) reply wide turn ok served = cleans_served c new b well c.destroy reply ok served
+  does_served c new Close reply wide turn ok served = served_as new _ ok.1 served
 
-  follows_served : (c new : State C) (step : Step C) (reply : Reply C) → Follows rules Splits c step reply new → ((q : ℕ) → IsServed rules Splits (c.flushers q)) → (q : ℕ) → IsServed rules Splits (new.flushers q)
-  follows_served c new step (NotNow back) ok served = served_as new c ok.2 served
-  follows_served c new step (Refused kind back) ok served = served_as new c ok.2 served
-  follows_served c new step reply (few, turn, (done, does, eq)) served = served_as new _ eq (does_served c done step reply turn does served)
+  follows_served : (c new : State C) (step : Step C) (reply : Reply C) → StateHasWidths c → Follows rules Splits c step reply new → ((q : ℕ) → IsServed rules Splits (c.flushers q)) → (q : ℕ) → IsServed rules Splits (new.flushers q)
+  follows_served c new step (NotNow back) wide ok served = served_as new c ok.2 served
+  follows_served c new step (Refused kind back) wide ok served = served_as new c ok.2 served
+  follows_served c new step reply wide (few, turn, (done, does, eq)) served = served_as new _ eq (does_served c done step reply wide turn does served)
 
-  event_served : (is_value : C → Type 0) (w : World C) (e : WorldEvent C) → MayHappen rules Splits is_value w e → ((q : ℕ) → IsServed rules Splits (w.core.flushers q)) → (q : ℕ) → IsServed rules Splits ((after rules w e).core.flushers q)
-  event_served is_value w (Applies step reply new) ok served = follows_served w.core new step reply ok.1 served
-  event_served is_value w (ReadBegins n) ok served = served
-  event_served is_value w (ReadEnds n result) ok served = served
-  event_served is_value w (ScanBegins b) ok served = served
-  event_served is_value w (ScanEnds b result) ok served = served
-  event_served is_value w (WriteBegins f) ok served = served
-  event_served is_value w (WriteEnds f good g) ok served = served
-  event_served is_value w (CleanBegins b) ok served = served
-  event_served is_value w (CleanEnds b good g) ok served = served
+  pub event_served : (is_value : C → Type 0) (w : World C) (e : WorldEvent C) → StateHasWidths w.core → MayHappen rules Splits is_value w e → ((q : ℕ) → IsServed rules Splits (w.core.flushers q)) → (q : ℕ) → IsServed rules Splits ((after rules w e).core.flushers q)
+  event_served is_value w (Applies step reply new) wide ok served = follows_served w.core new step reply wide ok.1 served
+  event_served is_value w (ReadBegins n) wide ok served = served
+  event_served is_value w (ReadEnds n result) wide ok served = served
+  event_served is_value w (ScanBegins b) wide ok served = served
+  event_served is_value w (ScanEnds b result) wide ok served = served
+  event_served is_value w (WriteBegins f) wide ok served = served
+  event_served is_value w (WriteEnds f good g) wide ok served = served
+  event_served is_value w (CleanBegins b) wide ok served = served
+  event_served is_value w (CleanEnds b good g) wide ok served = served
 
-  all_served : (is_value : C → Type 0) (w : World C) (events : List (WorldEvent C)) → MayAllHappen rules Splits is_value w events → ((q : ℕ) → IsServed rules Splits (w.core.flushers q)) → (q : ℕ) → IsServed rules Splits ((after_all rules w events).core.flushers q)
-  all_served is_value w [] ok served = served
-  all_served is_value w (e ∷ es) ok served = all_served is_value (after rules w e) es ok.1 (event_served is_value w e ok.0 served)
+  all_served : (is_value : C → Type 0) → KeepsRecords rules Splits → (w : World C) (events : List (WorldEvent C)) → StateHasWidths w.core → MayAllHappen rules Splits is_value w events → ((q : ℕ) → IsServed rules Splits (w.core.flushers q)) → (q : ℕ) → IsServed rules Splits ((after_all rules w events).core.flushers q)
+  all_served is_value keeps w [] wide ok served = served
+  all_served is_value keeps w (e ∷ es) wide ok served =
+      all_served is_value keeps (after rules w e) es (event_wide rules Splits is_value keeps w e ok.0 wide) ok.1 (event_served is_value w e wide ok.0 served)
 
-  pub reached_served : (is_value : C → Type 0) (w : World C) → IsReached rules Splits is_value w → (q : ℕ) → IsServed rules Splits (w.core.flushers q)
-  reached_served is_value w reached = subst (λ v. (q : ℕ) → IsServed rules Splits (v.core.flushers q)) reached.is
-      (all_served is_value reached.first reached.events reached.happened
-      (λ f. subst (IsServed rules Splits) (sym (reached.opened.flushers f)) (record {
-        owner = λ e. absurd (let g : false ≡ true = e in cc);
-        some = λ w is. absurd (let e : None ≡ Some w = is in cc);
-        fit = tt;
-        continues_own_block = inl refl;
-      })))
+  pub opened_served : (w : World C) → IsOpened rules w → (q : ℕ) → IsServed rules Splits (w.core.flushers q)
+  opened_served w opened q = subst (IsServed rules Splits) (sym (opened.flushers q)) (record {
+    owner = λ e. absurd (let g : false ≡ true = e in cc);
+    some = λ w is. absurd (let e : None ≡ Some w = is in cc);
+    fit = tt;
+    begins = empty_block;
+  })
+
+  pub reached_served : (is_value : C → Type 0) (w : World C) → KeepsRecords rules Splits → IsReached rules Splits is_value w → (q : ℕ) → IsServed rules Splits (w.core.flushers q)
+  reached_served is_value w keeps reached = subst (λ v. (q : ℕ) → IsServed rules Splits (v.core.flushers q)) reached.is
+      (all_served is_value keeps reached.first reached.events (opened_wide rules Splits reached.first reached.opened) reached.happened (opened_served reached.first reached.opened))

@@ -138,7 +138,7 @@ small_demands = record {
 pub reaches_lem : ReachesEveryReply
 reaches_lem = record {
   demands = small_demands;
-  places = λ f rs left fits. (no_spread f ∷ each_alone rs, inl refl);
+  places = λ f rs may widths fits. (no_spread f ∷ each_alone rs, inl refl);
   empty = w0;
   run = run;
   is_run = record { opened = opened; happened = happened };

@@ -6,6 +6,7 @@ use Rattle.foyer_model.specs.Record.{Given, Record}
 use Rattle.foyer_model.specs.Position.{Write, BlockLayout, records_of}
 use Rattle.foyer_model.specs.State.{Submission, Piece, Writing, Batch, Evictable, State, Clean}
 use Rattle.foyer_model.specs.Rules.{Rules, Splitting}
+use Rattle.foyer_model.specs.Widths.{StateHasWidths}
 use Rattle.foyer_model.specs.Layout.{writes_in, KeepsRecords, PlacesAll}
 use Rattle.foyer_model.specs.Step.{Age, Step, Enqueue, Receive, FlushBegin, FlushBlock, FlushWrote, ReclaimBegin}
 use Rattle.foyer_model.specs.Reply.{Kind, Reply, NotNow, Refused, Ignored, Received, Began, Written, Committed, Failed, Picked}
@@ -76,6 +77,12 @@ module _ {C : Type 0} (rules : Rules C) (Splits : Splitting C) where
       (w : World C) (step : Step C) → Demands rules Splits is_value → PlacesAll rules Splits → IsReached rules Splits is_value w
       → w.core.steps < last_number → InTurn rules w.core step
       → (reply : Reply C) × (new : State C) × Follows rules Splits w.core step reply new × IsInTurnReply reply
+
+-- In every world that is reached, the hashes and the sequences of what is queued, buffered, in a batch or indexed have 64
+-- bits.
+abbrev pub WidthsStay : {C : Type 0} → Rules C → Splitting C → (C → Type 0) → Type 0
+WidthsStay {C} rules Splits is_value =
+    (w : World C) → Demands rules Splits is_value → IsReached rules Splits is_value w → StateHasWidths w.core
 
 -- In every world that is reached, the clean list is the clean set: a block is listed just where it is clean, and once.
 pub record ListsClean {C : Type 0} (rules : Rules C) (Splits : Splitting C) (is_value : C → Type 0) : Type 0 where

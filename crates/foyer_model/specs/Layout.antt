@@ -3,6 +3,7 @@ use Rattle.std.specs.Prelude.{◌≡◌, ◌≢◌, ℕ, suc, zero, ◌+◌, ◌
 use Rattle.foyer_model.specs.Record.{Record}
 use Rattle.foyer_model.specs.Position.{Position, tail_of, Write, Part, BlockLayout, records_in, records_of, last_end}
 use Rattle.foyer_model.specs.Rules.{Rules, first_position, Splitting}
+use Rattle.foyer_model.specs.Widths.{RecordsHaveWidths}
 
 -- where later writes of a filling may fall: at or behind its tail, or into the index of its present blob
 abbrev pub MayWrite : ℕ → Position → ℕ → Type 0
@@ -77,22 +78,25 @@ abbrev pub KeepsRecords : {C : Type 0} → Rules C → Splitting C → Type 0
 KeepsRecords {C} rules Splits =
     (f : Position) (records : List (Record C)) (blocks : List (BlockLayout C)) → Splits f records blocks → KeepsBatch rules f records blocks
 
--- the record fits into an empty block
+-- the record isn't empty, and fits into a block into which nothing was written
 abbrev pub FitsBlock : {C : Type 0} → Rules C → List ℕ → Type 0
-FitsBlock rules bytes = rules.index_size + rules.page_up (length bytes) ≤ rules.block_size
+FitsBlock rules bytes = (0 < length bytes) × (rules.index_size + rules.page_up (length bytes) ≤ rules.block_size)
 
 -- each record does
 abbrev pub AllFitBlock : {C : Type 0} → Rules C → List (Record C) → Type 0
 AllFitBlock rules [] = Unit {0}
 AllFitBlock rules (r ∷ rs) = FitsBlock rules r.bytes × AllFitBlock rules rs
 
--- a filling at which a batch may begin: an empty one, or one that a batch has left
-abbrev pub IsLeft : {C : Type 0} → Rules C → Splitting C → Position → Type 0
-IsLeft {C} rules Splits f =
-    (f ≡ first_position rules)
-    ⊎ ((g : Position) × (records : List (Record C)) × (blocks : List (BlockLayout C)) × Splits g records blocks × (f ≡ last_end g blocks))
+-- A position from which a batch may begin: that of an empty block, or where a batch of records that can be listed has left
+-- one.
+pub data MayBegin {C : Type 0} (rules : Rules C) (Splits : Splitting C) : Position → Type 0 where
+  empty_block : MayBegin rules Splits (first_position rules)
+  after_batch : {f : Position} {records : List (Record C)} {blocks : List (BlockLayout C)}
+      → MayBegin rules Splits f → RecordsHaveWidths records → AllFitBlock rules records → Splits f records blocks
+      → MayBegin rules Splits (last_end f blocks)
 
--- from there on, records that fit into a block can always be placed
+-- from there on, records of 64-bit hashes and sequences that fit into a block can always be laid out
 abbrev pub PlacesAll : {C : Type 0} → Rules C → Splitting C → Type 0
 PlacesAll {C} rules Splits =
-    (f : Position) (records : List (Record C)) → IsLeft rules Splits f → AllFitBlock rules records → (blocks : List (BlockLayout C)) × Splits f records blocks
+    (f : Position) (records : List (Record C)) → MayBegin rules Splits f → RecordsHaveWidths records → AllFitBlock rules records
+    → (blocks : List (BlockLayout C)) × Splits f records blocks

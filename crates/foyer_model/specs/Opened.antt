@@ -32,8 +32,9 @@ abbrev pub IsAlone : ℕ → List (ℕ × Address) → Type 0
 IsAlone h [] = Unit {0}
 IsAlone h (p ∷ ps) = (p.0 ≢ h) × IsAlone h ps
 
--- an address that was found lies behind the index within a block that isn't clean
-pub record IsFound {C : Type 0} (rules : Rules C) (core : State C) (a : Address) : Type 0 where
+-- an address that was found under a hash of 64 bits lies behind the index within a block that isn't clean
+pub record IsFound {C : Type 0} (rules : Rules C) (core : State C) (h : ℕ) (a : Address) : Type 0 where
+  pub hash : h ≤ last_number
   pub filling : a.filling ≡ 0
   pub sequence : a.sequence < core.next
   pub block : a.block < rules.blocks
@@ -44,7 +45,7 @@ pub record IsFound {C : Type 0} (rules : Rules C) (core : State C) (a : Address)
 -- each address was found, and no two have one hash
 abbrev pub AllFound : {C : Type 0} → Rules C → State C → List (ℕ × Address) → Type 0
 AllFound rules core [] = Unit {0}
-AllFound rules core (p ∷ ps) = IsFound rules core p.1 × IsAlone p.0 ps × AllFound rules core ps
+AllFound rules core (p ∷ ps) = IsFound rules core p.0 p.1 × IsAlone p.0 ps × AllFound rules core ps
 
 -- whether it is the clean set
 abbrev pub is_clean : BlockSet → Bool
@@ -76,15 +77,15 @@ idle rules = record {
 abbrev pub full_filling : {C : Type 0} → Rules C → Position
 full_filling rules = record { blob = rules.block_size; at = 0; listed = [] }
 
--- An opened world: the index and the history are those of the addresses found, each block is clean or evictable, the
--- clean ones are listed in order, and nothing is queued, issued or under way.
+-- An opened world: the index and the history are those of the addresses found, each block is clean or evictable and what
+-- is no block is clean, the clean blocks are listed in order, and nothing is queued, issued or under way.
 pub record IsOpened {C : Type 0} (rules : Rules C) (w : World C) : Type 0 where
   pub found : List (ℕ × Address)
   pub all : AllFound rules w.core found
   pub index : (h : ℕ) → w.core.index h ≡ slot_among h found
   pub history : w.history ≡ recovered rules w.bytes found
   pub kept : (h : ℕ) → w.kept h ≡ block_among h found
-  pub place : (b : ℕ) → (w.core.place b ≡ Clean) ⊎ (w.core.place b ≡ Evictable)
+  pub place : (b : ℕ) → (w.core.place b ≡ Clean) ⊎ ((b < rules.blocks) × (w.core.place b ≡ Evictable))
   pub clean : w.core.clean ≡ clean_among w.core.place (ids rules.blocks)
   pub first : 0 < w.core.next
   pub last : w.core.next ≤ last_number

@@ -1,11 +1,13 @@
 -- Why a step may be refused.
-use Rattle.std.specs.Prelude.{◌≡◌, ◌<◌, ◌≤◌, true, false, ◌⊎◌}
+use Rattle.std.specs.Prelude.{◌≡◌, ℕ, ◌<◌, ◌≤◌, true, false, List, [], ◌∷◌, Some, ◌⊎◌}
 use Rattle.foyer_model.specs.Numbers.{last_number}
 use Rattle.foyer_model.specs.Record.{NotSupported, Undecodable}
-use Rattle.foyer_model.specs.State.{State}
+use Rattle.foyer_model.specs.Index.{holds}
+use Rattle.foyer_model.specs.Receive.{Fits}
+use Rattle.foyer_model.specs.State.{Submission, Piece, Remove, Await, Reinsert, Flusher, State}
 use Rattle.foyer_model.specs.Rules.{Rules, Splitting}
 use Rattle.foyer_model.specs.Step.{Bytes, Fault, Step, Enqueue, Delete, Wait, LoadEnd, Receive, FlushBegin, FlushBlock, ReclaimBegin, ReclaimRead, ReclaimCleaned, DestroyBegin, DestroyClear}
-use Rattle.foyer_model.specs.Reply.{Kind, Io, Memory, Parse, Closed, Unsupported, SequenceEnd, Reply, Queued, Deleted, Done, Received, Began, Written, NoBlock, Picked, Destroying, Cleared}
+use Rattle.foyer_model.specs.Reply.{Kind, Io, Memory, Parse, Closed, Unsupported, SequenceEnd, Reply, Queued, Deleted, Done, Written, NoBlock, Picked, Destroying, Cleared}
 use Rattle.foyer_model.specs.Queue.{IsIgnored}
 use Rattle.foyer_model.specs.Load.{judged, IsDecoded}
 use Rattle.foyer_model.specs.Changes.{Changes}
@@ -18,13 +20,12 @@ Draws (Delete h) = Unit {0}
 Draws DestroyBegin = Unit {0}
 Draws step = ⊥
 
--- where a step grows something, by the reply that it would have
+-- where a step grows something, by the reply that it would have; the end of a load, a receipt and the start of a flush
+-- aren't among them
 abbrev pub Allocates : {C : Type 0} → Step C → Reply C → Type 0
 Allocates (Enqueue h n age c) (Queued s) = Unit {0}
 Allocates (Delete h) (Deleted s) = Unit {0}
 Allocates (Wait f i) Done = Unit {0}
-Allocates (Receive f) (Received returned) = Unit {0}
-Allocates (FlushBegin f) (Began blocks marks) = Unit {0}
 Allocates (FlushBlock f) (Written b writes) = Unit {0}
 Allocates (FlushBlock f) NoBlock = Unit {0}
 Allocates ReclaimBegin (Picked b answers probation) = Unit {0}
@@ -34,6 +35,16 @@ Allocates DestroyBegin (Destroying s) = Unit {0}
 Allocates DestroyClear (Cleared bs) = Unit {0}
 Allocates step reply = ⊥
 
+module _ {C : Type 0} (rules : Rules C) (old : State C) where
+  -- the front of a queue takes memory: a mark and a wait do; a piece does unless its record has no room, a reinsertion where
+  -- it is put into the buffer
+  abbrev pub TakesMemory : Flusher C → List (Submission C) → Type 0
+  TakesMemory φ [] = ⊥
+  TakesMemory φ (Piece h s n c ∷ rest) = (bytes : List ℕ) → rules.encode h s c ≡ Some bytes → Fits rules old φ bytes
+  TakesMemory φ (Remove h s invalidated ∷ rest) = Unit {0}
+  TakesMemory φ (Await i ∷ rest) = Unit {0}
+  TakesMemory φ (Reinsert h bytes a ∷ rest) = (holds a (old.index h) ≡ true) × Fits rules old φ bytes
+
 module _ {C : Type 0} (rules : Rules C) (Splits : Splitting C) (old : State C) where
   -- an enqueue that is ignored draws nothing
   abbrev pub DrawsNow : Step C → Type 0
@@ -42,9 +53,12 @@ module _ {C : Type 0} (rules : Rules C) (Splits : Splitting C) (old : State C) w
   DrawsNow DestroyBegin = Unit {0}
   DrawsNow step = ⊥
 
-  -- an allocation is needed that can be refused: of a load where a key or a value is decoded, of any other step by its reply
+  -- an allocation is needed that can be refused: of a load where a key or a value is decoded, of a receipt by what it takes,
+  -- of a flush that begins always, of any other step by its reply
   abbrev pub NeedsMemory : Step C → Type 0
   NeedsMemory (LoadEnd t (Bytes bs)) = IsDecoded rules old (judged rules old t bs)
+  NeedsMemory (Receive f) = TakesMemory rules old (old.flushers f) (old.flushers f).queue
+  NeedsMemory (FlushBegin f) = Unit {0}
   NeedsMemory step = (reply : Reply C) × (new : State C) × Changes rules Splits old step reply new × Allocates step reply
 
   -- the cause of a refusal of a step in turn, before the limit of steps

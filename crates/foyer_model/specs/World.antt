@@ -5,7 +5,7 @@ use Rattle.foyer_model.specs.Position.{Position, Write, BlockLayout}
 use Rattle.foyer_model.specs.Record.{Record}
 use Rattle.foyer_model.specs.State.{Writing, Batch, State}
 use Rattle.foyer_model.specs.Rules.{Rules, first_position, Splitting}
-use Rattle.foyer_model.specs.Step.{ReadResult, Step, Enqueue, LoadEnd, FlushBlock, FlushWrote, ReclaimRead, ReclaimCleaned, DestroyClear, DestroyCleaned}
+use Rattle.foyer_model.specs.Step.{ReadResult, Step, Enqueue, Delete, LoadEnd, FlushBlock, FlushWrote, ReclaimRead, ReclaimCleaned, DestroyClear, DestroyCleaned}
 use Rattle.foyer_model.specs.Reply.{Reply, Written, Cleared, Done, Committed}
 use Rattle.foyer_model.specs.Follows.{Follows}
 use Rattle.foyer_model.specs.Event.{Event, events_of}
@@ -158,9 +158,10 @@ IsScanned bytes (Some s) result = IsRead bytes s.offset s.len s.read_state resul
 -- what may happen, where callers hand in such contents
 module _ {C : Type 0} (rules : Rules C) (Splits : Splitting C) (is_value : C → Type 0) where
   -- A step that brings a result brings the true one of its access, when it has come; an Enqueue brings a content that
-  -- callers have. Every other step comes at any time, out of turn too.
+  -- callers have; hashes have 64 bits. Every other step comes at any time, out of turn too.
   abbrev pub IsFed : World C → Step C → Type 0
   IsFed w (Enqueue h n age c) = (h ≤ last_number) × is_value c
+  IsFed w (Delete h) = h ≤ last_number
   IsFed w (LoadEnd t result) = (n : ℕ) × (l : Load C) × (w.loads n ≡ Some l) × (l.ticket ≡ t) × (l.read_state ≡ ReadDone result)
   IsFed w (FlushWrote f ok) = result_of (w.block_writes f) ≡ Some ok
   IsFed w (ReclaimRead b result) = (s : Scan) × (w.scans b ≡ Some s) × (s.read_state ≡ ReadDone result)

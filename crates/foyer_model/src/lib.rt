@@ -7,7 +7,7 @@ ghost use Rattle.foyer_model.specs.Position.{Position, BlockLayout};
 ghost use Rattle.foyer_model.specs.Rules.{Rules};
 ghost use Rattle.foyer_model.specs.Laws.{AnswersOnly, AnswersNewest, MissedOnly, MissedNewest, PutsAreQueued, PromisesStay};
 ghost use Rattle.foyer_model.specs.Witness.{ReachesEveryReply};
-ghost use Rattle.foyer_model.specs.Companions.{QueueKeeps, CommitKeeps, ReclaimKeeps, NotNowKeeps, IsDetermined, InTurnReplies, ListsClean};
+ghost use Rattle.foyer_model.specs.Companions.{QueueKeeps, CommitKeeps, ReclaimKeeps, NotNowKeeps, IsDetermined, InTurnReplies, WidthsStay, ListsClean};
 
 /// Whatever steps come, and whatever reads and writes do, a load answers only the record that was newest of its
 /// hash at its look-up.
@@ -81,6 +81,12 @@ pub fn is_determined<C>()
 pub fn in_turn_replies<C>()
     ensures { (rules : Rules C) (splits : Position → List (Record C) → List (BlockLayout C) → Bool) (is_value : C → Bool)
         → InTurnReplies rules (λ f rs ss. splits f rs ss ≡ true) (λ c. is_value c ≡ true) }
+{}
+
+/// Whatever is queued, buffered, in a batch or indexed has a hash and a sequence of 64 bits.
+pub fn widths_stay<C>()
+    ensures { (rules : Rules C) (splits : Position → List (Record C) → List (BlockLayout C) → Bool) (is_value : C → Bool)
+        → WidthsStay rules (λ f rs ss. splits f rs ss ≡ true) (λ c. is_value c ≡ true) }
 {}
 
 /// The laws speak of something: two runs of a small core reach every reply of the table.

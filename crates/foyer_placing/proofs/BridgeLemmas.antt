@@ -204,7 +204,7 @@ module _ {C : Type 0} where
           blob = refl;
           at = refl;
           content = stand_bytes (bytes_of w) start now rs (bytes_of p.part_data) stand within (part_is s w start f now p is within).0;
-          index = λ fits. subst (IsSealed p.index)
+          index = subst (IsSealed p.index)
               (sym (ap (map is_encoded) (ap (λ g. g.listed) (with_same w start f now rs stand)) ∙ encoded_again (buffered.with_records f now).listed)) is.index;
           size = is.size;
           within = omega (arith, is.within);

@@ -77,14 +77,18 @@ lists old some (e ∷ es) room =
           (l.are fits.1 (ap (entries_in next) count ∙ entry_put old rest n e (omega arith) fits.0 ∙ ap (λ xs. xs ++ e ∷ []) are));
     }
 
+-- each number of these entries fits its field
+abbrev pub AllFitEntry : List IndexEntry → Type 0
+AllFitEntry listed = Each FitsEntry (map is_encoded listed)
+
 -- the bytes of such an index
 pub record IndexOf (size : ℕ) (listed : List IndexEntry) : Type 0 where
   pub bytes : List ℕ
   pub len : length bytes ≡ size
   pub is : IsIndexOf bytes listed
 
-pub index_for : (size : ℕ) (listed : List IndexEntry) → 12 ≤ size → size ≤ 2 ^ 32 → length listed ≤ capacity_of size → IndexOf size listed
-index_for size listed long small room =
+pub index_for : (size : ℕ) (listed : List IndexEntry) → 12 ≤ size → size ≤ 2 ^ 32 → length listed ≤ capacity_of size → AllFitEntry listed → IndexOf size listed
+index_for size listed long small room fits =
     let es : List BlobEntryIndex = map is_encoded listed in
     let many : length es ≡ length listed = length-map listed is_encoded in
     let zeros : List ℕ = replicate size 0 in
@@ -104,6 +108,6 @@ index_for size listed long small room =
         big_len 8 sum,
         big_len 4 (length es),
       );
-      is = λ fits. subst (IsSealed b) (l.are fits (entries_none zeros))
+      is = subst (IsSealed b) (l.are fits (entries_none zeros))
           (sealed_by l.bytes word (big_bytes 8 sum) (length es) sum (omega (arith, l.size)) (omega arith) (omega (arith, ap capacity_of l.size)) refl refl (sum_small (word ++ drop 12 l.bytes)) refl).0;
     }

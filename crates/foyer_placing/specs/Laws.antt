@@ -1,5 +1,5 @@
 -- What holds of every placing of the plain machine's records.
-use Rattle.std.specs.Prelude.{◌≡◌, ◌+◌, ◌%◌, ◌≤◌, ◌↔◌, ℕ, List, map, length}
+use Rattle.std.specs.Prelude.{◌≡◌, ◌+◌, ◌%◌, ◌^◌, ◌≤◌, ◌↔◌, ℕ, List, map, length}
 use Rattle.foyer_buffer.specs.BlockBytes.{Each}
 use Rattle.foyer_buffer.specs.Entries.{Entries, IsFinished, left_of}
 use Rattle.foyer_buffer.specs.Position.{Sizes}
@@ -22,9 +22,9 @@ use Rattle.foyer_placing.specs.Splits.{sizes_of, MayGoOn, IsLaidOut, AreRules, L
 abbrev pub KeepsAll : Type 0 → Type 0
 KeepsAll C = (rules : Rules C) → AreRules rules → KeepsRecords rules (IsLaidOut (sizes_of rules))
 
--- records that fit into a block can be placed from wherever a batch may begin
+-- records that fit into a block can be placed from wherever a batch may begin, if offsets have 32 bits
 abbrev pub PlacesEach : Type 0 → Type 0
-PlacesEach C = (rules : Rules C) → AreRules rules → PlacesAll rules (IsLaidOut (sizes_of rules))
+PlacesEach C = (rules : Rules C) → AreRules rules → rules.block_size ≤ 2 ^ 32 → PlacesAll rules (IsLaidOut (sizes_of rules))
 
 -- a placing leaves a filling from which another may go on
 abbrev pub GoesOn : Type 0 → Type 0

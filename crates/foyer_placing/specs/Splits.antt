@@ -1,6 +1,6 @@
 -- How the plain machine's records are placed into blocks, blobs and parts.
-use Rattle.std.specs.Prelude.{◌≡◌, ℕ, ◌+◌, ◌<◌, ◌≤◌, ◌^◌, List, [], ◌∷◌, ◌++◌, map, length, take, drop}
-use Rattle.foyer_blob.specs.Blob.{IsSealed, FitsEntry, capacity_of}
+use Rattle.std.specs.Prelude.{◌≡◌, ℕ, ◌+◌, ◌<◌, ◌≤◌, List, [], ◌∷◌, ◌++◌, map, length, take, drop}
+use Rattle.foyer_blob.specs.Blob.{IsSealed, capacity_of}
 use Rattle.foyer_blob.specs.declared.blob.BlobEntryIndex.{BlobEntryIndex}
 use Rattle.foyer_buffer.specs.BlockBytes.{Each}
 use Rattle.foyer_buffer.specs.Position.{Sizes}
@@ -26,9 +26,9 @@ next_blob s f = record { blob = tail_of f; at = s.index; listed = [] }
 abbrev pub is_encoded : IndexEntry → BlobEntryIndex
 is_encoded e = record { hash = e.hash; sequence = e.sequence; offset = e.offset; len = e.len }
 
--- The bytes of an index that lists these: sealed, if each number fits its field.
+-- the bytes of an index that lists these
 abbrev pub IsIndexOf : List ℕ → List IndexEntry → Type 0
-IsIndexOf index listed = Each FitsEntry (map is_encoded listed) → IsSealed index (map is_encoded listed)
+IsIndexOf index listed = IsSealed index (map is_encoded listed)
 
 module _ {C : Type 0} where
   -- the entries of records one behind another, the first at this offset of its blob
@@ -107,7 +107,6 @@ IsLaidOut s f rs (b ∷ bs) = (s.index ≤ f.at) × LaidOut s f rs b.parts b.end
 pub record AreRules {C : Type 0} (rules : Rules C) : Type 0 where
   pub pages : (n : ℕ) → rules.page_up n ≡ page_up n
   pub writes : (p : Part C) → rules.writes_of p ≡ part_writes p
-  pub small : rules.index_size ≤ 2 ^ 32
 
 -- each record, with its padding, ends within the first n bytes of its block
 abbrev pub AllEndBy : {C : Type 0} → ℕ → List (ℕ × Record C) → Type 0

@@ -21,6 +21,7 @@ use Rattle.foyer_model.specs.Follows.{Follows}
 use Rattle.foyer_model.specs.Access.{BlockWrites, Idle, Issued, InFlight, ReadIssued, ReadDone, Scan, writes_of, writes_reported, result_of}
 use Rattle.foyer_model.specs.World.{World, WorldEvent, Applies, with_stored, stored_of, stored_in, end_of, end_in, after, IsFed}
 use Rattle.foyer_model.specs.Laws.{Demands}
+use Rattle.foyer_model.specs.Widths.{StateHasWidths}
 use Rattle.foyer_model.proofs.Basics.{put_other}
 use Rattle.foyer_model.proofs.Invariant.{Each, WritesFit, WritingOk, ground_of, writing_in, blocks_in, goes_on_in, batch_records, start_of}
 use Rattle.foyer_model.proofs.CommitSteps.{committed, committed_is}
@@ -42,6 +43,8 @@ use Rattle.foyer_restart.proofs.Cleans as cleans
 use Rattle.foyer_model.specs.Access.{block_writes_after, cleans_after, scans_after, CleanState, CleanIdle, CleanDone, CleanIssued, writes_covers, clean_covers, begun}
 use Rattle.foyer_model.specs.World.{ReadBegins, ReadEnds, ScanBegins, ScanEnds, WriteBegins, WriteEnds, CleanBegins, CleanEnds, covers, after_all, MayHappen, MayAllHappen}
 use Rattle.foyer_model.proofs.SoundKept.{known_keeps}
+use Rattle.foyer_model.proofs.Widths.{event_wide}
+use Rattle.foyer_model.proofs.Served.{IsServed, event_served}
 use Rattle.foyer_restart.specs.Restart.{GoesWell, AllGoWell}
 use Rattle.foyer_restart.proofs.Stop as stop
 use Rattle.foyer_restart.proofs.Writings.{write_begins, write_ends}
@@ -53,6 +56,9 @@ module _ (A : Type 0) {C : Type 0} (rules : Rules C) (Splits : Splitting C) (is_
 
   abbrev Knows : World C → Type 0
   Knows = IsKnown rules Splits is_value demands
+
+  abbrev AllServed : World C → Type 0
+  AllServed w = (f : ℕ) → IsServed rules Splits (w.core.flushers f)
 
   -- FlushWrote
 
@@ -246,34 +252,34 @@ module _ (A : Type 0) {C : Type 0} (rules : Rules C) (Splits : Splitting C) (is_
   destroyed_safe w b good NoDestroy reply new is ok s = absurd ok
   destroyed_safe w b good Begun reply new is ok s = absurd ok
 
-  does_safe : (w : World C) (step : Step C) (reply : Reply C) (new : State C) → IsFed rules Splits is_value w step → InTurn rules w.core step → Changes rules Splits w.core step reply new → StepGoesWell step reply → w.core.steps < last_number → Knows w
+  does_safe : (w : World C) (step : Step C) (reply : Reply C) (new : State C) → IsFed rules Splits is_value w step → InTurn rules w.core step → Changes rules Splits w.core step reply new → StepGoesWell step reply → w.core.steps < last_number → Knows w → AllServed w
       → IsSafe A rules (sight_of w) → At w step reply new
-  does_safe w (Enqueue h n age c) reply new fed turn ok well few known s = enqueue_safe A rules Splits is_value demands real w h n age c reply new ok s
-  does_safe w (Delete h) reply new fed turn ok well few known s = delete_safe A rules Splits is_value demands real w h reply new ok s
-  does_safe w (Wait f i) reply new fed turn ok well few known s = wait_safe A rules Splits is_value demands real w f i reply new ok s
-  does_safe w (MayContains h) reply new fed turn ok well few known s = subst (λ r. At w (MayContains h) r new) (sym ok.0) (subst (At w (MayContains h) (Rattle.foyer_model.specs.Reply.Answer (Rattle.foyer_model.specs.Index.is_address (w.core.index h)))) (sym ok.1) s)
-  does_safe w (LoadBegin h throttled) reply new fed turn ok well few known s = look_safe A rules Splits is_value demands real w h throttled (w.core.index h) reply new ok s
-  does_safe w (LoadEnd t came) reply new fed turn ok well few known s = end_safe A rules Splits is_value demands real w t came reply new ok s
-  does_safe w (Receive f) reply new fed turn ok well few known s = take_safe A rules Splits is_value demands real w f (w.core.flushers f).queue reply new refl ok s
-  does_safe w (FlushBegin f) reply new fed turn ok well few known s = begin_safe A rules Splits is_value demands real w f reply new turn.1 ok known s
-  does_safe w (FlushBlock f) reply new fed turn ok well few known s = issue_safe A rules Splits is_value demands real w f (w.core.flushers f).batch reply new refl turn.1 ok known s
-  does_safe w (FlushWrote f good) reply new fed turn ok well few known s = wrote_safe w f good (w.core.flushers f).batch reply new refl fed ok well known s
-  does_safe w (LogWrote f good) reply new fed turn ok well few known s = log_safe A rules Splits is_value demands real w f good (w.core.flushers f).batch reply new refl ok s
-  does_safe w (FlushEnd f) reply new fed turn ok well few known s = finish_safe A rules Splits is_value demands real w f (w.core.flushers f).batch reply new refl turn.1 ok s
-  does_safe w ReclaimBegin reply new fed turn ok well few known s = pick_safe w reply new turn.quiet ok known s
-  does_safe w (ReclaimRead b came) reply new fed turn ok well few known s = reread_safe w b (w.core.reclaims b) came reply new refl fed ok well s
-  does_safe w (ReclaimForget b) reply new fed turn ok well few known s = forget_safe w b (w.core.reclaims b) reply new refl turn.1 ok known s
-  does_safe w (ReclaimCleaned b good) reply new fed turn ok well few known s = clean_safe w b good (w.core.reclaims b) reply new refl turn.1 ok known s
-  does_safe w ReclaimIdle reply new fed turn ok well few known s = subst (λ r. At w ReclaimIdle r new) (sym ok.0) (subst (At w ReclaimIdle (Rattle.foyer_model.specs.Reply.Answer (Rattle.foyer_model.specs.Reclaim.running rules.blocks w.core.reclaims == 0))) (sym ok.1) s)
-  does_safe w DestroyBegin reply new fed turn ok well few known s = destroying_safe w reply new turn ok s
-  does_safe w DestroyClear reply new fed turn ok well few known s = clear_safe w reply new turn few ok known s
-  does_safe w (DestroyCleaned b good) reply new fed turn ok well few known s = destroyed_safe w b good w.core.destroy reply new refl ok s
-  does_safe w Close reply new fed turn ok well few known s = subst (λ r. At w Close r new) (sym ok.0) (subst (At w Close Done) (sym ok.1) s)
+  does_safe w (Enqueue h n age c) reply new fed turn ok well few known served s = enqueue_safe A rules Splits is_value demands real w h n age c reply new ok s
+  does_safe w (Delete h) reply new fed turn ok well few known served s = delete_safe A rules Splits is_value demands real w h reply new ok s
+  does_safe w (Wait f i) reply new fed turn ok well few known served s = wait_safe A rules Splits is_value demands real w f i reply new ok s
+  does_safe w (MayContains h) reply new fed turn ok well few known served s = subst (λ r. At w (MayContains h) r new) (sym ok.0) (subst (At w (MayContains h) (Rattle.foyer_model.specs.Reply.Answer (Rattle.foyer_model.specs.Index.is_address (w.core.index h)))) (sym ok.1) s)
+  does_safe w (LoadBegin h throttled) reply new fed turn ok well few known served s = look_safe A rules Splits is_value demands real w h throttled (w.core.index h) reply new ok s
+  does_safe w (LoadEnd t came) reply new fed turn ok well few known served s = end_safe A rules Splits is_value demands real w t came reply new ok s
+  does_safe w (Receive f) reply new fed turn ok well few known served s = take_safe A rules Splits is_value demands real w f (w.core.flushers f).queue reply new refl ok s
+  does_safe w (FlushBegin f) reply new fed turn ok well few known served s = begin_safe A rules Splits is_value demands real w f reply new (served f).fit turn.1 ok known s
+  does_safe w (FlushBlock f) reply new fed turn ok well few known served s = issue_safe A rules Splits is_value demands real w f (w.core.flushers f).batch reply new refl turn.1 ok known s
+  does_safe w (FlushWrote f good) reply new fed turn ok well few known served s = wrote_safe w f good (w.core.flushers f).batch reply new refl fed ok well known s
+  does_safe w (LogWrote f good) reply new fed turn ok well few known served s = log_safe A rules Splits is_value demands real w f good (w.core.flushers f).batch reply new refl ok s
+  does_safe w (FlushEnd f) reply new fed turn ok well few known served s = finish_safe A rules Splits is_value demands real w f (w.core.flushers f).batch reply new refl turn.1 ok s
+  does_safe w ReclaimBegin reply new fed turn ok well few known served s = pick_safe w reply new turn.quiet ok known s
+  does_safe w (ReclaimRead b came) reply new fed turn ok well few known served s = reread_safe w b (w.core.reclaims b) came reply new refl fed ok well s
+  does_safe w (ReclaimForget b) reply new fed turn ok well few known served s = forget_safe w b (w.core.reclaims b) reply new refl turn.1 ok known s
+  does_safe w (ReclaimCleaned b good) reply new fed turn ok well few known served s = clean_safe w b good (w.core.reclaims b) reply new refl turn.1 ok known s
+  does_safe w ReclaimIdle reply new fed turn ok well few known served s = subst (λ r. At w ReclaimIdle r new) (sym ok.0) (subst (At w ReclaimIdle (Rattle.foyer_model.specs.Reply.Answer (Rattle.foyer_model.specs.Reclaim.running rules.blocks w.core.reclaims == 0))) (sym ok.1) s)
+  does_safe w DestroyBegin reply new fed turn ok well few known served s = destroying_safe w reply new turn ok s
+  does_safe w DestroyClear reply new fed turn ok well few known served s = clear_safe w reply new turn few ok known s
+  does_safe w (DestroyCleaned b good) reply new fed turn ok well few known served s = destroyed_safe w b good w.core.destroy reply new refl ok s
+  does_safe w Close reply new fed turn ok well few known served s = subst (λ r. At w Close r new) (sym ok.0) (subst (At w Close Done) (sym ok.1) s)
 
-  step_safe : (w : World C) (step : Step C) (reply : Reply C) (new : State C) → IsFed rules Splits is_value w step → Follows rules Splits w.core step reply new → StepGoesWell step reply → Knows w → IsSafe A rules (sight_of w) → At w step reply new
-  step_safe w step (NotNow back) new fed ok well known s = subst (At w step (NotNow back)) (sym ok.2) s
-  step_safe w step (Refused kind back) new fed ok well known s = subst (At w step (Refused kind back)) (sym ok.2) s
-  step_safe w step reply new fed (few, turn, (state, does, eq)) well known s = subst (At w step reply) (sym eq) (does_safe w step reply state fed turn does well few known s)
+  step_safe : (w : World C) (step : Step C) (reply : Reply C) (new : State C) → IsFed rules Splits is_value w step → Follows rules Splits w.core step reply new → StepGoesWell step reply → Knows w → AllServed w → IsSafe A rules (sight_of w) → At w step reply new
+  step_safe w step (NotNow back) new fed ok well known served s = subst (At w step (NotNow back)) (sym ok.2) s
+  step_safe w step (Refused kind back) new fed ok well known served s = subst (At w step (Refused kind back)) (sym ok.2) s
+  step_safe w step reply new fed (few, turn, (state, does, eq)) well known served s = subst (At w step reply) (sym eq) (does_safe w step reply state fed turn does well few known served s)
 
   -- nothing is under way in a block whose reclaim reads it
   quiet_read : (w : World C) (b p : ℕ) → IsAt (AtIndex p) (w.core.reclaims b) → Knows w → IsSafe A rules (sight_of w) → (i : ℕ) → covers rules w b i ≡ false
@@ -295,19 +301,21 @@ module _ (A : Type 0) {C : Type 0} (rules : Rules C) (Splits : Splitting C) (is_
           let y : Reclaims ≡ Writes f = sym (o.reclaims b r is) ∙ o.place f b (o.job f b j.0 j.1) in cc))
           (dry (w.clean_states b) refl)
 
-  pub event_safe : (w : World C) (e : WorldEvent C) → MayHappen rules Splits is_value w e → GoesWell e → Knows w → IsSafe A rules (sight_of w) → IsSafe A rules (sight_of (after rules w e))
-  event_safe w (Applies step reply new) ok well known s = step_safe w step reply new ok.0 ok.1 well known s
-  event_safe w (ReadBegins n) ok well known s = s
-  event_safe w (ReadEnds n result) ok well known s = s
-  event_safe w (ScanBegins b) ok well known s = cleans.scan_begins A rules real.format.sizes (sight_of w) b (covers rules w) (λ p at i. quiet_read w b p at known s i) s
-  event_safe w (ScanEnds b Fault) ok well known s = absurd well
-  event_safe w (ScanEnds b (Bytes bs)) ok well known s = cleans.scan_ends A rules real.format.sizes (sight_of w) b bs ok s
-  event_safe w (WriteBegins f) ok well known s = write_begins A rules (sight_of w) f (owned_of rules Splits is_value demands w known) s
-  event_safe w (WriteEnds f good g) ok well known s =
+  pub event_safe : (w : World C) (e : WorldEvent C) → MayHappen rules Splits is_value w e → GoesWell e → Knows w → AllServed w → IsSafe A rules (sight_of w) → IsSafe A rules (sight_of (after rules w e))
+  event_safe w (Applies step reply new) ok well known served s = step_safe w step reply new ok.0 ok.1 well known served s
+  event_safe w (ReadBegins n) ok well known served s = s
+  event_safe w (ReadEnds n result) ok well known served s = s
+  event_safe w (ScanBegins b) ok well known served s = cleans.scan_begins A rules real.format.sizes (sight_of w) b (covers rules w) (λ p at i. quiet_read w b p at known s i) s
+  event_safe w (ScanEnds b Fault) ok well known served s = absurd well
+  event_safe w (ScanEnds b (Bytes bs)) ok well known served s = cleans.scan_ends A rules real.format.sizes (sight_of w) b bs ok s
+  event_safe w (WriteBegins f) ok well known served s = write_begins A rules (sight_of w) f (owned_of rules Splits is_value demands w known) s
+  event_safe w (WriteEnds f good g) ok well known served s =
       subst (λ t. IsSafe A rules (sight_of (after rules w (WriteEnds f t g)))) (sym well) (write_ends A rules (sight_of w) f g (w.block_writes f) refl (owned_of rules Splits is_value demands w known) s)
-  event_safe w (CleanBegins b) ok well known s = cleans.clean_begins A rules real.format.sizes (sight_of w) b (w.clean_states b) refl s
-  event_safe w (CleanEnds b good g) ok well known s = cleans.clean_ends A rules real.format.sizes (sight_of w) b good g (w.clean_states b) refl (owned_of rules Splits is_value demands w known) s
+  event_safe w (CleanBegins b) ok well known served s = cleans.clean_begins A rules real.format.sizes (sight_of w) b (w.clean_states b) refl s
+  event_safe w (CleanEnds b good g) ok well known served s = cleans.clean_ends A rules real.format.sizes (sight_of w) b good g (w.clean_states b) refl (owned_of rules Splits is_value demands w known) s
 
-  pub all_safe : (w : World C) (events : List (WorldEvent C)) → MayAllHappen rules Splits is_value w events → AllGoWell events → Knows w → IsSafe A rules (sight_of w) → IsSafe A rules (sight_of (after_all rules w events))
-  all_safe w [] ok well known s = s
-  all_safe w (e ∷ es) ok well known s = all_safe (after rules w e) es ok.1 well.1 (known_keeps rules Splits is_value demands w e ok.0 known) (event_safe w e ok.0 well.0 known s)
+  pub all_safe : (w : World C) (events : List (WorldEvent C)) → MayAllHappen rules Splits is_value w events → AllGoWell events → Knows w → StateHasWidths w.core → AllServed w → IsSafe A rules (sight_of w) → IsSafe A rules (sight_of (after_all rules w events))
+  all_safe w [] ok well known wide served s = s
+  all_safe w (e ∷ es) ok well known wide served s =
+      all_safe (after rules w e) es ok.1 well.1 (known_keeps rules Splits is_value demands w e ok.0 known) (event_wide rules Splits is_value demands.places w e ok.0 wide) (event_served rules Splits is_value w e wide ok.0 served)
+      (event_safe w e ok.0 well.0 known served s)

@@ -15,6 +15,8 @@ use Rattle.foyer_model.proofs.Basics.{Ascends}
 use Rattle.foyer_model.proofs.Invariant.{AllWell, blocks_in, goes_on_in, start_of}
 use Rattle.foyer_model.proofs.OpenedSound.{new_sound, new_sets}
 use Rattle.foyer_model.proofs.RereadsKept.{new_again}
+use Rattle.foyer_model.proofs.Widths.{opened_wide}
+use Rattle.foyer_model.proofs.Served.{opened_served}
 use Rattle.foyer_model.proofs.SoundKept.{IsKnown, all_known, reclaims_at}
 use Rattle.foyer_restart.specs.Entries.{In, sizes_of, filled_to, puts_at}
 use Rattle.foyer_restart.specs.Real.{IsReal}
@@ -74,6 +76,7 @@ module _ (A : Type 0) {C : Type 0} (rules : Rules C) (Splits : Splitting C) (is_
   run_safe w run = subst (λ k. IsSafe A rules (sight_of k)) run.is
       (all_safe A rules Splits is_value demands real run.first run.events run.happened run.well
       (record { sound = new_sound rules run.first run.opened; again = new_again rules run.first run.opened; sets = new_sets rules run.first run.opened })
+      (opened_wide rules Splits run.first run.opened) (opened_served rules Splits run.first run.opened)
       (new_safe run.first run.opened run.empty))
 
 pub restart_law_lem : (A : Type 0) {C : Type 0} (rules : Rules C) (Splits : Splitting C) (is_value : C → Type 0) → RestartLaw A rules Splits is_value

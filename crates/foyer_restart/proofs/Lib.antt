@@ -16,3 +16,4 @@ pub mod Law
 pub mod Placings
 pub mod Total
 pub mod Witness
+pub mod Layouts

@@ -114,7 +114,7 @@ module _ (A : Type 0) {C : Type 0} (rules : Rules C) (format : IsFormat rules) w
   pub is_real : IsReal A rules (IsRealSplit A rules)
   is_real = record {
     format = format;
-    places = λ f records blocks k. record { whole = k.whole; start = 0; infos = k.infos; room = (let l : laid.taken k.infos ≤ length (bytes_of k.whole) = k.buffer.room in omega arith); each = k.buffer.each; spread = k.spread };
+    places = λ f records blocks fit k. record { whole = k.whole; start = 0; infos = k.infos; room = (let l : laid.taken k.infos ≤ length (bytes_of k.whole) = k.buffer.room in omega arith); each = k.buffer.each; spread = k.spread };
   }
 
   -- whatever the splitter places has blocks of the model

@@ -11,7 +11,7 @@ use Rattle.foyer_model.specs.Rules.{Rules, flusher_of, first_position, Splitting
 use Rattle.foyer_model.specs.Step.{ReadResult, Bytes, Fault, Age, Ticket, Step, Enqueue, Delete, Wait, LoadBegin, LoadEnd, Receive, FlushBegin, FlushBlock, LogWrote, FlushEnd}
 use Rattle.foyer_model.specs.Reply.{Reply, Ignored, Queued, Deleted, Done, Miss, Throttled, Read, Entry, Empty, Received, Began, Written, NoBlock, Ended}
 use Rattle.foyer_model.specs.Index.{inserted, without, unmarked}
-use Rattle.foyer_model.specs.Layout.{writes_in}
+use Rattle.foyer_model.specs.Layout.{writes_in, AllFitBlock}
 use Rattle.foyer_model.specs.Queue.{invalidated_by, Enqueues, Deletes, Waits}
 use Rattle.foyer_model.specs.Load.{Looks, judged, Judges, Ends}
 use Rattle.foyer_model.specs.Receive.{TakesFront}
@@ -140,12 +140,12 @@ module _ (A : Type 0) {C : Type 0} (rules : Rules C) (Splits : Splitting C) (is_
       absurd ((subst (Each (SubmissionIs (IsOf rules s.low f))) is (s.lines.waits f).queue).0)
   take_safe w f queue reply new is ok s = absurd ok
 
-  pub begin_safe : (w : World C) (f : ℕ) (reply : Reply C) (new : State C) → (w.core.flushers f).batch ≡ None → Begins rules Splits w.core f reply new → Known w → IsSafe A rules (sight_of w) → SafeAt w (FlushBegin f) reply new
-  begin_safe w f (Began blocks marks) new none ok known s =
+  pub begin_safe : (w : World C) (f : ℕ) (reply : Reply C) (new : State C) → AllFitBlock rules (w.core.flushers f).buffer → (w.core.flushers f).batch ≡ None → Begins rules Splits w.core f reply new → Known w → IsSafe A rules (sight_of w) → SafeAt w (FlushBegin f) reply new
+  begin_safe w f (Began blocks marks) new fit none ok known s =
       subst (SafeAt w (FlushBegin f) (Began blocks marks)) (sym ok.2)
       (taken w f _ s (λ i. record { own = φ.own; ready = φ.ready; job = no_job (sym none) i; left = left_in (w.block_writes f) })
       (record { batch = subst (Each (RecordIs (IsOf rules s.low f))) (sym (demands.places φ.context φ.buffer blocks ok.1).all) (s.lines.waits f).buffer; buffer = tt; queue = (s.lines.waits f).queue })
-      (subst (λ g. RestOk A (sizes_of rules) (filled_to g) blocks) start (rest_of A (sizes_of rules) (filled_to φ.context) blocks (real.places φ.context φ.buffer blocks ok.1))))
+      (subst (λ g. RestOk A (sizes_of rules) (filled_to g) blocks) start (rest_of A (sizes_of rules) (filled_to φ.context) blocks (real.places φ.context φ.buffer blocks fit ok.1))))
     where
       φ : Flusher C
       φ = w.core.flushers f
@@ -155,7 +155,7 @@ module _ (A : Type 0) {C : Type 0} (rules : Rules C) (Splits : Splitting C) (is_
 
       start : φ.context ≡ start_of rules w.filled φ.own (is_some φ.own)
       start = (known.sound.flushers f).context ∙ ap (λ k. last_end (start_of rules w.filled φ.own true) (blocks_in k)) none ∙ start_same rules w.filled φ.own
-  begin_safe w f reply new none ok known s = absurd ok
+  begin_safe w f reply new fit none ok known s = absurd ok
 
   pub log_safe : (w : World C) (f : ℕ) (well : Bool) (batch : Option (Batch C)) (reply : Reply C) (new : State C) → (w.core.flushers f).batch ≡ batch → Logs rules w.core f well batch reply new → IsSafe A rules (sight_of w) → SafeAt w (LogWrote f well) reply new
   log_safe w f well (Some batch) Done new is ok s =

@@ -13,6 +13,7 @@ use Rattle.foyer_buffer.specs.declared.BufferEntryInfo.{BufferEntryInfo}
 use Rattle.foyer_buffer.specs.declared.split.BlobPart.{BlobPart}
 use Rattle.foyer_model.specs.Record.{IndexEntry, Record}
 use Rattle.foyer_model.specs.Position.{Position, Data, Index, Part, BlockLayout}
+use Rattle.foyer_model.specs.Layout.{AllFitBlock}
 use Rattle.foyer_model.specs.Rules.{Rules, Splitting}
 use Rattle.foyer_restart.specs.Entries.{sizes_of, entry_in, filled_to, stored}
 
@@ -59,8 +60,8 @@ pub record IsFormat {C : Type 0} (rules : Rules C) : Type 0 where
   pub ends : (p : ℕ) (b : List ℕ) (es : List BlobEntryIndex) → rules.entries_of p b ≡ None
       → IsSealed b es → Each (Fits (sizes_of rules) p) es → ⊥
 
--- and batches are placed by the real splitter's relation
+-- and batches of records that fit into a block are placed by the real splitter's relation
 pub record IsReal (A : Type 0) {C : Type 0} (rules : Rules C) (Splits : Splitting C) : Type 0 where
   pub format : IsFormat rules
-  pub places : (f : Position) (records : List (Record C)) (blocks : List (BlockLayout C)) → Splits f records blocks
+  pub places : (f : Position) (records : List (Record C)) (blocks : List (BlockLayout C)) → AllFitBlock rules records → Splits f records blocks
       → IsSpread A (sizes_of rules) (filled_to f) blocks

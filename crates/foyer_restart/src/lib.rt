@@ -5,6 +5,7 @@ ghost use Rattle.std.specs.Prelude.{◌≡◌, Bool, true, List};
 ghost use Rattle.foyer_model.specs.Record.{Record};
 ghost use Rattle.foyer_model.specs.Position.{Position, BlockLayout};
 ghost use Rattle.foyer_model.specs.Rules.{Rules};
+ghost use Rattle.foyer_restart.specs.Laid.{LaidIdleLaw, LaidRestartLaw};
 ghost use Rattle.foyer_restart.specs.Real.{IsFormat};
 ghost use Rattle.foyer_restart.specs.Restart.{IdleLaw, RestartLaw};
 ghost use Rattle.foyer_restart.specs.Splits.{RealIdleLaw, RealRestartLaw, SplitIsReal};
@@ -34,6 +35,16 @@ pub fn real_restart_law<C, A: Allocator>()
 /// The same where no flush was under way.
 pub fn real_idle_law<C, A: Allocator>()
     ensures { (rules : Rules C) (is_value : C → Bool) → RealIdleLaw A rules (λ c. is_value c ≡ true) }
+{}
+
+/// The restart law where each batch is laid out as the splitter does it, over the model's own records.
+pub fn laid_restart_law<C>()
+    ensures { (rules : Rules C) (is_value : C → Bool) → LaidRestartLaw rules (λ c. is_value c ≡ true) }
+{}
+
+/// The same where no flush was under way.
+pub fn laid_idle_law<C>()
+    ensures { (rules : Rules C) (is_value : C → Bool) → LaidIdleLaw rules (λ c. is_value c ≡ true) }
 {}
 
 /// Whatever the splitter places is a placing of the model.

@@ -1,4 +1,3 @@
 pub mod FirstWorld
 pub mod LawLemmas
-pub mod LayoutLemmas
 pub mod TripLemmas

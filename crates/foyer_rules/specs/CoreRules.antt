@@ -4,12 +4,11 @@ use Rattle.std.proofs.Common.{arith}
 use Rattle.foyer_format.specs.Page.{page_up}
 use Rattle.foyer_format.specs.Record.{Outcome, record_bytes, pair_of}
 use Rattle.foyer_format.specs.Record.Outcome.{NoRecord, Unsupported, Undecodable, Pair}
-use Rattle.foyer_model.specs.Position.{tail_of}
 use Rattle.foyer_model.specs.Record as model_record
 use Rattle.foyer_model.specs.Rules.{Rules, Splitting}
 use Rattle.foyer_rules.specs.Content.{Content, Meaning}
-use Rattle.foyer_rules.specs.InOneBlock.{IsInOneBlock, data_writes}
-use Rattle.foyer_rules.specs.Sizes.{AreValid}
+use Rattle.foyer_placing.specs.Splits.{IsLaidOut, part_writes}
+use Rattle.foyer_rules.specs.Sizes.{AreValid, buffer_room, sizes_in}
 use Rattle.foyer_rules.specs.declared.settings.Settings.{Settings}
 
 -- what bytes are, as the model has it
@@ -38,8 +37,7 @@ page_up_above n = omega arith
 pub holds_page : (size : ℕ) → 0 < size → size % 4096 ≡ 0 → 4096 ≤ size
 holds_page size some whole = omega arith
 
--- The machine of these sizes and codes. Reclaims, pickers and a log aren't built yet; what is left of the block is the
--- room of a flusher's buffer, and no index is written.
+-- The machine of these sizes and codes. Reclaims, pickers and a log aren't built yet.
 abbrev pub rules_of : (is_key is_value : List ℕ → Bool) (s : Settings) → AreValid s → Rules Content
 rules_of is_key is_value s sound = record {
   flushers = s.flushers;
@@ -48,7 +46,7 @@ rules_of is_key is_value s sound = record {
   pickers = 0;
   index_size = s.blob_index_size;
   block_size = s.block_size;
-  room = λ f. s.block_size - tail_of f;
+  room = λ f. buffer_room s;
   threshold = s.submit_queue_size_threshold;
   clean_threshold = 0;
   has_log = false;
@@ -56,7 +54,7 @@ rules_of is_key is_value s sound = record {
   encode = encoded;
   pair_of = λ b hash sequence. outcome_of (pair_of is_key is_value b hash sequence);
   entries_of = λ place b. None;
-  writes_of = data_writes;
+  writes_of = part_writes;
   some_flusher = sound.some_flusher;
   page_up_above = page_up_above;
   index_holds_page = holds_page s.blob_index_size sound.some_index sound.whole_index;
@@ -64,7 +62,7 @@ rules_of is_key is_value s sound = record {
 
 -- how a batch is laid out
 abbrev pub layout : Settings → Splitting Content
-layout s = IsInOneBlock s.blob_index_size
+layout s = IsLaidOut (sizes_in s)
 
 -- the machine of a core
 abbrev pub machine : {K V P : Type 0} → Meaning K V P → (s : Settings) → AreValid s → Rules Content

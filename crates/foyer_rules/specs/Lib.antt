@@ -2,5 +2,4 @@ pub mod Begins
 pub mod Content
 pub mod CoreRules
 pub mod Headline
-pub mod InOneBlock
 pub mod Sizes

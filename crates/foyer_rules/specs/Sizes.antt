@@ -1,6 +1,11 @@
 -- Sizes that go together.
 use Rattle.std.specs.Prelude.{◌≡◌, ℕ, ◌*◌, ◌/◌, ◌%◌, ◌^◌, ◌<◌, ◌≤◌, ◌==◌, if◌then◌else◌}
+use Rattle.foyer_buffer.specs.Position.{Sizes}
 use Rattle.foyer_rules.specs.declared.settings.Settings.{Settings}
+
+-- of a block and of a blob's index
+abbrev pub sizes_in : Settings → Sizes
+sizes_in s = record { block = s.block_size; index = s.blob_index_size }
 
 -- the bytes of a flusher's buffer: its share of the pool, in whole pages
 abbrev pub buffer_room : Settings → ℕ

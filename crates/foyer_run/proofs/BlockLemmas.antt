@@ -11,11 +11,12 @@ use Rattle.foyer_rules.specs.Content.{Content, Meaning}
 use Rattle.foyer_rules.specs.CoreRules.{layout}
 use Rattle.foyer_core.specs.Refines.{IsRefined}
 use Rattle.foyer_rules.specs.CoreRules.{machine}
-use Rattle.foyer_core.specs.Replied.{IsReply, write_of}
+use Rattle.foyer_core.specs.Replied.{IsReply}
+use Rattle.foyer_flusher.specs.Issuing.{write_of}
 use Rattle.foyer_rules.specs.Sizes.{AreValid}
 use Rattle.foyer_core.specs.declared.reply.Reply.{Reply}
 use Rattle.foyer_core.specs.declared.reply.Reply.TheVariants as reply
-use Rattle.foyer_core.specs.declared.reply.Write.{Write}
+use Rattle.foyer_flusher.specs.declared.flusher.Write.{Write}
 use Rattle.foyer_rules.specs.declared.settings.Settings.{Settings}
 use Rattle.foyer_core.specs.declared.state.Core.{Core}
 use Rattle.foyer_core.specs.declared.step.Step.TheVariants as step

@@ -2,27 +2,18 @@
 -- proof looks into the core's own flusher.
 use Rattle.std.proofs.Common.{◌≡◌, ℕ, List, [], ◌∷◌, length, map, Option, Some, None, inl, inr, refl, sym, ap, ◌∙◌, arith}
 use Rattle.std.proofs.lemmas.Option.{slice_get_cases}
-use Rattle.foyer_block.specs.declared.indexer.HashedEntryAddress.{HashedEntryAddress}
-use Rattle.foyer_policy.specs.Record.{Record}
 use Rattle.foyer_model.specs.Destroy.{IsIdle}
-use Rattle.foyer_model.specs.Record as model_record
 use Rattle.foyer_model.specs.State.{Flusher, State}
 use Rattle.foyer_model.specs.State as model_state
 use Rattle.foyer_rules.specs.Content.{Content, Meaning}
 use Rattle.foyer_rules.specs.declared.settings.Settings.{Settings}
-use Rattle.foyer_core.specs.Flushing.{AreBatched, AreRecords, IsFlusherAs}
+use Rattle.foyer_placing.specs.Bridge.{kept_of}
+use Rattle.foyer_flusher.proofs.BeginTurns.{no_map}
+use Rattle.foyer_flusher.specs.Flushing.{AreBatched, IsFlusherAs}
 use Rattle.foyer_core.specs.StateOf.{IsStateOf}
-use Rattle.foyer_core.specs.Unchanged.{Seen, seen}
-use Rattle.foyer_core.specs.declared.block.flusher.Batch.{Batch}
+use Rattle.foyer_flusher.specs.Seen.{Seen, seen}
+use Rattle.foyer_flusher.specs.declared.flusher.Batch.{Batch}
 use Rattle.foyer_core.specs.declared.state.Core.{Core}
-
-no_records : {K V P : Type 0} (m : Meaning K V P) (at : ℕ) (es : List HashedEntryAddress) (ps : List (Record K V P)) (xs ys : List (model_record.Record Content))
-    → AreRecords m at es ps xs → AreRecords m at es ps ys → xs ≡ [] → ys ≡ []
-no_records m at [] [] xs [] one two e = refl
-no_records m at [] [] xs (y ∷ ys) one two e = absurd two
-no_records m at (e ∷ es) (p ∷ ps) [] ys one two is = absurd one
-no_records m at (e ∷ es) (p ∷ ps) (x ∷ xs) ys one two is = absurd (let f : x ∷ xs ≡ [] = is in cc)
-no_records m at es ps xs ys one two e = absurd one
 
 module _ {K V P A : Type 0} (m : Meaning K V P) where
   no_batch : (s s' : Settings) (own : Option ℕ) (batch : Option (Batch K V P A)) (x y : Option (model_state.Batch Content))
@@ -35,7 +26,7 @@ module _ {K V P A : Type 0} (m : Meaning K V P) where
   idle_as : (s s' : Settings) (φ : Seen K V P A) (x y : Flusher Content) → IsFlusherAs m s φ x → IsFlusherAs m s' φ y → IsIdle x → IsIdle y
   idle_as s s' φ x y one two idle = (
     two.queue ∙ sym one.queue ∙ idle.0,
-    no_records m 0 φ.records φ.pieces x.buffer y.buffer one.buffer two.buffer idle.1,
+    no_map kept_of y.buffer (two.buffer ∙ sym one.buffer ∙ ap (map kept_of) idle.1),
     two.marks ∙ sym one.marks ∙ idle.2,
     two.waits ∙ sym one.waits ∙ idle.3,
     no_batch s s' φ.own φ.batch x.batch y.batch one.batch two.batch idle.4,

@@ -16,11 +16,12 @@ use Rattle.foyer_core.specs.Asked.{went_well}
 use Rattle.foyer_rules.specs.Content.{Content, Meaning}
 use Rattle.foyer_core.specs.Refines.{IsRefined}
 use Rattle.foyer_rules.specs.CoreRules.{machine}
-use Rattle.foyer_core.specs.Replied.{IsReply, write_of}
+use Rattle.foyer_core.specs.Replied.{IsReply}
+use Rattle.foyer_flusher.specs.Issuing.{write_of, written_bytes}
 use Rattle.foyer_rules.specs.Sizes.{AreValid}
 use Rattle.foyer_core.specs.declared.reply.Reply.{Reply}
 use Rattle.foyer_core.specs.declared.reply.Reply.TheVariants as reply
-use Rattle.foyer_core.specs.declared.reply.Write.{Write}
+use Rattle.foyer_flusher.specs.declared.flusher.Write.{Write}
 use Rattle.foyer_rules.specs.declared.settings.Settings.{Settings}
 use Rattle.foyer_core.specs.declared.state.Core.{Core}
 use Rattle.foyer_core.specs.declared.step.Step.TheVariants as step
@@ -43,16 +44,14 @@ none_at_all answer n not = refl
 
 -- what a write of a block did
 abbrev pub IsDone : {A : Type 0} → (old new : ℕ → ℕ → ℕ) → (block : ℕ) → Write A → Bool → Type 0
-IsDone old new block w true = IsWritten old block w.offset w.bytes.items new
-IsDone old new block w false = IsTorn old block w.offset (length w.bytes.items) new
+IsDone old new block w true = IsWritten old block w.offset (written_bytes w.bytes) new
+IsDone old new block w false = IsTorn old block w.offset (length (written_bytes w.bytes)) new
 
 pub done_is : {A X : Type 0} (old new : ℕ → ℕ → ℕ) (block : ℕ) (w : Write A) (outcome : Result X Error)
-    → OnOk outcome (IsWritten old block w.offset w.bytes.items new) → OnErr outcome (IsTorn old block w.offset (vec_len w.bytes) new)
+    → OnOk outcome (IsWritten old block w.offset (written_bytes w.bytes) new) → OnErr outcome (IsTorn old block w.offset (length (written_bytes w.bytes)) new)
     → IsDone old new block w (went_well outcome)
 done_is old new block w (Ok x) wrote torn = wrote
-done_is old new block w (Err e) wrote torn =
-    let same : vec_len w.bytes ≡ length w.bytes.items = omega (arith, w.bytes.ok) in
-    subst (λ n. IsTorn old block w.offset n new) same torn
+done_is old new block w (Err e) wrote torn = torn
 
 -- and the one after it is next
 abbrev pub next_issued : Issued → Issued
@@ -80,17 +79,17 @@ inside at offset n e = go (nat_le offset at) refl
 
 -- a write's bytes stand where it was
 laid_is : {A : Type 0} (old new : ℕ → ℕ → ℕ) (block : ℕ) (w : Write A) (g : ℕ → ℕ) → ((o : ℕ) → g o ≡ old block o)
-    → IsWritten old block w.offset w.bytes.items new → (o : ℕ) → laid (write_of w) g o ≡ new block o
-laid_is old new block w g same is o = go (nat_le w.offset o && nat_lt o (w.offset + length w.bytes.items)) refl
+    → IsWritten old block w.offset (written_bytes w.bytes) new → (o : ℕ) → laid (write_of w) g o ≡ new block o
+laid_is old new block w g same is o = go (nat_le w.offset o && nat_lt o (w.offset + length (written_bytes w.bytes))) refl
   where
-    go : (t : Bool) → (nat_le w.offset o && nat_lt o (w.offset + length w.bytes.items)) ≡ t
-        → (if t then slice_index w.bytes.items (o - w.offset) else g o) ≡ new block o
+    go : (t : Bool) → (nat_le w.offset o && nat_lt o (w.offset + length (written_bytes w.bytes))) ≡ t
+        → (if t then slice_index (written_bytes w.bytes) (o - w.offset) else g o) ≡ new block o
     go true e =
-        let within = inside o w.offset (length w.bytes.items) e in
+        let within = inside o w.offset (length (written_bytes w.bytes)) e in
         let back : w.offset + (o - w.offset) ≡ o = (let le : w.offset ≤ o = within.0 in omega arith) in
-        is.0 (o - w.offset) (let le : w.offset ≤ o = within.0 in let lt : o < w.offset + length w.bytes.items = within.1 in omega arith)
+        is.0 (o - w.offset) (let le : w.offset ≤ o = within.0 in let lt : o < w.offset + length (written_bytes w.bytes) = within.1 in omega arith)
         ∙ ap (new block) back
-    go false e = same o ∙ sym (is.1 block o (inr (beside o w.offset (length w.bytes.items) e)))
+    go false e = same o ∙ sym (is.1 block o (inr (beside o w.offset (length (written_bytes w.bytes)) e)))
 
 -- what a write of this outcome leaves in its block
 abbrev torn_of : Bool → (old new : ℕ → ℕ) → ℕ → ℕ

@@ -4,7 +4,7 @@ use Rattle.std.specs.declared.vec.Vec.{Vec}
 use Rattle.foyer_rules.specs.Content.{Meaning}
 use Rattle.foyer_core.specs.declared.reply.Reply.{Reply}
 use Rattle.foyer_core.specs.declared.reply.Reply.TheVariants as reply
-use Rattle.foyer_core.specs.declared.reply.Write.{Write}
+use Rattle.foyer_flusher.specs.declared.flusher.Write.{Write}
 use Rattle.foyer_core.specs.declared.state.Core.{Core}
 use Rattle.foyer_run.specs.Runs.{Runs}
 use Rattle.foyer_run.specs.declared.moves.Move.{Move}

@@ -11,12 +11,12 @@ use Rattle.foyer_rules.specs.Content.{Content, Meaning}
 use Rattle.foyer_rules.specs.CoreRules.{layout}
 use Rattle.foyer_rules.specs.CoreRules.{machine}
 use Rattle.foyer_rules.specs.CoreRules.{IsEncoded}
-use Rattle.foyer_core.specs.Replied.{write_of}
+use Rattle.foyer_flusher.specs.Issuing.{write_of}
 use Rattle.foyer_rules.specs.Sizes.{AreValid}
 use Rattle.foyer_core.specs.StateOf.{IsStateOf}
 use Rattle.foyer_core.specs.declared.reply.Reply.{Reply}
 use Rattle.foyer_core.specs.declared.reply.Reply.TheVariants as reply
-use Rattle.foyer_core.specs.declared.reply.Write.{Write}
+use Rattle.foyer_flusher.specs.declared.flusher.Write.{Write}
 use Rattle.foyer_rules.specs.declared.settings.Settings.{Settings}
 use Rattle.foyer_core.specs.declared.state.Core.{Core}
 use Rattle.foyer_core.specs.declared.step.Step.{Step}
@@ -66,6 +66,7 @@ pub record IsIssued {K V P A : Type 0} (said : List (Reply K V P A)) (x : Issued
 -- a step that brings no result of an access, and whose hash has 64 bits
 abbrev pub IsFree : {K V P A : Type 0} → Step K V P A → Type 0
 IsFree (step.Enqueue piece size) = piece.hash ≤ last_number
+IsFree (step.Delete hash) = hash ≤ last_number
 IsFree (step.LoadEnd ticket outcome) = ⊥
 IsFree (step.FlushBlock flusher) = ⊥
 IsFree (step.FlushWrote flusher outcome) = ⊥

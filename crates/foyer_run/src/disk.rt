@@ -2,6 +2,7 @@
 ghost use Rattle.std.specs.Prelude.{◌≡◌, ◌≤◌, ℕ, length, vec_len, vec_capacity, IsOk, IfOk, IfErr, OnOk, OnErr};
 ghost use Rattle.foyer_device.specs.declared.error.Error.{Error as error};
 ghost use Rattle.foyer_format.specs.Page.{page_up};
+ghost use Rattle.foyer_flusher.specs.Issuing.{written_bytes};
 ghost use Rattle.foyer_run.specs.Disk.{IsRead, IsWritten, IsTorn};
 
 use foyer_block::manager::BlockId;
@@ -81,11 +82,11 @@ pub fn do_read<A: Allocator, D: Disk>(
 /// Does a write that a reply issues.
 pub fn do_write<A: Allocator, D: Disk>(disk: &mut D, block: BlockId, write: &Write<A>) -> Result<()>
     ensures wrote { OnOk result
-        (IsWritten (D.byte_at disk.old) block write.now.offset write.now.bytes.items (D.byte_at disk.new)) }
+        (IsWritten (D.byte_at disk.old) block write.now.offset (written_bytes write.now.bytes) (D.byte_at disk.new)) }
     ensures torn { OnErr result
-        (IsTorn (D.byte_at disk.old) block write.now.offset (vec_len write.now.bytes) (D.byte_at disk.new)) }
-    ensures succeeds { D.surely_has disk.old block write.now.offset (vec_len write.now.bytes) → IsOk result }
-    ensures within { OnOk result (D.may_have disk.old block write.now.offset (vec_len write.now.bytes)) }
+        (IsTorn (D.byte_at disk.old) block write.now.offset (length (written_bytes write.now.bytes)) (D.byte_at disk.new)) }
+    ensures succeeds { D.surely_has disk.old block write.now.offset (length (written_bytes write.now.bytes)) → IsOk result }
+    ensures within { OnOk result (D.may_have disk.old block write.now.offset (length (written_bytes write.now.bytes))) }
     ensures fault { IfErr result (D.may_answer disk.old) }
 {
     disk.write(block, write.offset, write.bytes.as_slice())

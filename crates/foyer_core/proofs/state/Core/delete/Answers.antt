@@ -8,17 +8,17 @@ use Rattle.foyer_model.specs.Queue.{invalidated_by}
 use Rattle.foyer_model.specs.Record.{Mark}
 use Rattle.foyer_model.specs.Reply as model_reply
 use Rattle.foyer_model.specs.State.{Remove}
-use Rattle.foyer_core.specs.Flushing.{invalid_of_all}
+use Rattle.foyer_flusher.specs.Flushing.{invalid_of_all}
 use Rattle.foyer_rules.specs.CoreRules.{machine}
 use Rattle.foyer_standing.specs.Standing.{IsIndexedAs}
-use Rattle.foyer_core.specs.declared.block.flusher.Submission.TheVariants.{Tombstone}
+use Rattle.foyer_flusher.specs.declared.flusher.Submission.TheVariants.{Tombstone}
 use Rattle.foyer_core.specs.declared.step.Step.TheVariants as step
 use Rattle.foyer_core.proofs.Deleted.{bytes_of, pushed_out}
 use Rattle.foyer_core.proofs.QueueLemmas.{with_queued, queue_pushed_at, size_grown}
 use Rattle.foyer_standing.proofs.SlotLemmas.{index_inserted}
 use Rattle.foyer_core.proofs.StateLemmas.{flushers_count}
 use Rattle.foyer_core.proofs.TurnLemmas.{is_early, same, refused}
-use Rattle.foyer_core.specs.Unchanged.{seen}
+use Rattle.foyer_flusher.specs.Seen.{seen}
 use Rattle.foyer_core.proofs.FlusherLists.{same_seen}
 use Rattle.foyer_core.proofs.state.Core.delete.Goals as goal
 use Rattle.foyer_core.proofs.state.Core.delete.Goals.{in-Some, in-None}
@@ -34,7 +34,7 @@ returns-then-is_err-clause-back g c =
         closed = refl;
         queued = refl;
         settings = refl;
-        flushers = same_seen c.args.self.now.flushers.items c.flusher_of-flusher.result found (record found { queue = c.reserve.new.self })
+        flushers = same_seen c.args.self.now.flushers.items c.flusher_of-flusher.result found _
             c.index_mut.ensures.value (ap (λ q. record (seen found) { queue = q }) c.reserve.ensures.items);
         blocks = refl;
         clean = refl;
@@ -53,7 +53,7 @@ returns-in-Err-clause-back g c =
         closed = refl;
         queued = refl;
         settings = refl;
-        flushers = same_seen c.args.self.now.flushers.items c.flusher_of-flusher.result found (record found { queue = c.reserve.new.self })
+        flushers = same_seen c.args.self.now.flushers.items c.flusher_of-flusher.result found _
             c.index_mut.ensures.value (ap (λ q. record (seen found) { queue = q }) c.reserve.ensures.items);
         blocks = refl;
         clean = refl;
@@ -110,9 +110,6 @@ returns-after-pushed_out-clause-meets g c = λ m s sound it stands few.
     let mark = Tombstone (record { tombstone = record { hash = c.args.hash; sequence = old.next }; stats = c.match-pushed_out.stats }) in
     let bound : old.queued ≤ old.next * 2 ^ 64 = stands.queued.bound in
     let more : old.queued ≡ old.queued + 0 = omega arith in
-    let pushed = queue_pushed_at m s old.flushers.items it.flushers c.flusher_of-flusher.result f found (record found { queue = c.push_back_reserved.new.self }) mark x
-    at (ap (λ q. Remove c.args.hash old.next q) invalidated) stands.flushers within c.index_mut.ensures.value
-    (ap (λ q. record (seen found) { queue = q }) (c.push_back_reserved.ensures.items ∙ ap (λ q. q ++ mark ∷ []) c.reserve.ensures.items)) in
     record {
       after = record it { flushers = put it.flushers f (with_queued (it.flushers f) x); next = old.next + 1; index = put it.index c.args.hash (inserted (it.index c.args.hash) (Mark old.next)) };
       it = model_reply.Deleted old.next;
@@ -123,7 +120,9 @@ returns-after-pushed_out-clause-meets g c = λ m s sound it stands few.
         next = refl;
         steps = stands.steps;
         closed = stands.closed;
-        flushers = pushed;
+        flushers = queue_pushed_at m s old.flushers.items it.flushers c.flusher_of-flusher.result f found _ mark x
+            at (ap (λ q. Remove c.args.hash old.next q) invalidated) stands.flushers within c.index_mut.ensures.value
+            (ap (λ q. record (seen found) { queue = q }) (c.push_back_reserved.ensures.items ∙ ap (λ q. q ++ mark ∷ []) c.reserve.ensures.items));
         queued = size_grown s it.flushers f x old.queued old.next old.queued (old.next + 1) stands.queued there more (omega arith);
         blocks = stands.blocks;
         clean = stands.clean;

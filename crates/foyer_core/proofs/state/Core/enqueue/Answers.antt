@@ -7,13 +7,13 @@ use Rattle.foyer_model.specs.State.{Piece}
 use Rattle.foyer_core.specs.Asked.{known_age}
 use Rattle.foyer_rules.specs.Content.{content_of}
 use Rattle.foyer_rules.specs.CoreRules.{machine}
-use Rattle.foyer_core.specs.declared.block.flusher.Submission.TheVariants.{CacheEntry}
+use Rattle.foyer_flusher.specs.declared.flusher.Submission.TheVariants.{CacheEntry}
 use Rattle.foyer_core.specs.declared.step.Step.TheVariants as step
 use Rattle.foyer_core.proofs.Enqueued.{ignored_young, ignored_full, not_ignored}
 use Rattle.foyer_core.proofs.QueueLemmas.{with_queued, queue_pushed_at, size_grown}
 use Rattle.foyer_core.proofs.StateLemmas.{flushers_count}
 use Rattle.foyer_core.proofs.TurnLemmas.{is_early, same, refused}
-use Rattle.foyer_core.specs.Unchanged.{seen}
+use Rattle.foyer_flusher.specs.Seen.{seen}
 use Rattle.foyer_core.proofs.FlusherLists.{same_seen}
 use Rattle.foyer_core.proofs.state.Core.enqueue.Goals as goal
 use Rattle.foyer_core.proofs.state.Core.enqueue.Goals.{then-is_young-via-then-is_young, then-is_young-via-else-is_young+then-min-self}
@@ -29,7 +29,7 @@ returns-then-is_err-clause-back g c =
         closed = refl;
         queued = refl;
         settings = refl;
-        flushers = same_seen c.args.self.now.flushers.items c.flusher_of-flusher.result found (record found { queue = c.reserve.new.self })
+        flushers = same_seen c.args.self.now.flushers.items c.flusher_of-flusher.result found _
             c.index_mut.ensures.value (ap (λ q. record (seen found) { queue = q }) c.reserve.ensures.items);
         blocks = refl;
         clean = refl;
@@ -130,7 +130,7 @@ returns-clause-meets g c = λ m ages s sound it stands few.
         next = refl;
         steps = stands.steps;
         closed = stands.closed;
-        flushers = queue_pushed_at m s old.flushers.items it.flushers c.flusher_of-flusher.result f found (record found { queue = c.push_back_reserved.new.self }) (CacheEntry c.args.piece c.args.size old.next) x
+        flushers = queue_pushed_at m s old.flushers.items it.flushers c.flusher_of-flusher.result f found _ (CacheEntry c.args.piece c.args.size old.next) x
             at refl stands.flushers within c.index_mut.ensures.value
             (ap (λ q. record (seen found) { queue = q }) (c.push_back_reserved.ensures.items ∙ ap (λ q. q ++ CacheEntry c.args.piece c.args.size old.next ∷ []) c.reserve.ensures.items));
         queued = size_grown s it.flushers f x old.queued old.next c.saturating_add-self.result (old.next + 1) stands.queued there more (omega arith);

@@ -3,17 +3,21 @@ use Rattle.std.proofs.Common.{true, false, ◌≡◌, ◌<◌, ◌∷◌, [], ma
 use Rattle.foyer_device.specs.declared.error.ErrorKind.TheVariants as kind
 use Rattle.foyer_model.specs.Receive.{HasReceived, turned}
 use Rattle.foyer_model.specs.Reply as model_reply
-use Rattle.foyer_core.specs.Beginning.{IsBegun}
-use Rattle.foyer_core.specs.Flushing.{IsFlusherAs}
-use Rattle.foyer_rules.specs.InOneBlock.{spread_of}
+use Rattle.foyer_flusher.specs.BatchBegun.{HasBegun}
+use Rattle.foyer_flusher.specs.Begun.{IsBegun}
+use Rattle.foyer_flusher.specs.Flushing.{IsFlusherAs}
 use Rattle.foyer_rules.specs.CoreRules.{machine}
 use Rattle.foyer_standing.specs.Addresses.{mark_of}
-use Rattle.foyer_core.specs.Unchanged.{seen}
+use Rattle.foyer_flusher.specs.Seen.{seen}
+use Rattle.foyer_flusher.specs.Taking.{size_in}
 use Rattle.foyer_core.specs.declared.step.Step.TheVariants as step
-use Rattle.foyer_core.proofs.BeginLemmas.{begun, begins, begun_stands, may_begin, may_begin_back}
+use Rattle.foyer_flusher.proofs.BeginLemmas.{has_begun}
+use Rattle.foyer_flusher.proofs.BeginTurns.{may_begin, may_begin_back}
+use Rattle.foyer_rules.proofs.LawLemmas.{are_rules}
 use Rattle.foyer_core.proofs.QueueLemmas.{size_kept}
 use Rattle.foyer_core.proofs.StateLemmas.{flushers_count, flusher_at, flusher_put}
 use Rattle.foyer_core.proofs.TurnLemmas.{is_early, refused, not_now}
+use Rattle.foyer_core.proofs.FlushTurns.{begun_count}
 use Rattle.foyer_core.proofs.FlusherLists.{same_seen}
 use Rattle.foyer_core.proofs.state.Core.flush_begin.Goals as goal
 
@@ -40,7 +44,7 @@ returns-then-not-may_begin-clause-meets g c = λ m s sound it stands few.
     }) stands (
       is_early m s old it stands few,
       (λ draws. absurd draws),
-      (λ turn. let e : false ≡ true = c.if-not-may_begin.ensures.1 (may_begin_back m s sound it f found before (turn.1, turn.2)) in cc),
+      (λ turn. let e : false ≡ true = c.if-not-may_begin.ensures.1 (may_begin_back m s found (it.flushers f) before (turn.1, turn.2)) in cc),
     )
 
 pub returns-in-Ok-clause-meets : goal.returns-in-Ok-clause-meets
@@ -52,28 +56,29 @@ returns-in-Ok-clause-meets g c = λ m s sound it stands few.
     let there : f < s.flushers = omega arith in
     let found = c.index_mut-found.result.now in
     let before : IsFlusherAs m s (seen found) (it.flushers f) = flusher_at m s old.flushers.items it.flushers f found stands.flushers within c.index_mut-found.ensures.value in
-    let turn : ((it.flushers f).batch ≡ None) × HasReceived (it.flushers f) = may_begin m s sound it f found before (c.if-not-may_begin.ensures.0 refl) in
+    let turn : ((it.flushers f).batch ≡ None) × HasReceived (it.flushers f) = may_begin m s found (it.flushers f) before (c.if-not-may_begin.ensures.0 refl) in
     let is : IsBegun found c.begin.new.self c.in-Ok.marks.items = c.in-Ok.ensures.begins in
-    let blocks = spread_of (it.flushers f).context (it.flushers f).buffer ∷ [] in
+    let has : HasBegun m (machine m s sound) s it f (seen c.begin.new.self) (length (is.batch).blocks.items) c.in-Ok.marks.items =
+    has_begun m (machine m s sound) s it f found c.begin.new.self c.in-Ok.marks.items (are_rules m.is_key m.is_value s sound) refl before is in
     record {
-      after = turned (machine m s sound) it f (begun m s sound it f found before);
-      it = model_reply.Began blocks (it.flushers f).marks;
+      after = turned (machine m s sound) it f has.after;
+      it = model_reply.Began has.layouts (map mark_of c.in-Ok.marks.items);
       stands = record {
         sizes = stands.sizes;
         index = stands.index;
         next = stands.next;
         steps = stands.steps;
         closed = stands.closed;
-        flushers = flusher_put m s old.flushers.items it.flushers f c.begin.new.self (begun m s sound it f found before) stands.flushers within (begun_stands m s sound it f found before c.begin.new.self c.in-Ok.marks.items is);
-        queued = size_kept s it.flushers f (begun m s sound it f found before) old.queued old.next stands.queued there refl;
+        flushers = flusher_put m s old.flushers.items it.flushers f c.begin.new.self has.after stands.flushers within has.stands;
+        queued = size_kept s it.flushers f has.after old.queued old.next stands.queued there (ap size_in (sym has.queue));
         blocks = stands.blocks;
         clean = stands.clean;
         waiting = stands.waiting;
         reclaims = stands.reclaims;
         destroy = stands.destroy;
       };
-      reply = (blocks, refl, ap (model_reply.Began blocks) (before.marks ∙ ap (map mark_of) (sym is.issued)));
-      turns = ((there, turn.0, turn.1), begins m s sound it f found before);
+      reply = (has.layouts, has.count ∙ begun_count m s c.begin.new.self.batch is.batch c.block_count.result (ap (λ x. x.batch) is.left) c.block_count.ensures, refl);
+      turns = ((there, turn.0, turn.1), has.begins);
     }
 
 pub returns-in-Err-clause-meets : goal.returns-in-Err-clause-meets
@@ -85,7 +90,7 @@ returns-in-Err-clause-meets g c = λ m s sound it stands few.
     let there : f < s.flushers = omega arith in
     let found = c.index_mut-found.result.now in
     let before : IsFlusherAs m s (seen found) (it.flushers f) = flusher_at m s old.flushers.items it.flushers f found stands.flushers within c.index_mut-found.ensures.value in
-    let turn : ((it.flushers f).batch ≡ None) × HasReceived (it.flushers f) = may_begin m s sound it f found before (c.if-not-may_begin.ensures.0 refl) in
+    let turn : ((it.flushers f).batch ≡ None) × HasReceived (it.flushers f) = may_begin m s found (it.flushers f) before (c.if-not-may_begin.ensures.0 refl) in
     refused m s sound (step.FlushBegin f) old _ it kind.Memory model_reply.Memory refl (record {
       index = refl;
       next = refl;
@@ -93,12 +98,12 @@ returns-in-Err-clause-meets g c = λ m s sound it stands few.
       closed = refl;
       queued = refl;
       settings = refl;
-      flushers = same_seen old.flushers.items f found c.begin.new.self c.index_mut-found.ensures.value (ap seen c.in-Err.ensures.refused);
+      flushers = same_seen old.flushers.items f found c.begin.new.self c.index_mut-found.ensures.value c.in-Err.ensures.refused;
       blocks = refl;
       clean = refl;
       waiting = refl;
     }) stands
-    (is_early m s old it stands few, ((there, turn.0, turn.1), (model_reply.Began (spread_of (it.flushers f).context (it.flushers f).buffer ∷ []) (it.flushers f).marks, turned (machine m s sound) it f (begun m s sound it f found before), begins m s sound it f found before, tt)))
+    (is_early m s old it stands few, ((there, turn.0, turn.1), tt))
 
 pub returns-then-flusher-len-clause-meets : goal.returns-then-flusher-len-clause-meets
 returns-then-flusher-len-clause-meets g c = grind (arith, common_steps)
@@ -107,4 +112,19 @@ pub returns-then-not-may_begin-clause-back : goal.returns-then-not-may_begin-cla
 returns-then-not-may_begin-clause-back g c = grind (arith, common_steps)
 
 pub returns-in-Err-clause-back : goal.returns-in-Err-clause-back
-returns-in-Err-clause-back g c = grind (arith, common_steps)
+returns-in-Err-clause-back g c =
+    let found = c.index_mut-found.result.now in (
+      refl,
+      record {
+        index = refl;
+        next = refl;
+        steps = refl;
+        closed = refl;
+        queued = refl;
+        settings = refl;
+        flushers = same_seen c.args.self.now.flushers.items c.args.flusher found c.begin.new.self c.index_mut-found.ensures.value c.in-Err.ensures.refused;
+        blocks = refl;
+        clean = refl;
+        waiting = refl;
+      },
+    )

@@ -4,13 +4,13 @@ use Rattle.std.proofs.lemmas.Bool.{false≢true}
 use Rattle.foyer_model.specs.Numbers.{last_number}
 use Rattle.foyer_model.specs.Reply as model_reply
 use Rattle.foyer_model.specs.Step as model_step
-use Rattle.foyer_core.specs.Batches.{FlusherStep, issued_next}
-use Rattle.foyer_core.specs.Replied.{write_of}
-use Rattle.foyer_core.specs.Unchanged.{seen}
+use Rattle.foyer_flusher.specs.FlusherSteps.{FlusherStep, issued_next}
+use Rattle.foyer_flusher.specs.Issuing.{write_of}
+use Rattle.foyer_flusher.specs.Seen.{seen}
 use Rattle.foyer_core.proofs.FlushTurns.{stands_at, flusher_there, core_stands, has_block, wants_block, not_now, would_answer}
 use Rattle.foyer_core.proofs.FlusherLists.{same_seen}
 use Rattle.foyer_core.proofs.StateLemmas.{unchanged_stands}
-use Rattle.foyer_core.specs.declared.block.batch.Next.{Next}
+use Rattle.foyer_flusher.specs.declared.batch.Next.{Next}
 use Rattle.foyer_core.specs.declared.step.Step.TheVariants as step
 use Rattle.foyer_core.proofs.state.Core.flush_block.Goals as goal
 
@@ -57,7 +57,7 @@ returns-in-Err-clause-meets g c = λ m s sound it stands few.
         closed = refl;
         queued = refl;
         settings = refl;
-        flushers = same_seen core.flushers.items f found c.next.new.self c.index_mut-found.ensures.value (ap seen c.in-Err.ensures.refused);
+        flushers = same_seen core.flushers.items f found c.next.new.self c.index_mut-found.ensures.value c.in-Err.ensures.refused;
         blocks = blocks;
         clean = clean;
         waiting = c.in-Err.ensures.waiting_kept;
@@ -117,4 +117,19 @@ pub returns-then-not-has_block-clause-back : goal.returns-then-not-has_block-cla
 returns-then-not-has_block-clause-back g c = grind (arith, common_steps)
 
 pub returns-in-Err-clause-back : goal.returns-in-Err-clause-back
-returns-in-Err-clause-back g c = grind (arith, common_steps)
+returns-in-Err-clause-back g c =
+    let found = c.index_mut-found.result.now in (
+      refl,
+      record {
+        index = refl;
+        next = refl;
+        steps = refl;
+        closed = refl;
+        queued = refl;
+        settings = refl;
+        flushers = same_seen c.args.self.now.flushers.items c.args.flusher found c.next.new.self c.index_mut-found.ensures.value c.in-Err.ensures.refused;
+        blocks = cc c.in-Err.ensures.blocks_kept;
+        clean = cc c.in-Err.ensures.clean_kept;
+        waiting = c.in-Err.ensures.waiting_kept;
+      },
+    )

@@ -2,7 +2,6 @@ use Rattle.std.proofs.lemmas.Grind.{common_steps}
 use Rattle.std.proofs.Common.{◌<◌, length, map, refl, arith}
 use Rattle.std.proofs.lemmas.Bool.{false≢true}
 use Rattle.foyer_model.specs.Reply as model_reply
-use Rattle.foyer_rules.specs.Content.{content_of}
 use Rattle.foyer_core.proofs.FlushTurns.{stands_at, flusher_there, core_stands, is_written, was_written, not_now}
 use Rattle.foyer_core.proofs.FlusherLists.{same_seen}
 use Rattle.foyer_core.specs.declared.step.Step.TheVariants as step

@@ -4,8 +4,8 @@ use Rattle.std.proofs.lemmas.Bool.{false≢true}
 use Rattle.foyer_model.specs.Reply as model_reply
 use Rattle.foyer_model.specs.Step as model_step
 use Rattle.foyer_core.specs.Asked.{went_well}
-use Rattle.foyer_core.specs.Batches.{FlusherStep}
-use Rattle.foyer_core.specs.Unchanged.{seen}
+use Rattle.foyer_flusher.specs.FlusherSteps.{FlusherStep}
+use Rattle.foyer_flusher.specs.Seen.{seen}
 use Rattle.foyer_core.proofs.FlushTurns.{stands_at, flusher_there, core_stands, is_writing, must_write, not_now, went_is}
 use Rattle.foyer_core.proofs.FlusherLists.{same_seen}
 use Rattle.foyer_core.specs.declared.step.Step.TheVariants as step
@@ -40,10 +40,9 @@ returns-in-Next-clause-meets g c = λ m s sound it stands few.
     let found = c.index_mut-found.result.now in
     let within : f < length core.flushers.items = omega (arith, c.len.ensures, c.if-flusher-len.false) in
     let at = stands_at m s core it f found stands within c.index_mut-found.ensures.value in
-    let size : core.settings.blob_index_size ≡ s.blob_index_size = ap (λ t. t.blob_index_size) stands.sizes in
     let ok : c.is_ok.result ≡ went_well c.args.outcome = c.is_ok.ensures.value ∙ went_is c.args.outcome in
     let done = subst (λ (b : Bool). FlusherStep m s sound (model_step.FlushWrote f b) f it model_reply.Next (seen c.wrote.new.self) c.wrote.new.index c.wrote.new.blocks.items
-    core.clean.items core.waiting.items) ok (c.in-Next.ensures.done m s sound f it core.clean.items core.waiting.items size at) in
+    core.clean.items core.waiting.items) ok (c.in-Next.ensures.done m s sound f it core.clean.items core.waiting.items at) in
     record {
       after = done.after;
       it = model_reply.Next;
@@ -59,10 +58,9 @@ returns-in-Committed-clause-meets g c = λ m s sound it stands few.
     let found = c.index_mut-found.result.now in
     let within : f < length core.flushers.items = omega (arith, c.len.ensures, c.if-flusher-len.false) in
     let at = stands_at m s core it f found stands within c.index_mut-found.ensures.value in
-    let size : core.settings.blob_index_size ≡ s.blob_index_size = ap (λ t. t.blob_index_size) stands.sizes in
     let ok : c.is_ok.result ≡ went_well c.args.outcome = c.is_ok.ensures.value ∙ went_is c.args.outcome in
     let done = subst (λ (b : Bool). FlusherStep m s sound (model_step.FlushWrote f b) f it (model_reply.Committed c.in-Committed.count) (seen c.wrote.new.self) c.wrote.new.index c.wrote.new.blocks.items
-    core.clean.items core.waiting.items) ok (c.in-Committed.ensures.done m s sound f it core.clean.items core.waiting.items size at) in
+    core.clean.items core.waiting.items) ok (c.in-Committed.ensures.done m s sound f it core.clean.items core.waiting.items at) in
     record {
       after = done.after;
       it = model_reply.Committed c.in-Committed.count;
@@ -78,10 +76,9 @@ returns-in-Failed-clause-meets g c = λ m s sound it stands few.
     let found = c.index_mut-found.result.now in
     let within : f < length core.flushers.items = omega (arith, c.len.ensures, c.if-flusher-len.false) in
     let at = stands_at m s core it f found stands within c.index_mut-found.ensures.value in
-    let size : core.settings.blob_index_size ≡ s.blob_index_size = ap (λ t. t.blob_index_size) stands.sizes in
     let ok : c.is_ok.result ≡ went_well c.args.outcome = c.is_ok.ensures.value ∙ went_is c.args.outcome in
     let done = subst (λ (b : Bool). FlusherStep m s sound (model_step.FlushWrote f b) f it model_reply.Failed (seen c.wrote.new.self) c.wrote.new.index c.wrote.new.blocks.items
-    core.clean.items core.waiting.items) ok (c.in-Failed.ensures.done m s sound f it core.clean.items core.waiting.items size at) in
+    core.clean.items core.waiting.items) ok (c.in-Failed.ensures.done m s sound f it core.clean.items core.waiting.items at) in
     record {
       after = done.after;
       it = model_reply.Failed;

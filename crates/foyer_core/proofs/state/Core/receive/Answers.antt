@@ -3,15 +3,15 @@ use Rattle.foyer_device.specs.declared.error.ErrorKind.TheVariants as kind
 use Rattle.foyer_model.specs.Receive.{turned, TakesFront as TakesOne}
 use Rattle.foyer_model.specs.Reply as model_reply
 use Rattle.foyer_rules.specs.Content.{meaning}
-use Rattle.foyer_core.specs.Flushing.{IsFlusherAs}
+use Rattle.foyer_flusher.specs.Flushing.{IsFlusherAs}
 use Rattle.foyer_rules.specs.CoreRules.{machine}
-use Rattle.foyer_core.specs.Replied.{returned}
-use Rattle.foyer_core.specs.Taking.{IsReceivedAs, NeedsRoom, TakesFront}
-use Rattle.foyer_core.specs.Unchanged.{seen}
+use Rattle.foyer_rules.specs.Content.{returned}
+use Rattle.foyer_flusher.specs.Taking.{IsReceivedAs, TakesFront}
+use Rattle.foyer_flusher.specs.Seen.{seen}
 use Rattle.foyer_core.specs.declared.step.Step.TheVariants as step
 use Rattle.foyer_core.proofs.QueueLemmas.{size_shrunk}
 use Rattle.foyer_core.proofs.StateLemmas.{flushers_count, flusher_at, flusher_kept, flusher_put}
-use Rattle.foyer_core.proofs.TurnLemmas.{is_early, same, refused, not_now}
+use Rattle.foyer_core.proofs.TurnLemmas.{is_early, refused, not_now}
 use Rattle.foyer_core.proofs.FlusherLists.{same_seen}
 use Rattle.foyer_core.proofs.state.Core.receive.Goals as goal
 
@@ -40,7 +40,18 @@ returns-then-flusher-len-clause-meets g c = λ age_of s sound it stands few.
     let old = c.args.self.now in
     let f = c.args.flusher in
     let count : length old.flushers.items ≡ s.flushers = flushers_count m s old.flushers.items it.flushers stands.flushers in
-    not_now m s sound (step.Receive f) old _ it (same old) stands (is_early m s old it stands few, (λ draws. absurd draws), (λ turn. let lt : f < s.flushers = turn in omega (arith, c.len.ensures, c.if-flusher-len.true)))
+    not_now m s sound (step.Receive f) old _ it (record {
+      index = refl;
+      next = refl;
+      steps = refl;
+      closed = refl;
+      queued = refl;
+      settings = refl;
+      flushers = refl;
+      blocks = refl;
+      clean = refl;
+      waiting = refl;
+    }) stands (is_early m s old it stands few, (λ draws. absurd draws), (λ turn. let lt : f < s.flushers = turn in omega (arith, c.len.ensures, c.if-flusher-len.true)))
 
 pub returns-in-Err-clause-meets : goal.returns-in-Err-clause-meets
 returns-in-Err-clause-meets g c = λ age_of s sound it stands few.
@@ -52,10 +63,8 @@ returns-in-Err-clause-meets g c = λ age_of s sound it stands few.
     let there : f < s.flushers = omega arith in
     let found = c.index_mut-found.result.now in
     let before : IsFlusherAs m s (seen found) (it.flushers f) = flusher_at m s old.flushers.items it.flushers f found stands.flushers within c.index_mut-found.ensures.value in
-    let sizes : old.settings.block_size ≡ s.block_size = ap (λ x. x.block_size) stands.sizes in
-    let needs : NeedsRoom m s sound it f = c.in-Err.ensures.takes age_of s sound it f sizes before in
     refused m s sound (step.Receive f) old _ it kind.Memory model_reply.Memory refl (returns-in-Err-clause-back g c).1 stands
-    (is_early m s old it stands few, (there, (needs.reply, needs.after, needs.receives, needs.grows)))
+    (is_early m s old it stands few, (there, c.in-Err.ensures.takes age_of s sound it f before))
 
 pub returns-in-Ok-Nothing-clause-meets : goal.returns-in-Ok-Nothing-clause-meets
 returns-in-Ok-Nothing-clause-meets g c = λ age_of s sound it stands few.
@@ -67,9 +76,8 @@ returns-in-Ok-Nothing-clause-meets g c = λ age_of s sound it stands few.
     let there : f < s.flushers = omega arith in
     let found = c.index_mut-found.result.now in
     let before : IsFlusherAs m s (seen found) (it.flushers f) = flusher_at m s old.flushers.items it.flushers f found stands.flushers within c.index_mut-found.ensures.value in
-    let sizes : old.settings.block_size ≡ s.block_size = ap (λ x. x.block_size) stands.sizes in
     let none : ((it.flushers f).queue ≡ []) × IsFlusherAs m s (seen c.receive.new.self) (it.flushers f) =
-    subst (λ x. TakesFront m s sound it f (Ok x) c.receive.new.self) c.in-Ok-Nothing.field-0-is (c.in-Ok-Nothing.ensures.takes age_of s sound it f sizes before) in
+    subst (λ x. TakesFront m s sound it f (Ok x) c.receive.new.self) c.in-Ok-Nothing.field-0-is (c.in-Ok-Nothing.ensures.takes age_of s sound it f before) in
     record {
       after = it;
       it = model_reply.Empty;
@@ -101,9 +109,8 @@ returns-in-Ok-Other-clause-meets g c = λ age_of s sound it stands few.
     let there : f < s.flushers = omega arith in
     let found = c.index_mut-found.result.now in
     let before : IsFlusherAs m s (seen found) (it.flushers f) = flusher_at m s old.flushers.items it.flushers f found stands.flushers within c.index_mut-found.ensures.value in
-    let sizes : old.settings.block_size ≡ s.block_size = ap (λ x. x.block_size) stands.sizes in
     let taken : IsReceivedAs m s sound it f 0 None c.receive.new.self =
-    subst (λ x. TakesFront m s sound it f (Ok x) c.receive.new.self) c.in-Ok-Other.field-0-is (c.in-Ok-Other.ensures.takes age_of s sound it f sizes before) in
+    subst (λ x. TakesFront m s sound it f (Ok x) c.receive.new.self) c.in-Ok-Other.field-0-is (c.in-Ok-Other.ensures.takes age_of s sound it f before) in
     let all : old.queued ≡ old.queued - 0 = omega arith in
     record {
       after = turned (machine m s sound) it f taken.after;
@@ -136,9 +143,8 @@ returns-in-Ok-Piece-clause-meets g c = λ age_of s sound it stands few.
     let there : f < s.flushers = omega arith in
     let found = c.index_mut-found.result.now in
     let before : IsFlusherAs m s (seen found) (it.flushers f) = flusher_at m s old.flushers.items it.flushers f found stands.flushers within c.index_mut-found.ensures.value in
-    let sizes : old.settings.block_size ≡ s.block_size = ap (λ x. x.block_size) stands.sizes in
     let taken : IsReceivedAs m s sound it f c.in-Ok-Piece.size (returned m c.in-Ok-Piece.back) c.receive.new.self =
-    subst (λ x. TakesFront m s sound it f (Ok x) c.receive.new.self) c.in-Ok-Piece.field-0-is (c.in-Ok-Piece.ensures.takes age_of s sound it f sizes before) in
+    subst (λ x. TakesFront m s sound it f (Ok x) c.receive.new.self) c.in-Ok-Piece.field-0-is (c.in-Ok-Piece.ensures.takes age_of s sound it f before) in
     record {
       after = turned (machine m s sound) it f taken.after;
       it = model_reply.Received (returned m c.in-Ok-Piece.back);

@@ -3,10 +3,10 @@ use Rattle.foyer_model.specs.Numbers.{put, last_number}
 use Rattle.foyer_model.specs.Reply.{Memory, Done, Refused}
 use Rattle.foyer_model.specs.State.{Await}
 use Rattle.foyer_model.specs.Step as model_step
-use Rattle.foyer_core.specs.declared.block.flusher.Submission.TheVariants.{Wait}
+use Rattle.foyer_flusher.specs.declared.flusher.Submission.TheVariants.{Wait}
 use Rattle.foyer_core.proofs.QueueLemmas.{with_queued, queue_pushed, size_grown}
 use Rattle.foyer_core.proofs.StateLemmas.{flushers_count, unchanged_stands}
-use Rattle.foyer_core.specs.Unchanged.{seen}
+use Rattle.foyer_flusher.specs.Seen.{seen}
 use Rattle.foyer_core.proofs.FlusherLists.{same_seen}
 use Rattle.foyer_core.proofs.state.Core.wait.Goals as goal
 
@@ -21,7 +21,7 @@ returns-then-is_err-clause-back g c =
         closed = refl;
         queued = refl;
         settings = refl;
-        flushers = same_seen c.args.self.now.flushers.items c.args.flusher found (record found { queue = c.reserve.new.self })
+        flushers = same_seen c.args.self.now.flushers.items c.args.flusher found _
             c.index_mut-found.ensures.value (ap (λ q. record (seen found) { queue = q }) c.reserve.ensures.items);
         blocks = refl;
         clean = refl;
@@ -61,7 +61,7 @@ returns-clause-meets g c = λ m s sound it stands few.
         next = stands.next;
         steps = stands.steps;
         closed = stands.closed;
-        flushers = queue_pushed m s c.args.self.now.flushers.items it.flushers c.args.flusher found (record found { queue = c.push_back_reserved.new.self }) (Wait c.args.id)
+        flushers = queue_pushed m s c.args.self.now.flushers.items it.flushers c.args.flusher found _ (Wait c.args.id)
             stands.flushers within c.index_mut-found.ensures.value
             (ap (λ q. record (seen found) { queue = q }) (c.push_back_reserved.ensures.items ∙ ap (λ q. q ++ Wait c.args.id ∷ []) c.reserve.ensures.items));
         queued = size_grown s it.flushers c.args.flusher (Await c.args.id) c.args.self.now.queued c.args.self.now.next c.args.self.now.queued c.args.self.now.next

@@ -1,7 +1,0 @@
-use Rattle.std.proofs.Common.{◌≡◌, map, take, drop, ◌++◌}
-use Rattle.foyer_core.specs.Batches.{settled}
-use Rattle.foyer_core.proofs.block.batch.settle.Given as goal
-
-abbrev pub invariant-loop-record : goal.invariant-loop-record
-invariant-loop-record g l =
-    l.record-items ≡ map (settled l.block l.filling l.offset) (take l.record-index l.fn.records.items) ++ drop l.record-index l.fn.records.items

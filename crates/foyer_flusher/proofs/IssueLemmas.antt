@@ -1,0 +1,183 @@
+-- The next block of a batch, as it is issued.
+use Rattle.std.proofs.Common.{◌≡◌, ℕ, ◌+◌, ◌-◌, ◌^◌, ◌<◌, ◌≤◌, min, List, [], ◌∷◌, ◌++◌, map, length, get_or, Option, Some, None, refl, sym, ap, subst, ◌∙◌, arith}
+use Rattle.std.specs.Prelude.{MatchOption}
+use Rattle.std.specs.declared.vec.Vec.{Vec}
+use Rattle.std.proofs.lemmas.List.{map-append, length-map}
+use Rattle.foyer_block.specs.declared.indexer.HashedEntryAddress.{HashedEntryAddress}
+use Rattle.foyer_blob.specs.declared.blob.BlobEntryIndex.{BlobEntryIndex}
+use Rattle.foyer_buffer.specs.BlockBytes.{Each}
+use Rattle.foyer_buffer.specs.Layout.{parts_of}
+use Rattle.foyer_buffer.specs.declared.split.BlobPart.{BlobPart}
+use Rattle.foyer_buffer.specs.declared.split.Block.{Block}
+use Rattle.foyer_device.specs.Section.{bytes_of}
+use Rattle.foyer_format.proofs.PageLaws.{page_up-holds}
+use Rattle.foyer_format.specs.Page.{page_up}
+use Rattle.foyer_model.specs.Position.{Data, Index, Write as ModelWrite, Part, BlockLayout, records_in, records_of}
+use Rattle.foyer_model.specs.Flush.{writing_of}
+use Rattle.foyer_model.specs.Layout.{writes_in}
+use Rattle.foyer_model.specs.Record as model_record
+use Rattle.foyer_model.specs.Rules.{Rules}
+use Rattle.foyer_model.specs.State as model_state
+use Rattle.foyer_placing.specs.Bridge.{AreEntriesOf, ArePartsAs, AreBlocksAs}
+use Rattle.foyer_placing.specs.Splits.{AreRules, AllEndBy, LiesWithin}
+use Rattle.foyer_rules.specs.Content.{Content, Meaning, content_of}
+use Rattle.foyer_rules.specs.declared.settings.Settings.{Settings}
+use Rattle.foyer_standing.specs.Addresses.{mark_of, invalid_of}
+use Rattle.foyer_flusher.specs.BlockIssued.{IsIssued}
+use Rattle.foyer_flusher.specs.Flushing.{IsGiven, AreEntering, AreWriting, IsBatchAs}
+use Rattle.foyer_flusher.specs.Issuing.{entering, entering_of, writes_of, write_of}
+use Rattle.foyer_flusher.specs.Issued.{WritesAs, IssuesFirst}
+use Rattle.foyer_flusher.specs.declared.flusher.Batch.{Batch}
+use Rattle.foyer_flusher.specs.declared.flusher.Write.{Write}
+use Rattle.foyer_flusher.specs.declared.flusher.Writing.{Writing}
+
+each_front : {X : Type 0} (P : X → Type 0) (xs ys : List X) → Each P (xs ++ ys) → Each P xs
+each_front P [] ys each = tt
+each_front P (x ∷ xs) ys each = (each.0, each_front P xs ys each.1)
+
+each_back : {X : Type 0} (P : X → Type 0) (xs ys : List X) → Each P (xs ++ ys) → Each P ys
+each_back P [] ys each = each
+each_back P (x ∷ xs) ys each = each_back P xs ys each.1
+
+end_front : {C : Type 0} (n : ℕ) (ps qs : List (ℕ × model_record.Record C)) → AllEndBy n (ps ++ qs) → AllEndBy n ps
+end_front n [] qs all = tt
+end_front n (p ∷ ps) qs all = (all.0, end_front n ps qs all.1)
+
+end_back : {C : Type 0} (n : ℕ) (ps qs : List (ℕ × model_record.Record C)) → AllEndBy n (ps ++ qs) → AllEndBy n qs
+end_back n [] qs all = all
+end_back n (p ∷ ps) qs all = end_back n ps qs all.1
+
+entering-join : (es fs : List HashedEntryAddress) (ps qs : List (ℕ × model_record.Record Content)) → AreEntering es ps → AreEntering fs qs → AreEntering (es ++ fs) (ps ++ qs)
+entering-join [] fs [] qs a b = b
+entering-join [] fs (p ∷ ps) qs a b = absurd a
+entering-join (e ∷ es) fs [] qs a b = absurd a
+entering-join (e ∷ es) fs (p ∷ ps) qs a b = (a.0, a.1, a.2, a.3, a.4, entering-join es fs ps qs a.5 b)
+
+-- the records of one part
+part_enters : (n base : ℕ) (es : List BlobEntryIndex) (ps : List (ℕ × model_record.Record Content)) → n ≤ 2 ^ 32 → AreEntriesOf base es ps → AllEndBy n ps
+    → Each IsGiven (map (λ p. p.1) ps) → AreEntering (map (entering base) es) ps
+part_enters n base [] [] small are ends given = tt
+part_enters n base [] (p ∷ ps) small are ends given = absurd are
+part_enters n base (e ∷ es) [] small are ends given = absurd are
+part_enters n base (e ∷ es) (p ∷ ps) small are ends given =
+    let some : 0 < length (p.1).bytes = (given.0).2 in
+    let above : length (p.1).bytes ≤ page_up (length (p.1).bytes) = page_up-holds (length (p.1).bytes) in
+    let there : p.0 ≡ base + e.offset = are.0 in
+    let room : p.0 + page_up (length (p.1).bytes) ≤ n = ends.0 in
+    let offset : min (base + e.offset) (2 ^ 32 - 1) ≡ p.0 = omega arith in
+    (sym are.1, sym are.2, offset, sym are.3, given.0, part_enters n base es ps small are.4 ends.1 given.1)
+
+module _ {A : Type 0} where
+  pub enters : (n : ℕ) (ps : List (BlobPart A)) (qs : List (Part Content)) → n ≤ 2 ^ 32 → ArePartsAs ps qs → AllEndBy n (records_in qs)
+      → Each IsGiven (map (λ p. p.1) (records_in qs)) → AreEntering (entering_of ps) (records_in qs)
+  enters n [] [] small are ends given = tt
+  enters n [] (q ∷ qs) small are ends given = absurd are
+  enters n (p ∷ ps) [] small are ends given = absurd are
+  enters n (p ∷ ps) (q ∷ qs) small are ends given =
+      let both : Each IsGiven (map (λ r. r.1) q.records ++ map (λ r. r.1) (records_in qs)) = subst (Each IsGiven) (map-append (λ r. r.1) q.records (records_in qs)) given in
+      entering-join (map (entering p.blob_block_offset) p.indices.items) (entering_of ps) q.records (records_in qs)
+      (part_enters n p.blob_block_offset p.indices.items q.records small (are.0).records (end_front n q.records (records_in qs) ends)
+      (each_front IsGiven (map (λ r. r.1) q.records) (map (λ r. r.1) (records_in qs)) both))
+      (enters n ps qs small are.1 (end_back n q.records (records_in qs) ends)
+      (each_back IsGiven (map (λ r. r.1) q.records) (map (λ r. r.1) (records_in qs)) both))
+
+  pub writes_are : (rules : Rules Content) (n : ℕ) (ps : List (BlobPart A)) (qs : List (Part Content)) → AreRules rules → n ≤ 2 ^ 32 → ArePartsAs ps qs
+      → Each (λ q. q.blob + q.at + length q.content ≤ n) qs → map write_of (writes_of ps) ≡ writes_in rules qs
+  writes_are rules n [] [] rule small are within = refl
+  writes_are rules n [] (q ∷ qs) rule small are within = absurd are
+  writes_are rules n (p ∷ ps) [] rule small are within = absurd are
+  writes_are rules n (p ∷ ps) (q ∷ qs) rule small are within =
+      let one = are.0 in
+      let end : q.blob + q.at + length q.content ≤ n = within.0 in
+      let offset : min (p.blob_block_offset + p.part_blob_offset) (2 ^ 64 - 1) ≡ q.blob + q.at = omega (arith, one.blob, one.at) in
+      let rest : map write_of (writes_of ps) ≡ writes_in rules qs = writes_are rules n ps qs rule small are.1 within.1 in
+      ap (λ ws. data_at (min (p.blob_block_offset + p.part_blob_offset) (2 ^ 64 - 1)) (bytes_of p.part_data) ∷ index_at p.blob_block_offset p.index ∷ ws) rest
+      ∙ ap (λ k. data_at k (bytes_of p.part_data) ∷ index_at p.blob_block_offset p.index ∷ writes_in rules qs) offset
+      ∙ ap (λ bs. data_at (q.blob + q.at) bs ∷ index_at p.blob_block_offset p.index ∷ writes_in rules qs) (sym one.content)
+      ∙ ap (λ k. data_at (q.blob + q.at) q.content ∷ index_at k p.index ∷ writes_in rules qs) (sym one.blob)
+      ∙ ap (λ bs. data_at (q.blob + q.at) q.content ∷ index_at q.blob bs ∷ writes_in rules qs) (sym one.index)
+      ∙ ap (λ ws. ws ++ writes_in rules qs) (sym (rule.writes q))
+    where
+      data_at : ℕ → List ℕ → ModelWrite
+      data_at offset bytes = record { role = Data; offset = offset; bytes = bytes }
+
+      index_at : ℕ → List ℕ → ModelWrite
+      index_at offset bytes = record { role = Index; offset = offset; bytes = bytes }
+
+  writing_as : (s : Settings) (b : ℕ) (ps : List (BlobPart A)) (first : Block A) (issued : List (Write A)) (ws : List ModelWrite) (records : List (ℕ × model_record.Record Content)) (w : Option (Writing A))
+      → b < s.blocks → map write_of issued ≡ ws → first.blob_parts.items ≡ ps → AreEntering (entering_of ps) records → AllEndBy s.block_size records
+      → WritesAs b issued first w → AreWriting s w (writing_of b ws records)
+  writing_as s b ps first issued [] records None there are same enters within writes = tt
+  writing_as s b ps first issued (x ∷ xs) records None there are same enters within writes =
+      let count : length (map write_of issued) ≡ length issued = length-map issued write_of in
+      let some : length (map write_of issued) ≡ length (x ∷ xs) = ap length are in
+      absurd (omega arith)
+  writing_as s b ps first issued [] records (Some w) there are same enters within writes =
+      let count : length (map write_of issued) ≡ length issued = length-map issued write_of in
+      let none : length (map write_of issued) ≡ 0 = ap length are in
+      let some : 0 < w.left = writes.2 in
+      let left : w.left ≡ length issued = writes.1 in
+      absurd (omega arith)
+  writing_as s b ps first issued (x ∷ xs) records (Some w) there are same enters within writes =
+      let count : length (map write_of issued) ≡ length issued = length-map issued write_of in
+      let some : length (map write_of issued) ≡ length (x ∷ xs) = ap length are in
+      let left : w.left ≡ length issued = writes.1 in
+      let is : entering_of ps ≡ w.records.items = ap entering_of (sym same) ∙ sym writes.3 in
+      record {
+        records = subst (λ es. AreEntering es records) is enters;
+        within = within;
+        block = sym writes.0;
+        there = subst (λ k. k < s.blocks) (sym writes.0) there;
+        left = omega arith;
+        some = writes.2;
+      }
+
+  module _ {K V P : Type 0} (m : Meaning K V P) (rules : Rules Content) (s : Settings) (own : Option ℕ) (b : ℕ) (old new : Batch K V P A) (issued : List (Write A))
+      (it : model_state.Batch Content) (rule : AreRules rules) (small : s.block_size ≤ 2 ^ 32) (there : b < s.blocks) (stands : IsBatchAs m s own old it)
+      (is : IssuesFirst b old new issued) where
+    first_issued : (layouts : List (BlockLayout Content)) → it.blocks ≡ layouts → AreBlocksAs (parts_of is.first ∷ map parts_of is.rest) layouts
+        → Each (LiesWithin s.block_size) layouts → Each IsGiven (records_of layouts) → IsIssued m rules s b issued new it
+    first_issued [] same are within given = absurd are
+    first_issued (layout ∷ rest) same are within given =
+        let parts : Each IsGiven (map (λ p. p.1) (records_in layout.parts)) = each_front IsGiven (map (λ p. p.1) (records_in layout.parts)) (records_of rest) given in
+        let writes : map write_of issued ≡ writes_in rules layout.parts =
+        ap (map write_of) is.writes ∙ writes_are rules s.block_size (is.first).blob_parts.items layout.parts rule small are.0 (within.0).parts in
+        record {
+          spread = layout;
+          rest = rest;
+          first = same;
+          writes = writes;
+          it = record {
+            blocks = subst (λ (bs : List (Block A)). AreBlocksAs (map parts_of bs) rest) (sym is.left) are.1;
+            within = within.1;
+            given = each_back IsGiven (map (λ p. p.1) (records_in layout.parts)) (records_of rest) given;
+            continues_own_block = sym is.continues_own_block;
+            owned = λ e. tt;
+            writing = writing_as s b (is.first).blob_parts.items is.first issued (writes_in rules layout.parts) (records_in layout.parts) new.writing there writes refl
+                (enters s.block_size (is.first).blob_parts.items layout.parts small are.0 (within.0).records parts) (within.0).records is.writing;
+            marks = stands.marks ∙ ap (λ v. map mark_of v.items) (sym is.marks);
+            invalidated = stands.invalidated ∙ ap (λ v. map invalid_of v.items) (sym is.invalid);
+            pieces = stands.pieces ∙ ap (λ v. map (content_of m) v.items) (sym is.pieces);
+            waits = stands.waits ∙ ap (λ v. v.items) (sym is.waits);
+            logged = stands.logged;
+          };
+        }
+
+    pub issues_as_model : IsIssued m rules s b issued new it
+    issues_as_model = first_issued it.blocks refl (subst (λ (bs : List (Block A)). AreBlocksAs (map parts_of bs) it.blocks) is.blocks stands.blocks) stands.within stands.given
+
+pub head_of : {X : Type 0} (items : List X) (x : X) → (items ≡ [] → ⊥) → x ≡ get_or items 0 x → (rest : List X) × (items ≡ x ∷ rest)
+head_of [] x some is = absurd (some refl)
+head_of (y ∷ ys) x some is = (ys, ap (λ z. z ∷ ys) (sym is))
+
+pub first_is : {X : Type 0} (items : List X) (first : X) (rest : List X) (x : X) → items ≡ first ∷ rest → x ≡ get_or items 0 x → x ≡ first
+first_is items first rest x same is = is ∙ ap (λ l. get_or l 0 x) same
+
+pub writes_as : {A : Type 0} (block : ℕ) (issued : List (Write A)) (first : Block A) (n : ℕ) (records : Vec HashedEntryAddress A) (w : Option (Writing A)) → n ≡ length issued
+    → records.items ≡ entering_of first.blob_parts.items
+    → MatchOption w (n ≡ 0) (λ v. (v.block ≡ block) × (v.left ≡ n) × (0 < n) × (v.records ≡ records)) → WritesAs block issued first w
+writes_as block issued first n records None count are is = sym count ∙ is
+writes_as block issued first n records (Some w) count are is =
+    let left : w.left ≡ n = is.1 in
+    let some : 0 < n = is.2 in
+    (is.0, left ∙ count, omega arith, ap (λ v. v.items) is.3 ∙ are)

@@ -1,0 +1,9 @@
+pub mod BeginLemmas
+pub mod BeginTurns
+pub mod CommitLemmas
+pub mod FilledLemmas
+pub mod FlushLemmas
+pub mod IssueLemmas
+pub mod NextLemmas
+pub mod TakenLemmas
+pub mod WroteLemmas

@@ -1,0 +1,50 @@
+use Rattle.std.proofs.Common.{◌≡◌, [], None, Some, refl, ap, ◌∙◌}
+use Rattle.foyer_buffer.specs.Entries.{Entries}
+use Rattle.foyer_flusher.specs.declared.flusher.Batch.{Batch}
+use Rattle.foyer_flusher.proofs.flusher.Flusher.begin.Goals as goal
+
+pub returns-clause-begins : goal.returns-clause-begins
+returns-clause-begins g c =
+    let old = c.args.self.now in
+    let all : Batch g.row.K.Denot g.row.V.Denot g.row.P.Denot g.row.A.Denot = record {
+      blocks = c.in_ok-blocks.field-0.blocks;
+      pages = c.in_ok-blocks.field-0.bytes;
+      continues_own_block = c.is_some.result;
+      writing = None;
+      marks = c.replace.result;
+      invalid = c.replace-2.result;
+      pieces = c.replace-3.result;
+      waits = c.replace-4.result;
+    } in
+    let filled : c.reset.new.self ≡ record old.filled { entries = [] } = c.reset.ensures ∙ ap (λ (b : Entries). record b { entries = [] }) c.split.ensures.same in
+    let batch : c.replace-5.new.self ≡ Some all = c.replace-5.ensures.after in
+    let no_marks : c.replace.new.dest.items ≡ [] = (λ j. (c.replace.ensures.after j).items) ∙ c.new.ensures.items in
+    let no_invalid : c.replace-2.new.dest.items ≡ [] = (λ j. (c.replace-2.ensures.after j).items) ∙ c.new-2.ensures.items in
+    let no_pieces : c.replace-3.new.dest.items ≡ [] = (λ j. (c.replace-3.ensures.after j).items) ∙ c.new-3.ensures.items in
+    let no_waits : c.replace-4.new.dest.items ≡ [] = (λ j. (c.replace-4.ensures.after j).items) ∙ c.new-4.ensures.items in
+    record {
+      batch = all;
+      split = c.in_ok-blocks.field-0;
+      issued = c.in_ok-issued.ensures.items ∙ c.as_slice.ensures.value;
+      was_split = c.in_ok-blocks.ensures.split;
+      sizes = c.split.ensures.sizes;
+      blocks = refl;
+      pages = refl;
+      continues_own_block = c.is_some.ensures;
+      writing = refl;
+      marks = λ i. (c.replace.ensures.value i).items;
+      invalid = λ i. (c.replace-2.ensures.value i).items;
+      pieces = λ i. (c.replace-3.ensures.value i).items;
+      waits = λ i. (c.replace-4.ensures.value i).items;
+      left = λ i. record {
+        queue = old.queue.items;
+        filled = filled i;
+        marks = no_marks i;
+        invalid = no_invalid i;
+        pieces = no_pieces i;
+        waits = no_waits i;
+        context = c.split.new.ctx;
+        own = old.own;
+        batch = batch i;
+      };
+    }

@@ -1,0 +1,86 @@
+-- What a step of a flush works on, and what it leaves.
+use Rattle.std.specs.Prelude.{◌≡◌, ℕ, ◌+◌, false, List, [], ◌∷◌, map, length, None, Some}
+use Rattle.foyer_block.specs.Index.{IndexMap}
+use Rattle.foyer_block.specs.declared.indexer.HashedEntryAddress.{HashedEntryAddress}
+use Rattle.foyer_model.specs.Changes.{Changes}
+use Rattle.foyer_model.specs.Numbers.{put}
+use Rattle.foyer_model.specs.Reply as model_reply
+use Rattle.foyer_model.specs.Rules.{first_position}
+use Rattle.foyer_model.specs.State as model_state
+use Rattle.foyer_model.specs.Step as model_step
+use Rattle.foyer_policy.specs.Record.{Record}
+use Rattle.foyer_rules.specs.Content.{Content, Meaning, content_of, contents_of}
+use Rattle.foyer_rules.specs.CoreRules.{layout, machine}
+use Rattle.foyer_rules.specs.Sizes.{AreValid}
+use Rattle.foyer_rules.specs.declared.settings.Settings.{Settings}
+use Rattle.foyer_standing.specs.Standing.{IsIndexedAs, AreBlocksAs, AreCleanAs}
+use Rattle.foyer_standing.specs.declared.blocks.BlockState.{BlockState}
+use Rattle.foyer_flusher.specs.Flushing.{IsFlusherAs}
+use Rattle.foyer_flusher.specs.Seen.{Seen}
+use Rattle.foyer_flusher.specs.Issuing.{write_of}
+use Rattle.foyer_flusher.specs.declared.batch.Next.{Next}
+use Rattle.foyer_flusher.specs.declared.batch.Next.TheVariants as next
+use Rattle.foyer_flusher.specs.declared.batch.Wrote.{Wrote}
+use Rattle.foyer_flusher.specs.declared.batch.Wrote.TheVariants as wrote
+use Rattle.foyer_flusher.specs.declared.flusher.Batch.{Batch}
+
+-- a flusher of a state of the model, with what a flush changes beside it
+pub record StandsAt {K V P A : Type 0} (m : Meaning K V P) (s : Settings) (f : ℕ) (it : model_state.State Content)
+    (φ : Seen K V P A) (slots : IndexMap) (states : List BlockState) (ids waiters : List ℕ) : Type 0 where
+  pub flusher : IsFlusherAs m s φ (it.flushers f)
+  pub index : IsIndexedAs s slots it.index
+  pub blocks : AreBlocksAs s states it.place it.filling it.stats
+  pub clean : AreCleanAs s ids it.clean
+  pub waiting : it.waiting ≡ waiters
+  pub destroy : it.destroy ≡ model_state.NoDestroy
+
+-- The model does this step with this reply, and leaves this flusher and these beside it, and the rest as it was.
+pub record FlusherStep {K V P A : Type 0} (m : Meaning K V P) (s : Settings) (sound : AreValid s) (given : model_step.Step Content) (f : ℕ)
+    (old : model_state.State Content) (answer : model_reply.Reply Content)
+    (φ : Seen K V P A) (slots : IndexMap) (states : List BlockState) (ids waiters : List ℕ) : Type 0 where
+  pub after : model_state.State Content
+  pub does : Changes (machine m s sound) (layout s) old given answer after
+  pub flusher : model_state.Flusher Content
+  pub flushers : after.flushers ≡ put old.flushers f flusher
+  pub it : IsFlusherAs m s φ flusher
+  pub queue : flusher.queue ≡ (old.flushers f).queue
+  pub index : IsIndexedAs s slots after.index
+  pub blocks : AreBlocksAs s states after.place after.filling after.stats
+  pub clean : AreCleanAs s ids after.clean
+  pub waiting : after.waiting ≡ waiters
+  pub next : after.next ≡ old.next
+  pub steps : after.steps ≡ old.steps
+  pub closed : after.closed ≡ old.closed
+  pub reclaims : after.reclaims ≡ old.reclaims
+  pub destroy : after.destroy ≡ old.destroy
+
+-- the reply to the demand for a block
+abbrev pub issued_next : {A : Type 0} → Next A → model_reply.Reply Content
+issued_next next.NoBlock = model_reply.NoBlock
+issued_next (next.Block block writes) = model_reply.Written block (map write_of writes.items)
+
+-- the reply to the report of a write
+abbrev pub issued_wrote : Wrote → model_reply.Reply Content
+issued_wrote wrote.Next = model_reply.Next
+issued_wrote (wrote.Committed n) = model_reply.Committed n
+issued_wrote wrote.Failed = model_reply.Failed
+
+-- the batch ended with this reply, and the rest is left so: the model's pieces have their sequences
+abbrev pub HasEnded : {K V P A : Type 0} → Meaning K V P → (s : Settings) → AreValid s → ℕ → model_state.State Content
+    → (pieces : List (Record K V P)) → (waits : List ℕ) → Seen K V P A → IndexMap → List BlockState → (ids waiters : List ℕ) → Type 0
+HasEnded m s sound f it pieces waits φ slots states ids waiters =
+    (ps : List (ℕ × Content)) × (contents_of ps ≡ map (content_of m) pieces)
+    × FlusherStep m s sound (model_step.FlushEnd f) f it (model_reply.Ended ps waits) φ slots states ids waiters
+
+-- the record of a block, once the block is known
+abbrev pub settled : (block filling : ℕ) → HashedEntryAddress → HashedEntryAddress
+settled block filling e = record e { address = record e.address { block = block; filling = filling } }
+
+-- a flusher whose batch failed: the rest is dropped, and its splitter is fresh
+abbrev pub failed_batch : {K V P : Type 0} → Meaning K V P → (s : Settings) → AreValid s → model_state.Flusher Content → model_state.Batch Content → model_state.Flusher Content
+failed_batch m s sound it batch =
+    record it {
+      own = None;
+      context = first_position (machine m s sound);
+      batch = Some (record batch { blocks = []; continues_own_block = false; writing = None });
+    }

@@ -1,0 +1,44 @@
+-- What is issued of a block: its writes, and the records that enter the index when they are done.
+use Rattle.std.specs.Prelude.{ℕ, ◌+◌, ◌-◌, ◌^◌, min, List, [], ◌∷◌, ◌++◌, map}
+use Rattle.foyer_block.specs.declared.indexer.HashedEntryAddress.{HashedEntryAddress}
+use Rattle.foyer_blob.specs.declared.blob.BlobEntryIndex.{BlobEntryIndex}
+use Rattle.foyer_buffer.specs.declared.split.BlobPart.{BlobPart}
+use Rattle.foyer_device.specs.Section.{bytes_of}
+use Rattle.foyer_model.specs.Position as model_position
+use Rattle.foyer_flusher.specs.declared.flusher.Write.{Write}
+use Rattle.foyer_flusher.specs.declared.flusher.WriteBytes.{WriteBytes}
+use Rattle.foyer_flusher.specs.declared.flusher.WriteBytes.TheVariants.{Data, Index}
+
+-- a record of a blob that begins at this offset of a block, which isn't known yet
+abbrev pub entering : ℕ → BlobEntryIndex → HashedEntryAddress
+entering blob e = record {
+  hash = e.hash;
+  address = record { block = 0; offset = min (blob + e.offset) (2 ^ 32 - 1); len = e.len; sequence = e.sequence; filling = 0 };
+}
+
+module _ {A : Type 0} where
+  -- the bytes that are written
+  abbrev pub written_bytes : WriteBytes A → List ℕ
+  written_bytes (Data section) = bytes_of section
+  written_bytes (Index bytes) = bytes
+
+  -- the records of these parts
+  abbrev pub entering_of : List (BlobPart A) → List HashedEntryAddress
+  entering_of [] = []
+  entering_of (p ∷ ps) = map (entering p.blob_block_offset) p.indices.items ++ entering_of ps
+
+  -- the writes of these parts: of each its data, and then its blob's index
+  abbrev pub writes_of : List (BlobPart A) → List (Write A)
+  writes_of [] = []
+  writes_of (p ∷ ps) =
+      record { offset = min (p.blob_block_offset + p.part_blob_offset) (2 ^ 64 - 1); bytes = Data p.part_data }
+      ∷ record { offset = p.blob_block_offset; bytes = Index p.index } ∷ writes_of ps
+
+  -- whether records or an index are written
+  abbrev pub role_of : WriteBytes A → model_position.Role
+  role_of (Data section) = model_position.Data
+  role_of (Index bytes) = model_position.Index
+
+  -- a write as the model's
+  abbrev pub write_of : Write A → model_position.Write
+  write_of w = record { role = role_of w.bytes; offset = w.offset; bytes = written_bytes w.bytes }

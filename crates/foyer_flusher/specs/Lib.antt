@@ -1,0 +1,12 @@
+pub mod BatchBegun
+pub mod Begun
+pub mod BlockIssued
+pub mod Filled
+pub mod FlushInTurn
+pub mod FlusherSteps
+pub mod Flushing
+pub mod Idle
+pub mod Issued
+pub mod Issuing
+pub mod Seen
+pub mod Taking

@@ -1,0 +1,35 @@
+-- What a flusher has, whatever room its lists have and whichever spare pages it keeps.
+use Rattle.std.specs.Prelude.{ℕ, List, Option}
+use Rattle.foyer_block.specs.declared.tombstone.Tombstone.{Tombstone}
+use Rattle.foyer_buffer.specs.Entries.{Entries}
+use Rattle.foyer_buffer.specs.Position.{Context}
+use Rattle.foyer_policy.specs.Record.{Record}
+use Rattle.foyer_flusher.specs.declared.flusher.Batch.{Batch}
+use Rattle.foyer_flusher.specs.declared.flusher.Flusher.{Flusher}
+use Rattle.foyer_standing.specs.declared.blocks.InvalidStats.{InvalidStats}
+use Rattle.foyer_flusher.specs.declared.flusher.Submission.{Submission}
+
+pub record Seen (K V P A : Type 0) : Type 0 where
+  pub queue : List (Submission K V P A)
+  pub filled : Entries
+  pub marks : List Tombstone
+  pub invalid : List InvalidStats
+  pub pieces : List (Record K V P)
+  pub waits : List ℕ
+  pub context : Context
+  pub own : Option ℕ
+  pub batch : Option (Batch K V P A)
+
+abbrev pub seen : {K V P A : Type 0} → Flusher K V P A → Seen K V P A
+seen φ =
+    record {
+      queue = φ.queue.items;
+      filled = φ.filled;
+      marks = φ.marks.items;
+      invalid = φ.invalid.items;
+      pieces = φ.pieces.items;
+      waits = φ.waits.items;
+      context = φ.context;
+      own = φ.own;
+      batch = φ.batch;
+    }

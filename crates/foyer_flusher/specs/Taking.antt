@@ -1,0 +1,39 @@
+-- What a flusher takes from its queue.
+use Rattle.std.specs.Prelude.{◌≡◌, ℕ, ◌+◌, List, [], ◌∷◌, Option, None, Result, Ok, Err}
+use Rattle.foyer_device.specs.declared.error.Error.{Error}
+use Rattle.foyer_model.specs.Receive.{Receives, turned}
+use Rattle.foyer_model.specs.Refusal.{TakesMemory}
+use Rattle.foyer_model.specs.Reply as model_reply
+use Rattle.foyer_model.specs.State as model_state
+use Rattle.foyer_rules.specs.Content.{Content, Meaning, returned}
+use Rattle.foyer_rules.specs.CoreRules.{machine}
+use Rattle.foyer_rules.specs.Sizes.{AreValid}
+use Rattle.foyer_rules.specs.declared.settings.Settings.{Settings}
+use Rattle.foyer_flusher.specs.Flushing.{IsFlusherAs}
+use Rattle.foyer_flusher.specs.Seen.{seen}
+use Rattle.foyer_flusher.specs.declared.flusher.Flusher.{Flusher}
+use Rattle.foyer_flusher.specs.declared.receive.Taken.{Taken}
+use Rattle.foyer_flusher.specs.declared.receive.Taken.TheVariants as taken
+
+-- the sizes of a queue's pieces
+abbrev pub size_in : {C : Type 0} → List (model_state.Submission C) → ℕ
+size_in [] = 0
+size_in (model_state.Piece h q n c ∷ rest) = n + size_in rest
+size_in (model_state.Remove h q invalidated ∷ rest) = size_in rest
+size_in (model_state.Await i ∷ rest) = size_in rest
+size_in (model_state.Reinsert h bytes a ∷ rest) = size_in rest
+
+-- the front was taken, with a piece of this size
+pub record IsReceivedAs {K V P A : Type 0} (m : Meaning K V P) (s : Settings) (sound : AreValid s) (st : model_state.State Content) (f : ℕ) (size : ℕ) (back : Option Content) (new : Flusher K V P A) : Type 0 where
+  pub after : model_state.Flusher Content
+  pub stands : IsFlusherAs m s (seen new) after
+  pub receives : Receives (machine m s sound) st f (model_reply.Received back) (turned (machine m s sound) st f after)
+  pub size_is : size_in (st.flushers f).queue ≡ size + size_in after.queue
+
+-- What a receipt makes of a state of the model. It is refused only where the front takes memory: what has no room is
+-- handed back.
+abbrev pub TakesFront : {K V P A : Type 0} → Meaning K V P → (s : Settings) → AreValid s → model_state.State Content → ℕ → Result (Taken K V P A) Error → Flusher K V P A → Type 0
+TakesFront m s sound st f (Ok taken.Nothing) new = ((st.flushers f).queue ≡ []) × IsFlusherAs m s (seen new) (st.flushers f)
+TakesFront m s sound st f (Ok taken.Other) new = IsReceivedAs m s sound st f 0 None new
+TakesFront m s sound st f (Ok (taken.Piece size back)) new = IsReceivedAs m s sound st f size (returned m back) new
+TakesFront m s sound st f (Err e) new = TakesMemory (machine m s sound) st (st.flushers f) (st.flushers f).queue

@@ -1,0 +1,328 @@
+//! A flusher's batch: block by block onto the disk, and into the index.
+ghost use Rattle.std.specs.Prelude.{◌≡◌, ◌≢◌, ◌↔◌, ◌<◌, ℕ, List, [], map, Option, None, Some, IsSomeAnd, IsTrue, true, false};
+ghost use Rattle.std.specs.Prelude.{IfErr, IfOk, OnErr, MatchOption, vec_len};
+ghost use Rattle.foyer_block.specs.Index.{IndexMap};
+ghost use Rattle.foyer_block.specs.Insertion.{inserted_all};
+ghost use Rattle.foyer_device.specs.declared.error.Error.{Error as error};
+ghost use Rattle.foyer_model.specs.Flush.{released};
+ghost use Rattle.foyer_model.specs.State as model_state;
+ghost use Rattle.foyer_model.specs.State.{State};
+ghost use Rattle.foyer_model.specs.Step as model_step;
+ghost use Rattle.foyer_rules.specs.Content.{Content, Meaning};
+ghost use Rattle.foyer_rules.specs.Sizes.{AreValid};
+ghost use Rattle.foyer_rules.specs.declared.settings.Settings.{Settings};
+ghost use Rattle.foyer_standing.specs.Standing.{AreBlocksAs};
+ghost use Rattle.foyer_flusher.specs.FlushInTurn.{MayBegin, HasBlock, IsWriting, IsWritten};
+ghost use Rattle.foyer_flusher.specs.FlusherSteps.{StandsAt, FlusherStep, issued_next, issued_wrote, HasEnded, settled, failed_batch};
+ghost use Rattle.foyer_flusher.specs.Flushing.{IsFlusherAs};
+ghost use Rattle.foyer_flusher.specs.Seen.{seen};
+ghost use Rattle.foyer_flusher.specs.declared.batch.Wrote.TheVariants as wrote;
+
+use crate::flusher::{Batch, Flusher, Write, Writing};
+use foyer_block::indexer::{HashedEntryAddress, Indexer};
+use foyer_block::manager::BlockId;
+use foyer_device::error::Result;
+use foyer_device::io::bytes::{IoSlice, IoSliceMut};
+use foyer_policy::keeper::Piece;
+use foyer_standing::blocks::BlockState;
+use foyer_standing::manager::{
+    begin_to_wait, end_to_wait, filling_of, hand_out, invalidate_all, release,
+};
+use std::alloc::Allocator;
+use std::collections::VecDeque;
+
+/// The next block of a batch.
+#[derive(Drop)]
+pub enum Next<A: Allocator> {
+    /// None is clean.
+    NoBlock,
+    /// This one, with its writes.
+    Block(BlockId, Vec<Write<A>, A>),
+}
+
+/// What a write's result led to.
+#[derive(Clone, Copy, Debug, PartialEq, Eq)]
+pub enum Wrote {
+    /// The block has another write.
+    Next,
+    /// The block's records are in the index, so many.
+    Committed(usize),
+    /// The batch failed.
+    Failed,
+}
+
+/// What a batch gives back.
+#[derive(Drop)]
+pub struct Ended<K, V, P, A: Allocator> {
+    pub pieces: Vec<Piece<K, V, P, A>, A>,
+    pub waits: Vec<u64, A>,
+}
+
+// The records stand in this block, in this filling of it.
+fn settle<A: Allocator>(
+    records: &mut Vec<HashedEntryAddress, A>,
+    block: BlockId,
+    filling: u64,
+)
+    ensures { records.new.items ≡ map (settled block filling) records.old.items }
+{
+    for record in records.iter_mut() {
+        record.address.block = block;
+        record.address.filling = filling;
+    }
+}
+
+// The records of a block enter the index: gives how many, or None where it can't grow.
+fn commit<A: Allocator + Clone>(
+    mut records: Vec<HashedEntryAddress, A>,
+    block: BlockId,
+    filling: u64,
+    index: &mut Indexer<A>,
+) -> Option<usize>
+    ensures { MatchOption result (index.new ≡ index.old)
+        (λ n. (n ≡ vec_len records)
+        × (index.new ≡ inserted_all index.old (map (settled block filling) records.items))) }
+{
+    settle(&mut records, block, filling);
+    let count = records.len();
+    if index.insert_batch(records).is_ok() {
+        Some(count)
+    } else {
+        None
+    }
+}
+
+// The pages of a batch are filled again, unless it had none or somebody still has a part of them.
+fn keep_pages<A: Allocator>(spare: &mut Option<IoSliceMut<A>>, pages: IoSlice<A>) {
+    if let Some(pages) = pages.try_into_io_slice_mut() {
+        if pages.len() > 0 {
+            *spare = Some(pages);
+        }
+    }
+}
+
+impl<K, V, P, A: Allocator> Batch<K, V, P, A> {
+    // The flusher's own block, if the next block of the batch is that.
+    fn goes_on_with(&self, own: Option<BlockId>) -> Option<BlockId>
+        ensures { MatchOption result (self.now.continues_own_block ≡ true → own ≡ None)
+            (λ b. (self.now.continues_own_block ≡ true) × (own ≡ Some b)) }
+    {
+        if self.continues_own_block { own } else { None }
+    }
+
+    // The block that is being written.
+    fn take_writing(&mut self) -> Option<Writing<A>>
+        ensures taken { result ≡ self.old.writing }
+        ensures idle { self.new.writing ≡ None }
+        ensures rest { self.new ≡ record self.old { writing = None } }
+    {
+        self.writing.take()
+    }
+
+    // This block is being written.
+    fn put_writing(&mut self, writing: Writing<A>)
+        requires { self.old.writing ≡ None }
+        ensures put { self.new.writing ≡ Some writing }
+        ensures rest { self.new ≡ record self.old { writing = Some writing } }
+    {
+        match self.writing.replace(writing) {
+            None => {}
+            Some(_) => unreachable!(),
+        }
+    }
+
+    // What isn't issued yet will not be written.
+    fn drop_rest(&mut self)
+        ensures none { self.new.blocks.items ≡ [] }
+        ensures rest { self.new ≡ record self.old { blocks = self.new.blocks; continues_own_block = false } }
+    {
+        self.blocks.clear();
+        self.continues_own_block = false;
+    }
+}
+
+impl<K, V, P, A: Allocator + Clone> Flusher<K, V, P, A> {
+    /// Whether a batch may begin: none is there, and something was received since the one before.
+    pub fn may_begin(&self) -> bool
+        ensures { IsTrue result ↔ MayBegin self.now }
+    {
+        self.batch.is_none()
+            && (!self.filled.is_empty() || !self.marks.is_empty() || !self.waits.is_empty())
+    }
+
+    /// Whether the next block of the batch is to be issued.
+    pub fn has_block(&self) -> bool
+        ensures { IsTrue result ↔ HasBlock self.now }
+    {
+        match &self.batch {
+            Some(batch) => batch.writing.is_none() && !batch.blocks.is_empty(),
+            None => false,
+        }
+    }
+
+    /// Issues the batch's next block: the flusher's own, or for one that begins a block the one that has been clean
+    /// longest; the block before is evictable then. Nothing is copied. Memory where an allocation was refused; nothing
+    /// changes then, but that room may have been made.
+    pub fn next(
+        &mut self,
+        alloc: &A,
+        number: u32,
+        clean: &mut VecDeque<BlockId, A>,
+        blocks: &mut Vec<BlockState, A>,
+        waiting: &mut Vec<u32, A>,
+    ) -> Result<Next<A>>
+        requires { HasBlock self.old }
+        ensures refused { OnErr result (seen self.new ≡ seen self.old) }
+        ensures clean_kept { OnErr result (clean.new ≡ clean.old) }
+        ensures blocks_kept { OnErr result (blocks.new ≡ blocks.old) }
+        ensures waiting_kept { OnErr result (waiting.new.items ≡ waiting.old.items) }
+        ensures memory { IfErr result (λ e. e ≡ error.Memory) }
+        ensures done { IfOk result (λ next. (m : Meaning K V P) (s : Settings) (sound : AreValid s)
+            (it : State Content) (slots : IndexMap)
+            → StandsAt m s number it (seen self.old) slots blocks.old.items clean.old.items waiting.old.items
+            → FlusherStep m s sound (model_step.FlushBlock number) number it (issued_next next)
+            (seen self.new) slots blocks.new.items clean.new.items waiting.new.items) }
+    {
+        waiting.reserve(1)?;
+        let Some(batch) = &mut self.batch else {
+            unreachable!()
+        };
+        let (records, writes) = batch.prepare(alloc)?;
+        if let Some(block) = batch.goes_on_with(self.own) {
+            end_to_wait(waiting, number);
+            return Ok(Next::Block(block, batch.issue(block, records, writes)));
+        }
+        release(&mut self.own, blocks);
+        match hand_out(clean, blocks, number) {
+            None => {
+                begin_to_wait(waiting, number);
+                Ok(Next::NoBlock)
+            }
+            Some(block) => {
+                self.own = Some(block);
+                end_to_wait(waiting, number);
+                Ok(Next::Block(block, batch.issue(block, records, writes)))
+            }
+        }
+    }
+
+    /// Whether an issued write is to be reported.
+    pub fn is_writing(&self) -> bool
+        ensures { IsTrue result ↔ IsWriting self.now }
+    {
+        match &self.batch {
+            Some(batch) => batch.writing.is_some(),
+            None => false,
+        }
+    }
+
+    /// Takes the result of the next issued write. After the block's last one its records enter the index. After a fault,
+    /// or where the index can't grow, nothing of the batch's rest is written, and the block isn't written again in this
+    /// filling.
+    pub fn wrote(
+        &mut self,
+        is_done: bool,
+        index: &mut Indexer<A>,
+        blocks: &mut Vec<BlockState, A>,
+    ) -> Wrote
+        requires { IsWriting self.old }
+        ensures done { (m : Meaning K V P) (s : Settings) (sound : AreValid s) (f : ℕ) (it : State Content)
+            (ids waiters : List ℕ)
+            → StandsAt m s f it (seen self.old) index.old blocks.old.items ids waiters
+            → FlusherStep m s sound (model_step.FlushWrote f is_done) f it (issued_wrote result)
+            (seen self.new) index.new blocks.new.items ids waiters }
+    {
+        let Some(batch) = &mut self.batch else {
+            unreachable!()
+        };
+        let Some(writing) = batch.take_writing() else {
+            unreachable!()
+        };
+        if !is_done {
+            return self.fail(blocks);
+        }
+        let Writing {
+            block,
+            left,
+            records,
+        } = writing;
+        if left > 1 {
+            batch.put_writing(Writing {
+                block,
+                left: left - 1,
+                records,
+            });
+            return Wrote::Next;
+        }
+        match commit(records, block, filling_of(blocks, block), index) {
+            Some(count) => Wrote::Committed(count),
+            None => self.fail(blocks),
+        }
+    }
+
+    // Nothing of the batch's rest is written, the block isn't written again in this filling, and the splitter is fresh.
+    fn fail(&mut self, blocks: &mut Vec<BlockState, A>) -> Wrote
+        requires { IsSomeAnd self.old.batch (λ batch. batch.writing ≡ None) }
+        ensures failed { result ≡ wrote.Failed }
+        ensures left { (m : Meaning K V P) (s : Settings) (sound : AreValid s) (it : model_state.Flusher Content)
+            (batch : model_state.Batch Content)
+            → IsFlusherAs m s (seen self.old) it → it.batch ≡ Some batch
+            → IsFlusherAs m s (seen self.new) (failed_batch m s sound it batch) }
+        ensures released { (s : Settings) (places : ℕ → model_state.BlockSet) (fillings : ℕ → ℕ)
+            (stats : ℕ → model_state.Stats)
+            → AreBlocksAs s blocks.old.items places fillings stats
+            → AreBlocksAs s blocks.new.items (released self.old.own places) fillings stats }
+    {
+        let Some(batch) = &mut self.batch else {
+            unreachable!()
+        };
+        batch.drop_rest();
+        release(&mut self.own, blocks);
+        self.context.reset();
+        Wrote::Failed
+    }
+
+    /// Whether the batch has nothing left to write.
+    pub fn is_written(&self) -> bool
+        ensures { IsTrue result ↔ IsWritten self.now }
+    {
+        match &self.batch {
+            Some(batch) => batch.writing.is_none() && batch.blocks.is_empty(),
+            None => false,
+        }
+    }
+
+    /// Ends the batch: its marks leave the index, and what it has is given back. Its pages are kept, to be filled again,
+    /// unless somebody still has a part of them. It doesn't allocate.
+    pub fn end(
+        &mut self,
+        index: &mut Indexer<A>,
+        blocks: &mut Vec<BlockState, A>,
+    ) -> Ended<K, V, P, A>
+        requires { IsWritten self.old }
+        ensures ended { self.new.batch ≡ None }
+        ensures done { (m : Meaning K V P) (s : Settings) (sound : AreValid s) (f : ℕ) (it : State Content)
+            (ids waiters : List ℕ)
+            → StandsAt m s f it (seen self.old) index.old blocks.old.items ids waiters
+            → HasEnded m s sound f it result.pieces.items result.waits.items
+            (seen self.new) index.new blocks.new.items ids waiters }
+    {
+        let Some(batch) = self.batch.take() else {
+            unreachable!()
+        };
+        let Batch {
+            blocks: _,
+            pages,
+            continues_own_block: _,
+            writing: _,
+            marks,
+            invalid,
+            pieces,
+            waits,
+        } = batch;
+        index.remove_marks(marks.as_slice());
+        invalidate_all(blocks, invalid.as_slice());
+        keep_pages(&mut self.spare, pages);
+        Ended { pieces, waits }
+    }
+}

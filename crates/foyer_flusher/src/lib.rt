@@ -1,0 +1,12 @@
+//! A flusher: what waits in its queue, the records that it received since its batch before, and the batch that it
+//! writes block by block.
+#![tactic(auto)]
+
+pub mod batch;
+pub mod begin;
+pub mod filled;
+pub mod flusher;
+pub mod issuing;
+pub mod laws;
+pub mod receive;
+pub mod state;
