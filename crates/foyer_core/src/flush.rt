@@ -1,5 +1,7 @@
 //! The steps of a flush.
-ghost use Rattle.std.specs.Prelude.{Option};
+ghost use Rattle.std.specs.Prelude.{◌≡◌, ◌*◌, ◌<◌, ◌≤◌, ◌↔◌, IsTrue, Option, false, length, slice_index_or};
+ghost use Rattle.foyer_buffer.specs.Entries.{left_of};
+ghost use Rattle.foyer_flusher.specs.declared.flusher.Flusher.{Flusher};
 ghost use Rattle.foyer_format.specs.declared.serde.ages.Age.{Age as age};
 ghost use Rattle.foyer_core.specs.Answered.{HandsBack, DescribesNothing};
 ghost use Rattle.foyer_rules.specs.Content.{Meaning, meaning};
@@ -14,6 +16,23 @@ use crate::step::Step;
 use foyer_device::error::{ErrorKind, Result};
 use foyer_format::serde::Code;
 use std::alloc::Allocator;
+
+impl<K, V, P, A: Allocator> Core<K, V, P, A> {
+    /// Whether less than half of a flusher's buffer is left. Whoever drives the core begins a flush then, so that no
+    /// piece whose record takes at most half of a buffer is handed back for want of room. A flusher that isn't there
+    /// wants none.
+    pub fn wants_flush(&self, flusher: u32) -> bool
+        ensures there { (found : Flusher K V P A) → flusher < length self.now.flushers.items
+            → found ≡ slice_index_or self.now.flushers.items flusher found
+            → IsTrue result ↔ (2 * left_of found.filled < found.filled.room) }
+        ensures beyond { length self.now.flushers.items ≤ flusher → result ≡ false }
+    {
+        if flusher as usize >= self.flushers.len() {
+            return false;
+        }
+        self.flushers[flusher as usize].wants_flush()
+    }
+}
 
 impl<K, V, P, A: Allocator + Clone> Core<K, V, P, A> {
     pub(crate) fn receive(&mut self, flusher: u32) -> Reply<K, V, P, A>

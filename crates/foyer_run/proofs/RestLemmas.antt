@@ -1,5 +1,5 @@
 -- What leads a core to rest: the steps of a flush, one after the other.
-use Rattle.std.proofs.Common.{◌≡◌, ◌≢◌, ℕ, ◌+◌, ◌<◌, Bool, true, List, [], ◌∷◌, Option, inl, inr, refl, sym, ap, subst, ◌∙◌, arith}
+use Rattle.std.proofs.Common.{◌≡◌, ◌≢◌, ℕ, ◌+◌, ◌<◌, Bool, true, false, List, [], ◌∷◌, Option, inl, inr, refl, sym, ap, subst, ◌∙◌, arith}
 use Rattle.std.proofs.lemmas.Bool.{cases_lt}
 use Rattle.foyer_model.specs.Destroy.{IsIdle}
 use Rattle.foyer_model.specs.Follows.{Follows}
@@ -23,7 +23,7 @@ use Rattle.foyer_core.specs.declared.step.Step.{Step}
 use Rattle.foyer_core.specs.declared.step.Step.TheVariants as step
 use Rattle.foyer_core.proofs.RefinesLemmas.{IsOrdinary}
 use Rattle.foyer_run.specs.Accesses.{Writes}
-use Rattle.foyer_run.specs.AtRest.{BeginsNone, ComesToRest, EndsBatch, EndsBatchOnce, KeepsOthers, Leads, LeavesAllIdle, LeavesIdle, LeavesIdleBelow, MayNotBegin, TakesQueue}
+use Rattle.foyer_run.specs.AtRest.{BeginsNone, ComesToRest, EndsBatch, EndsBatchOnce, KeepsOthers, Leads, LeavesAllIdle, LeavesIdle, LeavesIdleBelow, MayNotBegin, TakesQueue, TakesQueueIf}
 use Rattle.foyer_run.specs.Waiting.{Waits}
 use Rattle.foyer_run.proofs.FlusherSteps.{IsOf, all_keep, begins_none_more, finishes_ends, follows_keep, keeps_more, keeps_same, receives_none, takes_empty}
 use Rattle.foyer_run.proofs.IdleLemmas.{idle_in_each}
@@ -235,13 +235,23 @@ module _ {K V P A : Type 0} (m : Meaning K V P) (f : ℕ) (a b c : Core K V P A)
   pub idle_more : (next : ℕ) → next ≡ f + 1 → Leads m (LeavesIdleBelow f) a b → Leads m (LeavesIdle f) b c → Leads m (LeavesIdleBelow next) a c
   idle_more next is led idle = leads_more m (LeavesIdleBelow f) (LeavesIdle f) (LeavesIdleBelow next) a b c (below_then f next is) led idle
 
+-- the same, where it is said whether the queue is taken up to its end
+pub takes_all : {K V P A : Type 0} (m : Meaning K V P) (f : ℕ) (a b : Core K V P A) → Leads m (TakesQueue f) a b → Leads m (TakesQueueIf true f) a b
+takes_all m f a b led = λ s sound it at. let l = led s sound it at in (l.0, l.1, (l.2.0, λ is. l.2.1))
+
+pub takes_some : {K V P A : Type 0} (m : Meaning K V P) (f : ℕ) (a b : Core K V P A) → Leads m (BeginsNone f) a b → Leads m (TakesQueueIf false f) a b
+takes_some m f a b led = λ s sound it at. let l = led s sound it at in (l.0, l.1, (l.2, λ is. absurd (let e : false ≡ true = is in cc)))
+
+took_all : {K V P A : Type 0} (m : Meaning K V P) (f : ℕ) (is_empty : Bool) (a b : Core K V P A) → is_empty ≡ true → Leads m (TakesQueueIf is_empty f) a b → Leads m (TakesQueue f) a b
+took_all m f is_empty a b empty led = λ s sound it at. let l = led s sound it at in (l.0, l.1, (l.2.0, l.2.1 empty))
+
 -- a turn of a flush, up to its batch: from what the turns before did, the queue is taken, and a batch begins or may not
-module _ {K V P A : Type 0} (m : Meaning K V P) (f : ℕ) (has_ended : Bool) (begun : Reply K V P A) (a b c d : Core K V P A) (led : Leads m (EndsBatchOnce has_ended f) a b)
-    (taken : Leads m (TakesQueue f) b c) (begins : Refines m (step.FlushBegin f) begun c d) where
-  pub flush_over : has_ended ≡ true → SaysNothing begun → Leads m (LeavesIdle f) a d
-  flush_over ended nothing =
+module _ {K V P A : Type 0} (m : Meaning K V P) (f : ℕ) (has_ended is_empty : Bool) (begun : Reply K V P A) (a b c d : Core K V P A) (led : Leads m (EndsBatchOnce has_ended f) a b)
+    (taken : Leads m (TakesQueueIf is_empty f) b c) (begins : Refines m (step.FlushBegin f) begun c d) where
+  pub flush_over : has_ended ≡ true → is_empty ≡ true → SaysNothing begun → Leads m (LeavesIdle f) a d
+  flush_over ended empty nothing =
       leads_more m (λ x y. EndsBatchOnce has_ended f x y × ((y.flushers f).queue ≡ [])) (MayNotBegin f) (LeavesIdle f) a c d (idle_then has_ended ended f)
-      (leads_more m (EndsBatchOnce has_ended f) (TakesQueue f) (λ x y. EndsBatchOnce has_ended f x y × ((y.flushers f).queue ≡ [])) a b c (once_then has_ended f) led taken)
+      (leads_more m (EndsBatchOnce has_ended f) (TakesQueue f) (λ x y. EndsBatchOnce has_ended f x y × ((y.flushers f).queue ≡ [])) a b c (once_then has_ended f) led (took_all m f is_empty b c empty taken))
       (begin_not m f begun c d nothing begins)
 
   -- and on to its end
@@ -250,6 +260,6 @@ module _ {K V P A : Type 0} (m : Meaning K V P) (f : ℕ) (has_ended : Bool) (be
       leads_more m (KeepsOthers f) (EndsBatch f) (EndsBatchOnce true f) a e g (ended_then f)
       (leads_more m (KeepsOthers f) (KeepsOthers f) (KeepsOthers f) a d e (keeps_more f)
       (leads_more m (KeepsOthers f) (KeepsOthers f) (KeepsOthers f) a c d (keeps_more f)
-      (leads_more m (EndsBatchOnce has_ended f) (TakesQueue f) (KeepsOthers f) a b c (λ x y z one two. keeps_more f x y z one.0 (two.0).0) led taken)
+      (leads_more m (EndsBatchOnce has_ended f) (TakesQueueIf is_empty f) (KeepsOthers f) a b c (λ x y z one two. keeps_more f x y z one.0 (two.0).0) led taken)
       (begin_keeps m f begun c d begins)) written)
       (end_leads m f ended e g not ends)

@@ -38,6 +38,10 @@ BeginsNone f old new = KeepsOthers f old new × ((old.flushers f).batch ≡ None
 abbrev pub TakesQueue : {C : Type 0} → ℕ → State C → State C → Type 0
 TakesQueue f old new = BeginsNone f old new × ((new.flushers f).queue ≡ [])
 
+-- this flusher's queue is taken, up to its end where this is true
+abbrev pub TakesQueueIf : {C : Type 0} → Bool → ℕ → State C → State C → Type 0
+TakesQueueIf is_empty f old new = BeginsNone f old new × (is_empty ≡ true → (new.flushers f).queue ≡ [])
+
 -- nothing changes, and this flusher has a batch or has received nothing
 abbrev pub MayNotBegin : {C : Type 0} → ℕ → State C → State C → Type 0
 MayNotBegin f old new = (new ≡ old) × ((old.flushers f).batch ≡ None → HasReceived (old.flushers f) → ⊥)

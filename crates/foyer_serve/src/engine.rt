@@ -2,7 +2,7 @@
 ghost use Rattle.std.specs.Prelude.{◌≡◌, ◌⊎◌, ◌≤◌, ◌*◌, ◌^◌, [], None, IfOk, IfErr, string_bytes};
 ghost use Rattle.foyer_device.specs.declared.error.Error.TheVariants.{Config, Memory, OutOfRange};
 ghost use Rattle.foyer_rules.specs.Sizes.{AreValid};
-ghost use Rattle.foyer_run.specs.AtRest.{ComesToRest, KeepsOthers, Leads, LeavesAllIdle, LeavesIdle, TakesQueue};
+ghost use Rattle.foyer_run.specs.AtRest.{ComesToRest, KeepsOthers, Leads, LeavesAllIdle, LeavesIdle, TakesQueueIf};
 ghost use Rattle.foyer_run.specs.Driven.{Drives};
 ghost use Rattle.foyer_run.specs.Newest.{IsHistory};
 ghost use Rattle.foyer_run.specs.Waiting.{Closes, Waits};
@@ -246,7 +246,8 @@ impl<A: Allocator + Clone> Engine<A> {
     }
 
     // Flushes until nothing is queued or received at a flusher where a wait is queued, so that a batch is under way in
-    // each turn but the last. One that isn't ended by then has a write that was never reported.
+    // each turn but the last: a burst is written in several batches. One that isn't ended by then has a write that was
+    // never reported.
     fn flush(&mut self, flusher: u32) -> std::result::Result<(), ErrorKind>
         ensures leads { IfOk result (λ _. Leads plain (LeavesIdle flusher) self.old.core self.new.core) }
         ensures waited { Waits plain self.old.core self.new.core
@@ -254,10 +255,10 @@ impl<A: Allocator + Clone> Engine<A> {
     {
         let mut has_ended = false;
         for _ in 0..u64::MAX {
-            self.receive_all(flusher)?;
+            let is_empty = self.receive_all(flusher)?;
             let begin = step(&mut self.core, &mut self.env, Step::FlushBegin { flusher });
             let has_begun = answer_step(begin)?;
-            if has_ended && !has_begun {
+            if has_ended && is_empty && !has_begun {
                 return Ok(());
             }
             self.write_all(flusher)?;
@@ -270,16 +271,20 @@ impl<A: Allocator + Clone> Engine<A> {
         Err(ErrorKind::SequenceEnd)
     }
 
-    // Takes all that is queued. A piece that is handed back doesn't fit, and is dropped.
-    fn receive_all(&mut self, flusher: u32) -> std::result::Result<(), ErrorKind>
-        ensures leads { IfOk result (λ _. Leads plain (TakesQueue flusher) self.old.core self.new.core) }
+    // Takes what is queued until less than half of the buffer is left: true where nothing is queued any more. A piece
+    // that is handed back takes more than half of the buffer, or doesn't fit a block, and is dropped.
+    fn receive_all(&mut self, flusher: u32) -> std::result::Result<bool, ErrorKind>
+        ensures leads { IfOk result (λ is_empty. Leads plain (TakesQueueIf is_empty flusher) self.old.core self.new.core) }
         ensures waited { Waits plain self.old.core self.new.core
             (⟦<MemoryDisk<A> as Disk>⟧.byte_at self.old.disk) (⟦<MemoryDisk<A> as Disk>⟧.byte_at self.new.disk) }
     {
         for _ in 0..u64::MAX {
             let received = step(&mut self.core, &mut self.env, Step::Receive { flusher });
             if !answer_step(received)? {
-                return Ok(());
+                return Ok(true);
+            }
+            if self.core.wants_flush(flusher) {
+                return Ok(false);
             }
         }
         Err(ErrorKind::SequenceEnd)

@@ -13,9 +13,9 @@ loop-init g c = (
   leads_none plain (EndsBatchOnce false c.args.flusher) c.args.self.now.core (λ it. (λ g ne. refl, λ ended. absurd (let e : false ≡ true = ended in cc))),
 )
 
-pub returns-in_err-receive_all-clause-waited : goal.returns-in_err-receive_all-clause-waited
-returns-in_err-receive_all-clause-waited g c =
-    waits_more plain c.args.self.now.core c.loop.self.core c.receive_all.new.self.core (bytes_of c.args.self.now.disk) (bytes_of c.loop.self.disk) (bytes_of c.receive_all.new.self.disk) c.loop.invariant.0 (c.in_err-receive_all.ensures.waited)
+pub returns-in_err-is_empty-clause-waited : goal.returns-in_err-is_empty-clause-waited
+returns-in_err-is_empty-clause-waited g c =
+    waits_more plain c.args.self.now.core c.loop.self.core c.receive_all.new.self.core (bytes_of c.args.self.now.disk) (bytes_of c.loop.self.disk) (bytes_of c.receive_all.new.self.disk) c.loop.invariant.0 (c.in_err-is_empty.ensures.waited)
 
 pub returns-in_err-has_begun-clause-waited : goal.returns-in_err-has_begun-clause-waited
 returns-in_err-has_begun-clause-waited g c =
@@ -29,8 +29,8 @@ returns-then-not-has_begun-clause-waited g c =
 
 pub returns-then-not-has_begun-clause-leads : goal.returns-then-not-has_begun-clause-leads
 returns-then-not-has_begun-clause-leads g c =
-    flush_over plain c.args.flusher c.loop.has_ended c.step-begin.result c.args.self.now.core c.loop.self.core c.receive_all.new.self.core c.step-begin.new.core
-    c.loop.invariant.1 c.in_ok-receive_all.ensures.leads (c.step-begin.ensures.meets tt) c.if-has_ended.true
+    flush_over plain c.args.flusher c.loop.has_ended c.in_ok-is_empty.is_empty c.step-begin.result c.args.self.now.core c.loop.self.core c.receive_all.new.self.core c.step-begin.new.core
+    c.loop.invariant.1 c.in_ok-is_empty.ensures.leads (c.step-begin.ensures.meets tt) c.if-has_ended.true c.if-is_empty.true
     (done_nothing c.step-begin.result c.in_ok-has_begun.has_begun (sym c.answer_step.ensures ∙ c.in_ok-has_begun.was) c.if-not-has_begun.true)
 
 pub returns-in_err-write_all-clause-waited : goal.returns-in_err-write_all-clause-waited
@@ -59,8 +59,8 @@ loop-preserved g c =
     let begun = waits_more plain c.args.self.now.core c.receive_all.new.self.core c.step-begin.new.core (bytes_of c.args.self.now.disk) (bytes_of c.receive_all.new.self.disk) (bytes_of c.receive_all.new.self.disk) received (waits_said plain (move.FlushBegin c.args.flusher) c.step-begin.result c.receive_all.new.self.core c.step-begin.new.core (bytes_of c.receive_all.new.self.disk) tt (c.step-begin.ensures.runs (move.FlushBegin c.args.flusher) refl (bytes_of c.receive_all.new.self.disk))) in
     let written = waits_more plain c.args.self.now.core c.step-begin.new.core c.write_all.new.self.core (bytes_of c.args.self.now.disk) (bytes_of c.receive_all.new.self.disk) (bytes_of c.write_all.new.self.disk) begun (c.write_all.ensures.waited) in (
       waits_more plain c.args.self.now.core c.write_all.new.self.core c.step-end.new.core (bytes_of c.args.self.now.disk) (bytes_of c.write_all.new.self.disk) (bytes_of c.write_all.new.self.disk) written (waits_said plain (move.FlushEnd c.args.flusher) c.step-end.result c.write_all.new.self.core c.step-end.new.core (bytes_of c.write_all.new.self.disk) tt (c.step-end.ensures.runs (move.FlushEnd c.args.flusher) refl (bytes_of c.write_all.new.self.disk))),
-      flush_more plain c.args.flusher c.loop.has_ended c.step-begin.result c.args.self.now.core c.loop.self.core c.receive_all.new.self.core c.step-begin.new.core
-          c.loop.invariant.1 c.in_ok-receive_all.ensures.leads (c.step-begin.ensures.meets tt) c.step-end.result c.write_all.new.self.core c.step-end.new.core
+      flush_more plain c.args.flusher c.loop.has_ended c.in_ok-is_empty.is_empty c.step-begin.result c.args.self.now.core c.loop.self.core c.receive_all.new.self.core c.step-begin.new.core
+          c.loop.invariant.1 c.in_ok-is_empty.ensures.leads (c.step-begin.ensures.meets tt) c.step-end.result c.write_all.new.self.core c.step-end.new.core
           (done_something c.step-end.result c.in_ok-answer_step.field-0 (sym c.answer_step-in-loop.ensures ∙ c.in_ok-answer_step.was) c.if-not-branch.false)
           c.in_ok-write_all.ensures.leads (c.step-end.ensures.meets tt),
     )

@@ -2,7 +2,7 @@ use Rattle.std.proofs.Common.{refl, sym, ◌∙◌}
 use Rattle.foyer_run.specs.AtRest.{BeginsNone}
 use Rattle.foyer_run.specs.declared.moves.Move.TheVariants as move
 use Rattle.foyer_run.proofs.FlusherSteps.{begins_none_same}
-use Rattle.foyer_run.proofs.RestLemmas.{leads_none, receive_more, receive_over}
+use Rattle.foyer_run.proofs.RestLemmas.{leads_none, receive_more, receive_over, takes_all, takes_some}
 use Rattle.foyer_run.proofs.WaitingLemmas.{waits_more, waits_none, waits_said}
 use Rattle.foyer_serve.specs.Texts.{plain}
 use Rattle.foyer_serve.proofs.EngineLemmas.{bytes_of, done_nothing}
@@ -19,9 +19,18 @@ returns-in_err-answer_step-clause-waited g c = waits_more plain c.args.self.now.
 
 pub returns-then-not-branch-clause-leads : goal.returns-then-not-branch-clause-leads
 returns-then-not-branch-clause-leads g c =
-    receive_over plain c.args.flusher c.args.self.now.core c.loop.self.core c.step-received.new.core c.step-received.result
+    takes_all plain c.args.flusher c.args.self.now.core c.step-received.new.core
+    (receive_over plain c.args.flusher c.args.self.now.core c.loop.self.core c.step-received.new.core c.step-received.result
     (done_nothing c.step-received.result c.in_ok-answer_step.field-0 (sym c.answer_step.ensures ∙ c.in_ok-answer_step.was) c.if-not-branch.true)
-    c.loop.invariant.1 (c.step-received.ensures.meets tt)
+    c.loop.invariant.1 (c.step-received.ensures.meets tt))
+
+pub returns-then-wants_flush-clause-leads : goal.returns-then-wants_flush-clause-leads
+returns-then-wants_flush-clause-leads g c =
+    takes_some plain c.args.flusher c.args.self.now.core c.step-received.new.core
+    (receive_more plain c.args.flusher c.args.self.now.core c.loop.self.core c.step-received.new.core c.step-received.result c.loop.invariant.1 (c.step-received.ensures.meets tt))
+
+pub returns-then-wants_flush-clause-waited : goal.returns-then-wants_flush-clause-waited
+returns-then-wants_flush-clause-waited g c = waits_more plain c.args.self.now.core c.loop.self.core c.step-received.new.core (bytes_of c.args.self.now.disk) (bytes_of c.loop.self.disk) (bytes_of c.loop.self.disk) c.loop.invariant.0 (waits_said plain (move.Receive c.args.flusher) c.step-received.result c.loop.self.core c.step-received.new.core (bytes_of c.loop.self.disk) tt (c.step-received.ensures.runs (move.Receive c.args.flusher) refl (bytes_of c.loop.self.disk)))
 
 pub returns-then-not-branch-clause-waited : goal.returns-then-not-branch-clause-waited
 returns-then-not-branch-clause-waited g c = waits_more plain c.args.self.now.core c.loop.self.core c.step-received.new.core (bytes_of c.args.self.now.disk) (bytes_of c.loop.self.disk) (bytes_of c.loop.self.disk) c.loop.invariant.0 (waits_said plain (move.Receive c.args.flusher) c.step-received.result c.loop.self.core c.step-received.new.core (bytes_of c.loop.self.disk) tt (c.step-received.ensures.runs (move.Receive c.args.flusher) refl (bytes_of c.loop.self.disk)))
