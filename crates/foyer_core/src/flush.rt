@@ -8,12 +8,12 @@ ghost use Rattle.foyer_rules.specs.Content.{Meaning, meaning};
 ghost use Rattle.foyer_core.specs.Refines.{RefinesUncounted};
 ghost use Rattle.foyer_core.specs.declared.step.Step.TheVariants as step;
 
-use foyer_flusher::batch::{Ended, Next, Wrote};
-use foyer_flusher::receive::Taken;
 use crate::reply::Reply;
 use crate::state::Core;
 use crate::step::Step;
 use foyer_device::error::{ErrorKind, Result};
+use foyer_flusher::batch::{Ended, Next, Wrote};
+use foyer_flusher::receive::Taken;
 use foyer_format::serde::Code;
 use std::alloc::Allocator;
 

@@ -6,12 +6,12 @@ ghost use Rattle.foyer_flusher.specs.Idle.{idle};
 ghost use Rattle.foyer_rules.specs.Sizes.{AreValid};
 ghost use Rattle.foyer_flusher.specs.Seen.{seen};
 
-use foyer_flusher::flusher::Flusher;
 use crate::settings::Settings;
 use crate::state::Core;
 use foyer_block::indexer::Indexer;
 use foyer_block::manager::BlockId;
 use foyer_device::error::Result;
+use foyer_flusher::flusher::Flusher;
 use foyer_standing::blocks::{BlockSet, BlockState};
 use std::alloc::Allocator;
 use std::collections::VecDeque;

@@ -10,13 +10,13 @@ ghost use Rattle.foyer_core.specs.declared.step.Step.TheVariants as step;
 ghost use Rattle.foyer_format.specs.Page.{page_up};
 ghost use Rattle.foyer_format.specs.declared.serde.ages.Age.TheVariants as age;
 
-use foyer_flusher::flusher::{Submission, TombstoneInfo};
 use crate::reply::Reply;
 use crate::state::Core;
 use crate::step::Step;
 use foyer_block::indexer::EntryAddress;
 use foyer_block::tombstone::Tombstone;
 use foyer_device::error::ErrorKind;
+use foyer_flusher::flusher::{Submission, TombstoneInfo};
 use foyer_format::block::buffer::PAGE;
 use foyer_format::serde::{Age, Properties};
 use foyer_policy::keeper::Piece;

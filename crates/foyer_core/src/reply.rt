@@ -3,12 +3,11 @@ use crate::step::{Step, Ticket};
 use foyer_block::manager::BlockId;
 use foyer_block::tombstone::Tombstone;
 use foyer_device::error::ErrorKind;
+pub use foyer_flusher::flusher::{Write, WriteBytes};
 use foyer_format::block::serde::Sequence;
 use foyer_format::serde::Age;
 use foyer_policy::keeper::Piece;
 use std::alloc::Allocator;
-
-pub use foyer_flusher::flusher::{Write, WriteBytes};
 
 /// The answer to a step.
 #[derive(Drop)]

@@ -1,10 +1,10 @@
 //! The state of the core.
 ghost use Rattle.std.specs.Prelude.{◌≡◌, ◌<◌, vec_len};
 
-use foyer_flusher::flusher::Flusher;
 use crate::settings::Settings;
 use foyer_block::indexer::Indexer;
 use foyer_block::manager::BlockId;
+use foyer_flusher::flusher::Flusher;
 use foyer_standing::blocks::BlockState;
 use std::alloc::Allocator;
 use std::collections::VecDeque;

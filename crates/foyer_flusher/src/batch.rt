@@ -59,11 +59,7 @@ pub struct Ended<K, V, P, A: Allocator> {
 }
 
 // The records stand in this block, in this filling of it.
-fn settle<A: Allocator>(
-    records: &mut Vec<HashedEntryAddress, A>,
-    block: BlockId,
-    filling: u64,
-)
+fn settle<A: Allocator>(records: &mut Vec<HashedEntryAddress, A>, block: BlockId, filling: u64)
     ensures { records.new.items ≡ map (settled block filling) records.old.items }
 {
     for record in records.iter_mut() {

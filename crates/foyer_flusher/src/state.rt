@@ -27,7 +27,11 @@ impl<K, V, P, A: Allocator> Flusher<K, V, P, A> {
         let marks = Vec::new(alloc.clone()?);
         let invalid = Vec::new(alloc.clone()?);
         let waits = Vec::new(alloc.clone()?);
-        let context = SplitCtx::new(alloc.clone()?, settings.block_size, settings.blob_index_size)?;
+        let context = SplitCtx::new(
+            alloc.clone()?,
+            settings.block_size,
+            settings.blob_index_size,
+        )?;
         let pieces = Vec::new(alloc.clone()?);
         Ok(Flusher {
             queue: VecDeque::new(queue_alloc),
