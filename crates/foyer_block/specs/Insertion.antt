@@ -1,5 +1,6 @@
 -- Insertion: of what is inserted for a hash the greatest sequence stays, the later among equals.
-use Rattle.std.specs.Prelude.{ℕ, nat_le, if◌then◌else◌, Option, Some, None, List, [], ◌∷◌, ◌++◌}
+use Rattle.std.specs.Prelude.{ℕ, nat_le, if◌then◌else◌, Option, Some, None, List, [], ◌∷◌, ◌++◌, IsSome}
+use Rattle.std.specs.List.{All}
 use Rattle.std.specs.FinMap as map
 use Rattle.foyer_block.specs.declared.indexer.EntryAddress.{EntryAddress}
 use Rattle.foyer_block.specs.declared.indexer.HashedEntryAddress.{HashedEntryAddress}
@@ -38,3 +39,7 @@ all_left_out m [] = []
 all_left_out m (e ∷ es) =
     hashed e.hash (displaced (map.get m e.hash) (Address e.address))
     ++ all_left_out (inserted m e.hash (Address e.address)) es
+
+-- each hash of a batch has something in the index, so that its insertion overwrites
+abbrev pub AllHeld : IndexMap → List HashedEntryAddress → Type 0
+AllHeld m es = All (λ e. IsSome (map.get m e.hash)) es

@@ -3,7 +3,7 @@ ghost use Rattle.std.specs.Prelude.{◌≡◌, ◌<◌, ◌↔◌, ℕ, List, Ma
 ghost use Rattle.std.specs.Prelude.{IfOk, OnOk, OnErr, IsOk, IsSome, IsOkUnless};
 ghost use Rattle.std.specs.Bool.{OnTrue, OnFalse};
 ghost use Rattle.std.specs.FinMap as map;
-ghost use Rattle.foyer_block.specs.Insertion.{displaced, inserted, inserted_all, all_left_out};
+ghost use Rattle.foyer_block.specs.Insertion.{displaced, inserted, inserted_all, all_left_out, AllHeld};
 ghost use Rattle.foyer_block.specs.Removal.{without_addresses, without_marks};
 ghost use Rattle.foyer_block.specs.Index.{address_at};
 ghost use Rattle.foyer_block.specs.Greatest.{IsAbsent, HoldsNewest};
@@ -112,7 +112,7 @@ impl<A: Allocator + Clone> Indexer<A> {
     }
 
     /// Inserts addresses in order, and answers those that don't stay, in that order and in the
-    /// batch's memory. Memory is the only refusal.
+    /// batch's memory. Memory is the only refusal, and comes only where a hash of the batch has nothing yet.
     pub fn insert_batch(
         &mut self,
         batch: Vec<HashedEntryAddress, A>,
@@ -122,10 +122,15 @@ impl<A: Allocator + Clone> Indexer<A> {
             (λ answers. answers.items ≡ all_left_out self.old batch.items) }
         ensures err { OnErr result (self.new ≡ self.old) }
         ensures refused { IsOkUnless result Error.Memory }
+        ensures overwrites { AllHeld self.old batch.items → IsOk result }
     {
         let mut batch = batch;
         shards::count(&mut self.counts, &batch);
-        shards::reserve(&mut self.shards, &self.counts)?;
+        if let Err(refused) = shards::reserve(&mut self.shards, &self.counts) {
+            if !shards::holds_all(&self.shards, &batch) {
+                return Err(refused);
+            }
+        }
         let answers = shards::enter_all(&mut self.shards, &mut batch);
         batch.truncate(answers);
         Ok(batch)

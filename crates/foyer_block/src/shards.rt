@@ -1,5 +1,5 @@
 //! The shards of the index: a hash lies in the shard of its number modulo the count of shards.
-ghost use Rattle.std.specs.Prelude.{◌≡◌, ◌<◌, ◌≤◌, ◌+◌, ◌%◌, ◌↔◌, length, take, slice_index};
+ghost use Rattle.std.specs.Prelude.{◌≡◌, ◌<◌, ◌≤◌, ◌+◌, ◌%◌, ◌↔◌, ◌⊎◌, length, take, slice_index};
 ghost use Rattle.std.specs.Prelude.{EachIndex, IfOk, OnOk, OnErr, IsOk, IsSome, IsOkUnless, IsTrue};
 ghost use Rattle.std.specs.Bool.{OnTrue, OnFalse};
 ghost use Rattle.std.specs.Option.{option_copied};
@@ -7,7 +7,7 @@ ghost use Rattle.std.specs.FinMap as map;
 ghost use Rattle.std.specs.HashMap.{spare};
 ghost use Rattle.foyer_block.specs.Index.{sequence_of, address_of};
 ghost use Rattle.foyer_block.specs.Insertion.{entered, displaced, inserted};
-ghost use Rattle.foyer_block.specs.Insertion.{inserted_all, all_left_out};
+ghost use Rattle.foyer_block.specs.Insertion.{inserted_all, all_left_out, AllHeld};
 ghost use Rattle.foyer_block.specs.Removal.{without_addresses, without_marks};
 ghost use Rattle.foyer_block.specs.Shards.{held_at, map_of, ChangesAt, HoldsSame};
 ghost use Rattle.foyer_block.specs.Shards.{belonging, room, HasRoom, TakesOnePlace};
@@ -247,13 +247,28 @@ pub(crate) fn reserve<A: Allocator + Clone>(
     Ok(())
 }
 
-// Inserts a batch in order. The addresses that don't stay are moved to its front, and counted.
+// Whether each hash of a batch has something.
+pub(crate) fn holds_all<A: Allocator>(shards: &[Shard<A>], batch: &[HashedEntryAddress]) -> bool
+    requires { 0 < length shards.now }
+    ensures { IsTrue result ↔ AllHeld (map_of shards.now) batch.now }
+{
+    for entry in batch {
+        if find(shards, entry.hash).is_none() {
+            return false;
+        }
+    }
+    true
+}
+
+// Inserts a batch in order, where each shard has room for it or no hash of it is new. The addresses that don't stay are
+// moved to its front, and counted.
 pub(crate) fn enter_all<A: Allocator + Clone>(
     shards: &mut Vec<Shard<A>, A>,
     batch: &mut [HashedEntryAddress],
 ) -> usize
     requires some { 0 < length shards.old.items }
-    requires room { HasRoom (length shards.old.items) shards.old.items batch.old }
+    requires room { HasRoom (length shards.old.items) shards.old.items batch.old
+        ⊎ AllHeld (map_of shards.old.items) batch.old }
     ensures inserted { map_of shards.new.items ≡ inserted_all (map_of shards.old.items) batch.old }
     ensures answers { take result batch.new ≡ all_left_out (map_of shards.old.items) batch.old }
     ensures len { length shards.new.items ≡ length shards.old.items }
