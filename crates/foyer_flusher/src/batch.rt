@@ -1,8 +1,8 @@
 //! A flusher's batch: block by block onto the disk, and into the index.
-ghost use Rattle.std.specs.Prelude.{◌≡◌, ◌≢◌, ◌↔◌, ◌<◌, ℕ, List, [], map, Option, None, Some, IsSomeAnd, IsTrue, true, false};
+ghost use Rattle.std.specs.Prelude.{◌≡◌, ◌≢◌, ◌↔◌, ◌<◌, ℕ, List, [], map, Option, None, Some, IsSome, IsSomeAnd, IsTrue, true, false};
 ghost use Rattle.std.specs.Prelude.{IfErr, IfOk, OnErr, MatchOption, vec_len};
 ghost use Rattle.foyer_block.specs.Index.{IndexMap};
-ghost use Rattle.foyer_block.specs.Insertion.{inserted_all};
+ghost use Rattle.foyer_block.specs.Insertion.{inserted_all, AllHeld};
 ghost use Rattle.foyer_device.specs.declared.error.Error.{Error as error};
 ghost use Rattle.foyer_model.specs.Flush.{released};
 ghost use Rattle.foyer_model.specs.State as model_state;
@@ -12,6 +12,7 @@ ghost use Rattle.foyer_rules.specs.Content.{Content, Meaning};
 ghost use Rattle.foyer_rules.specs.Sizes.{AreValid};
 ghost use Rattle.foyer_rules.specs.declared.settings.Settings.{Settings};
 ghost use Rattle.foyer_standing.specs.Standing.{AreBlocksAs};
+ghost use Rattle.foyer_flusher.specs.Failing.{MustGrowFor};
 ghost use Rattle.foyer_flusher.specs.FlushInTurn.{MayBegin, HasBlock, IsWriting, IsWritten};
 ghost use Rattle.foyer_flusher.specs.FlusherSteps.{StandsAt, FlusherStep, issued_next, issued_wrote, HasEnded, settled, failed_batch};
 ghost use Rattle.foyer_flusher.specs.Flushing.{IsFlusherAs};
@@ -68,16 +69,17 @@ fn settle<A: Allocator>(records: &mut Vec<HashedEntryAddress, A>, block: BlockId
     }
 }
 
-// The records of a block enter the index: gives how many, or None where it can't grow.
+// The records of a block enter the index: gives how many, or None where it has to grow and can't.
 fn commit<A: Allocator + Clone>(
     mut records: Vec<HashedEntryAddress, A>,
     block: BlockId,
     filling: u64,
     index: &mut Indexer<A>,
 ) -> Option<usize>
-    ensures { MatchOption result (index.new ≡ index.old)
+    ensures committed { MatchOption result (index.new ≡ index.old)
         (λ n. (n ≡ vec_len records)
         × (index.new ≡ inserted_all index.old (map (settled block filling) records.items))) }
+    ensures overwrites { AllHeld index.old records.items → IsSome result }
 {
     settle(&mut records, block, filling);
     let count = records.len();
@@ -213,8 +215,8 @@ impl<K, V, P, A: Allocator + Clone> Flusher<K, V, P, A> {
     }
 
     /// Takes the result of the next issued write. After the block's last one its records enter the index. After a fault,
-    /// or where the index can't grow, nothing of the batch's rest is written, and the block isn't written again in this
-    /// filling.
+    /// or where the index has to grow and can't, nothing of the batch's rest is written, and the block isn't written again
+    /// in this filling.
     pub fn wrote(
         &mut self,
         is_done: bool,
@@ -227,6 +229,7 @@ impl<K, V, P, A: Allocator + Clone> Flusher<K, V, P, A> {
             → StandsAt m s f it (seen self.old) index.old blocks.old.items ids waiters
             → FlusherStep m s sound (model_step.FlushWrote f is_done) f it (issued_wrote result)
             (seen self.new) index.new blocks.new.items ids waiters }
+        ensures failed { is_done ≡ true → result ≡ wrote.Failed → MustGrowFor index.old self.old }
     {
         let Some(batch) = &mut self.batch else {
             unreachable!()
