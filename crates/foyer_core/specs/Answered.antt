@@ -1,11 +1,13 @@
 -- What a reply says of its step.
-use Rattle.std.specs.Prelude.{◌≡◌, ℕ, ◌+◌, Bool, false, List, take, Some, is_some, Ok}
+use Rattle.std.specs.Prelude.{◌≡◌, ℕ, ◌+◌, Bool, true, false, List, take, slice_get, Some, is_some, IsSomeAnd, Ok}
 use Rattle.foyer_block.specs.Index.{address_at}
 use Rattle.foyer_block.specs.Insertion.{inserted}
 use Rattle.foyer_block.specs.declared.indexer.Index.TheVariants as index
 use Rattle.foyer_format.specs.Record.{pair_of}
 use Rattle.foyer_format.specs.Record.Outcome.{Pair}
 use Rattle.foyer_policy.specs.Record.{Record}
+use Rattle.foyer_flusher.specs.Failing.{MustGrowFor}
+use Rattle.foyer_core.specs.Asked.{went_well}
 use Rattle.foyer_core.specs.declared.reply.Reply.{Reply}
 use Rattle.foyer_core.specs.declared.reply.Reply.TheVariants as reply
 use Rattle.foyer_core.specs.declared.state.Core.{Core}
@@ -99,3 +101,9 @@ abbrev pub AnswersPair : {K V P A : Type 0} → (List ℕ → Bool) → (List �
 AnswersPair is_key is_value key_of value_of given (reply.Entry key value age) =
     BringsPair is_key is_value (key_of key) (value_of value) given
 AnswersPair is_key is_value key_of value_of given answer = DescribesNothing answer
+
+-- a step may be answered Failed: where the write that it reports succeeded, only if the index has to grow for the records
+abbrev pub MayFail : {K V P A : Type 0} → Step K V P A → Core K V P A → Type 0
+MayFail (step.FlushWrote flusher outcome) old =
+    went_well outcome ≡ true → IsSomeAnd (slice_get old.flushers.items flusher) (MustGrowFor old.index)
+MayFail given old = Unit {0}

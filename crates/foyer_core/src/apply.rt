@@ -1,6 +1,6 @@
 //! The one call that changes the core.
 ghost use Rattle.std.specs.Prelude.{◌≡◌, ◌<◌, ◌-◌, ◌^◌, MatchBool};
-ghost use Rattle.foyer_core.specs.Answered.{HandsBack, Describes};
+ghost use Rattle.foyer_core.specs.Answered.{HandsBack, Describes, MayFail};
 ghost use Rattle.foyer_rules.specs.Content.{meaning};
 ghost use Rattle.foyer_core.specs.Refines.{IsBuilt, IsHandedBack, IsPutOff, RefinesUncounted, Refines};
 ghost use Rattle.foyer_core.specs.declared.reply.Reply.TheVariants as reply;
@@ -45,6 +45,7 @@ where
         ensures meets { IsBuilt step → Refines
             (meaning K.encoding V.encoding K.is_encodable V.is_encodable K.is_decodable V.is_decodable P.age)
             step result self.old self.new }
+        ensures failed { result ≡ reply.Failed → MayFail step self.old }
         ensures later { (IsBuilt step → ⊥) → IsPutOff step result }
         ensures not_now { (IsBuilt step → ⊥) → self.old.steps < 2 ^ 64 - 1 → result ≡ reply.NotNow step }
     {
@@ -68,6 +69,7 @@ where
         ensures meets { IsBuilt step → RefinesUncounted
             (meaning K.encoding V.encoding K.is_encodable V.is_encodable K.is_decodable V.is_decodable P.age)
             step result self.old self.new }
+        ensures failed { result ≡ reply.Failed → MayFail step self.old }
         ensures later { (IsBuilt step → ⊥) → result ≡ reply.NotNow step }
     {
         match step {

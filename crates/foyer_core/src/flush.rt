@@ -3,9 +3,10 @@ ghost use Rattle.std.specs.Prelude.{◌≡◌, ◌*◌, ◌<◌, ◌≤◌, ◌�
 ghost use Rattle.foyer_buffer.specs.Entries.{left_of};
 ghost use Rattle.foyer_flusher.specs.declared.flusher.Flusher.{Flusher};
 ghost use Rattle.foyer_format.specs.declared.serde.ages.Age.{Age as age};
-ghost use Rattle.foyer_core.specs.Answered.{HandsBack, DescribesNothing};
+ghost use Rattle.foyer_core.specs.Answered.{HandsBack, DescribesNothing, MayFail};
 ghost use Rattle.foyer_rules.specs.Content.{Meaning, meaning};
 ghost use Rattle.foyer_core.specs.Refines.{RefinesUncounted};
+ghost use Rattle.foyer_core.specs.declared.reply.Reply.TheVariants as reply;
 ghost use Rattle.foyer_core.specs.declared.step.Step.TheVariants as step;
 
 use crate::reply::Reply;
@@ -110,6 +111,7 @@ impl<K, V, P, A: Allocator + Clone> Core<K, V, P, A> {
         ensures back { HandsBack (step.FlushWrote flusher outcome) result self.old self.new }
         ensures nothing { DescribesNothing result }
         ensures meets { (m : Meaning K V P) → RefinesUncounted m (step.FlushWrote flusher outcome) result self.old self.new }
+        ensures failed { result ≡ reply.Failed → MayFail (step.FlushWrote flusher outcome) self.old }
     {
         if flusher as usize >= self.flushers.len() {
             return Reply::NotNow(Step::FlushWrote {

@@ -1,4 +1,4 @@
-use Rattle.std.proofs.Common.{◌+◌, ◌-◌, ◌^◌, ◌<◌, refl, arith}
+use Rattle.std.proofs.Common.{◌+◌, ◌-◌, ◌^◌, ◌<◌, inl, refl, arith}
 use Rattle.foyer_rules.specs.Content.{meaning}
 use Rattle.foyer_core.proofs.RefinesLemmas.{met, met_back, met_at_end}
 use Rattle.foyer_core.proofs.state.Core.apply.Goals as goal
@@ -22,3 +22,9 @@ returns-clause-meets g c = λ built s sound it stands.
     (record { index = refl; next = refl; steps = refl; closed = refl; queued = refl; settings = refl; flushers = refl; blocks = refl; clean = refl; waiting = refl })
     c.if-is_handed_back.ensures few refl
     (c.dispatch-reply.ensures.meets built s sound it stands few)
+
+pub returns-clause-later : goal.returns-clause-later
+returns-clause-later g c = λ unbuilt. inl (c.dispatch-reply.ensures.later unbuilt)
+
+pub returns-clause-not_now : goal.returns-clause-not_now
+returns-clause-not_now g c = λ unbuilt few. c.dispatch-reply.ensures.later unbuilt
