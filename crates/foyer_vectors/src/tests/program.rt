@@ -64,13 +64,45 @@ fn the_newest_pair_is_answered(rt: HostRuntime) -> Result<(), Fail> {
     )
 }
 
+// A block has room for three small records. What is left of the batch waits for a block, and nothing frees one.
 #[test]
-fn what_does_not_fit_the_block_is_missed(rt: HostRuntime) -> Result<(), Fail> {
+fn where_no_block_is_left_a_wait_is_no_space(rt: HostRuntime) -> Result<(), Fail> {
     check(
         &rt,
         &SMALL,
-        "put 1 a\nput 2 b\nput 3 c\nput 4 d\nwait\nget 1\nget 3\nget 4\nput 5 e\nwait\nget 5\n",
-        "queued\nqueued\nqueued\nqueued\nok\nentry a\nentry c\nmiss\nqueued\nok\nmiss\n",
+        "put 1 a\nput 2 b\nput 3 c\nput 4 d\nwait\nget 1\nget 3\nget 4\nput 5 e\nwait\nget 5\nget 2\n",
+        "queued\nqueued\nqueued\nqueued\nfault NoSpace\nentry a\nentry c\nmiss\nqueued\nfault NoSpace\nmiss\nentry b\n",
+        1,
+    )
+}
+
+#[test]
+fn what_does_not_fit_one_block_goes_into_the_next(rt: HostRuntime) -> Result<(), Fail> {
+    check(
+        &rt,
+        &[":memory:", "32768", "16384"],
+        "put 1 a\nput 2 b\nput 3 c\nput 4 d\nwait\nget 1\nget 3\nget 4\nput 5 e\nwait\nget 5\nget 4\nput 6 f\nwait\nget 6\n",
+        "queued\nqueued\nqueued\nqueued\nok\nentry a\nentry c\nentry d\nqueued\nok\nentry e\nentry d\nqueued\nok\nentry f\n",
+        0,
+    )
+}
+
+// The block of three pages has room for two behind its index: the text of 8140 bytes and 52 more fill them.
+#[test]
+fn what_no_block_holds_is_missed(rt: HostRuntime) -> Result<(), Fail> {
+    let alloc = rt.alloc();
+    let mut text = String::new(alloc);
+    for _ in 0..814 {
+        text.push_str("ten bytes.")?;
+    }
+    let text = text.as_str();
+    let input = format!(in alloc; "put 1 {text}.\nput 2 {text}\nwait\nget 1\nget 2\n")?;
+    let wanted = format!(in alloc; "queued\nqueued\nok\nmiss\nentry {text}\n")?;
+    check(
+        &rt,
+        &[":memory:", "12288", "12288"],
+        input.as_str(),
+        wanted.as_str(),
         0,
     )
 }

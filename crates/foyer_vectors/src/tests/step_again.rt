@@ -4,22 +4,23 @@ use foyer_format_vectors::refusing::Refusing;
 use std::test::Fail;
 
 // A put, its flush, a load, and a delete.
-const LIFE: &str = "put 1 a\nreceive\nbegin\nblock\nwrote\nend\nlook 1\nload\ndelete 1\nask 1\n";
+const LIFE: &str =
+    "put 1 a\nreceive\nbegin\nblock\nwrote\nwrote\nend\nlook 1\nload\ndelete 1\nask 1\n";
 
 // The answers where the index has no room at the end of the block.
 const FAILED: &str =
-    "queued 1\nreceived\nbegan 1 0\nwrite 0\nfailed\nended 1 /\nmiss\nleft out\ndeleted 2\nno\n";
+    "queued 1\nreceived\nbegan 1 0\nwrite 0\nnext\nfailed\nended 1 /\nmiss\nleft out\ndeleted 2\nno\n";
 
 const WHOLE: &str =
-    "queued 1\nreceived\nbegan 1 0\nwrite 0\ncommitted 1\nended 1 /\nread\nentry a\ndeleted 2\nno\n";
+    "queued 1\nreceived\nbegan 1 0\nwrite 0\nnext\ncommitted 1\nended 1 /\nread\nentry a\ndeleted 2\nno\n";
 
 // The answers where the driver has no room for its piece.
 const NO_PIECE: &str =
-    "no step Memory\nempty\nnot now\nnot now\nleft out\nnot now\nmiss\nleft out\ndeleted 1\nno\n";
+    "no step Memory\nempty\nnot now\nnot now\nleft out\nleft out\nnot now\nmiss\nleft out\ndeleted 1\nno\n";
 
 // The answers where the driver has no room for what it reads.
 const NO_READ: &str =
-    "queued 1\nreceived\nbegan 1 0\nwrite 0\ncommitted 1\nended 1 /\nread\nno step Memory\ndeleted 2\nno\n";
+    "queued 1\nreceived\nbegan 1 0\nwrite 0\nnext\ncommitted 1\nended 1 /\nread\nno step Memory\ndeleted 2\nno\n";
 
 // Whether a life may be answered so in which an allocation was refused.
 fn is_allowed(answers: &str) -> bool {

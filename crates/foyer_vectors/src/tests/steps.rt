@@ -167,10 +167,21 @@ fn moves_of(alloc: Global, script: &str) -> Result<Vec<TestMove<Global>>> {
     Ok(moves)
 }
 
-// Runs a script over a core of so many blocks of 16 KiB, whose disk fails its n-th call: the replies in words, and
-// whether it failed one.
-fn run_over(alloc: Global, blocks: u32, fails_at: u64, script: &str) -> Result<(String, bool)> {
-    let settings = Settings::new(blocks, 16384);
+// Blocks of 16 KiB, and a buffer of 64 KiB.
+pub fn small(blocks: u32) -> Settings {
+    Settings {
+        buffer_pool_size: 65536,
+        ..Settings::new(blocks, 16384)
+    }
+}
+
+// Runs a script over a core whose disk fails its n-th call: the replies in words, and whether it failed one.
+fn run_over(
+    alloc: Global,
+    settings: Settings,
+    fails_at: u64,
+    script: &str,
+) -> Result<(String, bool)> {
     let mut core = Core::open(alloc, settings)?;
     let memory = MemoryDisk::new(alloc, settings.blocks, settings.block_size)?;
     let mut disk = Failing::new(memory, fails_at, 100);
@@ -179,6 +190,20 @@ fn run_over(alloc: Global, blocks: u32, fails_at: u64, script: &str) -> Result<(
 }
 
 // Runs a script as above, and checks the replies.
+pub fn check_with(
+    rt: &(impl Abort + AllocGlobal),
+    settings: Settings,
+    fails_at: u64,
+    script: &str,
+    wanted: &str,
+) -> std::result::Result<(), Fail> {
+    let (words, has_failed) = run_over(rt.alloc(), settings, fails_at, script)?;
+    assert_eq!(rt; words.as_str(), wanted, "where call {fails_at} fails");
+    assert!(rt; fails_at == 0 || has_failed);
+    Ok(())
+}
+
+// Runs a script over a core of so many blocks of 16 KiB, and checks the replies.
 pub fn check(
     rt: &(impl Abort + AllocGlobal),
     blocks: u32,
@@ -186,10 +211,7 @@ pub fn check(
     script: &str,
     wanted: &str,
 ) -> std::result::Result<(), Fail> {
-    let (words, has_failed) = run_over(rt.alloc(), blocks, fails_at, script)?;
-    assert_eq!(rt; words.as_str(), wanted, "where call {fails_at} fails");
-    assert!(rt; fails_at == 0 || has_failed);
-    Ok(())
+    check_with(rt, small(blocks), fails_at, script, wanted)
 }
 
 #[test]
@@ -198,8 +220,8 @@ fn a_delete_hides_an_older_put(rt: HostRuntime) -> std::result::Result<(), Fail>
         &rt,
         1,
         0,
-        "put 7 a\ndelete 7\nreceive 0\nreceive 0\nbegin 0\nblock 0\nwrote 0\nend 0\nlook 7\nask 7\n",
-        "queued\ndeleted\nreceived\nreceived\nbegan\nwrite\ncommitted\nended\nmiss\nno\n",
+        "put 7 a\ndelete 7\nreceive 0\nreceive 0\nbegin 0\nblock 0\nwrote 0\nwrote 0\nend 0\nlook 7\nask 7\n",
+        "queued\ndeleted\nreceived\nreceived\nbegan\nwrite\nnext\ncommitted\nended\nmiss\nno\n",
     )
 }
 
@@ -236,14 +258,59 @@ fn young_pieces_and_closed_cores_take_nothing(rt: HostRuntime) -> std::result::R
     )
 }
 
+// The buffer has three pages.
 #[test]
-fn what_does_not_fit_is_handed_back(rt: HostRuntime) -> std::result::Result<(), Fail> {
+fn what_has_no_room_in_the_buffer_is_handed_back(rt: HostRuntime) -> std::result::Result<(), Fail> {
+    let settings = Settings {
+        buffer_pool_size: 12288,
+        ..small(2)
+    };
+    check_with(
+        &rt,
+        settings,
+        0,
+        "put 1 a\nput 2 a\nput 3 a\nput 4 a\nreceive 0\nreceive 0\nreceive 0\nreceive 0\nbegin 0\nblock 0\nwrote 0\nwrote 0\nend 0\nask 3\nask 4\nthrottled 3\n",
+        "queued\nqueued\nqueued\nqueued\nreceived\nreceived\nreceived\nhanded back\nbegan\nwrite\nnext\ncommitted\nended\nyes\nno\nthrottled\n",
+    )
+}
+
+// A block of two pages holds records of one page, however much room the buffer has: the header, the length of the text
+// and the key are 52 bytes of it.
+#[test]
+fn what_no_block_holds_is_handed_back(rt: HostRuntime) -> std::result::Result<(), Fail> {
+    let alloc = rt.alloc();
+    let settings = Settings {
+        buffer_pool_size: 65536,
+        ..Settings::new(2, 8192)
+    };
+    let mut text = String::new(alloc);
+    for _ in 0..4044 {
+        text.push_str("x")?;
+    }
+    let text = text.as_str();
+    let script = format!(in alloc;
+        "put 1 {text}x\nput 2 {text}\nreceive 0\nbegin 0\nreceive 0\nbegin 0\nblock 0\nwrote 0\nwrote 0\nask 1\nask 2\n"
+    )?;
+    check_with(
+        &rt,
+        settings,
+        0,
+        script.as_str(),
+        "queued\nqueued\nhanded back\nnot now\nreceived\nbegan\nwrite\nnext\ncommitted\nno\nyes\n",
+    )
+}
+
+// Three records fill a block. The fourth is indexed with the second block, and not with the first.
+#[test]
+fn a_full_block_is_left_for_the_next_within_a_batch(
+    rt: HostRuntime,
+) -> std::result::Result<(), Fail> {
     check(
         &rt,
         2,
         0,
-        "put 1 a\nput 2 a\nput 3 a\nput 4 a\nreceive 0\nreceive 0\nreceive 0\nreceive 0\nbegin 0\nblock 0\nwrote 0\nend 0\nask 3\nask 4\nthrottled 3\n",
-        "queued\nqueued\nqueued\nqueued\nreceived\nreceived\nreceived\nhanded back\nbegan\nwrite\ncommitted\nended\nyes\nno\nthrottled\n",
+        "put 1 a\nput 2 b\nput 3 c\nput 4 d\nreceive 0\nreceive 0\nreceive 0\nreceive 0\nbegin 0\nblock 0\nblock 0\nwrote 0\nask 1\nwrote 0\nask 3\nask 4\nend 0\nblock 0\nwrote 0\nask 4\nend 0\nwrote 0\nend 0\nlook 4\nread 0\nlook 3\nread 1\n",
+        "queued\nqueued\nqueued\nqueued\nreceived\nreceived\nreceived\nreceived\nbegan\nwrite\nnot now\nnext\nno\ncommitted\nyes\nno\nnot now\nwrite\nnext\nno\nnot now\ncommitted\nended\nread\nentry d\nread\nentry c\n",
     )
 }
 
@@ -263,13 +330,13 @@ fn where_no_block_is_clean_the_flusher_waits(rt: HostRuntime) -> std::result::Re
 fn texts_are_run_from_an_opening(rt: HostRuntime) -> std::result::Result<(), Fail> {
     let alloc = rt.alloc();
     let script =
-        "put 1 a\nreceive 0\nbegin 0\nblock 0\nwrote 0\nend 0\nlook 1\nread 0\nread 0\nwrote 0\n";
+        "put 1 a\nreceive 0\nbegin 0\nblock 0\nwrote 0\nwrote 0\nend 0\nlook 1\nread 0\nread 0\nwrote 0\n";
     let moves = moves_of(alloc, script)?;
-    let replies = run_texts(alloc, Settings::new(1, 16384), moves)?;
+    let replies = run_texts(alloc, small(1), moves)?;
     let words = words_of(alloc, replies.as_slice())?;
     assert_eq!(&rt;
         words.as_str(),
-        "queued\nreceived\nbegan\nwrite\ncommitted\nended\nread\nentry a\n"
+        "queued\nreceived\nbegan\nwrite\nnext\ncommitted\nended\nread\nentry a\n"
     );
     Ok(())
 }

@@ -108,31 +108,39 @@ fn a_line_that_memory_does_not_hold_is_passed_over(rt: HostRuntime) -> Result<()
     Ok(())
 }
 
-// Two puts with their flushes and loads. Of a load's reads those that weren't issued, or are done, are passed over.
+// Two puts with their flushes and loads. Of a load's reads those that weren't issued, or are done, are passed over, and so
+// is a write behind one that failed.
 const LIFE: &str =
-    "put 1 a\nreceive 0\nbegin 0\nblock 0\nwrote 0\nend 0\nlook 1\nread 0\nput 2 b\nreceive 0\nbegin 0\nblock 0\nwrote 0\nend 0\nlook 2\nread 0\nread 1\nlook 1\nread 0\nread 1\nread 2\n";
+    "put 1 a\nreceive 0\nbegin 0\nblock 0\nwrote 0\nwrote 0\nend 0\nlook 1\nread 0\nput 2 b\nreceive 0\nbegin 0\nblock 0\nwrote 0\nwrote 0\nend 0\nlook 2\nread 0\nread 1\nlook 1\nread 0\nread 1\nread 2\n";
+
+// The calls of the disk in that life: of each flush the data and the index, and its load; then a load of the first.
+const LIFE_CALLS: u64 = 7;
 
 // What that life gives where its n-th call of the disk fails.
 fn wanted_at(n: u64) -> &'static str {
     match n {
         1 =>
-            "queued\nreceived\nbegan\nwrite\nfailed\nended\nmiss\nqueued\nreceived\nbegan\nwrite\ncommitted\nended\nread\nentry b\nmiss\n",
+            "queued\nreceived\nbegan\nwrite\nfailed\nended\nmiss\nqueued\nreceived\nbegan\nwrite\nnext\ncommitted\nended\nread\nentry b\nmiss\n",
         2 =>
-            "queued\nreceived\nbegan\nwrite\ncommitted\nended\nread\nrefused\nqueued\nreceived\nbegan\nwrite\ncommitted\nended\nread\nentry b\nread\nentry a\n",
+            "queued\nreceived\nbegan\nwrite\nnext\nfailed\nended\nmiss\nqueued\nreceived\nbegan\nwrite\nnext\ncommitted\nended\nread\nentry b\nmiss\n",
         3 =>
-            "queued\nreceived\nbegan\nwrite\ncommitted\nended\nread\nentry a\nqueued\nreceived\nbegan\nwrite\nfailed\nended\nmiss\nread\nentry a\n",
+            "queued\nreceived\nbegan\nwrite\nnext\ncommitted\nended\nread\nrefused\nqueued\nreceived\nbegan\nwrite\nnext\ncommitted\nended\nread\nentry b\nread\nentry a\n",
         4 =>
-            "queued\nreceived\nbegan\nwrite\ncommitted\nended\nread\nentry a\nqueued\nreceived\nbegan\nwrite\ncommitted\nended\nread\nrefused\nread\nentry a\n",
+            "queued\nreceived\nbegan\nwrite\nnext\ncommitted\nended\nread\nentry a\nqueued\nreceived\nbegan\nwrite\nfailed\nended\nmiss\nread\nentry a\n",
         5 =>
-            "queued\nreceived\nbegan\nwrite\ncommitted\nended\nread\nentry a\nqueued\nreceived\nbegan\nwrite\ncommitted\nended\nread\nentry b\nread\nrefused\n",
+            "queued\nreceived\nbegan\nwrite\nnext\ncommitted\nended\nread\nentry a\nqueued\nreceived\nbegan\nwrite\nnext\nfailed\nended\nmiss\nread\nentry a\n",
+        6 =>
+            "queued\nreceived\nbegan\nwrite\nnext\ncommitted\nended\nread\nentry a\nqueued\nreceived\nbegan\nwrite\nnext\ncommitted\nended\nread\nrefused\nread\nentry a\n",
+        7 =>
+            "queued\nreceived\nbegan\nwrite\nnext\ncommitted\nended\nread\nentry a\nqueued\nreceived\nbegan\nwrite\nnext\ncommitted\nended\nread\nentry b\nread\nrefused\n",
         _ =>
-            "queued\nreceived\nbegan\nwrite\ncommitted\nended\nread\nentry a\nqueued\nreceived\nbegan\nwrite\ncommitted\nended\nread\nentry b\nread\nentry a\n",
+            "queued\nreceived\nbegan\nwrite\nnext\ncommitted\nended\nread\nentry a\nqueued\nreceived\nbegan\nwrite\nnext\ncommitted\nended\nread\nentry b\nread\nentry a\n",
     }
 }
 
 #[test]
 fn each_failed_call_of_the_disk_is_reported(rt: HostRuntime) -> Result<(), Fail> {
-    for n in 0..6 {
+    for n in 0..LIFE_CALLS + 1 {
         check(&rt, 2, n, LIFE, wanted_at(n))?;
     }
     Ok(())
