@@ -409,6 +409,3 @@ impl<A: Allocator> Filled<A> {
         Splitter::split(alloc, ctx, bytes, infos)
     }
 }
-
-#[cfg(test)]
-mod tests;

@@ -1,4 +1,5 @@
 mod every_step;
+mod filled;
 mod program;
 mod readme;
 mod step_again;

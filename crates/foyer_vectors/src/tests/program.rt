@@ -183,6 +183,22 @@ fn sizes_that_do_not_go_together_are_refused(rt: HostRuntime) -> Result<(), Fail
     Ok(())
 }
 
+// The line is no command, and longer than the buffer that lines are read into.
+#[test]
+fn a_long_bad_line_leaves_what_was_put(rt: HostRuntime) -> Result<(), Fail> {
+    let alloc = rt.alloc();
+    let mut input = Vec::from_slice(alloc, b"put 1 a\nwait\n")?;
+    input.resize(200_000, b'x')?;
+    input.extend_from_slice(b"\nget 1\n")?;
+    let (output, _, status) = print_of(alloc, alloc, &SMALL, input.as_slice())?;
+    assert_eq!(rt;
+        output.as_slice(),
+        b"queued\nok\nbad line\nentry a\n".as_slice()
+    );
+    assert_eq!(rt; status, 1);
+    Ok(())
+}
+
 // A line's text is longer than the buffer that lines are read into.
 #[test]
 fn a_long_line_is_one_line(rt: HostRuntime) -> Result<(), Fail> {

@@ -1,7 +1,9 @@
 //! Each allocation refused in turn, and each read and write failed in turn.
 use crate::tests::program::print_of;
-use crate::tests::steps::check;
+use crate::tests::steps::{check, small};
+use foyer_device::error::{Error, ErrorKind};
 use foyer_format_vectors::refusing::Refusing;
+use foyer_serve::engine::{Answer, Engine};
 use std::alloc::Global;
 use std::test::Fail;
 
@@ -41,10 +43,80 @@ fn are_allowed(text: &str, has_fault: bool) -> bool {
     count == 8
 }
 
+// The answer of the engine to a line of the script.
+fn answer_of<'a>(
+    engine: &mut Engine<&'a Refusing<Global>>,
+    line: &str,
+) -> Answer<&'a Refusing<Global>> {
+    match line {
+        "put 1 a" => engine.put(1, "a"),
+        "put 2 b" => engine.put(2, "b"),
+        "get 1" => engine.get(1),
+        "get 2" => engine.get(2),
+        "del 1" => engine.delete(1),
+        _ => engine.wait(),
+    }
+}
+
+// What an engine of two small blocks and a small buffer answers to the script, and whether it named a fault. None
+// where it can't be opened.
+fn answers_of(
+    alloc: Global,
+    heap: &Refusing<Global>,
+) -> foyer_device::error::Result<Option<(String, bool)>> {
+    let mut engine = match Engine::open(heap, small(2)) {
+        Ok(engine) => engine,
+        Err(Error::Memory) => return Ok(None),
+        Err(error) => return Err(error),
+    };
+    let mut text = String::new(alloc);
+    let mut has_fault = false;
+    for line in SCRIPT.lines() {
+        match answer_of(&mut engine, line) {
+            Answer::Queued => text.push_str("queued\n")?,
+            Answer::Ok => text.push_str("ok\n")?,
+            Answer::Miss => text.push_str("miss\n")?,
+            Answer::Entry(found) => {
+                text.push_str("entry ")?;
+                text.push_str(found.as_str())?;
+                text.push_str("\n")?;
+            }
+            Answer::Fault(ErrorKind::Memory) => {
+                text.push_str("fault Memory\n")?;
+                has_fault = true;
+            }
+            _ => text.push_str("another\n")?,
+        }
+    }
+    Ok(Some((text, has_fault)))
+}
+
 #[test]
-fn each_refused_allocation_of_the_program_is_reported(rt: HostRuntime) -> Result<(), Fail> {
-    let words = [":memory:", "32768", "16384"];
+fn each_refused_allocation_of_the_engine_is_reported(rt: HostRuntime) -> Result<(), Fail> {
     for n in 1..MOST_ALLOCATIONS {
+        let heap = Refusing::new(rt.alloc(), n);
+        let Some((text, has_fault)) = answers_of(rt.alloc(), &heap)? else {
+            assert!(rt; heap.has_refused());
+            continue;
+        };
+        if !heap.has_refused() {
+            assert_eq!(rt; text.as_str(), ANSWERS);
+            assert!(rt; n > 20);
+            return Ok(());
+        }
+        assert!(rt; are_allowed(text.as_str(), has_fault), "allocation {n}");
+    }
+    Err(Fail::new("the script makes more allocations"))
+}
+
+// Only each so manieth allocation of a program that writes is refused, since its buffer is large.
+const PROGRAM_STEP: u64 = 16;
+
+#[test]
+fn refused_allocations_of_the_program_are_reported(rt: HostRuntime) -> Result<(), Fail> {
+    let words = [":memory:", "32768", "16384"];
+    for step in 0..MOST_ALLOCATIONS / PROGRAM_STEP {
+        let n = 1 + step * PROGRAM_STEP;
         let heap = Refusing::new(rt.alloc(), n);
         let (output, _, status) = print_of(rt.alloc(), &heap, &words, SCRIPT.as_bytes())?;
         let text = str::from_utf8(output.as_slice()).map_err(|_| Fail::new("no text"))?;
@@ -59,6 +131,45 @@ fn each_refused_allocation_of_the_program_is_reported(rt: HostRuntime) -> Result
             continue;
         }
         assert!(rt; are_allowed(text, status == 1), "allocation {n}");
+    }
+    Err(Fail::new("the script makes more allocations"))
+}
+
+// Lines that write nothing, so that the program takes no buffer: of a script of them each allocation is refused.
+const IDLE: &str = "get 1\nwait\ndel 1\nwait\nget 1\n";
+
+const IDLE_ANSWERS: &str = "miss\nok\nok\nok\nmiss\n";
+
+// Whether each line is answered rightly, or by the named refusal.
+fn are_right_or_refused(text: &str) -> bool {
+    let mut count = 0u32;
+    for (wanted, answer) in IDLE_ANSWERS.lines().zip(text.lines()) {
+        if answer != wanted && answer != "fault Memory" {
+            return false;
+        }
+        count = count.saturating_add(1);
+    }
+    count == 5
+}
+
+#[test]
+fn each_refused_allocation_of_an_idle_program_is_reported(rt: HostRuntime) -> Result<(), Fail> {
+    let words = [":memory:", "32768", "16384"];
+    for n in 1..MOST_ALLOCATIONS {
+        let heap = Refusing::new(rt.alloc(), n);
+        let (output, _, status) = print_of(rt.alloc(), &heap, &words, IDLE.as_bytes())?;
+        let text = str::from_utf8(output.as_slice()).map_err(|_| Fail::new("no text"))?;
+        if !heap.has_refused() {
+            assert_eq!(rt; text, IDLE_ANSWERS);
+            assert_eq!(rt; status, 0);
+            assert!(rt; n > 10);
+            return Ok(());
+        }
+        assert!(rt;
+            text == "fault Memory\n" || are_right_or_refused(text),
+            "allocation {n}"
+        );
+        assert!(rt; status == 1 || text == IDLE_ANSWERS, "allocation {n}");
     }
     Err(Fail::new("the script makes more allocations"))
 }
@@ -84,25 +195,25 @@ fn count_runs(alloc: Global, input: &[u8], whole: &[u8], passed_over: &[u8]) -> 
 }
 
 // The line is no command, and longer than the input's buffer, also once that was doubled: so only the buffer's own
-// allocations make it a fault.
+// allocations make it a fault. Nothing is put, so that the program takes no buffer for records.
 #[test]
 fn a_line_that_memory_does_not_hold_is_passed_over(rt: HostRuntime) -> Result<(), Fail> {
     let alloc = rt.alloc();
-    let mut input = Vec::from_slice(alloc, b"put 1 a\nwait\n")?;
+    let mut input = Vec::from_slice(alloc, b"get 1\nwait\n")?;
     input.resize(200_000, b'x')?;
     let ends = count_runs(
         alloc,
         input.as_slice(),
-        b"queued\nok\nbad line\n",
-        b"queued\nok\nfault Memory\n",
+        b"miss\nok\nbad line\n",
+        b"miss\nok\nfault Memory\n",
     )?;
     assert_eq!(rt; ends, 2);
-    input.extend_from_slice(b"\nget 1\n")?;
+    input.extend_from_slice(b"\nget 1\nput 1\nwait\n")?;
     let goes_on = count_runs(
         alloc,
         input.as_slice(),
-        b"queued\nok\nbad line\nentry a\n",
-        b"queued\nok\nfault Memory\nentry a\n",
+        b"miss\nok\nbad line\nmiss\nbad line\nok\n",
+        b"miss\nok\nfault Memory\nmiss\nbad line\nok\n",
     )?;
     assert_eq!(rt; goes_on, 2);
     Ok(())

@@ -1,8 +1,8 @@
 //! Which pages are taken: blocks of 16 KiB with indices of one page.
-use super::Filled;
 use foyer_buffer::SplitCtx;
 use foyer_device::error::Result;
 use foyer_device::io::bytes::IoSliceMut;
+use foyer_flusher::filled::Filled;
 use std::alloc::Global;
 use std::test::Fail;
 
