@@ -1,7 +1,10 @@
+mod driver;
 mod every_step;
 mod filled;
 mod program;
+mod reader;
 mod readme;
 mod step_again;
 mod steps;
 mod sweeps;
+mod worked;
