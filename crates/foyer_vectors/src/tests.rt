@@ -1,7 +1,9 @@
 mod driver;
 mod every_step;
 mod filled;
+mod flushers;
 mod program;
+mod random;
 mod reader;
 mod readme;
 mod step_again;

@@ -7,7 +7,7 @@ use foyer_core::reply::{Reply, Write, WriteBytes};
 use foyer_core::settings::Settings;
 use foyer_core::state::Core;
 use foyer_core::step::{Step, Ticket};
-use foyer_device::error::{ErrorKind, Result};
+use foyer_device::error::{Error, ErrorKind, Result};
 use foyer_policy::keeper::Piece;
 use foyer_run::disk::{do_read, do_write};
 use foyer_run::memory::MemoryDisk;
@@ -245,8 +245,25 @@ fn keep<A: Allocator + Clone>(
     Ok(())
 }
 
+// The step of a word and two numbers, asked for once more where the driver had no memory and steps come again.
+fn step_again<A: Allocator + Clone>(
+    driver: &mut Driver<A>,
+    alloc: Global,
+    heap: &A,
+    word: &str,
+    number: u64,
+    len: u64,
+) -> Result<Option<Life<A>>> {
+    match step_of(driver, alloc, heap, word, number, len) {
+        Err(Error::Memory) if driver.comes_again => {
+            step_of(driver, alloc, heap, word, number, len)
+        }
+        other => other,
+    }
+}
+
 // Applies the step of a word and two numbers, and describes the reply.
-pub fn answer<A: Allocator + Clone>(
+fn answer<A: Allocator + Clone>(
     alloc: Global,
     text: &mut String,
     driver: &mut Driver<A>,
@@ -255,7 +272,7 @@ pub fn answer<A: Allocator + Clone>(
     number: u64,
     len: u64,
 ) -> std::result::Result<(), AllocError> {
-    let step = match step_of(driver, alloc, heap, word, number, len) {
+    let step = match step_again(driver, alloc, heap, word, number, len) {
         Ok(Some(step)) => step,
         Ok(None) => return text.push_str("left out"),
         Err(error) => {
@@ -266,6 +283,23 @@ pub fn answer<A: Allocator + Clone>(
     let reply = apply(driver, step);
     describe_all(alloc, text, &reply)?;
     keep(driver, number, reply)
+}
+
+// Looks a hash up, and loads what is found.
+fn answer_get<A: Allocator + Clone>(
+    alloc: Global,
+    text: &mut String,
+    driver: &mut Driver<A>,
+    heap: &A,
+    hash: u64,
+) -> std::result::Result<(), AllocError> {
+    let ticket = driver.tickets.len();
+    answer(alloc, text, driver, heap, "look", hash, 0)?;
+    if driver.tickets.len() > ticket {
+        text.push_str(", ")?;
+        answer(alloc, text, driver, heap, "load", ticket as u64, 0)?;
+    }
+    Ok(())
 }
 
 // The number of a word, 0 without one.
@@ -288,6 +322,9 @@ pub fn answer_line<A: Allocator + Clone>(
     let word = words.next().unwrap_or("");
     let number = number_of(words.next());
     let len = number_of(words.next());
+    if word == "get" {
+        return answer_get(alloc, text, driver, heap, number);
+    }
     answer(alloc, text, driver, heap, word, number, len)
 }
 
