@@ -214,7 +214,7 @@ fn name_one_fault(answers: &str) -> bool {
     faults == 1 && count as usize == SCRIPT.lines().count()
 }
 
-// A fault that isn't named, that spoils another flusher's records, or behind which something wrong is answered or
+// A fault that isn't named, that damages another flusher's records, or behind which something wrong is answered or
 // nothing more can be written, fails here.
 #[test]
 fn each_failed_call_of_the_disk_is_named_and_passed(
@@ -252,7 +252,7 @@ fn answers_on(alloc: Global, heap: &Refusing<Global>) -> Result<Option<String>> 
     Ok(Some(answered(alloc, &mut driven, &heap, SCRIPT)?))
 }
 
-// A refused step that changes something, or can't come again, fails here. Only a refused growth of the index fails
+// A refused step that changes something, or can't come again, fails here. Only a refused allocation of the index fails
 // the batch.
 #[test]
 fn each_refused_allocation_is_named_and_passed(rt: HostRuntime) -> std::result::Result<(), Fail> {

@@ -90,9 +90,12 @@ fn put(
     seed: &mut u64,
 ) -> std::result::Result<(), Fail> {
     let alloc = rt.alloc();
-    let sequence = events.len() as u64 + 1;
+    let sequence = (events.len() as u64).wrapping_add(1);
     let key = next(seed, KEYS);
-    let len = next(seed, 3) * 3500 + 100 + sequence;
+    let len = next(seed, 3)
+        .wrapping_mul(3500)
+        .wrapping_add(100)
+        .wrapping_add(sequence);
     let line = format!(in alloc; "put {key} {len}")?;
     let reply = reply_to(alloc, driver, line.as_str())?;
     let wanted = format!(in alloc; "queued {sequence}")?;
