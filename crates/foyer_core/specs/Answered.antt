@@ -1,8 +1,9 @@
 -- What a reply says of its step.
-use Rattle.std.specs.Prelude.{◌≡◌, ℕ, ◌+◌, Bool, true, false, List, take, slice_get, Some, is_some, IsSomeAnd, Ok}
+use Rattle.std.specs.Prelude.{◌≡◌, ℕ, ◌+◌, Bool, true, false, List, take, slice_get, Option, Some, None, is_some, IsSomeAnd, Result, Ok, Err}
 use Rattle.foyer_block.specs.Index.{address_at}
 use Rattle.foyer_block.specs.Insertion.{inserted}
 use Rattle.foyer_block.specs.declared.indexer.Index.TheVariants as index
+use Rattle.foyer_device.specs.declared.error.Error.{Error}
 use Rattle.foyer_format.specs.Record.{pair_of}
 use Rattle.foyer_format.specs.Record.Outcome.{Pair}
 use Rattle.foyer_policy.specs.Record.{Record}
@@ -14,6 +15,7 @@ use Rattle.foyer_core.specs.declared.state.Core.{Core}
 use Rattle.foyer_core.specs.declared.step.Step.{Step}
 use Rattle.foyer_core.specs.declared.step.Step.TheVariants as step
 use Rattle.foyer_core.specs.declared.step.Ticket.{Ticket}
+use Rattle.std.specs.declared.vec.Vec.{Vec}
 use Rattle.foyer_core.specs.Unchanged.{IsUnchanged}
 
 -- a step that is out of turn or refused is handed back, and nothing changed
@@ -107,3 +109,10 @@ abbrev pub MayFail : {K V P A : Type 0} → Step K V P A → Core K V P A → Ty
 MayFail (step.FlushWrote flusher outcome) old =
     went_well outcome ≡ true → IsSomeAnd (slice_get old.flushers.items flusher) (MustGrowFor old.index)
 MayFail given old = Unit {0}
+
+-- the buffer of what was read, unless the step that is handed back has it
+abbrev pub spare_of : {K V P A : Type 0} → Result (Vec ℕ A) Error → Reply K V P A → Option (Vec ℕ A)
+spare_of outcome (reply.NotNow back) = None
+spare_of outcome (reply.Refused kind back) = None
+spare_of (Ok bytes) answer = Some bytes
+spare_of (Err e) answer = None

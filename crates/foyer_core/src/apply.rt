@@ -1,4 +1,4 @@
-//! The one call that changes the core.
+//! The call that changes the core, by any step.
 ghost use Rattle.std.specs.Prelude.{◌≡◌, ◌<◌, ◌-◌, ◌^◌, MatchBool};
 ghost use Rattle.foyer_core.specs.Answered.{HandsBack, Describes, MayFail};
 ghost use Rattle.foyer_rules.specs.Content.{meaning};
@@ -17,7 +17,7 @@ use std::alloc::Allocator;
 pub struct Env {}
 
 // Whether a step came back, out of turn or refused.
-fn is_handed_back<K, V, P, A: Allocator>(reply: &Reply<K, V, P, A>) -> bool
+pub(crate) fn is_handed_back<K, V, P, A: Allocator>(reply: &Reply<K, V, P, A>) -> bool
     ensures { MatchBool result (IsHandedBack reply.now) (IsHandedBack reply.now → ⊥) }
 {
     match reply {
@@ -81,7 +81,7 @@ where
             Step::LoadEnd {
                 ticket,
                 result: outcome,
-            } => self.load_end(ticket, outcome),
+            } => self.load_end(ticket, outcome).0,
             Step::Receive { flusher } => self.receive(flusher),
             Step::FlushBegin { flusher } => self.flush_begin(flusher),
             Step::FlushBlock { flusher } => self.flush_block(flusher),

@@ -1,22 +1,23 @@
 //! Loads: a look-up that issues a read, and the judgement on what was read.
 ghost use Rattle.std.specs.Prelude.{◌≡◌, Option, slice_get};
 ghost use Rattle.foyer_format.specs.declared.serde.ages.Age.{Age as age};
-ghost use Rattle.foyer_core.specs.Answered.{HandsBack, AnswersPair, Looking};
+ghost use Rattle.foyer_core.specs.Answered.{HandsBack, AnswersPair, Describes, Looking, spare_of};
 ghost use Rattle.foyer_model.specs.State.{State};
 ghost use Rattle.foyer_rules.specs.Content.{Content, Meaning, meaning};
-ghost use Rattle.foyer_core.specs.Refines.{RefinesUncounted, missed};
+ghost use Rattle.foyer_core.specs.Refines.{Refines, RefinesUncounted, missed};
 ghost use Rattle.foyer_core.specs.StateOf.{IsStateOf};
 ghost use Rattle.foyer_rules.specs.declared.settings.Settings.{Settings};
 ghost use Rattle.foyer_core.specs.declared.reply.Reply.TheVariants as reply;
 ghost use Rattle.foyer_core.specs.declared.step.Step.TheVariants as step;
 
+use crate::apply::{Env, is_handed_back};
 use crate::reply::Reply;
 use crate::state::Core;
 use crate::step::{Step, Ticket};
 use foyer_block::manager::BlockId;
 use foyer_device::error::{ErrorKind, Result};
 use foyer_format::block::serde::read_record;
-use foyer_format::serde::{Age, Code};
+use foyer_format::serde::{Age, Code, Properties};
 use foyer_standing::blocks::BlockState;
 use std::alloc::Allocator;
 
@@ -76,30 +77,36 @@ impl<K, V, P, A: Allocator + Clone> Core<K, V, P, A> {
         &mut self,
         ticket: Ticket,
         outcome: Result<Vec<u8, A>>,
-    ) -> Reply<K, V, P, A>
+    ) -> (Reply<K, V, P, A>, Option<Vec<u8, A>>)
     where
         K: Code<A> + Drop,
         V: Code<A> + Drop,
-        ensures back { HandsBack (step.LoadEnd ticket outcome) result self.old self.new }
+        ensures back { HandsBack (step.LoadEnd ticket outcome) result.0 self.old self.new }
         ensures pair { AnswersPair K.is_decodable V.is_decodable K.encoding V.encoding
-            (step.LoadEnd ticket outcome) result }
+            (step.LoadEnd ticket outcome) result.0 }
         ensures meets { (age_of : P → Option age)
             → RefinesUncounted (meaning K.encoding V.encoding K.is_encodable V.is_encodable K.is_decodable V.is_decodable age_of)
-            (step.LoadEnd ticket outcome) result self.old self.new }
+            (step.LoadEnd ticket outcome) result.0 self.old self.new }
+        ensures spare { result.1 ≡ spare_of outcome result.0 }
     {
         let address = ticket.address;
         let Some(state) = self.known(address.block) else {
-            return Reply::NotNow(load_end(ticket, outcome));
+            return (Reply::NotNow(load_end(ticket, outcome)), None);
         };
         let bytes = match outcome {
             Ok(bytes) => bytes,
-            Err(error) => return Reply::Refused(ErrorKind::Io, load_end(ticket, Err(error))),
+            Err(error) => {
+                return (
+                    Reply::Refused(ErrorKind::Io, load_end(ticket, Err(error))),
+                    None,
+                );
+            }
         };
         if bytes.len() != ticket.read_len() {
-            return Reply::NotNow(load_end(ticket, Ok(bytes)));
+            return (Reply::NotNow(load_end(ticket, Ok(bytes))), None);
         }
         if state.filling != address.filling {
-            return self.miss(&ticket);
+            return (self.miss(&ticket), Some(bytes));
         }
         let age = if state.probation {
             Age::Old
@@ -108,9 +115,50 @@ impl<K, V, P, A: Allocator + Clone> Core<K, V, P, A> {
         };
         let record = &bytes[..address.len as usize];
         match read_record(&self.alloc, record, ticket.hash, address.sequence) {
-            Ok(Some((key, value))) => Reply::Entry { key, value, age },
-            Ok(None) => self.miss(&ticket),
-            Err(error) => Reply::Refused(error.kind(), load_end(ticket, Ok(bytes))),
+            Ok(Some((key, value))) => (Reply::Entry { key, value, age }, Some(bytes)),
+            Ok(None) => (self.miss(&ticket), Some(bytes)),
+            Err(error) => (
+                Reply::Refused(error.kind(), load_end(ticket, Ok(bytes))),
+                None,
+            ),
         }
+    }
+}
+
+impl<K, V, P, A> Core<K, V, P, A>
+where
+    K: Code<A> + Drop,
+    V: Code<A> + Drop,
+    P: Properties,
+    A: Allocator + Clone,
+{
+    #[tactic(auto, using(crate::proofs::Describing::issues_counted, crate::proofs::Describing::issues_pair))]
+    /// Applies `LoadEnd` as `apply` does, and gives the buffer of the read back beside the reply, for the next read: as it
+    /// came, with all that is in it. None where the read failed, or where the step that is handed back has the buffer.
+    pub fn apply_load(
+        &mut self,
+        _env: &mut Env,
+        ticket: Ticket,
+        outcome: Result<Vec<u8, A>>,
+    ) -> (Reply<K, V, P, A>, Option<Vec<u8, A>>)
+        ensures back { HandsBack (step.LoadEnd ticket outcome) result.0 self.old self.new }
+        ensures issued { Describes K.is_decodable V.is_decodable K.encoding V.encoding
+            (step.LoadEnd ticket outcome) result.0 self.old self.new }
+        ensures meets { Refines
+            (meaning K.encoding V.encoding K.is_encodable V.is_encodable K.is_decodable V.is_decodable P.age)
+            (step.LoadEnd ticket outcome) result.0 self.old self.new }
+        ensures spare { result.1 ≡ spare_of outcome result.0 }
+    {
+        if self.steps == u64::MAX {
+            let given = load_end(ticket, outcome);
+            return (Reply::Refused(ErrorKind::SequenceEnd, given), None);
+        }
+        let steps = self.steps + 1;
+        let (reply, spare) = self.load_end(ticket, outcome);
+        if is_handed_back(&reply) {
+            return (reply, spare);
+        }
+        self.steps = steps;
+        (reply, spare)
     }
 }

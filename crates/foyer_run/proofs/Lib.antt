@@ -1,6 +1,5 @@
 pub mod AccessLemmas
 pub mod BlockLemmas
-pub mod BlockPlaces
 pub mod DriveLemmas
 pub mod DueLemmas
 pub mod FlusherSteps

@@ -23,7 +23,7 @@ use Rattle.foyer_core.specs.declared.state.Core.{Core}
 use Rattle.foyer_core.specs.declared.step.Step.TheVariants as step
 use Rattle.foyer_core.specs.declared.step.Ticket.{Ticket}
 use Rattle.foyer_standing.proofs.ListLemmas.{set_here, set_there, set_count, some_is}
-use Rattle.foyer_run.specs.Disk.{IsRead}
+use Rattle.foyer_blockio.specs.Disk.{IsRead}
 use Rattle.foyer_run.specs.Due.{unread}
 use Rattle.foyer_run.specs.Running.{IsDue, IsMoved, IsRunning, at, issued_of, ticket_in, with_ticket}
 use Rattle.foyer_run.specs.declared.moves.Asked.TheVariants as asks

@@ -1,5 +1,5 @@
 -- What leads a core to rest: the steps of a flush, one after the other.
-use Rattle.std.proofs.Common.{◌≡◌, ◌≢◌, ℕ, ◌+◌, ◌<◌, Bool, true, false, List, [], ◌∷◌, Option, inl, inr, refl, sym, ap, subst, ◌∙◌, arith}
+use Rattle.std.proofs.Common.{◌≡◌, ◌≢◌, ℕ, ◌+◌, ◌<◌, Bool, true, false, List, [], ◌∷◌, inl, inr, refl, sym, ap, subst, ◌∙◌, arith}
 use Rattle.std.proofs.lemmas.Bool.{cases_lt}
 use Rattle.foyer_model.specs.Destroy.{IsIdle}
 use Rattle.foyer_model.specs.Follows.{Follows}
@@ -7,12 +7,11 @@ use Rattle.foyer_model.specs.Receive.{HasReceived, TakesFront}
 use Rattle.foyer_model.specs.Reply as model_reply
 use Rattle.foyer_model.specs.State.{Flusher, State}
 use Rattle.foyer_model.specs.Step as model_step
-use Rattle.foyer_model.specs.World.{after_all}
-use Rattle.foyer_rules.specs.Begins.{first_world}
 use Rattle.foyer_rules.specs.Content.{Content, Meaning}
-use Rattle.foyer_rules.specs.CoreRules.{IsEncoded, layout, machine}
+use Rattle.foyer_rules.specs.CoreRules.{layout, machine}
 use Rattle.foyer_rules.specs.Sizes.{AreValid}
 use Rattle.foyer_rules.specs.declared.settings.Settings.{Settings}
+use Rattle.foyer_core.specs.Asked.{went_well}
 use Rattle.foyer_core.specs.Refines.{IsHandedBack, Refines}
 use Rattle.foyer_core.specs.Replied.{IsReply}
 use Rattle.foyer_core.specs.StateOf.{IsStateOf}
@@ -22,13 +21,10 @@ use Rattle.foyer_core.specs.declared.state.Core.{Core}
 use Rattle.foyer_core.specs.declared.step.Step.{Step}
 use Rattle.foyer_core.specs.declared.step.Step.TheVariants as step
 use Rattle.foyer_core.proofs.RefinesLemmas.{IsOrdinary}
-use Rattle.foyer_run.specs.Accesses.{Writes}
 use Rattle.foyer_run.specs.AtRest.{BeginsNone, ComesToRest, EndsBatch, EndsBatchOnce, KeepsOthers, Leads, LeavesAllIdle, LeavesIdle, LeavesIdleBelow, MayNotBegin, TakesQueue, TakesQueueIf}
-use Rattle.foyer_run.specs.Waiting.{Waits}
-use Rattle.foyer_run.proofs.FlusherSteps.{IsOf, all_keep, begins_none_more, finishes_ends, follows_keep, keeps_more, keeps_same, receives_none, takes_empty}
+use Rattle.foyer_run.proofs.FlusherSteps.{begins_none_more, finishes_ends, follows_keep, keeps_more, keeps_same, receives_none, takes_empty}
 use Rattle.foyer_run.proofs.IdleLemmas.{idle_in_each}
 use Rattle.foyer_run.proofs.ReplyLemmas.{ordinary}
-use Rattle.foyer_run.proofs.WaitingLemmas.{wrote_by}
 
 -- a reply that says that there was nothing to do
 abbrev pub SaysNothing : {K V P A : Type 0} → Reply K V P A → Type 0
@@ -73,22 +69,14 @@ module _ {K V P A : Type 0} (m : Meaning K V P) where
       (second.0, second.1, join it first.0 second.0 first.2 second.2)
 
   -- whatever the states are
-  pub waits_lead : (a b : Core K V P A) (x y : ℕ → ℕ → ℕ) → Waits m a b x y → Leads m IsAny a b
-  waits_lead a b x y waits = λ s sound it at.
-      let w = record (first_world (machine m s sound) x) { core = it } in
-      let waited = waits s sound w at (λ b o. refl) in
-      ((after_all (machine m s sound) w (waited.0).events).core, (waited.0).stands, tt)
+  pub any_none : (core : Core K V P A) → Leads m IsAny core core
+  any_none core = leads_none IsAny core (λ it. tt)
 
   pub step_leads : (given : Step K V P A) (answer : Reply K V P A) (a b : Core K V P A) → Refines m given answer a b → Leads m IsAny a b
   step_leads given answer a b refines = λ s sound it at. let met = refines s sound it at in (met.after, met.stands, tt)
 
-  -- a block and its writes leave the other flushers alone
-  pub wrote_keeps : (f : ℕ) (last : Option (Reply K V P A)) (a b : Core K V P A) (x y : ℕ → ℕ → ℕ) → Writes m f last a b x y → Leads m (KeepsOthers f) a b
-  wrote_keeps f last a b x y writes = λ s sound it at.
-      let rules = machine m s sound in
-      let w = record (first_world rules x) { core = it } in
-      let driven = wrote_by m (IsOf f) f refl (λ is_ok. refl) last a b x y writes s sound w at (λ b o. refl) in
-      ((after_all rules w (driven.0).events).core, (driven.0).stands, all_keep rules (layout s) (IsEncoded m.is_key m.is_value) w f (driven.0).events (driven.0).happened driven.1)
+  pub any_more : (given : Step K V P A) (answer : Reply K V P A) (a b c : Core K V P A) → Leads m IsAny a b → Refines m given answer b c → Leads m IsAny a c
+  any_more given answer a b c led refines = leads_more IsAny IsAny IsAny a b c (λ x y z one two. tt) led (step_leads given answer b c refines)
 
   module _ (f : ℕ) (answer : Reply K V P A) (a b : Core K V P A) where
     -- what is received begins no batch
@@ -154,6 +142,11 @@ module _ {K V P A : Type 0} (m : Meaning K V P) where
         let met = refines s sound it at in
         (met.after, met.stands, follows_keep (machine m s sound) (layout s) it met.after f (model_step.FlushBegin f) met.it refl met.follows)
 
+    pub block_keeps : Refines m (step.FlushBlock f) answer a b → Leads m (KeepsOthers f) a b
+    block_keeps refines = λ s sound it at.
+        let met = refines s sound it at in
+        (met.after, met.stands, follows_keep (machine m s sound) (layout s) it met.after f (model_step.FlushBlock f) met.it refl met.follows)
+
     -- a batch that is ended is over
     pub end_leads : (IsHandedBack answer → ⊥) → Refines m (step.FlushEnd f) answer a b → Leads m (EndsBatch f) a b
     end_leads not refines = λ s sound it at.
@@ -167,6 +160,13 @@ module _ {K V P A : Type 0} (m : Meaning K V P) where
         go s sound it after r is (few, turn, (done, does, eq)) =
             let ends = finishes_ends (machine m s sound) it done f (it.flushers f).batch r does in
             (λ g ne. ap (λ k. k.flushers g) eq ∙ ends.0 g ne, ap (λ k. (k.flushers f).batch) eq ∙ ends.1)
+
+  -- one more write is reported
+  pub report_more : (f : ℕ) (outcome : _) (answer : Reply K V P A) (a b c : Core K V P A) → Leads m (KeepsOthers f) a b → Refines m (step.FlushWrote f outcome) answer b c → Leads m (KeepsOthers f) a c
+  report_more f outcome answer a b c led refines =
+      leads_more (KeepsOthers f) (KeepsOthers f) (KeepsOthers f) a b c (keeps_more f) led (λ s sound it at.
+      let met = refines s sound it at in
+      (met.after, met.stands, follows_keep (machine m s sound) (layout s) it met.after f (model_step.FlushWrote f (went_well outcome)) met.it refl met.follows))
 
 -- one relation after another
 
@@ -228,8 +228,8 @@ module _ {K V P A : Type 0} (m : Meaning K V P) (f : ℕ) (a b c : Core K V P A)
     receive_over nothing led refines = leads_more m (BeginsNone f) (TakesQueue f) (TakesQueue f) a b c (takes_then f) led (receive_ends m f answer b c nothing refines)
 
   -- one more block is written
-  pub write_more : (last : Option (Reply K V P A)) (x y : ℕ → ℕ → ℕ) → Leads m (KeepsOthers f) a b → Writes m f last b c x y → Leads m (KeepsOthers f) a c
-  write_more last x y led writes = leads_more m (KeepsOthers f) (KeepsOthers f) (KeepsOthers f) a b c (keeps_more f) led (wrote_keeps m f last b c x y writes)
+  pub write_more : Leads m (KeepsOthers f) a b → Leads m (KeepsOthers f) b c → Leads m (KeepsOthers f) a c
+  write_more led writes = leads_more m (KeepsOthers f) (KeepsOthers f) (KeepsOthers f) a b c (keeps_more f) led writes
 
   -- one more flusher is idle
   pub idle_more : (next : ℕ) → next ≡ f + 1 → Leads m (LeavesIdleBelow f) a b → Leads m (LeavesIdle f) b c → Leads m (LeavesIdleBelow next) a c

@@ -116,6 +116,22 @@ module _ {K V P A : Type 0} (m : Meaning K V P) where
   pub waits_wrote : (f : ℕ) (last : Option (Reply K V P A)) (a b : Core K V P A) (x y : ℕ → ℕ → ℕ) → Writes m f last a b x y → Waits m a b x y
   waits_wrote f last a b x y writes = wrote_by IsWaiting f tt (λ is_ok. tt) last a b x y writes
 
+  -- the same where a disk must be known for it, and stays known
+  pub known_none : (Known : Type 0) (core : Core K V P A) (bytes : ℕ → ℕ → ℕ) → Known → Known × Waits m core core bytes bytes
+  known_none Known core bytes known = (known, waits_none core bytes)
+
+  pub known_more : {Known After Last : Type 0} (a b c : Core K V P A) (x y z : ℕ → ℕ → ℕ) → (Known → After × Waits m a b x y) → (After → Last × Waits m b c y z)
+      → Known → Last × Waits m a c x z
+  known_more a b c x y z one two known = let first = one known in let second = two first.0 in (second.0, waits_more a b c x y z first.1 second.1)
+
+  pub known_said : (Known : Type 0) (y : Move K V P A) (last : Reply K V P A) (a b : Core K V P A) (bytes : ℕ → ℕ → ℕ) → MakesOnly IsWaiting (asked y) → Says m (y ∷ []) last a b bytes bytes
+      → Known → Known × Waits m a b bytes bytes
+  known_said Known y last a b bytes only says known = (known, waits_said y last a b bytes only says)
+
+  pub known_wrote : {Known After : Type 0} (f : ℕ) (last : Option (Reply K V P A)) (a b : Core K V P A) (x y : ℕ → ℕ → ℕ) → (Known → After) → (Known → Writes m f last a b x y)
+      → Known → After × Waits m a b x y
+  known_wrote f last a b x y stays writes known = (stays known, waits_wrote f last a b x y (writes known))
+
   -- a Close
   pub closes_said : (last : Reply K V P A) (a b : Core K V P A) (bytes : ℕ → ℕ → ℕ) → Says m (move.Close ∷ []) last a b bytes bytes → Closes m a b bytes bytes
   closes_said last a b bytes says s sound w stands same =

@@ -2,7 +2,7 @@
 use Rattle.std.proofs.Common.{◌≡◌, ℕ, ◌+◌, ◌-◌, ◌<◌, ◌≤◌, ◌==◌, nat_le, nat_lt, Bool, true, false, ◌&&◌, if◌then◌else◌, List, [], ◌∷◌, ◌++◌, ◌⊎◌, inl, inr, drop, map, length, Option, Some, None, Result, Ok, Err, slice_get, slice_set, slice_index, refl, sym, ap, subst, ◌∙◌, arith}
 use Rattle.std.proofs.lemmas.Bool.Decides.{nat_tests}
 use Rattle.std.proofs.lemmas.Option.{slice_get_within}
-use Rattle.std.specs.Prelude.{OnOk, OnErr, vec_len}
+use Rattle.std.specs.Prelude.{OnOk, OnErr}
 use Rattle.std.specs.declared.vec.Vec.{Vec}
 use Rattle.foyer_device.specs.declared.error.Error.{Error}
 use Rattle.foyer_model.specs.Access.{BlockWrites, Issued as IssuesWrites, InFlight, will_cover, writes_begun, writes_ended, bytes_ended, result_of, loads_after, issued_after, block_writes_after, IsTorn as IsTornIn}
@@ -27,7 +27,7 @@ use Rattle.foyer_core.specs.declared.state.Core.{Core}
 use Rattle.foyer_core.specs.declared.step.Step.TheVariants as step
 use Rattle.foyer_core.specs.declared.step.Ticket.{Ticket}
 use Rattle.foyer_standing.proofs.ListLemmas.{set_here, set_there, set_count}
-use Rattle.foyer_run.specs.Disk.{IsTorn, IsWritten}
+use Rattle.foyer_blockio.specs.Disk.{IsTorn, IsWritten}
 use Rattle.foyer_run.specs.Due.{due}
 use Rattle.foyer_run.specs.Running.{IsDue, IsMoved, IsRunning, IsIssued, at, next_of, ticket_in, with_ticket, write_at}
 use Rattle.foyer_run.specs.declared.moves.Asked.TheVariants as asks

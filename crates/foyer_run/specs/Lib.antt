@@ -1,6 +1,5 @@
 pub mod Accesses
 pub mod AtRest
-pub mod Disk
 pub mod Driven
 pub mod Due
 pub mod Lawful

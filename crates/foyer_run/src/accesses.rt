@@ -1,5 +1,5 @@
 //! A load and a block's writes, each with its accesses in their place.
-ghost use Rattle.std.specs.Prelude.{ℕ, List, ◌++◌, ◌≡◌, ◌∷◌, [], false, OnErr, IfOk};
+ghost use Rattle.std.specs.Prelude.{ℕ, List, ◌++◌, ◌≡◌, ◌∷◌, [], false, OnErr, IfOk, IfSome, IfNone};
 ghost use Rattle.foyer_model.specs.World.{WorldEvent};
 ghost use Rattle.foyer_rules.specs.Content.{Content, Meaning, meaning};
 ghost use Rattle.foyer_rules.specs.Sizes.{AreValid};
@@ -7,6 +7,7 @@ ghost use Rattle.foyer_rules.specs.declared.settings.Settings.{Settings};
 ghost use Rattle.foyer_core.specs.Refines.{IsBuilt, Refines};
 ghost use Rattle.foyer_core.specs.declared.state.Core.{Core};
 ghost use Rattle.foyer_run.specs.Accesses.{Says, Writes, load_of};
+ghost use Rattle.foyer_run.specs.AtRest.{KeepsOthers, Leads};
 ghost use Rattle.foyer_run.specs.Driven.{Drives};
 ghost use Rattle.foyer_run.specs.Moves.{asked};
 ghost use Rattle.foyer_run.specs.Newest.{IsHistory, IsMissedOnly, IsNewest};
@@ -15,8 +16,9 @@ ghost use Rattle.foyer_run.specs.declared.moves.Move.{Move};
 ghost use Rattle.foyer_run.specs.Running.{IsFree};
 ghost use Rattle.foyer_run.specs.Runs.{IsFront};
 
-use crate::disk::{Disk, do_read, do_write};
+use crate::disk::{do_read, do_write};
 use crate::moves::wants_next_write;
+use foyer_blockio::disk::Disk;
 use foyer_core::apply::Env;
 use foyer_core::reply::Reply;
 use foyer_core::state::Core;
@@ -49,14 +51,27 @@ where
     core.apply(env, given)
 }
 
+// Puts back the buffer that was read into, if it came back.
+fn put_back<A: Allocator>(spare: &mut Vec<u8, A>, buffer: Option<Vec<u8, A>>)
+    ensures back { IfSome buffer (λ bytes. spare.new ≡ bytes) }
+    ensures stays { IfNone buffer (spare.new ≡ spare.old) }
+{
+    if let Some(bytes) = buffer {
+        *spare = bytes;
+    }
+}
+
 /// Looks a hash up, does the read that this issues, and brings what came of it: what the load answers. An entry is the
 /// newest put of the hash, whatever led here. Where the newest event is a put, it is answered, or `Refused` for a
 /// failed read or for memory, unless the caller throttles, a reclaim of its block or a destroy began, or under two
-/// steps are left. `Err` is a refused allocation: then nothing was read, and the load never ends.
+/// steps are left. `Err` is a refused allocation: then nothing was read, and the load never ends. The read goes into the
+/// memory of `spare`, whatever it holds, and only a step that is handed back keeps that memory. Of a disk whose bytes
+/// aren't known nothing is claimed but that the load returns.
 pub fn load<K, V, P, A, D>(
     core: &mut Core<K, V, P, A>,
     env: &mut Env,
     disk: &mut D,
+    spare: &mut Vec<u8, A>,
     hash: u64,
     throttled: bool,
 ) -> std::result::Result<Reply<K, V, P, A>, AllocError>
@@ -66,40 +81,38 @@ where
     P: Properties + Drop,
     A: Allocator + Clone,
     D: Disk,
-    ensures runs { IfOk result (λ last. Says
+    ensures runs { D.is_known disk.old → IfOk result (λ last. Says
         (meaning K.encoding V.encoding K.is_encodable V.is_encodable K.is_decodable V.is_decodable P.age)
         (load_of hash throttled) last core.old core.new (D.byte_at disk.old) (D.byte_at disk.new)) }
-    ensures drives { Drives
+    ensures drives { D.is_known disk.old → Drives
         (meaning K.encoding V.encoding K.is_encodable V.is_encodable K.is_decodable V.is_decodable P.age)
         core.old core.new (D.byte_at disk.old) (D.byte_at disk.new) }
-    ensures newest { IfOk result (IsNewest
+    ensures newest { D.is_known disk.old → IfOk result (IsNewest
         (meaning K.encoding V.encoding K.is_encodable V.is_encodable K.is_decodable V.is_decodable P.age)
         hash core.old (D.byte_at disk.old)) }
-    ensures missed { IfOk result (λ last. throttled ≡ false → IsMissedOnly
+    ensures missed { D.is_known disk.old → IfOk result (λ last. throttled ≡ false → IsMissedOnly
         (meaning K.encoding V.encoding K.is_encodable V.is_encodable K.is_decodable V.is_decodable P.age)
         hash core.old (D.byte_at disk.old) last) }
-    ensures front { OnErr result (IsFront
+    ensures front { D.is_known disk.old → OnErr result (IsFront
         (meaning K.encoding V.encoding K.is_encodable V.is_encodable K.is_decodable V.is_decodable P.age)
         (load_of hash throttled) core.old core.new (D.byte_at disk.old) (D.byte_at disk.new)) }
+    ensures known { D.is_known disk.old → D.is_known disk.new }
     ensures same { D.byte_at disk.new ≡ D.byte_at disk.old }
 {
     let ticket = match core.apply(env, Step::LoadBegin { hash, throttled }) {
         Reply::Read(ticket) => ticket,
         other => return Ok(other),
     };
-    let came = do_read(core.allocator().clone()?, disk, &ticket)?;
-    Ok(core.apply(
-        env,
-        Step::LoadEnd {
-            ticket,
-            result: came,
-        },
-    ))
+    let came = do_read(core.allocator().clone()?, disk, &ticket, spare)?;
+    let (reply, buffer) = core.apply_load(env, ticket, came);
+    put_back(spare, buffer);
+    Ok(reply)
 }
 
 /// Asks a flusher for a block, does the writes that this issues in their order, and reports each: what was answered last,
 /// `None` where the block has no write or none that ended it. After a write that failed, and after a report that didn't
-/// ask for the next, the block's others aren't done.
+/// ask for the next, the block's others aren't done. Of a disk whose bytes aren't known it is only claimed that the other
+/// flushers keep what they have.
 pub fn write_block<K, V, P, A, D>(
     core: &mut Core<K, V, P, A>,
     env: &mut Env,
@@ -112,12 +125,16 @@ where
     P: Properties + Drop,
     A: Allocator + Clone,
     D: Disk,
-    ensures writes { Writes
+    ensures writes { D.is_known disk.old → Writes
         (meaning K.encoding V.encoding K.is_encodable V.is_encodable K.is_decodable V.is_decodable P.age)
         flusher result core.old core.new (D.byte_at disk.old) (D.byte_at disk.new) }
-    ensures drives { Drives
+    ensures drives { D.is_known disk.old → Drives
         (meaning K.encoding V.encoding K.is_encodable V.is_encodable K.is_decodable V.is_decodable P.age)
         core.old core.new (D.byte_at disk.old) (D.byte_at disk.new) }
+    ensures leads { Leads
+        (meaning K.encoding V.encoding K.is_encodable V.is_encodable K.is_decodable V.is_decodable P.age)
+        (KeepsOthers flusher) core.old core.new }
+    ensures known { D.is_known disk.old → D.is_known disk.new }
 {
     let (block, writes) = match core.apply(env, Step::FlushBlock { flusher }) {
         Reply::Write { block, writes } => (block, writes),

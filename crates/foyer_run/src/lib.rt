@@ -3,6 +3,5 @@
 
 pub mod accesses;
 pub mod disk;
-pub mod memory;
 pub mod moves;
 pub mod opened;

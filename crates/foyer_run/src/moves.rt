@@ -3,13 +3,14 @@ ghost use Rattle.std.specs.Prelude.{◌≡◌, [], replicate, ◌+◌, ◌<◌, 
 ghost use Rattle.foyer_device.specs.declared.error.Error.TheVariants.{Memory};
 ghost use Rattle.foyer_format.specs.Page.{page_up};
 ghost use Rattle.foyer_rules.specs.Content.{meaning};
-ghost use Rattle.foyer_run.specs.Disk.{IsRead, IsWritten, IsTorn};
+ghost use Rattle.foyer_blockio.specs.Disk.{IsRead, IsWritten, IsTorn};
 ghost use Rattle.foyer_run.specs.Moves.{asked};
 ghost use Rattle.foyer_run.specs.Running.{AsksFreely, IsFree, Moves, ticket_in, block_in, with_ticket, write_at, at};
 ghost use Rattle.foyer_run.specs.Runs.{Runs, IsFront};
 
-use crate::disk::{Disk, do_read, do_write};
+use crate::disk::{do_read, do_write};
 use foyer_block::manager::BlockId;
+use foyer_blockio::disk::Disk;
 use foyer_core::apply::Env;
 use foyer_core::reply::{Reply, Write};
 use foyer_core::state::Core;
@@ -317,18 +318,20 @@ where
     D: Disk,
     requires tickets { vec_len kept.old.tickets < vec_capacity kept.old.tickets }
     requires replies { vec_len kept.old.replies < vec_capacity kept.old.replies }
-    ensures moved { OnOk result (Moves
+    ensures moved { D.is_known disk.old → OnOk result (Moves
         (meaning K.encoding V.encoding K.is_encodable V.is_encodable K.is_decodable V.is_decodable P.age)
         (Asked.LoadEnd n) kept.old kept.new core.old core.new (D.byte_at disk.old) (D.byte_at disk.new)) }
     ensures stays { OnErr result (core.new ≡ core.old) }
     ensures same { D.byte_at disk.new ≡ D.byte_at disk.old }
     ensures kept { OnErr result (kept.new.replies.items ≡ kept.old.replies.items) }
     ensures one { vec_len kept.new.replies ≤ vec_len kept.old.replies + 1 }
+    ensures known { D.is_known disk.old → D.is_known disk.new }
 {
     let Some(ticket) = get_due(kept.tickets.as_slice(), n) else {
         return Ok(());
     };
-    let came = do_read(core.allocator().clone()?, disk, &ticket)?;
+    let mut buffer = Vec::new(core.allocator().clone()?);
+    let came = do_read(core.allocator().clone()?, disk, &ticket, &mut buffer)?;
     set_due(&mut kept.tickets, n, None);
     let answer = core.apply(
         env,
@@ -359,10 +362,11 @@ where
     D: Disk,
     requires tickets { vec_len kept.old.tickets < vec_capacity kept.old.tickets }
     requires replies { vec_len kept.old.replies < vec_capacity kept.old.replies }
-    ensures moved { Moves
+    ensures moved { D.is_known disk.old → Moves
         (meaning K.encoding V.encoding K.is_encodable V.is_encodable K.is_decodable V.is_decodable P.age)
         (Asked.FlushWrote flusher) kept.old kept.new core.old core.new (D.byte_at disk.old) (D.byte_at disk.new) }
     ensures one { vec_len kept.new.replies ≤ vec_len kept.old.replies + 1 }
+    ensures known { D.is_known disk.old → D.is_known disk.new }
 {
     let Some(issued) = get_due(kept.issued.as_slice(), flusher as usize) else {
         return;
@@ -408,13 +412,14 @@ where
     P: Properties + Drop,
     A: Allocator + Clone,
     D: Disk,
-    ensures moved { OnOk result (Moves
+    ensures moved { D.is_known disk.old → OnOk result (Moves
         (meaning K.encoding V.encoding K.is_encodable V.is_encodable K.is_decodable V.is_decodable P.age)
         (asked x) kept.old kept.new core.old core.new (D.byte_at disk.old) (D.byte_at disk.new)) }
     ensures stays { OnErr result (core.new ≡ core.old) }
     ensures same { OnErr result (D.byte_at disk.new ≡ D.byte_at disk.old) }
     ensures kept { OnErr result (kept.new.replies.items ≡ kept.old.replies.items) }
     ensures one { vec_len kept.new.replies ≤ vec_len kept.old.replies + 1 }
+    ensures known { D.is_known disk.old → D.is_known disk.new }
 {
     kept.tickets.reserve(1)?;
     kept.replies.reserve(1)?;
@@ -478,13 +483,14 @@ where
     A: Allocator + Clone,
     D: Disk,
     ensures replies { IfOk result (λ replies. vec_len replies ≤ vec_len moves) }
-    ensures runs { IfOk result (λ replies. Runs
+    ensures runs { D.is_known disk.old → IfOk result (λ replies. Runs
         (meaning K.encoding V.encoding K.is_encodable V.is_encodable K.is_decodable V.is_decodable P.age)
         moves.items replies.items core.old core.new (D.byte_at disk.old) (D.byte_at disk.new)) }
-    ensures front { OnErr result (IsFront
+    ensures front { D.is_known disk.old → OnErr result (IsFront
         (meaning K.encoding V.encoding K.is_encodable V.is_encodable K.is_decodable V.is_decodable P.age)
         moves.items core.old core.new (D.byte_at disk.old) (D.byte_at disk.new)) }
     ensures memory { IfErr result (λ e. e ≡ Memory) }
+    ensures known { D.is_known disk.old → D.is_known disk.new }
 {
     let flushers = core.settings().flushers as usize;
     let mut kept = begin(core.allocator(), flushers, moves.len())?;

@@ -6,9 +6,9 @@ ghost use Rattle.foyer_rules.specs.Sizes.{AreValid};
 ghost use Rattle.foyer_run.specs.Lawful.{IsLawful};
 ghost use Rattle.foyer_run.specs.Texts.{of_texts};
 
-use crate::disk::Disk;
-use crate::memory::MemoryDisk;
 use crate::moves::{Move, run};
+use foyer_blockio::disk::Disk;
+use foyer_blockio::memory::MemoryDisk;
 use foyer_core::apply::Env;
 use foyer_core::reply::Reply;
 use foyer_core::settings::Settings;
@@ -38,7 +38,7 @@ where
     ensures sound { IfOk result (λ _. AreValid settings) }
     ensures refused { IfErr result (λ e. (e ≡ Memory) ⊎ ((e ≡ Config) × (AreValid settings → ⊥))) }
     ensures unsound { (AreValid settings → ⊥) → result ≡ Err Config }
-    ensures lawful { IfOk result (λ replies. (sound : AreValid settings) (bytes : ℕ → ℕ → ℕ)
+    ensures lawful { D.is_known disk.old → IfOk result (λ replies. (sound : AreValid settings) (bytes : ℕ → ℕ → ℕ)
         → ((b o : ℕ) → bytes b o ≡ D.byte_at disk.old b o) → IsLawful
         (meaning K.encoding V.encoding K.is_encodable V.is_encodable K.is_decodable V.is_decodable P.age)
         settings sound bytes moves.items replies.items) }

@@ -1,5 +1,6 @@
 -- An engine that is driven.
-use Rattle.std.proofs.Common.{◌≡◌, ℕ, Bool, true, false, Ok, Err}
+use Rattle.std.proofs.Common.{◌≡◌, ℕ, [], Bool, true, false, Ok, Err, sym, ap, ◌∙◌}
+use Rattle.std.specs.Prelude.{IfOk, Result}
 use Rattle.std.specs.declared.string.String.{String}
 use Rattle.foyer_rules.specs.Content.{Content}
 use Rattle.foyer_core.specs.Refines.{IsHandedBack}
@@ -7,21 +8,30 @@ use Rattle.foyer_core.specs.declared.reply.Reply.{Reply}
 use Rattle.foyer_core.specs.declared.reply.Reply.TheVariants as reply
 use Rattle.foyer_core.specs.declared.state.Core.{Core}
 use Rattle.foyer_run.specs.Waiting.{Waits}
-use Rattle.foyer_run.specs.Newest.{IsMissedOnly, IsNewest, IsPutOrFault}
-use Rattle.foyer_run.specs.declared.memory.MemoryDisk.{MemoryDisk}
-use Rattle.std.specs.Prelude.{◌+◌, ◌*◌, nat_lt, if◌then◌else◌, slice_index}
+use Rattle.foyer_device.specs.declared.error.Error.{Error}
+use Rattle.foyer_rules.specs.Sizes.{AreValid}
+use Rattle.foyer_rules.specs.declared.settings.Settings.{Settings}
+use Rattle.foyer_run.specs.Newest.{IsHistory, IsMissedOnly, IsNewest, IsPutOrFault}
 use Rattle.foyer_run.proofs.RestLemmas.{SaysNothing}
 use Rattle.foyer_serve.specs.Texts.{IsMissedText, IsNewestText, IsTextOrFault, done_as, got, plain}
 use Rattle.foyer_serve.specs.declared.engine.Engine.{Engine}
 use Rattle.foyer_serve.specs.declared.engine.NoProperties.{NoProperties}
 
--- the bytes of the memory
-abbrev pub bytes_of : {A : Type 0} → MemoryDisk A → ℕ → ℕ → ℕ
-bytes_of d b o = if nat_lt o d.block_size then slice_index d.bytes.items (b * d.block_size + o) else 0
+-- a wait's steps lead from one engine to another, where the disk of the one is known
+abbrev pub Waited : {A D : Type 0} → (D → Type 0) → (D → ℕ → ℕ → ℕ) → Engine A D → Engine A D → Type 0
+Waited is_known byte_at a b = is_known a.disk → is_known b.disk × Waits plain a.core b.core (byte_at a.disk) (byte_at b.disk)
 
--- a wait's steps lead from one engine to another
-abbrev pub Waited : {A : Type 0} → Engine A → Engine A → Type 0
-Waited a b = Waits plain a.core b.core (bytes_of a.disk) (bytes_of b.disk)
+-- an engine that was opened over zeros
+pub zeroed : {A D : Type 0} (s : Settings) (byte_at : D → ℕ → ℕ → ℕ) (disk : D) → ((b o : ℕ) → byte_at disk b o ≡ 0) → (opened : Result (Engine A D) Error)
+    → IfOk opened (λ engine. (sound : AreValid s) → IsHistory plain s sound (byte_at disk) [] engine.core (byte_at engine.disk))
+    → IfOk opened (λ engine. engine.disk ≡ disk)
+    → IfOk opened (λ engine. (sound : AreValid s) → IsHistory plain s sound (λ b o. 0) [] engine.core (byte_at engine.disk))
+zeroed s byte_at disk zeros (Ok engine) begins same = λ sound. record {
+  happened = tt;
+  stands = (begins sound).stands;
+  same = λ b o. sym (ap (λ d. byte_at d b o) same ∙ zeros b o);
+}
+zeroed s byte_at disk zeros (Err e) begins same = tt
 
 -- what is answered of a load's entry is the newest text
 pub newest_got : {A : Type 0} (key : ℕ) (core : Core ℕ (String A) NoProperties A) (bytes : ℕ → ℕ → ℕ) (last : Reply ℕ (String A) NoProperties A) → IsNewest plain key core bytes last → IsNewestText key core bytes (got last)

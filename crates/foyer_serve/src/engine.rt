@@ -1,4 +1,4 @@
-//! The engine that the program keeps: a core over a disk in memory, driven on one thread.
+//! The engine that the program keeps: a core over a disk, driven on one thread.
 ghost use Rattle.std.specs.Prelude.{◌≡◌, ◌⊎◌, ◌≤◌, ◌*◌, ◌^◌, [], None, IfOk, IfErr, string_bytes};
 ghost use Rattle.foyer_device.specs.declared.error.Error.TheVariants.{Config, Memory, OutOfRange};
 ghost use Rattle.foyer_rules.specs.Sizes.{AreValid};
@@ -8,6 +8,8 @@ ghost use Rattle.foyer_run.specs.Newest.{IsHistory};
 ghost use Rattle.foyer_run.specs.Waiting.{Closes, Waits};
 ghost use Rattle.foyer_serve.specs.Texts.{IsDeleted, IsGot, IsMissedText, IsNewestText, IsOkOrFault, IsPut, deleted_as, done_as, got, plain, put_as, wrote_as};
 
+use foyer_blockio::disk::Disk;
+use foyer_blockio::memory::MemoryDisk;
 use foyer_core::apply::Env;
 use foyer_core::reply::Reply;
 use foyer_core::settings::Settings;
@@ -17,8 +19,6 @@ use foyer_device::error::{ErrorKind, Result};
 use foyer_format::serde::{Age, EntrySerializer, Properties};
 use foyer_policy::keeper::Piece;
 use foyer_run::accesses::{load, step, write_block};
-use foyer_run::disk::Disk;
-use foyer_run::memory::MemoryDisk;
 use std::alloc::Allocator;
 
 /// Entries of this program have no age of their own.
@@ -112,19 +112,22 @@ fn answer_block<A: Allocator>(last: Option<EngineReply<A>>) -> std::result::Resu
     }
 }
 
-/// A core with its disk.
+/// A core with its disk. What is said of a disk's bytes is said where they are known: those of memory are, those of a
+/// system's files aren't.
 #[derive(Drop)]
-pub struct Engine<A: Allocator> {
+pub struct Engine<A: Allocator, D: Disk + Drop> {
     alloc: A,
     core: Core<Key, String<A>, NoProperties, A>,
     env: Env,
-    disk: MemoryDisk<A>,
+    disk: D,
+    // What a load reads into.
+    spare: Vec<u8, A>,
     next_wait: u64,
 }
 
-impl<A: Allocator + Clone> Engine<A> {
+impl<A: Allocator + Clone> Engine<A, MemoryDisk<A>> {
     /// Opens an engine that finds nothing, over zeroed memory that has every block.
-    pub fn open(alloc: A, settings: Settings) -> Result<Engine<A>>
+    pub fn open(alloc: A, settings: Settings) -> Result<Engine<A, MemoryDisk<A>>>
         ensures sound { IfOk result (λ _. AreValid settings) }
         ensures begins { IfOk result (λ engine. (sound : AreValid settings) → IsHistory plain settings sound (λ b o. 0) []
             engine.core (⟦<MemoryDisk<A> as Disk>⟧.byte_at engine.disk)) }
@@ -133,10 +136,25 @@ impl<A: Allocator + Clone> Engine<A> {
         ensures disk { IfOk result (λ engine. (engine.disk.blocks ≡ settings.blocks)
             × (engine.disk.block_size ≡ settings.block_size)) }
     {
+        let disk = MemoryDisk::new(alloc.clone()?, settings.blocks, settings.block_size)?;
+        Engine::with_disk(alloc, settings, disk)
+    }
+}
+
+impl<A: Allocator + Clone, D: Disk + Drop> Engine<A, D> {
+    /// Opens an engine that finds nothing, whatever the disk holds.
+    pub fn with_disk(alloc: A, settings: Settings, disk: D) -> Result<Engine<A, D>>
+        ensures sound { IfOk result (λ _. AreValid settings) }
+        ensures begins { IfOk result (λ engine. (sound : AreValid settings) → IsHistory plain settings sound (D.byte_at disk) []
+            engine.core (D.byte_at engine.disk)) }
+        ensures refused { IfErr result (λ e. (e ≡ Memory) ⊎ ((e ≡ Config) × (AreValid settings → ⊥))) }
+        ensures disk { IfOk result (λ engine. engine.disk ≡ disk) }
+    {
         Ok(Engine {
             core: Core::open(alloc.clone()?, settings)?,
             env: Env {},
-            disk: MemoryDisk::new(alloc.clone()?, settings.blocks, settings.block_size)?,
+            disk,
+            spare: Vec::new(alloc.clone()?),
             next_wait: 0,
             alloc,
         })
@@ -153,10 +171,11 @@ impl<A: Allocator + Clone> Engine<A> {
     /// Queues a text under a key.
     pub fn put(&mut self, key: u64, text: &str) -> Answer<A>
         ensures waits { self.new.next_wait ≡ self.old.next_wait }
+        ensures disk { self.new.disk ≡ self.old.disk }
         ensures says { IsPut key text.now self.old.core self.new.core
-            (⟦<MemoryDisk<A> as Disk>⟧.byte_at self.old.disk) (⟦<MemoryDisk<A> as Disk>⟧.byte_at self.new.disk) result }
+            (D.byte_at self.old.disk) (D.byte_at self.new.disk) result }
         ensures driven { Drives plain self.old.core self.new.core
-            (⟦<MemoryDisk<A> as Disk>⟧.byte_at self.old.disk) (⟦<MemoryDisk<A> as Disk>⟧.byte_at self.new.disk) }
+            (D.byte_at self.old.disk) (D.byte_at self.new.disk) }
     {
         let piece = match self.piece(key, text) {
             Ok(piece) => piece,
@@ -171,14 +190,16 @@ impl<A: Allocator + Clone> Engine<A> {
     /// since, or under two of 2^64 - 1 steps are left.
     pub fn get(&mut self, key: u64) -> Answer<A>
         ensures waits { self.new.next_wait ≡ self.old.next_wait }
-        ensures newest { IsNewestText key self.old.core (⟦<MemoryDisk<A> as Disk>⟧.byte_at self.old.disk) result }
-        ensures missed { IsMissedText key self.old.core (⟦<MemoryDisk<A> as Disk>⟧.byte_at self.old.disk) result }
-        ensures says { IsGot key self.old.core self.new.core
-            (⟦<MemoryDisk<A> as Disk>⟧.byte_at self.old.disk) (⟦<MemoryDisk<A> as Disk>⟧.byte_at self.new.disk) result }
-        ensures driven { Drives plain self.old.core self.new.core
-            (⟦<MemoryDisk<A> as Disk>⟧.byte_at self.old.disk) (⟦<MemoryDisk<A> as Disk>⟧.byte_at self.new.disk) }
+        ensures newest { D.is_known self.old.disk → IsNewestText key self.old.core (D.byte_at self.old.disk) result }
+        ensures missed { D.is_known self.old.disk → IsMissedText key self.old.core (D.byte_at self.old.disk) result }
+        ensures known { D.is_known self.old.disk → D.is_known self.new.disk }
+        ensures says { D.is_known self.old.disk → IsGot key self.old.core self.new.core
+            (D.byte_at self.old.disk) (D.byte_at self.new.disk) result }
+        ensures driven { D.is_known self.old.disk → Drives plain self.old.core self.new.core
+            (D.byte_at self.old.disk) (D.byte_at self.new.disk) }
     {
-        match load(&mut self.core, &mut self.env, &mut self.disk, key, false) {
+        let (env, disk, spare) = (&mut self.env, &mut self.disk, &mut self.spare);
+        match load(&mut self.core, env, disk, spare, key, false) {
             Ok(last) => answer_load(last),
             Err(_) => Answer::Fault(ErrorKind::Memory),
         }
@@ -187,10 +208,11 @@ impl<A: Allocator + Clone> Engine<A> {
     /// Deletes what a key has, at once.
     pub fn delete(&mut self, key: u64) -> Answer<A>
         ensures waits { self.new.next_wait ≡ self.old.next_wait }
+        ensures disk { self.new.disk ≡ self.old.disk }
         ensures says { IsDeleted key self.old.core self.new.core
-            (⟦<MemoryDisk<A> as Disk>⟧.byte_at self.old.disk) (⟦<MemoryDisk<A> as Disk>⟧.byte_at self.new.disk) result }
+            (D.byte_at self.old.disk) (D.byte_at self.new.disk) result }
         ensures driven { Drives plain self.old.core self.new.core
-            (⟦<MemoryDisk<A> as Disk>⟧.byte_at self.old.disk) (⟦<MemoryDisk<A> as Disk>⟧.byte_at self.new.disk) }
+            (D.byte_at self.old.disk) (D.byte_at self.new.disk) }
     {
         answer_delete(step(&mut self.core, &mut self.env, Step::Delete { hash: key }))
     }
@@ -201,8 +223,8 @@ impl<A: Allocator + Clone> Engine<A> {
     pub fn wait(&mut self) -> Answer<A>
         ensures answered { IsOkOrFault result }
         ensures rest { result ≡ Answer.Ok → ComesToRest plain self.old.core self.new.core }
-        ensures waited { Waits plain self.old.core self.new.core
-            (⟦<MemoryDisk<A> as Disk>⟧.byte_at self.old.disk) (⟦<MemoryDisk<A> as Disk>⟧.byte_at self.new.disk) }
+        ensures waited { D.is_known self.old.disk → D.is_known self.new.disk × Waits plain self.old.core self.new.core
+            (D.byte_at self.old.disk) (D.byte_at self.new.disk) }
     {
         for flusher in 0..self.core.settings().flushers {
             let id = self.next_wait;
@@ -219,8 +241,8 @@ impl<A: Allocator + Clone> Engine<A> {
     pub fn close(&mut self) -> Answer<A>
         ensures answered { IsOkOrFault result }
         ensures rest { result ≡ Answer.Ok → ComesToRest plain self.old.core self.new.core }
-        ensures closed { Closes plain self.old.core self.new.core
-            (⟦<MemoryDisk<A> as Disk>⟧.byte_at self.old.disk) (⟦<MemoryDisk<A> as Disk>⟧.byte_at self.new.disk) }
+        ensures closed { D.is_known self.old.disk → D.is_known self.new.disk × Closes plain self.old.core self.new.core
+            (D.byte_at self.old.disk) (D.byte_at self.new.disk) }
     {
         let closed = step(&mut self.core, &mut self.env, Step::Close);
         match answer_step(closed) {
@@ -233,8 +255,8 @@ impl<A: Allocator + Clone> Engine<A> {
     fn flush_all(&mut self) -> Answer<A>
         ensures answered { IsOkOrFault result }
         ensures leads { result ≡ Answer.Ok → Leads plain LeavesAllIdle self.old.core self.new.core }
-        ensures waited { Waits plain self.old.core self.new.core
-            (⟦<MemoryDisk<A> as Disk>⟧.byte_at self.old.disk) (⟦<MemoryDisk<A> as Disk>⟧.byte_at self.new.disk) }
+        ensures waited { D.is_known self.old.disk → D.is_known self.new.disk × Waits plain self.old.core self.new.core
+            (D.byte_at self.old.disk) (D.byte_at self.new.disk) }
     {
         for flusher in 0..self.core.settings().flushers {
             match self.flush(flusher) {
@@ -250,8 +272,8 @@ impl<A: Allocator + Clone> Engine<A> {
     // never reported.
     fn flush(&mut self, flusher: u32) -> std::result::Result<(), ErrorKind>
         ensures leads { IfOk result (λ _. Leads plain (LeavesIdle flusher) self.old.core self.new.core) }
-        ensures waited { Waits plain self.old.core self.new.core
-            (⟦<MemoryDisk<A> as Disk>⟧.byte_at self.old.disk) (⟦<MemoryDisk<A> as Disk>⟧.byte_at self.new.disk) }
+        ensures waited { D.is_known self.old.disk → D.is_known self.new.disk × Waits plain self.old.core self.new.core
+            (D.byte_at self.old.disk) (D.byte_at self.new.disk) }
     {
         let mut has_ended = false;
         for _ in 0..u64::MAX {
@@ -275,8 +297,8 @@ impl<A: Allocator + Clone> Engine<A> {
     // that is handed back takes more than half of the buffer, or doesn't fit a block, and is dropped.
     fn receive_all(&mut self, flusher: u32) -> std::result::Result<bool, ErrorKind>
         ensures leads { IfOk result (λ is_empty. Leads plain (TakesQueueIf is_empty flusher) self.old.core self.new.core) }
-        ensures waited { Waits plain self.old.core self.new.core
-            (⟦<MemoryDisk<A> as Disk>⟧.byte_at self.old.disk) (⟦<MemoryDisk<A> as Disk>⟧.byte_at self.new.disk) }
+        ensures waited { D.is_known self.old.disk → D.is_known self.new.disk × Waits plain self.old.core self.new.core
+            (D.byte_at self.old.disk) (D.byte_at self.new.disk) }
     {
         for _ in 0..u64::MAX {
             let received = step(&mut self.core, &mut self.env, Step::Receive { flusher });
@@ -293,8 +315,8 @@ impl<A: Allocator + Clone> Engine<A> {
     // Writes the blocks of the batch.
     fn write_all(&mut self, flusher: u32) -> std::result::Result<(), ErrorKind>
         ensures leads { IfOk result (λ _. Leads plain (KeepsOthers flusher) self.old.core self.new.core) }
-        ensures waited { Waits plain self.old.core self.new.core
-            (⟦<MemoryDisk<A> as Disk>⟧.byte_at self.old.disk) (⟦<MemoryDisk<A> as Disk>⟧.byte_at self.new.disk) }
+        ensures waited { D.is_known self.old.disk → D.is_known self.new.disk × Waits plain self.old.core self.new.core
+            (D.byte_at self.old.disk) (D.byte_at self.new.disk) }
     {
         for _ in 0..u64::MAX {
             let wrote = write_block(&mut self.core, &mut self.env, &mut self.disk, flusher);

@@ -6,6 +6,7 @@
 
 mod answer;
 mod command;
+mod directory;
 pub mod engine;
 mod lines;
 mod options;

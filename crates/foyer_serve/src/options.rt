@@ -13,23 +13,29 @@ pub const MEMORY: &str = ":memory:";
 
 /// `DIR CAPACITY BLOCK`, the numbers in bytes.
 #[derive(Clone, Copy, Debug, PartialEq, Eq)]
-pub struct Options {
-    pub is_memory: bool,
+pub struct Options<'a> {
+    /// The directory's path, or `:memory:`.
+    pub directory: &'a str,
     pub capacity: u64,
     pub block_size: u64,
 }
 
-impl Options {
+impl<'a> Options<'a> {
     /// Reads the words. None where there are not three, or the second or third is no number.
-    pub fn parse<A: Allocator>(words: &[String<A>]) -> Option<Options> {
+    pub fn parse<A: Allocator>(words: &'a [String<A>]) -> Option<Options<'a>> {
         if words.len() != 3 {
             return None;
         }
         Some(Options {
-            is_memory: words[0].as_str() == MEMORY,
+            directory: words[0].as_str(),
             capacity: number(words[1].as_bytes())?,
             block_size: number(words[2].as_bytes())?,
         })
+    }
+
+    /// Whether the blocks are to be in memory.
+    pub fn is_memory(&self) -> bool {
+        self.directory == MEMORY
     }
 
     /// The sizes that an engine is opened with: the block rounded up to whole pages, and as many blocks as the capacity

@@ -1,13 +1,19 @@
 //! The program.
 use crate::answer::{print, print_fault};
 use crate::command::Command;
+use crate::directory::{open_directory, report};
 use crate::engine::{Answer, Engine};
 use crate::lines::{Filled, Lines};
 use crate::options::{Options, USAGE};
-use foyer_device::error::{Error, ErrorKind, Result};
+use foyer_blockio::disk::Disk;
+use foyer_blockio::memory::MemoryDisk;
+use foyer_core::settings::Settings;
+use foyer_device::error::{ErrorKind, Result};
 use std::alloc::Allocator;
+use std::fs::File;
 use std::io;
 use std::io::{BufWriter, Read, Write};
+use std::rt::Files;
 
 // The bytes of the output's buffer.
 const OUTPUT_CAPACITY: usize = 64 * 1024;
@@ -22,15 +28,18 @@ const STATUS_USAGE: u8 = 2;
 /// Runs the program over the words `DIR CAPACITY BLOCK`, and gives its exit status: 0, or 1 where a fault or a bad line
 /// was printed, an input or output failed, or the end's close was refused, or 2 for bad words.
 ///
-/// Each line of the input is answered by one line. Answers are written out before more input is asked for.
-pub fn serve<A, B, R, W, E>(
+/// Each line of the input is answered by one line. Answers are written out before more input is asked for. Where the
+/// directory can't be opened, a line of `errors` names it and what failed, beside the fault that is answered.
+pub fn serve<T, A, B, R, W, E>(
+    rt: &T,
     alloc: A,
     words: &[String<B>],
     input: R,
-    mut output: W,
+    output: W,
     mut errors: E,
 ) -> u8
 where
+    T: Files<File = File> + Alloc,
     A: Allocator + Clone,
     B: Allocator,
     R: Read + Drop,
@@ -41,43 +50,65 @@ where
         let _ = errors.write_all(USAGE.as_bytes());
         return STATUS_USAGE;
     };
-    match open(&alloc, &options) {
-        Err(error) => {
-            let _ = print_fault(&mut output, error.kind());
-            STATUS_FAULT
-        }
-        Ok(engine) => {
-            let Ok(lines_alloc) = alloc.clone() else {
-                let _ = print_fault(&mut output, ErrorKind::Memory);
-                return STATUS_FAULT;
-            };
-            let Ok(lines) = Lines::new(lines_alloc, input) else {
-                let _ = print_fault(&mut output, ErrorKind::Memory);
-                return STATUS_FAULT;
-            };
-            answer_lines(alloc, engine, lines, output)
+    // `Config` is found before anything is touched.
+    let settings = match options.settings() {
+        Ok(settings) => settings,
+        Err(error) => return answer_fault(output, error.kind()),
+    };
+    if options.is_memory() {
+        return match open_memory(&alloc, settings) {
+            Ok(engine) => answer_input(alloc, engine, input, output),
+            Err(error) => answer_fault(output, error.kind()),
+        };
+    }
+    match open_directory(rt, &alloc, &options, settings) {
+        Ok(engine) => answer_input(alloc, engine, input, output),
+        Err(failed) => {
+            let _ = report(&mut errors, options.directory, &failed);
+            answer_fault(output, failed.kind)
         }
     }
 }
 
-// `Config` is found before anything is touched.
-fn open<A: Allocator + Clone>(alloc: &A, options: &Options) -> Result<Engine<A>> {
-    let settings = options.settings()?;
-    if !options.is_memory {
-        return Err(Error::Unsupported);
-    }
+fn open_memory<A: Allocator + Clone>(
+    alloc: &A,
+    settings: Settings,
+) -> Result<Engine<A, MemoryDisk<A>>> {
     Engine::open(alloc.clone()?, settings)
 }
 
+fn answer_fault<W: Write + Drop>(mut output: W, kind: ErrorKind) -> u8 {
+    let _ = print_fault(&mut output, kind);
+    STATUS_FAULT
+}
+
+// Answers the input, once the engine is open.
+fn answer_input<A, D, R, W>(alloc: A, engine: Engine<A, D>, input: R, output: W) -> u8
+where
+    A: Allocator + Clone,
+    D: Disk + Drop,
+    R: Read + Drop,
+    W: Write + Drop,
+{
+    let Ok(lines_alloc) = alloc.clone() else {
+        return answer_fault(output, ErrorKind::Memory);
+    };
+    match Lines::new(lines_alloc, input) {
+        Ok(lines) => answer_lines(alloc, engine, lines, output),
+        Err(_) => answer_fault(output, ErrorKind::Memory),
+    }
+}
+
 // Answers the input's lines, and closes the engine.
-fn answer_lines<A, R, W>(
+fn answer_lines<A, D, R, W>(
     alloc: A,
-    mut engine: Engine<A>,
+    mut engine: Engine<A, D>,
     mut lines: Lines<R, A>,
     mut direct: W,
 ) -> u8
 where
     A: Allocator + Clone,
+    D: Disk + Drop,
     R: Read + Drop,
     W: Write + Drop,
 {
@@ -100,14 +131,15 @@ where
 }
 
 // Answers every line, until the input ends or fails, or the output fails.
-fn answer_all<A, R, W>(
-    engine: &mut Engine<A>,
+fn answer_all<A, D, R, W>(
+    engine: &mut Engine<A, D>,
     lines: &mut Lines<R, A>,
     output: &mut W,
     is_well: &mut bool,
 ) -> io::Result<()>
 where
     A: Allocator + Clone,
+    D: Disk + Drop,
     R: Read + Drop,
     W: Write,
 {
@@ -136,14 +168,15 @@ where
     Ok(())
 }
 
-fn answer_line<A, W>(
-    engine: &mut Engine<A>,
+fn answer_line<A, D, W>(
+    engine: &mut Engine<A, D>,
     line: &[u8],
     output: &mut W,
     is_well: &mut bool,
 ) -> io::Result<()>
 where
     A: Allocator + Clone,
+    D: Disk + Drop,
     W: Write,
 {
     let answer = match Command::parse(line) {

@@ -16,6 +16,7 @@ fn main(rt: HostRuntime) -> ExitCode {
         }
     }
     let status = serve(
+        &rt,
         rt.alloc(),
         words.as_slice(),
         rt.stdin(),

@@ -3,6 +3,7 @@ ghost use Rattle.std.specs.Prelude.{◌≡◌, ℕ, ◌≤◌, ◌↔◌, ◌+�
 ghost use Rattle.foyer_io.specs.Disk.{Disk, IfKnown, Becomes, CanAccess, DidRead, DidWrite, MayTear, IsAccessFault};
 ghost use Rattle.foyer_device.specs.declared.error.Error.TheVariants as error;
 
+mod buffers;
 mod config;
 mod fault;
 mod handle;
@@ -12,12 +13,14 @@ mod noop;
 mod psync;
 mod shared_memory;
 
+pub use buffers::{ReadBuffer, WriteBuffer};
 pub use config::{IoEngineBuildContext, IoEngineConfig};
 pub use fault::FaultIoEngine;
 use foyer_device::io::bytes::{IoBuf, IoBufMut};
 use foyer_disk::io::device::Partition;
 pub use handle::IoHandle;
 pub use memory::MemoryIoEngine;
+pub use memory_file::MemoryFile;
 pub use noop::{NoopIoEngine, NoopIoEngineConfig};
 pub use psync::{PsyncIoEngine, PsyncIoEngineConfig};
 pub use shared_memory::{SharedMemoryIoEngine, SharedMemoryIoEngineConfig};

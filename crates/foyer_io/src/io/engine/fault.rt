@@ -2,33 +2,10 @@
 ghost use Rattle.std.specs.Prelude.{◌≡◌, ℕ, ◌+◌, ◌-◌, ◌^◌, ◌<◌, ◌≤◌, ◌⊎◌, length, min, true, false};
 ghost use Rattle.foyer_io.specs.Disk.{Becomes, MayTear};
 
-use super::{IoEngine, IoHandle};
+use super::{IoEngine, IoHandle, WriteBuffer};
 use foyer_device::error::Error;
-use foyer_device::io::bytes::{IoB, IoBuf, IoBufMut};
+use foyer_device::io::bytes::{IoBuf, IoBufMut};
 use foyer_disk::io::device::Partition;
-
-// The first bytes of a buffer.
-struct Prefix<'a>(&'a [u8]);
-
-impl Drop for Prefix<'_> {
-    fn drop(self) {
-        let Prefix(_) = self;
-    }
-}
-
-impl IoB for Prefix<'_> {
-    ghost bytes = { λ p. p.0.now };
-
-    fn as_slice(&self) -> &[u8] {
-        self.0
-    }
-}
-
-impl IoBuf for Prefix<'_> {
-    fn into_iob(self) -> Self {
-        self
-    }
-}
 
 /// An engine whose call of a number fails with Io, counted from 1: a read of nothing, a write after its first bytes.
 /// All other calls are the inner engine's, unless it is to stop: then all later ones fail too.
@@ -133,6 +110,6 @@ fn write_prefix<E: IoEngine, P: Partition>(
     ensures counted { E.faults inner.old ≤ E.faults inner.new }
 {
     let kept = kept.min(bytes.len());
-    let prefix = Prefix(&bytes[..kept]);
+    let prefix = WriteBuffer(&bytes[..kept]);
     drop(inner.write(prefix, partition, offset));
 }

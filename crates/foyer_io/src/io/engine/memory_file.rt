@@ -8,7 +8,7 @@ use std::marker::Model;
 
 /// Bytes of a fixed number in memory, which is first touched where it is written. What was never written is zeros.
 #[derive(Drop)]
-pub(super) struct MemoryFile<A: Allocator> {
+pub struct MemoryFile<A: Allocator> {
     // The bytes up to the last one that was written.
     bytes: Vec<u8, A>,
     len: usize,
@@ -64,8 +64,8 @@ fn get_at(memory: &[u8], start: usize, into: &mut [u8])
 }
 
 impl<A: Allocator> MemoryFile<A> {
-    // That many zeros. Memory.
-    pub(super) fn new(alloc: A, len: usize) -> Result<MemoryFile<A>>
+    /// That many zeros. Memory.
+    pub fn new(alloc: A, len: usize) -> Result<MemoryFile<A>>
         ensures zeros { IfOk result (λ f. f ≡ record { len = len; bytes = [] }) }
         ensures memory { OnErr result (result ≡ Err error.Memory) }
     {
@@ -75,15 +75,15 @@ impl<A: Allocator> MemoryFile<A> {
         })
     }
 
-    // Whether so many bytes from a place on lie in it.
-    pub(super) fn has(&self, at: u64, len: usize) -> bool
+    /// Whether so many bytes from a place on lie in it.
+    pub fn has(&self, at: u64, len: usize) -> bool
         ensures { IsTrue result ↔ (at + len ≤ self.now.len) }
     {
         len <= self.len && at <= (self.len - len) as u64
     }
 
-    // Fills `into` with the bytes from a place on.
-    pub(super) fn read_at(&self, at: u64, into: &mut [u8])
+    /// Fills `into` with the bytes from a place on.
+    pub fn read_at(&self, at: u64, into: &mut [u8])
         requires { at + length into.old ≤ self.now.len }
         ensures { (i : ℕ) → i < length into.new
             → slice_index into.new i ≡ slice_index self.now.bytes (at + i) }
@@ -91,8 +91,8 @@ impl<A: Allocator> MemoryFile<A> {
         get_at(self.bytes.as_slice(), at as usize, into);
     }
 
-    // Writes the bytes over those from a place on.
-    pub(super) fn write_at(&mut self, at: u64, bytes: &[u8])
+    /// Writes the bytes over those from a place on.
+    pub fn write_at(&mut self, at: u64, bytes: &[u8])
         requires { at + length bytes.now ≤ self.old.len }
         ensures same { self.new.len ≡ self.old.len }
         ensures put { (i : ℕ) → i < length bytes.now

@@ -30,16 +30,17 @@ returns-in_default g c =
     (step_alone m s sound encodes w (move.LoadBegin h throttled) (step.LoadBegin h throttled) answer c.args.core.now c.apply.new.self bytes stands same refl tt
     c.apply.ensures.back (λ v at built. c.apply.ensures.meets built s sound v.core at) c.apply.ensures.later)
     (no_ticket answer c.in_default.not-Read)) in record {
-      runs = says;
-      drives = says_drive m (load_of h throttled) answer c.args.core.now c.apply.new.self bytes bytes says;
-      newest = look_up_newest m h throttled answer c.args.core.now c.apply.new.self bytes (λ s sound v at. c.apply.ensures.meets tt s sound v.core at);
-      missed = λ not. look_up_missed m h throttled answer c.args.core.now c.apply.new.self bytes not (no_ticket answer c.in_default.not-Read) (λ s sound v at. c.apply.ensures.meets tt s sound v.core at);
-      front = tt;
+      runs = λ known. says;
+      drives = λ known. says_drive m (load_of h throttled) answer c.args.core.now c.apply.new.self bytes bytes says;
+      newest = λ known. look_up_newest m h throttled answer c.args.core.now c.apply.new.self bytes (λ s sound v at. c.apply.ensures.meets tt s sound v.core at);
+      missed = λ known not. look_up_missed m h throttled answer c.args.core.now c.apply.new.self bytes not (no_ticket answer c.in_default.not-Read) (λ s sound v at. c.apply.ensures.meets tt s sound v.core at);
+      front = λ known. tt;
+      known = λ known. known;
       same = refl;
     }
 
 pub returns-in_err-clone-clause-front : goal.returns-in_err-clone-clause-front
-returns-in_err-clone-clause-front g c =
+returns-in_err-clone-clause-front g c = λ known.
     let m = meaning g.K.Code.encoding g.V.Code.encoding g.K.Code.is_encodable g.V.Code.is_encodable g.K.Code.is_decodable g.V.Code.is_decodable g.P.Properties.age in
     let encodes = encodings_of g.K.Code.encoding g.V.Code.encoding g.K.Code.is_encodable g.V.Code.is_encodable g.K.Code.is_decodable g.V.Code.is_decodable g.P.Properties.age g.met.K.Code.is_encoded g.met.V.Code.is_encoded in
     let bytes = g.D.Disk.byte_at c.args.disk.now in
@@ -53,7 +54,7 @@ returns-in_err-clone-clause-front g c =
     c.apply.ensures.back (λ v at built. c.apply.ensures.meets built s sound v.core at) c.apply.ensures.later))
 
 pub returns-in_err-clone-clause-drives : goal.returns-in_err-clone-clause-drives
-returns-in_err-clone-clause-drives g c =
+returns-in_err-clone-clause-drives g c = λ known.
     let m = meaning g.K.Code.encoding g.V.Code.encoding g.K.Code.is_encodable g.V.Code.is_encodable g.K.Code.is_decodable g.V.Code.is_decodable g.P.Properties.age in
     let encodes = encodings_of g.K.Code.encoding g.V.Code.encoding g.K.Code.is_encodable g.V.Code.is_encodable g.K.Code.is_decodable g.V.Code.is_decodable g.P.Properties.age g.met.K.Code.is_encoded g.met.V.Code.is_encoded in
     let bytes = g.D.Disk.byte_at c.args.disk.now in
@@ -61,7 +62,7 @@ returns-in_err-clone-clause-drives g c =
     (λ s sound v at built. c.apply.ensures.meets built s sound v.core at) c.apply.ensures.later
 
 pub returns-in_err-came-clause-front : goal.returns-in_err-came-clause-front
-returns-in_err-came-clause-front g c =
+returns-in_err-came-clause-front g c = λ known.
     let m = meaning g.K.Code.encoding g.V.Code.encoding g.K.Code.is_encodable g.V.Code.is_encodable g.K.Code.is_decodable g.V.Code.is_decodable g.P.Properties.age in
     let encodes = encodings_of g.K.Code.encoding g.V.Code.encoding g.K.Code.is_encodable g.V.Code.is_encodable g.K.Code.is_decodable g.V.Code.is_decodable g.P.Properties.age g.met.K.Code.is_encoded g.met.V.Code.is_encoded in
     let bytes = g.D.Disk.byte_at c.args.disk.now in
@@ -76,7 +77,7 @@ returns-in_err-came-clause-front g c =
     c.apply.ensures.back (λ v at built. c.apply.ensures.meets built s sound v.core at) c.apply.ensures.later)))
 
 pub returns-in_err-came-clause-drives : goal.returns-in_err-came-clause-drives
-returns-in_err-came-clause-drives g c =
+returns-in_err-came-clause-drives g c = λ known.
     let m = meaning g.K.Code.encoding g.V.Code.encoding g.K.Code.is_encodable g.V.Code.is_encodable g.K.Code.is_decodable g.V.Code.is_decodable g.P.Properties.age in
     let encodes = encodings_of g.K.Code.encoding g.V.Code.encoding g.K.Code.is_encodable g.V.Code.is_encodable g.K.Code.is_decodable g.V.Code.is_decodable g.P.Properties.age g.met.K.Code.is_encoded g.met.V.Code.is_encoded in
     let bytes = g.D.Disk.byte_at c.args.disk.now in
@@ -85,45 +86,45 @@ returns-in_err-came-clause-drives g c =
     (λ s sound v at built. c.apply.ensures.meets built s sound v.core at) c.apply.ensures.later)
 
 pub returns-clause-runs : goal.returns-clause-runs
-returns-clause-runs g c =
+returns-clause-runs g c = λ known.
     let m = meaning g.K.Code.encoding g.V.Code.encoding g.K.Code.is_encodable g.V.Code.is_encodable g.K.Code.is_decodable g.V.Code.is_decodable g.P.Properties.age in
     let encodes = encodings_of g.K.Code.encoding g.V.Code.encoding g.K.Code.is_encodable g.V.Code.is_encodable g.K.Code.is_decodable g.V.Code.is_decodable g.P.Properties.age g.met.K.Code.is_encoded g.met.V.Code.is_encoded in
     let bytes = g.D.Disk.byte_at c.args.disk.now in
     let h = c.args.hash in
     let throttled = c.args.throttled in
     let issued = c.apply.result in
-    let answer = c.apply-2.result in
+    let answer = c.apply_load-reply.result.0 in
     let tickets = with_ticket (ticket_in answer) (None ∷ []) in
-    says_last m (load_of h throttled) tickets (issued ∷ []) answer c.args.core.now c.apply-2.new.self bytes (g.D.Disk.byte_at c.do_read.new.disk)
-    (subst (λ new. Goes m (load_of h throttled) tickets (issued ∷ answer ∷ []) c.args.core.now c.apply-2.new.self bytes new) (sym c.in_ok-came.ensures.same)
+    says_last m (load_of h throttled) tickets (issued ∷ []) answer c.args.core.now c.apply_load-reply.new.self bytes (g.D.Disk.byte_at c.do_read.new.disk)
+    (subst (λ new. Goes m (load_of h throttled) tickets (issued ∷ answer ∷ []) c.args.core.now c.apply_load-reply.new.self bytes new) (sym c.in_ok-came.ensures.same)
     (λ s sound w stands same.
-    load_whole m s sound w h throttled c.in-Read.ticket c.in_ok-came.came issued answer c.apply.new.self c.apply-2.new.self bytes
+    load_whole m s sound w h throttled c.in-Read.ticket c.in_ok-came.came issued answer c.apply.new.self c.apply_load-reply.new.self bytes
     (step_alone m s sound encodes w (move.LoadBegin h throttled) (step.LoadBegin h throttled) issued c.args.core.now c.apply.new.self bytes stands same refl tt
     c.apply.ensures.back (λ v at built. c.apply.ensures.meets built s sound v.core at) c.apply.ensures.later)
     (ap ticket_in c.in-Read.is)
-    (come_is bytes c.in-Read.ticket c.in_ok-came.came c.in_ok-came.ensures.read c.in_ok-came.ensures.len)
-    (λ v at. c.apply-2.ensures.meets tt s sound v.core at)))
+    (come_is bytes c.in-Read.ticket c.in_ok-came.came (c.in_ok-came.ensures.read known) c.in_ok-came.ensures.len)
+    (λ v at. c.apply_load-reply.ensures.meets s sound v.core at)))
 
 pub returns-clause-newest : goal.returns-clause-newest
-returns-clause-newest g c =
+returns-clause-newest g c = λ known.
     let m = meaning g.K.Code.encoding g.V.Code.encoding g.K.Code.is_encodable g.V.Code.is_encodable g.K.Code.is_decodable g.V.Code.is_decodable g.P.Properties.age in
     let bytes = g.D.Disk.byte_at c.args.disk.now in
-    load_newest m c.args.hash c.args.throttled c.in-Read.ticket c.in_ok-came.came c.apply-2.result c.args.core.now c.apply.new.self c.apply-2.new.self bytes
+    load_newest m c.args.hash c.args.throttled c.in-Read.ticket c.in_ok-came.came c.apply_load-reply.result.0 c.args.core.now c.apply.new.self c.apply_load-reply.new.self bytes
     (λ s sound v at. subst (λ r. IsRefined m s sound (step.LoadBegin c.args.hash c.args.throttled) r c.apply.new.self v.core) c.in-Read.is (c.apply.ensures.meets tt s sound v.core at))
-    (come_is bytes c.in-Read.ticket c.in_ok-came.came c.in_ok-came.ensures.read c.in_ok-came.ensures.len)
-    (λ s sound v at. c.apply-2.ensures.meets tt s sound v.core at)
+    (come_is bytes c.in-Read.ticket c.in_ok-came.came (c.in_ok-came.ensures.read known) c.in_ok-came.ensures.len)
+    (λ s sound v at. c.apply_load-reply.ensures.meets s sound v.core at)
 
 pub returns-clause-missed : goal.returns-clause-missed
-returns-clause-missed g c = λ not.
+returns-clause-missed g c = λ known not.
     let m = meaning g.K.Code.encoding g.V.Code.encoding g.K.Code.is_encodable g.V.Code.is_encodable g.K.Code.is_decodable g.V.Code.is_decodable g.P.Properties.age in
     let bytes = g.D.Disk.byte_at c.args.disk.now in
-    load_missed m c.args.hash c.args.throttled c.in-Read.ticket c.in_ok-came.came c.apply-2.result c.args.core.now c.apply.new.self c.apply-2.new.self bytes not
+    load_missed m c.args.hash c.args.throttled c.in-Read.ticket c.in_ok-came.came c.apply_load-reply.result.0 c.args.core.now c.apply.new.self c.apply_load-reply.new.self bytes not
     (λ s sound v at. subst (λ r. IsRefined m s sound (step.LoadBegin c.args.hash c.args.throttled) r c.apply.new.self v.core) c.in-Read.is (c.apply.ensures.meets tt s sound v.core at))
-    (come_is bytes c.in-Read.ticket c.in_ok-came.came c.in_ok-came.ensures.read c.in_ok-came.ensures.len)
-    (λ s sound v at. c.apply-2.ensures.meets tt s sound v.core at)
+    (come_is bytes c.in-Read.ticket c.in_ok-came.came (c.in_ok-came.ensures.read known) c.in_ok-came.ensures.len)
+    (λ s sound v at. c.apply_load-reply.ensures.meets s sound v.core at)
 
 pub returns-clause-drives : goal.returns-clause-drives
-returns-clause-drives g c =
+returns-clause-drives g c = λ known.
     let m = meaning g.K.Code.encoding g.V.Code.encoding g.K.Code.is_encodable g.V.Code.is_encodable g.K.Code.is_decodable g.V.Code.is_decodable g.P.Properties.age in
-    says_drive m (load_of c.args.hash c.args.throttled) c.apply-2.result c.args.core.now c.apply-2.new.self (g.D.Disk.byte_at c.args.disk.now) (g.D.Disk.byte_at c.do_read.new.disk)
-    (returns-clause-runs g c)
+    says_drive m (load_of c.args.hash c.args.throttled) c.apply_load-reply.result.0 c.args.core.now c.apply_load-reply.new.self (g.D.Disk.byte_at c.args.disk.now) (g.D.Disk.byte_at c.do_read.new.disk)
+    (returns-clause-runs g c known)

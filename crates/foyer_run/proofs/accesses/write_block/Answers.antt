@@ -6,6 +6,7 @@ use Rattle.foyer_core.specs.declared.step.Step.TheVariants as step
 use Rattle.foyer_core.proofs.FlushTurns.{went_is}
 use Rattle.foyer_run.proofs.AccessLemmas.{no_block, writing_first, written_all, written_ends, written_none, written_on}
 use Rattle.foyer_run.proofs.DriveLemmas.{writes_drive}
+use Rattle.foyer_run.proofs.RestLemmas.{block_keeps, report_more}
 use Rattle.foyer_run.proofs.WriteLemmas.{done_is}
 use Rattle.foyer_run.proofs.accesses.write_block.Goals as goal
 
@@ -16,19 +17,28 @@ returns-in_default g c =
     let writes =
     written_none m c.args.flusher c.apply.result c.args.core.now c.apply.new.self bytes
     (λ s sound v at. c.apply.ensures.meets tt s sound v.core at) (no_block c.apply.result c.in_default.not-Write) in
-    record { writes = writes; drives = writes_drive m c.args.flusher (Some c.apply.result) c.args.core.now c.apply.new.self bytes bytes writes }
+    record {
+      writes = λ known. writes;
+      drives = λ known. writes_drive m c.args.flusher (Some c.apply.result) c.args.core.now c.apply.new.self bytes bytes writes;
+      leads = block_keeps m c.args.flusher c.apply.result c.args.core.now c.apply.new.self (c.apply.ensures.meets tt);
+      known = λ known. known;
+    }
 
 pub writes-init : goal.writes-init
 writes-init g c =
     let m = meaning g.K.Code.encoding g.V.Code.encoding g.K.Code.is_encodable g.V.Code.is_encodable g.K.Code.is_decodable g.V.Code.is_decodable g.P.Properties.age in record {
-      ws = c.in-Write.writes;
-      rest = [];
-      rest_is = refl;
-      within = omega arith;
-      items_are = sym c.deref-write-items.ensures.value;
-      writing = λ s sound w stands same.
-          writing_first m s sound w c.args.flusher c.in-Write.block c.in-Write.writes c.args.core.now c.apply.new.self (g.D.Disk.byte_at c.args.disk.now) stands same
-          (λ v at. subst (λ r. IsRefined m s sound (step.FlushBlock c.args.flusher) r c.apply.new.self v.core) c.in-Write.is (c.apply.ensures.meets tt s sound v.core at));
+      known = λ known. known;
+      written = λ known. record {
+        ws = c.in-Write.writes;
+        rest = [];
+        rest_is = refl;
+        within = omega arith;
+        items_are = sym c.deref-write-items.ensures.value;
+        writing = λ s sound w stands same.
+            writing_first m s sound w c.args.flusher c.in-Write.block c.in-Write.writes c.args.core.now c.apply.new.self (g.D.Disk.byte_at c.args.disk.now) stands same
+            (λ v at. subst (λ r. IsRefined m s sound (step.FlushBlock c.args.flusher) r c.apply.new.self v.core) c.in-Write.is (c.apply.ensures.meets tt s sound v.core at));
+      };
+      leads = block_keeps m c.args.flusher c.apply.result c.args.core.now c.apply.new.self (c.apply.ensures.meets tt);
     }
 
 pub returns-then-not-wants_next_write : goal.returns-then-not-wants_next_write
@@ -41,13 +51,18 @@ returns-then-not-wants_next_write g c =
     let outcome = c.do_write-wrote.result in
     let at = slice_get_at c.deref-write-items.result.now c.writes.write-index write c.writes-test.true c.write-item.is in
     let ok = c.is_ok-went_well.ensures.value ∙ went_is outcome in
-    let writes =
+    let writes = λ (known : g.D.Disk.is_known c.args.disk.now).
     written_ends m c.args.flusher b c.writes.write-index c.deref-write-items.result.now write outcome c.apply-reply.result c.args.core.now c.writes.core c.apply-reply.new.self
-    (g.D.Disk.byte_at c.args.disk.now) before after c.writes.invariant at
-    (done_is before after b write outcome c.do_write-wrote.ensures.wrote c.do_write-wrote.ensures.torn)
+    (g.D.Disk.byte_at c.args.disk.now) before after (c.writes.invariant.written known) at
+    (done_is before after b write outcome (c.do_write-wrote.ensures.wrote (c.writes.invariant.known known)) (c.do_write-wrote.ensures.torn (c.writes.invariant.known known)))
     (λ s sound v at. c.apply-reply.ensures.meets tt s sound v.core at)
     (elim c.if-not-wants_next_write.ensures [ inl failed ↦ inl (sym ok ∙ failed) | inr last ↦ inr last ]) in
-    record { writes = writes; drives = writes_drive m c.args.flusher (Some c.apply-reply.result) c.args.core.now c.apply-reply.new.self (g.D.Disk.byte_at c.args.disk.now) after writes }
+    record {
+      writes = writes;
+      drives = λ known. writes_drive m c.args.flusher (Some c.apply-reply.result) c.args.core.now c.apply-reply.new.self (g.D.Disk.byte_at c.args.disk.now) after (writes known);
+      leads = report_more m c.args.flusher outcome c.apply-reply.result c.args.core.now c.writes.core c.apply-reply.new.self c.writes.invariant.leads (c.apply-reply.ensures.meets tt);
+      known = λ known. c.do_write-wrote.ensures.known (c.writes.invariant.known known);
+    }
 
 pub writes-preserved : goal.writes-preserved
 writes-preserved g c =
@@ -59,16 +74,26 @@ writes-preserved g c =
     let outcome = c.do_write-wrote.result in
     let at = slice_get_at c.deref-write-items.result.now c.writes.write-index write c.writes-test.true c.write-item.is in
     let ok = c.is_ok-went_well.ensures.value ∙ went_is outcome in
-    written_on m c.args.flusher b c.writes.write-index c.deref-write-items.result.now write outcome c.apply-reply.result c.args.core.now c.writes.core c.apply-reply.new.self
-    (g.D.Disk.byte_at c.args.disk.now) before after c.writes.invariant c.writes-test.true at
-    (done_is before after b write outcome c.do_write-wrote.ensures.wrote c.do_write-wrote.ensures.torn)
-    (λ s sound v at. c.apply-reply.ensures.meets tt s sound v.core at)
-    (sym ok ∙ c.if-not-wants_next_write.ensures.0) c.if-not-wants_next_write.ensures.1
+    record {
+      known = λ known. c.do_write-wrote.ensures.known (c.writes.invariant.known known);
+      leads = report_more m c.args.flusher outcome c.apply-reply.result c.args.core.now c.writes.core c.apply-reply.new.self c.writes.invariant.leads (c.apply-reply.ensures.meets tt);
+      written = λ known.
+          written_on m c.args.flusher b c.writes.write-index c.deref-write-items.result.now write outcome c.apply-reply.result c.args.core.now c.writes.core c.apply-reply.new.self
+          (g.D.Disk.byte_at c.args.disk.now) before after (c.writes.invariant.written known) c.writes-test.true at
+          (done_is before after b write outcome (c.do_write-wrote.ensures.wrote (c.writes.invariant.known known)) (c.do_write-wrote.ensures.torn (c.writes.invariant.known known)))
+          (λ s sound v at. c.apply-reply.ensures.meets tt s sound v.core at)
+          (sym ok ∙ c.if-not-wants_next_write.ensures.0) c.if-not-wants_next_write.ensures.1;
+    }
 
 pub returns : goal.returns
 returns g c =
     let m = meaning g.K.Code.encoding g.V.Code.encoding g.K.Code.is_encodable g.V.Code.is_encodable g.K.Code.is_decodable g.V.Code.is_decodable g.P.Properties.age in
     let bytes = g.D.Disk.byte_at c.args.disk.now in
     let after = g.D.Disk.byte_at c.writes.disk in
-    let writes = written_all m c.args.flusher c.in-Write.block c.writes.write-index c.deref-write-items.result.now c.args.core.now c.writes.core bytes after c.writes.invariant c.writes-test.false in
-    record { writes = writes; drives = writes_drive m c.args.flusher None c.args.core.now c.writes.core bytes after writes }
+    let writes = λ (known : g.D.Disk.is_known c.args.disk.now). written_all m c.args.flusher c.in-Write.block c.writes.write-index c.deref-write-items.result.now c.args.core.now c.writes.core bytes after (c.writes.invariant.written known) c.writes-test.false in
+    record {
+      writes = writes;
+      drives = λ known. writes_drive m c.args.flusher None c.args.core.now c.writes.core bytes after (writes known);
+      leads = c.writes.invariant.leads;
+      known = c.writes.invariant.known;
+    }

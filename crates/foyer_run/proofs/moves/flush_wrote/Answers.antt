@@ -7,7 +7,7 @@ use Rattle.foyer_run.proofs.WriteLemmas.{done_is, next_issued, none_left, none_n
 use Rattle.foyer_run.proofs.moves.flush_wrote.Goals as goal
 
 pub returns-in_default-clause-moved : goal.returns-in_default-clause-moved
-returns-in_default-clause-moved g c = λ s sound first block_writes w running.
+returns-in_default-clause-moved g c = λ known s sound first block_writes w running.
     let m = meaning g.K.Code.encoding g.V.Code.encoding g.K.Code.is_encodable g.V.Code.is_encodable g.K.Code.is_decodable g.V.Code.is_decodable g.P.Properties.age in
     let f = c.args.flusher in
     let tickets = c.args.kept.now.tickets.items in
@@ -19,7 +19,7 @@ returns-in_default-clause-moved g c = λ s sound first block_writes w running.
     (ap (λ xs. at (slice_get xs f)) (sym c.as_slice.ensures.value) ∙ sym c.get_due.ensures ∙ c.in_default.is))
 
 pub returns-in_default-next_write-clause-moved : goal.returns-in_default-next_write-clause-moved
-returns-in_default-next_write-clause-moved g c = λ s sound first block_writes w running.
+returns-in_default-next_write-clause-moved g c = λ known s sound first block_writes w running.
     let m = meaning g.K.Code.encoding g.V.Code.encoding g.K.Code.is_encodable g.V.Code.is_encodable g.K.Code.is_decodable g.V.Code.is_decodable g.P.Properties.age in
     let f = c.args.flusher in
     let tickets = c.args.kept.now.tickets.items in
@@ -34,7 +34,7 @@ returns-in_default-next_write-clause-moved g c = λ s sound first block_writes w
     (ap (λ xs. write_at (slice_get xs x.reply) x.next) (sym c.as_slice-2.ensures.value) ∙ c.in_default-next_write.ensures.write)))
 
 pub returns-then-wants_next_write-clause-moved : goal.returns-then-wants_next_write-clause-moved
-returns-then-wants_next_write-clause-moved g c = λ s sound first block_writes w running.
+returns-then-wants_next_write-clause-moved g c = λ known s sound first block_writes w running.
     let m = meaning g.K.Code.encoding g.V.Code.encoding g.K.Code.is_encodable g.V.Code.is_encodable g.K.Code.is_decodable g.V.Code.is_decodable g.P.Properties.age in
     let f = c.args.flusher in
     let tickets = c.args.kept.now.tickets.items in
@@ -49,7 +49,7 @@ returns-then-wants_next_write-clause-moved g c = λ s sound first block_writes w
     c.args.core.now c.apply-reply.new.self bytes (g.D.Disk.byte_at c.do_write-wrote.new.disk) w running
     (ap (λ xs. at (slice_get xs f)) (sym c.as_slice.ensures.value) ∙ sym c.get_due.ensures ∙ c.in-Some.is)
     (ap (λ xs. write_at (slice_get xs x.reply) x.next) (sym c.as_slice-2.ensures.value) ∙ c.in-Some-next_write.ensures.write)
-    (done_is bytes (g.D.Disk.byte_at c.do_write-wrote.new.disk) x.block write outcome c.do_write-wrote.ensures.wrote c.do_write-wrote.ensures.torn)
+    (done_is bytes (g.D.Disk.byte_at c.do_write-wrote.new.disk) x.block write outcome (c.do_write-wrote.ensures.wrote known) (c.do_write-wrote.ensures.torn known))
     (c.apply-reply.ensures.meets tt s sound w.core running.stands) c.note_ticket.ensures.noted c.push_reserved.ensures.items
     (inl (
       sym ok ∙ c.if-wants_next_write.ensures.0,
@@ -58,7 +58,7 @@ returns-then-wants_next_write-clause-moved g c = λ s sound first block_writes w
     ))
 
 pub returns-clause-moved : goal.returns-clause-moved
-returns-clause-moved g c = λ s sound first block_writes w running.
+returns-clause-moved g c = λ known s sound first block_writes w running.
     let m = meaning g.K.Code.encoding g.V.Code.encoding g.K.Code.is_encodable g.V.Code.is_encodable g.K.Code.is_decodable g.V.Code.is_decodable g.P.Properties.age in
     let f = c.args.flusher in
     let tickets = c.args.kept.now.tickets.items in
@@ -73,6 +73,6 @@ returns-clause-moved g c = λ s sound first block_writes w running.
     c.args.core.now c.apply-reply.new.self bytes (g.D.Disk.byte_at c.do_write-wrote.new.disk) w running
     (ap (λ xs. at (slice_get xs f)) (sym c.as_slice.ensures.value) ∙ sym c.get_due.ensures ∙ c.in-Some.is)
     (ap (λ xs. write_at (slice_get xs x.reply) x.next) (sym c.as_slice-2.ensures.value) ∙ c.in-Some-next_write.ensures.write)
-    (done_is bytes (g.D.Disk.byte_at c.do_write-wrote.new.disk) x.block write outcome c.do_write-wrote.ensures.wrote c.do_write-wrote.ensures.torn)
+    (done_is bytes (g.D.Disk.byte_at c.do_write-wrote.new.disk) x.block write outcome (c.do_write-wrote.ensures.wrote known) (c.do_write-wrote.ensures.torn known))
     (c.apply-reply.ensures.meets tt s sound w.core running.stands) c.note_ticket.ensures.noted c.push_reserved-2.ensures.items
     (inr ((elim c.if-wants_next_write.ensures [ inl failed ↦ inl (sym ok ∙ failed) | inr last ↦ inr last ]), c.set_due.ensures.set))

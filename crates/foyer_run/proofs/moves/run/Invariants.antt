@@ -11,7 +11,8 @@ abbrev pub invariant-loop-x : goal.invariant-loop-x
 invariant-loop-x g l = record {
   few : vec_len l.kept.replies ≤ length l.yielded;
   rest : l.fn.moves.items ≡ l.yielded ++ l.x-iterator.rest.items;
-  going : (s : Settings) (sound : AreValid s) (w : World Content)
+  known : g.D.Disk.is_known l.fn.disk → g.D.Disk.is_known l.disk;
+  going : g.D.Disk.is_known l.fn.disk → (s : Settings) (sound : AreValid s) (w : World Content)
       → IsStateOf (meaning g.K.Code.encoding g.V.Code.encoding g.K.Code.is_encodable g.V.Code.is_encodable g.K.Code.is_decodable g.V.Code.is_decodable g.P.Properties.age) s l.fn.core w.core
       → ((b o : ℕ) → w.bytes b o ≡ g.D.Disk.byte_at l.fn.disk b o)
       → IsGoing (meaning g.K.Code.encoding g.V.Code.encoding g.K.Code.is_encodable g.V.Code.is_encodable g.K.Code.is_decodable g.V.Code.is_decodable g.P.Properties.age) s sound w

@@ -103,8 +103,8 @@ returns-in-Ok-None-clause-meets g c = λ age_of s sound it stands few.
     (misses m s sound it t c.in-Ok.bytes there as_issued c.miss-in-Ok-None.new.self (c.miss-in-Ok-None.ensures.meets m s it stands)
     (judged_now m s sound it t c.in-Ok.bytes.items NoRecord filling none)))
 
-pub returns-clause-meets : goal.returns-clause-meets
-returns-clause-meets g c = λ age_of s sound it stands few.
+pub returns-in-Err-read_record-clause-meets : goal.returns-in-Err-read_record-clause-meets
+returns-in-Err-read_record-clause-meets g c = λ age_of s sound it stands few.
     let m = meaning g.K.Code.encoding g.V.Code.encoding g.K.Code.is_encodable g.V.Code.is_encodable g.K.Code.is_decodable g.V.Code.is_decodable age_of in
     let old = c.args.self.now in
     let t = c.args.ticket in

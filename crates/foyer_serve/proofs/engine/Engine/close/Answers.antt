@@ -4,16 +4,22 @@ use Rattle.foyer_core.specs.declared.step.Step.TheVariants as step
 use Rattle.foyer_run.proofs.RestLemmas.{IsAny, rest_after, step_leads}
 use Rattle.foyer_run.proofs.WaitingLemmas.{closes_more, closes_said}
 use Rattle.foyer_serve.specs.Texts.{plain}
-use Rattle.foyer_serve.proofs.EngineLemmas.{bytes_of}
 use Rattle.foyer_serve.proofs.engine.Engine.close.Goals as goal
 
 pub returns-in-Err-clause-closed : goal.returns-in-Err-clause-closed
-returns-in-Err-clause-closed g c =
-    closes_said plain c.step-closed.result c.args.self.now.core c.step-closed.new.core (bytes_of c.args.self.now.disk) (c.step-closed.ensures.runs move.Close refl (bytes_of c.args.self.now.disk))
+returns-in-Err-clause-closed g c = λ known. (
+  known,
+  closes_said plain c.step-closed.result c.args.self.now.core c.step-closed.new.core (g.D.Disk.byte_at c.args.self.now.disk) (c.step-closed.ensures.runs move.Close refl (g.D.Disk.byte_at c.args.self.now.disk)),
+)
 
 pub returns-in-Ok-clause-closed : goal.returns-in-Ok-clause-closed
-returns-in-Ok-clause-closed g c =
-    closes_more plain c.args.self.now.core c.step-closed.new.core c.wait.new.self.core (bytes_of c.args.self.now.disk) (bytes_of c.args.self.now.disk) (bytes_of c.wait.new.self.disk) (closes_said plain c.step-closed.result c.args.self.now.core c.step-closed.new.core (bytes_of c.args.self.now.disk) (c.step-closed.ensures.runs move.Close refl (bytes_of c.args.self.now.disk))) (c.wait.ensures.waited)
+returns-in-Ok-clause-closed g c = λ known.
+    let bytes = g.D.Disk.byte_at c.args.self.now.disk in
+    let waited = c.wait.ensures.waited known in (
+      waited.0,
+      closes_more plain c.args.self.now.core c.step-closed.new.core c.wait.new.self.core bytes bytes (g.D.Disk.byte_at c.wait.new.self.disk)
+          (closes_said plain c.step-closed.result c.args.self.now.core c.step-closed.new.core bytes (c.step-closed.ensures.runs move.Close refl bytes)) waited.1,
+    )
 
 pub returns-in-Ok-clause-rest : goal.returns-in-Ok-clause-rest
 returns-in-Ok-clause-rest g c = λ ok.

@@ -2,30 +2,30 @@ use Rattle.std.proofs.Common.{◌≡◌, true, false, refl, sym, ◌∙◌}
 use Rattle.foyer_run.specs.AtRest.{EndsBatchOnce}
 use Rattle.foyer_run.specs.declared.moves.Move.TheVariants as move
 use Rattle.foyer_run.proofs.RestLemmas.{flush_more, flush_over, leads_none}
-use Rattle.foyer_run.proofs.WaitingLemmas.{waits_more, waits_none, waits_said}
+use Rattle.foyer_run.proofs.WaitingLemmas.{known_more, known_none, known_said}
 use Rattle.foyer_serve.specs.Texts.{plain}
-use Rattle.foyer_serve.proofs.EngineLemmas.{bytes_of, done_nothing, done_something}
+use Rattle.foyer_serve.proofs.EngineLemmas.{done_nothing, done_something}
 use Rattle.foyer_serve.proofs.engine.Engine.flush.Goals as goal
 
 pub loop-init : goal.loop-init
 loop-init g c = (
-  waits_none plain c.args.self.now.core (bytes_of c.args.self.now.disk),
+  known_none plain (g.D.Disk.is_known c.args.self.now.disk) c.args.self.now.core (g.D.Disk.byte_at c.args.self.now.disk),
   leads_none plain (EndsBatchOnce false c.args.flusher) c.args.self.now.core (λ it. (λ g ne. refl, λ ended. absurd (let e : false ≡ true = ended in cc))),
 )
 
 pub returns-in_err-is_empty-clause-waited : goal.returns-in_err-is_empty-clause-waited
 returns-in_err-is_empty-clause-waited g c =
-    waits_more plain c.args.self.now.core c.loop.self.core c.receive_all.new.self.core (bytes_of c.args.self.now.disk) (bytes_of c.loop.self.disk) (bytes_of c.receive_all.new.self.disk) c.loop.invariant.0 (c.in_err-is_empty.ensures.waited)
+    known_more plain c.args.self.now.core c.loop.self.core c.receive_all.new.self.core (g.D.Disk.byte_at c.args.self.now.disk) (g.D.Disk.byte_at c.loop.self.disk) (g.D.Disk.byte_at c.receive_all.new.self.disk) c.loop.invariant.0 (c.in_err-is_empty.ensures.waited)
 
 pub returns-in_err-has_begun-clause-waited : goal.returns-in_err-has_begun-clause-waited
 returns-in_err-has_begun-clause-waited g c =
-    let received = waits_more plain c.args.self.now.core c.loop.self.core c.receive_all.new.self.core (bytes_of c.args.self.now.disk) (bytes_of c.loop.self.disk) (bytes_of c.receive_all.new.self.disk) c.loop.invariant.0 (c.receive_all.ensures.waited) in
-    waits_more plain c.args.self.now.core c.receive_all.new.self.core c.step-begin.new.core (bytes_of c.args.self.now.disk) (bytes_of c.receive_all.new.self.disk) (bytes_of c.receive_all.new.self.disk) received (waits_said plain (move.FlushBegin c.args.flusher) c.step-begin.result c.receive_all.new.self.core c.step-begin.new.core (bytes_of c.receive_all.new.self.disk) tt (c.step-begin.ensures.runs (move.FlushBegin c.args.flusher) refl (bytes_of c.receive_all.new.self.disk)))
+    let received = known_more plain c.args.self.now.core c.loop.self.core c.receive_all.new.self.core (g.D.Disk.byte_at c.args.self.now.disk) (g.D.Disk.byte_at c.loop.self.disk) (g.D.Disk.byte_at c.receive_all.new.self.disk) c.loop.invariant.0 (c.receive_all.ensures.waited) in
+    known_more plain c.args.self.now.core c.receive_all.new.self.core c.step-begin.new.core (g.D.Disk.byte_at c.args.self.now.disk) (g.D.Disk.byte_at c.receive_all.new.self.disk) (g.D.Disk.byte_at c.receive_all.new.self.disk) received (known_said plain (g.D.Disk.is_known c.receive_all.new.self.disk) (move.FlushBegin c.args.flusher) c.step-begin.result c.receive_all.new.self.core c.step-begin.new.core (g.D.Disk.byte_at c.receive_all.new.self.disk) tt (c.step-begin.ensures.runs (move.FlushBegin c.args.flusher) refl (g.D.Disk.byte_at c.receive_all.new.self.disk)))
 
 pub returns-then-not-has_begun-clause-waited : goal.returns-then-not-has_begun-clause-waited
 returns-then-not-has_begun-clause-waited g c =
-    let received = waits_more plain c.args.self.now.core c.loop.self.core c.receive_all.new.self.core (bytes_of c.args.self.now.disk) (bytes_of c.loop.self.disk) (bytes_of c.receive_all.new.self.disk) c.loop.invariant.0 (c.receive_all.ensures.waited) in
-    waits_more plain c.args.self.now.core c.receive_all.new.self.core c.step-begin.new.core (bytes_of c.args.self.now.disk) (bytes_of c.receive_all.new.self.disk) (bytes_of c.receive_all.new.self.disk) received (waits_said plain (move.FlushBegin c.args.flusher) c.step-begin.result c.receive_all.new.self.core c.step-begin.new.core (bytes_of c.receive_all.new.self.disk) tt (c.step-begin.ensures.runs (move.FlushBegin c.args.flusher) refl (bytes_of c.receive_all.new.self.disk)))
+    let received = known_more plain c.args.self.now.core c.loop.self.core c.receive_all.new.self.core (g.D.Disk.byte_at c.args.self.now.disk) (g.D.Disk.byte_at c.loop.self.disk) (g.D.Disk.byte_at c.receive_all.new.self.disk) c.loop.invariant.0 (c.receive_all.ensures.waited) in
+    known_more plain c.args.self.now.core c.receive_all.new.self.core c.step-begin.new.core (g.D.Disk.byte_at c.args.self.now.disk) (g.D.Disk.byte_at c.receive_all.new.self.disk) (g.D.Disk.byte_at c.receive_all.new.self.disk) received (known_said plain (g.D.Disk.is_known c.receive_all.new.self.disk) (move.FlushBegin c.args.flusher) c.step-begin.result c.receive_all.new.self.core c.step-begin.new.core (g.D.Disk.byte_at c.receive_all.new.self.disk) tt (c.step-begin.ensures.runs (move.FlushBegin c.args.flusher) refl (g.D.Disk.byte_at c.receive_all.new.self.disk)))
 
 pub returns-then-not-has_begun-clause-leads : goal.returns-then-not-has_begun-clause-leads
 returns-then-not-has_begun-clause-leads g c =
@@ -35,30 +35,30 @@ returns-then-not-has_begun-clause-leads g c =
 
 pub returns-in_err-write_all-clause-waited : goal.returns-in_err-write_all-clause-waited
 returns-in_err-write_all-clause-waited g c =
-    let received = waits_more plain c.args.self.now.core c.loop.self.core c.receive_all.new.self.core (bytes_of c.args.self.now.disk) (bytes_of c.loop.self.disk) (bytes_of c.receive_all.new.self.disk) c.loop.invariant.0 (c.receive_all.ensures.waited) in
-    let begun = waits_more plain c.args.self.now.core c.receive_all.new.self.core c.step-begin.new.core (bytes_of c.args.self.now.disk) (bytes_of c.receive_all.new.self.disk) (bytes_of c.receive_all.new.self.disk) received (waits_said plain (move.FlushBegin c.args.flusher) c.step-begin.result c.receive_all.new.self.core c.step-begin.new.core (bytes_of c.receive_all.new.self.disk) tt (c.step-begin.ensures.runs (move.FlushBegin c.args.flusher) refl (bytes_of c.receive_all.new.self.disk))) in
-    waits_more plain c.args.self.now.core c.step-begin.new.core c.write_all.new.self.core (bytes_of c.args.self.now.disk) (bytes_of c.receive_all.new.self.disk) (bytes_of c.write_all.new.self.disk) begun (c.write_all.ensures.waited)
+    let received = known_more plain c.args.self.now.core c.loop.self.core c.receive_all.new.self.core (g.D.Disk.byte_at c.args.self.now.disk) (g.D.Disk.byte_at c.loop.self.disk) (g.D.Disk.byte_at c.receive_all.new.self.disk) c.loop.invariant.0 (c.receive_all.ensures.waited) in
+    let begun = known_more plain c.args.self.now.core c.receive_all.new.self.core c.step-begin.new.core (g.D.Disk.byte_at c.args.self.now.disk) (g.D.Disk.byte_at c.receive_all.new.self.disk) (g.D.Disk.byte_at c.receive_all.new.self.disk) received (known_said plain (g.D.Disk.is_known c.receive_all.new.self.disk) (move.FlushBegin c.args.flusher) c.step-begin.result c.receive_all.new.self.core c.step-begin.new.core (g.D.Disk.byte_at c.receive_all.new.self.disk) tt (c.step-begin.ensures.runs (move.FlushBegin c.args.flusher) refl (g.D.Disk.byte_at c.receive_all.new.self.disk))) in
+    known_more plain c.args.self.now.core c.step-begin.new.core c.write_all.new.self.core (g.D.Disk.byte_at c.args.self.now.disk) (g.D.Disk.byte_at c.receive_all.new.self.disk) (g.D.Disk.byte_at c.write_all.new.self.disk) begun (c.write_all.ensures.waited)
 
 pub returns-in_err-answer_step-clause-waited : goal.returns-in_err-answer_step-clause-waited
 returns-in_err-answer_step-clause-waited g c =
-    let received = waits_more plain c.args.self.now.core c.loop.self.core c.receive_all.new.self.core (bytes_of c.args.self.now.disk) (bytes_of c.loop.self.disk) (bytes_of c.receive_all.new.self.disk) c.loop.invariant.0 (c.receive_all.ensures.waited) in
-    let begun = waits_more plain c.args.self.now.core c.receive_all.new.self.core c.step-begin.new.core (bytes_of c.args.self.now.disk) (bytes_of c.receive_all.new.self.disk) (bytes_of c.receive_all.new.self.disk) received (waits_said plain (move.FlushBegin c.args.flusher) c.step-begin.result c.receive_all.new.self.core c.step-begin.new.core (bytes_of c.receive_all.new.self.disk) tt (c.step-begin.ensures.runs (move.FlushBegin c.args.flusher) refl (bytes_of c.receive_all.new.self.disk))) in
-    let written = waits_more plain c.args.self.now.core c.step-begin.new.core c.write_all.new.self.core (bytes_of c.args.self.now.disk) (bytes_of c.receive_all.new.self.disk) (bytes_of c.write_all.new.self.disk) begun (c.write_all.ensures.waited) in
-    waits_more plain c.args.self.now.core c.write_all.new.self.core c.step-end.new.core (bytes_of c.args.self.now.disk) (bytes_of c.write_all.new.self.disk) (bytes_of c.write_all.new.self.disk) written (waits_said plain (move.FlushEnd c.args.flusher) c.step-end.result c.write_all.new.self.core c.step-end.new.core (bytes_of c.write_all.new.self.disk) tt (c.step-end.ensures.runs (move.FlushEnd c.args.flusher) refl (bytes_of c.write_all.new.self.disk)))
+    let received = known_more plain c.args.self.now.core c.loop.self.core c.receive_all.new.self.core (g.D.Disk.byte_at c.args.self.now.disk) (g.D.Disk.byte_at c.loop.self.disk) (g.D.Disk.byte_at c.receive_all.new.self.disk) c.loop.invariant.0 (c.receive_all.ensures.waited) in
+    let begun = known_more plain c.args.self.now.core c.receive_all.new.self.core c.step-begin.new.core (g.D.Disk.byte_at c.args.self.now.disk) (g.D.Disk.byte_at c.receive_all.new.self.disk) (g.D.Disk.byte_at c.receive_all.new.self.disk) received (known_said plain (g.D.Disk.is_known c.receive_all.new.self.disk) (move.FlushBegin c.args.flusher) c.step-begin.result c.receive_all.new.self.core c.step-begin.new.core (g.D.Disk.byte_at c.receive_all.new.self.disk) tt (c.step-begin.ensures.runs (move.FlushBegin c.args.flusher) refl (g.D.Disk.byte_at c.receive_all.new.self.disk))) in
+    let written = known_more plain c.args.self.now.core c.step-begin.new.core c.write_all.new.self.core (g.D.Disk.byte_at c.args.self.now.disk) (g.D.Disk.byte_at c.receive_all.new.self.disk) (g.D.Disk.byte_at c.write_all.new.self.disk) begun (c.write_all.ensures.waited) in
+    known_more plain c.args.self.now.core c.write_all.new.self.core c.step-end.new.core (g.D.Disk.byte_at c.args.self.now.disk) (g.D.Disk.byte_at c.write_all.new.self.disk) (g.D.Disk.byte_at c.write_all.new.self.disk) written (known_said plain (g.D.Disk.is_known c.write_all.new.self.disk) (move.FlushEnd c.args.flusher) c.step-end.result c.write_all.new.self.core c.step-end.new.core (g.D.Disk.byte_at c.write_all.new.self.disk) tt (c.step-end.ensures.runs (move.FlushEnd c.args.flusher) refl (g.D.Disk.byte_at c.write_all.new.self.disk)))
 
 pub returns-then-not-branch-clause-waited : goal.returns-then-not-branch-clause-waited
 returns-then-not-branch-clause-waited g c =
-    let received = waits_more plain c.args.self.now.core c.loop.self.core c.receive_all.new.self.core (bytes_of c.args.self.now.disk) (bytes_of c.loop.self.disk) (bytes_of c.receive_all.new.self.disk) c.loop.invariant.0 (c.receive_all.ensures.waited) in
-    let begun = waits_more plain c.args.self.now.core c.receive_all.new.self.core c.step-begin.new.core (bytes_of c.args.self.now.disk) (bytes_of c.receive_all.new.self.disk) (bytes_of c.receive_all.new.self.disk) received (waits_said plain (move.FlushBegin c.args.flusher) c.step-begin.result c.receive_all.new.self.core c.step-begin.new.core (bytes_of c.receive_all.new.self.disk) tt (c.step-begin.ensures.runs (move.FlushBegin c.args.flusher) refl (bytes_of c.receive_all.new.self.disk))) in
-    let written = waits_more plain c.args.self.now.core c.step-begin.new.core c.write_all.new.self.core (bytes_of c.args.self.now.disk) (bytes_of c.receive_all.new.self.disk) (bytes_of c.write_all.new.self.disk) begun (c.write_all.ensures.waited) in
-    waits_more plain c.args.self.now.core c.write_all.new.self.core c.step-end.new.core (bytes_of c.args.self.now.disk) (bytes_of c.write_all.new.self.disk) (bytes_of c.write_all.new.self.disk) written (waits_said plain (move.FlushEnd c.args.flusher) c.step-end.result c.write_all.new.self.core c.step-end.new.core (bytes_of c.write_all.new.self.disk) tt (c.step-end.ensures.runs (move.FlushEnd c.args.flusher) refl (bytes_of c.write_all.new.self.disk)))
+    let received = known_more plain c.args.self.now.core c.loop.self.core c.receive_all.new.self.core (g.D.Disk.byte_at c.args.self.now.disk) (g.D.Disk.byte_at c.loop.self.disk) (g.D.Disk.byte_at c.receive_all.new.self.disk) c.loop.invariant.0 (c.receive_all.ensures.waited) in
+    let begun = known_more plain c.args.self.now.core c.receive_all.new.self.core c.step-begin.new.core (g.D.Disk.byte_at c.args.self.now.disk) (g.D.Disk.byte_at c.receive_all.new.self.disk) (g.D.Disk.byte_at c.receive_all.new.self.disk) received (known_said plain (g.D.Disk.is_known c.receive_all.new.self.disk) (move.FlushBegin c.args.flusher) c.step-begin.result c.receive_all.new.self.core c.step-begin.new.core (g.D.Disk.byte_at c.receive_all.new.self.disk) tt (c.step-begin.ensures.runs (move.FlushBegin c.args.flusher) refl (g.D.Disk.byte_at c.receive_all.new.self.disk))) in
+    let written = known_more plain c.args.self.now.core c.step-begin.new.core c.write_all.new.self.core (g.D.Disk.byte_at c.args.self.now.disk) (g.D.Disk.byte_at c.receive_all.new.self.disk) (g.D.Disk.byte_at c.write_all.new.self.disk) begun (c.write_all.ensures.waited) in
+    known_more plain c.args.self.now.core c.write_all.new.self.core c.step-end.new.core (g.D.Disk.byte_at c.args.self.now.disk) (g.D.Disk.byte_at c.write_all.new.self.disk) (g.D.Disk.byte_at c.write_all.new.self.disk) written (known_said plain (g.D.Disk.is_known c.write_all.new.self.disk) (move.FlushEnd c.args.flusher) c.step-end.result c.write_all.new.self.core c.step-end.new.core (g.D.Disk.byte_at c.write_all.new.self.disk) tt (c.step-end.ensures.runs (move.FlushEnd c.args.flusher) refl (g.D.Disk.byte_at c.write_all.new.self.disk)))
 
 pub loop-preserved : goal.loop-preserved
 loop-preserved g c =
-    let received = waits_more plain c.args.self.now.core c.loop.self.core c.receive_all.new.self.core (bytes_of c.args.self.now.disk) (bytes_of c.loop.self.disk) (bytes_of c.receive_all.new.self.disk) c.loop.invariant.0 (c.receive_all.ensures.waited) in
-    let begun = waits_more plain c.args.self.now.core c.receive_all.new.self.core c.step-begin.new.core (bytes_of c.args.self.now.disk) (bytes_of c.receive_all.new.self.disk) (bytes_of c.receive_all.new.self.disk) received (waits_said plain (move.FlushBegin c.args.flusher) c.step-begin.result c.receive_all.new.self.core c.step-begin.new.core (bytes_of c.receive_all.new.self.disk) tt (c.step-begin.ensures.runs (move.FlushBegin c.args.flusher) refl (bytes_of c.receive_all.new.self.disk))) in
-    let written = waits_more plain c.args.self.now.core c.step-begin.new.core c.write_all.new.self.core (bytes_of c.args.self.now.disk) (bytes_of c.receive_all.new.self.disk) (bytes_of c.write_all.new.self.disk) begun (c.write_all.ensures.waited) in (
-      waits_more plain c.args.self.now.core c.write_all.new.self.core c.step-end.new.core (bytes_of c.args.self.now.disk) (bytes_of c.write_all.new.self.disk) (bytes_of c.write_all.new.self.disk) written (waits_said plain (move.FlushEnd c.args.flusher) c.step-end.result c.write_all.new.self.core c.step-end.new.core (bytes_of c.write_all.new.self.disk) tt (c.step-end.ensures.runs (move.FlushEnd c.args.flusher) refl (bytes_of c.write_all.new.self.disk))),
+    let received = known_more plain c.args.self.now.core c.loop.self.core c.receive_all.new.self.core (g.D.Disk.byte_at c.args.self.now.disk) (g.D.Disk.byte_at c.loop.self.disk) (g.D.Disk.byte_at c.receive_all.new.self.disk) c.loop.invariant.0 (c.receive_all.ensures.waited) in
+    let begun = known_more plain c.args.self.now.core c.receive_all.new.self.core c.step-begin.new.core (g.D.Disk.byte_at c.args.self.now.disk) (g.D.Disk.byte_at c.receive_all.new.self.disk) (g.D.Disk.byte_at c.receive_all.new.self.disk) received (known_said plain (g.D.Disk.is_known c.receive_all.new.self.disk) (move.FlushBegin c.args.flusher) c.step-begin.result c.receive_all.new.self.core c.step-begin.new.core (g.D.Disk.byte_at c.receive_all.new.self.disk) tt (c.step-begin.ensures.runs (move.FlushBegin c.args.flusher) refl (g.D.Disk.byte_at c.receive_all.new.self.disk))) in
+    let written = known_more plain c.args.self.now.core c.step-begin.new.core c.write_all.new.self.core (g.D.Disk.byte_at c.args.self.now.disk) (g.D.Disk.byte_at c.receive_all.new.self.disk) (g.D.Disk.byte_at c.write_all.new.self.disk) begun (c.write_all.ensures.waited) in (
+      known_more plain c.args.self.now.core c.write_all.new.self.core c.step-end.new.core (g.D.Disk.byte_at c.args.self.now.disk) (g.D.Disk.byte_at c.write_all.new.self.disk) (g.D.Disk.byte_at c.write_all.new.self.disk) written (known_said plain (g.D.Disk.is_known c.write_all.new.self.disk) (move.FlushEnd c.args.flusher) c.step-end.result c.write_all.new.self.core c.step-end.new.core (g.D.Disk.byte_at c.write_all.new.self.disk) tt (c.step-end.ensures.runs (move.FlushEnd c.args.flusher) refl (g.D.Disk.byte_at c.write_all.new.self.disk))),
       flush_more plain c.args.flusher c.loop.has_ended c.in_ok-is_empty.is_empty c.step-begin.result c.args.self.now.core c.loop.self.core c.receive_all.new.self.core c.step-begin.new.core
           c.loop.invariant.1 c.in_ok-is_empty.ensures.leads (c.step-begin.ensures.meets tt) c.step-end.result c.write_all.new.self.core c.step-end.new.core
           (done_something c.step-end.result c.in_ok-answer_step.field-0 (sym c.answer_step-in-loop.ensures ∙ c.in_ok-answer_step.was) c.if-not-branch.false)

@@ -1,24 +1,23 @@
 use Rattle.std.proofs.Common.{◌≡◌, ◌+◌, refl, ap, arith}
 use Rattle.foyer_run.specs.AtRest.{LeavesIdleBelow}
 use Rattle.foyer_run.proofs.RestLemmas.{all_idle, idle_more, leads_none}
-use Rattle.foyer_run.proofs.WaitingLemmas.{waits_more, waits_none}
+use Rattle.foyer_run.proofs.WaitingLemmas.{known_more, known_none}
 use Rattle.foyer_serve.specs.Texts.{plain}
-use Rattle.foyer_serve.proofs.EngineLemmas.{bytes_of}
 use Rattle.foyer_serve.proofs.engine.Engine.flush_all.Goals as goal
 
 pub loop-flusher-init : goal.loop-flusher-init
 loop-flusher-init g c = (
-  waits_none plain c.args.self.now.core (bytes_of c.args.self.now.disk),
+  known_none plain (g.D.Disk.is_known c.args.self.now.disk) c.args.self.now.core (g.D.Disk.byte_at c.args.self.now.disk),
   leads_none plain (LeavesIdleBelow 0) c.args.self.now.core (λ it f below. absurd (omega (arith, below))),
 )
 
 pub returns-in-Err-clause-waited : goal.returns-in-Err-clause-waited
 returns-in-Err-clause-waited g c =
-    waits_more plain c.args.self.now.core c.loop-flusher.self.core c.flush.new.self.core (bytes_of c.args.self.now.disk) (bytes_of c.loop-flusher.self.disk) (bytes_of c.flush.new.self.disk) c.loop-flusher.invariant.0 (c.flush.ensures.waited)
+    known_more plain c.args.self.now.core c.loop-flusher.self.core c.flush.new.self.core (g.D.Disk.byte_at c.args.self.now.disk) (g.D.Disk.byte_at c.loop-flusher.self.disk) (g.D.Disk.byte_at c.flush.new.self.disk) c.loop-flusher.invariant.0 (c.flush.ensures.waited)
 
 pub loop-flusher-preserved : goal.loop-flusher-preserved
 loop-flusher-preserved g c = (
-  waits_more plain c.args.self.now.core c.loop-flusher.self.core c.flush.new.self.core (bytes_of c.args.self.now.disk) (bytes_of c.loop-flusher.self.disk) (bytes_of c.flush.new.self.disk) c.loop-flusher.invariant.0 (c.flush.ensures.waited),
+  known_more plain c.args.self.now.core c.loop-flusher.self.core c.flush.new.self.core (g.D.Disk.byte_at c.args.self.now.disk) (g.D.Disk.byte_at c.loop-flusher.self.disk) (g.D.Disk.byte_at c.flush.new.self.disk) c.loop-flusher.invariant.0 (c.flush.ensures.waited),
   idle_more plain c.loop-flusher.flusher c.args.self.now.core c.loop-flusher.self.core c.flush.new.self.core (c.loop-flusher.flusher + 1) refl c.loop-flusher.invariant.1 c.in-Ok.ensures.leads,
 )
 

@@ -1,19 +1,19 @@
 use Rattle.std.proofs.Common.{inr, refl, sym, subst}
 use Rattle.foyer_serve.specs.Texts.{IsMissedText, IsNewestText}
-use Rattle.foyer_serve.proofs.EngineLemmas.{bytes_of, missed_got, newest_got}
+use Rattle.foyer_serve.proofs.EngineLemmas.{missed_got, newest_got}
 use Rattle.foyer_serve.proofs.engine.Engine.get.Goals as goal
 
 pub returns-in-Ok-clause-newest : goal.returns-in-Ok-clause-newest
-returns-in-Ok-clause-newest g c =
+returns-in-Ok-clause-newest g c = λ known.
     let core = c.args.self.now.core in
-    let bytes = bytes_of c.args.self.now.disk in
-    subst (λ said. IsNewestText c.args.key core bytes said) (sym c.answer_load.ensures) (newest_got c.args.key core bytes c.in-Ok.last c.in-Ok.ensures.newest)
+    let bytes = g.D.Disk.byte_at c.args.self.now.disk in
+    subst (λ said. IsNewestText c.args.key core bytes said) (sym c.answer_load.ensures) (newest_got c.args.key core bytes c.in-Ok.last (c.in-Ok.ensures.newest known))
 
 pub returns-in-Ok-clause-missed : goal.returns-in-Ok-clause-missed
-returns-in-Ok-clause-missed g c =
+returns-in-Ok-clause-missed g c = λ known.
     let core = c.args.self.now.core in
-    let bytes = bytes_of c.args.self.now.disk in
-    subst (λ said. IsMissedText c.args.key core bytes said) (sym c.answer_load.ensures) (missed_got c.args.key core bytes c.in-Ok.last (c.in-Ok.ensures.missed refl))
+    let bytes = g.D.Disk.byte_at c.args.self.now.disk in
+    subst (λ said. IsMissedText c.args.key core bytes said) (sym c.answer_load.ensures) (missed_got c.args.key core bytes c.in-Ok.last (c.in-Ok.ensures.missed known refl))
 
 pub returns-in-Err-clause-missed : goal.returns-in-Err-clause-missed
-returns-in-Err-clause-missed g c = λ s sound first events history few b sequence content kept newer. inr refl
+returns-in-Err-clause-missed g c = λ known s sound first events history few b sequence content kept newer. inr refl

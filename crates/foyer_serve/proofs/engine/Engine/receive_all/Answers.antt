@@ -3,19 +3,19 @@ use Rattle.foyer_run.specs.AtRest.{BeginsNone}
 use Rattle.foyer_run.specs.declared.moves.Move.TheVariants as move
 use Rattle.foyer_run.proofs.FlusherSteps.{begins_none_same}
 use Rattle.foyer_run.proofs.RestLemmas.{leads_none, receive_more, receive_over, takes_all, takes_some}
-use Rattle.foyer_run.proofs.WaitingLemmas.{waits_more, waits_none, waits_said}
+use Rattle.foyer_run.proofs.WaitingLemmas.{known_more, known_none, known_said}
 use Rattle.foyer_serve.specs.Texts.{plain}
-use Rattle.foyer_serve.proofs.EngineLemmas.{bytes_of, done_nothing}
+use Rattle.foyer_serve.proofs.EngineLemmas.{done_nothing}
 use Rattle.foyer_serve.proofs.engine.Engine.receive_all.Goals as goal
 
 pub loop-init : goal.loop-init
 loop-init g c = (
-  waits_none plain c.args.self.now.core (bytes_of c.args.self.now.disk),
+  known_none plain (g.D.Disk.is_known c.args.self.now.disk) c.args.self.now.core (g.D.Disk.byte_at c.args.self.now.disk),
   leads_none plain (BeginsNone c.args.flusher) c.args.self.now.core (λ it. begins_none_same c.args.flusher it it refl),
 )
 
 pub returns-in_err-answer_step-clause-waited : goal.returns-in_err-answer_step-clause-waited
-returns-in_err-answer_step-clause-waited g c = waits_more plain c.args.self.now.core c.loop.self.core c.step-received.new.core (bytes_of c.args.self.now.disk) (bytes_of c.loop.self.disk) (bytes_of c.loop.self.disk) c.loop.invariant.0 (waits_said plain (move.Receive c.args.flusher) c.step-received.result c.loop.self.core c.step-received.new.core (bytes_of c.loop.self.disk) tt (c.step-received.ensures.runs (move.Receive c.args.flusher) refl (bytes_of c.loop.self.disk)))
+returns-in_err-answer_step-clause-waited g c = known_more plain c.args.self.now.core c.loop.self.core c.step-received.new.core (g.D.Disk.byte_at c.args.self.now.disk) (g.D.Disk.byte_at c.loop.self.disk) (g.D.Disk.byte_at c.loop.self.disk) c.loop.invariant.0 (known_said plain (g.D.Disk.is_known c.loop.self.disk) (move.Receive c.args.flusher) c.step-received.result c.loop.self.core c.step-received.new.core (g.D.Disk.byte_at c.loop.self.disk) tt (c.step-received.ensures.runs (move.Receive c.args.flusher) refl (g.D.Disk.byte_at c.loop.self.disk)))
 
 pub returns-then-not-branch-clause-leads : goal.returns-then-not-branch-clause-leads
 returns-then-not-branch-clause-leads g c =
@@ -30,14 +30,14 @@ returns-then-wants_flush-clause-leads g c =
     (receive_more plain c.args.flusher c.args.self.now.core c.loop.self.core c.step-received.new.core c.step-received.result c.loop.invariant.1 (c.step-received.ensures.meets tt))
 
 pub returns-then-wants_flush-clause-waited : goal.returns-then-wants_flush-clause-waited
-returns-then-wants_flush-clause-waited g c = waits_more plain c.args.self.now.core c.loop.self.core c.step-received.new.core (bytes_of c.args.self.now.disk) (bytes_of c.loop.self.disk) (bytes_of c.loop.self.disk) c.loop.invariant.0 (waits_said plain (move.Receive c.args.flusher) c.step-received.result c.loop.self.core c.step-received.new.core (bytes_of c.loop.self.disk) tt (c.step-received.ensures.runs (move.Receive c.args.flusher) refl (bytes_of c.loop.self.disk)))
+returns-then-wants_flush-clause-waited g c = known_more plain c.args.self.now.core c.loop.self.core c.step-received.new.core (g.D.Disk.byte_at c.args.self.now.disk) (g.D.Disk.byte_at c.loop.self.disk) (g.D.Disk.byte_at c.loop.self.disk) c.loop.invariant.0 (known_said plain (g.D.Disk.is_known c.loop.self.disk) (move.Receive c.args.flusher) c.step-received.result c.loop.self.core c.step-received.new.core (g.D.Disk.byte_at c.loop.self.disk) tt (c.step-received.ensures.runs (move.Receive c.args.flusher) refl (g.D.Disk.byte_at c.loop.self.disk)))
 
 pub returns-then-not-branch-clause-waited : goal.returns-then-not-branch-clause-waited
-returns-then-not-branch-clause-waited g c = waits_more plain c.args.self.now.core c.loop.self.core c.step-received.new.core (bytes_of c.args.self.now.disk) (bytes_of c.loop.self.disk) (bytes_of c.loop.self.disk) c.loop.invariant.0 (waits_said plain (move.Receive c.args.flusher) c.step-received.result c.loop.self.core c.step-received.new.core (bytes_of c.loop.self.disk) tt (c.step-received.ensures.runs (move.Receive c.args.flusher) refl (bytes_of c.loop.self.disk)))
+returns-then-not-branch-clause-waited g c = known_more plain c.args.self.now.core c.loop.self.core c.step-received.new.core (g.D.Disk.byte_at c.args.self.now.disk) (g.D.Disk.byte_at c.loop.self.disk) (g.D.Disk.byte_at c.loop.self.disk) c.loop.invariant.0 (known_said plain (g.D.Disk.is_known c.loop.self.disk) (move.Receive c.args.flusher) c.step-received.result c.loop.self.core c.step-received.new.core (g.D.Disk.byte_at c.loop.self.disk) tt (c.step-received.ensures.runs (move.Receive c.args.flusher) refl (g.D.Disk.byte_at c.loop.self.disk)))
 
 pub loop-preserved : goal.loop-preserved
 loop-preserved g c = (
-  waits_more plain c.args.self.now.core c.loop.self.core c.step-received.new.core (bytes_of c.args.self.now.disk) (bytes_of c.loop.self.disk) (bytes_of c.loop.self.disk) c.loop.invariant.0 (waits_said plain (move.Receive c.args.flusher) c.step-received.result c.loop.self.core c.step-received.new.core (bytes_of c.loop.self.disk) tt (c.step-received.ensures.runs (move.Receive c.args.flusher) refl (bytes_of c.loop.self.disk))),
+  known_more plain c.args.self.now.core c.loop.self.core c.step-received.new.core (g.D.Disk.byte_at c.args.self.now.disk) (g.D.Disk.byte_at c.loop.self.disk) (g.D.Disk.byte_at c.loop.self.disk) c.loop.invariant.0 (known_said plain (g.D.Disk.is_known c.loop.self.disk) (move.Receive c.args.flusher) c.step-received.result c.loop.self.core c.step-received.new.core (g.D.Disk.byte_at c.loop.self.disk) tt (c.step-received.ensures.runs (move.Receive c.args.flusher) refl (g.D.Disk.byte_at c.loop.self.disk))),
   receive_more plain c.args.flusher c.args.self.now.core c.loop.self.core c.step-received.new.core c.step-received.result c.loop.invariant.1 (c.step-received.ensures.meets tt),
 )
 

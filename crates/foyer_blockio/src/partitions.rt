@@ -1,0 +1,124 @@
+//! The blocks of a device: a partition for each, read and written by an engine.
+ghost use Rattle.std.specs.Prelude.{◌≡◌, ℕ, ◌+◌, ◌<◌, ◌≤◌, ◌⊎◌, ◌++◌, length, map, replicate, vec_len, slice_get, Some, IfOk, IfErr, IfSome, OnOk, OnErr};
+ghost use Rattle.foyer_disk.specs.Extent.{AreDisjoint, IsPartitionSize};
+ghost use Rattle.foyer_blockio.specs.Disk.{IsRead, IsWritten, IsTorn};
+ghost use Rattle.foyer_blockio.specs.Partitions.{Shows, byte_in, lies_in, AreWhole};
+ghost use Rattle.foyer_device.specs.declared.error.Error.TheVariants as error;
+
+use crate::disk::Disk;
+use foyer_block::manager::BlockId;
+use foyer_device::error::{Error, Result};
+use foyer_disk::io::device::{Device, Partition};
+use foyer_io::io::engine::{IoEngine, ReadBuffer, WriteBuffer};
+use std::alloc::Allocator;
+use std::rt::Files;
+
+/// Blocks that are partitions of a device, and the engine that reads and writes them.
+#[derive(Drop)]
+pub struct Partitions<E: IoEngine + Drop, P: Partition + Copy, A: Allocator> {
+    engine: E,
+    blocks: Vec<P, A>,
+}
+
+impl<E: IoEngine + Drop, P: Partition + Copy, A: Allocator> Partitions<E, P, A> {
+    /// Block b is the partition at place b.
+    pub fn new(engine: E, blocks: Vec<P, A>) -> Partitions<E, P, A>
+        ensures engine { result.engine ≡ engine }
+        ensures blocks { result.blocks ≡ blocks }
+    {
+        Partitions { engine, blocks }
+    }
+
+    /// How many of its reads and writes the device failed, up to 2^64 - 1.
+    pub fn failures(&self) -> u64
+        ensures { result ≡ E.faults self.now.engine }
+    {
+        self.engine.failures()
+    }
+
+    /// The engine, once nothing is to be read or written any more.
+    pub fn into_engine(self) -> E
+        ensures { result ≡ self.engine }
+    {
+        let Partitions { engine, .. } = self;
+        engine
+    }
+
+    // The partition of a block in which so many bytes from an offset on lie.
+    fn find(&self, block: BlockId, offset: usize, len: usize) -> Option<P>
+        ensures found { IfSome result (λ p. (slice_get self.now.blocks.items block ≡ Some p)
+            × (offset + len ≤ P.bytes p)) }
+    {
+        let partition = *self.blocks.get(block as usize)?;
+        let size = partition.size();
+        if offset > size || len > size - offset {
+            return None;
+        }
+        Some(partition)
+    }
+}
+
+/// Makes a partition of that many bytes for each block, in order. Refused as `create_partition` refuses: then those that
+/// were made stay.
+pub fn create_blocks<D: Device, R: Files, A: Allocator>(
+    rt: &R,
+    alloc: A,
+    device: &mut D,
+    count: u32,
+    size: usize,
+) -> Result<Vec<D::Partition, A>>
+    ensures count { IfOk result (λ blocks. vec_len blocks ≡ count) }
+    ensures sizes { IfOk result (λ blocks. map D.Partition.bytes blocks.items ≡ replicate count size) }
+    ensures made { IfOk result (λ blocks. D.extents device.new
+        ≡ D.extents device.old ++ map D.Partition.extent blocks.items) }
+    ensures apart { IfOk result (λ blocks. AreDisjoint (map D.Partition.extent blocks.items)) }
+    ensures refused { IfErr result (λ e. (e ≡ error.Config) ⊎ (e ≡ error.NoSpace) ⊎ (e ≡ error.Io)
+        ⊎ (e ≡ error.Memory)) }
+{
+    let mut blocks = Vec::with_capacity(alloc, count as usize)?;
+    'each_block: for _ in 0..count {
+        blocks.push(device.create_partition(rt, size)?)?;
+    }
+    let _ = device.file_numbers();
+    Ok(blocks)
+}
+
+impl<E: IoEngine + Drop, P: Partition + Copy, A: Allocator> Disk for Partitions<E, P, A> {
+    ghost is_known = { λ d. Shows (E.disk d.engine) × AreWhole P.bytes P.extent d.blocks.items
+        × AreDisjoint (map P.extent d.blocks.items) };
+
+    ghost byte_at = { λ d b o. byte_in P.bytes P.extent (E.disk d.engine) (slice_get d.blocks.items b) o };
+
+    ghost surely_has = { λ _ _ _ _. ⊥ };
+
+    ghost may_have = { λ d b o n. lies_in P.bytes (slice_get d.blocks.items b) o n };
+
+    ghost may_answer = { λ _ e. (e ≡ error.Io) ⊎ (e ≡ error.OutOfRange) };
+
+    fn read<B: Allocator>(
+        &mut self,
+        block: BlockId,
+        offset: usize,
+        buffer: Vec<u8, B>,
+    ) -> (Vec<u8, B>, Result<()>) {
+        let Some(partition) = self.find(block, offset, buffer.len()) else {
+            return (buffer, Err(Error::OutOfRange));
+        };
+        let handle = self
+            .engine
+            .read(ReadBuffer::new(buffer), &partition, offset as u64);
+        let (buffer, outcome) = handle.into_inner();
+        (buffer.into_vec(), outcome)
+    }
+
+    fn write(&mut self, block: BlockId, offset: usize, bytes: &[u8]) -> Result<()> {
+        let Some(partition) = self.find(block, offset, bytes.len()) else {
+            return Err(Error::OutOfRange);
+        };
+        let handle = self
+            .engine
+            .write(WriteBuffer(bytes), &partition, offset as u64);
+        let (_, outcome) = handle.into_inner();
+        outcome
+    }
+}

@@ -1,0 +1,113 @@
+//! An engine over the files of a directory.
+use crate::answer::name_of;
+use crate::engine::Engine;
+use crate::options::Options;
+use foyer_blockio::partitions::{Partitions, create_blocks};
+use foyer_core::settings::Settings;
+use foyer_device::error::{Error, ErrorKind};
+use foyer_disk::io::device::{Device, DeviceBuilder, FsDeviceBuilder, FsPartition};
+use foyer_io::io::engine::{
+    IoEngineBuildContext, IoEngineConfig, PsyncIoEngine, PsyncIoEngineConfig,
+};
+use std::alloc::Allocator;
+use std::fs::File;
+use std::io;
+use std::io::Write;
+use std::rt::Files;
+
+/// The blocks of a directory: a file for each.
+pub type FileBlocks<B, A> = Partitions<PsyncIoEngine<B>, FsPartition, A>;
+
+/// What of a directory couldn't be opened, and why.
+#[derive(Clone, Copy, Debug, PartialEq, Eq)]
+pub struct Failed {
+    pub kind: ErrorKind,
+    pub what: &'static str,
+}
+
+fn stopped_at(what: &'static str, error: Error) -> Failed {
+    Failed {
+        kind: error.kind(),
+        what,
+    }
+}
+
+/// Opens an engine that finds nothing over a directory, which is made with its parents where it is missing: a file for
+/// each block, of exactly the block's size. What a file holds stays until it is written over.
+pub fn open_directory<R, A>(
+    rt: &R,
+    alloc: &A,
+    options: &Options<'_>,
+    settings: Settings,
+) -> Result<Engine<A, FileBlocks<R::A, A>>, Failed>
+where
+    R: Files<File = File> + Alloc,
+    A: Allocator + Clone,
+{
+    let disk = open_blocks(rt, alloc, options, settings)?;
+    let opened = match alloc.clone() {
+        Ok(own) => Engine::with_disk(own, settings, disk),
+        Err(error) => Err(Error::from(error)),
+    };
+    match opened {
+        Ok(engine) => Ok(engine),
+        Err(error) => Err(stopped_at("the engine", error)),
+    }
+}
+
+fn open_blocks<R, A>(
+    rt: &R,
+    alloc: &A,
+    options: &Options<'_>,
+    settings: Settings,
+) -> Result<FileBlocks<R::A, A>, Failed>
+where
+    R: Files<File = File> + Alloc,
+    A: Allocator + Clone,
+{
+    let builder = FsDeviceBuilder::new(options.directory).with_capacity(options.capacity as usize);
+    let built = match alloc.clone() {
+        Ok(own) => builder.build(rt, own, 0),
+        Err(error) => Err(Error::from(error)),
+    };
+    let mut device = match built {
+        Ok(device) => device,
+        Err(error) => return Err(stopped_at("the directory", error)),
+    };
+    let made = match alloc.clone() {
+        Ok(own) => create_blocks(rt, own, &mut device, settings.blocks, settings.block_size),
+        Err(error) => Err(Error::from(error)),
+    };
+    let blocks = match made {
+        Ok(blocks) => blocks,
+        Err(error) => return Err(stopped_at("a file of a block", error)),
+    };
+    let paths = match alloc.clone() {
+        Ok(own) => device.files(own),
+        Err(error) => Err(Error::from(error)),
+    };
+    let opened = match paths {
+        Ok(files) => PsyncIoEngineConfig::new().build(
+            rt,
+            &IoEngineBuildContext {
+                files: files.as_slice(),
+            },
+        ),
+        Err(error) => Err(error),
+    };
+    match opened {
+        Ok(engine) => Ok(Partitions::new(engine, blocks)),
+        Err(error) => Err(stopped_at("a file of a block", error)),
+    }
+}
+
+/// Says on a line of its own what of a directory couldn't be opened.
+pub fn report<W: Write>(errors: &mut W, directory: &str, failed: &Failed) -> io::Result<()> {
+    errors.write_all(b"foyerdisk: ")?;
+    errors.write_all(directory.as_bytes())?;
+    errors.write_all(b": ")?;
+    errors.write_all(failed.what.as_bytes())?;
+    errors.write_all(b" couldn't be opened: ")?;
+    errors.write_all(name_of(failed.kind).as_bytes())?;
+    errors.write_all(b"\n")
+}
