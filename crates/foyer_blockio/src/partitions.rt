@@ -8,8 +8,10 @@ ghost use Rattle.foyer_device.specs.declared.error.Error.TheVariants as error;
 use crate::disk::Disk;
 use foyer_block::manager::BlockId;
 use foyer_device::error::{Error, Result};
-use foyer_disk::io::device::{Device, Partition};
-use foyer_io::io::engine::{IoEngine, ReadBuffer, WriteBuffer};
+use foyer_disk::io::device::{
+    Device, DeviceBuilder, MemoryDeviceBuilder, MemoryPartition, Partition,
+};
+use foyer_io::io::engine::{IoEngine, MemoryIoEngine, ReadBuffer, WriteBuffer};
 use std::alloc::Allocator;
 use std::rt::Files;
 
@@ -81,6 +83,28 @@ pub fn create_blocks<D: Device, R: Files, A: Allocator>(
     }
     let _ = device.file_numbers();
     Ok(blocks)
+}
+
+/// So many blocks of a size in memory, all zeros, behind a device and an engine as those of a directory are. Refused as
+/// `create_blocks` refuses, and `OutOfRange` where the sizes' product passes the type's end.
+pub fn open_in_memory<R: Files, A: Allocator + Clone>(
+    rt: &R,
+    alloc: &A,
+    count: u32,
+    size: usize,
+) -> Result<Partitions<MemoryIoEngine<A>, MemoryPartition, A>>
+    ensures known { IfOk result (λ d. ⟦<Partitions<MemoryIoEngine<A>, MemoryPartition, A> as Disk>⟧.is_known d) }
+    ensures zeros { IfOk result (λ d. (b o : ℕ) → ⟦<Partitions<MemoryIoEngine<A>, MemoryPartition, A> as Disk>⟧.byte_at d b o ≡ 0) }
+{
+    let Some(capacity) = (count as usize).checked_mul(size) else {
+        return Err(Error::OutOfRange);
+    };
+    let builder = MemoryDeviceBuilder::new(capacity);
+    let mut device = builder.build(rt, alloc.clone()?, 0)?;
+    let blocks = create_blocks(rt, alloc.clone()?, &mut device, count, size)?;
+    let mut engine = MemoryIoEngine::new(alloc.clone()?);
+    engine.add_file(alloc.clone()?, capacity)?;
+    Ok(Partitions::new(engine, blocks))
 }
 
 impl<E: IoEngine + Drop, P: Partition + Copy, A: Allocator> Disk for Partitions<E, P, A> {

@@ -1,8 +1,8 @@
 //! A disk that fails one call.
 
 use foyer_block::manager::BlockId;
+use foyer_blockio::disk::Disk;
 use foyer_device::error::{Error, Result};
-use foyer_run::disk::Disk;
 use std::alloc::Allocator;
 
 /// Passes each call on, but for the one that is counted down to: that read gives nothing, and that write writes a front
@@ -31,6 +31,8 @@ impl<D: Disk + Drop> Failing<D> {
 }
 
 impl<D: Disk + Drop> Disk for Failing<D> {
+    ghost is_known = { λ d. D.is_known d.inner };
+
     ghost byte_at = { λ d. D.byte_at d.inner };
 
     ghost surely_has = { λ _ b o n. ⊥ };
@@ -39,15 +41,14 @@ impl<D: Disk + Drop> Disk for Failing<D> {
         &mut self,
         block: BlockId,
         offset: usize,
-        len: usize,
-        into: &mut Vec<u8, A>,
-    ) -> Result<()> {
+        buffer: Vec<u8, A>,
+    ) -> (Vec<u8, A>, Result<()>) {
         let n = self.left;
         self.left = n.saturating_sub(1);
         if n == 1 {
-            return Err(Error::Io);
+            return (buffer, Err(Error::Io));
         }
-        self.inner.read(block, offset, len, into)
+        self.inner.read(block, offset, buffer)
     }
 
     fn write(&mut self, block: BlockId, offset: usize, bytes: &[u8]) -> Result<()> {

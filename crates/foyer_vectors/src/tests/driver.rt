@@ -2,6 +2,7 @@
 use crate::failing::Failing;
 use crate::tests::steps::{TestAge, TestCore, TestReply, Value, describe};
 use foyer_block::manager::BlockId;
+use foyer_blockio::memory::MemoryDisk;
 use foyer_core::apply::Env;
 use foyer_core::reply::{Reply, Write, WriteBytes};
 use foyer_core::settings::Settings;
@@ -10,7 +11,6 @@ use foyer_core::step::{Step, Ticket};
 use foyer_device::error::{Error, ErrorKind, Result};
 use foyer_policy::keeper::Piece;
 use foyer_run::disk::{do_read, do_write};
-use foyer_run::memory::MemoryDisk;
 use std::alloc::{AllocError, Allocator, Global};
 use std::fmt::Write as _;
 
@@ -94,7 +94,8 @@ fn load_of<A: Allocator + Clone>(
     let Some(ticket) = driver.tickets.get(number).copied() else {
         return Ok(None);
     };
-    let outcome = do_read(heap.clone()?, &mut driver.disk, &ticket)?;
+    let mut buffer = Vec::new(heap.clone()?);
+    let outcome = do_read(heap.clone()?, &mut driver.disk, &ticket, &mut buffer)?;
     Ok(Some(Step::LoadEnd {
         ticket,
         result: outcome,

@@ -1,6 +1,7 @@
 //! A script of every step that is built: each allocation refused in turn, and each call of its disk failed in turn.
 use crate::failing::Failing;
 use crate::tests::steps::{TestAge, TestCore, TestReply, Value, describe, piece_of};
+use foyer_blockio::memory::MemoryDisk;
 use foyer_core::apply::Env;
 use foyer_core::reply::Reply;
 use foyer_core::settings::Settings;
@@ -9,7 +10,6 @@ use foyer_core::step::{Step, Ticket};
 use foyer_device::error::{Error, ErrorKind, Result};
 use foyer_format_vectors::refusing::Refusing;
 use foyer_run::disk::{do_read, do_write};
-use foyer_run::memory::MemoryDisk;
 use std::alloc::{AllocError, Allocator, Global};
 use std::fmt::Write as _;
 use std::test::Fail;
@@ -114,7 +114,8 @@ fn load_of<A: Allocator + Clone>(driven: &mut Driven<A>, heap: &A) -> Result<Opt
     let Some(ticket) = driven.ticket.take() else {
         return Ok(None);
     };
-    let outcome = do_read(heap.clone()?, &mut driven.disk, &ticket)?;
+    let mut buffer = Vec::new(heap.clone()?);
+    let outcome = do_read(heap.clone()?, &mut driven.disk, &ticket, &mut buffer)?;
     Ok(Some(Step::LoadEnd {
         ticket,
         result: outcome,

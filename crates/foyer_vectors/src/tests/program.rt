@@ -1,34 +1,37 @@
 //! The program's lines.
 use foyer_serve::serve::serve;
-use std::alloc::{Allocator, Global};
+use std::alloc::Allocator;
+use std::fs::File;
 use std::process::Abort;
+use std::rt::Files;
 use std::test::Fail;
 
 // What the program prints for these words and this input, with its status.
-pub fn print_of<A: Allocator + Clone>(
-    alloc: Global,
+pub fn print_of<T: Files<File = File> + AllocGlobal, A: Allocator + Clone>(
+    rt: &T,
     engine: A,
     words: &[&str],
     input: &[u8],
 ) -> Result<(Vec<u8>, Vec<u8>, u8), Fail> {
+    let alloc = rt.alloc();
     let mut all = Vec::new(alloc);
     for word in words {
         all.push(String::from_str(alloc, *word)?)?;
     }
     let mut output = Vec::new(alloc);
     let mut errors = Vec::new(alloc);
-    let status = serve(engine, all.as_slice(), input, &mut output, &mut errors);
+    let status = serve(rt, engine, all.as_slice(), input, &mut output, &mut errors);
     Ok((output, errors, status))
 }
 
 fn check(
-    rt: &(impl Abort + AllocGlobal),
+    rt: &(impl Abort + AllocGlobal + Files<File = File>),
     words: &[&str],
     input: &str,
     output: &str,
     status: u8,
 ) -> Result<(), Fail> {
-    let (printed, errors, ended) = print_of(rt.alloc(), rt.alloc(), words, input.as_bytes())?;
+    let (printed, errors, ended) = print_of(rt, rt.alloc(), words, input.as_bytes())?;
     assert_eq!(rt; printed.as_slice(), output.as_bytes(), "for {input}");
     assert_eq!(rt; errors.len(), 0);
     assert_eq!(rt; ended, status, "for {input}");
@@ -120,7 +123,7 @@ fn bad_lines_are_answered_and_passed(rt: HostRuntime) -> Result<(), Fail> {
 
 #[test]
 fn a_line_that_is_no_text_is_bad(rt: HostRuntime) -> Result<(), Fail> {
-    let (output, _, status) = print_of(rt.alloc(), rt.alloc(), &SMALL, b"put 1 \xff\nget 1\n")?;
+    let (output, _, status) = print_of(&rt, rt.alloc(), &SMALL, b"put 1 \xff\nget 1\n")?;
     assert_eq!(rt; output.as_slice(), b"bad line\nmiss\n".as_slice());
     assert_eq!(rt; status, 1);
     Ok(())
@@ -155,16 +158,16 @@ fn a_destroy_is_not_supported_yet(rt: HostRuntime) -> Result<(), Fail> {
 }
 
 // Nothing is printed but the usage, as an error.
-fn is_usage(alloc: Global, words: &[&str]) -> Result<bool, Fail> {
-    let (output, errors, status) = print_of(alloc, alloc, words, b"put 1 a\n")?;
+fn is_usage(rt: &(impl AllocGlobal + Files<File = File>), words: &[&str]) -> Result<bool, Fail> {
+    let (output, errors, status) = print_of(rt, rt.alloc(), words, b"put 1 a\n")?;
     let usage = b"usage: foyerdisk DIR CAPACITY BLOCK\n";
     Ok(output.is_empty() && errors.as_slice() == usage.as_slice() && status == 2)
 }
 
 #[test]
 fn bad_words_give_the_usage(rt: HostRuntime) -> Result<(), Fail> {
-    assert!(rt; is_usage(rt.alloc(), &[":memory:", "16384"])?);
-    assert!(rt; is_usage(rt.alloc(), &[":memory:", "16384", "1 "])?);
+    assert!(rt; is_usage(&rt, &[":memory:", "16384"])?);
+    assert!(rt; is_usage(&rt, &[":memory:", "16384", "1 "])?);
     Ok(())
 }
 
@@ -176,7 +179,6 @@ fn sizes_that_do_not_go_together_are_refused(rt: HostRuntime) -> Result<(), Fail
         ([":memory:", "16384", "4096"], "fault Config\n"),
         ([":memory:", "16384", "4294967297"], "fault Config\n"),
         (["cache", "4096", "16384"], "fault Config\n"),
-        (["cache", "16384", "16384"], "fault Unsupported\n"),
     ] {
         check(&rt, &words, "put 1 a\n", wanted, 1)?;
     }
@@ -190,7 +192,7 @@ fn a_long_bad_line_leaves_what_was_put(rt: HostRuntime) -> Result<(), Fail> {
     let mut input = Vec::from_slice(alloc, b"put 1 a\nwait\n")?;
     input.resize(200_000, b'x')?;
     input.extend_from_slice(b"\nget 1\n")?;
-    let (output, _, status) = print_of(alloc, alloc, &SMALL, input.as_slice())?;
+    let (output, _, status) = print_of(&rt, alloc, &SMALL, input.as_slice())?;
     assert_eq!(rt;
         output.as_slice(),
         b"queued\nok\nbad line\nentry a\n".as_slice()

@@ -1,8 +1,8 @@
 //! A slow reader of the bytes of a disk, written from the pages on them alone.
+use foyer_blockio::disk::Disk;
 use foyer_checksum::Checksummer;
 use foyer_core::settings::Settings;
 use foyer_device::error::Result;
-use foyer_run::disk::Disk;
 use std::alloc::Global;
 
 const PAGE: usize = 4096;
@@ -147,8 +147,10 @@ fn list_block(listed: &mut Vec<Listed>, bytes: &[u8], block: u32, index_size: us
 pub fn list<D: Disk>(alloc: Global, disk: &mut D, settings: &Settings) -> Result<Vec<Listed>> {
     let mut listed = Vec::new(alloc);
     for block in 0..settings.blocks {
-        let mut bytes = Vec::with_capacity(alloc, settings.block_size)?;
-        disk.read(block, 0, settings.block_size, &mut bytes)?;
+        let mut bytes = Vec::new(alloc);
+        bytes.resize(settings.block_size, 0)?;
+        let (bytes, outcome) = disk.read(block, 0, bytes);
+        outcome?;
         list_block(
             &mut listed,
             bytes.as_slice(),

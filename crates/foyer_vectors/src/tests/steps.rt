@@ -3,6 +3,7 @@ ghost use Rattle.std.specs.Prelude.{None, Some, if◌then◌else◌};
 ghost use Rattle.foyer_format.specs.declared.serde.ages.Age.TheVariants.{Young};
 
 use crate::failing::Failing;
+use foyer_blockio::memory::MemoryDisk;
 use foyer_core::apply::Env;
 use foyer_core::reply::Reply;
 use foyer_core::settings::Settings;
@@ -10,7 +11,6 @@ use foyer_core::state::Core;
 use foyer_device::error::Result;
 use foyer_format::serde::{Age, Properties};
 use foyer_policy::keeper::Piece;
-use foyer_run::memory::MemoryDisk;
 use foyer_run::moves::{Move, run};
 use foyer_run::opened::run_texts;
 use std::alloc::{AllocError, Allocator, Global};

@@ -1,10 +1,13 @@
 //! Each allocation refused in turn, and each read and write failed in turn.
 use crate::tests::program::print_of;
 use crate::tests::steps::{check, small};
+use foyer_blockio::memory::MemoryDisk;
 use foyer_device::error::{Error, ErrorKind};
 use foyer_format_vectors::refusing::Refusing;
 use foyer_serve::engine::{Answer, Engine};
 use std::alloc::Global;
+use std::fs::File;
+use std::rt::Files;
 use std::test::Fail;
 
 const SCRIPT: &str = "put 1 a\nwait\nget 1\ndel 1\nget 1\nput 2 b\nwait\nget 2\n";
@@ -45,7 +48,7 @@ fn are_allowed(text: &str, has_fault: bool) -> bool {
 
 // The answer of the engine to a line of the script.
 fn answer_of<'a>(
-    engine: &mut Engine<&'a Refusing<Global>>,
+    engine: &mut Engine<&'a Refusing<Global>, MemoryDisk<&'a Refusing<Global>>>,
     line: &str,
 ) -> Answer<&'a Refusing<Global>> {
     match line {
@@ -118,7 +121,7 @@ fn refused_allocations_of_the_program_are_reported(rt: HostRuntime) -> Result<()
     for step in 0..MOST_ALLOCATIONS / PROGRAM_STEP {
         let n = 1 + step * PROGRAM_STEP;
         let heap = Refusing::new(rt.alloc(), n);
-        let (output, _, status) = print_of(rt.alloc(), &heap, &words, SCRIPT.as_bytes())?;
+        let (output, _, status) = print_of(&rt, &heap, &words, SCRIPT.as_bytes())?;
         let text = str::from_utf8(output.as_slice()).map_err(|_| Fail::new("no text"))?;
         if !heap.has_refused() {
             assert_eq!(rt; text, ANSWERS);
@@ -157,7 +160,7 @@ fn each_refused_allocation_of_an_idle_program_is_reported(rt: HostRuntime) -> Re
     let words = [":memory:", "32768", "16384"];
     for n in 1..MOST_ALLOCATIONS {
         let heap = Refusing::new(rt.alloc(), n);
-        let (output, _, status) = print_of(rt.alloc(), &heap, &words, IDLE.as_bytes())?;
+        let (output, _, status) = print_of(&rt, &heap, &words, IDLE.as_bytes())?;
         let text = str::from_utf8(output.as_slice()).map_err(|_| Fail::new("no text"))?;
         if !heap.has_refused() {
             assert_eq!(rt; text, IDLE_ANSWERS);
@@ -175,12 +178,18 @@ fn each_refused_allocation_of_an_idle_program_is_reported(rt: HostRuntime) -> Re
 }
 
 // Of the runs in which one allocation is refused, how many print `passed_over`. The one without a refusal prints `whole`.
-fn count_runs(alloc: Global, input: &[u8], whole: &[u8], passed_over: &[u8]) -> Result<u32, Fail> {
+fn count_runs(
+    rt: &(impl AllocGlobal + Files<File = File>),
+    input: &[u8],
+    whole: &[u8],
+    passed_over: &[u8],
+) -> Result<u32, Fail> {
+    let alloc = rt.alloc();
     let words = [":memory:", "32768", "16384"];
     let mut count = 0u32;
     for n in 1..MOST_ALLOCATIONS {
         let heap = Refusing::new(alloc, n);
-        let (output, _, status) = print_of(alloc, &heap, &words, input)?;
+        let (output, _, status) = print_of(rt, &heap, &words, input)?;
         if !heap.has_refused() {
             if output.as_slice() != whole {
                 return Err(Fail::new("another output without a refusal"));
@@ -202,7 +211,7 @@ fn a_line_that_memory_does_not_hold_is_passed_over(rt: HostRuntime) -> Result<()
     let mut input = Vec::from_slice(alloc, b"get 1\nwait\n")?;
     input.resize(200_000, b'x')?;
     let ends = count_runs(
-        alloc,
+        &rt,
         input.as_slice(),
         b"miss\nok\nbad line\n",
         b"miss\nok\nfault Memory\n",
@@ -210,7 +219,7 @@ fn a_line_that_memory_does_not_hold_is_passed_over(rt: HostRuntime) -> Result<()
     assert_eq!(rt; ends, 2);
     input.extend_from_slice(b"\nget 1\nput 1\nwait\n")?;
     let goes_on = count_runs(
-        alloc,
+        &rt,
         input.as_slice(),
         b"miss\nok\nbad line\nmiss\nbad line\nok\n",
         b"miss\nok\nfault Memory\nmiss\nbad line\nok\n",

@@ -2,9 +2,9 @@
 use crate::tests::driver::{Driver, answered, new_driver, text_of};
 use crate::tests::reader::{Listed, list};
 use crate::tests::steps::small;
+use foyer_blockio::disk::Disk;
 use foyer_core::settings::Settings;
 use foyer_device::error::Result;
-use foyer_run::disk::Disk;
 use std::alloc::Global;
 use std::process::Abort;
 use std::test::Fail;
@@ -161,8 +161,10 @@ end 0: ended 1 /
 
 // The first bytes of a block.
 fn bytes_of<D: Disk>(alloc: Global, disk: &mut D, from: usize, len: usize) -> Result<Vec<u8>> {
-    let mut bytes = Vec::with_capacity(alloc, len)?;
-    disk.read(0, from, len, &mut bytes)?;
+    let mut bytes = Vec::new(alloc);
+    bytes.resize(len, 0)?;
+    let (bytes, outcome) = disk.read(0, from, bytes);
+    outcome?;
     Ok(bytes)
 }
 
