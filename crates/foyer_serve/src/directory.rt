@@ -1,7 +1,6 @@
 //! An engine over the files of a directory.
 use crate::answer::name_of;
 use crate::engine::Engine;
-use crate::options::Options;
 use foyer_blockio::partitions::{Partitions, create_blocks};
 use foyer_core::settings::Settings;
 use foyer_device::error::{Error, ErrorKind};
@@ -33,18 +32,19 @@ fn stopped_at(what: &'static str, error: Error) -> Failed {
 }
 
 /// Opens an engine that finds nothing over a directory, which is made with its parents where it is missing: a file for
-/// each block, of exactly the block's size. What a file holds stays until it is written over.
+/// each block, of exactly the block's size, on a device of so many bytes. What a file holds stays until it is written over.
 pub fn open_directory<R, A>(
     rt: &R,
     alloc: &A,
-    options: &Options<'_>,
+    directory: &str,
+    capacity: usize,
     settings: Settings,
 ) -> Result<Engine<A, FileBlocks<R::A, A>>, Failed>
 where
     R: Files<File = File> + Alloc,
     A: Allocator + Clone,
 {
-    let disk = open_blocks(rt, alloc, options, settings)?;
+    let disk = open_blocks(rt, alloc, directory, capacity, settings)?;
     let opened = match alloc.clone() {
         Ok(own) => Engine::with_disk(own, settings, disk),
         Err(error) => Err(Error::from(error)),
@@ -58,14 +58,15 @@ where
 fn open_blocks<R, A>(
     rt: &R,
     alloc: &A,
-    options: &Options<'_>,
+    directory: &str,
+    capacity: usize,
     settings: Settings,
 ) -> Result<FileBlocks<R::A, A>, Failed>
 where
     R: Files<File = File> + Alloc,
     A: Allocator + Clone,
 {
-    let builder = FsDeviceBuilder::new(options.directory).with_capacity(options.capacity as usize);
+    let builder = FsDeviceBuilder::new(directory).with_capacity(capacity);
     let built = match alloc.clone() {
         Ok(own) => builder.build(rt, own, 0),
         Err(error) => Err(Error::from(error)),

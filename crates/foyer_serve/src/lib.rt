@@ -6,7 +6,7 @@
 
 mod answer;
 mod command;
-mod directory;
+pub mod directory;
 pub mod engine;
 mod lines;
 mod options;

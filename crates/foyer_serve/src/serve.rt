@@ -61,10 +61,11 @@ where
             Err(error) => answer_fault(output, error.kind()),
         };
     }
-    match open_directory(rt, &alloc, &options, settings) {
+    let (directory, capacity) = (options.directory, options.capacity as usize);
+    match open_directory(rt, &alloc, directory, capacity, settings) {
         Ok(engine) => answer_input(alloc, engine, input, output),
         Err(failed) => {
-            let _ = report(&mut errors, options.directory, &failed);
+            let _ = report(&mut errors, directory, &failed);
             answer_fault(output, failed.kind)
         }
     }

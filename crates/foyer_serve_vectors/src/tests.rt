@@ -1,0 +1,5 @@
+//! The program over directories, and its engine over devices whose calls fail.
+
+mod directories;
+mod failing;
+mod same;
