@@ -1,5 +1,5 @@
 -- What the steps of one flusher's flushes do to its batch and its queue, and that they leave the other flushers alone.
-use Rattle.std.proofs.Common.{◌≡◌, ℕ, Bool, true, List, [], ◌∷◌, Option, Some, None, inl, inr, refl, ap, subst, ◌∙◌}
+use Rattle.std.proofs.Common.{◌≡◌, ℕ, Bool, true, false, List, [], ◌∷◌, Option, Some, None, inl, inr, refl, ap, subst, ◌∙◌}
 use Rattle.foyer_model.specs.Changes.{Changes}
 use Rattle.foyer_model.specs.Flush.{Begins, Describes, Finishes, Logs, Wrote}
 use Rattle.foyer_model.specs.Follows.{Follows}
@@ -116,6 +116,23 @@ module _ {C : Type 0} (rules : Rules C) (Splits : Splitting C) where
   follows_keep c new f step (NotNow back) is ok = keeps_same f c new ok.2
   follows_keep c new f step (Refused kind back) is ok = keeps_same f c new ok.2
   follows_keep c new f step reply is (few, turn, (done, does, eq)) = λ g ne. ap (λ k. k.flushers g) eq ∙ changes_keep c done f step reply is does g ne
+
+  -- after a write that failed no other is asked for
+  pub wrote_next : (c new : State C) (f : ℕ) (is_ok : Bool) → is_ok ≡ false → Follows rules Splits c (FlushWrote f is_ok) Next new → ⊥
+  wrote_next c new f is_ok failed (few, turn, (done, does, eq)) =
+      never (c.flushers f).batch (subst (λ ok. Wrote rules c f ok (c.flushers f).batch Next done) failed does)
+    where
+      never : (batch : Option (Batch C)) → Wrote rules c f false batch Next done → ⊥
+      never (Some batch) ok = ok
+      never None ok = ok
+
+  -- nor is it by a block that is asked for
+  pub described_next : (c new : State C) (f : ℕ) → Follows rules Splits c (FlushBlock f) Next new → ⊥
+  described_next c new f (few, turn, (done, does, eq)) = never (c.flushers f).batch does
+    where
+      never : (batch : Option (Batch C)) → Describes rules c f batch Next done → ⊥
+      never (Some batch) ok = ok
+      never None ok = ok
 
   -- what is received begins no batch
   pub receives_none : (c new : State C) (f : ℕ) (reply : Reply C) → Follows rules Splits c (Receive f) reply new → BeginsNone f c new

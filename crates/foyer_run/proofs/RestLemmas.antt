@@ -11,7 +11,7 @@ use Rattle.foyer_rules.specs.Content.{Content, Meaning}
 use Rattle.foyer_rules.specs.CoreRules.{layout, machine}
 use Rattle.foyer_rules.specs.Sizes.{AreValid}
 use Rattle.foyer_rules.specs.declared.settings.Settings.{Settings}
-use Rattle.foyer_core.specs.Asked.{went_well}
+use Rattle.foyer_core.specs.Asked.{step_of, went_well}
 use Rattle.foyer_core.specs.Refines.{IsHandedBack, Refines}
 use Rattle.foyer_core.specs.Replied.{IsReply}
 use Rattle.foyer_core.specs.StateOf.{IsStateOf}
@@ -21,8 +21,9 @@ use Rattle.foyer_core.specs.declared.state.Core.{Core}
 use Rattle.foyer_core.specs.declared.step.Step.{Step}
 use Rattle.foyer_core.specs.declared.step.Step.TheVariants as step
 use Rattle.foyer_core.proofs.RefinesLemmas.{IsOrdinary}
+use Rattle.foyer_run.specs.Accesses.{AsksNoMore}
 use Rattle.foyer_run.specs.AtRest.{BeginsNone, ComesToRest, EndsBatch, EndsBatchOnce, KeepsOthers, Leads, LeavesAllIdle, LeavesIdle, LeavesIdleBelow, MayNotBegin, TakesQueue, TakesQueueIf}
-use Rattle.foyer_run.proofs.FlusherSteps.{begins_none_more, finishes_ends, follows_keep, keeps_more, keeps_same, receives_none, takes_empty}
+use Rattle.foyer_run.proofs.FlusherSteps.{begins_none_more, described_next, finishes_ends, follows_keep, keeps_more, keeps_same, receives_none, takes_empty, wrote_next}
 use Rattle.foyer_run.proofs.IdleLemmas.{idle_in_each}
 use Rattle.foyer_run.proofs.ReplyLemmas.{ordinary}
 
@@ -167,6 +168,27 @@ module _ {K V P A : Type 0} (m : Meaning K V P) where
       leads_more (KeepsOthers f) (KeepsOthers f) (KeepsOthers f) a b c (keeps_more f) led (λ s sound it at.
       let met = refines s sound it at in
       (met.after, met.stands, follows_keep (machine m s sound) (layout s) it met.after f (model_step.FlushWrote f (went_well outcome)) met.it refl met.follows))
+
+  asks_by : (given : Step K V P A) (f : ℕ) (answer : Reply K V P A) (a b c : Core K V P A) (R : State Content → State Content → Type 0) → Leads m R a b → Refines m given answer b c
+      → ((s : Settings) (sound : AreValid s) (it after : State Content) → Follows (machine m s sound) (layout s) it (step_of m given) model_reply.Next after → ⊥)
+      → AsksNoMore m a answer
+  asks_by given f answer a b c R leads refines never = λ s sound it at next.
+      let led = leads s sound it at in
+      let met = refines s sound led.0 led.1 in
+      let is : met.it ≡ model_reply.Next = subst (λ r. IsReply m r met.it) next met.reply in
+      never s sound led.0 met.after (subst (λ r. Follows (machine m s sound) (layout s) led.0 (step_of m given) r met.after) is met.follows)
+
+  -- a report that ends a block's writes
+  pub report_asks : (f : ℕ) (outcome : _) (answer : Reply K V P A) (a b c : Core K V P A) → Leads m (KeepsOthers f) a b → Refines m (step.FlushWrote f outcome) answer b c
+      → (went_well outcome ≡ false) ⊎ (answer ≡ reply.Next → ⊥) → AsksNoMore m a answer
+  report_asks f outcome answer a b c leads refines (inr not) = λ s sound it at next. not next
+  report_asks f outcome answer a b c leads refines (inl failed) =
+      asks_by (step.FlushWrote f outcome) f answer a b c (KeepsOthers f) leads refines (λ s sound it after follows. wrote_next (machine m s sound) (layout s) it after f (went_well outcome) failed follows)
+
+  -- and a block that isn't to be had
+  pub block_asks : (f : ℕ) (answer : Reply K V P A) (a b : Core K V P A) → Refines m (step.FlushBlock f) answer a b → AsksNoMore m a answer
+  block_asks f answer a b refines =
+      asks_by (step.FlushBlock f) f answer a a b IsAny (any_none a) refines (λ s sound it after follows. described_next (machine m s sound) (layout s) it after f follows)
 
 -- one relation after another
 

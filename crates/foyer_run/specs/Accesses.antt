@@ -1,7 +1,11 @@
 -- A load and a block's writes, each with its accesses in their place: as runs of moves.
-use Rattle.std.specs.Prelude.{ℕ, Bool, List, [], ◌∷◌, ◌++◌, length, replicate, Option, Some, None}
+use Rattle.std.specs.Prelude.{◌≢◌, ℕ, Bool, List, [], ◌∷◌, ◌++◌, length, replicate, Option, Some, None}
 use Rattle.std.specs.declared.vec.Vec.{Vec}
-use Rattle.foyer_rules.specs.Content.{Meaning}
+use Rattle.foyer_model.specs.State.{State}
+use Rattle.foyer_rules.specs.Content.{Content, Meaning}
+use Rattle.foyer_rules.specs.Sizes.{AreValid}
+use Rattle.foyer_rules.specs.declared.settings.Settings.{Settings}
+use Rattle.foyer_core.specs.StateOf.{IsStateOf}
 use Rattle.foyer_core.specs.declared.reply.Reply.{Reply}
 use Rattle.foyer_core.specs.declared.reply.Reply.TheVariants as reply
 use Rattle.foyer_flusher.specs.declared.flusher.Write.{Write}
@@ -37,3 +41,7 @@ pub record WritesAll {K V P A : Type 0} (m : Meaning K V P) (flusher : ℕ) (old
 abbrev pub Writes : {K V P A : Type 0} → Meaning K V P → ℕ → Option (Reply K V P A) → (old new : Core K V P A) → (old_bytes new_bytes : ℕ → ℕ → ℕ) → Type 0
 Writes m flusher None old new old_bytes new_bytes = WritesAll m flusher old new old_bytes new_bytes
 Writes m flusher (Some last) old new old_bytes new_bytes = WritesUntil m flusher last old new old_bytes new_bytes
+
+-- from each state of the model that the core stood for, the last answer asks for no other write
+abbrev pub AsksNoMore : {K V P A : Type 0} → Meaning K V P → Core K V P A → Reply K V P A → Type 0
+AsksNoMore m old last = (s : Settings) → AreValid s → (it : State Content) → IsStateOf m s old it → last ≢ reply.Next

@@ -6,7 +6,7 @@ ghost use Rattle.foyer_rules.specs.Sizes.{AreValid};
 ghost use Rattle.foyer_rules.specs.declared.settings.Settings.{Settings};
 ghost use Rattle.foyer_core.specs.Refines.{IsBuilt, Refines};
 ghost use Rattle.foyer_core.specs.declared.state.Core.{Core};
-ghost use Rattle.foyer_run.specs.Accesses.{Says, Writes, load_of};
+ghost use Rattle.foyer_run.specs.Accesses.{AsksNoMore, Says, Writes, load_of};
 ghost use Rattle.foyer_run.specs.AtRest.{KeepsOthers, Leads};
 ghost use Rattle.foyer_run.specs.Driven.{Drives};
 ghost use Rattle.foyer_run.specs.Moves.{asked};
@@ -110,7 +110,7 @@ where
 }
 
 /// Asks a flusher for a block, does the writes that this issues in their order, and reports each: what was answered last,
-/// `None` where the block has no write or none that ended it. After a write that failed, and after a report that didn't
+/// which never asks for another write, `None` where the block has no write or none that ended it. After a write that failed, and after a report that didn't
 /// ask for the next, the block's others aren't done. Of a disk whose bytes aren't known it is only claimed that the other
 /// flushers keep what they have.
 pub fn write_block<K, V, P, A, D>(
@@ -131,6 +131,9 @@ where
     ensures drives { D.is_known disk.old → Drives
         (meaning K.encoding V.encoding K.is_encodable V.is_encodable K.is_decodable V.is_decodable P.age)
         core.old core.new (D.byte_at disk.old) (D.byte_at disk.new) }
+    ensures ends { IfSome result (AsksNoMore
+        (meaning K.encoding V.encoding K.is_encodable V.is_encodable K.is_decodable V.is_decodable P.age)
+        core.old) }
     ensures leads { Leads
         (meaning K.encoding V.encoding K.is_encodable V.is_encodable K.is_decodable V.is_decodable P.age)
         (KeepsOthers flusher) core.old core.new }

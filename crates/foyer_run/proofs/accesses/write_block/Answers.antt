@@ -1,12 +1,14 @@
-use Rattle.std.proofs.Common.{[], arith, None, Some, inl, inr, refl, sym, subst, ◌∙◌}
+use Rattle.std.proofs.Common.{◌≡◌, ◌⊎◌, false, [], arith, None, Some, inl, inr, refl, sym, subst, ◌∙◌}
 use Rattle.foyer_block.proofs.Found.{slice_get_at}
 use Rattle.foyer_rules.specs.Content.{meaning}
 use Rattle.foyer_core.specs.Refines.{IsRefined}
+use Rattle.foyer_core.specs.Asked.{went_well}
+use Rattle.foyer_core.specs.declared.reply.Reply.TheVariants as reply
 use Rattle.foyer_core.specs.declared.step.Step.TheVariants as step
 use Rattle.foyer_core.proofs.FlushTurns.{went_is}
 use Rattle.foyer_run.proofs.AccessLemmas.{no_block, writing_first, written_all, written_ends, written_none, written_on}
 use Rattle.foyer_run.proofs.DriveLemmas.{writes_drive}
-use Rattle.foyer_run.proofs.RestLemmas.{block_keeps, report_more}
+use Rattle.foyer_run.proofs.RestLemmas.{block_asks, block_keeps, report_asks, report_more}
 use Rattle.foyer_run.proofs.WriteLemmas.{done_is}
 use Rattle.foyer_run.proofs.accesses.write_block.Goals as goal
 
@@ -20,6 +22,7 @@ returns-in_default g c =
     record {
       writes = λ known. writes;
       drives = λ known. writes_drive m c.args.flusher (Some c.apply.result) c.args.core.now c.apply.new.self bytes bytes writes;
+      ends = block_asks m c.args.flusher c.apply.result c.args.core.now c.apply.new.self (c.apply.ensures.meets tt);
       leads = block_keeps m c.args.flusher c.apply.result c.args.core.now c.apply.new.self (c.apply.ensures.meets tt);
       known = λ known. known;
     }
@@ -51,14 +54,16 @@ returns-then-not-wants_next_write g c =
     let outcome = c.do_write-wrote.result in
     let at = slice_get_at c.deref-write-items.result.now c.writes.write-index write c.writes-test.true c.write-item.is in
     let ok = c.is_ok-went_well.ensures.value ∙ went_is outcome in
+    let why : (went_well outcome ≡ false) ⊎ (c.apply-reply.result ≡ reply.Next → ⊥) = elim c.if-not-wants_next_write.ensures [ inl failed ↦ inl (sym ok ∙ failed) | inr last ↦ inr last ] in
     let writes = λ (known : g.D.Disk.is_known c.args.disk.now).
     written_ends m c.args.flusher b c.writes.write-index c.deref-write-items.result.now write outcome c.apply-reply.result c.args.core.now c.writes.core c.apply-reply.new.self
     (g.D.Disk.byte_at c.args.disk.now) before after (c.writes.invariant.written known) at
     (done_is before after b write outcome (c.do_write-wrote.ensures.wrote (c.writes.invariant.known known)) (c.do_write-wrote.ensures.torn (c.writes.invariant.known known)))
     (λ s sound v at. c.apply-reply.ensures.meets tt s sound v.core at)
-    (elim c.if-not-wants_next_write.ensures [ inl failed ↦ inl (sym ok ∙ failed) | inr last ↦ inr last ]) in
+    why in
     record {
       writes = writes;
+      ends = report_asks m c.args.flusher outcome c.apply-reply.result c.args.core.now c.writes.core c.apply-reply.new.self c.writes.invariant.leads (c.apply-reply.ensures.meets tt) why;
       drives = λ known. writes_drive m c.args.flusher (Some c.apply-reply.result) c.args.core.now c.apply-reply.new.self (g.D.Disk.byte_at c.args.disk.now) after (writes known);
       leads = report_more m c.args.flusher outcome c.apply-reply.result c.args.core.now c.writes.core c.apply-reply.new.self c.writes.invariant.leads (c.apply-reply.ensures.meets tt);
       known = λ known. c.do_write-wrote.ensures.known (c.writes.invariant.known known);
@@ -94,6 +99,7 @@ returns g c =
     record {
       writes = writes;
       drives = λ known. writes_drive m c.args.flusher None c.args.core.now c.writes.core bytes after (writes known);
+      ends = tt;
       leads = c.writes.invariant.leads;
       known = c.writes.invariant.known;
     }
