@@ -114,13 +114,20 @@ module _ {blocks : List BlockState} {clean waiting : List ℕ} {ready : List (Op
       omega arith
 
   -- a clean block is handed out
+  -- a block that is handed out was clean
+  pub taken_clean : (f b : ℕ) (blocks' : List BlockState) (clean' : List ℕ) → (taken : IsTaken f blocks clean b blocks' clean') → is_clean (Some taken.before) ≡ true
+  taken_clean f b blocks' clean' taken =
+      let first : IsFirstUsable clean blocks taken.index = taken.first in
+      let in_clean : is_id_in b clean ≡ true = subst (λ k. is_id_in k clean ≡ true) (sym taken.is) (in_at clean taken.index first.within) in
+      sym (ap is_clean taken.was) ∙ sym (kept.clean_is b) ∙ in_clean
+
   pub kept_taken : (f b : ℕ) (blocks' : List BlockState) (clean' : List ℕ) (room : ℕ) → IsTaken f blocks clean b blocks' clean' → room ≡ clean_room
       → IsKept blocks' clean' waiting ready evictable (usable - 1) reclaiming room waiting_room
   kept_taken f b blocks' clean' room taken fits =
       let it : BlockState = record (taken.before) { block_set = Writing f; filling = (taken.before).filling + 1 } in
       let first : IsFirstUsable clean blocks taken.index = taken.first in
       let in_clean : is_id_in b clean ≡ true = subst (λ k. is_id_in k clean ≡ true) (sym taken.is) (in_at clean taken.index first.within) in
-      let was_clean : is_clean (Some taken.before) ≡ true = sym (ap is_clean taken.was) ∙ sym (kept.clean_is b) ∙ in_clean in
+      let was_clean : is_clean (Some taken.before) ≡ true = taken_clean f b blocks' clean' taken in
       let lt : b < length blocks = there_is blocks b taken.before taken.was in
       let after_writing : clean' ≡ without_id b clean = taken.clean_are ∙ removed_is clean taken.index first.within kept.clean_once ∙ ap (λ k. without_id k clean) (sym taken.is) in
       let below : filling_in blocks b < last_number = subst (λ k. filling_in blocks k < last_number) (sym taken.is) first.below in

@@ -103,6 +103,17 @@ stands_waits m s f waiting st waits = record {
   is_cleaning = st.is_cleaning;
 }
 
+-- a clean block is in its set
+pub clean_as : (m : Managed) (s : BlockSets) (b : ℕ) (it : BlockState) → Stands m s → slice_get m.blocks b ≡ Some it → is_clean (Some it) ≡ true
+    → s.block_set b ≡ model_state.Clean
+clean_as m s b it st was clean = (st.blocks b it was).block_set ∙ go it.block_set clean
+  where
+    go : (p : BlockSet) → is_clean (Some (record it { block_set = p })) ≡ true → model_set p ≡ model_state.Clean
+    go Clean e = refl
+    go (Writing g) e = absurd (let clash : false ≡ true = e in cc)
+    go Evictable e = absurd (let clash : false ≡ true = e in cc)
+    go Reclaiming e = absurd (let clash : false ≡ true = e in cc)
+
 -- a clean block is handed out to it
 pub stands_taken : (m : Managed) (s : BlockSets) (f b : ℕ) (blocks : List BlockState) (clean waiting : List ℕ) → Stands m s → AreDistinct m.clean
     → IsTaken f m.blocks m.clean b blocks clean → waiting ≡ without_id f m.waiting
@@ -146,17 +157,18 @@ reclaimed_as (suc n) m s le st =
 
 -- a reclaimed block was cleaned, and goes to the flusher that began to wait last
 pub stands_given : (m : Managed) (s : BlockSets) (b f : ℕ) (before : BlockState) (others : List ℕ) → Stands m s → slice_get m.blocks b ≡ Some before
-    → m.waiting ≡ others ++ f ∷ [] → f < length m.ready → before.filling < last_number
+    → m.waiting ≡ others ++ f ∷ [] → is_id_in f others ≡ false → f < length m.ready → before.filling < last_number
     → HasFinished s b (Some f) (record m {
       blocks = slice_set m.blocks b (record { block_set = Writing f; filling = before.filling + 1; statistics = record { invalid = 0; access = 0; probation = false } });
       waiting = others;
       ready = slice_set m.ready f (Some b);
     })
-stands_given m s b f before others st was waits lt below =
+stands_given m s b f before others st was waits once lt below =
     let k : IsBlockAs before (s.block_set b) (s.filling b) (s.stats b) = st.blocks b before was in
     let now : BlockState = record { block_set = Writing f; filling = before.filling + 1; statistics = record { invalid = 0; access = 0; probation = false } } in (
       others,
       st.waiting ∙ waits,
+      once,
       subst (λ n. n < last_number) (sym k.filling) below,
       record {
         blocks = are_set m.blocks s.block_set s.filling s.stats st.blocks b now (put s.block_set b (model_state.Writes f)) (put s.filling b (s.filling b + 1)) (put s.stats b model_state.no_stats)

@@ -1,7 +1,7 @@
 -- The sets of blocks as the model has them, and which of these a manager stands for.
 use Rattle.std.specs.Prelude.{◌≡◌, ◌≢◌, ℕ, zero, suc, ◌+◌, ◌<◌, ◌≤◌, ◌⊎◌, Bool, true, false, if◌then◌else◌, List, [], ◌∷◌, ◌++◌, length, Option, Some, None, slice_get}
 use Rattle.foyer_model.specs.Flush.{first_usable, usable_count}
-use Rattle.foyer_model.specs.Ids.{with_id, without_id}
+use Rattle.foyer_model.specs.Ids.{is_id_in, with_id, without_id}
 use Rattle.foyer_model.specs.Numbers.{put, plus, last_number}
 use Rattle.foyer_model.specs.State as model_state
 use Rattle.foyer_sets.specs.Managed.{Managed, one_if}
@@ -69,7 +69,8 @@ abbrev pub HandsOut : BlockSets → (flusher : ℕ) → Option ℕ → Managed �
 HandsOut s f None new = (s.ready f ≡ None) × (clean_block s ≡ None) × Stands new (record s { waiting = with_id f s.waiting })
 HandsOut s f (Some b) new =
     ((s.ready f ≡ Some b) × Stands new (with_ready s f))
-    ⊎ ((s.ready f ≡ None) × (clean_block s ≡ Some b) × (b < length new.blocks) × Stands new (after_hand_out s f b))
+    ⊎ ((s.ready f ≡ None) × (clean_block s ≡ Some b) × (s.block_set b ≡ model_state.Clean) × (b < length new.blocks)
+    × Stands new (after_hand_out s f b))
 
 -- a block that its flusher leaves may be reclaimed
 abbrev pub after_writing : BlockSets → (block : ℕ) → BlockSets
@@ -82,7 +83,7 @@ without_stats s b = record s { stats = put s.stats b model_state.no_stats }
 -- The block goes to the flusher that began to wait last, else it is clean.
 abbrev pub HasFinished : BlockSets → (block : ℕ) → Option ℕ → Managed → Type 0
 HasFinished s b (Some f) new =
-    (others : List ℕ) × (s.waiting ≡ others ++ f ∷ []) × (s.filling b < last_number)
+    (others : List ℕ) × (s.waiting ≡ others ++ f ∷ []) × (is_id_in f others ≡ false) × (s.filling b < last_number)
     × Stands new (record (without_stats s b) {
       waiting = others;
       block_set = put s.block_set b (model_state.Writes f);

@@ -290,6 +290,13 @@ impl<A: Allocator> BlockManager<A> {
         &self.blocks[id as usize]
     }
 
+    /// What is known of a block, if it is there.
+    pub fn known(&self, id: BlockId) -> Option<BlockState>
+        ensures { result ≡ slice_get self.now.blocks id }
+    {
+        self.blocks.get(id as usize).copied()
+    }
+
     /// How many flushers there are.
     pub fn flushers(&self) -> usize
         ensures { result ≡ length self.now.ready }

@@ -6,8 +6,8 @@ use Rattle.foyer_model.specs.Flush.{first_usable}
 use Rattle.foyer_sets.specs.Managed.{Managed, IsTaken, IsFirstUsable, IsKept, filling_in}
 use Rattle.foyer_sets.specs.BlockSets.{BlockSets, Stands, clean_block}
 use Rattle.foyer_sets.proofs.BlockStateLemmas.{set_count, there_is}
-use Rattle.foyer_sets.proofs.ManagedLemmas.{kept_served, kept_waits, kept_taken, waits_room, some_usable}
-use Rattle.foyer_sets.proofs.StandsLemmas.{usable_as, stands_ready, stands_waits, stands_taken}
+use Rattle.foyer_sets.proofs.ManagedLemmas.{kept_served, kept_waits, kept_taken, taken_clean, waits_room, some_usable}
+use Rattle.foyer_sets.proofs.StandsLemmas.{usable_as, clean_as, stands_ready, stands_waits, stands_taken}
 use Rattle.foyer_sets.proofs.block.manager.BlockManager.get_clean_block.Goals as goal
 
 -- a value by its fields
@@ -102,6 +102,8 @@ returns-clause-handed g c = λ s st.
       no_ready m.ready.items s.ready c.args.flusher c.index.result.now None stood.ready lt c.index.ensures (not_some c.index.result.now c.in_default.not-Some),
       ap (λ (t : Bool). if t then None else first_usable s.filling s.clean) (stood.is_cleaning ∙ c.in-Some-next_clean.ensures.0)
           ∙ usable_as old s stood (c.self.invariant).clean_is ∙ first.first ∙ ap Some (sym taken.is),
+      clean_as old s c.hand_out-block.result taken.before stood taken.was
+          (taken_clean c.self.invariant c.args.flusher c.hand_out-block.result c.hand_out-block.new.blocks.items c.hand_out-block.new.clean.items taken),
       omega arith,
       stands_taken old s c.args.flusher c.hand_out-block.result c.hand_out-block.new.blocks.items c.hand_out-block.new.clean.items c.end_to_wait-2.new.waiting.items
           stood (c.self.invariant).clean_once taken c.end_to_wait-2.ensures.waits,

@@ -2,6 +2,7 @@ use Rattle.std.proofs.Common.{◌≡◌, ◌<◌, ◌≤◌, ◌+◌, ◌-◌, �
 use Rattle.std.proofs.lemmas.Option.{slice_get_read}
 use Rattle.std.specs.VecDeque.{deque_capacity}
 use Rattle.foyer_model.specs.Ids.{is_id_in, AreDistinct}
+use Rattle.foyer_model.proofs.Ids.{distinct_front}
 use Rattle.foyer_sets.specs.Managed.{Managed, IsKept, IsReclaimed, is_clean, is_evictable, is_reclaiming, is_clean_set, is_evictable_set, is_reclaiming_set, one_if}
 use Rattle.foyer_sets.specs.BlockSets.{BlockSets, Stands}
 use Rattle.foyer_sets.specs.declared.block.states.BlockState.{BlockState}
@@ -76,7 +77,8 @@ returns-in-Some-clause-finished g c = λ s st.
     let stood : Stands old s = subst (λ (w : Managed). Stands w s) (sym c.self.view_is) st in
     let f : Found m.blocks.items c.args.block c.index.result.now = found c.args.self.now old c.args.block c.index.result.now c.self.view_is c.requires c.index.ensures in
     let lt : c.in-Some.flusher < length m.ready.items = waiter_there c.self.invariant c.next_waiter.new.waiting.items c.in-Some.flusher c.in-Some.ensures.waiter.1 in
-    stands_given old s c.args.block c.in-Some.flusher c.index.result.now c.next_waiter.new.waiting.items stood f.was c.in-Some.ensures.waiter.1 lt c.in-Some.ensures.waiter.0
+    let once = distinct_front c.in-Some.flusher c.next_waiter.new.waiting.items (subst AreDistinct c.in-Some.ensures.waiter.1 (c.self.invariant).waiting_once) in
+    stands_given old s c.args.block c.in-Some.flusher c.index.result.now c.next_waiter.new.waiting.items stood f.was c.in-Some.ensures.waiter.1 once.1 lt c.in-Some.ensures.waiter.0
 
 pub index_mut-requires-2 : goal.index_mut-requires-2
 index_mut-requires-2 g c =
