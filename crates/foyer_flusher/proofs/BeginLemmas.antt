@@ -124,7 +124,6 @@ module _ {K V P A : Type 0} (m : Meaning K V P) (rules : Rules Content) (s : Set
       waits = refl;
       own = stands.own;
       there = stands.there;
-      ready = stands.ready;
       sizes = is.sizes ∙ stands.sizes;
       context = laid.last;
       goes_on = goes_on (sizes_in s) it.context it.buffer laid.spreads laid.laid;
@@ -143,4 +142,5 @@ module _ {K V P A : Type 0} (m : Meaning K V P) (rules : Rules Content) (s : Set
       };
     });
     queue = refl;
+    keeps = record { own = refl; ready = refl };
   }

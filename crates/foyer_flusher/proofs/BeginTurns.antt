@@ -1,8 +1,6 @@
 -- A batch may begin just where the model's may.
-use Rattle.std.proofs.Common.{◌≡◌, ℕ, List, [], ◌∷◌, map, Option, Some, None, inl, inr, refl, sym, ap, subst, ◌∙◌}
-use Rattle.foyer_block.specs.declared.tombstone.Tombstone.{Tombstone}
+use Rattle.std.proofs.Common.{◌≡◌, List, [], ◌∷◌, map, Option, Some, None, inl, inr, refl, sym, ap, ◌∙◌}
 use Rattle.foyer_model.specs.Receive.{HasReceived}
-use Rattle.foyer_model.specs.Record as model_record
 use Rattle.foyer_model.specs.State as model_state
 use Rattle.foyer_placing.specs.Bridge.{kept_of}
 use Rattle.foyer_rules.specs.Content.{Content, Meaning}

@@ -1,7 +1,6 @@
 -- A flusher's batch, and the block that is being written, where the model has them.
 use Rattle.std.proofs.Common.{◌≡◌, ℕ, List, [], ◌∷◌, map, Option, Some, None, refl, subst}
 use Rattle.foyer_buffer.specs.Layout.{parts_of}
-use Rattle.foyer_buffer.specs.declared.split.BlobPart.{BlobPart}
 use Rattle.foyer_buffer.specs.declared.split.Block.{Block}
 use Rattle.foyer_model.specs.Position.{BlockLayout}
 use Rattle.foyer_model.specs.State as model_state

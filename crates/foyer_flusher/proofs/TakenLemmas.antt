@@ -1,9 +1,9 @@
 -- What the front of a queue becomes.
-use Rattle.std.proofs.Common.{◌≡◌, ℕ, zero, suc, ◌+◌, ◌-◌, ◌*◌, ◌/◌, ◌%◌, ◌^◌, ◌<◌, ◌≤◌, ◌==◌, Bool, true, false, ◌&&◌, nat_lt, if◌then◌else◌, List, [], ◌∷◌, ◌++◌, map, length, Option, Some, None, option_to_list, refl, sym, ap, subst, ◌∙◌, arith}
+use Rattle.std.proofs.Common.{◌≡◌, ℕ, ◌+◌, ◌*◌, ◌/◌, ◌%◌, ◌^◌, ◌≤◌, ◌==◌, Bool, true, false, ◌&&◌, nat_lt, if◌then◌else◌, List, [], ◌∷◌, ◌++◌, map, length, Option, Some, None, option_to_list, refl, sym, ap, subst, ◌∙◌, arith}
 use Rattle.std.specs.Prelude.{◌↔◌}
 use Rattle.std.proofs.lemmas.Bool.{lt-ltb}
 use Rattle.std.specs.Cmp.Derive.{both_true}
-use Rattle.foyer_buffer.specs.Entries.{Entry, FitsBuffer, left_of, with_entry}
+use Rattle.foyer_buffer.specs.Entries.{FitsBuffer, left_of, with_entry}
 use Rattle.foyer_format.specs.Page.{page_up}
 use Rattle.foyer_format.specs.Record.{record_bytes}
 use Rattle.foyer_format.specs.declared.compress.Compression.TheVariants as compression
@@ -93,7 +93,6 @@ module _ {K V P A : Type 0} (m : Meaning K V P) (s : Settings) (sound : AreValid
       waits = ap (λ xs. xs ++ id ∷ []) stands.waits;
       own = stands.own;
       there = stands.there;
-      ready = stands.ready;
       sizes = stands.sizes;
       context = stands.context;
       goes_on = stands.goes_on;
@@ -101,6 +100,7 @@ module _ {K V P A : Type 0} (m : Meaning K V P) (s : Settings) (sound : AreValid
     });
     receives = at_queue (model_reply.Received None) (turned (machine m s sound) st f after) (model_state.Await id ∷ map (submission_of m) rest)
         (stands.queue ∙ ap (map (submission_of m)) is) refl;
+    keeps = record { own = refl; ready = refl };
     size_is = let e : size_in (st.flushers f).queue ≡ size_in (map (submission_of m) rest) = size_front (submission.Wait id) rest is in omega arith;
   }
     where
@@ -124,7 +124,6 @@ module _ {K V P A : Type 0} (m : Meaning K V P) (s : Settings) (sound : AreValid
       waits = stands.waits;
       own = stands.own;
       there = stands.there;
-      ready = stands.ready;
       sizes = stands.sizes;
       context = stands.context;
       goes_on = stands.goes_on;
@@ -132,6 +131,7 @@ module _ {K V P A : Type 0} (m : Meaning K V P) (s : Settings) (sound : AreValid
     });
     receives = at_queue (model_reply.Received None) (turned (machine m s sound) st f after) (model_state.Remove info.tombstone.hash info.tombstone.sequence (invalid_of_all info.stats) ∷ map (submission_of m) rest)
         (stands.queue ∙ ap (map (submission_of m)) is) refl;
+    keeps = record { own = refl; ready = refl };
     size_is = let e : size_in (st.flushers f).queue ≡ size_in (map (submission_of m) rest) = size_front (submission.Tombstone info) rest is in omega arith;
   }
     where
@@ -201,7 +201,6 @@ module _ {K V P A : Type 0} (m : Meaning K V P) (s : Settings) (sound : AreValid
         waits = stands.waits;
         own = stands.own;
         there = stands.there;
-        ready = stands.ready;
         sizes = stands.sizes;
         context = stands.context;
         goes_on = stands.goes_on;
@@ -209,6 +208,7 @@ module _ {K V P A : Type 0} (m : Meaning K V P) (s : Settings) (sound : AreValid
       });
       receives = at_queue (model_reply.Received None) (turned (machine m s sound) st f after) (model_state.Piece p.hash sequence size (content_of m p) ∷ map (submission_of m) rest)
           queue (whole, is_encoded, (agrees n whole len).0 (fits.room, fits.greatest), refl);
+      keeps = record { own = refl; ready = refl };
       size_is = size_front (submission.CacheEntry p size sequence) rest is;
     }
       where
@@ -245,7 +245,6 @@ module _ {K V P A : Type 0} (m : Meaning K V P) (s : Settings) (sound : AreValid
         waits = stands.waits;
         own = stands.own;
         there = stands.there;
-        ready = stands.ready;
         sizes = stands.sizes;
         context = stands.context;
         goes_on = stands.goes_on;
@@ -253,6 +252,7 @@ module _ {K V P A : Type 0} (m : Meaning K V P) (s : Settings) (sound : AreValid
       });
       receives = at_queue (model_reply.Received (Some (content_of m p))) (turned (machine m s sound) st f after) (model_state.Piece p.hash sequence size (content_of m p) ∷ map (submission_of m) rest)
           queue (refl, not_fitting, refl);
+      keeps = record { own = refl; ready = refl };
       size_is = size_front (submission.CacheEntry p size sequence) rest is;
     }
       where

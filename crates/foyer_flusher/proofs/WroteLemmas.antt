@@ -1,5 +1,5 @@
 -- The report of a write, and the end of a batch, as the model takes them.
-use Rattle.std.proofs.Common.{◌≡◌, ℕ, ◌+◌, ◌-◌, ◌^◌, ◌<◌, ◌≤◌, Bool, true, false, List, [], ◌∷◌, map, length, Option, Some, None, refl, sym, ap, subst, ◌∙◌, arith}
+use Rattle.std.proofs.Common.{◌≡◌, ℕ, ◌-◌, ◌<◌, ◌≤◌, Bool, true, false, List, [], ◌∷◌, map, length, Option, Some, None, refl, sym, ap, subst, ◌∙◌, arith}
 use Rattle.foyer_block.specs.Index.{IndexMap}
 use Rattle.foyer_block.specs.Insertion.{inserted_all}
 use Rattle.foyer_block.specs.Removal.{without_marks}
@@ -8,7 +8,6 @@ use Rattle.foyer_model.specs.Position.{Write}
 use Rattle.foyer_model.specs.Flush.{released, all_invalidated, invalidated_unless, commit_in, write_done, block_done, batch_failed, Wrote, Finishes}
 use Rattle.foyer_model.specs.Index.{unmarked}
 use Rattle.foyer_model.specs.Numbers.{put}
-use Rattle.foyer_model.specs.Record as model_record
 use Rattle.foyer_model.specs.Reply as model_reply
 use Rattle.foyer_model.specs.State as model_state
 use Rattle.foyer_model.specs.Step as model_step
@@ -16,13 +15,16 @@ use Rattle.foyer_flusher.specs.FlusherSteps.{StandsAt, FlusherStep, settled, fai
 use Rattle.foyer_rules.specs.Content.{Content, Meaning}
 use Rattle.foyer_flusher.specs.Flushing.{IsWritingAs, AreWriting, IsBatchAs, IsFlusherAs}
 use Rattle.foyer_standing.specs.Addresses.{invalid_of}
-use Rattle.foyer_standing.specs.Handing.{filling_in}
+use Rattle.foyer_sets.specs.BlockSets.{Stands, HasSameRules}
+use Rattle.foyer_sets.specs.Managed.{Managed, filling_in}
 use Rattle.foyer_rules.specs.CoreRules.{machine}
 use Rattle.foyer_standing.specs.Addresses.{mark_of}
 use Rattle.foyer_rules.specs.Sizes.{AreValid}
-use Rattle.foyer_standing.specs.Standing.{AreBlocksAs, IsIndexedAs}
+use Rattle.foyer_standing.specs.Standing.{IsIndexedAs, sets_of}
 use Rattle.foyer_flusher.specs.Seen.{Seen}
-use Rattle.foyer_standing.proofs.BlockLemmas.{filling_at}
+use Rattle.foyer_standing.proofs.SetsLemmas.{filling_at, managed_kept, same_blocks, leaves_all, ready_same}
+use Rattle.foyer_flusher.proofs.NextLemmas.{released_others}
+use Rattle.foyer_model.proofs.Basics.{put_at}
 use Rattle.foyer_flusher.proofs.FlushLemmas.{batched, written}
 use Rattle.foyer_flusher.proofs.CommitLemmas.{committed, puts_all}
 use Rattle.foyer_standing.proofs.IndexLemmas.{unmarked_is}
@@ -31,7 +33,6 @@ use Rattle.foyer_flusher.specs.declared.batch.Wrote.TheVariants as answers
 use Rattle.foyer_flusher.specs.declared.flusher.Batch.{Batch}
 use Rattle.foyer_flusher.specs.declared.flusher.Writing.{Writing}
 use Rattle.foyer_rules.specs.declared.settings.Settings.{Settings}
-use Rattle.foyer_standing.specs.declared.blocks.BlockState.{BlockState}
 
 first_left : (ws : List Write) → 0 < length ws → (first : Write) × (rest : List Write) × (ws ≡ first ∷ rest)
 first_left [] some = absurd (omega arith)
@@ -61,7 +62,6 @@ module _ {K V P A : Type 0} (m : Meaning K V P) (s : Settings) where
     waits = stands.waits;
     own = stands.own;
     there = stands.there;
-    ready = stands.ready;
     sizes = stands.sizes;
     context = stands.context;
     goes_on = stands.goes_on;
@@ -86,7 +86,7 @@ module _ {K V P A : Type 0} (m : Meaning K V P) (s : Settings) where
   }
 
 module _ {K V P A : Type 0} (m : Meaning K V P) (s : Settings) (sound : AreValid s) (f : ℕ) (it : model_state.State Content)
-    (φ : Seen K V P A) (slots : IndexMap) (states : List BlockState) (ids waiters : List ℕ) (stands : StandsAt m s f it φ slots states ids waiters)
+    (φ : Seen K V P A) (slots : IndexMap) (blocks : Managed) (stands : StandsAt m s f it φ slots blocks)
     (batch : Batch K V P A) (is : φ.batch ≡ Some batch) (w : Writing A) (writes : batch.writing ≡ Some w) where
   pub got : (p : model_state.Batch Content) × ((it.flushers f).batch ≡ Some p) × IsBatchAs m s φ.own batch p
   got = batched m s φ.own φ.batch (it.flushers f).batch (stands.flusher).batch batch is
@@ -96,7 +96,7 @@ module _ {K V P A : Type 0} (m : Meaning K V P) (s : Settings) (sound : AreValid
 
   -- another write is left
   pub wrote_next : (n : ℕ) → 1 < w.left → n ≡ w.left - 1
-      → FlusherStep m s sound (model_step.FlushWrote f true) f it model_reply.Next (record φ { batch = Some (record batch { writing = Some (record w { left = n }) }) }) slots states ids waiters
+      → FlusherStep m s sound (model_step.FlushWrote f true) f it model_reply.Next (record φ { batch = Some (record batch { writing = Some (record w { left = n }) }) }) slots blocks
   wrote_next n more less =
       let two = two_left (at.0).left (let e : length (at.0).left ≡ w.left = (at.2).left in omega arith) in
       let v : model_state.Writing Content = record at.0 { left = two.1 ∷ two.2 } in
@@ -118,9 +118,9 @@ module _ {K V P A : Type 0} (m : Meaning K V P) (s : Settings) (sound : AreValid
             }));
         queue = refl;
         index = stands.index;
-        blocks = stands.blocks;
-        clean = stands.clean;
-        waiting = stands.waiting;
+        manager = managed_kept s f it blocks (record (it.flushers f) { batch = Some p }) (record { own = refl; ready = refl }) stands.manager;
+        has = same_blocks s f it.place it.waiting (it.flushers f) (record (it.flushers f) { batch = Some p }) (record { own = refl; ready = refl }) stands.has;
+        others = leaves_all f it.place it.waiting;
         next = refl;
         steps = refl;
         closed = refl;
@@ -134,11 +134,13 @@ module _ {K V P A : Type 0} (m : Meaning K V P) (s : Settings) (sound : AreValid
       (writing_put m s φ.own batch got.0 None None got.2 tt)
 
   -- the block's records enter the index
-  pub wrote_last : (n filling : ℕ) (slots' : IndexMap) → w.left ≤ 1 → filling ≡ filling_in states w.block → n ≡ length w.records.items
+  pub wrote_last : (n filling : ℕ) (slots' : IndexMap) → w.left ≤ 1 → filling ≡ filling_in blocks.blocks w.block → n ≡ length w.records.items
       → slots' ≡ inserted_all slots (map (settled w.block filling) w.records.items)
-      → FlusherStep m s sound (model_step.FlushWrote f true) f it (model_reply.Committed n) (record φ { batch = Some (record batch { writing = None }) }) slots' states ids waiters
+      → FlusherStep m s sound (model_step.FlushWrote f true) f it (model_reply.Committed n) (record φ { batch = Some (record batch { writing = None }) }) slots' blocks
   wrote_last n filling slots' few read count new =
-      let fill : filling ≡ it.filling w.block = read ∙ filling_at s states it.place it.filling it.stats stands.blocks w.block (at.2).there in
+      let size : length blocks.blocks ≡ s.blocks = (stands.manager).blocks in
+      let there : w.block < s.blocks = (at.2).there in
+      let fill : filling ≡ it.filling w.block = read ∙ filling_at blocks (sets_of it) w.block (stands.manager).sets (omega arith) in
       let one = first_left (at.0).left (let e : length (at.0).left ≡ w.left = (at.2).left in let k : 0 < w.left = (at.2).some in omega arith) in
       let last : one.1 ≡ [] = last_left one.0 one.1 (at.0).left one.2 (let e : length (at.0).left ≡ w.left = (at.2).left in omega arith) in
       let block : (at.0).block ≡ w.block = (at.2).block in
@@ -161,9 +163,9 @@ module _ {K V P A : Type 0} (m : Meaning K V P) (s : Settings) (sound : AreValid
         index = subst (λ k. IsIndexedAs s k (commit_in it at.0).index) (sym new)
             (subst (λ k. IsIndexedAs s (inserted_all slots (map (settled w.block filling) w.records.items)) k.index) (sym commits)
             (committed s w.block filling (at.2).there w.records.items (at.0).records slots it.index (at.2).records stands.index));
-        blocks = stands.blocks;
-        clean = stands.clean;
-        waiting = stands.waiting;
+        manager = managed_kept s f it blocks (record (it.flushers f) { batch = Some (record got.0 { writing = None }) }) (record { own = refl; ready = refl }) stands.manager;
+        has = same_blocks s f it.place it.waiting (it.flushers f) (record (it.flushers f) { batch = Some (record got.0 { writing = None }) }) (record { own = refl; ready = refl }) stands.has;
+        others = leaves_all f it.place it.waiting;
         next = refl;
         steps = refl;
         closed = refl;
@@ -172,25 +174,42 @@ module _ {K V P A : Type 0} (m : Meaning K V P) (s : Settings) (sound : AreValid
       }
 
   -- the rest of the batch is dropped
-  wrote_failed : (ok : Bool) (ψ : Seen K V P A) (states' : List BlockState) → (ok ≡ true → w.left ≤ 1)
+  wrote_failed : (ok : Bool) (ψ : Seen K V P A) (new : Managed) → (ok ≡ true → w.left ≤ 1)
       → IsFlusherAs m s ψ (failed_batch m s sound (record (it.flushers f) { batch = Some (record got.0 { writing = None }) }) (record got.0 { writing = None }))
-      → AreBlocksAs s states' (released φ.own it.place) it.filling it.stats
-      → FlusherStep m s sound (model_step.FlushWrote f ok) f it model_reply.Failed ψ slots states' ids waiters
-  wrote_failed ok ψ states' few left blocks =
+      → HasSameRules blocks new → Stands new (record (sets_of it) { block_set = released φ.own it.place })
+      → FlusherStep m s sound (model_step.FlushWrote f ok) f it model_reply.Failed ψ slots new
+  wrote_failed ok ψ new few left same sets =
       let one = first_left (at.0).left (let e : length (at.0).left ≡ w.left = (at.2).left in let k : 0 < w.left = (at.2).some in omega arith) in
       let last : ok ≡ true → one.1 ≡ [] = (λ yes. last_left one.0 one.1 (at.0).left one.2 (let e : length (at.0).left ≡ w.left = (at.2).left in let k : w.left ≤ 1 = few yes in omega arith)) in
+      let own : (it.flushers f).own ≡ φ.own = (stands.flusher).own in
+      let failed : model_state.Flusher Content = failed_batch m s sound (record (it.flushers f) { batch = Some (record got.0 { writing = None }) }) (record got.0 { writing = None }) in
       record {
         after = batch_failed (machine m s sound) it f got.0;
         does = subst (λ q. Wrote (machine m s sound) it f ok q model_reply.Failed (batch_failed (machine m s sound) it f got.0)) (sym got.1)
             (fails ok (batch_failed (machine m s sound) it f got.0) one.0 one.1 one.2 last refl);
-        flusher = failed_batch m s sound (record (it.flushers f) { batch = Some (record got.0 { writing = None }) }) (record got.0 { writing = None });
+        flusher = failed;
         flushers = refl;
         it = left;
         queue = refl;
         index = stands.index;
-        blocks = subst (λ o. AreBlocksAs s states' (released o it.place) it.filling it.stats) (sym (stands.flusher).own) blocks;
-        clean = stands.clean;
-        waiting = stands.waiting;
+        manager = record {
+          blocks = same.blocks ∙ (stands.manager).blocks;
+          flushers = same.flushers ∙ (stands.manager).flushers;
+          sets = ready_same new (record (sets_of it) { block_set = released (it.flushers f).own it.place }) (λ g. (put it.flushers f failed g).ready)
+              (subst (λ (o : Option ℕ). Stands new (record (sets_of it) { block_set = released o it.place })) (sym own) sets)
+              (λ g. put_at (λ (χ : model_state.Flusher Content). χ.ready ≡ (it.flushers g).ready) it.flushers f failed g
+              (λ at. sym (ap (λ k. (it.flushers k).ready) at)) (λ _. refl));
+        };
+        has = record {
+          own = λ c e. absurd (let clash : None ≡ Some c = e in cc);
+          ready = λ c e. let r = (stands.has).ready c e in
+              (subst (λ (o : Option ℕ). released o it.place c ≡ model_state.Writes f) (sym r.2) r.0, r.1, refl);
+          waits = λ e. (refl, ((stands.has).waits e).1);
+        };
+        others = record {
+          block_set = λ g c ne e. released_others s f it (it.flushers f).own (stands.has).own g c ne e;
+          waits = λ g ne e. e;
+        };
         next = refl;
         steps = refl;
         closed = refl;
@@ -204,27 +223,28 @@ module _ {K V P A : Type 0} (m : Meaning K V P) (s : Settings) (sound : AreValid
       fails false new x rest e last is = (at.0, x, rest, at.1, e, last, is)
 
   -- and so it is where the code fails the batch, once it took the block that was written
-  pub wrote_fails : (ok : Bool) (ψ : Seen K V P A) (states' : List BlockState) (idle : Batch K V P A) (answer : Answer) (slots' : IndexMap)
+  pub wrote_fails : (ok : Bool) (ψ : Seen K V P A) (new : Managed) (idle : Batch K V P A) (answer : Answer) (slots' : IndexMap)
       → idle ≡ record batch { writing = None } → (ok ≡ true → w.left ≤ 1)
       → ((φ' : model_state.Flusher Content) (p : model_state.Batch Content) → IsFlusherAs m s (record φ { batch = Some idle }) φ'
       → φ'.batch ≡ Some p → IsFlusherAs m s ψ (failed_batch m s sound φ' p))
-      → AreBlocksAs s states' (released φ.own it.place) it.filling it.stats → answer ≡ answers.Failed → slots' ≡ slots
-      → FlusherStep m s sound (model_step.FlushWrote f ok) f it (issued_wrote answer) ψ slots' states' ids waiters
-  wrote_fails ok ψ states' idle answer slots' idle_as few fails blocks failed same =
+      → HasSameRules blocks new → Stands new (record (sets_of it) { block_set = released φ.own it.place }) → answer ≡ answers.Failed → slots' ≡ slots
+      → FlusherStep m s sound (model_step.FlushWrote f ok) f it (issued_wrote answer) ψ slots' new
+  wrote_fails ok ψ new idle answer slots' idle_as few fails rules sets failed same =
       let as_idle : IsFlusherAs m s (record φ { batch = Some idle }) (record (it.flushers f) { batch = Some (record got.0 { writing = None }) }) =
       subst (λ b. IsFlusherAs m s (record φ { batch = Some b }) (record (it.flushers f) { batch = Some (record got.0 { writing = None }) })) (sym idle_as) idle_is in
-      subst (λ a. FlusherStep m s sound (model_step.FlushWrote f ok) f it (issued_wrote a) ψ slots' states' ids waiters) (sym failed)
-      (subst (λ k. FlusherStep m s sound (model_step.FlushWrote f ok) f it model_reply.Failed ψ k states' ids waiters) (sym same)
-      (wrote_failed ok ψ states' few
-      (fails (record (it.flushers f) { batch = Some (record got.0 { writing = None }) }) (record got.0 { writing = None }) as_idle refl) blocks))
+      subst (λ a. FlusherStep m s sound (model_step.FlushWrote f ok) f it (issued_wrote a) ψ slots' new) (sym failed)
+      (subst (λ k. FlusherStep m s sound (model_step.FlushWrote f ok) f it model_reply.Failed ψ k new) (sym same)
+      (wrote_failed ok ψ new few
+      (fails (record (it.flushers f) { batch = Some (record got.0 { writing = None }) }) (record got.0 { writing = None }) as_idle refl) rules sets))
 
 -- a batch ends
 pub ended : {K V P A : Type 0} (m : Meaning K V P) (s : Settings) (sound : AreValid s) (f : ℕ) (it : model_state.State Content)
-    (φ : Seen K V P A) (slots : IndexMap) (states : List BlockState) (ids waiters : List ℕ) → StandsAt m s f it φ slots states ids waiters
-    → (batch : Batch K V P A) → φ.batch ≡ Some batch → (slots' : IndexMap) (states' : List BlockState)
-    → slots' ≡ without_marks slots batch.marks.items → AreBlocksAs s states' it.place it.filling (all_invalidated (map invalid_of batch.invalid.items) it.stats)
-    → HasEnded m s sound f it batch.pieces.items batch.waits.items (record φ { batch = None }) slots' states' ids waiters
-ended m s sound f it φ slots states ids waiters stands batch is slots' states' gone blocks =
+    (φ : Seen K V P A) (slots : IndexMap) (blocks : Managed) → StandsAt m s f it φ slots blocks
+    → (batch : Batch K V P A) → φ.batch ≡ Some batch → (slots' : IndexMap) (blocks' : Managed)
+    → slots' ≡ without_marks slots batch.marks.items → HasSameRules blocks blocks'
+    → Stands blocks' (record (sets_of it) { stats = all_invalidated (map invalid_of batch.invalid.items) it.stats })
+    → HasEnded m s sound f it batch.pieces.items batch.waits.items (record φ { batch = None }) slots' blocks'
+ended m s sound f it φ slots blocks stands batch is slots' blocks' gone rules sets =
     let got = batched m s φ.own φ.batch (it.flushers f).batch (stands.flusher).batch batch is in
     let φs = stands.flusher in
     let new : model_state.State Content =
@@ -252,7 +272,6 @@ ended m s sound f it φ slots states ids waiters stands batch is slots' states' 
           waits = φs.waits;
           own = φs.own;
           there = φs.there;
-          ready = φs.ready;
           sizes = φs.sizes;
           context = φs.context;
           goes_on = φs.goes_on;
@@ -261,10 +280,17 @@ ended m s sound f it φ slots states ids waiters stands batch is slots' states' 
         queue = refl;
         index = subst (λ k. IsIndexedAs s slots' (unmarked k it.index)) (sym (got.2).marks)
             (subst (λ k. IsIndexedAs s k (unmarked (map mark_of batch.marks.items) it.index)) (sym gone) (unmarked_is s slots it.index batch.marks.items stands.index));
-        blocks = subst (λ o. AreBlocksAs s states' it.place it.filling (invalidated_unless o (got.0).invalidated it.stats)) (sym (got.2).logged)
-            (subst (λ k. AreBlocksAs s states' it.place it.filling (all_invalidated k it.stats)) (sym (got.2).invalidated) blocks);
-        clean = stands.clean;
-        waiting = stands.waiting;
+        manager = record {
+          blocks = rules.blocks ∙ (stands.manager).blocks;
+          flushers = rules.flushers ∙ (stands.manager).flushers;
+          sets = ready_same blocks' (record (sets_of it) { stats = invalidated_unless (got.0).logged (got.0).invalidated it.stats }) (λ g. (new.flushers g).ready)
+              (subst (λ o. Stands blocks' (record (sets_of it) { stats = invalidated_unless o (got.0).invalidated it.stats })) (sym (got.2).logged)
+              (subst (λ k. Stands blocks' (record (sets_of it) { stats = all_invalidated k it.stats })) (sym (got.2).invalidated) sets))
+              (λ g. put_at (λ (χ : model_state.Flusher Content). χ.ready ≡ (it.flushers g).ready) it.flushers f (record (it.flushers f) { batch = None }) g
+              (λ at. sym (ap (λ k. (it.flushers k).ready) at)) (λ _. refl));
+        };
+        has = same_blocks s f it.place it.waiting (it.flushers f) (record (it.flushers f) { batch = None }) (record { own = refl; ready = refl }) stands.has;
+        others = leaves_all f it.place it.waiting;
         next = refl;
         steps = refl;
         closed = refl;

@@ -11,6 +11,7 @@ use Rattle.foyer_placing.specs.Splits.{sizes_of, IsLaidOut, AreRules}
 use Rattle.foyer_rules.specs.Content.{Content, Meaning}
 use Rattle.foyer_rules.specs.declared.settings.Settings.{Settings}
 use Rattle.foyer_standing.specs.Addresses.{mark_of}
+use Rattle.foyer_standing.specs.Standing.{KeepsItsBlocks}
 use Rattle.foyer_flusher.specs.Begun.{IsBegun}
 use Rattle.foyer_flusher.specs.Flushing.{IsFlusherAs}
 use Rattle.foyer_rules.specs.Sizes.{sizes_in}
@@ -26,6 +27,7 @@ pub record HasBegun {K V P A : Type 0} (m : Meaning K V P) (rules : Rules Conten
   pub begins : Begins rules (IsLaidOut (sizes_in s)) st f (model_reply.Began layouts (map mark_of marks)) (turned rules st f after)
   pub stands : IsFlusherAs m s φ after
   pub queue : after.queue ≡ (st.flushers f).queue
+  pub keeps : KeepsItsBlocks (st.flushers f) after
 
 abbrev pub BeginsAsModel : (K V P A : Type 0) → Type 0
 BeginsAsModel K V P A =

@@ -1,5 +1,5 @@
 -- What a step of a flush works on, and what it leaves.
-use Rattle.std.specs.Prelude.{◌≡◌, ℕ, ◌+◌, false, List, [], ◌∷◌, map, length, None, Some}
+use Rattle.std.specs.Prelude.{◌≡◌, ℕ, false, List, [], map, None, Some}
 use Rattle.foyer_block.specs.Index.{IndexMap}
 use Rattle.foyer_block.specs.declared.indexer.HashedEntryAddress.{HashedEntryAddress}
 use Rattle.foyer_model.specs.Changes.{Changes}
@@ -13,8 +13,8 @@ use Rattle.foyer_rules.specs.Content.{Content, Meaning, content_of, contents_of}
 use Rattle.foyer_rules.specs.CoreRules.{layout, machine}
 use Rattle.foyer_rules.specs.Sizes.{AreValid}
 use Rattle.foyer_rules.specs.declared.settings.Settings.{Settings}
-use Rattle.foyer_standing.specs.Standing.{IsIndexedAs, AreBlocksAs, AreCleanAs}
-use Rattle.foyer_standing.specs.declared.blocks.BlockState.{BlockState}
+use Rattle.foyer_sets.specs.Managed.{Managed}
+use Rattle.foyer_standing.specs.Standing.{IsIndexedAs, sets_of, IsManagedAs, HasItsBlocks, LeavesOthers}
 use Rattle.foyer_flusher.specs.Flushing.{IsFlusherAs}
 use Rattle.foyer_flusher.specs.Seen.{Seen}
 use Rattle.foyer_flusher.specs.Issuing.{write_of}
@@ -22,22 +22,20 @@ use Rattle.foyer_flusher.specs.declared.batch.Next.{Next}
 use Rattle.foyer_flusher.specs.declared.batch.Next.TheVariants as next
 use Rattle.foyer_flusher.specs.declared.batch.Wrote.{Wrote}
 use Rattle.foyer_flusher.specs.declared.batch.Wrote.TheVariants as wrote
-use Rattle.foyer_flusher.specs.declared.flusher.Batch.{Batch}
 
 -- a flusher of a state of the model, with what a flush changes beside it
 pub record StandsAt {K V P A : Type 0} (m : Meaning K V P) (s : Settings) (f : ℕ) (it : model_state.State Content)
-    (φ : Seen K V P A) (slots : IndexMap) (states : List BlockState) (ids waiters : List ℕ) : Type 0 where
+    (φ : Seen K V P A) (slots : IndexMap) (blocks : Managed) : Type 0 where
   pub flusher : IsFlusherAs m s φ (it.flushers f)
   pub index : IsIndexedAs s slots it.index
-  pub blocks : AreBlocksAs s states it.place it.filling it.stats
-  pub clean : AreCleanAs s ids it.clean
-  pub waiting : it.waiting ≡ waiters
-  pub destroy : it.destroy ≡ model_state.NoDestroy
+  pub manager : IsManagedAs s blocks (sets_of it)
+  pub has : HasItsBlocks s it.place it.waiting f (it.flushers f)
 
--- The model does this step with this reply, and leaves this flusher and these beside it, and the rest as it was.
+-- The model does this step with this reply, and leaves this flusher and these beside it, and the rest as it was: the
+-- other flushers have the blocks that they had.
 pub record FlusherStep {K V P A : Type 0} (m : Meaning K V P) (s : Settings) (sound : AreValid s) (given : model_step.Step Content) (f : ℕ)
     (old : model_state.State Content) (answer : model_reply.Reply Content)
-    (φ : Seen K V P A) (slots : IndexMap) (states : List BlockState) (ids waiters : List ℕ) : Type 0 where
+    (φ : Seen K V P A) (slots : IndexMap) (blocks : Managed) : Type 0 where
   pub after : model_state.State Content
   pub does : Changes (machine m s sound) (layout s) old given answer after
   pub flusher : model_state.Flusher Content
@@ -45,9 +43,9 @@ pub record FlusherStep {K V P A : Type 0} (m : Meaning K V P) (s : Settings) (so
   pub it : IsFlusherAs m s φ flusher
   pub queue : flusher.queue ≡ (old.flushers f).queue
   pub index : IsIndexedAs s slots after.index
-  pub blocks : AreBlocksAs s states after.place after.filling after.stats
-  pub clean : AreCleanAs s ids after.clean
-  pub waiting : after.waiting ≡ waiters
+  pub manager : IsManagedAs s blocks (sets_of after)
+  pub has : HasItsBlocks s after.place after.waiting f flusher
+  pub others : LeavesOthers f old.place old.waiting after.place after.waiting
   pub next : after.next ≡ old.next
   pub steps : after.steps ≡ old.steps
   pub closed : after.closed ≡ old.closed
@@ -67,10 +65,10 @@ issued_wrote wrote.Failed = model_reply.Failed
 
 -- the batch ended with this reply, and the rest is left so: the model's pieces have their sequences
 abbrev pub HasEnded : {K V P A : Type 0} → Meaning K V P → (s : Settings) → AreValid s → ℕ → model_state.State Content
-    → (pieces : List (Record K V P)) → (waits : List ℕ) → Seen K V P A → IndexMap → List BlockState → (ids waiters : List ℕ) → Type 0
-HasEnded m s sound f it pieces waits φ slots states ids waiters =
+    → (pieces : List (Record K V P)) → (waits : List ℕ) → Seen K V P A → IndexMap → Managed → Type 0
+HasEnded m s sound f it pieces waits φ slots blocks =
     (ps : List (ℕ × Content)) × (contents_of ps ≡ map (content_of m) pieces)
-    × FlusherStep m s sound (model_step.FlushEnd f) f it (model_reply.Ended ps waits) φ slots states ids waiters
+    × FlusherStep m s sound (model_step.FlushEnd f) f it (model_reply.Ended ps waits) φ slots blocks
 
 -- the record of a block, once the block is known
 abbrev pub settled : (block filling : ℕ) → HashedEntryAddress → HashedEntryAddress

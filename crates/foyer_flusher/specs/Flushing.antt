@@ -100,7 +100,6 @@ pub record IsFlusherAs {K V P A : Type 0} (m : Meaning K V P) (s : Settings) (φ
   pub waits : it.waits ≡ φ.waits
   pub own : it.own ≡ φ.own
   pub there : IsThere s.blocks φ.own
-  pub ready : it.ready ≡ None
   pub sizes : φ.context.sizes ≡ sizes_in s
   pub context : it.context ≡ filling_of φ.context.filling
   pub goes_on : MayGoOn (sizes_in s) it.context

@@ -9,6 +9,7 @@ use Rattle.foyer_rules.specs.Content.{Content, Meaning, returned}
 use Rattle.foyer_rules.specs.CoreRules.{machine}
 use Rattle.foyer_rules.specs.Sizes.{AreValid}
 use Rattle.foyer_rules.specs.declared.settings.Settings.{Settings}
+use Rattle.foyer_standing.specs.Standing.{KeepsItsBlocks}
 use Rattle.foyer_flusher.specs.Flushing.{IsFlusherAs}
 use Rattle.foyer_flusher.specs.Seen.{seen}
 use Rattle.foyer_flusher.specs.declared.flusher.Flusher.{Flusher}
@@ -28,6 +29,7 @@ pub record IsReceivedAs {K V P A : Type 0} (m : Meaning K V P) (s : Settings) (s
   pub after : model_state.Flusher Content
   pub stands : IsFlusherAs m s (seen new) after
   pub receives : Receives (machine m s sound) st f (model_reply.Received back) (turned (machine m s sound) st f after)
+  pub keeps : KeepsItsBlocks (st.flushers f) after
   pub size_is : size_in (st.flushers f).queue ≡ size + size_in after.queue
 
 -- What a receipt makes of a state of the model. It is refused only where the front takes memory: what has no room is

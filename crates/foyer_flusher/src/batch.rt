@@ -1,5 +1,5 @@
 //! A flusher's batch: block by block onto the disk, and into the index.
-ghost use Rattle.std.specs.Prelude.{◌≡◌, ◌≢◌, ◌↔◌, ◌<◌, ℕ, List, [], map, Option, None, Some, IsSome, IsSomeAnd, IsTrue, true, false};
+ghost use Rattle.std.specs.Prelude.{◌≡◌, ◌≢◌, ◌↔◌, ◌<◌, ℕ, [], map, length, Option, None, Some, IsSome, IsSomeAnd, IsTrue, true, false};
 ghost use Rattle.std.specs.Prelude.{IfErr, IfOk, OnErr, MatchOption, vec_len};
 ghost use Rattle.foyer_block.specs.Index.{IndexMap};
 ghost use Rattle.foyer_block.specs.Insertion.{inserted_all, AllHeld};
@@ -11,7 +11,7 @@ ghost use Rattle.foyer_model.specs.Step as model_step;
 ghost use Rattle.foyer_rules.specs.Content.{Content, Meaning};
 ghost use Rattle.foyer_rules.specs.Sizes.{AreValid};
 ghost use Rattle.foyer_rules.specs.declared.settings.Settings.{Settings};
-ghost use Rattle.foyer_standing.specs.Standing.{AreBlocksAs};
+ghost use Rattle.foyer_sets.specs.BlockSets.{BlockSets, Stands, HasSameRules};
 ghost use Rattle.foyer_flusher.specs.Failing.{MustGrowFor};
 ghost use Rattle.foyer_flusher.specs.FlushInTurn.{MayBegin, HasBlock, IsWriting, IsWritten};
 ghost use Rattle.foyer_flusher.specs.FlusherSteps.{StandsAt, FlusherStep, issued_next, issued_wrote, HasEnded, settled, failed_batch};
@@ -25,12 +25,10 @@ use foyer_block::manager::BlockId;
 use foyer_device::error::Result;
 use foyer_device::io::bytes::{IoSlice, IoSliceMut};
 use foyer_policy::keeper::Piece;
-use foyer_standing::blocks::BlockState;
-use foyer_standing::manager::{
-    begin_to_wait, end_to_wait, filling_of, hand_out, invalidate_all, release,
-};
+use foyer_sets::block::eviction::EvictionPicker;
+use foyer_sets::block::manager::BlockManager;
+use foyer_standing::manager::{filling_of, invalidate_all, release};
 use std::alloc::Allocator;
-use std::collections::VecDeque;
 
 /// The next block of a batch.
 #[derive(Drop)]
@@ -158,47 +156,41 @@ impl<K, V, P, A: Allocator + Clone> Flusher<K, V, P, A> {
         }
     }
 
-    /// Issues the batch's next block: the flusher's own, or for one that begins a block the one that has been clean
-    /// longest; the block before is evictable then. Nothing is copied. Memory where an allocation was refused; nothing
-    /// changes then, but that room may have been made.
-    pub fn next(
+    /// Issues the batch's next block: the flusher's own, or for one that begins a block the one that it was given while
+    /// it waited, or the one that has been clean longest; the block before is evictable then, and the pickers learn of
+    /// it. Nothing is copied. Memory where an allocation was refused; nothing changes then, but that room may have been
+    /// made.
+    pub fn next<E: EvictionPicker>(
         &mut self,
         alloc: &A,
         number: u32,
-        clean: &mut VecDeque<BlockId, A>,
-        blocks: &mut Vec<BlockState, A>,
-        waiting: &mut Vec<u32, A>,
+        manager: &mut BlockManager<A>,
+        pickers: &mut [E],
     ) -> Result<Next<A>>
-        requires { HasBlock self.old }
+        requires due { HasBlock self.old }
+        requires there { number < length manager.old.ready }
         ensures refused { OnErr result (seen self.new ≡ seen self.old) }
-        ensures clean_kept { OnErr result (clean.new ≡ clean.old) }
-        ensures blocks_kept { OnErr result (blocks.new ≡ blocks.old) }
-        ensures waiting_kept { OnErr result (waiting.new.items ≡ waiting.old.items) }
+        ensures manager_kept { OnErr result (manager.new ≡ manager.old) }
         ensures memory { IfErr result (λ e. e ≡ error.Memory) }
+        ensures same { HasSameRules manager.old manager.new }
         ensures done { IfOk result (λ next. (m : Meaning K V P) (s : Settings) (sound : AreValid s)
             (it : State Content) (slots : IndexMap)
-            → StandsAt m s number it (seen self.old) slots blocks.old.items clean.old.items waiting.old.items
+            → StandsAt m s number it (seen self.old) slots manager.old
             → FlusherStep m s sound (model_step.FlushBlock number) number it (issued_next next)
-            (seen self.new) slots blocks.new.items clean.new.items waiting.new.items) }
+            (seen self.new) slots manager.new) }
     {
-        waiting.reserve(1)?;
         let Some(batch) = &mut self.batch else {
             unreachable!()
         };
         let (records, writes) = batch.prepare(alloc)?;
         if let Some(block) = batch.goes_on_with(self.own) {
-            end_to_wait(waiting, number);
             return Ok(Next::Block(block, batch.issue(block, records, writes)));
         }
-        release(&mut self.own, blocks);
-        match hand_out(clean, blocks, number) {
-            None => {
-                begin_to_wait(waiting, number);
-                Ok(Next::NoBlock)
-            }
+        release(&mut self.own, manager, pickers);
+        match manager.get_clean_block(number) {
+            None => Ok(Next::NoBlock),
             Some(block) => {
                 self.own = Some(block);
-                end_to_wait(waiting, number);
                 Ok(Next::Block(block, batch.issue(block, records, writes)))
             }
         }
@@ -216,19 +208,20 @@ impl<K, V, P, A: Allocator + Clone> Flusher<K, V, P, A> {
 
     /// Takes the result of the next issued write. After the block's last one its records enter the index. After a fault,
     /// or where the index has to grow and can't, nothing of the batch's rest is written, and the block isn't written again
-    /// in this filling.
-    pub fn wrote(
+    /// in this filling; it is evictable then, and the pickers learn of it.
+    pub fn wrote<E: EvictionPicker>(
         &mut self,
         is_done: bool,
         index: &mut Indexer<A>,
-        blocks: &mut Vec<BlockState, A>,
+        manager: &mut BlockManager<A>,
+        pickers: &mut [E],
     ) -> Wrote
         requires { IsWriting self.old }
+        ensures same { HasSameRules manager.old manager.new }
         ensures done { (m : Meaning K V P) (s : Settings) (sound : AreValid s) (f : ℕ) (it : State Content)
-            (ids waiters : List ℕ)
-            → StandsAt m s f it (seen self.old) index.old blocks.old.items ids waiters
+            → StandsAt m s f it (seen self.old) index.old manager.old
             → FlusherStep m s sound (model_step.FlushWrote f is_done) f it (issued_wrote result)
-            (seen self.new) index.new blocks.new.items ids waiters }
+            (seen self.new) index.new manager.new }
         ensures failed { is_done ≡ true → result ≡ wrote.Failed → MustGrowFor index.old self.old }
     {
         let Some(batch) = &mut self.batch else {
@@ -238,7 +231,7 @@ impl<K, V, P, A: Allocator + Clone> Flusher<K, V, P, A> {
             unreachable!()
         };
         if !is_done {
-            return self.fail(blocks);
+            return self.fail(manager, pickers);
         }
         let Writing {
             block,
@@ -253,30 +246,30 @@ impl<K, V, P, A: Allocator + Clone> Flusher<K, V, P, A> {
             });
             return Wrote::Next;
         }
-        match commit(records, block, filling_of(blocks, block), index) {
+        match commit(records, block, filling_of(manager, block), index) {
             Some(count) => Wrote::Committed(count),
-            None => self.fail(blocks),
+            None => self.fail(manager, pickers),
         }
     }
 
     // Nothing of the batch's rest is written, the block isn't written again in this filling, and the splitter is fresh.
-    fn fail(&mut self, blocks: &mut Vec<BlockState, A>) -> Wrote
+    fn fail<E: EvictionPicker>(&mut self, manager: &mut BlockManager<A>, pickers: &mut [E]) -> Wrote
         requires { IsSomeAnd self.old.batch (λ batch. batch.writing ≡ None) }
         ensures failed { result ≡ wrote.Failed }
         ensures left { (m : Meaning K V P) (s : Settings) (sound : AreValid s) (it : model_state.Flusher Content)
             (batch : model_state.Batch Content)
             → IsFlusherAs m s (seen self.old) it → it.batch ≡ Some batch
             → IsFlusherAs m s (seen self.new) (failed_batch m s sound it batch) }
-        ensures released { (s : Settings) (places : ℕ → model_state.BlockSet) (fillings : ℕ → ℕ)
-            (stats : ℕ → model_state.Stats)
-            → AreBlocksAs s blocks.old.items places fillings stats
-            → AreBlocksAs s blocks.new.items (released self.old.own places) fillings stats }
+        ensures same { HasSameRules manager.old manager.new }
+        ensures released { (s : BlockSets) (f : ℕ) → Stands manager.old s
+            → ((b : ℕ) → self.old.own ≡ Some b → s.block_set b ≡ model_state.Writes f)
+            → Stands manager.new (record s { block_set = released self.old.own s.block_set }) }
     {
         let Some(batch) = &mut self.batch else {
             unreachable!()
         };
         batch.drop_rest();
-        release(&mut self.own, blocks);
+        release(&mut self.own, manager, pickers);
         self.context.reset();
         Wrote::Failed
     }
@@ -296,15 +289,15 @@ impl<K, V, P, A: Allocator + Clone> Flusher<K, V, P, A> {
     pub fn end(
         &mut self,
         index: &mut Indexer<A>,
-        blocks: &mut Vec<BlockState, A>,
+        manager: &mut BlockManager<A>,
     ) -> Ended<K, V, P, A>
         requires { IsWritten self.old }
         ensures ended { self.new.batch ≡ None }
+        ensures same { HasSameRules manager.old manager.new }
         ensures done { (m : Meaning K V P) (s : Settings) (sound : AreValid s) (f : ℕ) (it : State Content)
-            (ids waiters : List ℕ)
-            → StandsAt m s f it (seen self.old) index.old blocks.old.items ids waiters
+            → StandsAt m s f it (seen self.old) index.old manager.old
             → HasEnded m s sound f it result.pieces.items result.waits.items
-            (seen self.new) index.new blocks.new.items ids waiters }
+            (seen self.new) index.new manager.new }
     {
         let Some(batch) = self.batch.take() else {
             unreachable!()
@@ -320,7 +313,7 @@ impl<K, V, P, A: Allocator + Clone> Flusher<K, V, P, A> {
             waits,
         } = batch;
         index.remove_marks(marks.as_slice());
-        invalidate_all(blocks, invalid.as_slice());
+        invalidate_all(manager, invalid.as_slice());
         keep_pages(&mut self.spare, pages);
         Ended { pieces, waits }
     }

@@ -1,6 +1,4 @@
-pub mod AccessLemmas
-pub mod BlockLemmas
 pub mod IndexLemmas
 pub mod ListLemmas
+pub mod SetsLemmas
 pub mod SlotLemmas
-pub mod WaitLemmas

@@ -1,5 +1,4 @@
-//! The index and the blocks of a core, against the model's: which block may be handed out, who waits for one, and what
-//! became invalid.
+//! The index and the blocks of a core, against the model's: which block a flusher leaves, and what became invalid.
 #![tactic(auto)]
 
 pub mod blocks;

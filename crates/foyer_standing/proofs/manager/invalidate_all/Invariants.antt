@@ -1,15 +1,15 @@
 use Rattle.std.proofs.Common.{◌≡◌, ℕ, map, drop}
 use Rattle.foyer_model.specs.Flush.{all_invalidated}
 use Rattle.foyer_model.specs.State as model_state
+use Rattle.foyer_sets.specs.BlockSets.{BlockSets, Stands, HasSameRules}
 use Rattle.foyer_standing.specs.Addresses.{invalid_of}
-use Rattle.foyer_standing.specs.Standing.{AreBlocksAs}
-use Rattle.foyer_rules.specs.declared.settings.Settings.{Settings}
 use Rattle.foyer_standing.proofs.manager.invalidate_all.Given as goal
 
 -- what is left to be counted comes onto what stands
-abbrev pub invariant-loop-stats : goal.invariant-loop-stats
-invariant-loop-stats g l =
-    (s : Settings) (places : ℕ → model_state.BlockSet) (fillings : ℕ → ℕ) (stats : ℕ → model_state.Stats)
-    → AreBlocksAs s l.fn.blocks.items places fillings stats
-    → (now : ℕ → model_state.Stats) × AreBlocksAs s l.blocks.items places fillings now
-    × (all_invalidated (map invalid_of (drop l.stats-index l.invalid)) now ≡ all_invalidated (map invalid_of l.invalid) stats)
+abbrev pub invariant-each_stats : goal.invariant-each_stats
+invariant-each_stats g l = record {
+  same : HasSameRules l.fn.manager l.manager;
+  counted : (s : BlockSets) → Stands l.fn.manager s
+      → (now : ℕ → model_state.Stats) × Stands l.manager (record s { stats = now })
+      × (all_invalidated (map invalid_of (drop l.stats-index l.invalid)) now ≡ all_invalidated (map invalid_of l.invalid) s.stats);
+}

@@ -1,29 +1,22 @@
-use Rattle.std.proofs.Common.{◌≡◌, ◌<◌, ◌≤◌, length, slice_set, Some, sym, subst, refl, arith, rules}
+use Rattle.std.proofs.Common.{◌≡◌, ℕ, Option, Some, true, false, IsTrue, sym, subst}
 use Rattle.foyer_model.specs.Flush.{released}
-use Rattle.foyer_standing.specs.Standing.{AreBlocksAs}
-use Rattle.foyer_standing.proofs.BlockLemmas.{block_left, no_block_left, past_end}
-use Rattle.foyer_standing.specs.declared.blocks.BlockSet.TheVariants as place
+use Rattle.foyer_model.specs.State as model_state
+use Rattle.foyer_sets.specs.BlockSets.{Stands}
+use Rattle.foyer_standing.proofs.SetsLemmas.{written_in, unknown_set}
 use Rattle.foyer_standing.proofs.manager.release.Goals as goal
 
-pub returns-in-Some-get_mut-clause-released : goal.returns-in-Some-get_mut-clause-released
-returns-in-Some-get_mut-clause-released g c = λ s places fillings stats are.
-    let blocks = c.args.blocks.now in
+pub returns-then-not-is_written-clause-released : goal.returns-then-not-is_written-clause-released
+returns-then-not-is_written-clause-released g c = λ s f st owned.
+    let manager = c.args.manager.now in
     let own : c.args.own.now ≡ Some c.in-Some.block = cc in
-    let lt : c.in-Some.block < length blocks.items = omega (arith, blocks.ok.0, c.in-Some-get_mut.ensures.variant.0 refl) in
-    subst (λ o. AreBlocksAs s (slice_set blocks.items c.in-Some.block (record c.in-Some-get_mut.state.now { place = place.Evictable })) (released o places) fillings stats) (sym own)
-    (block_left s blocks.items places fillings stats are c.in-Some.block c.in-Some-get_mut.state.now lt c.in-Some-get_mut.ensures.value)
+    subst (λ (o : Option ℕ). Stands manager (record s { block_set = released o s.block_set })) (sym own)
+    (unknown_set manager s c.in-Some.block model_state.Evictable st
+    (λ lt.
+    let yes : IsTrue c.is_written.result = c.is_written.ensures.1 (written_in manager s c.in-Some.block f st (owned c.in-Some.block own) lt) in
+    let no_one : IsTrue false = subst IsTrue c.if-not-is_written.true yes in absurd (let clash : false ≡ true = no_one in cc)))
 
-pub returns-in_default-get_mut-clause-released : goal.returns-in_default-get_mut-clause-released
-returns-in_default-get_mut-clause-released g c = λ s places fillings stats are.
-    let blocks = c.args.blocks.now in
+pub returns-clause-released : goal.returns-clause-released
+returns-clause-released g c = λ s f st owned.
     let own : c.args.own.now ≡ Some c.in-Some.block = cc in
-    let out = past_end c.in-Some.block blocks.len c.in_default-get_mut.ensures.variant.1 in
-    let le : length blocks.items ≤ c.in-Some.block = omega (arith, blocks.ok.0, out) in
-    subst (λ o. AreBlocksAs s blocks.items (released o places) fillings stats) (sym own)
-    (no_block_left s blocks.items places fillings stats are c.in-Some.block le)
-
-pub returns-in-Some-get_mut-clause-left : goal.returns-in-Some-get_mut-clause-left
-returns-in-Some-get_mut-clause-left g c = search rules depth 1
-
-pub returns-in_default-get_mut-clause-left : goal.returns-in_default-get_mut-clause-left
-returns-in_default-get_mut-clause-left g c = search rules depth 1
+    subst (λ (o : Option ℕ). Stands c.on_writing_finish.new.self (record s { block_set = released o s.block_set })) (sym own)
+    (c.on_writing_finish.ensures.left s st)

@@ -1,23 +1,24 @@
 use Rattle.std.proofs.Common.{◌≡◌, Option, Some, map, sym, ap, subst, ◌∙◌}
 use Rattle.foyer_block.specs.Removal.{without_marks}
 use Rattle.foyer_model.specs.Flush.{all_invalidated}
-use Rattle.foyer_flusher.specs.FlusherSteps.{FlusherStep, HasEnded}
+use Rattle.foyer_flusher.specs.FlusherSteps.{HasEnded}
 use Rattle.foyer_standing.specs.Addresses.{invalid_of}
-use Rattle.foyer_standing.specs.Standing.{AreBlocksAs}
+use Rattle.foyer_sets.specs.BlockSets.{Stands}
+use Rattle.foyer_standing.specs.Standing.{sets_of}
 use Rattle.foyer_flusher.specs.Seen.{seen}
 use Rattle.foyer_flusher.specs.declared.flusher.Batch.{Batch}
 use Rattle.foyer_flusher.proofs.WroteLemmas.{ended}
 use Rattle.foyer_flusher.proofs.flusher.Flusher.end.Goals as goal
 
 pub returns-clause-done : goal.returns-clause-done
-returns-clause-done g c = λ m s sound f it ids waiters stands.
+returns-clause-done g c = λ m s sound f it stands.
     let self = c.args.self.now in
     let batch = c.in-Some.batch in
     let is : self.batch ≡ Some batch = cc in
     let gone = c.remove_marks.ensures ∙ ap (without_marks c.args.index.now) c.as_slice.ensures.value in
-    let blocks = subst (λ xs. AreBlocksAs s c.invalidate_all.new.blocks.items it.place it.filling (all_invalidated (map invalid_of xs) it.stats)) c.as_slice-2.ensures.value
-    (c.invalidate_all.ensures s it.place it.filling it.stats stands.blocks) in
+    let sets = subst (λ xs. Stands c.invalidate_all.new.manager (record (sets_of it) { stats = all_invalidated (map invalid_of xs) it.stats })) c.as_slice-2.ensures.value
+    (c.invalidate_all.ensures.invalidated (sets_of it) (stands.manager).sets) in
     subst (λ (o : Option (Batch g.row.K.Denot g.row.V.Denot g.row.P.Denot g.row.A.Denot)). HasEnded m s sound f it batch.pieces.items batch.waits.items
-    (record (seen self) { batch = o }) c.remove_marks.new.self c.invalidate_all.new.blocks.items ids waiters) (sym c.take.ensures.after)
-    (ended m s sound f it (seen self) c.args.index.now c.args.blocks.now.items ids waiters stands batch is
-    c.remove_marks.new.self c.invalidate_all.new.blocks.items gone blocks)
+    (record (seen self) { batch = o }) c.remove_marks.new.self c.invalidate_all.new.manager) (sym c.take.ensures.after)
+    (ended m s sound f it (seen self) c.args.index.now c.args.manager.now stands batch is
+    c.remove_marks.new.self c.invalidate_all.new.manager gone c.invalidate_all.ensures.same sets)

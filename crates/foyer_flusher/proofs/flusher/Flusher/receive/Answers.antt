@@ -1,4 +1,4 @@
-use Rattle.std.proofs.Common.{rules, option_to_list, ◌≡◌, ◌+◌, true, false, length, [], ◌∷◌, ◌++◌, ◌∙◌, refl, sym, ap, IsTrue}
+use Rattle.std.proofs.Common.{rules, option_to_list, ◌≡◌, ◌+◌, true, false, length, [], ◌∷◌, ◌++◌, ◌∙◌, refl, sym, ap}
 use Rattle.foyer_buffer.specs.Entries.{FitsBuffer, with_entry}
 use Rattle.foyer_format.specs.Record.{record_bytes}
 use Rattle.foyer_format.specs.declared.compress.Compression.TheVariants as compression

@@ -2,56 +2,59 @@ use Rattle.std.proofs.Common.{◌≡◌, ◌≤◌, ◌-◌, Bool, true, false, 
 use Rattle.foyer_model.specs.Reply as model_reply
 use Rattle.foyer_model.specs.Step as model_step
 use Rattle.foyer_flusher.specs.FlusherSteps.{FlusherStep}
+use Rattle.foyer_standing.specs.Standing.{sets_of}
 use Rattle.foyer_flusher.specs.Seen.{seen}
 use Rattle.foyer_flusher.specs.declared.flusher.Batch.{Batch}
 use Rattle.foyer_flusher.proofs.WroteLemmas.{wrote_next, wrote_last, wrote_fails}
 use Rattle.foyer_flusher.proofs.flusher.Flusher.wrote.Goals as goal
 
 pub returns-then-not-is_done-clause-done : goal.returns-then-not-is_done-clause-done
-returns-then-not-is_done-clause-done g c = λ m s sound f it ids waiters stands.
+returns-then-not-is_done-clause-done g c = λ m s sound f it stands.
     let self = c.args.self.now in
     let w = c.in-Some-take_writing.writing in
     let writes : (c.in-Some.batch).writing ≡ Some w = sym c.take_writing.ensures.taken ∙ c.in-Some-take_writing.is in
     let few : c.args.is_done ≡ true → w.left ≤ 1 = (λ yes. let clash : true ≡ false = sym yes ∙ c.if-not-is_done.true in absurd cc) in
-    wrote_fails m s sound f it (seen self) c.args.index.now c.args.blocks.now.items ids waiters stands c.in-Some.batch c.in-Some.is w writes
-    c.args.is_done (seen c.fail.new.self) c.fail.new.blocks.items c.take_writing.new.self c.fail.result c.args.index.now
+    wrote_fails m s sound f it (seen self) c.args.index.now c.args.manager.now stands c.in-Some.batch c.in-Some.is w writes
+    c.args.is_done (seen c.fail.new.self) c.fail.new.manager c.take_writing.new.self c.fail.result c.args.index.now
     c.take_writing.ensures.rest few (c.fail.ensures.left m s sound)
-    (c.fail.ensures.released s it.place it.filling it.stats stands.blocks) c.fail.ensures.failed refl
+    c.fail.ensures.same
+    (c.fail.ensures.released (sets_of it) f (stands.manager).sets (λ b own. (stands.has).own b ((stands.flusher).own ∙ own))) c.fail.ensures.failed refl
 
 pub returns-then-left-gt1-clause-done : goal.returns-then-left-gt1-clause-done
-returns-then-left-gt1-clause-done g c = λ m s sound f it ids waiters stands.
+returns-then-left-gt1-clause-done g c = λ m s sound f it stands.
     let self = c.args.self.now in
     let w = c.in-Some-take_writing.writing in
     let writes : (c.in-Some.batch).writing ≡ Some w = sym c.take_writing.ensures.taken ∙ c.in-Some-take_writing.is in
     let left : c.put_writing.new.self ≡ record c.in-Some.batch { writing = Some (record w { left = w.left - 1 }) } =
     c.put_writing.ensures.rest ∙ ap (λ (b : Batch g.row.K.Denot g.row.V.Denot g.row.P.Denot g.row.A.Denot). record b { writing = Some (record w { left = w.left - 1 }) }) c.take_writing.ensures.rest in
     subst (λ (ok : Bool). FlusherStep m s sound (model_step.FlushWrote f ok) f it model_reply.Next (record (seen self) { batch = Some c.put_writing.new.self })
-    c.args.index.now c.args.blocks.now.items ids waiters) (sym c.if-not-is_done.false)
+    c.args.index.now c.args.manager.now) (sym c.if-not-is_done.false)
     (subst (λ b. FlusherStep m s sound (model_step.FlushWrote f true) f it model_reply.Next (record (seen self) { batch = Some b })
-    c.args.index.now c.args.blocks.now.items ids waiters) (sym left)
-    (wrote_next m s sound f it (seen self) c.args.index.now c.args.blocks.now.items ids waiters stands c.in-Some.batch c.in-Some.is w writes
+    c.args.index.now c.args.manager.now) (sym left)
+    (wrote_next m s sound f it (seen self) c.args.index.now c.args.manager.now stands c.in-Some.batch c.in-Some.is w writes
     (w.left - 1) c.if-left-gt1.true refl))
 
 pub returns-in-Some-commit-clause-done : goal.returns-in-Some-commit-clause-done
-returns-in-Some-commit-clause-done g c = λ m s sound f it ids waiters stands.
+returns-in-Some-commit-clause-done g c = λ m s sound f it stands.
     let self = c.args.self.now in
     let w = c.in-Some-take_writing.writing in
     let writes : (c.in-Some.batch).writing ≡ Some w = sym c.take_writing.ensures.taken ∙ c.in-Some-take_writing.is in
     let count : c.in-Some-commit.count ≡ length w.records.items = omega (arith, w.records.ok.0, c.in-Some-commit.ensures.committed.0) in
     subst (λ (ok : Bool). FlusherStep m s sound (model_step.FlushWrote f ok) f it (model_reply.Committed c.in-Some-commit.count) (record (seen self) { batch = Some c.take_writing.new.self })
-    c.commit.new.index c.args.blocks.now.items ids waiters) (sym c.if-not-is_done.false)
+    c.commit.new.index c.args.manager.now) (sym c.if-not-is_done.false)
     (subst (λ b. FlusherStep m s sound (model_step.FlushWrote f true) f it (model_reply.Committed c.in-Some-commit.count) (record (seen self) { batch = Some b })
-    c.commit.new.index c.args.blocks.now.items ids waiters) (sym c.take_writing.ensures.rest)
-    (wrote_last m s sound f it (seen self) c.args.index.now c.args.blocks.now.items ids waiters stands c.in-Some.batch c.in-Some.is w writes
+    c.commit.new.index c.args.manager.now) (sym c.take_writing.ensures.rest)
+    (wrote_last m s sound f it (seen self) c.args.index.now c.args.manager.now stands c.in-Some.batch c.in-Some.is w writes
     c.in-Some-commit.count c.filling_of.result c.commit.new.index c.if-left-gt1.false c.filling_of.ensures count c.in-Some-commit.ensures.committed.1))
 
 pub returns-in-None-clause-done : goal.returns-in-None-clause-done
-returns-in-None-clause-done g c = λ m s sound f it ids waiters stands.
+returns-in-None-clause-done g c = λ m s sound f it stands.
     let self = c.args.self.now in
     let w = c.in-Some-take_writing.writing in
     let writes : (c.in-Some.batch).writing ≡ Some w = sym c.take_writing.ensures.taken ∙ c.in-Some-take_writing.is in
     let few : c.args.is_done ≡ true → w.left ≤ 1 = (λ yes. c.if-left-gt1.false) in
-    wrote_fails m s sound f it (seen self) c.args.index.now c.args.blocks.now.items ids waiters stands c.in-Some.batch c.in-Some.is w writes
-    c.args.is_done (seen c.fail-in-None.new.self) c.fail-in-None.new.blocks.items c.take_writing.new.self c.fail-in-None.result c.commit.new.index
+    wrote_fails m s sound f it (seen self) c.args.index.now c.args.manager.now stands c.in-Some.batch c.in-Some.is w writes
+    c.args.is_done (seen c.fail-in-None.new.self) c.fail-in-None.new.manager c.take_writing.new.self c.fail-in-None.result c.commit.new.index
     c.take_writing.ensures.rest few (c.fail-in-None.ensures.left m s sound)
-    (c.fail-in-None.ensures.released s it.place it.filling it.stats stands.blocks) c.fail-in-None.ensures.failed c.in-None.ensures.committed
+    c.fail-in-None.ensures.same
+    (c.fail-in-None.ensures.released (sets_of it) f (stands.manager).sets (λ b own. (stands.has).own b ((stands.flusher).own ∙ own))) c.fail-in-None.ensures.failed c.in-None.ensures.committed
