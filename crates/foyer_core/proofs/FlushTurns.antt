@@ -33,7 +33,9 @@ use Rattle.foyer_flusher.specs.declared.flusher.Flusher.{Flusher}
 use Rattle.foyer_flusher.specs.declared.flusher.Writing.{Writing}
 use Rattle.foyer_core.specs.declared.reply.Reply.TheVariants as reply
 use Rattle.foyer_rules.specs.declared.settings.Settings.{Settings}
-use Rattle.foyer_standing.specs.declared.blocks.BlockState.{BlockState}
+use Rattle.foyer_sets.specs.Managed.{Managed}
+use Rattle.foyer_standing.specs.Standing.{HasItsBlocks}
+use Rattle.foyer_standing.proofs.SetsLemmas.{blocks_put}
 use Rattle.foyer_core.specs.declared.state.Core.{Core}
 use Rattle.foyer_core.specs.declared.step.Step.{Step}
 
@@ -45,14 +47,12 @@ module _ {K V P A : Type 0} (m : Meaning K V P) (s : Settings) where
   -- a flusher of a core that stands for a state of the model
   pub stands_at : (core : Core K V P A) (it : model_state.State Content) (f : ℕ) (φ : Flusher K V P A) → IsStateOf m s core it
       → f < length core.flushers.items → φ ≡ slice_index_or core.flushers.items f φ
-      → StandsAt m s f it (seen φ) core.index core.blocks.items core.clean.items core.waiting.items
+      → StandsAt m s f it (seen φ) core.index core.manager
   stands_at core it f φ stands lt is = record {
     flusher = flusher_at m s core.flushers.items it.flushers f φ stands.flushers lt is;
     index = stands.index;
-    blocks = stands.blocks;
-    clean = stands.clean;
-    waiting = stands.waiting;
-    destroy = stands.destroy;
+    manager = stands.manager;
+    has = stands.has f;
   }
 
   pub flusher_there : (core : Core K V P A) (it : model_state.State Content) (f : ℕ) → IsStateOf m s core it → f < length core.flushers.items → f < s.flushers
@@ -61,7 +61,7 @@ module _ {K V P A : Type 0} (m : Meaning K V P) (s : Settings) where
   -- what it did and left, in the whole core
   pub core_stands : (sound : AreValid s) (old new : Core K V P A) (it : model_state.State Content) (f : ℕ) (ψ : Flusher K V P A) (given : model_step.Step Content) (answer : model_reply.Reply Content)
       → IsStateOf m s old it → f < length old.flushers.items
-      → (done : FlusherStep m s sound given f it answer (seen ψ) new.index new.blocks.items new.clean.items new.waiting.items)
+      → (done : FlusherStep m s sound given f it answer (seen ψ) new.index new.manager)
       → new.flushers.items ≡ slice_set old.flushers.items f ψ
       → new.settings ≡ old.settings → new.next ≡ old.next → new.steps ≡ old.steps → new.closed ≡ old.closed → new.queued ≡ old.queued
       → IsStateOf m s new done.after
@@ -86,9 +86,9 @@ module _ {K V P A : Type 0} (m : Meaning K V P) (s : Settings) where
           sum = queued ∙ (stands.queued).sum ∙ sym after_all;
           bound = subst (λ n. n ≤ new.next * 2 ^ 64) (sym queued) (subst (λ k. old.queued ≤ k * 2 ^ 64) (sym next) (stands.queued).bound);
         };
-        blocks = done.blocks;
-        clean = done.clean;
-        waiting = done.waiting;
+        manager = done.manager;
+        has = λ g. subst (λ (φs : ℕ → model_state.Flusher Content). HasItsBlocks s (done.after).place (done.after).waiting g (φs g)) (sym done.flushers)
+            (blocks_put s f it (done.after).place (done.after).waiting done.flusher done.others done.has stands.has g);
         reclaims = λ b. ap (λ (r : ℕ → Option model_state.Reclaim). r b) done.reclaims ∙ stands.reclaims b;
         destroy = done.destroy ∙ stands.destroy;
       }
@@ -176,17 +176,17 @@ module _ {K V P A : Type 0} (m : Meaning K V P) (s : Settings) where
       }
 
   -- a flusher that demands a block would get some reply, whatever memory there is
-  pub would_answer : (sound : AreValid s) (it : model_state.State Content) (f : ℕ) (φ : Flusher K V P A) (slots : IndexMap) (states : List BlockState) (ids waiters : List ℕ)
-      → StandsAt m s f it (seen φ) slots states ids waiters → HasBlock φ
+  pub would_answer : (sound : AreValid s) (it : model_state.State Content) (f : ℕ) (φ : Flusher K V P A) (slots : IndexMap) (blocks : Managed)
+      → StandsAt m s f it (seen φ) slots blocks → HasBlock φ
       → (answer : model_reply.Reply Content) × (new : model_state.State Content)
       × Describes (machine m s sound) it f (it.flushers f).batch answer new × Allocates {C = Content} (model_step.FlushBlock f) answer
-  would_answer sound it f φ slots states ids waiters stands has = go φ.batch refl has
+  would_answer sound it f φ slots blocks stands has = go φ.batch refl has
     where
       go : (o : Option (Batch K V P A)) → φ.batch ≡ o → IsSomeAnd o (λ batch. (batch.writing ≡ None) × (batch.blocks.items ≢ []))
           → (answer : model_reply.Reply Content) × (new : model_state.State Content)
           × Describes (machine m s sound) it f (it.flushers f).batch answer new × Allocates {C = Content} (model_step.FlushBlock f) answer
       go None e has = absurd has
-      go (Some batch) e has = would_issue m s sound f it (seen φ) slots states ids waiters stands batch e has.1
+      go (Some batch) e has = would_issue m s sound f it (seen φ) slots blocks stands batch e has.1
 
   -- as many blocks as the batch that began has
   pub begun_count : (o : Option (Batch K V P A)) (batch : Batch K V P A) (n : ℕ) → o ≡ Some batch

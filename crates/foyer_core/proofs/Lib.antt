@@ -1,3 +1,4 @@
+pub mod CleanLemmas
 pub mod Deleted
 pub mod Describing
 pub mod Enqueued

@@ -1,7 +1,6 @@
 -- Lists that an opening makes.
 use Rattle.std.proofs.Common.{◌≡◌, ℕ, ◌+◌, zero, suc, List, [], ◌∷◌, ◌++◌, map, refl, ap, ◌∙◌, sym, add-one}
 use Rattle.std.specs.Prelude.{replicate}
-use Rattle.foyer_core.specs.Opened.{numbers_below}
 
 -- one more at the end of copies
 pub replicate-end : {X : Type 0} (n : ℕ) (x : X) → replicate n x ++ x ∷ [] ≡ replicate (n + 1) x
@@ -14,11 +13,3 @@ replicate-end {X} n x = go n ∙ ap (λ k. replicate k x) (sym (add-one n))
 pub map-end : {X Y : Type 0} (f : X → Y) (xs : List X) (x : X) → map f (xs ++ x ∷ []) ≡ map f xs ++ f x ∷ []
 map-end f [] x = refl
 map-end f (y ∷ ys) x = ap (λ zs. f y ∷ zs) (map-end f ys x)
-
-pub numbers_below-none : numbers_below 0 ≡ []
-unfolding numbers_below
-numbers_below-none = refl
-
-pub numbers_below-end : (n : ℕ) → numbers_below n ++ n ∷ [] ≡ numbers_below (n + 1)
-unfolding numbers_below
-numbers_below-end n = ap numbers_below (sym (add-one n))

@@ -36,7 +36,6 @@ module _ {K V P A : Type 0} (m : Meaning K V P) (s : Settings) where
         waits = stands.waits;
         own = stands.own;
         there = stands.there;
-        ready = stands.ready;
         sizes = stands.sizes;
         context = stands.context;
         goes_on = stands.goes_on;

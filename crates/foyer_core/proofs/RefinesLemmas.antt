@@ -104,9 +104,8 @@ module _ {K V P A : Type 0} (m : Meaning K V P) (s : Settings) (sound : AreValid
       closed = (turned.stands).closed;
       flushers = (turned.stands).flushers;
       queued = (turned.stands).queued;
-      blocks = (turned.stands).blocks;
-      clean = (turned.stands).clean;
-      waiting = (turned.stands).waiting;
+      manager = (turned.stands).manager;
+      has = (turned.stands).has;
       reclaims = (turned.stands).reclaims;
       destroy = (turned.stands).destroy;
     });

@@ -11,7 +11,7 @@ use Rattle.foyer_rules.specs.Content.{Content, Meaning}
 use Rattle.foyer_flusher.specs.Flushing.{IsFlusherAs}
 use Rattle.foyer_core.specs.StateOf.{AreFlushersAs, IsSizedAs, IsStateOf, size_of_all}
 use Rattle.foyer_flusher.specs.Taking.{size_in}
-use Rattle.foyer_standing.specs.Standing.{IsIndexedAs, AreBlocksAs, AreCleanAs}
+use Rattle.foyer_standing.specs.Standing.{IsIndexedAs, sets_of, IsManagedAs}
 use Rattle.foyer_standing.proofs.ListLemmas.{map_count, set_map, set_here, set_there, set_count, some_is}
 use Rattle.foyer_flusher.specs.Seen.{seen}
 use Rattle.foyer_core.specs.Unchanged.{IsUnchanged}
@@ -71,9 +71,8 @@ module _ {K V P A : Type 0} (m : Meaning K V P) (s : Settings) where
     flushers = subst (λ xs. AreFlushersAs m s xs it.flushers) (sym same.flushers) stands.flushers;
     queued = subst (λ n. IsSizedAs s new.queued n it.flushers) (sym same.next)
         (subst (λ q. IsSizedAs s q old.next it.flushers) (sym same.queued) stands.queued);
-    blocks = subst (λ xs. AreBlocksAs s xs it.place it.filling it.stats) (sym same.blocks) stands.blocks;
-    clean = subst (λ xs. AreCleanAs s xs it.clean) (sym same.clean) stands.clean;
-    waiting = stands.waiting ∙ sym same.waiting;
+    manager = subst (λ k. IsManagedAs s k (sets_of it)) (sym same.manager) stands.manager;
+    has = stands.has;
     reclaims = stands.reclaims;
     destroy = stands.destroy;
   }

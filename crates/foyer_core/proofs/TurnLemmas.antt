@@ -35,9 +35,7 @@ same core = record {
   queued = refl;
   settings = refl;
   flushers = refl;
-  blocks = refl;
-  clean = refl;
-  waiting = refl;
+  manager = refl;
 }
 
 module _ {K V P A : Type 0} (m : Meaning K V P) (s : Settings) (sound : AreValid s) (given : Step K V P A) (old new : Core K V P A) (it : State Content) where

@@ -10,7 +10,6 @@ use Rattle.foyer_rules.specs.Content.{Content, Meaning, content, content_of, con
 use Rattle.foyer_standing.specs.Addresses.{mark_of}
 use Rattle.foyer_core.specs.declared.reply.Reply.{Reply}
 use Rattle.foyer_core.specs.declared.reply.Reply.TheVariants as reply
-use Rattle.foyer_flusher.specs.declared.flusher.Write.{Write}
 
 -- the kinds by which a step is refused
 abbrev pub kind_of : ErrorKind → Option model_reply.Kind

@@ -1,10 +1,10 @@
 -- The model's states that a core stands for. They differ in what a core doesn't keep: the bytes of writes that were issued.
-use Rattle.std.specs.Prelude.{◌≡◌, ℕ, zero, suc, ◌+◌, ◌*◌, ◌^◌, ◌<◌, ◌≤◌, List, [], ◌∷◌, map, length, Some, None, slice_get}
+use Rattle.std.specs.Prelude.{◌≡◌, ℕ, zero, suc, ◌+◌, ◌*◌, ◌^◌, ◌≤◌, List, map, length, Some, None, slice_get}
 use Rattle.foyer_model.specs.Destroy.{IsIdle}
 use Rattle.foyer_model.specs.State as model_state
 use Rattle.foyer_rules.specs.Content.{Content, Meaning}
 use Rattle.foyer_rules.specs.declared.settings.Settings.{Settings}
-use Rattle.foyer_standing.specs.Standing.{IsIndexedAs, AreBlocksAs, AreCleanAs}
+use Rattle.foyer_standing.specs.Standing.{IsIndexedAs, sets_of, IsManagedAs, HasItsBlocks}
 use Rattle.foyer_flusher.specs.Flushing.{IsFlusherAs}
 use Rattle.foyer_flusher.specs.Seen.{Seen, seen}
 use Rattle.foyer_flusher.specs.Taking.{size_in}
@@ -35,8 +35,7 @@ pub record IsStateOf {K V P A : Type 0} (m : Meaning K V P) (s : Settings) (core
   pub closed : it.closed ≡ core.closed
   pub flushers : AreFlushersAs m s (map seen core.flushers.items) it.flushers
   pub queued : IsSizedAs s core.queued core.next it.flushers
-  pub blocks : AreBlocksAs s core.blocks.items it.place it.filling it.stats
-  pub clean : AreCleanAs s core.clean.items it.clean
-  pub waiting : it.waiting ≡ core.waiting.items
+  pub manager : IsManagedAs s core.manager (sets_of it)
+  pub has : (f : ℕ) → HasItsBlocks s it.place it.waiting f (it.flushers f)
   pub reclaims : (b : ℕ) → it.reclaims b ≡ None
   pub destroy : it.destroy ≡ model_state.NoDestroy

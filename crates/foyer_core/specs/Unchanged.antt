@@ -1,5 +1,5 @@
 -- What a step that is handed back leaves: all as it was, but for room that was made.
-use Rattle.std.specs.Prelude.{◌≡◌, ℕ, List, Option, map}
+use Rattle.std.specs.Prelude.{◌≡◌, map}
 use Rattle.foyer_flusher.specs.Seen.{seen}
 use Rattle.foyer_core.specs.declared.state.Core.{Core}
 
@@ -12,6 +12,4 @@ pub record IsUnchanged {K V P A : Type 0} (old new : Core K V P A) : Type 0 wher
   pub queued : new.queued ≡ old.queued
   pub settings : new.settings ≡ old.settings
   pub flushers : map seen new.flushers.items ≡ map seen old.flushers.items
-  pub blocks : new.blocks.items ≡ old.blocks.items
-  pub clean : new.clean.items ≡ old.clean.items
-  pub waiting : new.waiting.items ≡ old.waiting.items
+  pub manager : new.manager ≡ old.manager

@@ -5,16 +5,13 @@ ghost use Rattle.foyer_rules.specs.Content.{meaning};
 ghost use Rattle.foyer_core.specs.Refines.{IsBuilt, IsHandedBack, IsPutOff, RefinesUncounted, Refines};
 ghost use Rattle.foyer_core.specs.declared.reply.Reply.TheVariants as reply;
 
+pub use crate::env::Env;
 use crate::reply::Reply;
 use crate::state::Core;
 use crate::step::Step;
 use foyer_device::error::ErrorKind;
 use foyer_format::serde::{Code, Properties};
 use std::alloc::Allocator;
-
-/// What the core's callers lend it at each step: pickers, conditions and a generator will be here.
-#[derive(Debug, Drop)]
-pub struct Env {}
 
 // Whether a step came back, out of turn or refused.
 pub(crate) fn is_handed_back<K, V, P, A: Allocator>(reply: &Reply<K, V, P, A>) -> bool
@@ -38,7 +35,7 @@ where
     /// Applies one step, at any time. A step that is out of turn or refused changes nothing and is handed back, and
     /// isn't counted; after 2^64 - 1 steps each one is refused as `SequenceEnd`. Reclaims, destroys and a tombstone
     /// log aren't built yet: their steps are out of turn.
-    pub fn apply(&mut self, _env: &mut Env, step: Step<K, V, P, A>) -> Reply<K, V, P, A>
+    pub fn apply(&mut self, env: &mut Env, step: Step<K, V, P, A>) -> Reply<K, V, P, A>
         ensures back { HandsBack step result self.old self.new }
         ensures issued { Describes K.is_decodable V.is_decodable K.encoding V.encoding
             step result self.old self.new }
@@ -53,7 +50,7 @@ where
             return Reply::Refused(ErrorKind::SequenceEnd, step);
         }
         let steps = self.steps + 1;
-        let reply = self.dispatch(step);
+        let reply = self.dispatch(env, step);
         if is_handed_back(&reply) {
             return reply;
         }
@@ -62,7 +59,7 @@ where
     }
 
     #[tactic(auto, using(crate::proofs::Describing::issuing))]
-    fn dispatch(&mut self, step: Step<K, V, P, A>) -> Reply<K, V, P, A>
+    fn dispatch(&mut self, env: &mut Env, step: Step<K, V, P, A>) -> Reply<K, V, P, A>
         ensures back { HandsBack step result self.old self.new }
         ensures issued { Describes K.is_decodable V.is_decodable K.encoding V.encoding
             step result self.old self.new }
@@ -84,11 +81,11 @@ where
             } => self.load_end(ticket, outcome).0,
             Step::Receive { flusher } => self.receive(flusher),
             Step::FlushBegin { flusher } => self.flush_begin(flusher),
-            Step::FlushBlock { flusher } => self.flush_block(flusher),
+            Step::FlushBlock { flusher } => self.flush_block(env, flusher),
             Step::FlushWrote {
                 flusher,
                 result: outcome,
-            } => self.flush_wrote(flusher, outcome),
+            } => self.flush_wrote(env, flusher, outcome),
             Step::FlushEnd { flusher } => self.flush_end(flusher),
             Step::Close => self.close(),
             later => Reply::NotNow(later),

@@ -9,6 +9,7 @@ ghost use Rattle.foyer_core.specs.Refines.{RefinesUncounted};
 ghost use Rattle.foyer_core.specs.declared.reply.Reply.TheVariants as reply;
 ghost use Rattle.foyer_core.specs.declared.step.Step.TheVariants as step;
 
+use crate::env::Env;
 use crate::reply::Reply;
 use crate::state::Core;
 use crate::step::Step;
@@ -82,7 +83,7 @@ impl<K, V, P, A: Allocator + Clone> Core<K, V, P, A> {
         }
     }
 
-    pub(crate) fn flush_block(&mut self, flusher: u32) -> Reply<K, V, P, A>
+    pub(crate) fn flush_block(&mut self, env: &mut Env, flusher: u32) -> Reply<K, V, P, A>
         ensures back { HandsBack (step.FlushBlock flusher) result self.old self.new }
         ensures nothing { DescribesNothing result }
         ensures meets { (m : Meaning K V P) → RefinesUncounted m (step.FlushBlock flusher) result self.old self.new }
@@ -94,20 +95,19 @@ impl<K, V, P, A: Allocator + Clone> Core<K, V, P, A> {
         if !found.has_block() {
             return Reply::NotNow(Step::FlushBlock { flusher });
         }
-        match found.next(
-            &self.alloc,
-            flusher,
-            &mut self.clean,
-            &mut self.blocks,
-            &mut self.waiting,
-        ) {
+        match found.next(&self.alloc, flusher, &mut self.manager, &mut env.pickers) {
             Err(_) => Reply::Refused(ErrorKind::Memory, Step::FlushBlock { flusher }),
             Ok(Next::NoBlock) => Reply::NoBlock,
             Ok(Next::Block(block, writes)) => Reply::Write { block, writes },
         }
     }
 
-    pub(crate) fn flush_wrote(&mut self, flusher: u32, outcome: Result<()>) -> Reply<K, V, P, A>
+    pub(crate) fn flush_wrote(
+        &mut self,
+        env: &mut Env,
+        flusher: u32,
+        outcome: Result<()>,
+    ) -> Reply<K, V, P, A>
         ensures back { HandsBack (step.FlushWrote flusher outcome) result self.old self.new }
         ensures nothing { DescribesNothing result }
         ensures meets { (m : Meaning K V P) → RefinesUncounted m (step.FlushWrote flusher outcome) result self.old self.new }
@@ -126,7 +126,12 @@ impl<K, V, P, A: Allocator + Clone> Core<K, V, P, A> {
                 result: outcome,
             });
         }
-        match found.wrote(outcome.is_ok(), &mut self.index, &mut self.blocks) {
+        match found.wrote(
+            outcome.is_ok(),
+            &mut self.index,
+            &mut self.manager,
+            &mut env.pickers,
+        ) {
             Wrote::Next => Reply::Next,
             Wrote::Committed(count) => Reply::Committed(count),
             Wrote::Failed => Reply::Failed,
@@ -146,7 +151,7 @@ impl<K, V, P, A: Allocator + Clone> Core<K, V, P, A> {
         if !found.is_written() {
             return Reply::NotNow(Step::FlushEnd { flusher });
         }
-        let Ended { pieces, waits } = found.end(&mut self.index, &mut self.blocks);
+        let Ended { pieces, waits } = found.end(&mut self.index, &mut self.manager);
         Reply::Ended { pieces, waits }
     }
 }

@@ -7,6 +7,7 @@
 
 pub mod apply;
 pub mod block;
+mod env;
 mod flush;
 pub mod laws;
 mod load;

@@ -18,7 +18,7 @@ use foyer_block::manager::BlockId;
 use foyer_device::error::{ErrorKind, Result};
 use foyer_format::block::serde::read_record;
 use foyer_format::serde::{Age, Code, Properties};
-use foyer_standing::blocks::BlockState;
+use foyer_sets::block::manager::BlockState;
 use std::alloc::Allocator;
 
 // The step that brings what was read for a ticket.
@@ -34,9 +34,9 @@ fn load_end<K, V, P, A: Allocator>(ticket: Ticket, outcome: Result<Vec<u8, A>>) 
 impl<K, V, P, A: Allocator + Clone> Core<K, V, P, A> {
     // What is known of a block, if it is there.
     fn known(&self, block: BlockId) -> Option<BlockState>
-        ensures { result ≡ slice_get self.now.blocks.items block }
+        ensures { result ≡ slice_get self.now.manager.blocks block }
     {
-        self.blocks.get(block as usize).copied()
+        self.manager.known(block)
     }
 
     // An address of an older filling leaves the index.
@@ -51,14 +51,14 @@ impl<K, V, P, A: Allocator + Clone> Core<K, V, P, A> {
         if throttled {
             return Reply::Throttled;
         }
-        let Some(state) = self.blocks.get_mut(address.block as usize) else {
+        let Some(state) = self.known(address.block) else {
             return Reply::Miss;
         };
         if address.filling != state.filling {
             self.index.remove(hash, &address);
             return Reply::Miss;
         }
-        state.access = state.access.saturating_add(1);
+        self.manager.note_access(address.block);
         Reply::Read(Ticket { hash, address })
     }
 
@@ -108,7 +108,7 @@ impl<K, V, P, A: Allocator + Clone> Core<K, V, P, A> {
         if state.filling != address.filling {
             return (self.miss(&ticket), Some(bytes));
         }
-        let age = if state.probation {
+        let age = if state.statistics.probation {
             Age::Old
         } else {
             Age::Young

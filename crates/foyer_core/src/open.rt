@@ -1,20 +1,20 @@
 //! Opening.
 ghost use Rattle.std.specs.Prelude.{◌≡◌, ◌⊎◌, Err, IfOk, IfErr, IsOkUnless, map, replicate, vec_len};
 ghost use Rattle.foyer_device.specs.declared.error.Error.TheVariants.{Memory, Config};
-ghost use Rattle.foyer_core.specs.Opened.{IsOpened, unused, numbers_below};
+ghost use Rattle.foyer_core.specs.Opened.{IsOpened, clean_sets};
 ghost use Rattle.foyer_flusher.specs.Idle.{idle};
 ghost use Rattle.foyer_rules.specs.Sizes.{AreValid};
 ghost use Rattle.foyer_flusher.specs.Seen.{seen};
+ghost use Rattle.foyer_standing.specs.Standing.{IsManagedAs};
 
+use crate::env::Env;
 use crate::settings::Settings;
 use crate::state::Core;
 use foyer_block::indexer::Indexer;
-use foyer_block::manager::BlockId;
 use foyer_device::error::Result;
 use foyer_flusher::flusher::Flusher;
-use foyer_standing::blocks::{BlockSet, BlockState};
+use foyer_sets::block::manager::{BlockManager, ManagerConfig};
 use std::alloc::Allocator;
-use std::collections::VecDeque;
 
 // So many flushers that have nothing.
 fn idle_flushers<K: Drop, V: Drop, P: Drop, A: Allocator + Clone>(
@@ -33,34 +33,36 @@ fn idle_flushers<K: Drop, V: Drop, P: Drop, A: Allocator + Clone>(
     Ok(flushers)
 }
 
-// So many blocks that were never handed out, and their ids in order.
+// The manager of blocks that were never handed out: all are clean, in the order of their ids, and the pickers know them.
+// Reclaims aren't built yet, so that none may begin.
 fn clean_blocks<A: Allocator + Clone>(
     alloc: &A,
-    count: u32,
-) -> Result<(Vec<BlockState, A>, VecDeque<BlockId, A>)>
-    ensures blocks { IfOk result (λ p. p.0.items ≡ replicate count unused) }
-    ensures clean { IfOk result (λ p. p.1.items ≡ numbers_below count) }
+    env: &mut Env,
+    settings: &Settings,
+) -> Result<BlockManager<A>>
+    ensures clean { IfOk result (λ manager. IsManagedAs settings.now manager (clean_sets settings.now.blocks)) }
     ensures refused { IsOkUnless result Memory }
 {
-    let mut blocks = Vec::with_capacity(alloc.clone()?, count as usize)?;
-    let mut clean = VecDeque::with_capacity(alloc.clone()?, count as usize)?;
-    'each_block: for block in 0..count {
-        blocks.push(BlockState {
-            place: BlockSet::Clean,
-            filling: 0,
-            invalid: 0,
-            access: 0,
-            probation: false,
-        })?;
-        clean.push_back(block)?;
+    let mut manager = BlockManager::open(
+        alloc,
+        ManagerConfig {
+            blocks: settings.blocks,
+            flushers: settings.flushers,
+            reclaimers: 0,
+            clean_threshold: 0,
+        },
+    )?;
+    env.init(settings.blocks, settings.block_size)?;
+    match manager.init(alloc, &mut env.pickers, &env.own) {
+        Ok(()) => Ok(manager),
+        Err(error) => Err(error),
     }
-    Ok((blocks, clean))
 }
 
 impl<K: Drop, V: Drop, P: Drop, A: Allocator + Clone> Core<K, V, P, A> {
     /// Opens a core that finds nothing: no block is read, every block is clean, in the order of their ids, and the
-    /// first sequence is 1. `Config` where the settings don't go together, else `Memory` alone.
-    pub fn open(alloc: A, settings: Settings) -> Result<Core<K, V, P, A>>
+    /// first sequence is 1. The pickers are told of the blocks. `Config` where the settings don't go together, else `Memory` alone.
+    pub fn open(alloc: A, env: &mut Env, settings: Settings) -> Result<Core<K, V, P, A>>
         ensures opened { IfOk result (IsOpened settings) }
         ensures sound { IfOk result (λ _. AreValid settings) }
         ensures config { IfErr result (λ e. (e ≡ Memory) ⊎ ((e ≡ Config) × (AreValid settings → ⊥))) }
@@ -69,9 +71,8 @@ impl<K: Drop, V: Drop, P: Drop, A: Allocator + Clone> Core<K, V, P, A> {
         settings.check()?;
         let index = Indexer::new(alloc.clone()?, settings.indexer_shards)?;
         let flushers = idle_flushers(&alloc, &settings)?;
-        let (blocks, clean) = clean_blocks(&alloc, settings.blocks)?;
+        let manager = clean_blocks(&alloc, env, &settings)?;
         Ok(Core {
-            waiting: Vec::new(alloc.clone()?),
             alloc,
             settings,
             index,
@@ -80,8 +81,7 @@ impl<K: Drop, V: Drop, P: Drop, A: Allocator + Clone> Core<K, V, P, A> {
             closed: false,
             queued: 0,
             flushers,
-            blocks,
-            clean,
+            manager,
         })
     }
 }

@@ -1,13 +1,11 @@
 //! The state of the core.
-ghost use Rattle.std.specs.Prelude.{◌≡◌, ◌<◌, vec_len};
+ghost use Rattle.std.specs.Prelude.{◌≡◌, ◌<◌, length, vec_len};
 
 use crate::settings::Settings;
 use foyer_block::indexer::Indexer;
-use foyer_block::manager::BlockId;
 use foyer_flusher::flusher::Flusher;
-use foyer_standing::blocks::BlockState;
+use foyer_sets::block::manager::BlockManager;
 use std::alloc::Allocator;
-use std::collections::VecDeque;
 
 /// The engine's state. `Core::apply` changes it.
 #[derive(Drop)]
@@ -23,12 +21,10 @@ pub struct Core<K, V, P, A: Allocator> {
     /// The sizes of all queued pieces together, in bytes.
     pub(crate) queued: u128,
     pub(crate) flushers: Vec<Flusher<K, V, P, A>, A>,
-    pub(crate) blocks: Vec<BlockState, A>,
-    /// The clean blocks, the one that has been clean longest first.
-    pub(crate) clean: VecDeque<BlockId, A>,
-    /// The flushers that wait for a block, the one that began last at the end.
-    pub(crate) waiting: Vec<u32, A>,
+    /// The blocks, and the flushers that wait for one.
+    pub(crate) manager: BlockManager<A>,
     ghost some_flusher: { 0 < vec_len flushers },
+    ghost all_flushers: { length manager.ready ≡ vec_len flushers },
 }
 
 impl<K, V, P, A: Allocator> Core<K, V, P, A> {

@@ -6,7 +6,7 @@ ghost use Rattle.foyer_sets.specs.Managed.{is_evictable, is_writing_set, is_recl
 ghost use Rattle.foyer_sets.specs.Pickers.{Info, picker_info, answers_of, is_pick, answers_given, marks_given, pick_of};
 
 pub use crate::block::fifo::FifoPicker;
-pub use crate::block::picker::AnyPicker;
+pub use crate::block::picker::{AnyPicker, BuiltInPicker};
 pub use crate::block::ratio::InvalidRatioPicker;
 use crate::block::states::{BlockSet, BlockState};
 use foyer_block::manager::BlockId;

@@ -1,4 +1,4 @@
-//! A picker of any kind.
+//! A picker of any kind, and one of those of this crate.
 ghost use Rattle.std.specs.Prelude.{◌≡◌, ℕ, List, [], Option};
 ghost use Rattle.foyer_device.specs.declared.error.Error.TheVariants.{Memory};
 
@@ -62,6 +62,56 @@ impl EvictionPicker for AnyPicker {
             AnyPicker::InvalidRatio(picker) => picker.on_block_evict(info, block),
             AnyPicker::Fifo(picker) => picker.on_block_evict(info, block),
             AnyPicker::Boxed(picker) => picker.on_block_evict(info, block),
+        }
+    }
+}
+
+/// One of the pickers of this crate, held by value.
+#[derive(Drop)]
+pub enum BuiltInPicker {
+    InvalidRatio(InvalidRatioPicker),
+    Fifo(FifoPicker),
+}
+
+impl EvictionPicker for BuiltInPicker {
+    ghost use Rattle.foyer_sets.specs.Pickers.{Info, fifo_answer, fifo_marks, ratio_answer};
+    ghost use Rattle.foyer_sets.specs.declared.block.picker.BuiltInPicker.TheVariants.{InvalidRatio, Fifo};
+
+    ghost answer = { λ p info. elim p as (λ _. Option ℕ) [
+      | InvalidRatio q ↦ ratio_answer q.num q.den q.block_size info
+      | Fifo q ↦ fifo_answer q info
+    ] };
+
+    ghost marks = { λ p info. elim p as (λ _. List ℕ) [
+      | InvalidRatio q ↦ []
+      | Fifo q ↦ fifo_marks q info
+    ] };
+
+    fn init(&mut self, alloc: Global, blocks: &[BlockId], block_size: usize) -> Result<()> {
+        match self {
+            BuiltInPicker::InvalidRatio(picker) => picker.init(alloc, blocks, block_size),
+            BuiltInPicker::Fifo(picker) => picker.init(alloc, blocks, block_size),
+        }
+    }
+
+    fn pick(&self, info: EvictionInfo<'_>, probation: &mut Vec<BlockId>) -> Option<BlockId> {
+        match self {
+            BuiltInPicker::InvalidRatio(picker) => picker.pick(info, probation),
+            BuiltInPicker::Fifo(picker) => picker.pick(info, probation),
+        }
+    }
+
+    fn on_block_evictable(&mut self, info: EvictionInfo<'_>, block: BlockId) {
+        match self {
+            BuiltInPicker::InvalidRatio(picker) => picker.on_block_evictable(info, block),
+            BuiltInPicker::Fifo(picker) => picker.on_block_evictable(info, block),
+        }
+    }
+
+    fn on_block_evict(&mut self, info: EvictionInfo<'_>, block: BlockId) {
+        match self {
+            BuiltInPicker::InvalidRatio(picker) => picker.on_block_evict(info, block),
+            BuiltInPicker::Fifo(picker) => picker.on_block_evict(info, block),
         }
     }
 }

@@ -14,9 +14,8 @@ returns-clause-meets g c = λ m s sound it stands few. record {
     closed = refl;
     flushers = stands.flushers;
     queued = stands.queued;
-    blocks = stands.blocks;
-    clean = stands.clean;
-    waiting = stands.waiting;
+    manager = stands.manager;
+    has = stands.has;
     reclaims = stands.reclaims;
     destroy = stands.destroy;
   };

@@ -12,6 +12,7 @@ use Rattle.foyer_flusher.specs.Flushing.{invalid_of_all}
 use Rattle.foyer_rules.specs.CoreRules.{machine}
 use Rattle.foyer_standing.specs.Standing.{IsIndexedAs}
 use Rattle.foyer_flusher.specs.declared.flusher.Submission.TheVariants.{Tombstone}
+use Rattle.foyer_standing.proofs.SetsLemmas.{managed_kept, blocks_kept}
 use Rattle.foyer_core.specs.declared.step.Step.TheVariants as step
 use Rattle.foyer_core.proofs.Deleted.{bytes_of, pushed_out}
 use Rattle.foyer_core.proofs.QueueLemmas.{with_queued, queue_pushed_at, size_grown}
@@ -36,9 +37,7 @@ returns-then-is_err-clause-back g c =
         settings = refl;
         flushers = same_seen c.args.self.now.flushers.items c.flusher_of-flusher.result found _
             c.index_mut.ensures.value (ap (λ q. record (seen found) { queue = q }) c.reserve.ensures.items);
-        blocks = refl;
-        clean = refl;
-        waiting = refl;
+        manager = refl;
       },
     )
 
@@ -55,9 +54,7 @@ returns-in-Err-clause-back g c =
         settings = refl;
         flushers = same_seen c.args.self.now.flushers.items c.flusher_of-flusher.result found _
             c.index_mut.ensures.value (ap (λ q. record (seen found) { queue = q }) c.reserve.ensures.items);
-        blocks = refl;
-        clean = refl;
-        waiting = refl;
+        manager = refl;
       },
     )
 
@@ -124,9 +121,8 @@ returns-after-pushed_out-clause-meets g c = λ m s sound it stands few.
             at (ap (λ q. Remove c.args.hash old.next q) invalidated) stands.flushers within c.index_mut.ensures.value
             (ap (λ q. record (seen found) { queue = q }) (c.push_back_reserved.ensures.items ∙ ap (λ q. q ++ mark ∷ []) c.reserve.ensures.items));
         queued = size_grown s it.flushers f x old.queued old.next old.queued (old.next + 1) stands.queued there more (omega arith);
-        blocks = stands.blocks;
-        clean = stands.clean;
-        waiting = stands.waiting;
+        manager = managed_kept s f it old.manager (with_queued (it.flushers f) x) (record { own = refl; ready = refl }) stands.manager;
+        has = blocks_kept s f it (with_queued (it.flushers f) x) (record { own = refl; ready = refl }) stands.has;
         reclaims = stands.reclaims;
         destroy = stands.destroy;
       };

@@ -4,6 +4,7 @@ use Rattle.foyer_model.specs.Numbers.{put, last_number}
 use Rattle.foyer_model.specs.Queue.{IsIgnored}
 use Rattle.foyer_model.specs.Reply as model_reply
 use Rattle.foyer_model.specs.State.{Piece}
+use Rattle.foyer_standing.proofs.SetsLemmas.{managed_kept, blocks_kept}
 use Rattle.foyer_core.specs.Asked.{known_age}
 use Rattle.foyer_rules.specs.Content.{content_of}
 use Rattle.foyer_rules.specs.CoreRules.{machine}
@@ -31,9 +32,7 @@ returns-then-is_err-clause-back g c =
         settings = refl;
         flushers = same_seen c.args.self.now.flushers.items c.flusher_of-flusher.result found _
             c.index_mut.ensures.value (ap (λ q. record (seen found) { queue = q }) c.reserve.ensures.items);
-        blocks = refl;
-        clean = refl;
-        waiting = refl;
+        manager = refl;
       },
     )
 
@@ -134,9 +133,8 @@ returns-clause-meets g c = λ m ages s sound it stands few.
             at refl stands.flushers within c.index_mut.ensures.value
             (ap (λ q. record (seen found) { queue = q }) (c.push_back_reserved.ensures.items ∙ ap (λ q. q ++ CacheEntry c.args.piece c.args.size old.next ∷ []) c.reserve.ensures.items));
         queued = size_grown s it.flushers f x old.queued old.next c.saturating_add-self.result (old.next + 1) stands.queued there more (omega arith);
-        blocks = stands.blocks;
-        clean = stands.clean;
-        waiting = stands.waiting;
+        manager = managed_kept s f it old.manager (with_queued (it.flushers f) x) (record { own = refl; ready = refl }) stands.manager;
+        has = blocks_kept s f it (with_queued (it.flushers f) x) (record { own = refl; ready = refl }) stands.has;
         reclaims = stands.reclaims;
         destroy = stands.destroy;
       };

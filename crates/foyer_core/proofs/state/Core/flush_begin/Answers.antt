@@ -1,5 +1,5 @@
 use Rattle.std.proofs.lemmas.Grind.{common_steps}
-use Rattle.std.proofs.Common.{true, false, ◌≡◌, ◌<◌, ◌∷◌, [], map, length, None, refl, ap, sym, ◌∙◌, arith}
+use Rattle.std.proofs.Common.{true, false, ◌≡◌, ◌<◌, map, length, None, refl, ap, sym, ◌∙◌, arith}
 use Rattle.foyer_device.specs.declared.error.ErrorKind.TheVariants as kind
 use Rattle.foyer_model.specs.Receive.{HasReceived, turned}
 use Rattle.foyer_model.specs.Reply as model_reply
@@ -10,6 +10,7 @@ use Rattle.foyer_rules.specs.CoreRules.{machine}
 use Rattle.foyer_standing.specs.Addresses.{mark_of}
 use Rattle.foyer_flusher.specs.Seen.{seen}
 use Rattle.foyer_flusher.specs.Taking.{size_in}
+use Rattle.foyer_standing.proofs.SetsLemmas.{managed_kept, blocks_kept}
 use Rattle.foyer_core.specs.declared.step.Step.TheVariants as step
 use Rattle.foyer_flusher.proofs.BeginLemmas.{has_begun}
 use Rattle.foyer_flusher.proofs.BeginTurns.{may_begin, may_begin_back}
@@ -38,9 +39,7 @@ returns-then-not-may_begin-clause-meets g c = λ m s sound it stands few.
       queued = refl;
       settings = refl;
       flushers = same_seen old.flushers.items f found found c.index_mut-found.ensures.value refl;
-      blocks = refl;
-      clean = refl;
-      waiting = refl;
+      manager = refl;
     }) stands (
       is_early m s old it stands few,
       (λ draws. absurd draws),
@@ -71,9 +70,8 @@ returns-in-Ok-clause-meets g c = λ m s sound it stands few.
         closed = stands.closed;
         flushers = flusher_put m s old.flushers.items it.flushers f c.begin.new.self has.after stands.flushers within has.stands;
         queued = size_kept s it.flushers f has.after old.queued old.next stands.queued there (ap size_in (sym has.queue));
-        blocks = stands.blocks;
-        clean = stands.clean;
-        waiting = stands.waiting;
+        manager = managed_kept s f it old.manager has.after has.keeps stands.manager;
+        has = blocks_kept s f it has.after has.keeps stands.has;
         reclaims = stands.reclaims;
         destroy = stands.destroy;
       };
@@ -99,9 +97,7 @@ returns-in-Err-clause-meets g c = λ m s sound it stands few.
       queued = refl;
       settings = refl;
       flushers = same_seen old.flushers.items f found c.begin.new.self c.index_mut-found.ensures.value c.in-Err.ensures.refused;
-      blocks = refl;
-      clean = refl;
-      waiting = refl;
+      manager = refl;
     }) stands
     (is_early m s old it stands few, ((there, turn.0, turn.1), tt))
 
@@ -123,8 +119,6 @@ returns-in-Err-clause-back g c =
         queued = refl;
         settings = refl;
         flushers = same_seen c.args.self.now.flushers.items c.args.flusher found c.begin.new.self c.index_mut-found.ensures.value c.in-Err.ensures.refused;
-        blocks = refl;
-        clean = refl;
-        waiting = refl;
+        manager = refl;
       },
     )

@@ -1,5 +1,5 @@
 use Rattle.std.proofs.lemmas.Grind.{common_steps}
-use Rattle.std.proofs.Common.{◌≡◌, ◌<◌, length, map, refl, ap, subst, arith}
+use Rattle.std.proofs.Common.{◌≡◌, ◌<◌, length, map, refl, subst, arith}
 use Rattle.std.proofs.lemmas.Bool.{false≢true}
 use Rattle.foyer_model.specs.Numbers.{last_number}
 use Rattle.foyer_model.specs.Reply as model_reply
@@ -30,9 +30,7 @@ returns-then-not-has_block-clause-meets g c = λ m s sound it stands few.
       queued = refl;
       settings = refl;
       flushers = same_seen core.flushers.items f found found c.index_mut-found.ensures.value refl;
-      blocks = refl;
-      clean = refl;
-      waiting = refl;
+      manager = refl;
     }) stands few (λ d. d)
     (λ turn. false≢true (c.if-not-has_block.ensures.1 (wants_block m s found.own found.batch (it.flushers f).batch (at.flusher).batch turn.1)))
 
@@ -45,8 +43,6 @@ returns-in-Err-clause-meets g c = λ m s sound it stands few.
     let at = stands_at m s core it f found stands within c.index_mut-found.ensures.value in
     let counted : it.steps ≡ core.steps = stands.steps in
     let early : it.steps < last_number = omega arith in
-    let blocks : c.next.new.blocks.items ≡ core.blocks.items = cc c.in-Err.ensures.blocks_kept in
-    let clean : c.next.new.clean.items ≡ core.clean.items = cc c.in-Err.ensures.clean_kept in
     record {
       after = it;
       it = model_reply.Refused model_reply.Memory (model_step.FlushBlock f);
@@ -58,9 +54,7 @@ returns-in-Err-clause-meets g c = λ m s sound it stands few.
         queued = refl;
         settings = refl;
         flushers = same_seen core.flushers.items f found c.next.new.self c.index_mut-found.ensures.value c.in-Err.ensures.refused;
-        blocks = blocks;
-        clean = clean;
-        waiting = c.in-Err.ensures.waiting_kept;
+        manager = c.in-Err.ensures.manager_kept;
       }) stands;
       reply = (model_reply.Memory, refl, refl);
       turns = (
@@ -69,7 +63,7 @@ returns-in-Err-clause-meets g c = λ m s sound it stands few.
           early,
           (
             (flusher_there m s core it f stands within, has_block m s found.own found.batch (it.flushers f).batch (at.flusher).batch (c.if-not-has_block.ensures.0 refl)),
-            would_answer m s sound it f found core.index core.blocks.items core.clean.items core.waiting.items at (c.if-not-has_block.ensures.0 refl),
+            would_answer m s sound it f found core.index core.manager at (c.if-not-has_block.ensures.0 refl),
           ),
         ),
         refl,
@@ -83,8 +77,7 @@ returns-in-Ok-NoBlock-clause-meets g c = λ m s sound it stands few.
     let found = c.index_mut-found.result.now in
     let within : f < length core.flushers.items = omega (arith, c.len.ensures, c.if-flusher-len.false) in
     let at = stands_at m s core it f found stands within c.index_mut-found.ensures.value in
-    let done = subst (λ (n : Next g.row.A.Denot). FlusherStep m s sound (model_step.FlushBlock f) f it (issued_next n) (seen c.next.new.self) core.index c.next.new.blocks.items
-    c.next.new.clean.items c.next.new.waiting.items) c.in-Ok-NoBlock.field-0-is (c.in-Ok-NoBlock.ensures.done m s sound it core.index at) in
+    let done = subst (λ (n : Next g.row.A.Denot). FlusherStep m s sound (model_step.FlushBlock f) f it (issued_next n) (seen c.next.new.self) core.index c.next.new.manager) c.in-Ok-NoBlock.field-0-is (c.in-Ok-NoBlock.ensures.done m s sound it core.index at) in
     record {
       after = done.after;
       it = model_reply.NoBlock;
@@ -100,8 +93,7 @@ returns-in-Ok-Block-clause-meets g c = λ m s sound it stands few.
     let found = c.index_mut-found.result.now in
     let within : f < length core.flushers.items = omega (arith, c.len.ensures, c.if-flusher-len.false) in
     let at = stands_at m s core it f found stands within c.index_mut-found.ensures.value in
-    let done = subst (λ (n : Next g.row.A.Denot). FlusherStep m s sound (model_step.FlushBlock f) f it (issued_next n) (seen c.next.new.self) core.index c.next.new.blocks.items
-    c.next.new.clean.items c.next.new.waiting.items) c.in-Ok-Block.field-0-is (c.in-Ok-Block.ensures.done m s sound it core.index at) in
+    let done = subst (λ (n : Next g.row.A.Denot). FlusherStep m s sound (model_step.FlushBlock f) f it (issued_next n) (seen c.next.new.self) core.index c.next.new.manager) c.in-Ok-Block.field-0-is (c.in-Ok-Block.ensures.done m s sound it core.index at) in
     record {
       after = done.after;
       it = model_reply.Written c.in-Ok-Block.block (map write_of c.in-Ok-Block.writes.items);
@@ -128,8 +120,6 @@ returns-in-Err-clause-back g c =
         queued = refl;
         settings = refl;
         flushers = same_seen c.args.self.now.flushers.items c.args.flusher found c.next.new.self c.index_mut-found.ensures.value c.in-Err.ensures.refused;
-        blocks = cc c.in-Err.ensures.blocks_kept;
-        clean = cc c.in-Err.ensures.clean_kept;
-        waiting = c.in-Err.ensures.waiting_kept;
+        manager = c.in-Err.ensures.manager_kept;
       },
     )

@@ -1,5 +1,5 @@
 use Rattle.std.proofs.lemmas.Grind.{common_steps}
-use Rattle.std.proofs.Common.{◌<◌, length, map, refl, arith}
+use Rattle.std.proofs.Common.{◌<◌, length, refl, arith}
 use Rattle.std.proofs.lemmas.Bool.{false≢true}
 use Rattle.foyer_model.specs.Reply as model_reply
 use Rattle.foyer_core.proofs.FlushTurns.{stands_at, flusher_there, core_stands, is_written, was_written, not_now}
@@ -23,9 +23,7 @@ returns-then-not-is_written-clause-meets g c = λ m s sound it stands few.
       queued = refl;
       settings = refl;
       flushers = same_seen core.flushers.items f found found c.index_mut-found.ensures.value refl;
-      blocks = refl;
-      clean = refl;
-      waiting = refl;
+      manager = refl;
     }) stands few (λ d. d)
     (λ turn. false≢true (c.if-not-is_written.ensures.1 (was_written m s found.own found.batch (it.flushers f).batch (at.flusher).batch turn.1)))
 
@@ -36,7 +34,7 @@ returns-clause-meets g c = λ m s sound it stands few.
     let found = c.index_mut-found.result.now in
     let within : f < length core.flushers.items = omega (arith, c.len.ensures, c.if-flusher-len.false) in
     let at = stands_at m s core it f found stands within c.index_mut-found.ensures.value in
-    let done = c.end-pieces.ensures.done m s sound f it core.clean.items core.waiting.items at in
+    let done = c.end-pieces.ensures.done m s sound f it at in
     record {
       after = (done.2).after;
       it = model_reply.Ended done.0 c.end-pieces.result.waits.items;

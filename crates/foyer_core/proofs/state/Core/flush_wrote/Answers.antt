@@ -1,5 +1,5 @@
 use Rattle.std.proofs.lemmas.Grind.{common_steps}
-use Rattle.std.proofs.Common.{◌≡◌, ◌<◌, Bool, length, refl, ap, subst, ◌∙◌, arith}
+use Rattle.std.proofs.Common.{◌≡◌, ◌<◌, Bool, length, refl, subst, ◌∙◌, arith}
 use Rattle.std.proofs.lemmas.Bool.{false≢true}
 use Rattle.foyer_model.specs.Reply as model_reply
 use Rattle.foyer_model.specs.Step as model_step
@@ -27,9 +27,7 @@ returns-then-not-is_writing-clause-meets g c = λ m s sound it stands few.
       queued = refl;
       settings = refl;
       flushers = same_seen core.flushers.items f found found c.index_mut-found.ensures.value refl;
-      blocks = refl;
-      clean = refl;
-      waiting = refl;
+      manager = refl;
     }) stands few (λ d. d)
     (λ turn. false≢true (c.if-not-is_writing.ensures.1 (must_write m s found.own found.batch (it.flushers f).batch (at.flusher).batch turn.1)))
 
@@ -41,8 +39,7 @@ returns-in-Next-clause-meets g c = λ m s sound it stands few.
     let within : f < length core.flushers.items = omega (arith, c.len.ensures, c.if-flusher-len.false) in
     let at = stands_at m s core it f found stands within c.index_mut-found.ensures.value in
     let ok : c.is_ok.result ≡ went_well c.args.outcome = c.is_ok.ensures.value ∙ went_is c.args.outcome in
-    let done = subst (λ (b : Bool). FlusherStep m s sound (model_step.FlushWrote f b) f it model_reply.Next (seen c.wrote.new.self) c.wrote.new.index c.wrote.new.blocks.items
-    core.clean.items core.waiting.items) ok (c.in-Next.ensures.done m s sound f it core.clean.items core.waiting.items at) in
+    let done = subst (λ (b : Bool). FlusherStep m s sound (model_step.FlushWrote f b) f it model_reply.Next (seen c.wrote.new.self) c.wrote.new.index c.wrote.new.manager) ok (c.in-Next.ensures.done m s sound f it at) in
     record {
       after = done.after;
       it = model_reply.Next;
@@ -59,8 +56,7 @@ returns-in-Committed-clause-meets g c = λ m s sound it stands few.
     let within : f < length core.flushers.items = omega (arith, c.len.ensures, c.if-flusher-len.false) in
     let at = stands_at m s core it f found stands within c.index_mut-found.ensures.value in
     let ok : c.is_ok.result ≡ went_well c.args.outcome = c.is_ok.ensures.value ∙ went_is c.args.outcome in
-    let done = subst (λ (b : Bool). FlusherStep m s sound (model_step.FlushWrote f b) f it (model_reply.Committed c.in-Committed.count) (seen c.wrote.new.self) c.wrote.new.index c.wrote.new.blocks.items
-    core.clean.items core.waiting.items) ok (c.in-Committed.ensures.done m s sound f it core.clean.items core.waiting.items at) in
+    let done = subst (λ (b : Bool). FlusherStep m s sound (model_step.FlushWrote f b) f it (model_reply.Committed c.in-Committed.count) (seen c.wrote.new.self) c.wrote.new.index c.wrote.new.manager) ok (c.in-Committed.ensures.done m s sound f it at) in
     record {
       after = done.after;
       it = model_reply.Committed c.in-Committed.count;
@@ -77,8 +73,7 @@ returns-in-Failed-clause-meets g c = λ m s sound it stands few.
     let within : f < length core.flushers.items = omega (arith, c.len.ensures, c.if-flusher-len.false) in
     let at = stands_at m s core it f found stands within c.index_mut-found.ensures.value in
     let ok : c.is_ok.result ≡ went_well c.args.outcome = c.is_ok.ensures.value ∙ went_is c.args.outcome in
-    let done = subst (λ (b : Bool). FlusherStep m s sound (model_step.FlushWrote f b) f it model_reply.Failed (seen c.wrote.new.self) c.wrote.new.index c.wrote.new.blocks.items
-    core.clean.items core.waiting.items) ok (c.in-Failed.ensures.done m s sound f it core.clean.items core.waiting.items at) in
+    let done = subst (λ (b : Bool). FlusherStep m s sound (model_step.FlushWrote f b) f it model_reply.Failed (seen c.wrote.new.self) c.wrote.new.index c.wrote.new.manager) ok (c.in-Failed.ensures.done m s sound f it at) in
     record {
       after = done.after;
       it = model_reply.Failed;

@@ -1,18 +1,16 @@
-use Rattle.std.proofs.Common.{◌≡◌, ◌<◌, length, vec_len, Some, None, slice_get, refl, ap, sym, subst, ◌∙◌, arith}
-use Rattle.std.proofs.lemmas.Option.{slice_get_read}
+use Rattle.std.proofs.Common.{◌≡◌, Some, None, slice_get, refl, ap, sym, subst, ◌∙◌}
 use Rattle.std.specs.FinMap as finite
 use Rattle.foyer_block.specs.declared.indexer.Index.TheVariants.{Address}
 use Rattle.foyer_model.specs.Load.{Looks, accessed}
-use Rattle.foyer_model.specs.Numbers.{put, plus}
+use Rattle.foyer_model.specs.Numbers.{put}
 use Rattle.foyer_model.specs.Record.{Indexed}
 use Rattle.foyer_model.specs.Reply as model_reply
-use Rattle.foyer_model.proofs.Basics.{put_same, put_other}
+use Rattle.foyer_sets.specs.BlockSets.{IsBlockAs}
 use Rattle.foyer_standing.specs.Addresses.{address_of}
 use Rattle.foyer_core.specs.Asked.{ticket_of}
 use Rattle.foyer_rules.specs.CoreRules.{machine}
-use Rattle.foyer_standing.specs.Standing.{slot_of, IsBlockAs, IsIndexedAs}
+use Rattle.foyer_standing.specs.Standing.{slot_of, IsIndexedAs, sets_of}
 use Rattle.foyer_core.specs.declared.step.Ticket.{Ticket}
-use Rattle.foyer_standing.proofs.AccessLemmas.{blocks_set, more_accessed}
 use Rattle.foyer_standing.proofs.SlotLemmas.{held_address, index_removed, without_itself}
 use Rattle.foyer_core.proofs.state.Core.load_begin.Goals as goal
 
@@ -22,11 +20,9 @@ returns-then-address-state-clause-meets g c = λ m s sound it stands few.
     let a = c.in-Some.address in
     let held : finite.get old.index c.args.hash ≡ Some (Address a) = held_address (finite.get old.index c.args.hash) a (sym c.in-Some.ensures) in
     let slot : it.index c.args.hash ≡ Some (Indexed (address_of a)) = stands.index.slot c.args.hash ∙ ap slot_of held in
-    let there : a.block < vec_len old.blocks = c.in-Some-get_mut.ensures.variant.0 refl in
-    let len : vec_len old.blocks ≡ length old.blocks.items = omega arith in
-    let at : slice_get old.blocks.items a.block ≡ Some c.in-Some-get_mut.state.now =
-    slice_get_read old.blocks.items (vec_len old.blocks) a.block c.in-Some-get_mut.state.now len there c.in-Some-get_mut.ensures.value in
-    let known : IsBlockAs c.in-Some-get_mut.state.now (it.place a.block) (it.filling a.block) (it.stats a.block) = stands.blocks.all a.block c.in-Some-get_mut.state.now at in
+    let found = c.in-Some-known.state in
+    let at : slice_get old.manager.blocks a.block ≡ Some found = sym c.known.ensures ∙ c.in-Some-known.is in
+    let known : IsBlockAs found (it.place a.block) (it.filling a.block) (it.stats a.block) = stands.manager.sets.blocks a.block found at in
     record {
       after = record it { index = put it.index c.args.hash None };
       it = model_reply.Miss;
@@ -39,9 +35,8 @@ returns-then-address-state-clause-meets g c = λ m s sound it stands few.
         closed = stands.closed;
         flushers = stands.flushers;
         queued = stands.queued;
-        blocks = blocks_set s old.blocks.items a.block c.in-Some-get_mut.state.now it.place it.place it.filling it.filling it.stats it.stats stands.blocks (omega arith) known (λ q ne. (refl, refl, refl));
-        clean = stands.clean;
-        waiting = stands.waiting;
+        manager = stands.manager;
+        has = stands.has;
         reclaims = stands.reclaims;
         destroy = stands.destroy;
       };
@@ -59,12 +54,9 @@ returns-clause-meets g c = λ m s sound it stands few.
     let a = c.in-Some.address in
     let held : finite.get old.index c.args.hash ≡ Some (Address a) = held_address (finite.get old.index c.args.hash) a (sym c.in-Some.ensures) in
     let slot : it.index c.args.hash ≡ Some (Indexed (address_of a)) = stands.index.slot c.args.hash ∙ ap slot_of held in
-    let there : a.block < vec_len old.blocks = c.in-Some-get_mut.ensures.variant.0 refl in
-    let len : vec_len old.blocks ≡ length old.blocks.items = omega arith in
-    let within : a.block < length old.blocks.items = omega arith in
-    let found = c.in-Some-get_mut.state.now in
-    let at : slice_get old.blocks.items a.block ≡ Some found = slice_get_read old.blocks.items (vec_len old.blocks) a.block found len there c.in-Some-get_mut.ensures.value in
-    let known : IsBlockAs found (it.place a.block) (it.filling a.block) (it.stats a.block) = stands.blocks.all a.block found at in
+    let found = c.in-Some-known.state in
+    let at : slice_get old.manager.blocks a.block ≡ Some found = sym c.known.ensures ∙ c.in-Some-known.is in
+    let known : IsBlockAs found (it.place a.block) (it.filling a.block) (it.stats a.block) = stands.manager.sets.blocks a.block found at in
     let ticket : Ticket = record { hash = c.args.hash; address = a } in
     record {
       after = record it { stats = accessed (machine m s sound) it a.block };
@@ -77,17 +69,12 @@ returns-clause-meets g c = λ m s sound it stands few.
         closed = stands.closed;
         flushers = stands.flushers;
         queued = stands.queued;
-        blocks = blocks_set s old.blocks.items a.block (record found { access = c.saturating_add-state.result }) it.place it.place it.filling it.filling it.stats (accessed (machine m s sound) it a.block)
-            stands.blocks within
-            (record {
-              place = known.place;
-              filling = known.filling;
-              stats = put_same it.stats a.block (record (it.stats a.block) { access = plus (it.stats a.block).access 1 })
-                  ∙ more_accessed found (it.stats a.block) c.saturating_add-state.result known.stats c.saturating_add-state.ensures;
-            })
-            (λ q ne. (refl, refl, put_other it.stats a.block (record (it.stats a.block) { access = plus (it.stats a.block).access 1 }) q ne));
-        clean = stands.clean;
-        waiting = stands.waiting;
+        manager = record {
+          blocks = c.note_access.ensures.same.blocks ∙ stands.manager.blocks;
+          flushers = c.note_access.ensures.same.flushers ∙ stands.manager.flushers;
+          sets = c.note_access.ensures.access (sets_of it) stands.manager.sets;
+        };
+        has = stands.has;
         reclaims = stands.reclaims;
         destroy = stands.destroy;
       };

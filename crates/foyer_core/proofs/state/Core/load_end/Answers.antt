@@ -14,7 +14,7 @@ use Rattle.foyer_core.specs.Asked.{ticket_of, age_of as asked_age}
 use Rattle.foyer_rules.specs.Content.{Content, content, meaning}
 use Rattle.foyer_rules.specs.CoreRules.{machine}
 use Rattle.foyer_core.specs.Refines.{IsRefinedUncounted}
-use Rattle.foyer_standing.specs.Standing.{IsBlockAs}
+use Rattle.foyer_sets.specs.BlockSets.{IsBlockAs}
 use Rattle.foyer_core.specs.declared.reply.Reply.TheVariants as reply
 use Rattle.foyer_core.specs.declared.step.Step.TheVariants as step
 use Rattle.foyer_core.proofs.LoadLemmas.{judged_past, judged_now, misses, answers, refuses}
@@ -27,8 +27,8 @@ returns-in-Err-clause-meets g c = λ age_of s sound it stands few.
     let m = meaning g.K.Code.encoding g.V.Code.encoding g.K.Code.is_encodable g.V.Code.is_encodable g.K.Code.is_decodable g.V.Code.is_decodable age_of in
     let old = c.args.self.now in
     let t = c.args.ticket in
-    let at : slice_get old.blocks.items t.address.block ≡ Some c.in-Some.state = sym c.known.ensures ∙ c.in-Some.is in
-    let there : t.address.block < s.blocks = subst (λ n. t.address.block < n) stands.blocks.count (slice_get_within old.blocks.items t.address.block c.in-Some.state at) in
+    let at : slice_get old.manager.blocks t.address.block ≡ Some c.in-Some.state = sym c.known.ensures ∙ c.in-Some.is in
+    let there : t.address.block < s.blocks = subst (λ n. t.address.block < n) stands.manager.blocks (slice_get_within old.manager.blocks t.address.block c.in-Some.state at) in
     subst (λ o. IsRefinedUncounted m s sound (step.LoadEnd t o) (reply.Refused kind.Io c.load_end-in-Err.result) old it) (sym c.in-Err.is)
     (comes_back m s sound (step.LoadEnd t (Err c.in-Err.error)) c.load_end-in-Err.result kind.Io old it c.load_end-in-Err.ensures
     (refused m s sound (step.LoadEnd t (Err c.in-Err.error)) old old it kind.Io model_reply.Io refl (same old) stands (is_early m s old it stands few, (there, tt))))
@@ -38,8 +38,8 @@ returns-then-len-read_len-clause-meets g c = λ age_of s sound it stands few.
     let m = meaning g.K.Code.encoding g.V.Code.encoding g.K.Code.is_encodable g.V.Code.is_encodable g.K.Code.is_decodable g.V.Code.is_decodable age_of in
     let old = c.args.self.now in
     let t = c.args.ticket in
-    let at : slice_get old.blocks.items t.address.block ≡ Some c.in-Some.state = sym c.known.ensures ∙ c.in-Some.is in
-    let there : t.address.block < s.blocks = subst (λ n. t.address.block < n) stands.blocks.count (slice_get_within old.blocks.items t.address.block c.in-Some.state at) in
+    let at : slice_get old.manager.blocks t.address.block ≡ Some c.in-Some.state = sym c.known.ensures ∙ c.in-Some.is in
+    let there : t.address.block < s.blocks = subst (λ n. t.address.block < n) stands.manager.blocks (slice_get_within old.manager.blocks t.address.block c.in-Some.state at) in
     subst (λ o. IsRefinedUncounted m s sound (step.LoadEnd t o) (reply.NotNow c.load_end-then-len-read_len.result) old it) (sym c.in-Ok.is)
     (comes_back_late m s sound (step.LoadEnd t (Ok c.in-Ok.bytes)) c.load_end-then-len-read_len.result old it c.load_end-then-len-read_len.ensures
     (not_now m s sound (step.LoadEnd t (Ok c.in-Ok.bytes)) old old it (same old) stands (is_early m s old it stands few, (λ draws. absurd draws), (λ turn. let issued : length c.in-Ok.bytes.items ≡ page_up t.address.len = turn.1 in c.if-len-read_len.true (omega (arith, issued, c.read_len.ensures.pages, c.len.ensures))))))
@@ -49,9 +49,9 @@ returns-then-state-address-clause-meets g c = λ age_of s sound it stands few.
     let m = meaning g.K.Code.encoding g.V.Code.encoding g.K.Code.is_encodable g.V.Code.is_encodable g.K.Code.is_decodable g.V.Code.is_decodable age_of in
     let old = c.args.self.now in
     let t = c.args.ticket in
-    let at : slice_get old.blocks.items t.address.block ≡ Some c.in-Some.state = sym c.known.ensures ∙ c.in-Some.is in
-    let there : t.address.block < s.blocks = subst (λ n. t.address.block < n) stands.blocks.count (slice_get_within old.blocks.items t.address.block c.in-Some.state at) in
-    let known : IsBlockAs c.in-Some.state (it.place t.address.block) (it.filling t.address.block) (it.stats t.address.block) = stands.blocks.all t.address.block c.in-Some.state at in
+    let at : slice_get old.manager.blocks t.address.block ≡ Some c.in-Some.state = sym c.known.ensures ∙ c.in-Some.is in
+    let there : t.address.block < s.blocks = subst (λ n. t.address.block < n) stands.manager.blocks (slice_get_within old.manager.blocks t.address.block c.in-Some.state at) in
+    let known : IsBlockAs c.in-Some.state (it.place t.address.block) (it.filling t.address.block) (it.stats t.address.block) = stands.manager.sets.blocks t.address.block c.in-Some.state at in
     let as_issued : length c.in-Ok.bytes.items ≡ page_up t.address.len = omega (arith, c.if-len-read_len.false, c.read_len.ensures.pages, c.len.ensures) in
     subst (λ o. IsRefinedUncounted m s sound (step.LoadEnd t o) c.miss.result c.miss.new.self it) (sym c.in-Ok.is)
     (subst (λ r. IsRefinedUncounted m s sound (step.LoadEnd t (Ok c.in-Ok.bytes)) r c.miss.new.self it) (sym c.miss.ensures.reply)
@@ -62,9 +62,9 @@ returns-in-Ok-Some-clause-meets g c = λ age_of s sound it stands few.
     let m = meaning g.K.Code.encoding g.V.Code.encoding g.K.Code.is_encodable g.V.Code.is_encodable g.K.Code.is_decodable g.V.Code.is_decodable age_of in
     let old = c.args.self.now in
     let t = c.args.ticket in
-    let at : slice_get old.blocks.items t.address.block ≡ Some c.in-Some.state = sym c.known.ensures ∙ c.in-Some.is in
-    let there : t.address.block < s.blocks = subst (λ n. t.address.block < n) stands.blocks.count (slice_get_within old.blocks.items t.address.block c.in-Some.state at) in
-    let known : IsBlockAs c.in-Some.state (it.place t.address.block) (it.filling t.address.block) (it.stats t.address.block) = stands.blocks.all t.address.block c.in-Some.state at in
+    let at : slice_get old.manager.blocks t.address.block ≡ Some c.in-Some.state = sym c.known.ensures ∙ c.in-Some.is in
+    let there : t.address.block < s.blocks = subst (λ n. t.address.block < n) stands.manager.blocks (slice_get_within old.manager.blocks t.address.block c.in-Some.state at) in
+    let known : IsBlockAs c.in-Some.state (it.place t.address.block) (it.filling t.address.block) (it.stats t.address.block) = stands.manager.sets.blocks t.address.block c.in-Some.state at in
     let as_issued : length c.in-Ok.bytes.items ≡ page_up t.address.len = omega (arith, c.if-len-read_len.false, c.read_len.ensures.pages, c.len.ensures) in
     let judge : List ℕ → format.Outcome = λ b. pair_of m.is_key m.is_value (take t.address.len b) t.hash t.address.sequence in
     let filling : t.address.filling ≡ it.filling t.address.block = sym c.if-state-address.false ∙ sym known.filling in
@@ -77,7 +77,7 @@ returns-in-Ok-Some-clause-meets g c = λ age_of s sound it stands few.
     let is : judged (machine m s sound) it (ticket_of t) c.in-Ok.bytes.items ≡ Holds (content m key value) =
     judged_now m s sound it t c.in-Ok.bytes.items (Pair (g.K.Code.encoding key) (g.V.Code.encoding value)) filling (ap judge (sym c.deref.ensures.value) ∙ read) ∙ ap with_flag (sym is_encodable) in
     let age_by : Bool → model_step.Age = λ b. if b then model_step.Old else model_step.Young in
-    let aged : age_at (machine m s sound) it t.address.block ≡ age_by c.in-Some.state.probation = ap (λ x. age_by x.probation) known.stats in
+    let aged : age_at (machine m s sound) it t.address.block ≡ age_by c.in-Some.state.statistics.probation = ap (λ x. age_by x.probation) known.stats in
     let age_is : asked_age c.if-state.age ≡ age_at (machine m s sound) it t.address.block = elim c.if-state.branch [
       | then-state w ↦ ap asked_age w.age-is ∙ sym (aged ∙ ap age_by w.if-state.true)
       | else-state w ↦ ap asked_age w.age-is ∙ sym (aged ∙ ap age_by w.if-state.false)
@@ -90,9 +90,9 @@ returns-in-Ok-None-clause-meets g c = λ age_of s sound it stands few.
     let m = meaning g.K.Code.encoding g.V.Code.encoding g.K.Code.is_encodable g.V.Code.is_encodable g.K.Code.is_decodable g.V.Code.is_decodable age_of in
     let old = c.args.self.now in
     let t = c.args.ticket in
-    let at : slice_get old.blocks.items t.address.block ≡ Some c.in-Some.state = sym c.known.ensures ∙ c.in-Some.is in
-    let there : t.address.block < s.blocks = subst (λ n. t.address.block < n) stands.blocks.count (slice_get_within old.blocks.items t.address.block c.in-Some.state at) in
-    let known : IsBlockAs c.in-Some.state (it.place t.address.block) (it.filling t.address.block) (it.stats t.address.block) = stands.blocks.all t.address.block c.in-Some.state at in
+    let at : slice_get old.manager.blocks t.address.block ≡ Some c.in-Some.state = sym c.known.ensures ∙ c.in-Some.is in
+    let there : t.address.block < s.blocks = subst (λ n. t.address.block < n) stands.manager.blocks (slice_get_within old.manager.blocks t.address.block c.in-Some.state at) in
+    let known : IsBlockAs c.in-Some.state (it.place t.address.block) (it.filling t.address.block) (it.stats t.address.block) = stands.manager.sets.blocks t.address.block c.in-Some.state at in
     let as_issued : length c.in-Ok.bytes.items ≡ page_up t.address.len = omega (arith, c.if-len-read_len.false, c.read_len.ensures.pages, c.len.ensures) in
     let judge : List ℕ → format.Outcome = λ b. pair_of m.is_key m.is_value (take t.address.len b) t.hash t.address.sequence in
     let filling : t.address.filling ≡ it.filling t.address.block = sym c.if-state-address.false ∙ sym known.filling in
@@ -108,9 +108,9 @@ returns-in-Err-read_record-clause-meets g c = λ age_of s sound it stands few.
     let m = meaning g.K.Code.encoding g.V.Code.encoding g.K.Code.is_encodable g.V.Code.is_encodable g.K.Code.is_decodable g.V.Code.is_decodable age_of in
     let old = c.args.self.now in
     let t = c.args.ticket in
-    let at : slice_get old.blocks.items t.address.block ≡ Some c.in-Some.state = sym c.known.ensures ∙ c.in-Some.is in
-    let there : t.address.block < s.blocks = subst (λ n. t.address.block < n) stands.blocks.count (slice_get_within old.blocks.items t.address.block c.in-Some.state at) in
-    let known : IsBlockAs c.in-Some.state (it.place t.address.block) (it.filling t.address.block) (it.stats t.address.block) = stands.blocks.all t.address.block c.in-Some.state at in
+    let at : slice_get old.manager.blocks t.address.block ≡ Some c.in-Some.state = sym c.known.ensures ∙ c.in-Some.is in
+    let there : t.address.block < s.blocks = subst (λ n. t.address.block < n) stands.manager.blocks (slice_get_within old.manager.blocks t.address.block c.in-Some.state at) in
+    let known : IsBlockAs c.in-Some.state (it.place t.address.block) (it.filling t.address.block) (it.stats t.address.block) = stands.manager.sets.blocks t.address.block c.in-Some.state at in
     let as_issued : length c.in-Ok.bytes.items ≡ page_up t.address.len = omega (arith, c.if-len-read_len.false, c.read_len.ensures.pages, c.len.ensures) in
     let judge : List ℕ → format.Outcome = λ b. pair_of m.is_key m.is_value (take t.address.len b) t.hash t.address.sequence in
     let filling : t.address.filling ≡ it.filling t.address.block = sym c.if-state-address.false ∙ sym known.filling in

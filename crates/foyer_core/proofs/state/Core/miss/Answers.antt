@@ -11,9 +11,8 @@ returns-clause-meets g c = λ m s it stands. record {
   closed = stands.closed;
   flushers = stands.flushers;
   queued = stands.queued;
-  blocks = stands.blocks;
-  clean = stands.clean;
-  waiting = stands.waiting;
+  manager = stands.manager;
+  has = stands.has;
   reclaims = stands.reclaims;
   destroy = stands.destroy;
 }

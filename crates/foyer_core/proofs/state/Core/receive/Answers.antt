@@ -1,4 +1,4 @@
-use Rattle.std.proofs.Common.{◌≡◌, ◌-◌, ◌<◌, length, [], None, Ok, refl, ap, sym, subst, arith}
+use Rattle.std.proofs.Common.{◌≡◌, ◌-◌, ◌<◌, length, [], None, Ok, refl, sym, subst, arith}
 use Rattle.foyer_device.specs.declared.error.ErrorKind.TheVariants as kind
 use Rattle.foyer_model.specs.Receive.{turned, TakesFront as TakesOne}
 use Rattle.foyer_model.specs.Reply as model_reply
@@ -8,6 +8,7 @@ use Rattle.foyer_rules.specs.CoreRules.{machine}
 use Rattle.foyer_rules.specs.Content.{returned}
 use Rattle.foyer_flusher.specs.Taking.{IsReceivedAs, TakesFront}
 use Rattle.foyer_flusher.specs.Seen.{seen}
+use Rattle.foyer_standing.proofs.SetsLemmas.{managed_kept, blocks_kept}
 use Rattle.foyer_core.specs.declared.step.Step.TheVariants as step
 use Rattle.foyer_core.proofs.QueueLemmas.{size_shrunk}
 use Rattle.foyer_core.proofs.StateLemmas.{flushers_count, flusher_at, flusher_kept, flusher_put}
@@ -28,9 +29,7 @@ returns-in-Err-clause-back g c =
         settings = refl;
         flushers = same_seen c.args.self.now.flushers.items c.args.flusher found c.receive.new.self
             c.index_mut-found.ensures.value c.in-Err.ensures.refused;
-        blocks = refl;
-        clean = refl;
-        waiting = refl;
+        manager = refl;
       },
     )
 
@@ -48,9 +47,7 @@ returns-then-flusher-len-clause-meets g c = λ age_of s sound it stands few.
       queued = refl;
       settings = refl;
       flushers = refl;
-      blocks = refl;
-      clean = refl;
-      waiting = refl;
+      manager = refl;
     }) stands (is_early m s old it stands few, (λ draws. absurd draws), (λ turn. let lt : f < s.flushers = turn in omega (arith, c.len.ensures, c.if-flusher-len.true)))
 
 pub returns-in-Err-clause-meets : goal.returns-in-Err-clause-meets
@@ -89,9 +86,8 @@ returns-in-Ok-Nothing-clause-meets g c = λ age_of s sound it stands few.
         closed = stands.closed;
         flushers = flusher_kept m s old.flushers.items it.flushers f c.receive.new.self stands.flushers within none.1;
         queued = stands.queued;
-        blocks = stands.blocks;
-        clean = stands.clean;
-        waiting = stands.waiting;
+        manager = stands.manager;
+        has = stands.has;
         reclaims = stands.reclaims;
         destroy = stands.destroy;
       };
@@ -123,9 +119,8 @@ returns-in-Ok-Other-clause-meets g c = λ age_of s sound it stands few.
         closed = stands.closed;
         flushers = flusher_put m s old.flushers.items it.flushers f c.receive.new.self taken.after stands.flushers within taken.stands;
         queued = size_shrunk s it.flushers f taken.after old.queued 0 old.queued old.next stands.queued there taken.size_is all;
-        blocks = stands.blocks;
-        clean = stands.clean;
-        waiting = stands.waiting;
+        manager = managed_kept s f it old.manager taken.after taken.keeps stands.manager;
+        has = blocks_kept s f it taken.after taken.keeps stands.has;
         reclaims = stands.reclaims;
         destroy = stands.destroy;
       };
@@ -156,9 +151,8 @@ returns-in-Ok-Piece-clause-meets g c = λ age_of s sound it stands few.
         closed = stands.closed;
         flushers = flusher_put m s old.flushers.items it.flushers f c.receive.new.self taken.after stands.flushers within taken.stands;
         queued = size_shrunk s it.flushers f taken.after old.queued c.in-Ok-Piece.size c.saturating_sub-self.result old.next stands.queued there taken.size_is c.saturating_sub-self.ensures;
-        blocks = stands.blocks;
-        clean = stands.clean;
-        waiting = stands.waiting;
+        manager = managed_kept s f it old.manager taken.after taken.keeps stands.manager;
+        has = blocks_kept s f it taken.after taken.keeps stands.has;
         reclaims = stands.reclaims;
         destroy = stands.destroy;
       };

@@ -4,6 +4,7 @@ use Rattle.foyer_model.specs.Reply.{Memory, Done, Refused}
 use Rattle.foyer_model.specs.State.{Await}
 use Rattle.foyer_model.specs.Step as model_step
 use Rattle.foyer_flusher.specs.declared.flusher.Submission.TheVariants.{Wait}
+use Rattle.foyer_standing.proofs.SetsLemmas.{managed_kept, blocks_kept}
 use Rattle.foyer_core.proofs.QueueLemmas.{with_queued, queue_pushed, size_grown}
 use Rattle.foyer_core.proofs.StateLemmas.{flushers_count, unchanged_stands}
 use Rattle.foyer_flusher.specs.Seen.{seen}
@@ -23,9 +24,7 @@ returns-then-is_err-clause-back g c =
         settings = refl;
         flushers = same_seen c.args.self.now.flushers.items c.args.flusher found _
             c.index_mut-found.ensures.value (ap (λ q. record (seen found) { queue = q }) c.reserve.ensures.items);
-        blocks = refl;
-        clean = refl;
-        waiting = refl;
+        manager = refl;
       },
     )
 
@@ -66,9 +65,8 @@ returns-clause-meets g c = λ m s sound it stands few.
             (ap (λ q. record (seen found) { queue = q }) (c.push_back_reserved.ensures.items ∙ ap (λ q. q ++ Wait c.args.id ∷ []) c.reserve.ensures.items));
         queued = size_grown s it.flushers c.args.flusher (Await c.args.id) c.args.self.now.queued c.args.self.now.next c.args.self.now.queued c.args.self.now.next
             stands.queued there more stands.queued.bound;
-        blocks = stands.blocks;
-        clean = stands.clean;
-        waiting = stands.waiting;
+        manager = managed_kept s c.args.flusher it c.args.self.now.manager queued (record { own = refl; ready = refl }) stands.manager;
+        has = blocks_kept s c.args.flusher it queued (record { own = refl; ready = refl }) stands.has;
         reclaims = stands.reclaims;
         destroy = stands.destroy;
       };

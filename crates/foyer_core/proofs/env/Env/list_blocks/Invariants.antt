@@ -1,0 +1,6 @@
+use Rattle.std.proofs.Common.{◌≡◌}
+use Rattle.foyer_model.specs.Ids.{ids}
+use Rattle.foyer_core.proofs.env.Env.list_blocks.Given as goal
+
+abbrev pub invariant-each_block : goal.invariant-each_block
+invariant-each_block l = l.self.own.items ≡ ids l.block
