@@ -17,7 +17,7 @@ use foyer_device::error::Result;
 use foyer_format::serde::{Code, Properties};
 use std::alloc::{Allocator, Global};
 
-/// Opens a core that finds nothing, runs the moves over a disk, and gives their replies. `Config` where the settings
+/// Opens a core that finds nothing, runs the moves over a disk with what is lent, and gives their replies. `Config` where the settings
 /// don't go together, else `Memory` alone.
 ///
 /// The replies are those of events of a world that began with that core over the disk's bytes: what a load answers was
@@ -25,6 +25,7 @@ use std::alloc::{Allocator, Global};
 /// was enqueued.
 pub fn open_and_run<K, V, P, A, D>(
     alloc: A,
+    env: &mut Env,
     settings: Settings,
     disk: &mut D,
     moves: Vec<Move<K, V, P, A>, A>,
@@ -43,12 +44,12 @@ where
         (meaning K.encoding V.encoding K.is_encodable V.is_encodable K.is_decodable V.is_decodable P.age)
         settings sound bytes moves.items replies.items) }
 {
-    let mut core = Core::open(alloc, settings)?;
-    let replies = run(&mut core, &mut Env {}, disk, moves)?;
+    let mut core = Core::open(alloc, env, settings)?;
+    let replies = run(&mut core, env, disk, moves)?;
     Ok(replies)
 }
 
-/// The same over zeroed memory, for keys that are numbers and values that are texts. `OutOfRange` too, where the sizes'
+/// The same over zeroed memory with the default pickers, for keys that are numbers and values that are texts. `OutOfRange` too, where the sizes'
 /// product passes the type's end.
 pub fn run_texts<P: Properties + Drop>(
     alloc: Global,
@@ -62,6 +63,7 @@ pub fn run_texts<P: Properties + Drop>(
         → IsLawful (of_texts P.age) settings sound (λ b o. 0) moves.items replies.items) }
 {
     let mut disk = MemoryDisk::new(alloc, settings.blocks, settings.block_size)?;
-    let replies = open_and_run(alloc, settings, &mut disk, moves)?;
+    let mut env = Env::with_default_pickers(alloc, 0)?;
+    let replies = open_and_run(alloc, &mut env, settings, &mut disk, moves)?;
     Ok(replies)
 }

@@ -1,7 +1,10 @@
 //! An engine over the files of a directory.
 use crate::answer::name_of;
 use crate::engine::Engine;
+use crate::options::GENERATOR_SEED;
+use foyer_blockio::disk::Disk;
 use foyer_blockio::partitions::{Partitions, create_blocks};
+use foyer_core::apply::Env;
 use foyer_core::settings::Settings;
 use foyer_device::error::{Error, ErrorKind};
 use foyer_disk::io::device::{Device, DeviceBuilder, FsDeviceBuilder, FsPartition};
@@ -41,12 +44,12 @@ pub fn open_directory<R, A>(
     settings: Settings,
 ) -> Result<Engine<A, FileBlocks<R::A, A>>, Failed>
 where
-    R: Files<File = File> + Alloc,
+    R: Files<File = File> + AllocGlobal,
     A: Allocator + Clone,
 {
     let disk = open_blocks(rt, alloc, directory, capacity, settings)?;
     let opened = match alloc.clone() {
-        Ok(own) => Engine::with_disk(own, settings, disk),
+        Ok(own) => open_engine(rt, own, settings, disk),
         Err(error) => Err(Error::from(error)),
     };
     match opened {
@@ -63,7 +66,7 @@ fn open_blocks<R, A>(
     settings: Settings,
 ) -> Result<FileBlocks<R::A, A>, Failed>
 where
-    R: Files<File = File> + Alloc,
+    R: Files<File = File> + AllocGlobal,
     A: Allocator + Clone,
 {
     let builder = FsDeviceBuilder::new(directory).with_capacity(capacity);
@@ -100,6 +103,16 @@ where
         Ok(engine) => Ok(Partitions::new(engine, blocks)),
         Err(error) => Err(stopped_at("a file of a block", error)),
     }
+}
+
+fn open_engine<R: AllocGlobal, A: Allocator + Clone, D: Disk + Drop>(
+    rt: &R,
+    alloc: A,
+    settings: Settings,
+    disk: D,
+) -> Result<Engine<A, D>, Error> {
+    let env = Env::with_default_pickers(rt.alloc(), GENERATOR_SEED)?;
+    Engine::with_disk(alloc, env, settings, disk)
 }
 
 /// Says on a line of its own what of a directory couldn't be opened.

@@ -126,8 +126,9 @@ pub struct Engine<A: Allocator, D: Disk + Drop> {
 }
 
 impl<A: Allocator + Clone> Engine<A, MemoryDisk<A>> {
-    /// Opens an engine that finds nothing, over zeroed memory that has every block.
-    pub fn open(alloc: A, settings: Settings) -> Result<Engine<A, MemoryDisk<A>>>
+    /// Opens an engine that finds nothing, over zeroed memory that has every block; `env` has its pickers and its
+    /// generator.
+    pub fn open(alloc: A, env: Env, settings: Settings) -> Result<Engine<A, MemoryDisk<A>>>
         ensures sound { IfOk result (λ _. AreValid settings) }
         ensures begins { IfOk result (λ engine. (sound : AreValid settings) → IsHistory plain settings sound (λ b o. 0) []
             engine.core (⟦<MemoryDisk<A> as Disk>⟧.byte_at engine.disk)) }
@@ -137,13 +138,18 @@ impl<A: Allocator + Clone> Engine<A, MemoryDisk<A>> {
             × (engine.disk.block_size ≡ settings.block_size)) }
     {
         let disk = MemoryDisk::new(alloc.clone()?, settings.blocks, settings.block_size)?;
-        Engine::with_disk(alloc, settings, disk)
+        Engine::with_disk(alloc, env, settings, disk)
     }
 }
 
 impl<A: Allocator + Clone, D: Disk + Drop> Engine<A, D> {
-    /// Opens an engine that finds nothing, whatever the disk holds.
-    pub fn with_disk(alloc: A, settings: Settings, disk: D) -> Result<Engine<A, D>>
+    /// Opens an engine that finds nothing, whatever the disk holds; `env` has its pickers and its generator.
+    pub fn with_disk(
+        alloc: A,
+        mut env: Env,
+        settings: Settings,
+        disk: D,
+    ) -> Result<Engine<A, D>>
         ensures sound { IfOk result (λ _. AreValid settings) }
         ensures begins { IfOk result (λ engine. (sound : AreValid settings) → IsHistory plain settings sound (D.byte_at disk) []
             engine.core (D.byte_at engine.disk)) }
@@ -151,8 +157,8 @@ impl<A: Allocator + Clone, D: Disk + Drop> Engine<A, D> {
         ensures disk { IfOk result (λ engine. engine.disk ≡ disk) }
     {
         Ok(Engine {
-            core: Core::open(alloc.clone()?, settings)?,
-            env: Env {},
+            core: Core::open(alloc.clone()?, &mut env, settings)?,
+            env,
             disk,
             spare: Vec::new(alloc.clone()?),
             next_wait: 0,

@@ -11,6 +11,9 @@ pub const USAGE: &str = "usage: foyerdisk DIR CAPACITY BLOCK\n";
 /// The directory that stands for memory.
 pub const MEMORY: &str = ":memory:";
 
+/// What the generator begins with that picks a block where no picker does.
+pub const GENERATOR_SEED: u64 = 0;
+
 /// `DIR CAPACITY BLOCK`, the numbers in bytes.
 #[derive(Clone, Copy, Debug, PartialEq, Eq)]
 pub struct Options<'a> {

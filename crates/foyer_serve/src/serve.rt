@@ -4,9 +4,10 @@ use crate::command::Command;
 use crate::directory::{open_directory, report};
 use crate::engine::{Answer, Engine};
 use crate::lines::{Filled, Lines};
-use crate::options::{Options, USAGE};
+use crate::options::{GENERATOR_SEED, Options, USAGE};
 use foyer_blockio::disk::Disk;
 use foyer_blockio::memory::MemoryDisk;
+use foyer_core::apply::Env;
 use foyer_core::settings::Settings;
 use foyer_device::error::{ErrorKind, Result};
 use std::alloc::Allocator;
@@ -39,7 +40,7 @@ pub fn serve<T, A, B, R, W, E>(
     mut errors: E,
 ) -> u8
 where
-    T: Files<File = File> + Alloc,
+    T: Files<File = File> + AllocGlobal,
     A: Allocator + Clone,
     B: Allocator,
     R: Read + Drop,
@@ -56,7 +57,7 @@ where
         Err(error) => return answer_fault(output, error.kind()),
     };
     if options.is_memory() {
-        return match open_memory(&alloc, settings) {
+        return match open_memory(rt, &alloc, settings) {
             Ok(engine) => answer_input(alloc, engine, input, output),
             Err(error) => answer_fault(output, error.kind()),
         };
@@ -71,11 +72,13 @@ where
     }
 }
 
-fn open_memory<A: Allocator + Clone>(
+fn open_memory<T: AllocGlobal, A: Allocator + Clone>(
+    rt: &T,
     alloc: &A,
     settings: Settings,
 ) -> Result<Engine<A, MemoryDisk<A>>> {
-    Engine::open(alloc.clone()?, settings)
+    let env = Env::with_default_pickers(rt.alloc(), GENERATOR_SEED)?;
+    Engine::open(alloc.clone()?, env, settings)
 }
 
 fn answer_fault<W: Write + Drop>(mut output: W, kind: ErrorKind) -> u8 {

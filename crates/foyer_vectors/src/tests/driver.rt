@@ -28,6 +28,7 @@ struct Issued<A: Allocator> {
 #[derive(Drop)]
 pub struct Driver<A: Allocator + Clone> {
     pub core: TestCore<A>,
+    env: Env,
     pub disk: Failing<MemoryDisk<A>>,
     tickets: Vec<Ticket>,
     issued: Vec<Option<Issued<A>>>,
@@ -42,7 +43,8 @@ pub fn new_driver<A: Allocator + Clone>(
     fails_at: u64,
     comes_again: bool,
 ) -> Result<Driver<A>> {
-    let core = Core::open(heap.clone()?, settings)?;
+    let mut env = Env::with_default_pickers(alloc, 0)?;
+    let core = Core::open(heap.clone()?, &mut env, settings)?;
     let memory = MemoryDisk::new(heap.clone()?, settings.blocks, settings.block_size)?;
     let mut issued = Vec::new(alloc);
     for _ in 0..settings.flushers {
@@ -50,6 +52,7 @@ pub fn new_driver<A: Allocator + Clone>(
     }
     Ok(Driver {
         core,
+        env,
         disk: Failing::new(memory, fails_at, 100),
         tickets: Vec::new(alloc),
         issued,
@@ -216,9 +219,9 @@ pub fn describe_all<A: Allocator>(
 
 // Applies a step.
 fn apply<A: Allocator + Clone>(driver: &mut Driver<A>, step: Life<A>) -> TestReply<A> {
-    match driver.core.apply(&mut Env {}, step) {
+    match driver.core.apply(&mut driver.env, step) {
         Reply::Refused(ErrorKind::Memory, back) if driver.comes_again => {
-            driver.core.apply(&mut Env {}, back)
+            driver.core.apply(&mut driver.env, back)
         }
         other => other,
     }

@@ -88,6 +88,7 @@ type Life<A> = Step<u64, Value<A>, TestAge, A>;
 #[derive(Drop)]
 struct Driven<A: Allocator + Clone> {
     core: TestCore<A>,
+    env: Env,
     disk: Failing<MemoryDisk<A>>,
     ticket: Option<Ticket>,
     replies: Vec<TestReply<A>>,
@@ -199,9 +200,9 @@ fn step_of<A: Allocator + Clone>(
 
 // Applies a step, and where it is to come again one that is refused for memory once more.
 fn apply<A: Allocator + Clone>(driven: &mut Driven<A>, step: Life<A>) -> TestReply<A> {
-    match driven.core.apply(&mut Env {}, step) {
+    match driven.core.apply(&mut driven.env, step) {
         Reply::Refused(ErrorKind::Memory, back) if driven.comes_again => {
-            driven.core.apply(&mut Env {}, back)
+            driven.core.apply(&mut driven.env, back)
         }
         other => other,
     }
@@ -273,10 +274,12 @@ fn opened<'a>(
         buffer_pool_size: 65536,
         ..Settings::new(2, 32768)
     };
-    let core = Core::open(heap, settings)?;
+    let mut env = Env::with_default_pickers(alloc, 0)?;
+    let core = Core::open(heap, &mut env, settings)?;
     let memory = MemoryDisk::new(heap, settings.blocks, settings.block_size)?;
     Ok(Driven {
         core,
+        env,
         disk: Failing::new(memory, way.fails_at, 100),
         ticket: None,
         replies: Vec::new(alloc),

@@ -13,11 +13,12 @@ use std::test::Fail;
 
 /// A core by itself gives one reply to each step, and touches no disk.
 fn first_sequence(alloc: Global) -> Result<Option<u64>> {
-    let mut core = Core::open(alloc, Settings::new(1, 16384))?;
+    let mut env = Env::with_default_pickers(alloc, 0)?;
+    let mut core = Core::open(alloc, &mut env, Settings::new(1, 16384))?;
     let value = String::from_str(alloc, "a")?;
     let piece = Piece::new(alloc, 1u64, value, 1, NoProperties)?;
     let size = EntrySerializer::estimated_size::<Global, u64, String>(piece.key(), piece.value());
-    match core.apply(&mut Env {}, Step::Enqueue { piece, size }) {
+    match core.apply(&mut env, Step::Enqueue { piece, size }) {
         Reply::Queued(sequence) => Ok(Some(sequence)),
         _ => Ok(None),
     }
@@ -25,7 +26,8 @@ fn first_sequence(alloc: Global) -> Result<Option<u64>> {
 
 /// The program's engine drives a core over a disk in memory.
 fn is_read_back(alloc: Global) -> Result<bool> {
-    let mut engine = Engine::open(alloc, Settings::new(1, 16384))?;
+    let env = Env::with_default_pickers(alloc, 0)?;
+    let mut engine = Engine::open(alloc, env, Settings::new(1, 16384))?;
     let _ = engine.put(1, "a");
     let _ = engine.wait();
     match engine.get(1) {

@@ -182,10 +182,11 @@ fn run_over(
     fails_at: u64,
     script: &str,
 ) -> Result<(String, bool)> {
-    let mut core = Core::open(alloc, settings)?;
+    let mut env = Env::with_default_pickers(alloc, 0)?;
+    let mut core = Core::open(alloc, &mut env, settings)?;
     let memory = MemoryDisk::new(alloc, settings.blocks, settings.block_size)?;
     let mut disk = Failing::new(memory, fails_at, 100);
-    let replies = run(&mut core, &mut Env {}, &mut disk, moves_of(alloc, script)?)?;
+    let replies = run(&mut core, &mut env, &mut disk, moves_of(alloc, script)?)?;
     Ok((words_of(alloc, replies.as_slice())?, disk.has_failed()))
 }
 

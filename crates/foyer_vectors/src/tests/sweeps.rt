@@ -2,6 +2,7 @@
 use crate::tests::program::print_of;
 use crate::tests::steps::{check, small};
 use foyer_blockio::memory::MemoryDisk;
+use foyer_core::apply::Env;
 use foyer_device::error::{Error, ErrorKind};
 use foyer_format_vectors::refusing::Refusing;
 use foyer_serve::engine::{Answer, Engine};
@@ -67,7 +68,8 @@ fn answers_of(
     alloc: Global,
     heap: &Refusing<Global>,
 ) -> foyer_device::error::Result<Option<(String, bool)>> {
-    let mut engine = match Engine::open(heap, small(2)) {
+    let env = Env::with_default_pickers(alloc, 0)?;
+    let mut engine = match Engine::open(heap, env, small(2)) {
         Ok(engine) => engine,
         Err(Error::Memory) => return Ok(None),
         Err(error) => return Err(error),
