@@ -11,7 +11,7 @@ pub const USAGE: &str = "usage: foyerdisk DIR CAPACITY BLOCK\n";
 /// The directory that stands for memory.
 pub const MEMORY: &str = ":memory:";
 
-/// What the generator begins with that picks a block where no picker does.
+/// Of the generator that chooses a block where no picker picks one: each run chooses alike.
 pub const GENERATOR_SEED: u64 = 0;
 
 /// `DIR CAPACITY BLOCK`, the numbers in bytes.
