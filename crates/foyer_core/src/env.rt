@@ -15,7 +15,7 @@ use std::alloc::Global;
 #[derive(Drop)]
 pub struct Env {
     pub(crate) pickers: Vec<BuiltInPicker>,
-    // The ids that pickers are told of, or put on probation.
+    // The ids that pickers learn of, or put on probation.
     pub(crate) own: Vec<BlockId>,
     pub(crate) generator: Pcg32,
 }

@@ -1,9 +1,7 @@
 //! Runs of the core over a disk.
 ghost use Rattle.std.specs.Prelude.{◌≡◌, [], replicate, ◌+◌, ◌<◌, ◌≤◌, ℕ, length, vec_len, vec_capacity, slice_get, slice_set, true, false, Some, None, ◌⊎◌, ◌^◌, MatchBool, MatchOption, IfSome, IsOk, OnOk, OnErr, IfOk, IfErr};
 ghost use Rattle.foyer_device.specs.declared.error.Error.TheVariants.{Memory};
-ghost use Rattle.foyer_format.specs.Page.{page_up};
 ghost use Rattle.foyer_rules.specs.Content.{meaning};
-ghost use Rattle.foyer_blockio.specs.Disk.{IsRead, IsWritten, IsTorn};
 ghost use Rattle.foyer_run.specs.Moves.{asked};
 ghost use Rattle.foyer_run.specs.Running.{AsksFreely, IsFree, Moves, ticket_in, block_in, with_ticket, write_at, at};
 ghost use Rattle.foyer_run.specs.Runs.{Runs, IsFront};
