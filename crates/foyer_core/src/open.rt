@@ -61,7 +61,8 @@ fn clean_blocks<A: Allocator + Clone>(
 
 impl<K: Drop, V: Drop, P: Drop, A: Allocator + Clone> Core<K, V, P, A> {
     /// Opens a core that finds nothing: no block is read, every block is clean, in the order of their ids, and the
-    /// first sequence is 1. The pickers learn of the blocks. `Config` where the settings don't go together, else `Memory` alone.
+    /// first sequence is 1. The pickers learn of the blocks. `Config` where the settings don't go together, else
+    /// `Memory` alone.
     pub fn open(alloc: A, env: &mut Env, settings: Settings) -> Result<Core<K, V, P, A>>
         ensures opened { IfOk result (IsOpened settings) }
         ensures sound { IfOk result (λ _. AreValid settings) }
