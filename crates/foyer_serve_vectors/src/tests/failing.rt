@@ -1,6 +1,7 @@
 //! An engine over a device of which each call fails in turn.
 use foyer_blockio::disk::Disk;
 use foyer_blockio::partitions::{Partitions, create_blocks};
+use foyer_core::apply::Env;
 use foyer_core::settings::Settings;
 use foyer_device::error::{ErrorKind, Result};
 use foyer_disk::io::device::{DeviceBuilder, MemoryDeviceBuilder, MemoryPartition};
@@ -67,7 +68,8 @@ fn check(
         buffer_pool_size: 16384,
         ..Settings::new(2, 16384)
     };
-    let mut engine = Engine::with_disk(rt.alloc(), settings, disk)?;
+    let env = Env::with_default_pickers(rt.alloc(), 0)?;
+    let mut engine = Engine::with_disk(rt.alloc(), env, settings, disk)?;
     let answers = answers_of(rt.alloc(), &mut engine)?;
     assert_eq!(*rt; answers.as_str(), wanted, "call {n}, {kept} bytes");
     Ok(())

@@ -1,6 +1,7 @@
 //! The same calls over memory, over memory behind a device, and over a directory.
 use foyer_blockio::disk::Disk;
 use foyer_blockio::partitions::open_in_memory;
+use foyer_core::apply::Env;
 use foyer_core::settings::Settings;
 use foyer_device::error::Result;
 use foyer_serve::directory::open_directory;
@@ -63,11 +64,13 @@ fn calls_are_answered_alike_over_memory_and_files(
 ) -> std::result::Result<(), Fail> {
     let alloc = rt.alloc();
     let settings = Settings::new(BLOCKS, 16384);
-    let mut plain = Engine::open(alloc, settings)?;
+    let env = Env::with_default_pickers(alloc, 0)?;
+    let mut plain = Engine::open(alloc, env, settings)?;
     let counts = counts_of(alloc, &mut plain)?;
     assert_eq!(rt; counts, (22, 3, 0));
     let disk = open_in_memory(&rt, &alloc, BLOCKS, 16384)?;
-    let mut behind = Engine::with_disk(alloc, settings, disk)?;
+    let env = Env::with_default_pickers(alloc, 0)?;
+    let mut behind = Engine::with_disk(alloc, env, settings, disk)?;
     assert_eq!(rt; counts_of(alloc, &mut behind)?, counts);
     let Ok(mut files) = open_directory(&rt, &alloc, "alike", 40 * 16384, settings) else {
         return Err(Fail::new("the directory isn't opened"));

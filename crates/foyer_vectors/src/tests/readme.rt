@@ -24,7 +24,7 @@ fn first_sequence(alloc: Global) -> Result<Option<u64>> {
     }
 }
 
-/// The program's engine drives a core over a disk in memory.
+/// The program's engine drives a core over a disk: `with_disk` takes any, `open` one in memory.
 fn is_read_back(alloc: Global) -> Result<bool> {
     let env = Env::with_default_pickers(alloc, 0)?;
     let mut engine = Engine::open(alloc, env, Settings::new(1, 16384))?;
