@@ -1,0 +1,6 @@
+pub mod KeptLemmas
+pub mod ChainLemmas
+pub mod FoundLemmas
+pub mod BlocksLemmas
+pub mod MarkLemmas
+pub mod OpeningLemmas

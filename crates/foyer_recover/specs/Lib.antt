@@ -1,0 +1,5 @@
+pub mod Opening
+pub mod Kept
+pub mod Chained
+pub mod BlocksKept
+pub mod Recovery

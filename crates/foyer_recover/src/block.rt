@@ -1,0 +1,7 @@
+//! Blocks.
+
+mod blocks;
+mod chain;
+mod kept;
+mod marks;
+pub mod recover;
