@@ -11,7 +11,7 @@ use Rattle.foyer_model.proofs.Basics.{Ascends}
 use Rattle.foyer_restart.specs.Entries.{In}
 use Rattle.foyer_restart.specs.Restart.{IsScanned}
 use Rattle.foyer_restart.specs.Restart.IsScanned.{here, later}
-use Rattle.foyer_restart.specs.Opening.{Found, Stands, hash_of, sequence_of, first_or, winner, stand_in, all_stand}
+use Rattle.foyer_recover.specs.Opening.{Found, Stands, hash_of, sequence_of, first_or, winner, stand_in, all_stand}
 
 pub in_left : {A : Type 0} (x : A) (xs ys : List A) → In x xs → In x (xs ++ ys)
 in_left x [] ys i = absurd i

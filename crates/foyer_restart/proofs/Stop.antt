@@ -21,17 +21,19 @@ use Rattle.foyer_model.proofs.Invariant.{Each, WorldInvariant, writing_in, place
 use Rattle.foyer_model.proofs.AccessEvents.{beside_not_in}
 use Rattle.foyer_model.proofs.CommitSteps.{each_front}
 use Rattle.foyer_restart.specs.Entries.{In, sizes_of, plain, entry_at, entry_done}
-use Rattle.foyer_restart.specs.Opening.{Mode, Nothing, Quiet, Strict, Found, Stands, hash_of, sequence_of, winner, opened_at, slot_of, all_stand, Keeps, Opened, Opens}
+use Rattle.foyer_recover.specs.Opening.{Found, Stands, hash_of, sequence_of, winner, opened_at, slot_of, all_stand, Keeps, Opened, Opens}
+use Rattle.foyer_recover.specs.declared.block.recover.RecoverMode.{RecoverMode}
+use Rattle.foyer_recover.specs.declared.block.recover.RecoverMode.TheVariants as recover_mode
 use Rattle.foyer_restart.specs.Restart.{IsStopped, HasNoStrays, IsScanned, IsBeingWritten, IsFoundAgain, IsFoundNewer, no_fault}
 use Rattle.foyer_restart.proofs.Members.{in_left, rising_in, rising_front, chain_scans, all_stand_in, all_stand_out, winner_is, winner_found}
 use Rattle.foyer_restart.proofs.Tasks.{Entry, IsSparedBy, IsWrittenIn, RoleOk, ListsOnly}
 use Rattle.foyer_restart.proofs.Safe.{sight_of, Job, job_of, job_in, left_in, SourceIs, IsOf, RecordIs, IsSlot, IsDead, IsJob, WasDone, IsInJob, puts_in, IsSafe}
 use Rattle.foyer_restart.proofs.Puts.{in_puts}
 
-keeps_listed : (s : laid.Sizes) (mode : Mode) (B : ℕ → ℕ) (failed : ℕ → Bool) (es : List Entry) → mode ≢ Nothing → Keeps s mode B failed es → (ls : List Entry) × Lists s B failed ls × (es ≡ kept ls)
-keeps_listed s Nothing B failed es some keeps = absurd (some refl)
-keeps_listed s Quiet B failed es some keeps = keeps
-keeps_listed s Strict B failed es some keeps = keeps
+keeps_listed : (s : laid.Sizes) (mode : RecoverMode) (B : ℕ → ℕ) (failed : ℕ → Bool) (es : List Entry) → mode ≢ recover_mode.None → Keeps s mode B failed es → (ls : List Entry) × Lists s B failed ls × (es ≡ kept ls)
+keeps_listed s recover_mode.None B failed es some keeps = absurd (some refl)
+keeps_listed s recover_mode.Quiet B failed es some keeps = keeps
+keeps_listed s recover_mode.Strict B failed es some keeps = keeps
 
 or_false : (p q : Bool) → p ≡ false → q ≡ false → (p || q) ≡ false
 or_false false q e f = f
@@ -119,7 +121,7 @@ module _ (A : Type 0) {C : Type 0} (rules : Rules C) (w : World C) (sound : Worl
       ])
 
   -- what an opening keeps of a block with an indexed address that isn't being written
-  keeps_put : (bytes : ℕ → ℕ → ℕ) (mode : Mode) (b : ℕ) (es : List Entry) (e : Entry) → IsStopped rules w bytes → mode ≢ Nothing
+  keeps_put : (bytes : ℕ → ℕ → ℕ) (mode : RecoverMode) (b : ℕ) (es : List Entry) (e : Entry) → IsStopped rules w bytes → mode ≢ recover_mode.None
       → (IsDead w.core.place w.core.reclaims b → ⊥) → (IsJob job b → ⊥) → In e (puts b) → Keeps s mode (bytes b) (no_fault b) es → In e es
   keeps_put bytes mode b es e stopped some alive no_job i keeps =
       let k : (ls : List Entry) × Lists s (bytes b) (no_fault b) ls × (es ≡ kept ls) = keeps_listed s mode (bytes b) (no_fault b) es some keeps in
@@ -134,7 +136,7 @@ module _ (A : Type 0) {C : Type 0} (rules : Rules C) (w : World C) (sound : Worl
           (dry b o alive (λ none. subst (λ l. In e l) none i)))
 
   -- what an opening keeps was committed, or is being written
-  kept_known : (bytes : ℕ → ℕ → ℕ) (mode : Mode) (b : ℕ) (es : List Entry) (e : Entry) → b < rules.blocks → HasNoStrays rules w bytes → mode ≢ Nothing → Keeps s mode (bytes b) (no_fault b) es → In e es
+  kept_known : (bytes : ℕ → ℕ → ℕ) (mode : RecoverMode) (b : ℕ) (es : List Entry) (e : Entry) → b < rules.blocks → HasNoStrays rules w bytes → mode ≢ recover_mode.None → Keeps s mode (bytes b) (no_fault b) es → In e es
       → WasDone w.committed b e ⊎ IsInJob job w.bytes (λ f. left_in (w.block_writes f)) b e
   kept_known bytes mode b es e lt strays some keeps i =
       let k : (ls : List Entry) × Lists s (bytes b) all_read ls × (es ≡ kept ls) = keeps_listed s mode (bytes b) (no_fault b) es some keeps in
@@ -173,7 +175,7 @@ module _ (A : Type 0) {C : Type 0} (rules : Rules C) (w : World C) (sound : Worl
   job_place f b ps is = (sound.flushers f).owned b (job_own f b ps is)
 
   pub found : (reclaimed : (b : ℕ) → IsAt ToClean (w.core.reclaims b) → w.core.place b ≡ Rattle.foyer_model.specs.State.BlockSet.Reclaims)
-      → (bytes : ℕ → ℕ → ℕ) (mode : Mode) (o : Opened) (h : ℕ) (a : Address) → IsStopped rules w bytes → HasNoStrays rules w bytes → mode ≢ Nothing
+      → (bytes : ℕ → ℕ → ℕ) (mode : RecoverMode) (o : Opened) (h : ℕ) (a : Address) → IsStopped rules w bytes → HasNoStrays rules w bytes → mode ≢ recover_mode.None
       → Opens s rules.blocks bytes mode no_fault [] o → w.core.index h ≡ Some (Indexed a) → (IsBeingWritten w.core a.block → ⊥)
       → IsFoundAgain o h a ⊎ IsFoundNewer w bytes o h a
   found reclaimed bytes mode o h a stopped strays some opens indexed not_written =

@@ -10,7 +10,9 @@ use Rattle.foyer_model.specs.Record.{IndexEntry}
 use Rattle.foyer_model.specs.Rules.{Rules}
 use Rattle.foyer_restart.specs.Entries.{sizes_of, entry_in}
 use Rattle.foyer_restart.specs.Real.{IsFormat}
-use Rattle.foyer_restart.specs.Opening.{Mode, Nothing, Quiet, Strict, Keeps, winner, slot_of, all_stand, greatest, clean_from, Opened, Opens}
+use Rattle.foyer_recover.specs.Opening.{Keeps, winner, slot_of, all_stand, greatest, clean_from, Opened, Opens}
+use Rattle.foyer_recover.specs.declared.block.recover.RecoverMode.{RecoverMode}
+use Rattle.foyer_recover.specs.declared.block.recover.RecoverMode.TheVariants as recover_mode
 use Rattle.foyer_restart.specs.Restart.{no_fault}
 use Rattle.foyer_restart.specs.Total.{ListsExist, OpensUnlessLast}
 use Rattle.foyer_restart.proofs.Tasks.{Entry}
@@ -52,10 +54,10 @@ module _ {C : Type 0} (rules : Rules C) (format : IsFormat rules) where
   pub lists_exist_lem : ListsExist rules
   lists_exist_lem B failed = let k : (es : List Entry) × (q : ℕ) × Chain (sizes_of rules) B failed 0 es q = chain_from rules.block_size B failed 0 (omega arith) in (k.0, record { end = k.1; chain = k.2 })
 
-  keeps_of : (bytes : ℕ → ℕ → ℕ) (mode : Mode) (b : ℕ) → (es : List Entry) × Keeps (sizes_of rules) mode (bytes b) (no_fault b) es
-  keeps_of bytes Nothing b = ([], refl)
-  keeps_of bytes Quiet b = let k : (es : List Entry) × Lists (sizes_of rules) (bytes b) (no_fault b) es = lists_exist_lem (bytes b) (no_fault b) in (kept k.0, (k.0, k.1, refl))
-  keeps_of bytes Strict b = let k : (es : List Entry) × Lists (sizes_of rules) (bytes b) (no_fault b) es = lists_exist_lem (bytes b) (no_fault b) in (kept k.0, (k.0, k.1, refl))
+  keeps_of : (bytes : ℕ → ℕ → ℕ) (mode : RecoverMode) (b : ℕ) → (es : List Entry) × Keeps (sizes_of rules) mode (bytes b) (no_fault b) es
+  keeps_of bytes recover_mode.None b = ([], refl)
+  keeps_of bytes recover_mode.Quiet b = let k : (es : List Entry) × Lists (sizes_of rules) (bytes b) (no_fault b) es = lists_exist_lem (bytes b) (no_fault b) in (kept k.0, (k.0, k.1, refl))
+  keeps_of bytes recover_mode.Strict b = let k : (es : List Entry) × Lists (sizes_of rules) (bytes b) (no_fault b) es = lists_exist_lem (bytes b) (no_fault b) in (kept k.0, (k.0, k.1, refl))
 
   pub opens_unless_last_lem : OpensUnlessLast rules
   opens_unless_last_lem bytes mode = go (nat_lt (greatest (all_stand 0 rules.blocks keeps ++ []) + 1) (2 ^ 64)) refl

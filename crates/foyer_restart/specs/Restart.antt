@@ -16,7 +16,9 @@ use Rattle.foyer_model.specs.Opened.{IsOpened}
 use Rattle.foyer_model.specs.Laws.{Demands}
 use Rattle.foyer_restart.specs.Entries.{In, sizes_of}
 use Rattle.foyer_restart.specs.Real.{IsReal}
-use Rattle.foyer_restart.specs.Opening.{Mode, Nothing, Opened, Opens}
+use Rattle.foyer_recover.specs.Opening.{Opened, Opens}
+use Rattle.foyer_recover.specs.declared.block.recover.RecoverMode.{RecoverMode}
+use Rattle.foyer_recover.specs.declared.block.recover.RecoverMode.TheVariants as recover_mode
 
 -- the runs of which the law speaks
 
@@ -111,18 +113,18 @@ no_fault b p = false
 -- block wasn't being written, is found again, or a newer record of its hash is found, which the run had wholly written.
 abbrev pub FindsAgain : {C : Type 0} → Rules C → Splitting C → (C → Type 0) → Type 0
 FindsAgain {C} rules Splits is_value =
-    (w : World C) (bytes : ℕ → ℕ → ℕ) (mode : Mode) (o : Opened) (h : ℕ) (a : Address)
+    (w : World C) (bytes : ℕ → ℕ → ℕ) (mode : RecoverMode) (o : Opened) (h : ℕ) (a : Address)
     → IsRun rules Splits is_value w → IsStopped rules w bytes → HasNoStrays rules w bytes
-    → mode ≢ Nothing → Opens (sizes_of rules) rules.blocks bytes mode no_fault [] o
+    → mode ≢ recover_mode.None → Opens (sizes_of rules) rules.blocks bytes mode no_fault [] o
     → w.core.index h ≡ Some (Indexed a) → (IsBeingWritten w.core a.block → ⊥)
     → IsFoundAgain o h a ⊎ IsFoundNewer w bytes o h a
 
 -- Where no flush was under way, each address that the index had is found again.
 abbrev pub FindsAll : {C : Type 0} → Rules C → Splitting C → (C → Type 0) → Type 0
 FindsAll {C} rules Splits is_value =
-    (w : World C) (bytes : ℕ → ℕ → ℕ) (mode : Mode) (o : Opened) (h : ℕ) (a : Address)
+    (w : World C) (bytes : ℕ → ℕ → ℕ) (mode : RecoverMode) (o : Opened) (h : ℕ) (a : Address)
     → IsRun rules Splits is_value w → IsStopped rules w bytes → HasNoStrays rules w bytes
-    → mode ≢ Nothing → Opens (sizes_of rules) rules.blocks bytes mode no_fault [] o
+    → mode ≢ recover_mode.None → Opens (sizes_of rules) rules.blocks bytes mode no_fault [] o
     → w.core.index h ≡ Some (Indexed a) → ((f : ℕ) (r : Writing C) → IsWriting w.core f r → ⊥)
     → IsFoundAgain o h a
 

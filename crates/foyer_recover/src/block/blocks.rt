@@ -72,7 +72,7 @@ pub(crate) fn read_none<A: Allocator + Clone>(
 {
     let mut read = BlocksRead::none(alloc, shards)?;
     read.clean.reserve(blocks as usize)?;
-    'each_block: for block in 0..blocks {
+    'each_id: for block in 0..blocks {
         read.clean.push(block)?;
     }
     Ok(read)
