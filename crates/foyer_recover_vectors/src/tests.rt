@@ -1,0 +1,4 @@
+mod disk;
+mod random;
+mod rows;
+mod slow;
