@@ -13,7 +13,7 @@ use std::test::Fail;
 
 const BLOCKS: u32 = 3;
 
-// Below 64, often low.
+// Below the bound.
 fn draw(generator: &mut Pcg32, below: u32) -> u32 {
     let word = generator.next_word();
     if below == 0 { 0 } else { word % below }
@@ -30,7 +30,8 @@ fn draw_sequence(generator: &mut Pcg32) -> u64 {
 fn draw_index(alloc: Global, generator: &mut Pcg32) -> Result<[u8; 4096], Fail> {
     let mut entries: Vec<BlobEntryIndex> = Vec::new(alloc);
     let mut least = draw_sequence(generator);
-    for _ in 0..draw(generator, 4) {
+    let drawn = draw(generator, 4);
+    for _ in 0..drawn {
         if draw(generator, 4) == 0 {
             least = draw_sequence(generator);
         }
@@ -52,7 +53,7 @@ fn draw_index(alloc: Global, generator: &mut Pcg32) -> Result<[u8; 4096], Fail> 
     let count = match draw(generator, 30) {
         0 => 171,
         1 => 170,
-        _ => entries.len() as u32,
+        _ => drawn,
     };
     let mut bytes = page(&entries, count);
     if draw(generator, 16) == 0 {
