@@ -1,5 +1,5 @@
 //! Engines that read and write the partitions of a device.
-ghost use Rattle.std.specs.Prelude.{◌≡◌, ℕ, ◌≤◌, ◌↔◌, ◌+◌, Option, Err, IsSome, IsTrue, IfSome, IfErr, OnOk, MatchResult, length};
+ghost use Rattle.std.specs.Prelude.{◌≡◌, ℕ, ◌≤◌, ◌↔◌, ◌+◌, Option, None, Err, IsSome, IsTrue, IfSome, IfErr, OnOk, MatchResult, length};
 ghost use Rattle.foyer_io.specs.Disk.{Disk, IfKnown, Becomes, CanAccess, DidRead, DidWrite, MayTear, IsAccessFault};
 ghost use Rattle.foyer_device.specs.declared.error.Error.TheVariants as error;
 
@@ -28,7 +28,7 @@ pub use shared_memory::{SharedMemoryIoEngine, SharedMemoryIoEngineConfig};
 /// Reads and writes partitions. A refused call is OutOfRange, where the range isn't there, and nothing was touched, or
 /// Io, where the device failed.
 pub trait IoEngine {
-    // The bytes of the files, where the engine shows them: one over a system's files doesn't.
+    // The bytes of the files, where the engine shows them: one over a system's files doesn't, and never does.
     ghost disk: { Self → Option Disk };
 
     // The faults of its reads and writes, up to 2^64 - 1.
@@ -66,6 +66,7 @@ pub trait IoEngine {
         ensures written { Becomes (disk self.old) (disk self.new) (λ d e. IfSome result (λ r. MatchResult r.1
             (λ _. DidWrite d (P.extent partition.now) (P.bytes partition.now) offset (B.bytes buffer) e)
             (λ _. MayTear d (P.extent partition.now) offset (length (B.bytes buffer)) e))) }
+        ensures hidden { disk self.old ≡ None → disk self.new ≡ None }
         ensures outside { IfKnown (disk self.old) (λ d. IfSome result (λ r. r.1 ≡ Err error.OutOfRange
             → (¬ CanAccess d (P.extent partition.now) (P.bytes partition.now) offset
             (length (B.bytes buffer))))) }

@@ -1,5 +1,5 @@
 //! An engine that fails a call, for tests.
-ghost use Rattle.std.specs.Prelude.{◌≡◌, ℕ, ◌+◌, ◌-◌, ◌^◌, ◌<◌, ◌≤◌, ◌⊎◌, length, min, true, false};
+ghost use Rattle.std.specs.Prelude.{◌≡◌, ℕ, ◌+◌, ◌-◌, ◌^◌, ◌<◌, ◌≤◌, ◌⊎◌, None, length, min, true, false};
 ghost use Rattle.foyer_io.specs.Disk.{Becomes, MayTear};
 
 use super::{IoEngine, IoHandle, WriteBuffer};
@@ -107,6 +107,7 @@ fn write_prefix<E: IoEngine, P: Partition>(
 )
     ensures torn { Becomes (E.disk inner.old) (E.disk inner.new) (λ d e.
         MayTear d (P.extent partition.now) offset (length bytes.now) e) }
+    ensures hidden { E.disk inner.old ≡ None → E.disk inner.new ≡ None }
     ensures counted { E.faults inner.old ≤ E.faults inner.new }
 {
     let kept = kept.min(bytes.len());

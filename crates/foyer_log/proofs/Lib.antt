@@ -1,0 +1,6 @@
+pub mod RoundLemmas
+pub mod NumberLemmas
+pub mod LocateLemmas
+pub mod RingLemmas
+pub mod PageLemmas
+pub mod StageLemmas

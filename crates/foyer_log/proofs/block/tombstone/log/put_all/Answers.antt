@@ -1,0 +1,38 @@
+use Rattle.std.proofs.Common.{◌≡◌, ◌*◌, length, arith, ◌∙◌}
+use Rattle.foyer_log.specs.Ring.{IsTouched}
+use Rattle.foyer_log.proofs.StageLemmas.{stage_more, stage_fault, stage_end, touches, page_number}
+use Rattle.foyer_log.proofs.block.tombstone.log.put_all.Goals as goal
+
+pub pages-preserved : goal.pages-preserved
+pages-preserved g c =
+    let touched : IsTouched (256 * c.args.pages) c.args.start (length c.args.marks.now) (page_number c.args.pages c.args.start c.pages.j) =
+    touches c.args.pages c.args.start (length c.args.marks.now) c.pages.j (omega arith) c.requires.some (c.touched_pages-touched.ensures.each c.pages.j c.pages-test.true) in
+    record {
+      places = c.put_page.ensures.places ∙ c.pages.invariant.places;
+      stage = stage_more c.args.buffer.now.places c.args.pages c.args.start c.args.marks.now c.pages.j
+          (g.E.IoEngine.disk c.args.buffer.now.engine) (g.E.IoEngine.disk c.pages.buffer.engine) (g.E.IoEngine.disk c.put_page.new.buffer.engine)
+          (omega (arith, c.touched_pages-touched.ensures.few)) touched c.pages.invariant.stage
+          (rw c.pages.invariant.places at c.put_page.ensures.written) (rw c.pages.invariant.places at c.in_ok-put_page.ensures.put);
+      fresh = rw c.pages.invariant.places at c.in_ok-put_page.ensures.fresh;
+      counted = omega (arith, c.put_page.ensures.counted, c.pages.invariant.counted);
+    }
+
+pub returns-in_err-put_page-clause-written : goal.returns-in_err-put_page-clause-written
+returns-in_err-put_page-clause-written g c =
+    let touched : IsTouched (256 * c.args.pages) c.args.start (length c.args.marks.now) (page_number c.args.pages c.args.start c.pages.j) =
+    touches c.args.pages c.args.start (length c.args.marks.now) c.pages.j (omega arith) c.requires.some (c.touched_pages-touched.ensures.each c.pages.j c.pages-test.true) in
+    stage_fault c.args.buffer.now.places c.args.pages c.args.start c.args.marks.now c.pages.j
+    (g.E.IoEngine.disk c.args.buffer.now.engine) (g.E.IoEngine.disk c.pages.buffer.engine) (g.E.IoEngine.disk c.put_page.new.buffer.engine)
+    touched c.pages.invariant.stage (rw c.pages.invariant.places at c.put_page.ensures.written)
+
+pub returns-clause-put : goal.returns-clause-put
+returns-clause-put g c = λ d known.
+    let s = c.pages.invariant.stage d known in
+    let all = c.touched_pages-touched.ensures in
+    let is : c.touched_pages-touched.result ≡ c.pages.j = omega arith in (
+      s.0,
+      s.1,
+      λ apart.
+          stage_end c.args.buffer.now.places c.args.pages c.args.start c.pages.j c.args.marks.now d s.0 s.2
+          (omega arith) (omega arith) (omega (arith, all.few)) (rw is at all.reach) apart,
+    )

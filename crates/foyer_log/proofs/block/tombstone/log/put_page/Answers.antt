@@ -1,0 +1,24 @@
+use Rattle.std.proofs.Common.{◌≡◌, ap, ◌∙◌, Some}
+use Rattle.foyer_log.proofs.PageLemmas.{put_written, written_fresh}
+use Rattle.foyer_log.proofs.block.tombstone.log.put_page.Goals as goal
+
+pub returns-clause-put : goal.returns-clause-put
+returns-clause-put g c =
+    let put = c.put.ensures.same in
+    let page : c.put.new.self.page ≡ Some c.args.page = ap (λ v. v.page) put ∙ c.in_ok-fetch.ensures.loaded in
+    let places : c.put.new.self.places ≡ c.args.buffer.now.places = ap (λ v. v.places) put ∙ c.fetch.ensures.places in
+    let disk : g.E.IoEngine.disk c.put.new.self.engine ≡ g.E.IoEngine.disk c.args.buffer.now.engine = ap (λ v. g.E.IoEngine.disk v.engine) put ∙ c.fetch.ensures.kept in
+    let written = rw (page, places, disk) at c.flush.ensures.written in
+    put_written c.args.slots c.args.start c.args.marks.now c.args.buffer.now.places c.args.page c.fetch.new.self.bytes c.put.new.self.bytes
+    c.flush.result (g.E.IoEngine.disk c.args.buffer.now.engine) (g.E.IoEngine.disk c.flush.new.self.engine)
+    c.in_ok-fetch.ensures.read c.in_ok-fetch.ensures.size c.put.ensures.size written c.put.ensures.bytes
+
+pub returns-clause-fresh : goal.returns-clause-fresh
+returns-clause-fresh g c =
+    let put = c.put.ensures.same in
+    let page : c.put.new.self.page ≡ Some c.args.page = ap (λ v. v.page) put ∙ c.in_ok-fetch.ensures.loaded in
+    let places : c.put.new.self.places ≡ c.args.buffer.now.places = ap (λ v. v.places) put ∙ c.fetch.ensures.places in
+    let written = rw (page, places) at c.flush.ensures.written in
+    rw (c.flush.ensures.same.1, page, c.flush.ensures.same.2)
+    (written_fresh c.args.buffer.now.places c.args.page c.put.new.self.bytes c.flush.result
+    (g.E.IoEngine.disk c.put.new.self.engine) (g.E.IoEngine.disk c.flush.new.self.engine) c.flush.ensures.hidden written)

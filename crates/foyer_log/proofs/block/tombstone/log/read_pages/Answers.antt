@@ -1,0 +1,25 @@
+use Rattle.std.proofs.Common.{◌≡◌, ◌*◌, ◌+◌, ◌∙◌, arith}
+use Rattle.std.proofs.lemmas.Grind.{common_steps}
+use Rattle.foyer_log.specs.PageBytes.{HoldsPage, ring_on}
+use Rattle.foyer_log.proofs.PageLemmas.{ring_page}
+use Rattle.foyer_log.proofs.block.tombstone.log.read_pages.Goals as goal
+
+pub pages-preserved : goal.pages-preserved
+pages-preserved g c =
+    let ps = c.args.buffer.now.places in
+    record {
+      places = c.load.ensures.places ∙ c.pages.invariant.places;
+      kept = c.load.ensures.kept ∙ c.pages.invariant.kept;
+      read = λ d known.
+          let holds : HoldsPage d ps c.pages.page c.load.new.self.bytes = rw c.pages.invariant.places at (c.in_ok-load.ensures.read d (c.pages.invariant.kept ∙ known)) in
+          let plus : 256 * (c.pages.page + 1) ≡ 256 * c.pages.page + 256 = omega arith in
+          rw plus (c.in_ok-take_marks.ensures.read (ring_on d ps) c.args.tombstones.now.items
+          (λ j lt. rw c.as_slice.ensures (ring_page holds c.in_ok-load.ensures.size j lt)) (c.pages.invariant.read d known));
+      fresh = rw (c.in_ok-load.ensures.loaded, c.load.ensures.kept) (rw c.pages.invariant.places at c.in_ok-load.ensures.read);
+      before = grind (arith, common_steps, c.take_marks.ensures.before, c.pages.invariant.before);
+    }
+
+pub returns-clause-read : goal.returns-clause-read
+returns-clause-read g c = λ d known.
+    let is : c.pages.page ≡ c.args.pages = omega arith in
+    rw is at (c.pages.invariant.read d known)

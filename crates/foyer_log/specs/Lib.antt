@@ -1,0 +1,5 @@
+pub mod Mark
+pub mod Pages
+pub mod PageBytes
+pub mod Ring
+pub mod Views

@@ -1,0 +1,3 @@
+//! Blocks.
+
+pub mod tombstone;
