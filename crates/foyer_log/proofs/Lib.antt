@@ -4,3 +4,4 @@ pub mod LocateLemmas
 pub mod RingLemmas
 pub mod PageLemmas
 pub mod StageLemmas
+pub mod MemoryLemmas

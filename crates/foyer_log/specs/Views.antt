@@ -1,5 +1,5 @@
 -- What contracts see of a log and of its page.
-use Rattle.std.specs.Prelude.{ℕ, List, [], Option, Some}
+use Rattle.std.specs.Prelude.{◌≡◌, ℕ, List, [], length, Option, Some, None}
 use Rattle.foyer_log.specs.Pages.{Place}
 
 -- its engine, its partitions, the page that is loaded, and its bytes, which are none where
@@ -17,7 +17,8 @@ pub record LogView (E : Type 0) : Type 0 where
   pub page : Option ℕ
   pub slot : ℕ
 
--- the bytes of the memory, where a page is loaded into it
-abbrev pub shown : Option ℕ → Option (List ℕ) → List ℕ
-shown (Some n) (Some bytes) = bytes
-shown _ _ = []
+-- the bytes that are shown are those of the page that is loaded, or none; there is the memory of a page in either case
+abbrev pub HasMemory : Option ℕ → List ℕ → Option (List ℕ) → Type 0
+HasMemory None shown (Some spare) = (shown ≡ []) × (length spare ≡ 4096)
+HasMemory (Some n) shown (Some spare) = (length shown ≡ 4096) × (spare ≡ [])
+HasMemory page shown None = ⊥

@@ -135,6 +135,8 @@ impl<E: IoEngine + Drop, P: Partition + Drop, A: Allocator> TombstoneLog<E, P, A
         engine: E,
         tombstones: &mut Vec<Tombstone, A>,
     ) -> Result<TombstoneLog<E, P, A>>
+    where
+        A: Clone,
         ensures places { IfOk result (λ l. l.places ≡ places P.extent P.bytes partitions.items) }
         ensures kept { IfOk result (λ l. E.disk l.engine ≡ E.disk engine) }
         ensures marks { IfOk result (λ l. IfKnown (E.disk l.engine) (λ d.

@@ -1,5 +1,9 @@
 //! A page of the log in memory.
-ghost use Rattle.std.specs.Prelude.{◌≡◌, ◌⊎◌, ◌≤◌, ℕ, Ok, Some, None, ◌*◌, ◌+◌, ◌<◌, ◌^◌, [], length, slice_index, IfOk, IfErr, OnOk, OnErr, IfSome, IfNone, MatchResult};
+ghost use Rattle.std.specs.Prelude.{◌≡◌, ◌⊎◌, ◌≤◌, ℕ, Ok, Some, None, ◌*◌, ◌+◌, ◌<◌, ◌^◌, [], Err, length, replicate, slice_index, IfOk, IfErr, OnOk, OnErr, IfSome, IfNone, MatchResult};
+ghost use Rattle.std.specs.Borrow.{sem, Lends, Array, u8};
+ghost use Rattle.foyer_device.specs.Page.{page_up};
+ghost use Rattle.foyer_device.specs.Refilled.{refilled};
+ghost use Rattle.foyer_log.specs.contracts.block.tombstone.page.PageBuffer.{the_row};
 ghost use Rattle.foyer_device.specs.declared.error.Error.TheVariants as error;
 ghost use Rattle.foyer_io.specs.Disk.{IfKnown, Becomes, IsAccessFault};
 ghost use Rattle.foyer_log.specs.Pages.{pages_of, places};
@@ -16,6 +20,7 @@ use foyer_disk::io::device::Partition;
 use foyer_io::io::engine::IoEngine;
 use std::alloc::Allocator;
 use std::marker::Model;
+use std::mem::swap;
 
 /// One page of those that run through the partitions in order, in memory of its own. Where no page is loaded, its bytes
 /// are none.
@@ -23,15 +28,16 @@ use std::marker::Model;
 pub struct PageBuffer<E: IoEngine + Drop, P: Partition + Drop, A: Allocator> {
     engine: E,
     partitions: Vec<P, A>,
-    // The memory of a page; none only while an engine has it.
-    memory: Option<Raw<A>>,
+    // The bytes of its page; none where no page is loaded.
+    shown: Raw<A>,
+    // The memory of a page while none is loaded, else no bytes; None only while an engine has it.
+    spare: Option<Raw<A>>,
     page: Option<u64>,
 }
 
 impl<E: IoEngine + Drop, P: Partition + Drop, A: Allocator> Model for PageBuffer<E, P, A> {
-    ghost use Rattle.std.specs.Prelude.{◌≡◌, length, MatchOption};
     ghost use Rattle.foyer_log.specs.Pages.{places};
-    ghost use Rattle.foyer_log.specs.Views.{PageView, shown};
+    ghost use Rattle.foyer_log.specs.Views.{PageView, HasMemory};
 
     ghost Value = { PageView E };
 
@@ -39,13 +45,26 @@ impl<E: IoEngine + Drop, P: Partition + Drop, A: Allocator> Model for PageBuffer
       engine = b.engine;
       places = places P.extent P.bytes b.partitions.items;
       page = b.page;
-      bytes = shown b.page b.memory;
+      bytes = b.shown;
     } };
 
-    ghost invariant = { λ b. MatchOption b.memory ⊥ (λ m. length m ≡ 4096) };
+    ghost invariant = { λ b. HasMemory b.page b.shown b.spare };
 }
 
-impl<E: IoEngine + Drop, P: Partition + Drop, A: Allocator> PageBuffer<E, P, A> {
+// Zeros, as many as a page has or none. Memory.
+#[tactic(auto, unfolding(foyer_device::specs::Page::page_up))]
+fn page_memory<A: Allocator>(alloc: A, len: usize) -> Result<Raw<A>>
+    requires { len ≤ 4096 }
+    ensures zeros { IfOk result (λ r. r ≡ replicate (page_up len) 0) }
+    ensures memory { OnErr result (result ≡ Err error.Memory) }
+{
+    match Raw::new(alloc, len) {
+        Ok(memory) => Ok(memory),
+        Err(_) => Err(Error::Memory),
+    }
+}
+
+impl<E: IoEngine + Drop, P: Partition + Drop, A: Allocator + Clone> PageBuffer<E, P, A> {
     // A buffer without a page. Memory.
     pub(super) fn new(alloc: A, engine: E, partitions: Vec<P, A>) -> Result<PageBuffer<E, P, A>>
         ensures new { IfOk result (λ b. b ≡ record {
@@ -56,15 +75,15 @@ impl<E: IoEngine + Drop, P: Partition + Drop, A: Allocator> PageBuffer<E, P, A> 
         }) }
         ensures memory { OnErr result (result ≡ Err error.Memory) }
     {
-        match Raw::new(alloc, PAGE) {
-            Ok(memory) => Ok(PageBuffer {
-                engine,
-                partitions,
-                memory: Some(memory),
-                page: None,
-            }),
-            Err(_) => Err(Error::Memory),
-        }
+        let shown = page_memory(alloc.clone()?, 0)?;
+        let spare = page_memory(alloc, PAGE)?;
+        Ok(PageBuffer {
+            engine,
+            partitions,
+            shown,
+            spare: Some(spare),
+            page: None,
+        })
     }
 
     /// The page of that number, which is read. OutOfRange where it isn't there, Memory, Io.
@@ -86,7 +105,9 @@ impl<E: IoEngine + Drop, P: Partition + Drop, A: Allocator> PageBuffer<E, P, A> 
         buffer.load(page)?;
         Ok(buffer)
     }
+}
 
+impl<E: IoEngine + Drop, P: Partition + Drop, A: Allocator> PageBuffer<E, P, A> {
     /// Reads its page again; without a page it reads nothing. After a refusal, OutOfRange or Io, no page is loaded.
     pub fn update(&mut self) -> Result<()>
         ensures places { self.new.places ≡ self.old.places }
@@ -122,14 +143,17 @@ impl<E: IoEngine + Drop, P: Partition + Drop, A: Allocator> PageBuffer<E, P, A> 
         ensures counted { E.faults self.old.engine ≤ E.faults self.new.engine }
         ensures refused { IfErr result (IsAccessFault (E.faults self.old.engine) (E.faults self.new.engine)) }
     {
-        self.page = None;
-        let memory = self.memory.take().unwrap();
-        let (memory, outcome) = read_page(&mut self.engine, &self.partitions, page, memory);
-        self.memory = Some(memory);
-        if outcome.is_ok() {
-            self.page = Some(page);
+        self.unload();
+        let memory = self.spare.take().unwrap();
+        let (mut memory, outcome) = read_page(&mut self.engine, &self.partitions, page, memory);
+        if let Err(e) = outcome {
+            self.spare = Some(memory);
+            return Err(e);
         }
-        outcome
+        swap(&mut self.shown, &mut memory);
+        self.spare = Some(memory);
+        self.page = Some(page);
+        Ok(())
     }
 
     /// Writes its bytes over its page; without a page it writes nothing. A refusal, OutOfRange or Io, leaves the page
@@ -148,20 +172,29 @@ impl<E: IoEngine + Drop, P: Partition + Drop, A: Allocator> PageBuffer<E, P, A> 
         let Some(page) = self.page else {
             return Ok(());
         };
-        let memory = self.memory.take().unwrap();
-        let (memory, outcome) = write_page(&mut self.engine, &self.partitions, page, memory);
-        self.memory = Some(memory);
-        outcome
+        write_page(
+            &mut self.engine,
+            &self.partitions,
+            page,
+            self.shown.as_slice(),
+        )
     }
 
     /// The bytes of its page; none where no page is loaded.
     pub fn as_slice(&self) -> &[u8]
         ensures { result.now ≡ self.now.bytes }
     {
-        match (&self.page, &self.memory) {
-            (Some(_), Some(memory)) => memory.as_slice(),
-            _ => &[],
-        }
+        self.shown.as_slice()
+    }
+
+    /// The bytes of its page, to be written over; none where no page is loaded.
+    pub fn as_mut_slice(&mut self) -> &mut [u8]
+        ensures* writes_back { sem 𝓛
+            (Lends (the_row E.row P.row A.row E.IoEngine P.Partition A.Allocator) (Array u8 0) self.entry result
+            (λ bytes. record self.old { bytes = refilled self.old.bytes bytes })) }
+        ensures value { result.now ≡ self.old.bytes }
+    {
+        self.shown.as_mut_slice()
     }
 
     // Loads the page, unless it is loaded. After a refusal no page is loaded.
@@ -196,6 +229,12 @@ impl<E: IoEngine + Drop, P: Partition + Drop, A: Allocator> PageBuffer<E, P, A> 
     pub(super) fn unload(&mut self)
         ensures { self.new ≡ record self.old { page = None; bytes = [] } }
     {
+        if self.page.is_none() {
+            return;
+        }
+        let mut memory = self.spare.take().unwrap();
+        swap(&mut self.shown, &mut memory);
+        self.spare = Some(memory);
         self.page = None;
     }
 
@@ -208,8 +247,6 @@ impl<E: IoEngine + Drop, P: Partition + Drop, A: Allocator> PageBuffer<E, P, A> 
         ensures size { length self.new.bytes ≡ 4096 }
         ensures same { self.new ≡ record self.old { bytes = self.new.bytes } }
     {
-        let mut memory = self.memory.take().unwrap();
-        put_marks(memory.as_mut_slice(), page, start, slots, marks);
-        self.memory = Some(memory);
+        put_marks(self.shown.as_mut_slice(), page, start, slots, marks);
     }
 }

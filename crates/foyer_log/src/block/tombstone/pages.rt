@@ -7,7 +7,7 @@ ghost use Rattle.foyer_log.specs.Pages.{locate, pages_of, places};
 ghost use Rattle.foyer_log.specs.PageBytes.{HasPage, HoldsPage, IsPageWritten, ChangesPages};
 
 use foyer_device::error::{Error, Result};
-use foyer_device::io::bytes::{PAGE, Raw};
+use foyer_device::io::bytes::{IoB, IoBuf, PAGE, Raw};
 use foyer_disk::io::device::Partition;
 use foyer_io::io::engine::IoEngine;
 use std::alloc::Allocator;
@@ -71,27 +71,51 @@ pub(super) fn read_page<E: IoEngine, P: Partition, A: Allocator>(
     engine.read(bytes, partition, offset).into_inner()
 }
 
-// Writes the buffer over a page.
-pub(super) fn write_page<E: IoEngine, P: Partition, A: Allocator>(
+// Bytes that are lent to a write.
+struct Lent<'a>(&'a [u8]);
+
+impl Drop for Lent<'_> {
+    fn drop(self) {
+        let Lent(_) = self;
+    }
+}
+
+impl IoB for Lent<'_> {
+    ghost bytes = { λ l. l.0.now };
+
+    fn as_slice(&self) -> &[u8] {
+        self.0
+    }
+}
+
+impl IoBuf for Lent<'_> {
+    fn into_iob(self) -> Self {
+        self
+    }
+}
+
+// Writes the bytes over a page.
+pub(super) fn write_page<E: IoEngine, P: Partition>(
     engine: &mut E,
     partitions: &[P],
     page: u64,
-    bytes: Raw<A>,
-) -> (Raw<A>, Result<()>)
-    requires { length bytes ≡ 4096 }
-    ensures same { result.0 ≡ bytes }
-    ensures written { Becomes (E.disk engine.old) (E.disk engine.new) (λ d e. MatchResult result.1
-        (λ _. IsPageWritten d (places P.extent P.bytes partitions.now) page bytes e)
+    bytes: &[u8],
+) -> Result<()>
+    requires { length bytes.now ≡ 4096 }
+    ensures written { Becomes (E.disk engine.old) (E.disk engine.new) (λ d e. MatchResult result
+        (λ _. IsPageWritten d (places P.extent P.bytes partitions.now) page bytes.now e)
         (λ _. ChangesPages d (places P.extent P.bytes partitions.now) (λ n. n ≡ page) e)) }
-    ensures outside { IfKnown (E.disk engine.old) (λ d. result.1 ≡ Err error.OutOfRange
-        → ¬ HasPage d (places P.extent P.bytes partitions.now) page) }
     ensures hidden { E.disk engine.old ≡ None → E.disk engine.new ≡ None }
-    ensures untouched { result.1 ≡ Err error.OutOfRange → E.disk engine.new ≡ E.disk engine.old }
+    ensures outside { IfKnown (E.disk engine.old) (λ d. result ≡ Err error.OutOfRange
+        → ¬ HasPage d (places P.extent P.bytes partitions.now) page) }
+    ensures untouched { result ≡ Err error.OutOfRange → E.disk engine.new ≡ E.disk engine.old }
     ensures counted { E.faults engine.old ≤ E.faults engine.new }
-    ensures refused { IfErr result.1 (IsAccessFault (E.faults engine.old) (E.faults engine.new)) }
+    ensures refused { IfErr result (IsAccessFault (E.faults engine.old) (E.faults engine.new)) }
 {
     let Some((partition, offset)) = find(partitions, page) else {
-        return (bytes, Err(Error::OutOfRange));
+        return Err(Error::OutOfRange);
     };
-    engine.write(bytes, partition, offset).into_inner()
+    let (bytes, outcome) = engine.write(Lent(bytes), partition, offset).into_inner();
+    drop(bytes);
+    outcome
 }
