@@ -1,5 +1,5 @@
 -- The memory of a page.
-use Rattle.std.proofs.Common.{◌≡◌, ℕ, List, [], ◌++◌, length, take, drop, refl, ap, arith, Option, Some, None}
+use Rattle.std.proofs.Common.{◌≡◌, ℕ, List, length, refl, arith, Option, Some, None}
 use Rattle.std.proofs.lemmas.Grind.{common_steps}
 use Rattle.foyer_device.specs.Refilled.{refilled}
 use Rattle.foyer_log.specs.Views.{HasMemory}

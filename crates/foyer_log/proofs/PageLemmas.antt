@@ -4,7 +4,7 @@ use Rattle.foyer_block.specs.declared.tombstone.Tombstone.{Tombstone}
 use Rattle.foyer_io.specs.Disk.{Disk, IsOutside, IfKnown, Becomes}
 use Rattle.foyer_log.specs.Mark.{mark_at}
 use Rattle.foyer_log.specs.Pages.{Place, PageAt, locate, start_of, AreApart}
-use Rattle.foyer_log.specs.PageBytes.{HoldsPage, IsPageWritten, IsOutsidePage, ChangesPages, mark_in, ring_on}
+use Rattle.foyer_log.specs.PageBytes.{HasPage, HoldsPage, IsPageWritten, IsOutsidePage, ChangesPages, mark_in, ring_on}
 use Rattle.foyer_log.specs.Ring.{IsPutAt}
 use Rattle.foyer_log.proofs.LocateLemmas.{PagesApart, pages_apart}
 use Rattle.foyer_log.proofs.NumberLemmas.{mark_same, mark_moved}
@@ -108,3 +108,11 @@ pub written_else : {A X : Type 0} (ps : List Place) (n : ℕ) (new : List ℕ) (
     → Becomes D E (λ d e. ChangesPages d ps (λ m. m ≡ n) e)
 written_else ps n new (Err x) D E size written = written
 written_else ps n new (Ok a) D E size written = λ d known. let w = written d known in (w.0, w.1, written_changes size w.2)
+
+-- a page that is there stays
+pub has_later : {d e : Disk} {ps : List Place} {n : ℕ} {T : ℕ → Type 0} → ChangesPages d ps T e → HasPage d ps n → HasPage e ps n
+has_later {d} {e} {ps} {n} {T} changes has = record {
+  at = has.at;
+  located = has.located;
+  access = (has.access.0, rw (changes.len has.at.extent.file) (has.access.1));
+}

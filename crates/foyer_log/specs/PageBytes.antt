@@ -5,13 +5,21 @@ use Rattle.foyer_device.specs.declared.error.Error.{Error}
 use Rattle.foyer_device.specs.declared.error.Error.TheVariants as error
 use Rattle.foyer_io.specs.Disk.{Disk, CanAccess, DidRead, DidWrite, IsOutside}
 use Rattle.foyer_log.specs.Mark.{mark_at}
-use Rattle.foyer_log.specs.Pages.{Place, PageAt, locate, start_of}
+use Rattle.foyer_log.specs.Pages.{Place, PageAt, pages_of, locate, start_of}
 
 -- the page is there, and can be read and written
 pub record HasPage (d : Disk) (ps : List Place) (n : ℕ) : Type 0 where
   pub at : PageAt
   pub located : locate ps n ≡ Some at
   pub access : CanAccess d at.extent at.size at.offset 4096
+
+-- the first n pages are there
+abbrev pub HasPages : Disk → List Place → ℕ → Type 0
+HasPages d ps n = (page : ℕ) → page < n → HasPage d ps page
+
+-- there is a page, not too many, and all of them are there
+abbrev pub CanHoldLog : Disk → List Place → Type 0
+CanHoldLog d ps = (0 < pages_of ps) × (pages_of ps < 2 ^ 55) × HasPages d ps (pages_of ps)
 
 -- these bytes stand in the page
 pub record HoldsPage (d : Disk) (ps : List Place) (n : ℕ) (bytes : List ℕ) : Type 0 where
@@ -47,3 +55,7 @@ ring_on d ps i = mark_in d (locate ps (i / 256)) (i % 256)
 -- why a call that makes several accesses was refused, where so many faults had been counted before and after it
 abbrev pub IsLogFault : ℕ → ℕ → Error → Type 0
 IsLogFault old new e = (e ≡ error.OutOfRange) ⊎ ((e ≡ error.Io) × ((old < new) ⊎ (old ≡ 2 ^ 64 - 1)))
+
+-- the same of a call that kept the engine for itself: some engine counted a fault more
+abbrev pub IsOpenFault : {E : Type 0} → (E → ℕ) → E → Error → Type 0
+IsOpenFault {E} faults engine e = (after : E) × IsLogFault (faults engine) (faults after) e

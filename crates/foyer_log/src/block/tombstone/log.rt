@@ -4,7 +4,7 @@ ghost use Rattle.foyer_device.specs.declared.error.Error.TheVariants as error;
 ghost use Rattle.foyer_io.specs.Disk.{IfKnown, Becomes};
 ghost use Rattle.foyer_log.specs.Pages.{AreApart, pages_of, places};
 ghost use Rattle.foyer_log.specs.Ring.{IsPut, IsPutAt, IsRead, IsTouched, GoesOnAt, marks_of};
-ghost use Rattle.foyer_log.specs.PageBytes.{HoldsPage, ChangesPages, IsLogFault, ring_on};
+ghost use Rattle.foyer_log.specs.PageBytes.{HasPage, HasPages, CanHoldLog, HoldsPage, ChangesPages, IsLogFault, IsOpenFault, ring_on};
 
 use super::marks::{self, Newest, take_marks};
 use super::page::PageBuffer;
@@ -87,6 +87,8 @@ fn put_page<E: IoEngine + Drop, P: Partition + Drop, A: Allocator>(
     ensures put { OnOk result (Becomes (E.disk buffer.old.engine) (E.disk buffer.new.engine) (λ d e. (j : ℕ) → j < 256
         → IsPutAt slots start marks.now (256 * page + j) (ring_on d buffer.old.places (256 * page + j)) (ring_on e buffer.old.places (256 * page + j)))) }
     ensures fresh { OnOk result (IfSome buffer.new.page (λ n. IfKnown (E.disk buffer.new.engine) (λ d. HoldsPage d buffer.old.places n buffer.new.bytes))) }
+    ensures outside { IfKnown (E.disk buffer.old.engine) (λ d. result ≡ Err error.OutOfRange
+        → ¬ HasPage d buffer.old.places page) }
     ensures counted { E.faults buffer.old.engine ≤ E.faults buffer.new.engine }
     ensures refused { IfErr result (IsLogFault (E.faults buffer.old.engine) (E.faults buffer.new.engine)) }
 {
@@ -109,7 +111,11 @@ fn read_pages<E: IoEngine + Drop, P: Partition + Drop, A: Allocator>(
     ensures places { buffer.new.places ≡ buffer.old.places }
     ensures kept { E.disk buffer.new.engine ≡ E.disk buffer.old.engine }
     ensures before { take (length tombstones.old.items) tombstones.new.items ≡ tombstones.old.items }
-    ensures refused { IfErr result (λ e. (e ≡ error.OutOfRange) ⊎ (e ≡ error.Memory) ⊎ (e ≡ error.Io)) }
+    ensures counted { E.faults buffer.old.engine ≤ E.faults buffer.new.engine }
+    ensures outside { IfKnown (E.disk buffer.old.engine) (λ d. result ≡ Err error.OutOfRange
+        → ¬ HasPages d buffer.old.places pages) }
+    ensures refused { IfErr result (λ e. (e ≡ error.Memory)
+        ⊎ IsLogFault (E.faults buffer.old.engine) (E.faults buffer.new.engine) e) }
 {
     let mut newest = Newest {
         sequence: 0,
@@ -146,7 +152,9 @@ impl<E: IoEngine + Drop, P: Partition + Drop, A: Allocator> TombstoneLog<E, P, A
         ensures unchanged { OnErr result (tombstones.new.items ≡ tombstones.old.items) }
         ensures empty { pages_of (places P.extent P.bytes partitions.items) ≡ 0
             → OnErr result ((result ≡ Err error.OutOfRange) ⊎ (result ≡ Err error.Memory)) }
-        ensures refused { IfErr result (λ e. (e ≡ error.OutOfRange) ⊎ (e ≡ error.Memory) ⊎ (e ≡ error.Io)) }
+        ensures outside { IfKnown (E.disk engine) (λ d. result ≡ Err error.OutOfRange
+            → ¬ CanHoldLog d (places P.extent P.bytes partitions.items)) }
+        ensures refused { IfErr result (λ e. (e ≡ error.Memory) ⊎ IsOpenFault E.faults engine e) }
     {
         let mut buffer = PageBuffer::new(alloc, engine, partitions)?;
         let Some(pages) = buffer.page_count() else {
@@ -188,6 +196,8 @@ impl<E: IoEngine + Drop, P: Partition + Drop, A: Allocator> TombstoneLog<E, P, A
             → IsPut (256 * pages_of self.old.places) (ring_on d self.old.places) self.old.slot marks.now (ring_on e self.old.places))) }
         ensures written { Becomes (E.disk self.old.engine) (E.disk self.new.engine) (λ d e. ChangesPages d self.old.places
             (IsTouched (256 * pages_of self.old.places) self.old.slot (length marks.now)) e) }
+        ensures outside { IfKnown (E.disk self.old.engine) (λ d. result ≡ Err error.OutOfRange
+            → ¬ CanHoldLog d self.old.places) }
         ensures nothing { marks.now ≡ [] → (result ≡ Ok tt) × (self.new ≡ self.old) }
         ensures counted { E.faults self.old.engine ≤ E.faults self.new.engine }
         ensures refused { IfErr result (IsLogFault (E.faults self.old.engine) (E.faults self.new.engine)) }
@@ -227,6 +237,8 @@ fn put_all<E: IoEngine + Drop, P: Partition + Drop, A: Allocator>(
     ensures put { OnOk result (Becomes (E.disk buffer.old.engine) (E.disk buffer.new.engine) (λ d e. AreApart buffer.old.places
         → IsPut (256 * pages) (ring_on d buffer.old.places) start marks.now (ring_on e buffer.old.places))) }
     ensures fresh { OnOk result (IfSome buffer.new.page (λ n. IfKnown (E.disk buffer.new.engine) (λ d. HoldsPage d buffer.old.places n buffer.new.bytes))) }
+    ensures outside { IfKnown (E.disk buffer.old.engine) (λ d. result ≡ Err error.OutOfRange
+        → ¬ HasPages d buffer.old.places pages) }
     ensures counted { E.faults buffer.old.engine ≤ E.faults buffer.new.engine }
     ensures refused { IfErr result (IsLogFault (E.faults buffer.old.engine) (E.faults buffer.new.engine)) }
 {

@@ -9,7 +9,7 @@ ghost use Rattle.foyer_io.specs.Disk.{IfKnown, Becomes, IsAccessFault};
 ghost use Rattle.foyer_log.specs.Pages.{pages_of, places};
 ghost use Rattle.foyer_log.specs.Ring.{IsPutAt};
 ghost use Rattle.foyer_log.specs.Mark.{mark_at};
-ghost use Rattle.foyer_log.specs.PageBytes.{HasPage, HoldsPage, IsPageWritten, ChangesPages};
+ghost use Rattle.foyer_log.specs.PageBytes.{HasPage, HoldsPage, IsPageWritten, ChangesPages, IsOpenFault};
 
 use super::marks::put_marks;
 use super::pages::{page_count, read_page, write_page};
@@ -99,7 +99,9 @@ impl<E: IoEngine + Drop, P: Partition + Drop, A: Allocator + Clone> PageBuffer<E
         ensures read { IfOk result (λ b. IfKnown (E.disk b.engine) (λ d. HoldsPage d b.places page b.bytes)) }
         ensures absent { pages_of (places P.extent P.bytes partitions.items) ≤ page
             → OnErr result ((result ≡ Err error.OutOfRange) ⊎ (result ≡ Err error.Memory)) }
-        ensures refused { IfErr result (λ e. (e ≡ error.OutOfRange) ⊎ (e ≡ error.Memory) ⊎ (e ≡ error.Io)) }
+        ensures outside { IfKnown (E.disk engine) (λ d. result ≡ Err error.OutOfRange
+            → ¬ HasPage d (places P.extent P.bytes partitions.items) page) }
+        ensures refused { IfErr result (λ e. (e ≡ error.Memory) ⊎ IsOpenFault E.faults engine e) }
     {
         let mut buffer = PageBuffer::new(alloc, engine, partitions)?;
         buffer.load(page)?;
@@ -166,6 +168,8 @@ impl<E: IoEngine + Drop, P: Partition + Drop, A: Allocator> PageBuffer<E, P, A> 
             (λ _. IsPageWritten d self.old.places n self.old.bytes e)
             (λ _. ChangesPages d self.old.places (λ m. m ≡ n) e))) }
         ensures hidden { E.disk self.old.engine ≡ None → E.disk self.new.engine ≡ None }
+        ensures outside { IfKnown (E.disk self.old.engine) (λ d. result ≡ Err error.OutOfRange
+            → IfSome self.old.page (λ n. ¬ HasPage d self.old.places n)) }
         ensures counted { E.faults self.old.engine ≤ E.faults self.new.engine }
         ensures refused { IfErr result (IsAccessFault (E.faults self.old.engine) (E.faults self.new.engine)) }
     {
@@ -208,6 +212,8 @@ impl<E: IoEngine + Drop, P: Partition + Drop, A: Allocator> PageBuffer<E, P, A> 
         ensures read { OnOk result (IfKnown (E.disk self.old.engine) (λ d.
             HoldsPage d self.old.places page self.new.bytes)) }
         ensures none { OnErr result (self.new.page ≡ None) }
+        ensures outside { IfKnown (E.disk self.old.engine) (λ d. result ≡ Err error.OutOfRange
+            → ¬ HasPage d self.old.places page) }
         ensures counted { E.faults self.old.engine ≤ E.faults self.new.engine }
         ensures refused { IfErr result (IsAccessFault (E.faults self.old.engine) (E.faults self.new.engine)) }
     {

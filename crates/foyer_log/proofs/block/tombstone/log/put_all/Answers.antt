@@ -1,4 +1,8 @@
-use Rattle.std.proofs.Common.{◌≡◌, ◌*◌, length, arith, ◌∙◌}
+use Rattle.std.proofs.Common.{◌≡◌, ◌*◌, length, arith, ◌∙◌, Err, ◌<◌, ◌/◌, ◌+◌}
+use Rattle.std.proofs.Math.Nat.{mod-lt}
+use Rattle.std.proofs.lemmas.Result.{err_from_is_err_and}
+use Rattle.foyer_device.specs.declared.error.Error.TheVariants as error
+use Rattle.foyer_log.proofs.PageLemmas.{has_later}
 use Rattle.foyer_log.specs.Ring.{IsTouched}
 use Rattle.foyer_log.proofs.StageLemmas.{stage_more, stage_fault, stage_end, touches, page_number}
 use Rattle.foyer_log.proofs.block.tombstone.log.put_all.Goals as goal
@@ -36,3 +40,11 @@ returns-clause-put g c = λ d known.
           stage_end c.args.buffer.now.places c.args.pages c.args.start c.pages.j c.args.marks.now d s.0 s.2
           (omega arith) (omega arith) (omega (arith, all.few)) (rw is at all.reach) apart,
     )
+
+pub returns-in_err-put_page-clause-outside : goal.returns-in_err-put_page-clause-outside
+returns-in_err-put_page-clause-outside g c = λ d known refused has.
+    let p = err_from_is_err_and c.from_residual.result c.from_residual.ensures.1 in
+    let failed : c.put_page.result ≡ Err error.OutOfRange = cc (c.in_err-put_page.was, p.1, p.2, refused) in
+    let s = c.pages.invariant.stage d known in
+    let page : page_number c.args.pages c.args.start c.pages.j < c.args.pages = mod-lt (c.args.start / 256 + c.pages.j) (omega arith) in
+    rw c.pages.invariant.places at (c.put_page.ensures.outside s.0 s.1 failed) (has_later s.2.changes (has (page_number c.args.pages c.args.start c.pages.j) page))

@@ -1,4 +1,4 @@
-use Rattle.std.proofs.Common.{◌≡◌, sym, Some}
+use Rattle.std.proofs.Common.{sym}
 use Rattle.foyer_log.specs.Pages.{PageAt}
 use Rattle.foyer_log.proofs.LocateLemmas.{has_at}
 use Rattle.foyer_log.proofs.block.tombstone.pages.write_page.Goals as goal

@@ -1,6 +1,5 @@
 use Rattle.std.proofs.Common.{◌≡◌, ◌∙◌, ap}
 use Rattle.foyer_log.specs.Pages.{places}
-use Rattle.foyer_log.specs.PageBytes.{HoldsPage}
 use Rattle.foyer_log.proofs.block.tombstone.page.PageBuffer.load.Goals as goal
 
 pub returns-in-Err-clause-outside : goal.returns-in-Err-clause-outside
