@@ -57,7 +57,10 @@ fn draw_index(alloc: Global, generator: &mut Pcg32) -> Result<[u8; 4096], Fail> 
     };
     let mut bytes = page(&entries, count);
     if draw(generator, 16) == 0 {
-        bytes[draw(generator, 4096) as usize] ^= 1;
+        let place = draw(generator, 4096) as usize;
+        if let Some(byte) = bytes.get_mut(place) {
+            *byte ^= 1;
+        }
     }
     Ok(bytes)
 }
