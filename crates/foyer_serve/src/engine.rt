@@ -144,12 +144,7 @@ impl<A: Allocator + Clone> Engine<A, MemoryDisk<A>> {
 
 impl<A: Allocator + Clone, D: Disk + Drop> Engine<A, D> {
     /// Opens an engine that finds nothing, whatever the disk holds; `env` has its pickers and its generator.
-    pub fn with_disk(
-        alloc: A,
-        mut env: Env,
-        settings: Settings,
-        disk: D,
-    ) -> Result<Engine<A, D>>
+    pub fn with_disk(alloc: A, mut env: Env, settings: Settings, disk: D) -> Result<Engine<A, D>>
         ensures sound { IfOk result (λ _. AreValid settings) }
         ensures begins { IfOk result (λ engine. (sound : AreValid settings) → IsHistory plain settings sound (D.byte_at disk) []
             engine.core (D.byte_at engine.disk)) }
