@@ -1,0 +1,2 @@
+pub mod CounterSums
+pub mod CounterSteps

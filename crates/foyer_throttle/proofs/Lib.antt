@@ -1,0 +1,2 @@
+pub mod QuotaLemmas
+pub mod TextLemmas
