@@ -1,0 +1,7 @@
+//! The log over memory, with and without faults.
+
+mod disks;
+mod faults;
+mod images;
+mod pages;
+mod rows;
