@@ -1,19 +1,26 @@
--- An opened core stands for the first state, and the first world is opened.
-use Rattle.std.proofs.Common.{◌≡◌, ℕ, zero, suc, ◌<◌, ◌≤◌, replicate, length, Some, None, slice_get, refl, sym, ap, subst, ◌∙◌, arith}
-use Rattle.std.specs.FinMap.{get-empty}
-use Rattle.std.specs.Ordering.{nat_cmp}
-use Rattle.foyer_block.specs.declared.indexer.Index.TheVariants.{Address}
+-- An opened core stands for the state with what was found.
+use Rattle.std.proofs.Common.{◌≡◌, ℕ, zero, suc, ◌<◌, ◌≤◌, replicate, [], length, Option, Some, None, slice_get, refl, sym, ap, subst, ◌∙◌, arith}
+use Rattle.std.specs.FinMap as finite
+use Rattle.foyer_block.specs.declared.indexer.EntryAddress.{EntryAddress}
+use Rattle.foyer_block.specs.declared.indexer.Index.{Index}
+use Rattle.foyer_block.specs.declared.indexer.Index.TheVariants.{Address, Tombstone}
 use Rattle.foyer_model.specs.Opened.{idle as plain_idle}
 use Rattle.foyer_model.specs.Rules.{Rules}
-use Rattle.foyer_rules.specs.Begins.{first_state}
+use Rattle.foyer_model.specs.Record as model_record
+use Rattle.foyer_recover.specs.Opening.{Opened}
+use Rattle.foyer_recover.specs.Placed.{IsOpening}
+use Rattle.foyer_recover.specs.Recovery.{held_slot}
+use Rattle.foyer_rules.specs.Begins.{opened_state}
+use Rattle.foyer_rules.proofs.OpenedWorlds.{stands_at}
 use Rattle.foyer_rules.specs.Content.{Content, Meaning}
 use Rattle.foyer_flusher.specs.Flushing.{IsFlusherAs}
 use Rattle.foyer_rules.specs.CoreRules.{machine}
 use Rattle.foyer_core.specs.Opened.{IsOpened}
 use Rattle.foyer_flusher.specs.Idle.{idle}
-use Rattle.foyer_rules.specs.Sizes.{AreValid}
+use Rattle.foyer_rules.specs.Sizes.{AreValid, sizes_in}
 use Rattle.foyer_core.specs.StateOf.{IsStateOf, AreFlushersAs, size_of_all}
-use Rattle.foyer_standing.specs.Standing.{IsIndexedAs, slot_of}
+use Rattle.foyer_standing.specs.Addresses.{address_of}
+use Rattle.foyer_standing.specs.Standing.{slot_of}
 use Rattle.foyer_flusher.specs.Seen.{Seen}
 use Rattle.foyer_rules.specs.declared.settings.Settings.{Settings}
 use Rattle.foyer_core.specs.declared.state.Core.{Core}
@@ -31,6 +38,12 @@ replicate_at (suc n) (suc i) x y is = replicate_at n i x y is
 no_sizes : (n : ℕ) (rules : Rules Content) → size_of_all n (λ f. plain_idle rules) ≡ 0
 no_sizes zero rules = refl
 no_sizes (suc n) rules = let rest : size_of_all n (λ f. plain_idle rules) ≡ 0 = no_sizes n rules in omega arith
+
+-- both have the same of an address
+slot_held : (x : Option Index) → held_slot x ≡ slot_of x
+slot_held None = refl
+slot_held (Some (Address a)) = refl
+slot_held (Some (Tombstone q)) = refl
 
 module _ {K V P A : Type 0} (m : Meaning K V P) (s : Settings) (sound : AreValid s) where
   idle_stands : (x : Seen K V P A) → idle s ≡ x → IsFlusherAs m s x (plain_idle (machine m s sound))
@@ -54,13 +67,15 @@ module _ {K V P A : Type 0} (m : Meaning K V P) (s : Settings) (sound : AreValid
     batch = tt;
   })
 
-  pub opened_stands : (core : Core K V P A) → IsOpened s core → IsStateOf m s core (first_state (machine m s sound))
-  opened_stands core opened = record {
+  pub opened_stands : (o : Opened) (core : Core K V P A) → IsOpening (sizes_in s) s.blocks [] o → IsOpened s o core → IsStateOf m s core (opened_state (machine m s sound) o)
+  opened_stands o core opening opened = record {
     sizes = opened.sizes;
-    index = subst (λ k. IsIndexedAs s k (λ hash. None)) (sym opened.index) (record {
-      slot = λ hash. ap slot_of (sym (get-empty nat_cmp hash));
-      there = λ hash a is. absurd (let e : None ≡ Some (Address a) = sym (get-empty nat_cmp hash) ∙ is in cc);
-    });
+    index = record {
+      slot = λ hash. sym (opened.index hash) ∙ slot_held (finite.get core.index hash);
+      there = λ hash a is.
+          (stands_at m.is_key m.is_value s sound [] o opening hash (address_of a)
+          (sym (opened.index hash) ∙ ap held_slot is)).block;
+    };
     next = sym opened.next;
     steps = sym opened.steps;
     closed = sym opened.closed;

@@ -1,20 +1,25 @@
--- A core that was opened and found nothing.
-use Rattle.std.specs.Prelude.{◌≡◌, ℕ, false, [], None, map, replicate}
+-- A core that was opened.
+use Rattle.std.specs.Prelude.{◌≡◌, ℕ, false, List, [], None, map, replicate}
 use Rattle.std.specs.FinMap as index
 use Rattle.foyer_flusher.specs.Idle.{idle}
-use Rattle.foyer_rules.specs.declared.settings.Settings.{Settings}
-use Rattle.foyer_model.specs.Ids.{ids}
+use Rattle.foyer_flusher.specs.Seen.{seen}
 use Rattle.foyer_model.specs.State as model_state
+use Rattle.foyer_recover.specs.Opening.{Opened}
+use Rattle.foyer_recover.specs.Placed.{IsOpening}
+use Rattle.foyer_recover.specs.Recovery.{held_slot, IsRecovered}
+use Rattle.foyer_recover.specs.declared.block.recover.RecoverMode.{RecoverMode}
+use Rattle.foyer_rules.specs.Begins.{place_of}
+use Rattle.foyer_rules.specs.Sizes.{sizes_in}
+use Rattle.foyer_rules.specs.declared.settings.Settings.{Settings}
 use Rattle.foyer_sets.specs.BlockSets.{BlockSets}
 use Rattle.foyer_standing.specs.Standing.{IsManagedAs}
 use Rattle.foyer_core.specs.declared.state.Core.{Core}
-use Rattle.foyer_flusher.specs.Seen.{seen}
 
--- so many blocks that were never handed out: all are clean, in the order of their ids
-abbrev pub clean_sets : ℕ → BlockSets
-clean_sets blocks = record {
-  block_set = λ b. model_state.Clean;
-  clean = ids blocks;
+-- so many blocks that were never handed out: these are clean, in this order, and all others are evictable
+abbrev pub opened_sets : ℕ → List ℕ → BlockSets
+opened_sets blocks clean = record {
+  block_set = place_of blocks clean;
+  clean = clean;
   waiting = [];
   ready = λ f. None;
   filling = λ b. 0;
@@ -22,13 +27,21 @@ clean_sets blocks = record {
   is_cleaning = false;
 }
 
--- nothing is indexed or queued, every block is clean, in the order of their ids, and the first sequence is 1
-pub record IsOpened {K V P A : Type 0} (settings : Settings) (core : Core K V P A) : Type 0 where
+-- the index, the next sequence and the clean blocks are those of an opening, and nothing is queued
+pub record IsOpened {K V P A : Type 0} (settings : Settings) (o : Opened) (core : Core K V P A) : Type 0 where
   pub sizes : core.settings ≡ settings
-  pub index : core.index ≡ index.empty
-  pub next : core.next ≡ 1
+  pub index : (hash : ℕ) → held_slot (index.get core.index hash) ≡ o.index hash
+  pub next : core.next ≡ o.next
   pub steps : core.steps ≡ 0
   pub closed : core.closed ≡ false
   pub queued : core.queued ≡ 0
   pub flushers : map seen core.flushers.items ≡ replicate settings.flushers (idle settings)
-  pub manager : IsManagedAs settings core.manager (clean_sets settings.blocks)
+  pub manager : IsManagedAs settings core.manager (opened_sets settings.blocks o.clean)
+
+-- What it was opened with lies in the blocks, whatever the disk gave; and where it shows its bytes, it is what these, with
+-- some failed reads, are defined to give.
+pub record IsOpenedFrom {K V P A : Type 0} (settings : Settings) (bytes : ℕ → ℕ → ℕ) (surely_has : ℕ → ℕ → ℕ → Type 0) (mode : RecoverMode) (is_seen : Type 0) (core : Core K V P A) : Type 0 where
+  pub found : Opened
+  pub opening : IsOpening (sizes_in settings) settings.blocks [] found
+  pub recovered : is_seen → IsRecovered (sizes_in settings) settings.blocks bytes surely_has mode [] found
+  pub opened : IsOpened settings found core

@@ -11,7 +11,7 @@ mod env;
 mod flush;
 pub mod laws;
 mod load;
-mod open;
+pub mod open;
 mod queue;
 pub mod reply;
 

@@ -1,18 +1,23 @@
 //! Opening.
-ghost use Rattle.std.specs.Prelude.{◌≡◌, ◌⊎◌, Err, IfOk, IfErr, IsOkUnless, map, replicate, vec_len};
-ghost use Rattle.foyer_device.specs.declared.error.Error.TheVariants.{Memory, Config};
-ghost use Rattle.foyer_core.specs.Opened.{IsOpened, clean_sets};
+ghost use Rattle.std.specs.Prelude.{◌≡◌, ◌≢◌, ◌⊎◌, ◌<◌, ℕ, [], Err, IfOk, IfErr, IsOkUnless, map, replicate, true, vec_len};
+ghost use Rattle.foyer_device.specs.declared.error.Error.TheVariants.{Memory, Config, Recover, SequenceEnd};
+ghost use Rattle.foyer_core.specs.Opened.{IsOpenedFrom, opened_sets};
 ghost use Rattle.foyer_flusher.specs.Idle.{idle};
-ghost use Rattle.foyer_rules.specs.Sizes.{AreValid};
 ghost use Rattle.foyer_flusher.specs.Seen.{seen};
+ghost use Rattle.foyer_model.specs.Ids.{is_id_in, AreDistinct};
+ghost use Rattle.foyer_recover.specs.Recovery.{IsRefused};
+ghost use Rattle.foyer_rules.specs.Sizes.{AreValid, sizes_in};
 ghost use Rattle.foyer_standing.specs.Standing.{IsManagedAs};
 
 use crate::env::Env;
 use crate::settings::Settings;
 use crate::state::Core;
-use foyer_block::indexer::Indexer;
+use foyer_block::manager::BlockId;
+use foyer_blockio::disk::Disk;
 use foyer_device::error::Result;
 use foyer_flusher::flusher::Flusher;
+pub use foyer_recover::block::recover::RecoverMode;
+use foyer_recover::block::recover::{RecoverRunner, Recovered};
 use foyer_sets::block::manager::{BlockManager, ManagerConfig};
 use std::alloc::Allocator;
 
@@ -33,14 +38,17 @@ fn idle_flushers<K: Drop, V: Drop, P: Drop, A: Allocator + Clone>(
     Ok(flushers)
 }
 
-// The manager of blocks that were never handed out: all are clean, in the order of their ids, and the pickers know them.
-// Reclaims aren't built yet, so that none may begin.
-fn clean_blocks<A: Allocator + Clone>(
+// The manager of blocks that were never handed out: these are clean, in this order, all others are evictable, and the
+// pickers know them. Reclaims aren't built yet, so that none may begin.
+fn place_blocks<A: Allocator + Clone>(
     alloc: &A,
     env: &mut Env,
     settings: &Settings,
+    clean: &[BlockId],
 ) -> Result<BlockManager<A>>
-    ensures clean { IfOk result (λ manager. IsManagedAs settings.now manager (clean_sets settings.now.blocks)) }
+    requires once { AreDistinct clean.now }
+    requires there { (b : ℕ) → is_id_in b clean.now ≡ true → b < settings.now.blocks }
+    ensures placed { IfOk result (λ manager. IsManagedAs settings.now manager (opened_sets settings.now.blocks clean.now)) }
     ensures refused { IsOkUnless result Memory }
 {
     let mut manager = BlockManager::open(
@@ -53,31 +61,60 @@ fn clean_blocks<A: Allocator + Clone>(
         },
     )?;
     env.init(settings.blocks, settings.block_size)?;
-    match manager.init(alloc, &mut env.pickers, &env.own) {
+    match manager.init(alloc, &mut env.pickers, clean) {
         Ok(()) => Ok(manager),
         Err(error) => Err(error),
     }
 }
 
 impl<K: Drop, V: Drop, P: Drop, A: Allocator + Clone> Core<K, V, P, A> {
-    /// Opens a core that finds nothing: no block is read, every block is clean, in the order of their ids, and the
-    /// first sequence is 1. The pickers learn of the blocks. `Config` where the settings don't go together, else
-    /// `Memory` alone.
-    pub fn open(alloc: A, env: &mut Env, settings: Settings) -> Result<Core<K, V, P, A>>
-        ensures opened { IfOk result (IsOpened settings) }
+    ghost use Rattle.foyer_recover.specs.declared.block.recover.RecoverMode.TheVariants as recover_mode;
+
+    /// Opens a core with what is found in the disk's blocks: the newest entry of each hash, the sequence behind the
+    /// greatest, and as clean blocks those that keep nothing, in the order of their ids. In `None` no block is read,
+    /// and all are clean. The pickers learn of the blocks. Nothing is written.
+    ///
+    /// `Config` where the settings don't go together, before anything is read; `Recover` where a read failed in
+    /// `Strict`; `SequenceEnd` where what was found has the last sequence; `Memory` at any time. No bytes refuse it.
+    pub fn open<D: Disk>(
+        alloc: A,
+        env: &mut Env,
+        settings: Settings,
+        disk: &mut D,
+        mode: RecoverMode,
+    ) -> Result<Core<K, V, P, A>>
+        ensures opened { IfOk result (IsOpenedFrom settings (D.byte_at disk.old) (D.surely_has disk.old) mode
+            ((mode ≡ recover_mode.None) ⊎ D.is_known disk.old)) }
         ensures sound { IfOk result (λ _. AreValid settings) }
-        ensures config { IfErr result (λ e. (e ≡ Memory) ⊎ ((e ≡ Config) × (AreValid settings → ⊥))) }
+        ensures refused { IfErr result (λ e. (e ≡ Memory) ⊎ ((e ≡ Config) × (AreValid settings → ⊥))
+            ⊎ ((e ≡ Recover) × (mode ≡ recover_mode.Strict)) ⊎ ((e ≡ SequenceEnd) × (mode ≢ recover_mode.None))) }
+        ensures cause { AreValid settings → (mode ≡ recover_mode.None) ⊎ D.is_known disk.old → IfErr result
+            (IsRefused (sizes_in settings) settings.blocks (D.byte_at disk.old) (D.surely_has disk.old) mode []) }
         ensures unsound { (AreValid settings → ⊥) → result ≡ Err Config }
+        ensures unread { mode ≡ recover_mode.None → disk.new ≡ disk.old }
+        ensures known { D.is_known disk.old → D.is_known disk.new }
+        ensures same { D.byte_at disk.new ≡ D.byte_at disk.old }
+        ensures has { (b o n : ℕ) → D.surely_has disk.old b o n → D.surely_has disk.new b o n }
     {
         settings.check()?;
-        let index = Indexer::new(alloc.clone()?, settings.indexer_shards)?;
+        let runner = RecoverRunner {
+            mode,
+            blocks: settings.blocks,
+            block_size: settings.block_size,
+            blob_index_size: settings.blob_index_size,
+        };
+        let recovered = match runner.run(&alloc, disk, settings.indexer_shards, &[]) {
+            Ok(recovered) => recovered,
+            Err(error) => return Err(error),
+        };
+        let Recovered { index, next, clean } = recovered;
         let flushers = idle_flushers(&alloc, &settings)?;
-        let manager = clean_blocks(&alloc, env, &settings)?;
+        let manager = place_blocks(&alloc, env, &settings, &clean)?;
         Ok(Core {
             alloc,
             settings,
             index,
-            next: 1,
+            next,
             steps: 0,
             closed: false,
             queued: 0,

@@ -9,10 +9,12 @@ use Rattle.foyer_block.specs.declared.indexer.HashedEntryAddress.{HashedEntryAdd
 use Rattle.foyer_block.specs.Index.{IndexMap}
 use Rattle.foyer_block.specs.Insertion.{inserted_all}
 use Rattle.foyer_buffer.specs.Listing.{Lists, kept}
+use Rattle.foyer_buffer.specs.BlockBytes.{Each}
 use Rattle.foyer_buffer.specs.Position.{Sizes}
 use Rattle.foyer_recover.specs.BlocksKept.{held_by, HoldsKept, AreBlocksRead, IsBlockCut}
 use Rattle.foyer_recover.specs.Chained.{hashed_entries, IsKeptOf}
 use Rattle.foyer_recover.specs.Kept.{greatest_in}
+use Rattle.foyer_recover.specs.Placed.{IsPlaced, IsSomeKept, AreSomeKept}
 use Rattle.foyer_recover.specs.Opening.{winner, stand_in, all_stand, greatest, is_empty, clean_from, IsCut}
 use Rattle.foyer_recover.specs.declared.block.blocks.BlocksRead.{BlocksRead}
 use Rattle.foyer_recover.proofs.FoundLemmas.{index_block, greatest_block, all_stand_push, clean_push, all_stand_same, clean_same}
@@ -118,6 +120,36 @@ module _ {A : Type 0} where
     where
       stand : all_stand 0 n keeps ≡ all_stand 0 n others
       stand = all_stand_same 0 n keeps others (λ k le lt. same k (omega (arith, lt)))
+
+  module _ (s : Sizes) where
+    pub none_kept_of : (read : BlocksRead A) (n : ℕ) → HoldsKept read n (λ b. []) → AreSomeKept s n read
+    none_kept_of read n holds = record { keeps = λ b. []; placed = λ b lt. tt; holds = holds }
+
+    -- one block more, whatever was read of it
+    pub more_kept : (n : ℕ) (old new : BlocksRead A) (batch : List HashedEntryAddress) → AreSomeKept s n old → IsSomeKept s n [] batch
+        → ((keeps : ℕ → List BlobEntryIndex) → HoldsKept old n keeps → batch ≡ hashed_entries n (keeps n) → HoldsKept new (n + 1) keeps)
+        → AreSomeKept s (n + 1) new
+    more_kept n old new batch before this takes = record {
+      keeps = keep;
+      placed = λ b lt. is_placed b lt (b == n) refl;
+      holds = takes keep (holds_same old n before.keeps keep (λ k lt. other k lt (k == n) refl) before.holds) (this.kept ∙ ap (hashed_entries n) (sym own));
+    }
+      where
+        keep : ℕ → List BlobEntryIndex
+        keep b = if b == n then this.keeps else before.keeps b
+
+        own : keep n ≡ this.keeps
+        own = ap (λ (t : Bool). if t then this.keeps else before.keeps n) (eq-eqb n n refl)
+
+        other : (k : ℕ) → k < n → (t : Bool) → (k == n) ≡ t → before.keeps k ≡ keep k
+        other k lt true e = absurd (let same : k ≡ n = eqb-true k n e in omega arith)
+        other k lt false e = ap (λ (t : Bool). if t then this.keeps else before.keeps k) (sym e)
+
+        is_placed : (b : ℕ) → b < n + 1 → (t : Bool) → (b == n) ≡ t → Each (IsPlaced s) (keep b)
+        is_placed b lt true e = subst (Each (IsPlaced s)) (ap (λ (t : Bool). if t then this.keeps else before.keeps b) (sym e)) this.placed
+        is_placed b lt false e =
+            let ne : b ≢ n = eqb-false b n e in
+            subst (Each (IsPlaced s)) (ap (λ (t : Bool). if t then this.keeps else before.keeps b) (sym e)) (before.placed b (omega arith))
 
   module _ (s : Sizes) (bytes : ℕ → ℕ → ℕ) (surely : ℕ → ℕ → ℕ → Type 0) (strict : Bool) where
     pub none_read : (read : BlocksRead A) → ((keeps : ℕ → List BlobEntryIndex) → HoldsKept read 0 keeps) → AreBlocksRead s 0 bytes surely strict read

@@ -1,14 +1,15 @@
 -- The chain of a block as far as a scan has come.
-use Rattle.std.proofs.Common.{◌≡◌, ℕ, suc, ◌+◌, ◌-◌, ◌<◌, ◌≤◌, ◌==◌, nat_le, Bool, true, false, if◌then◌else◌, Option, Some, None, List, [], ◌∷◌, ◌++◌, length, slice_index, refl, sym, ap, subst, ◌∙◌, arith, append_assoc, append-nil, Result, Ok, Err, OnOk, is_ok}
+use Rattle.std.proofs.Common.{◌≡◌, ℕ, suc, ◌+◌, ◌-◌, ◌<◌, ◌≤◌, ◌==◌, ◌^◌, nat_le, Bool, true, false, if◌then◌else◌, Option, Some, None, List, [], ◌∷◌, ◌++◌, length, slice_index, refl, sym, ap, subst, ◌∙◌, arith, append_assoc, append-nil, Result, Ok, Err, OnOk, is_ok}
 use Rattle.std.proofs.lemmas.Bool.{eq-eqb, eqb-true}
 use Rattle.std.proofs.lemmas.Bool.Decides.{nat_tests}
 use Rattle.std.proofs.lemmas.List.{map-append}
+use Rattle.foyer_format.specs.Page.{page_up}
 use Rattle.foyer_blob.specs.declared.blob.BlobEntryIndex.{BlobEntryIndex}
 use Rattle.foyer_block.specs.declared.indexer.HashedEntryAddress.{HashedEntryAddress}
-use Rattle.foyer_buffer.specs.BlockBytes.{read}
+use Rattle.foyer_buffer.specs.BlockBytes.{read, Each}
 use Rattle.foyer_buffer.specs.Fills.{AreSizes}
 use Rattle.foyer_buffer.specs.Holding.{all_read}
-use Rattle.foyer_buffer.specs.Listing.{IsIndex, behind, placed, Chain, Lists, rising, kept}
+use Rattle.foyer_buffer.specs.Listing.{Fits, IsIndex, behind, placed, Chain, Lists, rising, kept}
 use Rattle.foyer_buffer.specs.Listing.Chain.{ends, goes}
 use Rattle.foyer_buffer.specs.Position.{Sizes}
 use Rattle.foyer_scan.specs.IndexBytes.{index_at, IsIndexOf}
@@ -20,6 +21,7 @@ use Rattle.foyer_scan.proofs.IndexBytesLemmas.{judged}
 use Rattle.foyer_scan.proofs.WalkLemmas.{behind_far}
 use Rattle.foyer_recover.specs.Chained.{hashed_entries, IsKeptOf}
 use Rattle.foyer_recover.specs.Kept.{rising_infos, last_kept, hashed_infos}
+use Rattle.foyer_recover.specs.Placed.{AllHashed, IsPlaced, IsSomeKept}
 use Rattle.foyer_recover.proofs.KeptLemmas.{rising_both, last_both, hashed_both}
 
 pub ok_holds : {T E : Type 0} (r : Result T E) (P : Type 0) → OnOk r P → is_ok r ≡ true → P
@@ -76,6 +78,48 @@ pub record IsAlong (s : Sizes) (B : ℕ → ℕ) (block : ℕ) (old now : List H
   pub kept : now ≡ old ++ hashed_infos (rising_infos (Some 0) (infos_of block 0 given))
   pub last : least ≡ last_kept (Some 0) (infos_of block 0 given)
 
+-- an entry, by its offset in the block, lies behind the first index and within the block
+pub record IsWithin (s : Sizes) (e : BlobEntryIndex) : Type 0 where
+  pub behind : s.index ≤ e.offset
+  pub within : e.offset + page_up e.len ≤ s.block
+
+-- whatever was read, this is kept behind what a batch had
+pub record IsSomeAlong (s : Sizes) (block : ℕ) (old now : List HashedEntryAddress) (least : Option ℕ) : Type 0 where
+  pub given : List BlobEntryIndex
+  pub within : Each (IsWithin s) given
+  pub hashed : AllHashed (rising_infos (Some 0) (infos_of block 0 given))
+  pub kept : now ≡ old ++ hashed_infos (rising_infos (Some 0) (infos_of block 0 given))
+  pub last : least ≡ last_kept (Some 0) (infos_of block 0 given)
+
+each_both : {X : Type 0} (P : X → Type 0) (xs ys : List X) → Each P xs → Each P ys → Each P (xs ++ ys)
+each_both P [] ys are too = too
+each_both P (x ∷ xs) ys are too = (are.0, each_both P xs ys are.1 too)
+
+-- what is kept of entries that lie in their block
+each_kept : (P : BlobEntryIndex → Type 0) (n : ℕ) (es : List BlobEntryIndex) → Each P es → Each P (rising n es)
+each_kept P n [] are = tt
+each_kept P n (e ∷ es) are = go (nat_le n e.sequence) (each_kept P e.sequence es are.1)
+  where
+    go : (t : Bool) → Each P (rising e.sequence es) → Each P (if t then e ∷ rising e.sequence es else [])
+    go true rest = (are.0, rest)
+    go false rest = tt
+
+-- entries of an index lie in the block
+fits_within : (s : Sizes) (p : ℕ) (es : List BlobEntryIndex) → Each (Fits s p) es → Each (IsWithin s) (placed p es)
+fits_within s p [] fit = tt
+fits_within s p (e ∷ es) fit = (
+  record {
+    behind = let on : s.index ≤ e.offset = (fit.0).behind in omega arith;
+    within = (fit.0).within;
+  },
+  fits_within s p es fit.1,
+)
+
+within_placed : (s : Sizes) (block : ℕ) (es : List BlobEntryIndex) → Each (IsWithin s) es → AllHashed (infos_of block 0 es) → Each (IsPlaced s) es
+within_placed s block [] within hashed = tt
+within_placed s block (e ∷ es) within hashed =
+    (record { hash = hashed.0; behind = (within.0).behind; within = (within.0).within }, within_placed s block es within.1 hashed.1)
+
 module _ (s : Sizes) (B : ℕ → ℕ) (sizes : AreSizes s) where
   came_start : CameTo s B [] (next_blob s 0)
   came_start = go (nat_le (0 + s.index) s.block) refl
@@ -91,6 +135,9 @@ module _ (s : Sizes) (B : ℕ → ℕ) (sizes : AreSizes s) where
     kept = sym (append-nil old);
     last = refl;
   }
+
+  pub some_start : (block : ℕ) (old : List HashedEntryAddress) → IsSomeAlong s block old old (Some 0)
+  some_start block old = record { given = []; within = tt; hashed = tt; kept = sym (append-nil old); last = refl }
 
   -- behind an index
   came_behind : (given es : List BlobEntryIndex) (p : ℕ) → p + s.index ≤ s.block → CameTo s B given (Some p) → IsIndexOf s p (read B p s.index) es
@@ -199,6 +246,38 @@ module _ (s : Sizes) (B : ℕ → ℕ) (sizes : AreSizes s) where
             (with_more (placed p es) (next_blob scan.sizes (behind scan.sizes p es)) infos
             (subst (λ z. CameTo s B (along.given ++ placed p es) (next_blob z (behind z p es))) (sym same) (came_behind along.given es p room came is)))
 
+    -- whatever the bytes are
+    pub some_on : (block : ℕ) → scan.block ≡ block → scan.filling ≡ 0
+        → (listed : Option (List EntryInfo)) (old now now' : List HashedEntryAddress) (last last' : Option ℕ)
+        → listed ≡ (scan_step scan scan.blob_offset bytes).listed → AllHashed (rising_infos last (infos_in listed))
+        → now' ≡ now ++ hashed_infos (rising_infos last (infos_in listed)) → last' ≡ last_kept last (infos_in listed)
+        → IsSomeAlong s block old now last → IsSomeAlong s block old now' last'
+    some_on block here first listed old now now' last last' listed_is hashed now_is last_is along =
+        go (index_at s p bytes) refl (listed_is ∙ ap (λ (r : ScanStep). r.listed) step_is)
+      where
+        with_more : (more : List BlobEntryIndex) → Each (IsWithin s) more → infos_in listed ≡ infos_of block 0 more → IsSomeAlong s block old now' last'
+        with_more more are is = record {
+          given = along.given ++ more;
+          within = each_both (IsWithin s) along.given more along.within are;
+          hashed =
+              let g : List EntryInfo = infos_of block 0 along.given in
+              let m : List EntryInfo = infos_of block 0 more in
+              subst (λ l. AllHashed (rising_infos (Some 0) l)) (sym (map-append (info_of block 0) along.given more))
+              (subst AllHashed (sym (rising_both (Some 0) g m))
+              (each_both (λ (i : EntryInfo). i.hash < 2 ^ 64) (rising_infos (Some 0) g) (rising_infos (last_kept (Some 0) g) m) along.hashed
+              (subst (λ o. AllHashed (rising_infos o m)) along.last (subst (λ l. AllHashed (rising_infos last l)) is hashed))));
+          kept = now_is ∙ ap (λ l. now ++ hashed_infos (rising_infos last l)) is ∙ kept_on block old now last along.given more along.kept along.last;
+          last = last_is ∙ ap (last_kept last) is ∙ last_on block last along.given more along.last;
+        }
+
+        go : (o : Option (List BlobEntryIndex)) → index_at s p bytes ≡ o → listed ≡ (index_step scan p o).listed → IsSomeAlong s block old now' last'
+        go None e list_is = with_more [] tt (ap infos_in list_is)
+        go (Some es) e list_is =
+            let is : IsIndexOf s p bytes es = (judged s p bytes).some es e in
+            let infos : infos_in listed ≡ infos_of block 0 (placed p es) =
+            ap infos_in list_is ∙ ap (λ b. infos_of b scan.filling (placed p es)) here ∙ ap (λ f. infos_of block f (placed p es)) first in
+            with_more (placed p es) (fits_within s p es is.fits) infos
+
   -- what is kept of entries, behind what a batch had
   kept_entries : (block : ℕ) (old now : List HashedEntryAddress) (given : List BlobEntryIndex) → now ≡ old ++ hashed_infos (rising_infos (Some 0) (infos_of block 0 given))
       → now ≡ old ++ hashed_entries block (kept given)
@@ -246,3 +325,12 @@ module _ (s : Sizes) (B : ℕ → ℕ) (sizes : AreSizes s) where
       chain : Chain s B (λ q. q == p) 0 along.given p
       chain = subst (λ l. Chain s B (λ q. q == p) 0 l p) (append-nil along.given)
           (subst (CameTo s B along.given) at along.came (λ q. q == p) before [] p (ends none))
+
+  -- wherever it ends
+  pub some_ends : (block : ℕ) (old now : List HashedEntryAddress) (last : Option ℕ) → IsSomeAlong s block old now last → IsSomeKept s block old now
+  some_ends block old now last along = record {
+    keeps = kept along.given;
+    placed = within_placed s block (kept along.given) (each_kept (IsWithin s) 0 along.given along.within)
+        (subst AllHashed (rising_entries block 0 along.given) along.hashed);
+    kept = kept_entries block old now along.given along.kept;
+  }

@@ -1,6 +1,8 @@
 pub mod KeptLemmas
 pub mod ChainLemmas
 pub mod FoundLemmas
+pub mod CleanLemmas
 pub mod BlocksLemmas
 pub mod MarkLemmas
 pub mod OpeningLemmas
+pub mod EmptyLemmas

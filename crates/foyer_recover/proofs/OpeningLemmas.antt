@@ -7,6 +7,7 @@ use Rattle.foyer_recover.specs.BlocksKept.{addressed_by, HoldsKept, HoldsFound, 
 use Rattle.foyer_recover.specs.Opening.{Found, Stands, Marked, winner, slot_of, all_stand, all_marked, IsCut, IsCutShort, IsAtEnd}
 use Rattle.foyer_device.specs.declared.error.Error.{Error}
 use Rattle.foyer_device.specs.declared.error.Error.TheVariants as error
+use Rattle.foyer_recover.specs.Placed.{AreSomeKept, IsOpening}
 use Rattle.foyer_recover.specs.Recovery.{held_slot, opened_of, AreFaults, IsRecovered, IsRefused}
 use Rattle.foyer_recover.specs.declared.block.blocks.BlocksRead.{BlocksRead}
 use Rattle.foyer_recover.specs.declared.block.recover.Recovered.{Recovered}
@@ -81,6 +82,23 @@ module _ {A : Type 0} (s : Sizes) (n : ℕ) (bytes : ℕ → ℕ → ℕ) (surel
 
     pub at_end : 2 ^ 64 ≤ after.greatest + 1 → (failed : ℕ → ℕ → Bool) × AreFaults s n surely failed × IsAtEnd s n bytes mode failed marks
     at_end last = (are.failed, are.faults, record { keeps = are.keeps; kept = are.kept; read = are.whole; last = subst (λ k. 2 ^ 64 ≤ k + 1) found.greatest last })
+
+-- whatever was read, it is some opening
+pub some_opening : {A : Type 0} (s : Sizes) (n : ℕ) (marks : List (ℕ × ℕ)) (before after : BlocksRead A) → AreSomeKept s n before
+    → ((found : List Found) → HoldsFound before found → HoldsFound after (found ++ all_marked marks)) → after.clean ≡ before.clean
+    → (r : Recovered A) → r.index ≡ after.index → r.next ≡ after.greatest + 1 → after.greatest + 1 < 2 ^ 64 → r.clean ≡ after.clean
+    → IsOpening s n marks (opened_of r)
+some_opening s n marks before after are taken clean r index_is next_is below clean_is = record {
+  keeps = are.keeps;
+  placed = are.placed;
+  index = λ h. ap (λ m. held_slot (finite.get m h)) index_is ∙ ap held_slot (found.index h) ∙ slot_held (winner h (all_stand 0 n are.keeps ++ all_marked marks));
+  next = next_is ∙ ap (λ k. k + 1) found.greatest;
+  below = subst (λ k. k < 2 ^ 64) (sym next_is) below;
+  clean = ap (λ v. v.items) (clean_is ∙ clean) ∙ (are.holds).clean;
+}
+  where
+    found : HoldsFound after (all_stand 0 n are.keeps ++ all_marked marks)
+    found = taken (all_stand 0 n are.keeps) (record { index = entries_addressed before.index n are.keeps (are.holds).index; greatest = (are.holds).greatest })
 
 -- a block that is cut refuses a strict opening
 pub cut_short : (s : Sizes) (n : ℕ) (bytes : ℕ → ℕ → ℕ) (surely : ℕ → ℕ → ℕ → Type 0) (strict : Bool) → IsBlockCut s n bytes surely strict

@@ -2,4 +2,5 @@ pub mod Opening
 pub mod Kept
 pub mod Chained
 pub mod BlocksKept
+pub mod Placed
 pub mod Recovery

@@ -1,4 +1,5 @@
 mod disk;
+mod opened;
 mod random;
 mod rows;
 mod slow;

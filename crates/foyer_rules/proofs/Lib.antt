@@ -1,3 +1,3 @@
-pub mod FirstWorld
+pub mod OpenedWorlds
 pub mod LawLemmas
 pub mod TripLemmas

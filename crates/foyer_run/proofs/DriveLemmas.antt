@@ -2,7 +2,6 @@
 use Rattle.std.proofs.Common.{◌≡◌, ℕ, List, [], ◌∷◌, ◌++◌, length, replicate, Option, Some, None, refl, sym, ap, subst, ◌∙◌}
 use Rattle.foyer_model.specs.World.{World, WorldEvent, after_all}
 use Rattle.foyer_core.specs.Answered.{HandsBack}
-use Rattle.foyer_rules.specs.Begins.{first_world}
 use Rattle.foyer_rules.specs.Content.{Content, Meaning}
 use Rattle.foyer_rules.specs.CoreRules.{layout}
 use Rattle.foyer_core.specs.Refines.{IsBuilt, IsPutOff, IsRefined}
@@ -86,15 +85,16 @@ module _ {K V P A : Type 0} (m : Meaning K V P) where
       (λ s sound w stands same. step_alone m s sound encodes w x given answer old new bytes stands same is free back (meets s sound) later)
 
   -- a history goes on
-  pub history_more : (s : Settings) (sound : AreValid s) (first : ℕ → ℕ → ℕ) (events : List (WorldEvent Content)) (old new : Core K V P A) (bytes bytes' : ℕ → ℕ → ℕ)
+  pub history_more : (s : Settings) (sound : AreValid s) (first : World Content) (events : List (WorldEvent Content)) (old new : Core K V P A) (bytes bytes' : ℕ → ℕ → ℕ)
       → IsHistory m s sound first events old bytes → Drives m old new bytes bytes' → (more : List (WorldEvent Content)) × IsHistory m s sound first (events ++ more) new bytes'
   history_more s sound first events old new bytes bytes' history drives =
       let rules = machine m s sound in
-      let begun = first_world rules first in
+      let begun = first in
       let w = after_all rules begun events in
       let driven = drives s sound w history.stands history.same in (
         driven.events,
         record {
+          opened = history.opened;
           happened = happen_more rules (layout s) (IsEncoded m.is_key m.is_value) begun events driven.events history.happened driven.happened;
           stands = subst (λ u. IsStateOf m s new u.core) (sym (after_more rules begun events driven.events)) driven.stands;
           same = λ b o. ap (λ u. u.bytes b o) (after_more rules begun events driven.events) ∙ driven.same b o;

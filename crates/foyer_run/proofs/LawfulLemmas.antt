@@ -7,7 +7,6 @@ use Rattle.foyer_model.specs.Step.{LoadBegin, LoadEnd}
 use Rattle.foyer_model.specs.World.{World, WorldEvent, Applies, MayAllHappen, after, after_all}
 use Rattle.foyer_model.proofs.Promises.{answers_newest_lem, missed_newest_lem}
 use Rattle.foyer_model.proofs.PutsQueued.{puts_are_queued_lem}
-use Rattle.foyer_rules.specs.Begins.{first_world}
 use Rattle.foyer_rules.specs.Content.{Content, Meaning}
 use Rattle.foyer_rules.specs.CoreRules.{layout}
 use Rattle.foyer_rules.specs.CoreRules.{machine}
@@ -17,7 +16,7 @@ use Rattle.foyer_core.specs.declared.reply.Reply.{Reply}
 use Rattle.foyer_rules.specs.declared.settings.Settings.{Settings}
 use Rattle.foyer_core.specs.declared.state.Core.{Core}
 use Rattle.foyer_rules.proofs.LawLemmas.{demands}
-use Rattle.foyer_rules.proofs.FirstWorld.{first_opened}
+use Rattle.foyer_model.specs.Opened.{IsOpened as IsOpenedWorld}
 use Rattle.foyer_run.specs.Lawful.{AnswersAreNewest, EntriesAreNewest, NewestAreAnswered, PutsWereQueued, IsLawful}
 use Rattle.foyer_run.specs.Runs.{IsRun}
 use Rattle.foyer_run.specs.declared.moves.Move.{Move}
@@ -35,7 +34,7 @@ happen_rest : {C : Type 0} (rules : Rules C) (Splits : Splitting C) (is_value : 
 happen_rest rules Splits is_value w [] ys all = all
 happen_rest rules Splits is_value w (x ∷ xs) ys all = happen_rest rules Splits is_value (after rules w x) xs ys all.1
 
-module _ {K V P : Type 0} (m : Meaning K V P) (s : Settings) (sound : AreValid s) (bytes : ℕ → ℕ → ℕ) where
+module _ {K V P : Type 0} (m : Meaning K V P) (s : Settings) (sound : AreValid s) (first : World Content) (is_opened : IsOpenedWorld (machine m s sound) first) where
   abbrev rules : Rules Content
   rules = machine m s sound
 
@@ -45,14 +44,11 @@ module _ {K V P : Type 0} (m : Meaning K V P) (s : Settings) (sound : AreValid s
   abbrev is_value : Content → Type 0
   is_value = IsEncoded m.is_key m.is_value
 
-  abbrev first : World Content
-  first = first_world rules bytes
-
   met : Demands rules Splits is_value
   met = demands m.is_key m.is_value s sound
 
   reached : (before : List (WorldEvent Content)) → MayAllHappen rules Splits is_value first before → IsReached rules Splits is_value (after_all rules first before)
-  reached before happened = record { first = first; events = before; opened = first_opened rules bytes; happened = happened; is = refl }
+  reached before happened = record { first = first; events = before; opened = is_opened; happened = happened; is = refl }
 
   module _ (events : List (WorldEvent Content)) (happened : MayAllHappen rules Splits is_value first events) where
     entries : EntriesAreNewest rules first events
@@ -73,7 +69,7 @@ module _ {K V P : Type 0} (m : Meaning K V P) (s : Settings) (sound : AreValid s
         let all : MayAllHappen rules Splits is_value first (before ++ end ∷ rest) = subst (λ es. MayAllHappen rules Splits is_value first es) is happened in
         let fed = (happen_rest rules Splits is_value first before (end ∷ rest) all).0.0 in
         let found = subst (λ u. IsLookedUp rules Splits is_value first before fed.0 u) fed.3
-        (all_looked_up rules Splits is_value first before (λ n. refl) (happen_front rules Splits is_value first before (end ∷ rest) all) fed.0 fed.1 fed.2) in
+        (all_looked_up rules Splits is_value first before is_opened.loads (happen_front rules Splits is_value first before (end ∷ rest) all) fed.0 fed.1 fed.2) in
         let look : WorldEvent Content = Applies (LoadBegin found.hash found.throttled) (model_reply.Read t) found.looked in
         let w : World Content = after_all rules first found.earlier in
         let here : (after_all rules w (look ∷ found.between)).loads w.issued ≡ Some fed.1 =
@@ -112,16 +108,13 @@ module _ {K V P : Type 0} (m : Meaning K V P) (s : Settings) (sound : AreValid s
         )
 
     puts : PutsWereQueued rules first events
-    puts h q x among =
-        elim (puts_are_queued_lem rules Splits is_value first events h q x met (first_opened rules bytes) happened among) [
-          | inl none ↦ absurd none
-          | inr queued ↦ queued
-        ]
+    puts h q x among = puts_are_queued_lem rules Splits is_value first events h q x met is_opened happened among
 
-  -- a run from the first world is lawful
+  -- a run from an opened world is lawful
   pub lawful : {A : Type 0} (moves : List (Move K V P A)) (said : List (Reply K V P A)) (core : Core K V P A) (bytes' : ℕ → ℕ → ℕ)
-      → IsRun m s sound first moves said core bytes' → IsLawful m s sound bytes moves said
+      → IsRun m s sound first moves said core bytes' → IsLawful m s sound first moves said
   lawful moves said core bytes' run = record {
+    opened = is_opened;
     events = run.events;
     happened = run.happened;
     made = run.made;

@@ -5,6 +5,7 @@ pub mod DueLemmas
 pub mod FlusherSteps
 pub mod IdleLemmas
 pub mod LawfulLemmas
+pub mod OpenedRuns
 pub mod ListLemmas
 pub mod LoadLemmas
 pub mod LookUpLemmas

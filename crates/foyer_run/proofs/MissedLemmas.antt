@@ -7,7 +7,7 @@ use Rattle.foyer_model.specs.Access.{ReadDone, ReadIssued}
 use Rattle.foyer_model.specs.Event.{Put, newest}
 use Rattle.foyer_model.specs.Laws.{IsAnswer, IsReached}
 use Rattle.foyer_model.specs.Numbers.{last_number}
-use Rattle.foyer_model.specs.Record.{Holds, NoRecord}
+use Rattle.foyer_model.specs.Record.{Outcome, Holds, NoRecord, NotSupported, Undecodable}
 use Rattle.foyer_model.specs.Reply as model_reply
 use Rattle.foyer_model.specs.State.{State}
 use Rattle.foyer_model.specs.Step as model_step
@@ -17,7 +17,6 @@ use Rattle.foyer_model.proofs.Basics.{put_same}
 use Rattle.foyer_model.proofs.Missed.{loads_newest_lem, looks_up_newest_lem}
 use Rattle.foyer_model.proofs.Promises.{reached_more}
 use Rattle.foyer_core.specs.Asked.{step_of, ticket_of, came_of}
-use Rattle.foyer_rules.specs.Begins.{first_world}
 use Rattle.foyer_rules.specs.Content.{Content, Meaning}
 use Rattle.foyer_rules.specs.CoreRules.{layout}
 use Rattle.foyer_core.specs.Refines.{IsRefined}
@@ -33,48 +32,105 @@ use Rattle.foyer_core.specs.declared.state.Core.{Core}
 use Rattle.foyer_core.specs.declared.step.Step.TheVariants as step
 use Rattle.foyer_core.specs.declared.step.Ticket.{Ticket}
 use Rattle.foyer_rules.proofs.LawLemmas.{demands}
-use Rattle.foyer_rules.proofs.FirstWorld.{first_opened}
-use Rattle.foyer_run.specs.Newest.{IsHistory, IsMissedOnly, IsPutOrFault}
+use Rattle.foyer_run.specs.Newest.{IsHistory, IsMissedOnly, IsPutOrFault, MayFail}
 use Rattle.foyer_run.specs.Running.{ticket_in}
 use Rattle.foyer_run.proofs.LoadLemmas.{IsCome, began, ended, ends, gives, load_at}
 
--- how the model ends the load of a put
-abbrev Gives : Content → model_reply.Reply Content → Type 0
-Gives c (model_reply.Entry d age) = d ≡ c
-Gives c (model_reply.Refused model_reply.Io back) = Unit {0}
-Gives c (model_reply.Refused model_reply.Memory back) = Unit {0}
-Gives c it = ⊥
+-- the kinds for which the model refuses the load of a record
+abbrev FailsAs : Outcome Content → model_reply.Kind → Type 0
+FailsAs (Holds c) model_reply.Io = Unit {0}
+FailsAs (Holds c) model_reply.Memory = Unit {0}
+FailsAs (Holds c) k = ⊥
+FailsAs Undecodable model_reply.Io = Unit {0}
+FailsAs Undecodable model_reply.Parse = Unit {0}
+FailsAs Undecodable model_reply.Memory = Unit {0}
+FailsAs Undecodable k = ⊥
+FailsAs NotSupported model_reply.Io = Unit {0}
+FailsAs NotSupported model_reply.Unsupported = Unit {0}
+FailsAs NotSupported k = ⊥
+FailsAs NoRecord k = ⊥
 
-given : (t : model_step.Ticket) (result : model_step.ReadResult) (c : Content) (it : model_reply.Reply Content) → IsAnswer t result (Holds c) it → Gives c it
-given t model_step.Fault c it is = subst (Gives c) (sym is) tt
-given t (model_step.Bytes bs) c it is = elim is [
-  | inl entry ↦ subst (Gives c) (sym entry.1) refl
-  | inr refused ↦ subst (Gives c) (sym refused) tt
+-- how the model ends the load of a record
+abbrev Gives : Outcome Content → model_reply.Reply Content → Type 0
+Gives x (model_reply.Entry d age) = x ≡ Holds d
+Gives x (model_reply.Refused k back) = FailsAs x k
+Gives x it = ⊥
+
+given : (t : model_step.Ticket) (result : model_step.ReadResult) (x : Outcome Content) (it : model_reply.Reply Content) → x ≢ NoRecord → IsAnswer t result x it → Gives x it
+given t model_step.Fault NoRecord it some is = absurd (some refl)
+given t model_step.Fault (Holds c) it some is = subst (Gives (Holds c)) (sym is) tt
+given t model_step.Fault Undecodable it some is = subst (Gives Undecodable) (sym is) tt
+given t model_step.Fault NotSupported it some is = subst (Gives NotSupported) (sym is) tt
+given t (model_step.Bytes bs) NoRecord it some is = absurd (some refl)
+given t (model_step.Bytes bs) (Holds c) it some is = elim is [
+  | inl entry ↦ subst (Gives (Holds c)) (sym entry.1) refl
+  | inr refused ↦ subst (Gives (Holds c)) (sym refused) tt
 ]
+given t (model_step.Bytes bs) Undecodable it some is = elim is [
+  | inl parse ↦ subst (Gives Undecodable) (sym parse) tt
+  | inr refused ↦ subst (Gives Undecodable) (sym refused) tt
+]
+given t (model_step.Bytes bs) NotSupported it some is = subst (Gives NotSupported) (sym is) tt
 
-of_kind : (c : Content) (j k : model_reply.Kind) (back : model_step.Step Content) → Some j ≡ Some k → Gives c (model_reply.Refused k back) → Gives c (model_reply.Refused j back)
-of_kind c j k back issued what = subst (λ i. Gives c (model_reply.Refused i back)) (let e : k ≡ j = cc in e) what
+of_kind : (x : Outcome Content) (j k : model_reply.Kind) → Some j ≡ Some k → FailsAs x k → FailsAs x j
+of_kind x j k issued what = subst (FailsAs x) (let e : k ≡ j = cc in e) what
+
+fails_io : (x : Outcome Content) → FailsAs x model_reply.Io → MayFail x kind.Io
+fails_io (Holds c) what = inl refl
+fails_io Undecodable what = inl refl
+fails_io NotSupported what = inl refl
+fails_io NoRecord what = what
+
+fails_memory : (x : Outcome Content) → FailsAs x model_reply.Memory → MayFail x kind.Memory
+fails_memory (Holds c) what = inr refl
+fails_memory Undecodable what = inr (inr refl)
+fails_memory NotSupported what = absurd what
+fails_memory NoRecord what = what
+
+fails_parse : (x : Outcome Content) → FailsAs x model_reply.Parse → MayFail x kind.Parse
+fails_parse (Holds c) what = absurd what
+fails_parse Undecodable what = inr (inl refl)
+fails_parse NotSupported what = absurd what
+fails_parse NoRecord what = what
+
+fails_unsupported : (x : Outcome Content) → FailsAs x model_reply.Unsupported → MayFail x kind.Unsupported
+fails_unsupported (Holds c) what = absurd what
+fails_unsupported Undecodable what = absurd what
+fails_unsupported NotSupported what = inr refl
+fails_unsupported NoRecord what = what
+
+never_closed : (x : Outcome Content) → FailsAs x model_reply.Closed → ⊥
+never_closed (Holds c) what = what
+never_closed Undecodable what = what
+never_closed NotSupported what = what
+never_closed NoRecord what = what
+
+never_ends : (x : Outcome Content) → FailsAs x model_reply.SequenceEnd → ⊥
+never_ends (Holds c) what = what
+never_ends Undecodable what = what
+never_ends NotSupported what = what
+never_ends NoRecord what = what
 
 module _ {K V P A : Type 0} (m : Meaning K V P) where
   -- and so the core does
-  put_or_fault : (c : Content) (answer : Reply K V P A) (it : model_reply.Reply Content) → IsReply m answer it → Gives c it → IsPutOrFault m c answer
-  put_or_fault c (reply.Entry key value age) it is what = subst (Gives c) is what
-  put_or_fault c (reply.Refused kind.Io back) it is what = inl refl
-  put_or_fault c (reply.Refused kind.Memory back) it is what = inr refl
-  put_or_fault c (reply.Refused kind.Parse back) it (k, issued, is) what = absurd (of_kind c model_reply.Parse k (step_of m back) issued (subst (Gives c) is what))
-  put_or_fault c (reply.Refused kind.Closed back) it (k, issued, is) what = absurd (of_kind c model_reply.Closed k (step_of m back) issued (subst (Gives c) is what))
-  put_or_fault c (reply.Refused kind.Unsupported back) it (k, issued, is) what = absurd (of_kind c model_reply.Unsupported k (step_of m back) issued (subst (Gives c) is what))
-  put_or_fault c (reply.Refused kind.SequenceEnd back) it (k, issued, is) what = absurd (of_kind c model_reply.SequenceEnd k (step_of m back) issued (subst (Gives c) is what))
-  put_or_fault c (reply.Refused why back) it (k, issued, is) what = absurd (let e : None ≡ Some k = issued in cc)
-  put_or_fault c (reply.Began blocks marks) it (ss, count, is) what = absurd (subst (Gives c) is what)
-  put_or_fault c (reply.Ended pieces waits) it (ps, same, is) what = absurd (subst (Gives c) is what)
-  put_or_fault c (reply.Scan b o n) it is what = absurd is
-  put_or_fault c reply.Listed it is what = absurd is
-  put_or_fault c (reply.Clean b) it is what = absurd is
-  put_or_fault c (reply.Destroying q) it is what = absurd is
-  put_or_fault c reply.Cleared it is what = absurd is
-  put_or_fault c (reply.Destroyed well) it is what = absurd is
-  put_or_fault c answer it is what = absurd (subst (Gives c) is what)
+  put_or_fault : (x : Outcome Content) (answer : Reply K V P A) (it : model_reply.Reply Content) → IsReply m answer it → Gives x it → IsPutOrFault m x answer
+  put_or_fault x (reply.Entry key value age) it is what = subst (Gives x) is what
+  put_or_fault x (reply.Refused kind.Io back) it (k, issued, is) what = fails_io x (of_kind x model_reply.Io k issued (subst (Gives x) is what))
+  put_or_fault x (reply.Refused kind.Memory back) it (k, issued, is) what = fails_memory x (of_kind x model_reply.Memory k issued (subst (Gives x) is what))
+  put_or_fault x (reply.Refused kind.Parse back) it (k, issued, is) what = fails_parse x (of_kind x model_reply.Parse k issued (subst (Gives x) is what))
+  put_or_fault x (reply.Refused kind.Closed back) it (k, issued, is) what = absurd (never_closed x (of_kind x model_reply.Closed k issued (subst (Gives x) is what)))
+  put_or_fault x (reply.Refused kind.Unsupported back) it (k, issued, is) what = fails_unsupported x (of_kind x model_reply.Unsupported k issued (subst (Gives x) is what))
+  put_or_fault x (reply.Refused kind.SequenceEnd back) it (k, issued, is) what = absurd (never_ends x (of_kind x model_reply.SequenceEnd k issued (subst (Gives x) is what)))
+  put_or_fault x (reply.Refused why back) it (k, issued, is) what = absurd (let e : None ≡ Some k = issued in cc)
+  put_or_fault x (reply.Began blocks marks) it (ss, count, is) what = absurd (subst (Gives x) is what)
+  put_or_fault x (reply.Ended pieces waits) it (ps, same, is) what = absurd (subst (Gives x) is what)
+  put_or_fault x (reply.Scan b o n) it is what = absurd is
+  put_or_fault x reply.Listed it is what = absurd is
+  put_or_fault x (reply.Clean b) it is what = absurd is
+  put_or_fault x (reply.Destroying q) it is what = absurd is
+  put_or_fault x reply.Cleared it is what = absurd is
+  put_or_fault x (reply.Destroyed well) it is what = absurd is
+  put_or_fault x answer it is what = absurd (subst (Gives x) is what)
 
   -- a reply that issues a read is the core's own
   issues_read : (answer : Reply K V P A) (t : model_step.Ticket) → IsReply m answer (model_reply.Read t) → (ticket : Ticket) × (ticket_in answer ≡ Some ticket)
@@ -91,22 +147,21 @@ module _ {K V P A : Type 0} (m : Meaning K V P) where
   issues_read answer t is = absurd (cc)
 
   -- where a put is newest, the look-up issues a read of it
-  looked_up : (s : Settings) (sound : AreValid s) (first : ℕ → ℕ → ℕ) (events : List (WorldEvent Content)) (h : ℕ) (answer : model_reply.Reply Content) (looked : State Content) (b q : ℕ) (c : Content) (core : Core K V P A) (bytes : ℕ → ℕ → ℕ)
+  looked_up : (s : Settings) (sound : AreValid s) (first : World Content) (events : List (WorldEvent Content)) (h : ℕ) (answer : model_reply.Reply Content) (looked : State Content) (b q : ℕ) (x : Outcome Content) (core : Core K V P A) (bytes : ℕ → ℕ → ℕ)
       → IsHistory m s sound first events core bytes → core.steps + 1 < last_number
-      → (after_all (machine m s sound) (first_world (machine m s sound) first) events).kept h ≡ Some b
-      → newest h (after_all (machine m s sound) (first_world (machine m s sound) first) events).history ≡ Some (Put h q (Holds c))
-      → Follows (machine m s sound) (layout s) (after_all (machine m s sound) (first_world (machine m s sound) first) events).core (model_step.LoadBegin h false) answer looked
+      → (after_all (machine m s sound) first events).kept h ≡ Some b
+      → newest h (after_all (machine m s sound) first events).history ≡ Some (Put h q x) → x ≢ NoRecord
+      → Follows (machine m s sound) (layout s) (after_all (machine m s sound) first events).core (model_step.LoadBegin h false) answer looked
       → (t : model_step.Ticket) × (answer ≡ model_reply.Read t) × (t.hash ≡ h)
-  looked_up s sound first events h answer looked b q c core bytes history few kept newer follows =
+  looked_up s sound first events h answer looked b q x core bytes history few kept newer some follows =
       let rules = machine m s sound in
       let Splits = layout s in
       let is_value = IsEncoded m.is_key m.is_value in
-      let w = after_all rules (first_world rules first) events in
-      let reached : IsReached rules Splits is_value w = record { first = first_world rules first; events = events; opened = first_opened rules first; happened = history.happened; is = refl } in
+      let w = after_all rules first events in
+      let reached : IsReached rules Splits is_value w = record { first = first; events = events; opened = history.opened; happened = history.happened; is = refl } in
       let steps : w.core.steps ≡ core.steps = history.stands.steps in
       let early : w.core.steps < last_number = omega arith in
-      let none : Holds c ≢ NoRecord = λ e. cc in
-      elim (looks_up_newest_lem rules Splits is_value w h false answer looked b q (Holds c) (demands m.is_key m.is_value s sound) reached (tt, follows) early kept newer none) [
+      elim (looks_up_newest_lem rules Splits is_value w h false answer looked b q x (demands m.is_key m.is_value s sound) reached (tt, follows) early kept newer some) [
         | inl throttled ↦ absurd (let e : false ≡ true = throttled.0 in cc)
         | inr read ↦ ((read.1).0, (read.1).1, (read.1).2)
       ]
@@ -116,10 +171,10 @@ module _ {K V P A : Type 0} (m : Meaning K V P) where
       → throttled ≡ false → ticket_in answer ≡ None
       → ((s : Settings) (sound : AreValid s) (v : World Content) → IsStateOf m s old v.core → IsRefined m s sound (step.LoadBegin h throttled) answer new v.core)
       → IsMissedOnly m h old bytes answer
-  look_up_missed h throttled answer old new bytes not none meets = λ s sound first events history few b q c kept newer.
-      let w = after_all (machine m s sound) (first_world (machine m s sound) first) events in
+  look_up_missed h throttled answer old new bytes not none meets = λ s sound first events history few b q x kept newer some.
+      let w = after_all (machine m s sound) first events in
       let met = subst (λ z. IsRefined m s sound (step.LoadBegin h z) answer new w.core) not (meets s sound w history.stands) in
-      let read = looked_up s sound first events h met.it met.after b q c old bytes history few kept newer met.follows in
+      let read = looked_up s sound first events h met.it met.after b q x old bytes history few kept newer some met.follows in
       let issued = issues_read answer read.0 (subst (IsReply m answer) read.1 met.reply) in
       absurd (let e : Some issued.0 ≡ None = sym issued.1 ∙ none in cc)
 
@@ -130,11 +185,11 @@ module _ {K V P A : Type 0} (m : Meaning K V P) where
       → IsCome bytes ticket outcome
       → ((s : Settings) (sound : AreValid s) (v : World Content) → IsStateOf m s mid v.core → IsRefined m s sound (step.LoadEnd ticket outcome) answer new v.core)
       → IsMissedOnly m h old bytes answer
-  load_missed h throttled ticket outcome answer old mid new bytes not looks come loads = λ s sound first events history few b q c kept newer.
+  load_missed h throttled ticket outcome answer old mid new bytes not looks come loads = λ s sound first events history few b q x kept newer some.
       let rules = machine m s sound in
       let Splits = layout s in
       let is_value = IsEncoded m.is_key m.is_value in
-      let w = after_all rules (first_world rules first) events in
+      let w = after_all rules first events in
       let t = ticket_of ticket in
       let result = came_of outcome in
       let looked = subst (λ z. IsRefined m s sound (step.LoadBegin h z) (reply.Read ticket) mid w.core) not (looks s sound w history.stands) in
@@ -151,16 +206,16 @@ module _ {K V P A : Type 0} (m : Meaning K V P) where
       let stands_read =
       subst (λ o. IsReadAt rules v.bytes o result) (sym (began m s sound v k t (newest t.hash w.history) (w.kept t.hash) issued))
       (gives m s sound v bytes ticket outcome (covers rules v t.address.block) history.same come) in
-      let found = looked_up s sound first events h (model_reply.Read t) looked.after b q c old bytes history few kept newer issued_follows in
+      let found = looked_up s sound first events h (model_reply.Read t) looked.after b q x old bytes history few kept newer some issued_follows in
       let ticket_is : found.0 ≡ t = (let e : model_reply.Read t ≡ model_reply.Read found.0 = found.1 in cc) in
       let hash : t.hash ≡ h = ap (λ z. z.hash) (sym ticket_is) ∙ found.2 in
       let steps : w.core.steps ≡ old.steps = history.stands.steps in
       let counted : looked.after.steps ≡ w.core.steps + 1 = ap (λ z. z.steps) ((issued_follows.2).2) in
       let early : looked.after.steps < last_number = omega arith in
-      let reached : IsReached rules Splits is_value w = record { first = first_world rules first; events = events; opened = first_opened rules first; happened = history.happened; is = refl } in
+      let reached : IsReached rules Splits is_value w = record { first = first; events = events; opened = history.opened; happened = history.happened; is = refl } in
       let gone = reached_more rules Splits is_value w (begin ∷ ReadBegins k ∷ ReadEnds k result ∷ []) reached ((tt, issued_follows), (tt, (stands_read, tt))) in
-      let answered = loads_newest_lem rules Splits is_value u t result met.it met.after k has b q (Holds c) (demands m.is_key m.is_value s sound) gone
+      let answered = loads_newest_lem rules Splits is_value u t result met.it met.after k has b q x (demands m.is_key m.is_value s sound) gone
       ((k, has, read, refl, refl), met.follows) early read refl refl
       (ap w.kept hash ∙ kept)
-      (ap (λ j. newest j w.history) hash ∙ newer ∙ ap (λ j. Some (Put j q (Holds c))) (sym hash)) in
-      put_or_fault c answer met.it met.reply (given t result c met.it answered)
+      (ap (λ j. newest j w.history) hash ∙ newer ∙ ap (λ j. Some (Put j q x)) (sym hash)) in
+      put_or_fault x answer met.it met.reply (given t result x met.it some answered)

@@ -15,7 +15,6 @@ use Rattle.foyer_model.specs.World.{World, Applies, ReadBegins, ReadEnds, IsRead
 use Rattle.foyer_model.proofs.Basics.{put_same}
 use Rattle.foyer_model.proofs.Promises.{answers_newest_lem}
 use Rattle.foyer_core.specs.Asked.{age_of, ticket_of, came_of}
-use Rattle.foyer_rules.specs.Begins.{first_world}
 use Rattle.foyer_rules.specs.Content.{Content, Meaning, content}
 use Rattle.foyer_rules.specs.CoreRules.{layout}
 use Rattle.foyer_core.specs.Refines.{IsRefined}
@@ -30,7 +29,6 @@ use Rattle.foyer_core.specs.declared.state.Core.{Core}
 use Rattle.foyer_core.specs.declared.step.Step.TheVariants as step
 use Rattle.foyer_core.specs.declared.step.Ticket.{Ticket}
 use Rattle.foyer_rules.proofs.LawLemmas.{demands}
-use Rattle.foyer_rules.proofs.FirstWorld.{first_opened}
 use Rattle.foyer_run.specs.Newest.{IsNewest}
 use Rattle.foyer_run.proofs.LoadLemmas.{IsCome, began, ended, ends, gives, load_at}
 
@@ -46,7 +44,7 @@ module _ {K V P A : Type 0} (m : Meaning K V P) where
       → ((s : Settings) (sound : AreValid s) (v : World Content) → IsStateOf m s old v.core → IsRefined m s sound (step.LoadBegin h throttled) answer new v.core)
       → IsNewest m h old bytes answer
   look_up_newest h throttled (reply.Entry key value age) old new bytes meets = λ s sound first events history.
-      let w = after_all (machine m s sound) (first_world (machine m s sound) first) events in
+      let w = after_all (machine m s sound) first events in
       let met = meets s sound w history.stands in
       let follows = subst (λ r. Follows (machine m s sound) (layout s) w.core (model_step.LoadBegin h throttled) r met.after) met.reply met.follows in
       absurd (no_entry (machine m s sound) w.core (follows.2).0 h throttled (w.core.index h) (content m key value) (age_of age) (follows.2).1)
@@ -62,7 +60,7 @@ module _ {K V P A : Type 0} (m : Meaning K V P) where
       let rules = machine m s sound in
       let Splits = layout s in
       let is_value = IsEncoded m.is_key m.is_value in
-      let w = after_all rules (first_world rules first) events in
+      let w = after_all rules first events in
       let t = ticket_of ticket in
       let result = came_of outcome in
       let looked = looks s sound w history.stands in
@@ -83,7 +81,7 @@ module _ {K V P A : Type 0} (m : Meaning K V P) where
         t.address.sequence,
         answers_newest_lem rules Splits is_value w h throttled t looked.after (ReadBegins k ∷ ReadEnds k result ∷ []) result (content m key value) (age_of age) met.after has
             (demands m.is_key m.is_value s sound)
-            (record { first = first_world rules first; events = events; opened = first_opened rules first; happened = history.happened; is = refl })
+            (record { first = first; events = events; opened = history.opened; happened = history.happened; is = refl })
             ((tt, issued_follows), (tt, (stands_read, tt)))
             ((k, has, read, refl, refl), end_follows) read refl,
       )

@@ -1,21 +1,25 @@
 -- What holds of a run that began with an opened core: the laws, of its own events and replies.
-use Rattle.std.specs.Prelude.{◌≡◌, ◌≢◌, ℕ, ◌<◌, Bool, false, List, ◌∷◌, ◌++◌, Some}
-use Rattle.foyer_model.specs.Access.{Load, ReadDone, Idle}
+use Rattle.std.specs.Prelude.{◌≡◌, ◌≢◌, ◌⊎◌, ℕ, ◌<◌, Bool, false, List, [], ◌∷◌, ◌++◌, Some}
+use Rattle.foyer_model.specs.Access.{Load, ReadDone}
 use Rattle.foyer_model.specs.Event.{Put, newest}
 use Rattle.foyer_model.specs.Laws.{IsAmong, IsAnswer, WasQueued}
 use Rattle.foyer_model.specs.Numbers.{last_number}
-use Rattle.foyer_model.specs.Record.{Outcome, NoRecord, Holds}
+use Rattle.foyer_model.specs.Opened.{IsOpened as IsOpenedWorld}
+use Rattle.foyer_model.specs.Record.{Address, Outcome, NoRecord, Holds}
 use Rattle.foyer_model.specs.Reply as model_reply
 use Rattle.foyer_model.specs.Rules.{Rules}
 use Rattle.foyer_model.specs.State.{State}
 use Rattle.foyer_model.specs.Step.{Age, ReadResult, Ticket, LoadBegin, LoadEnd}
 use Rattle.foyer_model.specs.World.{World, WorldEvent, Applies, MayAllHappen, after_all}
-use Rattle.foyer_rules.specs.Begins.{first_world}
+use Rattle.foyer_rules.specs.Begins.{opened_world}
 use Rattle.foyer_rules.specs.Content.{Content, Meaning}
 use Rattle.foyer_rules.specs.CoreRules.{layout}
 use Rattle.foyer_rules.specs.CoreRules.{machine}
 use Rattle.foyer_rules.specs.CoreRules.{IsEncoded}
-use Rattle.foyer_rules.specs.Sizes.{AreValid}
+use Rattle.foyer_recover.specs.Opening.{Opened}
+use Rattle.foyer_recover.specs.Recovery.{IsRecovered}
+use Rattle.foyer_recover.specs.declared.block.recover.RecoverMode.{RecoverMode}
+use Rattle.foyer_rules.specs.Sizes.{AreValid, sizes_in}
 use Rattle.foyer_core.specs.declared.reply.Reply.{Reply}
 use Rattle.foyer_rules.specs.declared.settings.Settings.{Settings}
 use Rattle.foyer_run.specs.Moves.{AreMade}
@@ -64,19 +68,33 @@ module _ {C : Type 0} (rules : Rules C) (first : World C) (events : List (WorldE
       → l.read_state ≡ ReadDone result → l.kept ≡ Some d
       → IsAnswer t result x answer)
 
-  -- each put of the history is of the content of the Enqueue that got its sequence
+  -- each put of the history was found, or is of the content of the Enqueue that got its sequence
   abbrev pub PutsWereQueued : Type 0
   PutsWereQueued =
       (h s : ℕ) (x : Outcome C) → IsAmong (Put h s x) (after_all rules first events).history
-      → (c : C) × (x ≡ Holds c) × WasQueued h s c events
+      → IsAmong (Put h s x) first.history ⊎ ((c : C) × (x ≡ Holds c) × WasQueued h s c events)
 
--- Events that may happen from an opened core on, over these bytes, which these moves name and whose replies these are:
--- and the laws hold of them.
-pub record IsLawful {K V P A : Type 0} (m : Meaning K V P) (s : Settings) (sound : AreValid s) (bytes : ℕ → ℕ → ℕ) (moves : List (Move K V P A)) (said : List (Reply K V P A)) : Type 0 where
+-- Events that may happen from an opened world on, which these moves name and whose replies these are: and the laws hold
+-- of them.
+pub record IsLawful {K V P A : Type 0} (m : Meaning K V P) (s : Settings) (sound : AreValid s) (first : World Content) (moves : List (Move K V P A)) (said : List (Reply K V P A)) : Type 0 where
+  pub opened : IsOpenedWorld (machine m s sound) first
   pub events : List (WorldEvent Content)
-  pub happened : MayAllHappen (machine m s sound) (layout s) (IsEncoded m.is_key m.is_value) (first_world (machine m s sound) bytes) events
-  pub made : AreMade m s sound 0 (λ f. Idle) (first_world (machine m s sound) bytes) moves events said
-  pub answers : AnswersAreNewest (machine m s sound) (first_world (machine m s sound) bytes) events
-  pub entries : EntriesAreNewest (machine m s sound) (first_world (machine m s sound) bytes) events
-  pub misses : NewestAreAnswered (machine m s sound) (first_world (machine m s sound) bytes) events
-  pub puts : PutsWereQueued (machine m s sound) (first_world (machine m s sound) bytes) events
+  pub happened : MayAllHappen (machine m s sound) (layout s) (IsEncoded m.is_key m.is_value) first events
+  pub made : AreMade m s sound first.issued first.block_writes first moves events said
+  pub answers : AnswersAreNewest (machine m s sound) first events
+  pub entries : EntriesAreNewest (machine m s sound) first events
+  pub misses : NewestAreAnswered (machine m s sound) first events
+  pub puts : PutsWereQueued (machine m s sound) first events
+
+-- the same of a world with what an opening found over these bytes: where the disk shows them, exactly what they give
+pub record IsLawfulFrom {K V P A : Type 0} (m : Meaning K V P) (s : Settings) (sound : AreValid s) (bytes shown : ℕ → ℕ → ℕ) (surely_has : ℕ → ℕ → ℕ → Type 0) (mode : RecoverMode) (moves : List (Move K V P A)) (said : List (Reply K V P A)) : Type 0 where
+  pub found : Opened
+  pub addresses : List (ℕ × Address)
+  pub recovered : IsRecovered (sizes_in s) s.blocks shown surely_has mode [] found
+  pub lawful : IsLawful m s sound (opened_world (machine m s sound) bytes found addresses) moves said
+
+-- the same of a world in which nothing was found
+pub record IsLawfulEmpty {K V P A : Type 0} (m : Meaning K V P) (s : Settings) (sound : AreValid s) (bytes : ℕ → ℕ → ℕ) (moves : List (Move K V P A)) (said : List (Reply K V P A)) : Type 0 where
+  pub found : Opened
+  pub next : found.next ≡ 1
+  pub lawful : IsLawful m s sound (opened_world (machine m s sound) bytes found []) moves said

@@ -5,6 +5,7 @@ pub mod Due
 pub mod Lawful
 pub mod Moves
 pub mod Newest
+pub mod Begun
 pub mod Running
 pub mod Runs
 pub mod Texts

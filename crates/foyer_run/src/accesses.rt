@@ -1,6 +1,6 @@
 //! A load and a block's writes, each with its accesses in their place.
 ghost use Rattle.std.specs.Prelude.{ℕ, List, ◌++◌, ◌≡◌, ◌∷◌, [], false, OnErr, IfOk, IfSome, IfNone};
-ghost use Rattle.foyer_model.specs.World.{WorldEvent};
+ghost use Rattle.foyer_model.specs.World.{World, WorldEvent};
 ghost use Rattle.foyer_rules.specs.Content.{Content, Meaning, meaning};
 ghost use Rattle.foyer_rules.specs.Sizes.{AreValid};
 ghost use Rattle.foyer_rules.specs.declared.settings.Settings.{Settings};
@@ -163,7 +163,7 @@ where
 /// A history that led to a core and bytes goes on to those that they are driven to: so it does from an opening on, over
 /// any calls that drive a core, one after the other.
 pub fn histories_go_on<K, V, P, A>()
-    ensures { (m : Meaning K V P) (s : Settings) (sound : AreValid s) (first : ℕ → ℕ → ℕ) (events : List (WorldEvent Content))
+    ensures { (m : Meaning K V P) (s : Settings) (sound : AreValid s) (first : World Content) (events : List (WorldEvent Content))
         (old new : Core K V P A) (bytes bytes' : ℕ → ℕ → ℕ) → IsHistory m s sound first events old bytes → Drives m old new bytes bytes'
         → (more : List (WorldEvent Content)) × IsHistory m s sound first (events ++ more) new bytes' }
 {}

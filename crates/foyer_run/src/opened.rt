@@ -1,15 +1,17 @@
 //! Runs that begin with an opened core, and what the laws say of them.
-ghost use Rattle.std.specs.Prelude.{◌≡◌, ◌⊎◌, ◌≤◌, ◌*◌, ◌^◌, ℕ, Err, IfOk, IfErr};
-ghost use Rattle.foyer_device.specs.declared.error.Error.TheVariants.{Config, Memory, OutOfRange};
+ghost use Rattle.std.specs.Prelude.{◌≡◌, ◌≢◌, ◌⊎◌, ◌≤◌, ◌*◌, ◌^◌, ℕ, Err, IfOk, IfErr};
+ghost use Rattle.foyer_device.specs.declared.error.Error.TheVariants.{Config, Memory, OutOfRange, Recover, SequenceEnd};
+ghost use Rattle.foyer_recover.specs.declared.block.recover.RecoverMode.TheVariants as recover_mode;
 ghost use Rattle.foyer_rules.specs.Content.{meaning};
 ghost use Rattle.foyer_rules.specs.Sizes.{AreValid};
-ghost use Rattle.foyer_run.specs.Lawful.{IsLawful};
+ghost use Rattle.foyer_run.specs.Lawful.{IsLawfulEmpty, IsLawfulFrom};
 ghost use Rattle.foyer_run.specs.Texts.{of_texts};
 
 use crate::moves::{Move, run};
 use foyer_blockio::disk::Disk;
 use foyer_blockio::memory::MemoryDisk;
 use foyer_core::apply::Env;
+use foyer_core::open::RecoverMode;
 use foyer_core::reply::Reply;
 use foyer_core::settings::Settings;
 use foyer_core::state::Core;
@@ -17,17 +19,19 @@ use foyer_device::error::Result;
 use foyer_format::serde::{Code, Properties};
 use std::alloc::{Allocator, Global};
 
-/// Opens a core that finds nothing, runs the moves over a disk with what is lent, and gives their replies. `Config` where the settings
-/// don't go together, else `Memory` alone.
+/// Opens a core with what a disk's blocks give in the mode, runs the moves over it with what is lent, and gives their
+/// replies. `Config` where the settings don't go together; `Recover` where a read failed in `Strict`; `SequenceEnd` where
+/// what was found has the last sequence; `Memory` at any time.
 ///
-/// The replies are those of events of a world that began with that core over the disk's bytes: what a load answers was
-/// newest of its hash at its look-up; what was newest is answered, or missed for a named cause; and what was put is what
-/// was enqueued.
+/// The replies are those of events of a world that began with what was found over the disk's bytes: what a load answers
+/// was newest of its hash at its look-up; what was newest is answered, or missed for a named cause; and what was put was
+/// found, or is what was enqueued.
 pub fn open_and_run<K, V, P, A, D>(
     alloc: A,
     env: &mut Env,
     settings: Settings,
     disk: &mut D,
+    mode: RecoverMode,
     moves: Vec<Move<K, V, P, A>, A>,
 ) -> Result<Vec<Reply<K, V, P, A>, A>>
 where
@@ -37,20 +41,21 @@ where
     A: Allocator + Clone,
     D: Disk,
     ensures sound { IfOk result (λ _. AreValid settings) }
-    ensures refused { IfErr result (λ e. (e ≡ Memory) ⊎ ((e ≡ Config) × (AreValid settings → ⊥))) }
+    ensures refused { IfErr result (λ e. (e ≡ Memory) ⊎ ((e ≡ Config) × (AreValid settings → ⊥))
+        ⊎ ((e ≡ Recover) × (mode ≡ recover_mode.Strict)) ⊎ ((e ≡ SequenceEnd) × (mode ≢ recover_mode.None))) }
     ensures unsound { (AreValid settings → ⊥) → result ≡ Err Config }
     ensures lawful { D.is_known disk.old → IfOk result (λ replies. (sound : AreValid settings) (bytes : ℕ → ℕ → ℕ)
-        → ((b o : ℕ) → bytes b o ≡ D.byte_at disk.old b o) → IsLawful
+        → ((b o : ℕ) → bytes b o ≡ D.byte_at disk.old b o) → IsLawfulFrom
         (meaning K.encoding V.encoding K.is_encodable V.is_encodable K.is_decodable V.is_decodable P.age)
-        settings sound bytes moves.items replies.items) }
+        settings sound bytes (D.byte_at disk.old) (D.surely_has disk.old) mode moves.items replies.items) }
 {
-    let mut core = Core::open(alloc, env, settings)?;
+    let mut core = Core::open(alloc, env, settings, disk, mode)?;
     let replies = run(&mut core, env, disk, moves)?;
     Ok(replies)
 }
 
-/// The same over zeroed memory with the default pickers, for keys that are numbers and values that are texts. `OutOfRange` too, where the sizes'
-/// product passes the type's end.
+/// The same over zeroed memory, of which nothing is read at first, with the default pickers, for keys that are numbers and
+/// values that are texts. `Memory`, `Config`, or `OutOfRange`, where the sizes' product passes the type's end.
 pub fn run_texts<P: Properties + Drop>(
     alloc: Global,
     settings: Settings,
@@ -60,10 +65,16 @@ pub fn run_texts<P: Properties + Drop>(
     ensures refused { IfErr result (λ e. (e ≡ Memory) ⊎ ((e ≡ Config) × (AreValid settings → ⊥))
         ⊎ ((e ≡ OutOfRange) × (2 ^ 64 ≤ settings.blocks * settings.block_size))) }
     ensures lawful { IfOk result (λ replies. (sound : AreValid settings)
-        → IsLawful (of_texts P.age) settings sound (λ b o. 0) moves.items replies.items) }
+        → IsLawfulEmpty (of_texts P.age) settings sound (λ b o. 0) moves.items replies.items) }
 {
     let mut disk = MemoryDisk::new(alloc, settings.blocks, settings.block_size)?;
     let mut env = Env::with_default_pickers(alloc, 0)?;
-    let replies = open_and_run(alloc, &mut env, settings, &mut disk, moves)?;
-    Ok(replies)
+    open_and_run(
+        alloc,
+        &mut env,
+        settings,
+        &mut disk,
+        RecoverMode::None,
+        moves,
+    )
 }

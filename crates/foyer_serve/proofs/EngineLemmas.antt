@@ -1,5 +1,5 @@
 -- An engine that is driven.
-use Rattle.std.proofs.Common.{◌≡◌, ℕ, [], Bool, true, false, Ok, Err, sym, ap, ◌∙◌}
+use Rattle.std.proofs.Common.{◌≡◌, ℕ, [], Bool, true, false, Ok, Err, inl, sym, ap, ◌∙◌}
 use Rattle.std.specs.Prelude.{IfOk, Result}
 use Rattle.std.specs.declared.string.String.{String}
 use Rattle.foyer_rules.specs.Content.{Content}
@@ -11,7 +11,11 @@ use Rattle.foyer_run.specs.Waiting.{Waits}
 use Rattle.foyer_device.specs.declared.error.Error.{Error}
 use Rattle.foyer_rules.specs.Sizes.{AreValid}
 use Rattle.foyer_rules.specs.declared.settings.Settings.{Settings}
-use Rattle.foyer_run.specs.Newest.{IsHistory, IsMissedOnly, IsNewest, IsPutOrFault}
+use Rattle.foyer_model.specs.Record.{Outcome}
+use Rattle.foyer_recover.specs.declared.block.recover.RecoverMode.TheVariants as recover_mode
+use Rattle.foyer_run.specs.Begun.{IsBegun, IsBegunEmpty}
+use Rattle.foyer_run.specs.Newest.{IsMissedOnly, IsNewest, IsPutOrFault}
+use Rattle.foyer_run.proofs.OpenedRuns.{begun_empty}
 use Rattle.foyer_run.proofs.RestLemmas.{SaysNothing}
 use Rattle.foyer_serve.specs.Texts.{IsMissedText, IsNewestText, IsTextOrFault, done_as, got, plain}
 use Rattle.foyer_serve.specs.declared.engine.Engine.{Engine}
@@ -22,16 +26,13 @@ abbrev pub Waited : {A D : Type 0} → (D → Type 0) → (D → ℕ → ℕ →
 Waited is_known byte_at a b = is_known a.disk → is_known b.disk × Waits plain a.core b.core (byte_at a.disk) (byte_at b.disk)
 
 -- an engine that was opened over zeros
-pub zeroed : {A D : Type 0} (s : Settings) (byte_at : D → ℕ → ℕ → ℕ) (disk : D) → ((b o : ℕ) → byte_at disk b o ≡ 0) → (opened : Result (Engine A D) Error)
-    → IfOk opened (λ engine. (sound : AreValid s) → IsHistory plain s sound (byte_at disk) [] engine.core (byte_at engine.disk))
-    → IfOk opened (λ engine. engine.disk ≡ disk)
-    → IfOk opened (λ engine. (sound : AreValid s) → IsHistory plain s sound (λ b o. 0) [] engine.core (byte_at engine.disk))
-zeroed s byte_at disk zeros (Ok engine) begins same = λ sound. record {
-  happened = tt;
-  stands = (begins sound).stands;
-  same = λ b o. sym (ap (λ d. byte_at d b o) same ∙ zeros b o);
-}
-zeroed s byte_at disk zeros (Err e) begins same = tt
+pub zeroed : {A D : Type 0} (s : Settings) (byte_at : D → ℕ → ℕ → ℕ) (surely : ℕ → ℕ → ℕ → Type 0) (seen : Type 0) → seen → (disk : D) → ((b o : ℕ) → byte_at disk b o ≡ 0)
+    → (opened : Result (Engine A D) Error)
+    → IfOk opened (λ engine. (sound : AreValid s) → IsBegun plain s sound (byte_at disk) surely recover_mode.None seen engine.core (byte_at engine.disk))
+    → IfOk opened (λ engine. (sound : AreValid s) → IsBegunEmpty plain s sound (λ b o. 0) engine.core (byte_at engine.disk))
+zeroed s byte_at surely seen is_seen disk zeros (Ok engine) begins = λ sound.
+    begun_empty plain s sound engine.core (byte_at disk) (λ b o. 0) (byte_at engine.disk) surely seen is_seen (begins sound) zeros
+zeroed s byte_at surely seen is_seen disk zeros (Err e) begins = tt
 
 -- what is answered of a load's entry is the newest text
 pub newest_got : {A : Type 0} (key : ℕ) (core : Core ℕ (String A) NoProperties A) (bytes : ℕ → ℕ → ℕ) (last : Reply ℕ (String A) NoProperties A) → IsNewest plain key core bytes last → IsNewestText key core bytes (got last)
@@ -40,15 +41,15 @@ newest_got key core bytes reply.Throttled newest = tt
 newest_got key core bytes (reply.Refused kind back) newest = tt
 newest_got key core bytes last newest = tt
 
-put_got : {A : Type 0} (c : Content) (last : Reply ℕ (String A) NoProperties A) → IsPutOrFault plain c last → IsTextOrFault c (got last)
-put_got c (reply.Entry other text age) is = (other, is)
-put_got c (reply.Refused kind back) is = is
-put_got c last is = absurd is
+put_got : {A : Type 0} (x : Outcome Content) (last : Reply ℕ (String A) NoProperties A) → IsPutOrFault plain x last → IsTextOrFault x (got last)
+put_got x (reply.Entry other text age) is = (other, is)
+put_got x (reply.Refused kind back) is = inl is
+put_got x last is = absurd is
 
 -- and it is answered of each put that is answered
 pub missed_got : {A : Type 0} (key : ℕ) (core : Core ℕ (String A) NoProperties A) (bytes : ℕ → ℕ → ℕ) (last : Reply ℕ (String A) NoProperties A) → IsMissedOnly plain key core bytes last → IsMissedText key core bytes (got last)
-missed_got key core bytes last missed = λ s sound first events history few b sequence c kept newer.
-    put_got c last (missed s sound first events history few b sequence c kept newer)
+missed_got key core bytes last missed = λ s sound first events history few b sequence x kept newer some.
+    put_got x last (missed s sound first events history few b sequence x kept newer some)
 
 -- a step that did nothing, and one that did something
 pub done_nothing : {A : Type 0} (last : Reply ℕ (String A) NoProperties A) (did : Bool) → done_as last ≡ Ok did → did ≡ false → SaysNothing last

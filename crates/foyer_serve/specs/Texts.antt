@@ -4,13 +4,14 @@ use Rattle.std.specs.declared.string.String.{String}
 use Rattle.foyer_device.specs.declared.error.ErrorKind.{ErrorKind}
 use Rattle.foyer_device.specs.declared.error.ErrorKind.TheVariants as kind
 use Rattle.foyer_format.specs.declared.serde.ages.Age.{Age}
+use Rattle.foyer_model.specs.Record.{Outcome, Holds}
 use Rattle.foyer_policy.specs.Record.{Record}
 use Rattle.foyer_rules.specs.Content.{Content, Meaning, content}
 use Rattle.foyer_core.specs.declared.reply.Reply.{Reply}
 use Rattle.foyer_core.specs.declared.reply.Reply.TheVariants as reply
 use Rattle.foyer_core.specs.declared.state.Core.{Core}
 use Rattle.foyer_run.specs.Accesses.{Says, load_of}
-use Rattle.foyer_run.specs.Newest.{IsNewest, OfPut}
+use Rattle.foyer_run.specs.Newest.{IsNewest, MayFail, OfPut}
 use Rattle.foyer_run.specs.Runs.{IsFront}
 use Rattle.foyer_run.specs.Texts.{of_texts}
 use Rattle.foyer_run.specs.declared.moves.Move.TheVariants as move
@@ -27,15 +28,16 @@ abbrev pub IsNewestText : {A : Type 0} → ℕ → Core ℕ (String A) NoPropert
 IsNewestText key core bytes (answer.Entry text) = (other : ℕ) × (age : Age) × IsNewest plain key core bytes (reply.Entry other text age)
 IsNewestText key core bytes said = Unit {0}
 
--- the text that was put, or the fault for which it isn't answered: its read failed, or memory was refused
-abbrev pub IsTextOrFault : {A : Type 0} → Content → Answer A → Type 0
-IsTextOrFault c (answer.Entry text) = (other : ℕ) × (content plain other text ≡ c)
-IsTextOrFault c (answer.Fault why) = (why ≡ kind.Io) ⊎ (why ≡ kind.Memory)
-IsTextOrFault c said = ⊥
+-- the text that was put, or the fault for which it isn't answered: its read failed, memory was refused, or what was
+-- found doesn't decode, or isn't supported
+abbrev pub IsTextOrFault : {A : Type 0} → Outcome Content → Answer A → Type 0
+IsTextOrFault x (answer.Entry text) = (other : ℕ) × (x ≡ Holds (content plain other text))
+IsTextOrFault x (answer.Fault why) = MayFail x why ⊎ (why ≡ kind.Memory)
+IsTextOrFault x said = ⊥
 
 -- so it is answered of the newest put of a key, in every history that led to this core and these bytes: no miss
 abbrev pub IsMissedText : {A : Type 0} → ℕ → Core ℕ (String A) NoProperties A → (ℕ → ℕ → ℕ) → Answer A → Type 0
-IsMissedText key core bytes said = OfPut plain key core bytes (λ c. IsTextOrFault c said)
+IsMissedText key core bytes said = OfPut plain key core bytes (λ x. IsTextOrFault x said)
 
 -- what a load's reply is answered as
 abbrev pub got : {A : Type 0} → Reply ℕ (String A) NoProperties A → Answer A

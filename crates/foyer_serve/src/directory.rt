@@ -5,6 +5,7 @@ use crate::options::GENERATOR_SEED;
 use foyer_blockio::disk::Disk;
 use foyer_blockio::partitions::{Partitions, create_blocks};
 use foyer_core::apply::Env;
+use foyer_core::open::RecoverMode;
 use foyer_core::settings::Settings;
 use foyer_device::error::{Error, ErrorKind};
 use foyer_disk::io::device::{Device, DeviceBuilder, FsDeviceBuilder, FsPartition};
@@ -34,14 +35,16 @@ fn stopped_at(what: &'static str, error: Error) -> Failed {
     }
 }
 
-/// Opens an engine that finds nothing over a directory, which is made with its parents where it is missing: a file for
-/// each block, of exactly the block's size, on a device of so many bytes. What a file holds stays until it is written over.
+/// Opens an engine over a directory, which is made with its parents where it is missing: a file for each block, of exactly
+/// the block's size, on a device of so many bytes. What the files hold is found again, as the mode says; a longer file is
+/// cut, and a shorter one lengthened by zeros.
 pub fn open_directory<R, A>(
     rt: &R,
     alloc: &A,
     directory: &str,
     capacity: usize,
     settings: Settings,
+    mode: RecoverMode,
 ) -> Result<Engine<A, FileBlocks<R::A, A>>, Failed>
 where
     R: Files<File = File> + AllocGlobal,
@@ -49,7 +52,7 @@ where
 {
     let disk = open_blocks(rt, alloc, directory, capacity, settings)?;
     let opened = match alloc.clone() {
-        Ok(own) => open_engine(rt, own, settings, disk),
+        Ok(own) => open_engine(rt, own, settings, disk, mode),
         Err(error) => Err(Error::from(error)),
     };
     match opened {
@@ -110,9 +113,10 @@ fn open_engine<R: AllocGlobal, A: Allocator + Clone, D: Disk + Drop>(
     alloc: A,
     settings: Settings,
     disk: D,
+    mode: RecoverMode,
 ) -> Result<Engine<A, D>, Error> {
     let env = Env::with_default_pickers(rt.alloc(), GENERATOR_SEED)?;
-    Engine::with_disk(alloc, env, settings, disk)
+    Engine::with_disk(alloc, env, settings, disk, mode)
 }
 
 /// Says on a line of its own what of a directory couldn't be opened.

@@ -1,16 +1,18 @@
 //! The engine that the program keeps: a core over a disk, driven on one thread.
-ghost use Rattle.std.specs.Prelude.{◌≡◌, ◌⊎◌, ◌≤◌, ◌*◌, ◌^◌, [], None, IfOk, IfErr, string_bytes};
-ghost use Rattle.foyer_device.specs.declared.error.Error.TheVariants.{Config, Memory, OutOfRange};
+ghost use Rattle.std.specs.Prelude.{◌≡◌, ◌≢◌, ◌⊎◌, ◌≤◌, ◌*◌, ◌^◌, ℕ, [], None, IfOk, IfErr, string_bytes};
+ghost use Rattle.foyer_device.specs.declared.error.Error.TheVariants.{Config, Memory, OutOfRange, Recover, SequenceEnd};
+ghost use Rattle.foyer_recover.specs.declared.block.recover.RecoverMode.TheVariants as recover_mode;
 ghost use Rattle.foyer_rules.specs.Sizes.{AreValid};
 ghost use Rattle.foyer_run.specs.AtRest.{ComesToRest, KeepsOthers, Leads, LeavesAllIdle, LeavesIdle, TakesQueueIf};
 ghost use Rattle.foyer_run.specs.Driven.{Drives};
-ghost use Rattle.foyer_run.specs.Newest.{IsHistory};
+ghost use Rattle.foyer_run.specs.Begun.{IsBegun, IsBegunEmpty};
 ghost use Rattle.foyer_run.specs.Waiting.{Closes, Waits};
 ghost use Rattle.foyer_serve.specs.Texts.{IsDeleted, IsGot, IsMissedText, IsNewestText, IsOkOrFault, IsPut, deleted_as, done_as, got, plain, put_as, wrote_as};
 
 use foyer_blockio::disk::Disk;
 use foyer_blockio::memory::MemoryDisk;
 use foyer_core::apply::Env;
+use foyer_core::open::RecoverMode;
 use foyer_core::reply::Reply;
 use foyer_core::settings::Settings;
 use foyer_core::state::Core;
@@ -126,11 +128,11 @@ pub struct Engine<A: Allocator, D: Disk + Drop> {
 }
 
 impl<A: Allocator + Clone> Engine<A, MemoryDisk<A>> {
-    /// Opens an engine that finds nothing, over zeroed memory that has every block; `env` has its pickers and its
+    /// Opens an engine over zeroed memory that has every block, of which nothing is read; `env` has its pickers and its
     /// generator.
     pub fn open(alloc: A, env: Env, settings: Settings) -> Result<Engine<A, MemoryDisk<A>>>
         ensures sound { IfOk result (λ _. AreValid settings) }
-        ensures begins { IfOk result (λ engine. (sound : AreValid settings) → IsHistory plain settings sound (λ b o. 0) []
+        ensures begins { IfOk result (λ engine. (sound : AreValid settings) → IsBegunEmpty plain settings sound (λ b o. 0)
             engine.core (⟦<MemoryDisk<A> as Disk>⟧.byte_at engine.disk)) }
         ensures refused { IfErr result (λ e. (e ≡ Memory) ⊎ ((e ≡ Config) × (AreValid settings → ⊥))
             ⊎ ((e ≡ OutOfRange) × (2 ^ 64 ≤ settings.blocks * settings.block_size))) }
@@ -138,21 +140,33 @@ impl<A: Allocator + Clone> Engine<A, MemoryDisk<A>> {
             × (engine.disk.block_size ≡ settings.block_size)) }
     {
         let disk = MemoryDisk::new(alloc.clone()?, settings.blocks, settings.block_size)?;
-        Engine::with_disk(alloc, env, settings, disk)
+        Engine::with_disk(alloc, env, settings, disk, RecoverMode::None)
     }
 }
 
 impl<A: Allocator + Clone, D: Disk + Drop> Engine<A, D> {
-    /// Opens an engine that finds nothing, whatever the disk holds; `env` has its pickers and its generator.
-    pub fn with_disk(alloc: A, mut env: Env, settings: Settings, disk: D) -> Result<Engine<A, D>>
+    /// Opens an engine with what the disk's blocks give in the mode; `env` has its pickers and its generator. `Config`
+    /// where the settings don't go together; `Recover` where a read failed in `Strict`; `SequenceEnd` where what was
+    /// found has the last sequence; `Memory` at any time.
+    pub fn with_disk(
+        alloc: A,
+        mut env: Env,
+        settings: Settings,
+        mut disk: D,
+        mode: RecoverMode,
+    ) -> Result<Engine<A, D>>
         ensures sound { IfOk result (λ _. AreValid settings) }
-        ensures begins { IfOk result (λ engine. (sound : AreValid settings) → IsHistory plain settings sound (D.byte_at disk) []
-            engine.core (D.byte_at engine.disk)) }
-        ensures refused { IfErr result (λ e. (e ≡ Memory) ⊎ ((e ≡ Config) × (AreValid settings → ⊥))) }
-        ensures disk { IfOk result (λ engine. engine.disk ≡ disk) }
+        ensures begins { IfOk result (λ engine. (sound : AreValid settings) → IsBegun plain settings sound (D.byte_at disk)
+            (D.surely_has disk) mode ((mode ≡ recover_mode.None) ⊎ D.is_known disk) engine.core (D.byte_at engine.disk)) }
+        ensures refused { IfErr result (λ e. (e ≡ Memory) ⊎ ((e ≡ Config) × (AreValid settings → ⊥))
+            ⊎ ((e ≡ Recover) × (mode ≡ recover_mode.Strict)) ⊎ ((e ≡ SequenceEnd) × (mode ≢ recover_mode.None))) }
+        ensures unread { IfOk result (λ engine. mode ≡ recover_mode.None → engine.disk ≡ disk) }
+        ensures known { IfOk result (λ engine. D.is_known disk → D.is_known engine.disk) }
+        ensures has { IfOk result (λ engine. (b o n : ℕ) → D.surely_has disk b o n → D.surely_has engine.disk b o n) }
     {
+        let core = Core::open(alloc.clone()?, &mut env, settings, &mut disk, mode)?;
         Ok(Engine {
-            core: Core::open(alloc.clone()?, &mut env, settings)?,
+            core,
             env,
             disk,
             spare: Vec::new(alloc.clone()?),
@@ -188,7 +202,8 @@ impl<A: Allocator + Clone, D: Disk + Drop> Engine<A, D> {
 
     /// The text of a key: the newest that was put, whatever came before. Where the newest event of the key is a put,
     /// its text is answered, or `Io` for a failed read, or `Memory`, unless a reclaim of its block or a destroy began
-    /// since, or under two of 2^64 - 1 steps are left.
+    /// since, or under two of 2^64 - 1 steps are left. A record that an opening found may be none: then it is a miss, or
+    /// `Parse` where its key or text doesn't decode, or `Unsupported`.
     pub fn get(&mut self, key: u64) -> Answer<A>
         ensures waits { self.new.next_wait ≡ self.old.next_wait }
         ensures newest { D.is_known self.old.disk → IsNewestText key self.old.core (D.byte_at self.old.disk) result }

@@ -4,10 +4,10 @@
 //! write what was put.
 #![tactic(auto)]
 
-mod answer;
+pub mod answer;
 mod command;
 pub mod directory;
 pub mod engine;
 mod lines;
-mod options;
+pub mod options;
 pub mod serve;

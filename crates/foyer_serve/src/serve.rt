@@ -8,6 +8,7 @@ use crate::options::{GENERATOR_SEED, Options, USAGE};
 use foyer_blockio::disk::Disk;
 use foyer_blockio::memory::MemoryDisk;
 use foyer_core::apply::Env;
+use foyer_core::open::RecoverMode;
 use foyer_core::settings::Settings;
 use foyer_device::error::{ErrorKind, Result};
 use std::alloc::Allocator;
@@ -63,7 +64,14 @@ where
         };
     }
     let (directory, capacity) = (options.directory, options.capacity as usize);
-    match open_directory(rt, &alloc, directory, capacity, settings) {
+    match open_directory(
+        rt,
+        &alloc,
+        directory,
+        capacity,
+        settings,
+        RecoverMode::Quiet,
+    ) {
         Ok(engine) => answer_input(alloc, engine, input, output),
         Err(failed) => {
             let _ = report(&mut errors, directory, &failed);

@@ -2,4 +2,5 @@
 
 mod directories;
 mod failing;
+mod reopening;
 mod same;

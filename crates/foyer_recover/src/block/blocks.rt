@@ -5,6 +5,7 @@ ghost use Rattle.foyer_buffer.specs.Fills.{AreSizes};
 ghost use Rattle.foyer_device.specs.declared.error.Error.TheVariants as error;
 ghost use Rattle.foyer_recover.specs.Chained.{hashed_entries};
 ghost use Rattle.foyer_recover.specs.BlocksKept.{HoldsKept, AreBlocksRead, IsBlockCut};
+ghost use Rattle.foyer_recover.specs.Placed.{AreSomeKept};
 
 use crate::block::chain::{Chain, read_chain};
 use crate::block::kept::greatest_in;
@@ -93,6 +94,7 @@ pub(crate) fn read_blocks<A: Allocator + Clone, D: Disk>(
     requires shards { 0 < shards }
     ensures kept { D.is_known disk.old → IfOk result (λ read. AreBlocksRead (record { block = block_size; index = index_size })
         blocks (D.byte_at disk.old) (D.surely_has disk.old) is_strict read) }
+    ensures some { IfOk result (AreSomeKept (record { block = block_size; index = index_size }) blocks) }
     ensures cut { D.is_known disk.old → IfErr result (λ e. e ≡ error.Recover → IsBlockCut
         (record { block = block_size; index = index_size }) blocks (D.byte_at disk.old) (D.surely_has disk.old) is_strict) }
     ensures refused { IfErr result (λ e. (e ≡ error.Memory) ⊎ ((e ≡ error.Recover) × (is_strict ≡ true))) }

@@ -4,6 +4,7 @@ ghost use Rattle.foyer_device.specs.declared.error.Error.TheVariants.{Memory};
 ghost use Rattle.foyer_buffer.specs.BlockBytes.{read};
 ghost use Rattle.foyer_buffer.specs.Fills.{AreSizes};
 ghost use Rattle.foyer_recover.specs.Chained.{IsKeptOf};
+ghost use Rattle.foyer_recover.specs.Placed.{IsSomeKept};
 
 use crate::block::kept::keep_listed;
 use foyer_block::indexer::HashedEntryAddress;
@@ -64,6 +65,8 @@ pub(crate) fn read_chain<A: Allocator + Clone, D: Disk>(
     ensures kept { D.is_known disk.old → IfOk result (λ chain. IsKeptOf
         (record { block = block_size; index = vec_len buffer }) (D.byte_at disk.old block)
         (λ p. D.surely_has disk.old block p (vec_len buffer)) block kept.items chain.kept.items chain.is_cut) }
+    ensures some { IfOk result (λ chain. IsSomeKept
+        (record { block = block_size; index = vec_len buffer }) block kept.items chain.kept.items) }
     ensures memory { IsOkUnless result Memory }
     ensures known { D.is_known disk.old → D.is_known disk.new }
     ensures same { D.byte_at disk.new ≡ D.byte_at disk.old }

@@ -1,14 +1,23 @@
 //! What is kept of a block.
-ghost use Rattle.std.specs.Prelude.{◌≡◌, ◌++◌, IfOk, OnOk, IsOkUnless};
+ghost use Rattle.std.specs.Prelude.{◌≡◌, ◌<◌, ◌^◌, ◌++◌, IfOk, OnOk, IsOkUnless};
 ghost use Rattle.std.specs.Option.{option_map};
 ghost use Rattle.foyer_device.specs.declared.error.Error.TheVariants.{Memory};
 ghost use Rattle.foyer_scan.specs.ScanRun.{infos_in};
 ghost use Rattle.foyer_recover.specs.Kept.{rising_infos, last_kept, hashed_infos, greatest_in};
+ghost use Rattle.foyer_recover.specs.Placed.{AllHashed};
 
 use foyer_block::indexer::{HashedEntryAddress, Sequence};
 use foyer_device::error::Result;
 use foyer_scan::block::scanner::EntryInfo;
 use std::alloc::Allocator;
+
+// A hash has 64 bits.
+fn in_range(hash: u64) -> u64
+    ensures same { result ≡ hash }
+    ensures range { hash < 2 ^ 64 }
+{
+    hash
+}
 
 // Appends the infos up to the first whose sequence is below the one before it; `last` is the one before the first of
 // them, `None` where a fall was met already. Gives the last one that was appended, or `None` behind a fall.
@@ -19,6 +28,7 @@ fn keep_rising<A: Allocator>(
 ) -> Result<Option<Sequence>>
     ensures kept { OnOk result (kept.new.items ≡ kept.old.items ++ hashed_infos (rising_infos last infos.now)) }
     ensures last { IfOk result (λ now. now ≡ last_kept last infos.now) }
+    ensures hashed { IfOk result (λ _. AllHashed (rising_infos last infos.now)) }
     ensures memory { IsOkUnless result Memory }
 {
     let Some(mut least) = last else {
@@ -29,7 +39,7 @@ fn keep_rising<A: Allocator>(
             return Ok(None);
         }
         kept.push(HashedEntryAddress {
-            hash: info.hash,
+            hash: in_range(info.hash),
             address: info.addr,
         })?;
         least = info.addr.sequence;
@@ -46,6 +56,7 @@ pub(crate) fn keep_listed<A: Allocator>(
     ensures kept { OnOk result (kept.new.items
         ≡ kept.old.items ++ hashed_infos (rising_infos last (infos_in (option_map (λ infos. infos.items) listed)))) }
     ensures last { IfOk result (λ now. now ≡ last_kept last (infos_in (option_map (λ infos. infos.items) listed))) }
+    ensures hashed { IfOk result (λ _. AllHashed (rising_infos last (infos_in (option_map (λ infos. infos.items) listed)))) }
     ensures memory { IsOkUnless result Memory }
 {
     let Some(infos) = listed else {

@@ -3,6 +3,7 @@ ghost use Rattle.std.specs.Prelude.{◌≡◌, ℕ, ◌<◌, ◌≤◌, ◌^◌,
 ghost use Rattle.foyer_buffer.specs.Fills.{AreSizes};
 ghost use Rattle.foyer_device.specs.declared.error.Error.TheVariants as error;
 ghost use Rattle.foyer_recover.specs.BlocksKept.{AreBlocksKept};
+ghost use Rattle.foyer_recover.specs.Placed.{AreSomeKept, IsOpening};
 ghost use Rattle.foyer_recover.specs.Recovery.{sizes_of, marks_of, opened_of, IsRecovered, IsRefused, MayRefuse};
 
 use crate::block::blocks::{BlocksRead, read_blocks, read_none};
@@ -61,6 +62,7 @@ impl RecoverRunner {
         requires shards { 0 < shards }
         ensures kept { (self.now.mode ≡ RecoverMode.None) ⊎ D.is_known disk.old → IfOk result
             (AreBlocksKept (sizes_of self.now) self.now.blocks (D.byte_at disk.old) (D.surely_has disk.old) self.now.mode) }
+        ensures some { IfOk result (AreSomeKept (sizes_of self.now) self.now.blocks) }
         ensures refused { (self.now.mode ≡ RecoverMode.None) ⊎ D.is_known disk.old → IfErr result
             (IsRefused (sizes_of self.now) self.now.blocks (D.byte_at disk.old) (D.surely_has disk.old) self.now.mode []) }
         ensures refusals { IfErr result (λ e. (e ≡ error.Memory) ⊎ ((e ≡ error.Recover) × (self.now.mode ≡ RecoverMode.Strict))) }
@@ -97,7 +99,8 @@ impl RecoverRunner {
     /// block keeps at a time, and what is given.
     ///
     /// `Recover` where a read failed in `Strict`; else `SequenceEnd` where an entry that is kept, or a mark, has the last
-    /// sequence; `Memory` at any time. What is on the disk stays as it is.
+    /// sequence; `Memory` at any time. What is on the disk stays as it is. Whatever was read, each address that is found
+    /// lies within its block.
     pub fn run<A: Allocator + Clone, D: Disk>(
         &self,
         alloc: &A,
@@ -111,6 +114,7 @@ impl RecoverRunner {
         ensures recovered { (self.now.mode ≡ RecoverMode.None) ⊎ D.is_known disk.old → IfOk result (λ recovered. IsRecovered
             (sizes_of self.now) self.now.blocks (D.byte_at disk.old) (D.surely_has disk.old) self.now.mode (marks_of marks.now)
             (opened_of recovered)) }
+        ensures some { IfOk result (λ recovered. IsOpening (sizes_of self.now) self.now.blocks (marks_of marks.now) (opened_of recovered)) }
         ensures refused { (self.now.mode ≡ RecoverMode.None) ⊎ D.is_known disk.old → IfErr result (IsRefused
             (sizes_of self.now) self.now.blocks (D.byte_at disk.old) (D.surely_has disk.old) self.now.mode (marks_of marks.now)) }
         ensures refusals { IfErr result (MayRefuse self.now.mode) }

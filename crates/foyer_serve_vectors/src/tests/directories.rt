@@ -1,16 +1,18 @@
 //! Directories that the program makes, or can't open.
+use foyer_core::open::RecoverMode;
 use foyer_core::settings::Settings;
 use foyer_device::error::ErrorKind;
 use foyer_serve::directory::open_directory;
 use foyer_serve::engine::Answer;
 use foyer_serve::serve::serve;
 use std::fs;
-use std::fs::OpenOptions;
+use std::fs::{File, OpenOptions};
+use std::rt::Files;
 use std::test::Fail;
 
 // What the program prints for these words and this input, with its errors and its status.
-fn print_of(
-    rt: &HostRuntime,
+pub(crate) fn print_of(
+    rt: &(impl AllocGlobal + Files<File = File>),
     words: [&str; 3],
     input: &str,
 ) -> Result<(Vec<u8>, Vec<u8>, u8), Fail> {
@@ -106,7 +108,8 @@ fn sizes_are_refused_before_a_directory_is_made(rt: HostRuntime) -> Result<(), F
 fn a_get_past_the_end_of_a_file_that_was_cut_is_io(rt: HostRuntime) -> Result<(), Fail> {
     let alloc = rt.alloc();
     let path = "cut/foyer-storage-direct-fs-00000000";
-    let opened = open_directory(&rt, &alloc, "cut", 16384, Settings::new(1, 16384));
+    let (settings, mode) = (Settings::new(1, 16384), RecoverMode::Quiet);
+    let opened = open_directory(&rt, &alloc, "cut", 16384, settings, mode);
     let Ok(mut engine) = opened else {
         return Err(Fail::new("the directory isn't opened"));
     };

@@ -2,6 +2,7 @@
 use foyer_blockio::disk::Disk;
 use foyer_blockio::partitions::{Partitions, create_blocks};
 use foyer_core::apply::Env;
+use foyer_core::open::RecoverMode;
 use foyer_core::settings::Settings;
 use foyer_device::error::{ErrorKind, Result};
 use foyer_disk::io::device::{DeviceBuilder, MemoryDeviceBuilder, MemoryPartition};
@@ -69,7 +70,7 @@ fn check(
         ..Settings::new(2, 16384)
     };
     let env = Env::with_default_pickers(rt.alloc(), 0)?;
-    let mut engine = Engine::with_disk(rt.alloc(), env, settings, disk)?;
+    let mut engine = Engine::with_disk(rt.alloc(), env, settings, disk, RecoverMode::None)?;
     let answers = answers_of(rt.alloc(), &mut engine)?;
     assert_eq!(*rt; answers.as_str(), wanted, "call {n}, {kept} bytes");
     Ok(())

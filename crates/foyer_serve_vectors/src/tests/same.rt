@@ -2,6 +2,7 @@
 use foyer_blockio::disk::Disk;
 use foyer_blockio::partitions::open_in_memory;
 use foyer_core::apply::Env;
+use foyer_core::open::RecoverMode;
 use foyer_core::settings::Settings;
 use foyer_device::error::Result;
 use foyer_serve::directory::open_directory;
@@ -70,9 +71,10 @@ fn calls_are_answered_alike_over_memory_and_files(
     assert_eq!(rt; counts, (22, 3, 0));
     let disk = open_in_memory(&rt, &alloc, BLOCKS, 16384)?;
     let env = Env::with_default_pickers(alloc, 0)?;
-    let mut behind = Engine::with_disk(alloc, env, settings, disk)?;
+    let mut behind = Engine::with_disk(alloc, env, settings, disk, RecoverMode::Quiet)?;
     assert_eq!(rt; counts_of(alloc, &mut behind)?, counts);
-    let Ok(mut files) = open_directory(&rt, &alloc, "alike", 40 * 16384, settings) else {
+    let mode = RecoverMode::Quiet;
+    let Ok(mut files) = open_directory(&rt, &alloc, "alike", 40 * 16384, settings, mode) else {
         return Err(Fail::new("the directory isn't opened"));
     };
     assert_eq!(rt; counts_of(alloc, &mut files)?, counts);

@@ -4,6 +4,7 @@ use crate::tests::steps::{TestAge, TestCore, TestReply, Value, describe};
 use foyer_block::manager::BlockId;
 use foyer_blockio::memory::MemoryDisk;
 use foyer_core::apply::Env;
+use foyer_core::open::RecoverMode;
 use foyer_core::reply::{Reply, Write, WriteBytes};
 use foyer_core::settings::Settings;
 use foyer_core::state::Core;
@@ -44,8 +45,9 @@ pub fn new_driver<A: Allocator + Clone>(
     comes_again: bool,
 ) -> Result<Driver<A>> {
     let mut env = Env::with_default_pickers(alloc, 0)?;
-    let core = Core::open(heap.clone()?, &mut env, settings)?;
-    let memory = MemoryDisk::new(heap.clone()?, settings.blocks, settings.block_size)?;
+    let mut memory = MemoryDisk::new(heap.clone()?, settings.blocks, settings.block_size)?;
+    let mode = RecoverMode::None;
+    let core = Core::open(heap.clone()?, &mut env, settings, &mut memory, mode)?;
     let mut issued = Vec::new(alloc);
     for _ in 0..settings.flushers {
         issued.push(None)?;

@@ -3,6 +3,7 @@ use crate::failing::Failing;
 use crate::tests::steps::{TestAge, TestCore, TestReply, Value, describe, piece_of};
 use foyer_blockio::memory::MemoryDisk;
 use foyer_core::apply::Env;
+use foyer_core::open::RecoverMode;
 use foyer_core::reply::Reply;
 use foyer_core::settings::Settings;
 use foyer_core::state::Core;
@@ -275,8 +276,8 @@ fn opened<'a>(
         ..Settings::new(2, 32768)
     };
     let mut env = Env::with_default_pickers(alloc, 0)?;
-    let core = Core::open(heap, &mut env, settings)?;
-    let memory = MemoryDisk::new(heap, settings.blocks, settings.block_size)?;
+    let mut memory = MemoryDisk::new(heap, settings.blocks, settings.block_size)?;
+    let core = Core::open(heap, &mut env, settings, &mut memory, RecoverMode::None)?;
     Ok(Driven {
         core,
         env,

@@ -1,5 +1,7 @@
 //! The example of the README, word for word, and what it gives.
+use foyer_blockio::memory::MemoryDisk;
 use foyer_core::apply::Env;
+use foyer_core::open::RecoverMode;
 use foyer_core::reply::Reply;
 use foyer_core::settings::Settings;
 use foyer_core::state::Core;
@@ -11,10 +13,12 @@ use foyer_serve::engine::{Answer, Engine, NoProperties};
 use std::alloc::Global;
 use std::test::Fail;
 
-/// A core by itself gives one reply to each step, and touches no disk.
+/// A core by itself gives one reply to each step, and touches a disk only where it is opened.
 fn first_sequence(alloc: Global) -> Result<Option<u64>> {
     let mut env = Env::with_default_pickers(alloc, 0)?;
-    let mut core = Core::open(alloc, &mut env, Settings::new(1, 16384))?;
+    let settings = Settings::new(1, 16384);
+    let mut disk = MemoryDisk::new(alloc, settings.blocks, settings.block_size)?;
+    let mut core = Core::open(alloc, &mut env, settings, &mut disk, RecoverMode::Quiet)?;
     let value = String::from_str(alloc, "a")?;
     let piece = Piece::new(alloc, 1u64, value, 1, NoProperties)?;
     let size = EntrySerializer::estimated_size::<Global, u64, String>(piece.key(), piece.value());

@@ -5,6 +5,7 @@ ghost use Rattle.foyer_format.specs.declared.serde.ages.Age.TheVariants.{Young};
 use crate::failing::Failing;
 use foyer_blockio::memory::MemoryDisk;
 use foyer_core::apply::Env;
+use foyer_core::open::RecoverMode;
 use foyer_core::reply::Reply;
 use foyer_core::settings::Settings;
 use foyer_core::state::Core;
@@ -183,8 +184,8 @@ fn run_over(
     script: &str,
 ) -> Result<(String, bool)> {
     let mut env = Env::with_default_pickers(alloc, 0)?;
-    let mut core = Core::open(alloc, &mut env, settings)?;
-    let memory = MemoryDisk::new(alloc, settings.blocks, settings.block_size)?;
+    let mut memory = MemoryDisk::new(alloc, settings.blocks, settings.block_size)?;
+    let mut core = Core::open(alloc, &mut env, settings, &mut memory, RecoverMode::None)?;
     let mut disk = Failing::new(memory, fails_at, 100);
     let replies = run(&mut core, &mut env, &mut disk, moves_of(alloc, script)?)?;
     Ok((words_of(alloc, replies.as_slice())?, disk.has_failed()))

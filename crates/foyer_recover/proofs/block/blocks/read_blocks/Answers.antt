@@ -1,6 +1,7 @@
 use Rattle.std.proofs.Common.{◌≡◌, [], vec_len, true, false, refl, ◌∙◌, subst, arith}
 use Rattle.foyer_recover.specs.BlocksKept.{AreBlocksRead}
-use Rattle.foyer_recover.proofs.BlocksLemmas.{kept_as, cut_here, none_read, more_read}
+use Rattle.foyer_recover.specs.Placed.{IsSomeKept, AreSomeKept}
+use Rattle.foyer_recover.proofs.BlocksLemmas.{kept_as, cut_here, none_kept_of, more_kept, none_read, more_read}
 use Rattle.foyer_recover.proofs.block.blocks.read_blocks.Goals as goal
 use Rattle.foyer_recover.proofs.block.blocks.read_blocks.Goals.{else-is_cut-via-then-is_cut+else-is_strict, else-is_cut-via-else-is_cut}
 
@@ -13,6 +14,7 @@ each_block-init g c = record {
   has = λ b o n h. h;
   blocks = λ known. none_read (record { block = c.args.block_size; index = c.args.index_size }) (g.D.Disk.byte_at c.args.disk.now) (g.D.Disk.surely_has c.args.disk.now) c.args.is_strict
       c.in_ok-read.read c.in_ok-read.ensures.none;
+  some = none_kept_of (record { block = c.args.block_size; index = c.args.index_size }) c.in_ok-read.read 0 (c.in_ok-read.ensures.none (λ b. []));
 }
 
 pub returns-then-is_strict-clause-cut : goal.returns-then-is_strict-clause-cut
@@ -48,6 +50,11 @@ each_block-preserved g c =
           (g.D.Disk.surely_has c.args.disk.now) b c.each_block.batch.items chain.kept.items chain.is_cut inv.len inv.same inv.has inv.empty (c.in_ok-bytes.ensures.kept (inv.known known)))
           uncut
           (λ keeps holds is. c.in_ok-batch.ensures.taken keeps holds is);
+      some =
+          more_kept (record { block = c.args.block_size; index = c.args.index_size }) b c.each_block.read c.take_block.new.self chain.kept.items inv.some
+          (subst (λ l. IsSomeKept (record { block = c.args.block_size; index = c.args.index_size }) b l chain.kept.items) inv.empty
+          (subst (λ k. IsSomeKept (record { block = c.args.block_size; index = k }) b c.each_block.batch.items chain.kept.items) inv.len c.in_ok-bytes.ensures.some))
+          (λ keeps holds is. c.in_ok-batch.ensures.taken keeps holds is);
     }
 
 pub returns-clause-kept : goal.returns-clause-kept
@@ -56,3 +63,9 @@ returns-clause-kept g c = λ known.
     let all : c.each_block.block ≡ c.args.blocks = omega arith in
     subst (λ k. AreBlocksRead (record { block = c.args.block_size; index = c.args.index_size }) k (g.D.Disk.byte_at c.args.disk.now) (g.D.Disk.surely_has c.args.disk.now) c.args.is_strict
     c.each_block.read) all (inv.blocks known)
+
+pub returns-clause-some : goal.returns-clause-some
+returns-clause-some g c =
+    let inv = c.each_block.invariant in
+    let all : c.each_block.block ≡ c.args.blocks = omega arith in
+    subst (λ k. AreSomeKept (record { block = c.args.block_size; index = c.args.index_size }) k c.each_block.read) all inv.some

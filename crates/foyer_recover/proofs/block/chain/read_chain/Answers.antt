@@ -5,7 +5,8 @@ use Rattle.foyer_buffer.specs.Fills.{AreSizes}
 use Rattle.foyer_buffer.specs.Position.{Sizes}
 use Rattle.foyer_scan.specs.ScanState.{Scan}
 use Rattle.foyer_recover.specs.Chained.{IsKeptOf}
-use Rattle.foyer_recover.proofs.ChainLemmas.{step_stays, falls, along_start, along_on, along_ends, along_fails}
+use Rattle.foyer_recover.specs.Placed.{IsSomeKept}
+use Rattle.foyer_recover.proofs.ChainLemmas.{step_stays, falls, along_start, along_on, along_ends, along_fails, some_start, some_on, some_ends}
 use Rattle.foyer_recover.proofs.block.chain.read_chain.Goals as goal
 
 pub each_index-init : goal.each_index-init
@@ -24,6 +25,7 @@ each_index-init g c =
       has = λ b o m h. h;
       along = λ known. along_start (record { block = c.args.block_size; index = n }) (g.D.Disk.byte_at c.args.disk.now c.args.block) sizes c.args.block
           c.args.kept.items c.new-scanner.result.blob_offset c.new-scanner.ensures.blob_offset;
+      some = some_start (record { block = c.args.block_size; index = n }) (λ o. 0) sizes c.args.block c.args.kept.items;
     }
 
 pub returns-then-not-came-clause-kept : goal.returns-then-not-came-clause-kept
@@ -78,6 +80,10 @@ each_index-preserved g c =
           along_on (record { block = c.args.block_size; index = n }) B sizes scan c.in-Some.offset bytes inv.sizes (sym c.in-Some.ensures.blob_offset) room b inv.block inv.filling read_so
           c.next.new.self (option_map (λ infos. infos.items) c.in_ok-listed.listed) c.args.kept.items c.each_index.kept.items c.keep_listed.new.kept.items c.each_index.last c.in_ok-last.last
           c.in_ok-listed.ensures.scan c.in_ok-listed.ensures.listed c.in_ok-last.ensures.kept c.in_ok-last.ensures.last (inv.along known);
+      some =
+          some_on (record { block = c.args.block_size; index = n }) (λ o. 0) sizes scan c.in-Some.offset bytes inv.sizes (sym c.in-Some.ensures.blob_offset) room b inv.block inv.filling
+          (option_map (λ infos. infos.items) c.in_ok-listed.listed) c.args.kept.items c.each_index.kept.items c.keep_listed.new.kept.items c.each_index.last c.in_ok-last.last
+          c.in_ok-listed.ensures.listed c.in_ok-last.ensures.hashed c.in_ok-last.ensures.kept c.in_ok-last.ensures.last inv.some;
     }
 
 pub returns-clause-kept : goal.returns-clause-kept
@@ -91,3 +97,19 @@ returns-clause-kept g c = λ known.
     along_ends (record { block = c.args.block_size; index = n }) (g.D.Disk.byte_at c.args.disk.now b) sizes (λ p. old p n) b c.args.kept.items c.each_index.kept.items
     c.each_index.last c.each_index.scanner.blob_offset (sym c.blob_offset.ensures.blob_offset ∙ c.in_default.is) (inv.along known) in
     subst (λ k. IsKeptOf (record { block = c.args.block_size; index = k }) (g.D.Disk.byte_at c.args.disk.now b) (λ p. old p k) b c.args.kept.items c.each_index.kept.items false) inv.size is
+
+pub returns-then-not-came-clause-some : goal.returns-then-not-came-clause-some
+returns-then-not-came-clause-some g c =
+    let inv = c.each_index.invariant in
+    let n = c.len-index_size.result in
+    let sizes : AreSizes (record { block = c.args.block_size; index = n }) = subst (λ k. AreSizes (record { block = c.args.block_size; index = k })) (sym inv.size) c.requires.sizes in
+    subst (λ k. IsSomeKept (record { block = c.args.block_size; index = k }) c.args.block c.args.kept.items c.each_index.kept.items) inv.size
+    (some_ends (record { block = c.args.block_size; index = n }) (λ o. 0) sizes c.args.block c.args.kept.items c.each_index.kept.items c.each_index.last inv.some)
+
+pub returns-clause-some : goal.returns-clause-some
+returns-clause-some g c =
+    let inv = c.each_index.invariant in
+    let n = c.len-index_size.result in
+    let sizes : AreSizes (record { block = c.args.block_size; index = n }) = subst (λ k. AreSizes (record { block = c.args.block_size; index = k })) (sym inv.size) c.requires.sizes in
+    subst (λ k. IsSomeKept (record { block = c.args.block_size; index = k }) c.args.block c.args.kept.items c.each_index.kept.items) inv.size
+    (some_ends (record { block = c.args.block_size; index = n }) (λ o. 0) sizes c.args.block c.args.kept.items c.each_index.kept.items c.each_index.last inv.some)

@@ -1,5 +1,5 @@
 use Rattle.std.proofs.Common.{◌≡◌, ℕ, vec_len}
-use Rattle.foyer_recover.proofs.ChainLemmas.{IsAlong, offsets_left}
+use Rattle.foyer_recover.proofs.ChainLemmas.{IsAlong, IsSomeAlong, offsets_left}
 use Rattle.foyer_recover.proofs.block.chain.read_chain.Given as goal
 
 abbrev pub invariant-each_index : goal.invariant-each_index
@@ -14,6 +14,7 @@ invariant-each_index g l = record {
   has : (b o n : ℕ) → g.D.Disk.surely_has l.fn.disk b o n → g.D.Disk.surely_has l.disk b o n;
   along : g.D.Disk.is_known l.fn.disk → IsAlong (record { block = l.block_size; index = l.index_size }) (g.D.Disk.byte_at l.fn.disk l.block) l.block
       l.fn.kept.items l.kept.items l.last l.scanner.blob_offset;
+  some : IsSomeAlong (record { block = l.block_size; index = l.index_size }) l.block l.fn.kept.items l.kept.items l.last;
 }
 
 abbrev pub decreases-each_index : goal.decreases-each_index

@@ -16,4 +16,4 @@ returns-in-Ok-clause-missed g c = λ known.
     subst (λ said. IsMissedText c.args.key core bytes said) (sym c.answer_load.ensures) (missed_got c.args.key core bytes c.in-Ok.last (c.in-Ok.ensures.missed known refl))
 
 pub returns-in-Err-clause-missed : goal.returns-in-Err-clause-missed
-returns-in-Err-clause-missed g c = λ known s sound first events history few b sequence content kept newer. inr refl
+returns-in-Err-clause-missed g c = λ known s sound first events history few b sequence x kept newer some. inr refl

@@ -1,7 +1,9 @@
 use Rattle.std.proofs.Common.{◌≡◌, [], inl, inr, true, sym, subst, ◌∙◌, IfOk, IfErr}
 use Rattle.foyer_recover.specs.BlocksKept.{AreBlocksKept}
+use Rattle.foyer_recover.specs.Placed.{AreSomeKept}
 use Rattle.foyer_recover.specs.Recovery.{sizes_of, IsRefused}
 use Rattle.foyer_recover.specs.declared.block.recover.RecoverMode.TheVariants as recover_mode
+use Rattle.foyer_recover.proofs.BlocksLemmas.{none_kept_of}
 use Rattle.foyer_recover.proofs.OpeningLemmas.{ok_weakens, err_both, none_by, quiet_by, strict_by, refused_so}
 use Rattle.foyer_recover.proofs.block.recover.RecoverRunner.read.Goals as goal
 
@@ -40,3 +42,8 @@ returns-in-Strict-clause-refused g c = λ seen.
     subst (λ m. IfErr c.read_blocks-in-Strict.result (IsRefused (sizes_of r) r.blocks B S m [])) (sym c.in-Strict.is)
     (err_both c.read_blocks-in-Strict.result _ _ (IsRefused (sizes_of r) r.blocks B S recover_mode.Strict []) (refused_so (sizes_of r) r.blocks B S [] true)
     c.read_blocks-in-Strict.ensures.refused (c.read_blocks-in-Strict.ensures.cut known))
+
+pub returns-in-None-clause-some : goal.returns-in-None-clause-some
+returns-in-None-clause-some g c =
+    let r = c.args.self.now in
+    ok_weakens c.read_none.result _ (AreSomeKept (sizes_of r) r.blocks) (λ read holds. none_kept_of (sizes_of r) read r.blocks holds) c.read_none.ensures.none
