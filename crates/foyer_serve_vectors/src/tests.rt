@@ -1,6 +1,7 @@
-//! The program over directories, and its engine over devices whose calls fail.
+//! The program over directories, what it lists of them, and its engine over devices whose calls fail.
 
 mod directories;
 mod failing;
+mod listing;
 mod reopening;
 mod same;

@@ -20,7 +20,7 @@ pub use any::{AnyDevice, AnyPartition};
 pub use combined::{CombinedDevice, CombinedDeviceBuilder, CombinedPartition};
 pub use file::{FileDevice, FileDeviceBuilder, FilePartition};
 use foyer_device::error::Result;
-pub use fs::{FsDevice, FsDeviceBuilder, FsPartition};
+pub use fs::{FsDevice, FsDeviceBuilder, FsPartition, partition_path};
 pub use memory::{MemoryDevice, MemoryDeviceBuilder, MemoryPartition};
 pub use noop::{NoopDevice, NoopDeviceBuilder, NoopPartition};
 pub use partial::{PartialDevice, PartialDeviceBuilder, PartialPartition};

@@ -1,8 +1,9 @@
 //! A device over a directory.
-ghost use Rattle.std.specs.Prelude.{◌≡◌, ◌⊎◌, ◌↔◌, ℕ, ◌<◌, ◌^◌, Option, Some, None, IfErr, IsTrue, IsOk, OnOk, OnErr, length};
+ghost use Rattle.std.specs.Prelude.{◌≡◌, ◌⊎◌, ◌↔◌, ℕ, ◌<◌, ◌^◌, Option, Some, None, IfErr, IfOk, IsTrue, IsOk, OnOk, OnErr, length, string_bytes};
 ghost use Rattle.foyer_disk.specs.Region.{lacks_space, has_all_numbers};
 ghost use Rattle.foyer_disk.specs.Extent.{IsPartitionSize, files_from};
 ghost use Rattle.foyer_disk.specs.Capacity.{rounded};
+ghost use Rattle.foyer_disk.specs.Paths.{partition_path};
 ghost use Rattle.foyer_device.specs.declared.error.Error.TheVariants as error;
 
 use super::paths::lay_file;
@@ -86,11 +87,21 @@ pub struct FsDevice<A: Allocator> {
     since: u64,
 }
 
+/// The path of the file of a partition, of a device over the directory at a path. Memory alone refuses it.
+pub fn partition_path<A: Allocator>(
+    alloc: A,
+    dir: &str,
+    id: PartitionId,
+) -> std::result::Result<String<A>, AllocError>
+    ensures { IfOk result (λ path. string_bytes path ≡ partition_path dir.now id) }
+{
+    format!(in alloc; "{dir}/foyer-storage-direct-fs-{id:08}")
+}
+
 impl<A: Allocator> FsDevice<A> {
     // The path of a partition's file.
     fn path<B: Allocator>(&self, alloc: B, id: u32) -> std::result::Result<String<B>, AllocError> {
-        let dir = self.dir.as_str();
-        format!(in alloc; "{dir}/foyer-storage-direct-fs-{id:08}")
+        partition_path(alloc, self.dir.as_str(), id)
     }
 
     // Gives a partition's file its length. Io, Memory.

@@ -1,0 +1,3 @@
+pub mod BlockListing
+pub mod Verdicts
+pub mod ListLines

@@ -1,0 +1,87 @@
+//! The files of a directory's blocks, which are read and never written.
+ghost use Rattle.std.specs.Prelude.{◌≡◌, ◌⊎◌, length, IfOk, IfErr};
+ghost use Rattle.foyer_device.specs.declared.error.Error.TheVariants as error;
+
+use foyer_block::manager::BlockId;
+use foyer_blockio::disk::Disk;
+use foyer_device::error::{Error, Result};
+use foyer_disk::io::device::partition_path;
+use std::alloc::Allocator;
+use std::fs::{File, OpenOptions};
+use std::io;
+use std::os::unix::fs::FileExt;
+use std::rt::Files;
+
+/// The files of a directory's blocks. A read that a file doesn't have, or whose file is missing, is `Io`, and every write is
+/// `Unsupported`: nothing is made, cut or lengthened.
+#[derive(Drop)]
+pub struct BlockFiles<A: Allocator> {
+    // The file of each block, where there is one.
+    files: Vec<Option<File>, A>,
+}
+
+// Opens the file at a path for reading, if there is one. Io.
+fn open_file<R: Files<File = File>>(rt: &R, path: &str) -> Result<Option<File>>
+    ensures { IfErr result (λ e. e ≡ error.Io) }
+{
+    match OpenOptions::new().read(true).open(rt, path) {
+        Ok(file) => Ok(Some(file)),
+        Err(error) => {
+            if error.kind() == io::ErrorKind::NotFound {
+                Ok(None)
+            } else {
+                Err(Error::Io)
+            }
+        }
+    }
+}
+
+impl<A: Allocator + Clone> BlockFiles<A> {
+    /// The files of so many blocks, opened by their names for reading. `Io` where one that is there can't be opened;
+    /// `Memory`.
+    pub fn open<R: Files<File = File>>(
+        rt: &R,
+        alloc: &A,
+        directory: &str,
+        blocks: u32,
+    ) -> Result<BlockFiles<A>>
+        ensures count { IfOk result (λ opened. length opened.files.items ≡ blocks) }
+        ensures refused { IfErr result (λ e. (e ≡ error.Io) ⊎ (e ≡ error.Memory)) }
+    {
+        let mut files = Vec::with_capacity(alloc.clone()?, blocks as usize)?;
+        'each_block: for block in 0..blocks {
+            let path = partition_path(alloc.clone()?, directory, block)?;
+            files.push(open_file(rt, path.as_str())?)?;
+        }
+        Ok(BlockFiles { files })
+    }
+}
+
+impl<A: Allocator> Disk for BlockFiles<A> {
+    ghost is_known = { λ _. ⊥ };
+
+    ghost byte_at = { λ _ _ _. 0 };
+
+    ghost surely_has = { λ _ _ _ _. ⊥ };
+
+    ghost may_answer = { λ _ e. (e ≡ error.Io) ⊎ (e ≡ error.Unsupported) };
+
+    fn read<B: Allocator>(
+        &mut self,
+        block: BlockId,
+        offset: usize,
+        mut buffer: Vec<u8, B>,
+    ) -> (Vec<u8, B>, Result<()>) {
+        let Some(Some(file)) = self.files.get(block as usize) else {
+            return (buffer, Err(Error::Io));
+        };
+        match file.read_exact_at(buffer.as_mut_slice(), offset as u64) {
+            Ok(()) => (buffer, Ok(())),
+            Err(_) => (buffer, Err(Error::Io)),
+        }
+    }
+
+    fn write(&mut self, _block: BlockId, _offset: usize, _bytes: &[u8]) -> Result<()> {
+        Err(Error::Unsupported)
+    }
+}

@@ -1,0 +1,72 @@
+//! Which entries an opening would find.
+ghost use Rattle.std.specs.Prelude.{◌≡◌, ◌⊎◌, ◌↔◌, ◌≤◌, ◌^◌, IfOk, IfErr, Some, true, false};
+ghost use Rattle.foyer_block.specs.Index.{address_at};
+ghost use Rattle.foyer_device.specs.declared.error.Error.TheVariants as error;
+ghost use Rattle.foyer_rules.specs.Sizes.{AreValid, sizes_in};
+ghost use Rattle.foyer_list.specs.Verdicts.{HoldsWinners, MayRefuseWinners};
+
+use foyer_block::indexer::Indexer;
+use foyer_blockio::disk::Disk;
+use foyer_device::error::Result;
+use foyer_recover::block::recover::{RecoverMode, RecoverRunner};
+use foyer_rules::settings::Settings;
+use foyer_scan::block::scanner::EntryInfo;
+use std::alloc::Allocator;
+
+/// What becomes of an entry in an opening.
+#[derive(Clone, Copy, Debug, PartialEq, Eq)]
+pub enum Verdict {
+    /// Its hash is found at it.
+    Wins,
+    /// It is kept, but its hash is found elsewhere.
+    Loses,
+    /// It stands behind a fall of the sequence, so it isn't kept.
+    Dropped,
+}
+
+/// The verdict on an entry of a block, by the addresses that an opening found, and by whether the entry is kept.
+pub fn verdict_of<A: Allocator + Clone>(
+    found: &Indexer<A>,
+    info: &EntryInfo,
+    is_kept: bool,
+) -> Verdict
+    ensures wins { (result ≡ Verdict.Wins) ↔ (address_at found.now info.now.hash ≡ Some info.now.addr) }
+    ensures loses { result ≡ Verdict.Loses → is_kept ≡ true }
+    ensures dropped { result ≡ Verdict.Dropped → is_kept ≡ false }
+{
+    if let Some(address) = found.get(info.hash) {
+        if address == info.addr {
+            return Verdict::Wins;
+        }
+    }
+    if is_kept {
+        Verdict::Loses
+    } else {
+        Verdict::Dropped
+    }
+}
+
+/// The addresses that an opening of the disk's blocks finds, without marks of deletes, where failed reads refuse nothing.
+/// `Config` where the sizes don't go together; `SequenceEnd` where an entry that is kept has the last sequence; `Memory`.
+pub fn winners<A: Allocator + Clone, D: Disk>(
+    alloc: &A,
+    disk: &mut D,
+    settings: &Settings,
+) -> Result<Indexer<A>>
+    ensures found { D.is_known disk.old → IfOk result (λ found. HoldsWinners (sizes_in settings.now) settings.now.blocks
+        (D.byte_at disk.old) (D.surely_has disk.old) found) }
+    ensures valid { IfOk result (λ _. AreValid settings.now) }
+    ensures refused { IfErr result (MayRefuseWinners settings.now) }
+    ensures known { D.is_known disk.old → D.is_known disk.new }
+    ensures same { D.byte_at disk.new ≡ D.byte_at disk.old }
+{
+    settings.check()?;
+    let runner = RecoverRunner {
+        mode: RecoverMode::Quiet,
+        blocks: settings.blocks,
+        block_size: settings.block_size,
+        blob_index_size: settings.blob_index_size,
+    };
+    let recovered = runner.run(alloc, disk, settings.indexer_shards, &[])?;
+    Ok(recovered.index)
+}
