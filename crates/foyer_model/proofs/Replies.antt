@@ -18,7 +18,7 @@ use Rattle.foyer_model.specs.Queue.{size_queued, queued, IsIgnored}
 use Rattle.foyer_model.specs.Load.{Looks, judged, age_at, Judges}
 use Rattle.foyer_model.specs.Receive.{bytes_taken, turned, Fits, TakesFront}
 use Rattle.foyer_model.specs.Flush.{invalidated_unless, commit_in, clean_block, Describes, Wrote, Logs, Finishes}
-use Rattle.foyer_model.specs.Reclaim.{running, first_pick, are_asked, not_among, addresses, stage_after, issued_at, reclaiming, stage_behind, Lists, Scanned, Rereads, Forgets}
+use Rattle.foyer_model.specs.Reclaim.{running, not_among, addresses, stage_after, issued_at, reclaiming, stage_behind, Lists, Scanned, Rereads, Forgets}
 use Rattle.foyer_model.specs.Destroy.{after_clean, issued_after_clean, CleansOne}
 use Rattle.foyer_model.specs.InTurn.{WantsBlock, IsWriting, IsUnlogged, IsWritten, IsScan, ReadsFor, IsAt, AwaitsClean, InTurn}
 use Rattle.foyer_model.specs.Changes.{Changes}
@@ -39,11 +39,6 @@ last_of (x ∷ xs) = elim (last_of xs) [
   | inr some ↦ inr (x ∷ some.0, some.1, λ i. x ∷ some.2 i)
 ]
 
--- a picker without an answer
-nones : ℕ → List (Option ℕ)
-nones zero = []
-nones (suc n) = None ∷ nones n
-
 all_rejected : ℕ → List Bool
 all_rejected zero = []
 all_rejected (suc n) = false ∷ all_rejected n
@@ -52,17 +47,6 @@ rejected_length : (n : ℕ) → length (all_rejected n) ≡ n
 unfolding all_rejected
 rejected_length zero = refl
 rejected_length (suc n) = ap (λ k. suc k) (rejected_length n)
-
-nones_asked : (n blocks : ℕ) (place : ℕ → BlockSet) → are_asked n blocks place (nones n) ≡ true
-unfolding nones
-nones_asked zero blocks place = refl
-nones_asked (suc zero) blocks place = refl
-nones_asked (suc (suc n)) blocks place = nones_asked (suc n) blocks place
-
-nones_pick : (n blocks : ℕ) (place : ℕ → BlockSet) → first_pick blocks place (nones n) ≡ None
-unfolding nones
-nones_pick zero blocks place = refl
-nones_pick (suc n) blocks place = nones_pick n blocks place
 
 module _ {C : Type 0} (rules : Rules C) (Splits : Splitting C) where
   abbrev HasReply : State C → Step C → Type 0
@@ -282,11 +266,11 @@ module _ {C : Type 0} (rules : Rules C) (Splits : Splitting C) where
           })) (sym is) (refl, refl, refl))
 
   pick_replies : (c : State C) → c.steps < last_number → InTurn rules c ReclaimBegin → HasReply c ReclaimBegin
-  pick_replies c few may = answers c _ ReclaimBegin (Picked (may.some_block).0 (nones rules.pickers) []) tt few may (
+  pick_replies c few may = answers c _ ReclaimBegin (Picked (may.some_block).0 [] []) tt few may (
     (may.some_block).1,
     (may.some_block).2,
-    nones_asked rules.pickers rules.blocks c.place,
-    (λ d is. absurd (let e : None ≡ Some d = sym (nones_pick rules.pickers rules.blocks c.place) ∙ is in cc)),
+    refl,
+    (λ d is. absurd (let e : None ≡ Some d = is in cc)),
     refl,
   )
 

@@ -13,8 +13,8 @@ use Rattle.foyer_model.specs.Reclaim.{not_among, addresses, admitted, place_behi
 use Rattle.foyer_model.specs.Destroy.{vacated, refilled, BeginsDestroy, Clears, CleansOne}
 use Rattle.foyer_model.specs.InTurn.{MayClear}
 use Rattle.foyer_model.specs.Event.{Event, Put, Destruction, newest}
-use Rattle.foyer_model.specs.Access.{ReadIssued, ReadDone, Scan, scans_after, came}
-use Rattle.foyer_model.specs.World.{World, Applies, after}
+use Rattle.foyer_model.specs.Access.{ReadIssued, Scan, scans_after, came}
+use Rattle.foyer_model.specs.World.{World, Applies, IsBrought, after}
 use Rattle.foyer_model.proofs.Basics.{put_at, put_same, put_other, put_both}
 use Rattle.foyer_model.proofs.Invariant.{Ground, ground_of, IsSolid, ReadStateHolds, WorldInvariant, AllWait}
 use Rattle.foyer_model.proofs.CommitSteps.{each_join}
@@ -183,7 +183,7 @@ module _ {C : Type 0} (rules : Rules C) where
       stage = stage_after rules w.core (admitted vs (addresses b (w.core.filling b) place es)) (place_behind rules.page_up rules.block_size place es)
 
   pub scan_goes : (w : World C) (b : ℕ) (r : Reclaim) (stage : Stage) (came : ReadResult) (reply : Reply C) (new : State C) → w.core.reclaims b ≡ Some r → r.stage ≡ stage
-      → ((s : Scan) × (w.scans b ≡ Some s) × (s.read_state ≡ ReadDone came)) → Rattle.foyer_model.specs.Reclaim.Scanned rules w.core b r stage came reply new → WorldInvariant rules w → IsAgain rules w
+      → ((s : Scan) × (w.scans b ≡ Some s) × IsBrought s.read_state came) → Rattle.foyer_model.specs.Reclaim.Scanned rules w.core b r stage came reply new → WorldInvariant rules w → IsAgain rules w
       → IsAgain rules (after rules w (Applies (ReclaimRead b came) reply new))
   scan_goes w b r (AtIndex place) Fault reply new is at fed ok sound again = ends_listing w b Fault r reply new is ok.0 ok.1 again
   scan_goes w b r (AtRecord h a rest place) Fault reply new is at fed ok sound again = ends_listing w b Fault r reply new is ok.0 ok.1 again
@@ -216,7 +216,7 @@ module _ {C : Type 0} (rules : Rules C) where
   scan_goes w b r stage came reply new is at fed ok sound again = absurd ok
 
   pub reread_goes : (w : World C) (b : ℕ) (r : Option Reclaim) (came : ReadResult) (reply : Reply C) (new : State C) → w.core.reclaims b ≡ r
-      → ((s : Scan) × (w.scans b ≡ Some s) × (s.read_state ≡ ReadDone came)) → Rereads rules w.core b r came reply new → WorldInvariant rules w → IsAgain rules w
+      → ((s : Scan) × (w.scans b ≡ Some s) × IsBrought s.read_state came) → Rereads rules w.core b r came reply new → WorldInvariant rules w → IsAgain rules w
       → IsAgain rules (after rules w (Applies (ReclaimRead b came) reply new))
   reread_goes w b None came reply new is fed ok sound again = absurd ok
   reread_goes w b (Some r) came reply new is fed ok sound again = scan_goes w b r r.stage came reply new is refl fed ok sound again

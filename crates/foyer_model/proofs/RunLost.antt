@@ -235,7 +235,7 @@ abbrev pub wr35 : World ℕ
 wr35 = after small wr34 er34
 
 pub mayr34 : MayHappen small SmallSplits IsSmall wr34 er34
-mayr34 = ((scan_at wr34.scans 0, refl, refl), (lit< tt, (lit< tt, tt), (nr34, (refl, refl), refl)))
+mayr34 = ((scan_at wr34.scans 0, refl, (Fault, refl)), (lit< tt, (lit< tt, tt), (nr34, (refl, refl), refl)))
 
 abbrev nr35 : State ℕ
 nr35 = record wr35.core { index = forgotten [] wr35.core.index; reclaims = put wr35.core.reclaims 0 (Some (record { stage = ToClean; listed = []; requeued = [] })) }

@@ -32,7 +32,7 @@ abbrev pub first_pick : ℕ → (ℕ → BlockSet) → List (Option ℕ) → Opt
 first_pick blocks place [] = None
 first_pick blocks place (answer ∷ answers) = if is_pick blocks place answer then answer else first_pick blocks place answers
 
--- pickers are asked in order, all of them or up to the first pick
+-- So many pickers are asked in order, all of them or up to the first pick.
 abbrev pub are_asked : (pickers blocks : ℕ) → (ℕ → BlockSet) → List (Option ℕ) → Bool
 are_asked zero blocks place [] = true
 are_asked (suc n) blocks place [] = false
@@ -81,10 +81,11 @@ module _ {C : Type 0} (rules : Rules C) (old : State C) where
     pub some_block : (b : ℕ) × (b < rules.blocks) × (old.place b ≡ Evictable)
     pub quiet : is_cleaning old.destroy ≡ false
 
-  -- the first pick, else any evictable block
+  -- The first pick, else any evictable block. How many pickers there are is no rule: they are lent anew at each step, and
+  -- as many are judged as have answered.
   abbrev pub Picks : Reply C → State C → Type 0
   Picks (Picked b answers probation) new =
-      (b < rules.blocks) × (old.place b ≡ Evictable) × (are_asked rules.pickers rules.blocks old.place answers ≡ true)
+      (b < rules.blocks) × (old.place b ≡ Evictable) × (are_asked (length answers) rules.blocks old.place answers ≡ true)
       × ((c : ℕ) → first_pick rules.blocks old.place answers ≡ Some c → b ≡ c)
       × (new ≡ record old {
         place = put old.place b Reclaims;

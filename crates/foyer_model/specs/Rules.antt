@@ -9,7 +9,6 @@ pub record Rules (C : Type 0) : Type 0 where
   pub flushers : ℕ  -- how many there are
   pub blocks : ℕ
   pub reclaimers : ℕ
-  pub pickers : ℕ
   pub index_size : ℕ
   pub block_size : ℕ
   pub room : Position → ℕ  -- of a flusher's buffer, in bytes, from where its splitter goes on

@@ -33,7 +33,6 @@ small = record {
   flushers = 1;
   blocks = 2;
   reclaimers = 1;
-  pickers = 1;
   index_size = 4096;
   block_size = 8192;
   room = λ f. 8;

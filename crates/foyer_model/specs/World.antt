@@ -5,12 +5,12 @@ use Rattle.foyer_model.specs.Position.{Position, Write, BlockLayout}
 use Rattle.foyer_model.specs.Record.{Record}
 use Rattle.foyer_model.specs.State.{Writing, Batch, State}
 use Rattle.foyer_model.specs.Rules.{Rules, first_position, Splitting}
-use Rattle.foyer_model.specs.Step.{ReadResult, Step, Enqueue, Delete, LoadEnd, FlushBlock, FlushWrote, ReclaimRead, ReclaimCleaned, DestroyClear, DestroyCleaned}
+use Rattle.foyer_model.specs.Step.{ReadResult, Bytes, Fault, Step, Enqueue, Delete, LoadEnd, FlushBlock, FlushWrote, ReclaimRead, ReclaimCleaned, DestroyClear, DestroyCleaned}
 use Rattle.foyer_model.specs.Reply.{Reply, Written, Cleared, Done, Committed}
 use Rattle.foyer_model.specs.Follows.{Follows}
 use Rattle.foyer_model.specs.Event.{Event, events_of}
 use Rattle.foyer_model.specs.Kept.{kept_after}
-use Rattle.foyer_model.specs.Access.{BlockWrites, Issued, CleanState, CleanDone, ReadDone, Load, Scan, loads_after, issued_after, scans_after, block_writes_after, cleans_after, result_of, some_writes_covers, clean_covers, begun, read_torn, came, at_load, at_scan, writes_begun, will_cover, writes_ended, bytes_ended, clean_begun, clean_will_cover, clean_ended, bytes_cleaned, IsRead, IsTorn, IsTornClean}
+use Rattle.foyer_model.specs.Access.{BlockWrites, Issued, CleanState, CleanDone, ReadState, ReadDone, Load, Scan, loads_after, issued_after, scans_after, block_writes_after, cleans_after, result_of, some_writes_covers, clean_covers, begun, read_torn, came, at_load, at_scan, writes_begun, will_cover, writes_ended, bytes_ended, clean_begun, clean_will_cover, clean_ended, bytes_cleaned, IsRead, IsTorn, IsTornClean}
 
 -- whether there is nothing
 abbrev pub is_none : {X : Type 0} → Option X → Bool
@@ -155,16 +155,21 @@ abbrev pub IsScanned : (ℕ → ℕ) → Option Scan → ReadResult → Type 0
 IsScanned bytes None result = Unit {0}
 IsScanned bytes (Some s) result = IsRead bytes s.offset s.len s.read_state result
 
+-- what may be brought for a read of a reclaim that has come: what it gave, or a fault, as where memory is refused for it
+abbrev pub IsBrought : ReadState → ReadResult → Type 0
+IsBrought read_state (Bytes bs) = read_state ≡ ReadDone (Bytes bs)
+IsBrought read_state Fault = (came : ReadResult) × (read_state ≡ ReadDone came)
+
 -- what may happen, where callers hand in such contents
 module _ {C : Type 0} (rules : Rules C) (Splits : Splitting C) (is_value : C → Type 0) where
-  -- A step that brings a result brings the true one of its access, when it has come; an Enqueue brings a content that
-  -- callers have; hashes have 64 bits. Every other step comes at any time, out of turn too.
+  -- A step that brings a result brings the true one of its access, when it has come, or a fault for a reclaim's read; an
+  -- Enqueue brings a content that callers have; hashes have 64 bits. Every other step comes at any time, out of turn too.
   abbrev pub IsFed : World C → Step C → Type 0
   IsFed w (Enqueue h n age c) = (h ≤ last_number) × is_value c
   IsFed w (Delete h) = h ≤ last_number
   IsFed w (LoadEnd t result) = (n : ℕ) × (l : Load C) × (w.loads n ≡ Some l) × (l.ticket ≡ t) × (l.read_state ≡ ReadDone result)
   IsFed w (FlushWrote f ok) = result_of (w.block_writes f) ≡ Some ok
-  IsFed w (ReclaimRead b result) = (s : Scan) × (w.scans b ≡ Some s) × (s.read_state ≡ ReadDone result)
+  IsFed w (ReclaimRead b result) = (s : Scan) × (w.scans b ≡ Some s) × IsBrought s.read_state result
   IsFed w (ReclaimCleaned b ok) = w.clean_states b ≡ CleanDone ok
   IsFed w (DestroyCleaned b fault) = w.clean_states b ≡ CleanDone (is_none fault)
   IsFed w step = Unit {0}

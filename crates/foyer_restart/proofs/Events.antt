@@ -112,21 +112,14 @@ module _ (A : Type 0) {C : Type 0} (rules : Rules C) (Splits : Splitting C) (is_
   pick_safe w reply new quiet ok known s = absurd ok
 
   well_issued : (old : State C) (b d : ℕ) (came : ReadResult) (stage : Stage) (verdicts : List Bool) → StepGoesWell {C = C} (ReclaimRead b came) (issued_at rules old d stage verdicts) → AllRefused verdicts
-  well_issued old b d came (AtIndex p) verdicts ok = ok
-  well_issued old b d came (AtRecord h a rest p) verdicts ok = ok
-  well_issued old b d came AllListed verdicts ok = ok
-  well_issued old b d came ToClean verdicts ok = ok
+  well_issued old b d came (AtIndex p) verdicts ok = ok.1
+  well_issued old b d came (AtRecord h a rest p) verdicts ok = ok.1
+  well_issued old b d came AllListed verdicts ok = ok.1
+  well_issued old b d came ToClean verdicts ok = ok.1
 
   -- the bytes that a reclaim was brought are those of its block
   was_read : (w : World C) (b p : ℕ) (r : Reclaim) (bs : List ℕ) → w.core.reclaims b ≡ Some r → r.stage ≡ AtIndex p → IsFed rules Splits is_value w (ReclaimRead b (Bytes bs)) → IsSafe A rules (sight_of w) → bs ≡ read (w.bytes b) p rules.index_size
   was_read w b p r bs is at (sc, scan, read_state) s =
-      let reading : ReadsOk (sizes_of rules) (w.bytes b) b (w.core.filling b) (Some r) (Some sc) = subst (λ k. ReadsOk (sizes_of rules) (w.bytes b) b (w.core.filling b) (Some r) k) scan
-      (subst (λ k. ReadsOk (sizes_of rules) (w.bytes b) b (w.core.filling b) k (w.scans b)) is (s.reads b)) in
-      let stage : StageReads (sizes_of rules) (w.bytes b) b (w.core.filling b) r.listed (AtIndex p) (Some sc) = subst (λ k. StageReads (sizes_of rules) (w.bytes b) b (w.core.filling b) r.listed k (Some sc)) at reading.1 in
-      subst (Rattle.foyer_restart.proofs.Safe.PhaseReads (sizes_of rules) (w.bytes b) p) read_state (stage.3).2
-
-  no_fault_read : (w : World C) (b p : ℕ) (r : Reclaim) → w.core.reclaims b ≡ Some r → r.stage ≡ AtIndex p → IsFed rules Splits is_value w (ReclaimRead b Fault) → IsSafe A rules (sight_of w) → ⊥
-  no_fault_read w b p r is at (sc, scan, read_state) s =
       let reading : ReadsOk (sizes_of rules) (w.bytes b) b (w.core.filling b) (Some r) (Some sc) = subst (λ k. ReadsOk (sizes_of rules) (w.bytes b) b (w.core.filling b) (Some r) k) scan
       (subst (λ k. ReadsOk (sizes_of rules) (w.bytes b) b (w.core.filling b) k (w.scans b)) is (s.reads b)) in
       let stage : StageReads (sizes_of rules) (w.bytes b) b (w.core.filling b) r.listed (AtIndex p) (Some sc) = subst (λ k. StageReads (sizes_of rules) (w.bytes b) b (w.core.filling b) r.listed k (Some sc)) at reading.1 in
@@ -173,7 +166,7 @@ module _ (A : Type 0) {C : Type 0} (rules : Rules C) (Splits : Splitting C) (is_
 
   scan_safe : (w : World C) (b : ℕ) (r : Reclaim) (stage : Stage) (came : ReadResult) (reply : Reply C) (new : State C) → w.core.reclaims b ≡ Some r → r.stage ≡ stage → IsFed rules Splits is_value w (ReclaimRead b came)
       → Scanned rules w.core b r stage came reply new → StepGoesWell (ReclaimRead b came) reply → IsSafe A rules (sight_of w) → At w (ReclaimRead b came) reply new
-  scan_safe w b r (AtIndex p) Fault reply new is at fed ok well s = absurd (no_fault_read w b p r is at fed s)
+  scan_safe w b r (AtIndex p) Fault reply new is at fed ok well s = absurd (subst (StepGoesWell (ReclaimRead b Fault)) ok.0 well).0
   scan_safe w b r (AtIndex p) (Bytes bs) reply new is at fed ok well s = lists_safe w b bs r p (rules.entries_of p bs) reply new is at refl (was_read w b p r bs is at fed s) ok well s
   scan_safe w b r (AtRecord h a rest p) came reply new is at fed ok well s =
       absurd (subst (λ k. StageReads (sizes_of rules) (w.bytes b) b (w.core.filling b) r.listed k (w.scans b)) at (reads_now w b r is s).1)

@@ -9,7 +9,7 @@ use Rattle.foyer_model.specs.Record.{Address, Indexed, Record}
 use Rattle.foyer_model.specs.Position.{Index, Write}
 use Rattle.foyer_model.specs.State.{Writing, Batch, State}
 use Rattle.foyer_model.specs.Rules.{Rules, Splitting}
-use Rattle.foyer_model.specs.Step.{Fault, Step, FlushWrote, ReclaimRead}
+use Rattle.foyer_model.specs.Step.{ReadResult, Bytes, Fault, Step, FlushWrote, ReclaimRead}
 use Rattle.foyer_model.specs.Reply.{Reply, Failed, Scans, Listed}
 use Rattle.foyer_model.specs.World.{World, WorldEvent, Applies, ScanEnds, WriteEnds, covers, MayAllHappen, after_all}
 use Rattle.foyer_model.specs.Opened.{IsOpened}
@@ -28,11 +28,16 @@ AllRefused [] = Unit {0}
 AllRefused (true ∷ vs) = ⊥
 AllRefused (false ∷ vs) = AllRefused vs
 
--- a block that was written is committed, and a reclaim queues nothing for reinsertion
+-- what was read is brought
+abbrev pub IsBytes : ReadResult → Type 0
+IsBytes (Bytes bs) = Unit {0}
+IsBytes Fault = ⊥
+
+-- a block that was written is committed, and a reclaim is brought what it read, and queues nothing for reinsertion
 abbrev pub StepGoesWell : {C : Type 0} → Step C → Reply C → Type 0
 StepGoesWell (FlushWrote f ok) Failed = ⊥
-StepGoesWell (ReclaimRead b came) (Scans d o n verdicts) = AllRefused verdicts
-StepGoesWell (ReclaimRead b came) (Listed verdicts) = AllRefused verdicts
+StepGoesWell (ReclaimRead b came) (Scans d o n verdicts) = IsBytes came × AllRefused verdicts
+StepGoesWell (ReclaimRead b came) (Listed verdicts) = IsBytes came × AllRefused verdicts
 StepGoesWell step reply = Unit {0}
 
 -- so, and writes and the reads of reclaims succeed; loads and cleans may fail

@@ -16,7 +16,6 @@ tiny entries_of above some whole = record {
   flushers = 1;
   blocks = 1;
   reclaimers = 1;
-  pickers = 0;
   index_size = 4096;
   block_size = 8192;
   room = λ f. 1000000;
