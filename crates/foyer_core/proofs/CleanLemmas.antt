@@ -64,14 +64,16 @@ placed_as m n clean size st = record {
 }
 
 -- and so the model begins
-pub opened_manager : (s : Settings) (reclaimers clean_threshold : ℕ) (old new : Managed) (clean : List ℕ)
-    → old ≡ new_manager s.blocks s.flushers reclaimers clean_threshold → HasSameRules old new
+pub opened_manager : (s : Settings) (old new : Managed) (clean : List ℕ)
+    → old ≡ new_manager s.blocks s.flushers s.reclaimers s.clean_block_threshold → HasSameRules old new
     → ((sets : BlockSets) → Stands old sets → Stands new (with_clean sets clean)) → IsManagedAs s new (opened_sets s.blocks clean)
-opened_manager s reclaimers clean_threshold old new clean made same cleans =
+opened_manager s old new clean made same cleans =
     let size : length new.blocks ≡ s.blocks = same.blocks ∙ ap (λ (m : Managed). length m.blocks) made ∙ replicate_count s.blocks new_block in
     record {
       blocks = size;
       flushers = same.flushers ∙ ap (λ (m : Managed). length m.ready) made ∙ replicate_count s.flushers None;
+      reclaimers = same.reclaimers ∙ ap (λ (m : Managed). m.reclaimers) made;
+      clean_threshold = same.clean_threshold ∙ ap (λ (m : Managed). m.clean_threshold) made;
       sets = placed_as new s.blocks clean size
-          (cleans new_sets (subst (λ m. Stands m new_sets) (sym made) (new_stands s.blocks s.flushers reclaimers clean_threshold)));
+          (cleans new_sets (subst (λ m. Stands m new_sets) (sym made) (new_stands s.blocks s.flushers s.reclaimers s.clean_block_threshold)));
     }

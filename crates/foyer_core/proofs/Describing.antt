@@ -6,7 +6,7 @@ use Rattle.foyer_core.specs.declared.reply.Reply.TheVariants as reply
 use Rattle.foyer_core.specs.declared.state.Core.{Core}
 use Rattle.foyer_core.specs.declared.step.Step.{Step}
 use Rattle.foyer_core.specs.declared.step.Step.TheVariants as step
-use Rattle.foyer_core.specs.Answered.{Describes, DescribesNothing, Enqueues, Deleting, Looking, AnswersPair}
+use Rattle.foyer_core.specs.Answered.{Describes, DescribesNothing, Enqueues, Deleting, Looking, AnswersPair, Idling}
 
 pub issues_nothing : {K V P A : Type 0} (is_key is_value : List ℕ → Bool) (key_of : K → List ℕ) (value_of : V → List ℕ)
     → (given : Step K V P A) (answer : Reply K V P A) (old new : Core K V P A) → DescribesNothing answer
@@ -63,6 +63,17 @@ issues_pair is_key is_value key_of value_of given (reply.Answer answer) old new 
 issues_pair is_key is_value key_of value_of given (reply.Read ticket) old new issues = absurd issues
 issues_pair is_key is_value key_of value_of given answer old new issues = tt
 
+pub issues_idle : {K V P A : Type 0} (is_key is_value : List ℕ → Bool) (key_of : K → List ℕ) (value_of : V → List ℕ)
+    → (given : Step K V P A) (answer : Reply K V P A) (old new : Core K V P A) → Idling given answer old
+    → Describes is_key is_value key_of value_of given answer old new
+issues_idle is_key is_value key_of value_of given (reply.Entry key value age) old new issues = absurd issues
+issues_idle is_key is_value key_of value_of given (reply.Ignored back) old new issues = absurd issues
+issues_idle is_key is_value key_of value_of given (reply.Queued sequence) old new issues = absurd issues
+issues_idle is_key is_value key_of value_of given (reply.Deleted sequence) old new issues = absurd issues
+issues_idle is_key is_value key_of value_of given (reply.Answer answer) old new issues = issues
+issues_idle is_key is_value key_of value_of given (reply.Read ticket) old new issues = absurd issues
+issues_idle is_key is_value key_of value_of given answer old new issues = tt
+
 -- a step more is counted
 pub issues_counted : {K V P A : Type 0} (is_key is_value : List ℕ → Bool) (key_of : K → List ℕ) (value_of : V → List ℕ)
     → (given : Step K V P A) (answer : Reply K V P A) (old new : Core K V P A) (n : ℕ)
@@ -79,4 +90,4 @@ issues_counted is_key is_value key_of value_of given (reply.Answer answer) old n
 issues_counted is_key is_value key_of value_of given (reply.Read ticket) old new n issues = issues
 issues_counted is_key is_value key_of value_of given answer old new n issues = tt
 
-pub ruleset issuing = (issues_nothing, issues_queued, issues_deleted, issues_looked, issues_pair)
+pub ruleset issuing = (issues_nothing, issues_queued, issues_deleted, issues_looked, issues_pair, issues_idle)

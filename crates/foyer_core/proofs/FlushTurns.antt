@@ -15,6 +15,7 @@ use Rattle.foyer_flusher.specs.FlusherSteps.{StandsAt, FlusherStep}
 use Rattle.foyer_rules.specs.Content.{Content, Meaning}
 use Rattle.foyer_flusher.specs.Flushing.{AreWriting, AreBatched}
 use Rattle.foyer_rules.specs.CoreRules.{machine}
+use Rattle.foyer_core.specs.Reclaiming.{reclaim_at, KeepsReclaim, AreReclaimAs}
 use Rattle.foyer_core.specs.Refines.{IsRefinedUncounted}
 use Rattle.foyer_rules.specs.Sizes.{AreValid}
 use Rattle.foyer_core.specs.StateOf.{IsStateOf, AreFlushersAs, size_of_all}
@@ -27,6 +28,7 @@ use Rattle.foyer_buffer.specs.Layout.{parts_of}
 use Rattle.foyer_buffer.specs.declared.split.Block.{Block}
 use Rattle.foyer_placing.specs.Bridge.{AreBlocksAs as AreLaidOutAs}
 use Rattle.foyer_flusher.proofs.NextLemmas.{would_issue}
+use Rattle.foyer_core.proofs.ReclaimLemmas.{reclaim_kept}
 use Rattle.foyer_core.proofs.StateLemmas.{flushers_count, flusher_at, flusher_put, size_put, unchanged_stands}
 use Rattle.foyer_flusher.specs.declared.flusher.Batch.{Batch}
 use Rattle.foyer_flusher.specs.declared.flusher.Flusher.{Flusher}
@@ -63,9 +65,9 @@ module _ {K V P A : Type 0} (m : Meaning K V P) (s : Settings) where
       → IsStateOf m s old it → f < length old.flushers.items
       → (done : FlusherStep m s sound given f it answer (seen ψ) new.index new.manager)
       → new.flushers.items ≡ slice_set old.flushers.items f ψ
-      → new.settings ≡ old.settings → new.next ≡ old.next → new.steps ≡ old.steps → new.closed ≡ old.closed → new.queued ≡ old.queued
+      → new.settings ≡ old.settings → new.next ≡ old.next → new.steps ≡ old.steps → new.closed ≡ old.closed → new.queued ≡ old.queued → KeepsReclaim old.reclaims new.reclaims
       → IsStateOf m s new done.after
-  core_stands sound old new it f ψ given answer stands lt done items settings next counted closed queued =
+  core_stands sound old new it f ψ given answer stands lt done items settings next counted closed queued reclaims =
       let there : f < s.flushers = flusher_there old it f stands lt in
       let put_is : AreFlushersAs m s (map seen new.flushers.items) (put it.flushers f done.flusher) =
       subst (λ xs. AreFlushersAs m s (map seen xs) (put it.flushers f done.flusher)) (sym items)
@@ -89,7 +91,10 @@ module _ {K V P A : Type 0} (m : Meaning K V P) (s : Settings) where
         manager = done.manager;
         has = λ g. subst (λ (φs : ℕ → model_state.Flusher Content). HasItsBlocks s (done.after).place (done.after).waiting g (φs g)) (sym done.flushers)
             (blocks_put s f it (done.after).place (done.after).waiting done.flusher done.others done.has stands.has g);
-        reclaims = λ b. ap (λ (r : ℕ → Option model_state.Reclaim). r b) done.reclaims ∙ stands.reclaims b;
+        reclaims = λ b.
+            subst (λ (r : ℕ → Option model_state.Reclaim). AreReclaimAs s b ((done.after).place b) ((done.after).filling b) (reclaim_at new.reclaims b) (r b)) (sym done.reclaims)
+            (subst (λ o. AreReclaimAs s b ((done.after).place b) ((done.after).filling b) o (it.reclaims b)) (sym (reclaims b))
+            (reclaim_kept s b (it.place b) ((done.after).place b) (it.filling b) ((done.after).filling b) ((done.kept).sets b) ((done.kept).fillings b) (reclaim_at old.reclaims b) (it.reclaims b) (stands.reclaims b)));
         destroy = done.destroy ∙ stands.destroy;
       }
 

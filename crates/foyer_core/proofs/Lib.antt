@@ -8,6 +8,10 @@ pub mod LoadLemmas
 pub mod OpenedLemmas
 pub mod Opening
 pub mod QueueLemmas
+pub mod ReclaimCame
+pub mod ReclaimLemmas
+pub mod ReclaimReads
+pub mod ReclaimSteps
 pub mod RefinesLemmas
 pub mod StateLemmas
 pub mod TurnLemmas

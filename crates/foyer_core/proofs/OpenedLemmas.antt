@@ -1,5 +1,5 @@
 -- An opened core stands for the state with what was found.
-use Rattle.std.proofs.Common.{◌≡◌, ℕ, zero, suc, ◌<◌, ◌≤◌, replicate, [], length, Option, Some, None, slice_get, refl, sym, ap, subst, ◌∙◌, arith}
+use Rattle.std.proofs.Common.{◌≡◌, ℕ, zero, suc, ◌<◌, ◌≤◌, nat_lt, Bool, true, false, if◌then◌else◌, replicate, List, [], length, Option, Some, None, slice_get, refl, sym, ap, subst, ◌∙◌, arith}
 use Rattle.std.specs.FinMap as finite
 use Rattle.foyer_block.specs.declared.indexer.EntryAddress.{EntryAddress}
 use Rattle.foyer_block.specs.declared.indexer.Index.{Index}
@@ -10,14 +10,18 @@ use Rattle.foyer_model.specs.Record as model_record
 use Rattle.foyer_recover.specs.Opening.{Opened}
 use Rattle.foyer_recover.specs.Placed.{IsOpening}
 use Rattle.foyer_recover.specs.Recovery.{held_slot}
-use Rattle.foyer_rules.specs.Begins.{opened_state}
+use Rattle.foyer_model.specs.Ids.{is_id_in}
+use Rattle.foyer_rules.specs.Begins.{opened_state, place_of}
+use Rattle.foyer_sets.specs.BlockSets.{is_reclaimed}
 use Rattle.foyer_rules.proofs.OpenedWorlds.{stands_at}
+use Rattle.foyer_model.specs.State as model_state
 use Rattle.foyer_rules.specs.Content.{Content, Meaning}
 use Rattle.foyer_flusher.specs.Flushing.{IsFlusherAs}
 use Rattle.foyer_rules.specs.CoreRules.{machine}
 use Rattle.foyer_core.specs.Opened.{IsOpened}
 use Rattle.foyer_flusher.specs.Idle.{idle}
 use Rattle.foyer_rules.specs.Sizes.{AreValid, sizes_in}
+use Rattle.foyer_core.specs.Reclaiming.{AreReclaimAs}
 use Rattle.foyer_core.specs.StateOf.{IsStateOf, AreFlushersAs, size_of_all}
 use Rattle.foyer_standing.specs.Addresses.{address_of}
 use Rattle.foyer_standing.specs.Standing.{slot_of}
@@ -44,6 +48,15 @@ slot_held : (x : Option Index) → held_slot x ≡ slot_of x
 slot_held None = refl
 slot_held (Some (Address a)) = refl
 slot_held (Some (Tombstone q)) = refl
+
+-- no block is reclaimed yet
+not_reclaimed : (n : ℕ) (clean : List ℕ) (b : ℕ) → is_reclaimed (place_of n clean b) ≡ false
+not_reclaimed n clean b = go (nat_lt b n) (is_id_in b clean)
+  where
+    go : (t u : Bool) → is_reclaimed (if t then (if u then model_state.Clean else model_state.Evictable) else model_state.Clean) ≡ false
+    go true true = refl
+    go true false = refl
+    go false u = refl
 
 module _ {K V P A : Type 0} (m : Meaning K V P) (s : Settings) (sound : AreValid s) where
   idle_stands : (x : Seen K V P A) → idle s ≡ x → IsFlusherAs m s x (plain_idle (machine m s sound))
@@ -94,6 +107,6 @@ module _ {K V P A : Type 0} (m : Meaning K V P) (s : Settings) (sound : AreValid
       ready = λ b is. absurd (let clash : None ≡ Some b = is in cc);
       waits = λ is. (refl, refl);
     };
-    reclaims = λ b. refl;
+    reclaims = λ b. subst (λ r. AreReclaimAs s b (place_of s.blocks o.clean b) 0 r None) (sym (opened.reclaims b)) (not_reclaimed s.blocks o.clean b);
     destroy = refl;
   }

@@ -82,9 +82,10 @@ module _ {K V P A : Type 0} (m : Meaning K V P) where
   ordinary (reply.Committed n) it not is = subst IsOrdinary (sym is) tt
   ordinary reply.Failed it not is = subst IsOrdinary (sym is) tt
   ordinary (reply.Ended pieces waits) it not is = subst IsOrdinary (sym is.2) tt
-  ordinary (reply.Scan block offset len) it not is = absurd is
-  ordinary reply.Listed it not is = absurd is
-  ordinary (reply.Clean block) it not is = absurd is
+  ordinary (reply.Picked block answers probation) it not is = subst IsOrdinary (sym is) tt
+  ordinary (reply.Scan block offset len verdicts) it not is = subst IsOrdinary (sym is) tt
+  ordinary (reply.Listed verdicts) it not is = subst IsOrdinary (sym is) tt
+  ordinary (reply.Clean block) it not is = subst IsOrdinary (sym is) tt
   ordinary (reply.Destroying q) it not is = absurd is
   ordinary reply.Cleared it not is = absurd is
   ordinary (reply.Destroyed ok) it not is = absurd is

@@ -9,6 +9,7 @@ use Rattle.foyer_model.specs.State as model_state
 use Rattle.foyer_model.proofs.Basics.{put_at, put_same, put_other}
 use Rattle.foyer_rules.specs.Content.{Content, Meaning}
 use Rattle.foyer_flusher.specs.Flushing.{IsFlusherAs}
+use Rattle.foyer_core.specs.Reclaiming.{AreReclaimAs}
 use Rattle.foyer_core.specs.StateOf.{AreFlushersAs, IsSizedAs, IsStateOf, size_of_all}
 use Rattle.foyer_flusher.specs.Taking.{size_in}
 use Rattle.foyer_standing.specs.Standing.{IsIndexedAs, sets_of, IsManagedAs}
@@ -73,7 +74,7 @@ module _ {K V P A : Type 0} (m : Meaning K V P) (s : Settings) where
         (subst (λ q. IsSizedAs s q old.next it.flushers) (sym same.queued) stands.queued);
     manager = subst (λ k. IsManagedAs s k (sets_of it)) (sym same.manager) stands.manager;
     has = stands.has;
-    reclaims = stands.reclaims;
+    reclaims = λ b. subst (λ o. AreReclaimAs s b (it.place b) (it.filling b) o (it.reclaims b)) (sym (same.reclaims b)) (stands.reclaims b);
     destroy = stands.destroy;
   }
 

@@ -15,6 +15,7 @@ use Rattle.foyer_core.specs.Replied.{kind_of}
 use Rattle.foyer_rules.specs.Sizes.{AreValid}
 use Rattle.foyer_core.specs.StateOf.{IsStateOf}
 use Rattle.foyer_core.specs.Unchanged.{IsUnchanged}
+use Rattle.foyer_core.specs.declared.reply.Reply.{Reply}
 use Rattle.foyer_core.specs.declared.reply.Reply.TheVariants as reply
 use Rattle.foyer_rules.specs.declared.settings.Settings.{Settings}
 use Rattle.foyer_core.specs.declared.state.Core.{Core}
@@ -36,6 +37,7 @@ same core = record {
   settings = refl;
   flushers = refl;
   manager = refl;
+  reclaims = λ b. refl;
 }
 
 module _ {K V P A : Type 0} (m : Meaning K V P) (s : Settings) (sound : AreValid s) (given : Step K V P A) (old new : Core K V P A) (it : State Content) where
@@ -71,3 +73,8 @@ comes_back m s sound given back why new it is turned = subst (λ b. IsRefinedUnc
 pub comes_back_late : {K V P A : Type 0} (m : Meaning K V P) (s : Settings) (sound : AreValid s) (given back : Step K V P A) (new : Core K V P A) (it : State Content)
     → back ≡ given → IsRefinedUncounted m s sound given (reply.NotNow given) new it → IsRefinedUncounted m s sound given (reply.NotNow back) new it
 comes_back_late m s sound given back new it is turned = subst (λ b. IsRefinedUncounted m s sound given (reply.NotNow b) new it) (sym is) turned
+
+-- what holds of a step holds of the one that was asked, where it is that one
+pub brought : {K V P A : Type 0} (m : Meaning K V P) (s : Settings) (sound : AreValid s) (given is : Step K V P A) (answer : Reply K V P A) (new : Core K V P A) (it : State Content)
+    → given ≡ is → IsRefinedUncounted m s sound is answer new it → IsRefinedUncounted m s sound given answer new it
+brought m s sound given is answer new it same turned = subst (λ g. IsRefinedUncounted m s sound g answer new it) (sym same) turned

@@ -1,5 +1,5 @@
 -- What a reply says of its step.
-use Rattle.std.specs.Prelude.{◌≡◌, ℕ, ◌+◌, Bool, true, false, List, take, slice_get, Option, Some, None, is_some, IsSomeAnd, Result, Ok, Err}
+use Rattle.std.specs.Prelude.{◌≡◌, ℕ, ◌+◌, ◌==◌, length, Bool, true, false, List, take, slice_get, Option, Some, None, is_some, IsSomeAnd, Result, Ok, Err}
 use Rattle.foyer_block.specs.Index.{address_at}
 use Rattle.foyer_block.specs.Insertion.{inserted}
 use Rattle.foyer_block.specs.declared.indexer.Index.TheVariants as index
@@ -8,6 +8,9 @@ use Rattle.foyer_format.specs.Record.{pair_of}
 use Rattle.foyer_format.specs.Record.Outcome.{Pair}
 use Rattle.foyer_policy.specs.Record.{Record}
 use Rattle.foyer_flusher.specs.Failing.{MustGrowFor}
+use Rattle.foyer_sets.specs.BlockSets.{BlockSets, Stands, MayReclaim, reclaim_count}
+use Rattle.foyer_sets.specs.Pickers.{Info, answers_of, picker_info}
+use Rattle.foyer_sets.specs.Picks.{Picks, usable_in}
 use Rattle.foyer_core.specs.Asked.{went_well}
 use Rattle.foyer_core.specs.declared.reply.Reply.{Reply}
 use Rattle.foyer_core.specs.declared.reply.Reply.TheVariants as reply
@@ -43,9 +46,11 @@ Deletes (step.Delete hash) sequence old new =
     × (new.index ≡ inserted old.index hash (index.Tombstone sequence))
 Deletes given sequence old new = ⊥
 
--- whether the hash that was asked for is indexed
+-- whether the hash that was asked for is indexed, or whether no block is reclaimed
 abbrev pub Asks : {K V P A : Type 0} → Step K V P A → Bool → Core K V P A → Type 0
 Asks (step.MayContains hash) answer old = answer ≡ is_some (address_at old.index hash)
+Asks step.ReclaimIdle answer old =
+    (sets : BlockSets) → Stands old.manager sets → answer ≡ (reclaim_count (length old.manager.blocks) sets.block_set == 0)
 Asks given answer old = ⊥
 
 -- the ticket has the hash that was looked up, and its address
@@ -96,6 +101,21 @@ Deleting given answer old new = DescribesNothing answer
 abbrev pub Looking : {K V P A : Type 0} → Step K V P A → Reply K V P A → Core K V P A → Type 0
 Looking given (reply.Read ticket) old = Looks given ticket old
 Looking given answer old = DescribesNothing answer
+
+-- whether no reclaim runs is the one answer
+abbrev pub Idling : {K V P A : Type 0} → Step K V P A → Reply K V P A → Core K V P A → Type 0
+Idling given (reply.Answer answer) old = Asks given answer old
+Idling given answer old = DescribesNothing answer
+
+-- A reclaim begins where it may, of the first of the answers of the pickers that were lent that is an evictable block, else
+-- of any such block; the answers up to it, and what these pickers put on probation, are those of the reply.
+abbrev pub IsPicked : {K V P A Q : Type 0} → (Q → Info → Option ℕ) → (Q → Info → List ℕ) → List Q → Reply K V P A → Core K V P A → Core K V P A → Type 0
+IsPicked says marks pickers (reply.Picked block answers probation) old new =
+    (sets : BlockSets) → Stands old.manager sets
+    → MayReclaim (length old.manager.blocks) old.manager.reclaimers old.manager.clean_threshold sets
+    × Picks old.manager sets (answers_of says marks pickers (picker_info old.manager.blocks old.manager.evictable (usable_in old.manager)))
+    block answers.items probation.items new.manager
+IsPicked says marks pickers answer old new = Unit {0}
 
 -- of a load's answers one is a pair
 abbrev pub AnswersPair : {K V P A : Type 0} → (List ℕ → Bool) → (List ℕ → Bool) → (K → List ℕ) → (V → List ℕ)

@@ -26,14 +26,9 @@ use Rattle.foyer_core.specs.declared.step.Step.{Step}
 use Rattle.foyer_core.specs.declared.step.Step.TheVariants as step
 use Rattle.foyer_core.specs.declared.step.Ticket.{Ticket}
 
--- The steps that are built: reclaims, destroys and a log come later.
+-- The steps that are built: destroys and a log come later.
 abbrev pub IsBuilt : {K V P A : Type 0} → Step K V P A → Type 0
 IsBuilt (step.LogWrote flusher outcome) = ⊥
-IsBuilt step.ReclaimBegin = ⊥
-IsBuilt (step.ReclaimRead block outcome) = ⊥
-IsBuilt (step.ReclaimForget block) = ⊥
-IsBuilt (step.ReclaimCleaned block outcome) = ⊥
-IsBuilt step.ReclaimIdle = ⊥
 IsBuilt step.DestroyBegin = ⊥
 IsBuilt step.DestroyClear = ⊥
 IsBuilt (step.DestroyCleaned block outcome) = ⊥

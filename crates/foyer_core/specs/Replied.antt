@@ -8,6 +8,7 @@ use Rattle.foyer_core.specs.Asked.{ticket_of, age_of, step_of}
 use Rattle.foyer_flusher.specs.Issuing.{write_of}
 use Rattle.foyer_rules.specs.Content.{Content, Meaning, content, content_of, contents_of, returned}
 use Rattle.foyer_standing.specs.Addresses.{mark_of}
+use Rattle.foyer_core.specs.Reclaiming.{verdicts_of}
 use Rattle.foyer_core.specs.declared.reply.Reply.{Reply}
 use Rattle.foyer_core.specs.declared.reply.Reply.TheVariants as reply
 
@@ -21,8 +22,8 @@ kind_of kind.Unsupported = Some model_reply.Unsupported
 kind_of kind.SequenceEnd = Some model_reply.SequenceEnd
 kind_of other = None
 
--- What a reply says. How a batch was laid out isn't said, but into how many blocks; the replies of reclaims and destroys
--- aren't given yet.
+-- What a reply says. How a batch was laid out isn't said, but into how many blocks; the replies of destroys aren't
+-- given yet.
 abbrev pub IsReply : {K V P A : Type 0} → Meaning K V P → Reply K V P A → model_reply.Reply Content → Type 0
 IsReply m (reply.NotNow back) it = it ≡ model_reply.NotNow (step_of m back)
 IsReply m (reply.Refused why back) it = (k : model_reply.Kind) × (kind_of why ≡ Some k) × (it ≡ model_reply.Refused k (step_of m back))
@@ -46,9 +47,10 @@ IsReply m (reply.Committed puts) it = it ≡ model_reply.Committed puts
 IsReply m reply.Failed it = it ≡ model_reply.Failed
 IsReply m (reply.Ended pieces waits) it =
     (ps : List (ℕ × Content)) × (contents_of ps ≡ map (content_of m) pieces.items) × (it ≡ model_reply.Ended ps waits.items)
-IsReply m (reply.Scan block offset len) it = ⊥
-IsReply m reply.Listed it = ⊥
-IsReply m (reply.Clean block) it = ⊥
+IsReply m (reply.Picked block answers probation) it = it ≡ model_reply.Picked block answers.items probation.items
+IsReply m (reply.Scan block offset len verdicts) it = it ≡ model_reply.Scans block offset len (verdicts_of verdicts)
+IsReply m (reply.Listed verdicts) it = it ≡ model_reply.Listed (verdicts_of verdicts)
+IsReply m (reply.Clean block) it = it ≡ model_reply.Cleans block
 IsReply m (reply.Destroying sequence) it = ⊥
 IsReply m reply.Cleared it = ⊥
 IsReply m (reply.Destroyed is_ok) it = ⊥

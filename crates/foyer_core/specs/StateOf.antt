@@ -8,6 +8,7 @@ use Rattle.foyer_standing.specs.Standing.{IsIndexedAs, sets_of, IsManagedAs, Has
 use Rattle.foyer_flusher.specs.Flushing.{IsFlusherAs}
 use Rattle.foyer_flusher.specs.Seen.{Seen, seen}
 use Rattle.foyer_flusher.specs.Taking.{size_in}
+use Rattle.foyer_core.specs.Reclaiming.{reclaim_at, AreReclaimAs}
 use Rattle.foyer_core.specs.declared.state.Core.{Core}
 
 -- the flushers by their numbers; beyond them nothing waits anywhere
@@ -37,5 +38,5 @@ pub record IsStateOf {K V P A : Type 0} (m : Meaning K V P) (s : Settings) (core
   pub queued : IsSizedAs s core.queued core.next it.flushers
   pub manager : IsManagedAs s core.manager (sets_of it)
   pub has : (f : ℕ) → HasItsBlocks s it.place it.waiting f (it.flushers f)
-  pub reclaims : (b : ℕ) → it.reclaims b ≡ None
+  pub reclaims : (b : ℕ) → AreReclaimAs s b (it.place b) (it.filling b) (reclaim_at core.reclaims b) (it.reclaims b)
   pub destroy : it.destroy ≡ model_state.NoDestroy

@@ -1,6 +1,7 @@
 -- What a step that is handed back leaves: all as it was, but for room that was made.
 use Rattle.std.specs.Prelude.{◌≡◌, map}
 use Rattle.foyer_flusher.specs.Seen.{seen}
+use Rattle.foyer_core.specs.Reclaiming.{KeepsReclaim}
 use Rattle.foyer_core.specs.declared.state.Core.{Core}
 
 -- the core is as it was
@@ -13,3 +14,4 @@ pub record IsUnchanged {K V P A : Type 0} (old new : Core K V P A) : Type 0 wher
   pub settings : new.settings ≡ old.settings
   pub flushers : map seen new.flushers.items ≡ map seen old.flushers.items
   pub manager : new.manager ≡ old.manager
+  pub reclaims : KeepsReclaim old.reclaims new.reclaims

@@ -1,9 +1,11 @@
 //! The call that changes the core, by any step.
 ghost use Rattle.std.specs.Prelude.{◌≡◌, ◌<◌, ◌-◌, ◌^◌, MatchBool};
-ghost use Rattle.foyer_core.specs.Answered.{HandsBack, Describes, MayFail};
+ghost use Rattle.foyer_sets.specs.BuiltIn.{built_in_answer, built_in_marks};
+ghost use Rattle.foyer_core.specs.Answered.{HandsBack, Describes, MayFail, IsPicked};
 ghost use Rattle.foyer_rules.specs.Content.{meaning};
 ghost use Rattle.foyer_core.specs.Refines.{IsBuilt, IsHandedBack, IsPutOff, RefinesUncounted, Refines};
 ghost use Rattle.foyer_core.specs.declared.reply.Reply.TheVariants as reply;
+ghost use Rattle.foyer_core.specs.declared.step.Step.TheVariants as steps;
 
 pub use crate::env::Env;
 use crate::reply::Reply;
@@ -33,8 +35,8 @@ where
 {
     #[tactic(auto, using(crate::proofs::Describing::issues_counted))]
     /// Applies one step, at any time. A step that is out of turn or refused changes nothing and is handed back, and
-    /// isn't counted; after 2^64 - 1 steps each one is refused as `SequenceEnd`. Reclaims, destroys and a tombstone
-    /// log aren't built yet: their steps are out of turn.
+    /// isn't counted; after 2^64 - 1 steps each one is refused as `SequenceEnd`. Destroys and a tombstone log aren't
+    /// built yet: their steps are out of turn.
     pub fn apply(&mut self, env: &mut Env, step: Step<K, V, P, A>) -> Reply<K, V, P, A>
         ensures back { HandsBack step result self.old self.new }
         ensures issued { Describes K.is_decodable V.is_decodable K.encoding V.encoding
@@ -43,6 +45,7 @@ where
             (meaning K.encoding V.encoding K.is_encodable V.is_encodable K.is_decodable V.is_decodable P.age)
             step result self.old self.new }
         ensures failed { result ≡ reply.Failed → MayFail step self.old }
+        ensures picks { step ≡ steps.ReclaimBegin → IsPicked built_in_answer built_in_marks env.old.pickers.items result self.old self.new }
         ensures later { (IsBuilt step → ⊥) → IsPutOff step result }
         ensures not_now { (IsBuilt step → ⊥) → self.old.steps < 2 ^ 64 - 1 → result ≡ reply.NotNow step }
     {
@@ -67,6 +70,7 @@ where
             (meaning K.encoding V.encoding K.is_encodable V.is_encodable K.is_decodable V.is_decodable P.age)
             step result self.old self.new }
         ensures failed { result ≡ reply.Failed → MayFail step self.old }
+        ensures picks { step ≡ steps.ReclaimBegin → IsPicked built_in_answer built_in_marks env.old.pickers.items result self.old self.new }
         ensures later { (IsBuilt step → ⊥) → result ≡ reply.NotNow step }
     {
         match step {
@@ -87,6 +91,17 @@ where
                 result: outcome,
             } => self.flush_wrote(env, flusher, outcome),
             Step::FlushEnd { flusher } => self.flush_end(flusher),
+            Step::ReclaimBegin => self.reclaim_begin(env),
+            Step::ReclaimRead {
+                block,
+                result: outcome,
+            } => self.reclaim_read(block, outcome),
+            Step::ReclaimForget { block } => self.reclaim_forget(block),
+            Step::ReclaimCleaned {
+                block,
+                result: outcome,
+            } => self.reclaim_cleaned(block, outcome),
+            Step::ReclaimIdle => self.reclaim_idle(),
             Step::Close => self.close(),
             later => Reply::NotNow(later),
         }

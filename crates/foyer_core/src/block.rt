@@ -1,3 +1,5 @@
-//! Flushers, and the blocks that they fill; the reclaimer comes here.
+//! Flushers, the blocks that they fill, and the reclaims of these.
+
+pub mod reclaimer;
 
 pub use foyer_flusher::flusher;

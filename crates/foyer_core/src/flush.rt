@@ -1,6 +1,7 @@
 //! The steps of a flush.
-ghost use Rattle.std.specs.Prelude.{◌≡◌, ◌*◌, ◌<◌, ◌≤◌, ◌↔◌, IsTrue, Option, false, length, slice_index_or};
+ghost use Rattle.std.specs.Prelude.{◌≡◌, ◌*◌, ◌<◌, ◌≤◌, ◌↔◌, IsTrue, Option, false, true, length, slice_index_or};
 ghost use Rattle.foyer_buffer.specs.Entries.{left_of};
+ghost use Rattle.foyer_flusher.specs.Seen.{is_still};
 ghost use Rattle.foyer_flusher.specs.declared.flusher.Flusher.{Flusher};
 ghost use Rattle.foyer_format.specs.declared.serde.ages.Age.{Age as age};
 ghost use Rattle.foyer_core.specs.Answered.{HandsBack, DescribesNothing, MayFail};
@@ -33,6 +34,18 @@ impl<K, V, P, A: Allocator> Core<K, V, P, A> {
             return false;
         }
         self.flushers[flusher as usize].wants_flush()
+    }
+
+    /// Whether nothing is queued, received or in a batch at a flusher, as at one that isn't there.
+    pub fn is_idle(&self, flusher: u32) -> bool
+        ensures there { (found : Flusher K V P A) → flusher < length self.now.flushers.items
+            → found ≡ slice_index_or self.now.flushers.items flusher found → result ≡ is_still found }
+        ensures beyond { length self.now.flushers.items ≤ flusher → result ≡ true }
+    {
+        if flusher as usize >= self.flushers.len() {
+            return true;
+        }
+        self.flushers[flusher as usize].is_idle()
     }
 }
 

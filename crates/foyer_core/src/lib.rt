@@ -13,6 +13,7 @@ pub mod laws;
 mod load;
 pub mod open;
 mod queue;
+mod reclaim;
 pub mod reply;
 
 pub use foyer_rules::settings;

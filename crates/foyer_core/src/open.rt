@@ -20,6 +20,7 @@ pub use foyer_recover::block::recover::RecoverMode;
 use foyer_recover::block::recover::{RecoverRunner, Recovered};
 use foyer_sets::block::manager::{BlockManager, ManagerConfig};
 use std::alloc::Allocator;
+use std::collections::HashMap;
 
 // So many flushers that have nothing.
 fn idle_flushers<K: Drop, V: Drop, P: Drop, A: Allocator + Clone>(
@@ -39,7 +40,7 @@ fn idle_flushers<K: Drop, V: Drop, P: Drop, A: Allocator + Clone>(
 }
 
 // The manager of blocks that were never handed out: these are clean, in this order, all others are evictable, and the
-// pickers know them. Reclaims aren't built yet, so that none may begin.
+// pickers know them.
 fn place_blocks<A: Allocator + Clone>(
     alloc: &A,
     env: &mut Env,
@@ -56,8 +57,8 @@ fn place_blocks<A: Allocator + Clone>(
         ManagerConfig {
             blocks: settings.blocks,
             flushers: settings.flushers,
-            reclaimers: 0,
-            clean_threshold: 0,
+            reclaimers: settings.reclaimers as usize,
+            clean_threshold: settings.clean_block_threshold,
         },
     )?;
     env.init(settings.blocks, settings.block_size)?;
@@ -110,6 +111,7 @@ impl<K: Drop, V: Drop, P: Drop, A: Allocator + Clone> Core<K, V, P, A> {
         let Recovered { index, next, clean } = recovered;
         let flushers = idle_flushers(&alloc, &settings)?;
         let manager = place_blocks(&alloc, env, &settings, &clean)?;
+        let reclaims = HashMap::new(alloc.clone()?);
         Ok(Core {
             alloc,
             settings,
@@ -120,6 +122,7 @@ impl<K: Drop, V: Drop, P: Drop, A: Allocator + Clone> Core<K, V, P, A> {
             queued: 0,
             flushers,
             manager,
+            reclaims,
         })
     }
 }

@@ -65,14 +65,26 @@ pub enum Reply<K, V, P, A: Allocator> {
         pieces: Vec<Piece<K, V, P, A>, A>,
         waits: Vec<u64, A>,
     },
-    /// Read this part of a block that is reclaimed, and bring it by `ReclaimRead`.
+    /// The reclaim of this block began: read its first index, from 0 on, and bring it by `ReclaimRead`. What the pickers
+    /// answered, in their order and up to the first pick, and what they put on probation.
+    Picked {
+        block: BlockId,
+        answers: Vec<Option<BlockId>, A>,
+        probation: Vec<BlockId, A>,
+    },
+    /// Read this part of a block that is reclaimed, and bring it by `ReclaimRead`. Whether each entry of the index that
+    /// was listed is admitted for reinsertion.
     Scan {
         block: BlockId,
         offset: usize,
         len: usize,
+        verdicts: Option<Vec<bool, A>>,
     },
-    /// A reclaimed block's entries are listed.
-    Listed,
+    /// A reclaimed block's entries are listed. The verdicts are `None` where what was read last is no index, or wasn't
+    /// read.
+    Listed {
+        verdicts: Option<Vec<bool, A>>,
+    },
     /// Clean this block, and bring the result.
     Clean(BlockId),
     /// A destroy began under this sequence.

@@ -1,6 +1,7 @@
 //! The state of the core.
-ghost use Rattle.std.specs.Prelude.{◌≡◌, ◌<◌, length, vec_len};
+ghost use Rattle.std.specs.Prelude.{◌≡◌, ◌<◌, ◌≤◌, ◌^◌, length, vec_len};
 
+use crate::block::reclaimer::Reclaims;
 use crate::settings::Settings;
 use foyer_block::indexer::Indexer;
 use foyer_flusher::flusher::Flusher;
@@ -23,8 +24,11 @@ pub struct Core<K, V, P, A: Allocator> {
     pub(crate) flushers: Vec<Flusher<K, V, P, A>, A>,
     /// The blocks, and the flushers that wait for one.
     pub(crate) manager: BlockManager<A>,
+    /// The reclaims that run, by their blocks.
+    pub(crate) reclaims: Reclaims<A>,
     ghost some_flusher: { 0 < vec_len flushers },
     ghost all_flushers: { length manager.ready ≡ vec_len flushers },
+    ghost small_blocks: { settings.block_size ≤ 2 ^ 32 },
 }
 
 impl<K, V, P, A: Allocator> Core<K, V, P, A> {

@@ -20,7 +20,7 @@ use Rattle.foyer_rules.specs.Sizes.{AreValid}
 use Rattle.foyer_sets.specs.BlockSets.{Stands, HasSameRules, HandsOut, with_ready, after_hand_out}
 use Rattle.foyer_sets.specs.Managed.{Managed}
 use Rattle.foyer_standing.specs.Standing.{sets_of, HasItsBlocks}
-use Rattle.foyer_standing.proofs.SetsLemmas.{ready_same, without_absent}
+use Rattle.foyer_standing.proofs.SetsLemmas.{ready_same, without_absent, reclaims_all, releases, hands_out}
 use Rattle.foyer_model.proofs.Basics.{put_at, put_same, put_other}
 use Rattle.foyer_model.proofs.Ids.{in_with, in_without}
 use Rattle.foyer_flusher.specs.Seen.{Seen}
@@ -117,6 +117,8 @@ module _ {K V P A : Type 0} (m : Meaning K V P) (s : Settings) (sound : AreValid
           manager = record {
             blocks = (stands.manager).blocks;
             flushers = (stands.manager).flushers;
+            reclaimers = (stands.manager).reclaimers;
+            clean_threshold = (stands.manager).clean_threshold;
             sets = subst (λ w. Stands blocks (record (sets_of it) { waiting = w; ready = λ g. (put it.flushers f given g).ready })) (sym still)
                 (ready_same blocks (sets_of it) (λ g. (put it.flushers f given g).ready) (stands.manager).sets
                 (λ g. put_at (λ (ψ : model_state.Flusher Content). ψ.ready ≡ (it.flushers g).ready) it.flushers f given g
@@ -128,6 +130,7 @@ module _ {K V P A : Type 0} (m : Meaning K V P) (s : Settings) (sound : AreValid
             waits = λ e. absurd ((in_without f f it.waiting e).1 refl);
           };
           others = record { block_set = λ g c ne e. e; waits = λ g ne e. waits_less s f it g e };
+          kept = reclaims_all it.place it.filling;
           next = refl;
           steps = refl;
           closed = refl;
@@ -159,6 +162,8 @@ module _ {K V P A : Type 0} (m : Meaning K V P) (s : Settings) (sound : AreValid
           manager = record {
             blocks = same.blocks ∙ (stands.manager).blocks;
             flushers = same.flushers ∙ (stands.manager).flushers;
+            reclaimers = same.reclaimers ∙ (stands.manager).reclaimers;
+            clean_threshold = same.clean_threshold ∙ (stands.manager).clean_threshold;
             sets = ready_same new (with_ready (sets_of it) f) (λ g. (put it.flushers f given g).ready)
                 (subst (λ (o : Option ℕ). Stands new (with_ready (record (sets_of it) { block_set = released o it.place }) f)) none sets)
                 (λ g. put_at (λ (ψ : model_state.Flusher Content). ψ.ready ≡ put (λ q. (it.flushers q).ready) f None g) it.flushers f given g
@@ -171,6 +176,7 @@ module _ {K V P A : Type 0} (m : Meaning K V P) (s : Settings) (sound : AreValid
             waits = λ e. absurd ((in_without f f it.waiting e).1 refl);
           };
           others = record { block_set = λ g c ne e. e; waits = λ g ne e. waits_less s f it g e };
+          kept = reclaims_all it.place it.filling;
           next = refl;
           steps = refl;
           closed = refl;
@@ -214,6 +220,8 @@ module _ {K V P A : Type 0} (m : Meaning K V P) (s : Settings) (sound : AreValid
           manager = record {
             blocks = size;
             flushers = same.flushers ∙ (stands.manager).flushers;
+            reclaimers = same.reclaimers ∙ (stands.manager).reclaimers;
+            clean_threshold = same.clean_threshold ∙ (stands.manager).clean_threshold;
             sets = ready_same new (after_hand_out (record (sets_of it) { block_set = released (it.flushers f).own it.place }) f b) (λ g. (put it.flushers f given g).ready)
                 (subst (λ (o : Option ℕ). Stands new (after_hand_out (record (sets_of it) { block_set = released o it.place }) f b)) (sym own) sets)
                 (λ g. put_at (λ (ψ : model_state.Flusher Content). ψ.ready ≡ (it.flushers g).ready) it.flushers f given g
@@ -233,6 +241,8 @@ module _ {K V P A : Type 0} (m : Meaning K V P) (s : Settings) (sound : AreValid
                 (λ at. let clash : model_state.Writes g ≡ model_state.Clean = sym stays ∙ ap (released (it.flushers f).own it.place) at ∙ clean_was in cc) ∙ stays;
             waits = λ g ne e. waits_less s f it g e;
           };
+          kept = hands_out it.place it.filling f (it.flushers f).own (stands.has).own b (it.filling b + 1)
+              (subst (λ o. released o it.place b ≡ model_state.Clean) (sym own) was);
           next = refl;
           steps = refl;
           closed = refl;
@@ -296,6 +306,8 @@ module _ {K V P A : Type 0} (m : Meaning K V P) (s : Settings) (sound : AreValid
           manager = record {
             blocks = same.blocks ∙ (stands.manager).blocks;
             flushers = same.flushers ∙ (stands.manager).flushers;
+            reclaimers = same.reclaimers ∙ (stands.manager).reclaimers;
+            clean_threshold = same.clean_threshold ∙ (stands.manager).clean_threshold;
             sets = ready_same new (record (sets_of it) { block_set = released (it.flushers f).own it.place; waiting = with_id f it.waiting })
                 (λ g. (put it.flushers f (record (it.flushers f) { own = None }) g).ready)
                 (subst (λ (o : Option ℕ). Stands new (record (sets_of it) { block_set = released o it.place; waiting = with_id f it.waiting })) (sym own) handed.2)
@@ -311,6 +323,7 @@ module _ {K V P A : Type 0} (m : Meaning K V P) (s : Settings) (sound : AreValid
             block_set = λ g c ne e. released_others s f it (it.flushers f).own (stands.has).own g c ne e;
             waits = λ g ne e. elim (in_with g f it.waiting e) [ inl there ↦ there | inr at ↦ absurd (ne at) ];
           };
+          kept = releases it.place it.filling f (it.flushers f).own (stands.has).own;
           next = refl;
           steps = refl;
           closed = refl;

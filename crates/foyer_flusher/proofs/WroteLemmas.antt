@@ -22,7 +22,7 @@ use Rattle.foyer_standing.specs.Addresses.{mark_of}
 use Rattle.foyer_rules.specs.Sizes.{AreValid}
 use Rattle.foyer_standing.specs.Standing.{IsIndexedAs, sets_of}
 use Rattle.foyer_flusher.specs.Seen.{Seen}
-use Rattle.foyer_standing.proofs.SetsLemmas.{filling_at, managed_kept, same_blocks, leaves_all, ready_same}
+use Rattle.foyer_standing.proofs.SetsLemmas.{filling_at, managed_kept, same_blocks, leaves_all, reclaims_all, releases, ready_same}
 use Rattle.foyer_flusher.proofs.NextLemmas.{released_others}
 use Rattle.foyer_model.proofs.Basics.{put_at}
 use Rattle.foyer_flusher.proofs.FlushLemmas.{batched, written}
@@ -121,6 +121,7 @@ module _ {K V P A : Type 0} (m : Meaning K V P) (s : Settings) (sound : AreValid
         manager = managed_kept s f it blocks (record (it.flushers f) { batch = Some p }) (record { own = refl; ready = refl }) stands.manager;
         has = same_blocks s f it.place it.waiting (it.flushers f) (record (it.flushers f) { batch = Some p }) (record { own = refl; ready = refl }) stands.has;
         others = leaves_all f it.place it.waiting;
+        kept = reclaims_all it.place it.filling;
         next = refl;
         steps = refl;
         closed = refl;
@@ -166,6 +167,7 @@ module _ {K V P A : Type 0} (m : Meaning K V P) (s : Settings) (sound : AreValid
         manager = managed_kept s f it blocks (record (it.flushers f) { batch = Some (record got.0 { writing = None }) }) (record { own = refl; ready = refl }) stands.manager;
         has = same_blocks s f it.place it.waiting (it.flushers f) (record (it.flushers f) { batch = Some (record got.0 { writing = None }) }) (record { own = refl; ready = refl }) stands.has;
         others = leaves_all f it.place it.waiting;
+        kept = reclaims_all it.place it.filling;
         next = refl;
         steps = refl;
         closed = refl;
@@ -195,6 +197,8 @@ module _ {K V P A : Type 0} (m : Meaning K V P) (s : Settings) (sound : AreValid
         manager = record {
           blocks = same.blocks ∙ (stands.manager).blocks;
           flushers = same.flushers ∙ (stands.manager).flushers;
+          reclaimers = same.reclaimers ∙ (stands.manager).reclaimers;
+          clean_threshold = same.clean_threshold ∙ (stands.manager).clean_threshold;
           sets = ready_same new (record (sets_of it) { block_set = released (it.flushers f).own it.place }) (λ g. (put it.flushers f failed g).ready)
               (subst (λ (o : Option ℕ). Stands new (record (sets_of it) { block_set = released o it.place })) (sym own) sets)
               (λ g. put_at (λ (χ : model_state.Flusher Content). χ.ready ≡ (it.flushers g).ready) it.flushers f failed g
@@ -210,6 +214,7 @@ module _ {K V P A : Type 0} (m : Meaning K V P) (s : Settings) (sound : AreValid
           block_set = λ g c ne e. released_others s f it (it.flushers f).own (stands.has).own g c ne e;
           waits = λ g ne e. e;
         };
+        kept = releases it.place it.filling f (it.flushers f).own (stands.has).own;
         next = refl;
         steps = refl;
         closed = refl;
@@ -283,6 +288,8 @@ ended m s sound f it φ slots blocks stands batch is slots' blocks' gone rules s
         manager = record {
           blocks = rules.blocks ∙ (stands.manager).blocks;
           flushers = rules.flushers ∙ (stands.manager).flushers;
+          reclaimers = rules.reclaimers ∙ (stands.manager).reclaimers;
+          clean_threshold = rules.clean_threshold ∙ (stands.manager).clean_threshold;
           sets = ready_same blocks' (record (sets_of it) { stats = invalidated_unless (got.0).logged (got.0).invalidated it.stats }) (λ g. (new.flushers g).ready)
               (subst (λ o. Stands blocks' (record (sets_of it) { stats = invalidated_unless o (got.0).invalidated it.stats })) (sym (got.2).logged)
               (subst (λ k. Stands blocks' (record (sets_of it) { stats = all_invalidated k it.stats })) (sym (got.2).invalidated) sets))
@@ -291,6 +298,7 @@ ended m s sound f it φ slots blocks stands batch is slots' blocks' gone rules s
         };
         has = same_blocks s f it.place it.waiting (it.flushers f) (record (it.flushers f) { batch = None }) (record { own = refl; ready = refl }) stands.has;
         others = leaves_all f it.place it.waiting;
+        kept = reclaims_all it.place it.filling;
         next = refl;
         steps = refl;
         closed = refl;

@@ -14,7 +14,7 @@ use Rattle.foyer_rules.specs.CoreRules.{layout, machine}
 use Rattle.foyer_rules.specs.Sizes.{AreValid}
 use Rattle.foyer_rules.specs.declared.settings.Settings.{Settings}
 use Rattle.foyer_sets.specs.Managed.{Managed}
-use Rattle.foyer_standing.specs.Standing.{IsIndexedAs, sets_of, IsManagedAs, HasItsBlocks, LeavesOthers}
+use Rattle.foyer_standing.specs.Standing.{IsIndexedAs, sets_of, IsManagedAs, HasItsBlocks, LeavesOthers, KeepsReclaims}
 use Rattle.foyer_flusher.specs.Flushing.{IsFlusherAs}
 use Rattle.foyer_flusher.specs.Seen.{Seen}
 use Rattle.foyer_flusher.specs.Issuing.{write_of}
@@ -32,7 +32,7 @@ pub record StandsAt {K V P A : Type 0} (m : Meaning K V P) (s : Settings) (f : �
   pub has : HasItsBlocks s it.place it.waiting f (it.flushers f)
 
 -- The model does this step with this reply, and leaves this flusher and these beside it, and the rest as it was: the
--- other flushers have the blocks that they had.
+-- other flushers have the blocks that they had, and so have the reclaims.
 pub record FlusherStep {K V P A : Type 0} (m : Meaning K V P) (s : Settings) (sound : AreValid s) (given : model_step.Step Content) (f : ℕ)
     (old : model_state.State Content) (answer : model_reply.Reply Content)
     (φ : Seen K V P A) (slots : IndexMap) (blocks : Managed) : Type 0 where
@@ -46,6 +46,7 @@ pub record FlusherStep {K V P A : Type 0} (m : Meaning K V P) (s : Settings) (so
   pub manager : IsManagedAs s blocks (sets_of after)
   pub has : HasItsBlocks s after.place after.waiting f flusher
   pub others : LeavesOthers f old.place old.waiting after.place after.waiting
+  pub kept : KeepsReclaims old.place old.filling after.place after.filling
   pub next : after.next ≡ old.next
   pub steps : after.steps ≡ old.steps
   pub closed : after.closed ≡ old.closed

@@ -1,5 +1,6 @@
 -- What a flusher has, whatever room its lists have and whichever spare pages it keeps.
-use Rattle.std.specs.Prelude.{ℕ, List, Option}
+use Rattle.std.specs.Prelude.{ℕ, Bool, ◌==◌, ◌&&◌, List, Option, is_none, vec_len}
+use Rattle.std.specs.VecDeque.{deque_len}
 use Rattle.foyer_block.specs.declared.tombstone.Tombstone.{Tombstone}
 use Rattle.foyer_buffer.specs.Entries.{Entries}
 use Rattle.foyer_buffer.specs.Position.{Context}
@@ -33,3 +34,7 @@ seen φ =
       own = φ.own;
       batch = φ.batch;
     }
+
+-- nothing is queued, received or in a batch
+abbrev pub is_still : {K V P A : Type 0} → Flusher K V P A → Bool
+is_still φ = (deque_len φ.queue == 0) && (vec_len φ.pieces == 0) && (vec_len φ.marks == 0) && (vec_len φ.waits == 0) && is_none φ.batch

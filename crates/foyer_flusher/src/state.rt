@@ -4,7 +4,7 @@ ghost use Rattle.foyer_buffer.specs.Entries.{left_of};
 ghost use Rattle.foyer_device.specs.declared.error.Error.TheVariants.{Memory};
 ghost use Rattle.foyer_rules.specs.Sizes.{AreValid};
 ghost use Rattle.foyer_flusher.specs.Idle.{idle};
-ghost use Rattle.foyer_flusher.specs.Seen.{seen};
+ghost use Rattle.foyer_flusher.specs.Seen.{is_still, seen};
 
 use crate::filled::Filled;
 use crate::flusher::Flusher;
@@ -67,5 +67,16 @@ impl<K, V, P, A: Allocator> Flusher<K, V, P, A> {
     {
         let room = self.filled.room();
         self.filled.left() < room - room / 2
+    }
+
+    /// Whether nothing is queued, received or in a batch: a flush of it would write nothing but an empty index.
+    pub fn is_idle(&self) -> bool
+        ensures { result ≡ is_still self.now }
+    {
+        self.queue.is_empty()
+            && self.pieces.is_empty()
+            && self.marks.is_empty()
+            && self.waits.is_empty()
+            && self.batch.is_none()
     }
 }

@@ -1,13 +1,17 @@
 -- The model that a core is: its sizes, and what its bytes mean.
-use Rattle.std.specs.Prelude.{◌≡◌, ℕ, ◌-◌, ◌%◌, ◌^◌, ◌<◌, ◌≤◌, Bool, true, false, nat_lt, ◌&&◌, if◌then◌else◌, List, length, Option, Some, None}
+use Rattle.std.specs.Prelude.{◌≡◌, ℕ, ◌-◌, ◌%◌, ◌^◌, ◌<◌, ◌≤◌, Bool, true, false, nat_lt, ◌&&◌, if◌then◌else◌, List, map, length, Option, Some, None}
+use Rattle.std.specs.Option.{option_map}
 use Rattle.std.proofs.Common.{arith}
 use Rattle.foyer_format.specs.Page.{page_up}
 use Rattle.foyer_format.specs.Record.{Outcome, record_bytes, pair_of}
 use Rattle.foyer_format.specs.Record.Outcome.{NoRecord, Unsupported, Undecodable, Pair}
 use Rattle.foyer_model.specs.Record as model_record
+use Rattle.foyer_model.specs.Record.{IndexEntry}
 use Rattle.foyer_model.specs.Rules.{Rules, Splitting}
+use Rattle.foyer_placing.specs.Bridge.{entry_of}
 use Rattle.foyer_rules.specs.Content.{Content, Meaning}
 use Rattle.foyer_placing.specs.Splits.{IsLaidOut, part_writes}
+use Rattle.foyer_scan.specs.IndexBytes.{index_at}
 use Rattle.foyer_rules.specs.Sizes.{AreValid, buffer_room, sizes_in}
 use Rattle.foyer_rules.specs.declared.settings.Settings.{Settings}
 
@@ -37,23 +41,26 @@ page_up_above n = omega arith
 pub holds_page : (size : ℕ) → 0 < size → size % 4096 ≡ 0 → 4096 ≤ size
 holds_page size some whole = omega arith
 
--- The machine of these sizes and codes. Reclaims, pickers and a log aren't built yet.
+-- the entries of the index that these bytes of a place are, where they are one and each entry fits
+abbrev pub entries_at : Settings → (place : ℕ) → List ℕ → Option (List IndexEntry)
+entries_at s place b = option_map (map entry_of) (index_at (sizes_in s) place b)
+
+-- The machine of these sizes and codes. A log isn't built yet.
 abbrev pub rules_of : (is_key is_value : List ℕ → Bool) (s : Settings) → AreValid s → Rules Content
 rules_of is_key is_value s sound = record {
   flushers = s.flushers;
   blocks = s.blocks;
-  reclaimers = 0;
-  pickers = 0;
+  reclaimers = s.reclaimers;
   index_size = s.blob_index_size;
   block_size = s.block_size;
   room = λ f. buffer_room s;
   threshold = s.submit_queue_size_threshold;
-  clean_threshold = 0;
+  clean_threshold = s.clean_block_threshold;
   has_log = false;
   page_up = page_up;
   encode = encoded;
   pair_of = λ b hash sequence. outcome_of (pair_of is_key is_value b hash sequence);
-  entries_of = λ place b. None;
+  entries_of = entries_at s;
   writes_of = part_writes;
   some_flusher = sound.some_flusher;
   page_up_above = page_up_above;

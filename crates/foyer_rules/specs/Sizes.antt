@@ -1,5 +1,5 @@
 -- Sizes that go together.
-use Rattle.std.specs.Prelude.{◌≡◌, ℕ, ◌*◌, ◌/◌, ◌%◌, ◌^◌, ◌<◌, ◌≤◌, ◌==◌, if◌then◌else◌}
+use Rattle.std.specs.Prelude.{◌≡◌, ℕ, ◌*◌, ◌/◌, ◌+◌, ◌%◌, ◌^◌, ◌<◌, ◌≤◌, ◌==◌, if◌then◌else◌}
 use Rattle.foyer_buffer.specs.Position.{Sizes}
 use Rattle.foyer_rules.specs.declared.settings.Settings.{Settings}
 
@@ -21,3 +21,5 @@ pub record AreValid (s : Settings) : Type 0 where
   pub some_index : 0 < s.blob_index_size
   pub room : s.blob_index_size < s.block_size
   pub some_buffer : 0 < buffer_room s
+  pub some_reclaimer : 0 < s.reclaimers
+  pub few_workers : s.flushers + s.reclaimers < 2 ^ 32

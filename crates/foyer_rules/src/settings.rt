@@ -20,6 +20,12 @@ pub const DEFAULT_SUBMIT_QUEUE_SIZE_THRESHOLD: usize = 16 * 1024 * 1024;
 /// The bytes of all flushers' buffers together where none are given: 16 MiB.
 pub const DEFAULT_BUFFER_POOL_SIZE: usize = 16 * 1024 * 1024;
 
+/// The reclaims that may run at a time where none are given.
+pub const DEFAULT_RECLAIMERS: u32 = 1;
+
+/// The clean blocks below which a reclaim may begin where none are given.
+pub const DEFAULT_CLEAN_BLOCK_THRESHOLD: usize = 1;
+
 /// The greatest block: offsets in a block have 32 bits.
 pub const MAX_BLOCK_SIZE: usize = 1 << 32;
 
@@ -40,6 +46,10 @@ pub struct Settings {
     pub submit_queue_size_threshold: usize,
     /// The bytes of all flushers' buffers together, of which each has an equal share of whole pages.
     pub buffer_pool_size: usize,
+    /// How many reclaims may run at a time.
+    pub reclaimers: u32,
+    /// A reclaim may begin where fewer blocks than this are clean, and also where a flusher waits for one.
+    pub clean_block_threshold: usize,
 }
 
 impl Settings {
@@ -48,6 +58,7 @@ impl Settings {
         ensures sizes { (result.blocks ≡ blocks) × (result.block_size ≡ block_size) }
         ensures defaults { (result.blob_index_size ≡ 4096) × (result.flushers ≡ 1) × (result.indexer_shards ≡ 64)
             × (result.submit_queue_size_threshold ≡ 2 ^ 24) × (result.buffer_pool_size ≡ 2 ^ 24) }
+        ensures reclaims { (result.reclaimers ≡ 1) × (result.clean_block_threshold ≡ 1) }
     {
         Settings {
             blocks,
@@ -57,6 +68,26 @@ impl Settings {
             indexer_shards: DEFAULT_INDEXER_SHARDS,
             submit_queue_size_threshold: DEFAULT_SUBMIT_QUEUE_SIZE_THRESHOLD,
             buffer_pool_size: DEFAULT_BUFFER_POOL_SIZE,
+            reclaimers: DEFAULT_RECLAIMERS,
+            clean_block_threshold: DEFAULT_CLEAN_BLOCK_THRESHOLD,
+        }
+    }
+
+    /// The same sizes, where so many reclaims may run at a time. Default: `DEFAULT_RECLAIMERS`.
+    pub fn with_reclaimers(self, reclaimers: u32) -> Settings
+        ensures { result ≡ record self { reclaimers = reclaimers } }
+    {
+        Settings { reclaimers, ..self }
+    }
+
+    /// The same sizes, where a reclaim may begin below so many clean blocks; with 0 none begins but for a flusher that waits.
+    /// Default: `DEFAULT_CLEAN_BLOCK_THRESHOLD`.
+    pub fn with_clean_block_threshold(self, clean_block_threshold: usize) -> Settings
+        ensures { result ≡ record self { clean_block_threshold = clean_block_threshold } }
+    {
+        Settings {
+            clean_block_threshold,
+            ..self
         }
     }
 
@@ -71,8 +102,8 @@ impl Settings {
     }
 
     /// `Config` where the sizes don't go together: no flusher, no shard, a block that isn't whole pages, or is larger
-    /// than an offset can say, or has no room behind its first index, fewer blocks than flushers, or a pool that has no
-    /// page for each flusher.
+    /// than an offset can say, or has no room behind its first index, fewer blocks than flushers, a pool that has no
+    /// page for each flusher, no reclaimer, or 2^32 flushers and reclaimers together.
     pub fn check(&self) -> Result<()>
         ensures sound { IsOk result ↔ AreValid self.now }
         ensures refused { IsOkUnless result Error.Config }
@@ -90,6 +121,9 @@ impl Settings {
             return Err(Error::Config);
         }
         if self.buffer_room() == 0 {
+            return Err(Error::Config);
+        }
+        if self.reclaimers == 0 || self.flushers.checked_add(self.reclaimers).is_none() {
             return Err(Error::Config);
         }
         Ok(())

@@ -1,4 +1,5 @@
 pub mod BlockSets
+pub mod BuiltIn
 pub mod Clearing
 pub mod Existence
 pub mod IdList

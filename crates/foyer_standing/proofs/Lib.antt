@@ -1,3 +1,4 @@
+pub mod ForgetLemmas
 pub mod IndexLemmas
 pub mod ListLemmas
 pub mod SetsLemmas

@@ -1,17 +1,18 @@
 -- The model's blocks, when a flusher or one of its blocks changes.
-use Rattle.std.proofs.Common.{◌≡◌, ℕ, ◌<◌, ◌==◌, Bool, true, false, ◌||◌, if◌then◌else◌, List, [], ◌∷◌, length, Option, slice_get, refl, sym, ap, ◌∙◌}
+use Rattle.std.proofs.Common.{◌≡◌, ℕ, ◌<◌, ◌==◌, Bool, true, false, ◌||◌, if◌then◌else◌, List, [], ◌∷◌, length, Option, Some, None, slice_get, refl, sym, ap, ◌∙◌}
+use Rattle.foyer_model.specs.Flush.{released}
 use Rattle.foyer_model.specs.Ids.{is_id_in, without_id}
 use Rattle.foyer_model.specs.Numbers.{put}
 use Rattle.foyer_model.specs.State as model_state
 use Rattle.foyer_model.proofs.Basics.{put_at, put_one, put_other}
 use Rattle.foyer_rules.specs.declared.settings.Settings.{Settings}
-use Rattle.foyer_sets.specs.BlockSets.{BlockSets, Stands, IsBlockAs, model_set}
+use Rattle.foyer_sets.specs.BlockSets.{BlockSets, Stands, IsBlockAs, model_set, is_reclaimed}
 use Rattle.foyer_sets.specs.Managed.{Managed, IsWritten, filling_in}
 use Rattle.foyer_sets.specs.declared.block.states.BlockSet.{BlockSet}
 use Rattle.foyer_sets.specs.declared.block.states.BlockSet.TheVariants.{Clean, Writing, Evictable, Reclaiming}
 use Rattle.foyer_sets.proofs.BlockStateLemmas.{is_there, there_is}
 use Rattle.foyer_sets.proofs.StandsLemmas.{filling_at as filling_known}
-use Rattle.foyer_standing.specs.Standing.{sets_of, IsManagedAs, HasItsBlocks, LeavesOthers, KeepsItsBlocks}
+use Rattle.foyer_standing.specs.Standing.{sets_of, IsManagedAs, HasItsBlocks, LeavesOthers, KeepsReclaims, KeepsItsBlocks}
 
 -- the same sets, where flushers have the same
 pub ready_same : (m : Managed) (s : BlockSets) (ready : ℕ → Option ℕ) → Stands m s → ((f : ℕ) → ready f ≡ s.ready f) → Stands m (record s { ready = ready })
@@ -76,6 +77,39 @@ same_blocks s f place waiting φ ψ same mine = record {
 pub leaves_all : (f : ℕ) (place : ℕ → model_state.BlockSet) (waiting : List ℕ) → LeavesOthers f place waiting place waiting
 leaves_all f place waiting = record { block_set = λ g b ne is. is; waits = λ g ne is. is }
 
+-- no block changes its set or its filling
+pub reclaims_all : (place : ℕ → model_state.BlockSet) (filling : ℕ → ℕ) → KeepsReclaims place filling place filling
+reclaims_all place filling = record { sets = λ b. refl; fillings = λ b is. refl }
+
+-- a flusher's block isn't reclaimed
+not_reclaimed : (p : model_state.BlockSet) (f : ℕ) → p ≡ model_state.Writes f → is_reclaimed p ≡ false
+not_reclaimed p f is = ap is_reclaimed is
+
+-- nor is it once its flusher has left it
+pub released_reclaims : (place : ℕ → model_state.BlockSet) (f : ℕ) (own : Option ℕ) → ((b : ℕ) → own ≡ Some b → place b ≡ model_state.Writes f)
+    → (c : ℕ) → is_reclaimed (released own place c) ≡ is_reclaimed (place c)
+released_reclaims place f None mine c = refl
+released_reclaims place f (Some b) mine c =
+    put_at (λ p. is_reclaimed p ≡ is_reclaimed (place c)) place b model_state.Evictable c
+    (λ at. sym (not_reclaimed (place c) f (ap place at ∙ mine b refl))) (λ _. refl)
+
+pub releases : (place : ℕ → model_state.BlockSet) (filling : ℕ → ℕ) (f : ℕ) (own : Option ℕ) → ((b : ℕ) → own ≡ Some b → place b ≡ model_state.Writes f)
+    → KeepsReclaims place filling (released own place) filling
+releases place filling f own mine = record { sets = released_reclaims place f own mine; fillings = λ b is. refl }
+
+-- a clean block is handed out, after the one before is left
+pub hands_out : (place : ℕ → model_state.BlockSet) (filling : ℕ → ℕ) (f : ℕ) (own : Option ℕ) → ((b : ℕ) → own ≡ Some b → place b ≡ model_state.Writes f)
+    → (b n : ℕ) → released own place b ≡ model_state.Clean
+    → KeepsReclaims place filling (put (released own place) b (model_state.Writes f)) (put filling b n)
+hands_out place filling f own mine b n was = record {
+  sets = λ c. put_at (λ p. is_reclaimed p ≡ is_reclaimed (place c)) (released own place) b (model_state.Writes f) c
+      (λ at. sym (sym (released_reclaims place f own mine c) ∙ ap (λ k. is_reclaimed (released own place k)) at ∙ ap is_reclaimed was))
+      (λ ne. released_reclaims place f own mine c);
+  fillings = λ c is. put_at (λ k. k ≡ filling c) filling b n c
+      (λ at. absurd (let clash : false ≡ true = sym (ap is_reclaimed was) ∙ sym (ap (λ k. is_reclaimed (released own place k)) at) ∙ released_reclaims place f own mine c ∙ is in cc))
+      (λ _. refl);
+}
+
 module _ {C : Type 0} (s : Settings) (f : ℕ) (old : model_state.State C) where
   -- the manager is as it was, and the flusher got nothing
   pub managed_kept : (manager : Managed) (φ : model_state.Flusher C) → KeepsItsBlocks (old.flushers f) φ → IsManagedAs s manager (sets_of old)
@@ -83,6 +117,8 @@ module _ {C : Type 0} (s : Settings) (f : ℕ) (old : model_state.State C) where
   managed_kept manager φ same is = record {
     blocks = is.blocks;
     flushers = is.flushers;
+    reclaimers = is.reclaimers;
+    clean_threshold = is.clean_threshold;
     sets = ready_same manager (sets_of old) (λ g. (put old.flushers f φ g).ready) is.sets
         (λ g. put_at (λ (ψ : model_state.Flusher C). ψ.ready ≡ (old.flushers g).ready) old.flushers f φ g
         (λ at. same.ready ∙ ap (λ k. (old.flushers k).ready) (sym at)) (λ _. refl));

@@ -10,7 +10,7 @@ use Rattle.foyer_model.specs.Ids.{is_id_in}
 use Rattle.foyer_model.specs.Record as model_record
 use Rattle.foyer_model.specs.State as model_state
 use Rattle.foyer_rules.specs.declared.settings.Settings.{Settings}
-use Rattle.foyer_sets.specs.BlockSets.{BlockSets, Stands}
+use Rattle.foyer_sets.specs.BlockSets.{BlockSets, Stands, is_reclaimed}
 use Rattle.foyer_sets.specs.Managed.{Managed}
 use Rattle.foyer_standing.specs.Addresses.{address_of}
 
@@ -36,10 +36,12 @@ sets_of it = record {
   is_cleaning = is_cleaning it.destroy;
 }
 
--- the manager stands for these sets, and has as many blocks and flushers as the sizes say
+-- the manager stands for these sets, has as many blocks and flushers as the sizes say, and begins reclaims by them
 pub record IsManagedAs (s : Settings) (manager : Managed) (its : BlockSets) : Type 0 where
   pub blocks : length manager.blocks ≡ s.blocks
   pub flushers : length manager.ready ≡ s.flushers
+  pub reclaimers : manager.reclaimers ≡ s.reclaimers
+  pub clean_threshold : manager.clean_threshold ≡ s.clean_block_threshold
   pub sets : Stands manager its
 
 -- A flusher's own block is one that it writes, and so is one that it was given while it waited: then it has no other. One
@@ -58,3 +60,8 @@ pub record LeavesOthers (f : ℕ) (place : ℕ → model_state.BlockSet) (waitin
 pub record KeepsItsBlocks {C : Type 0} (old new : model_state.Flusher C) : Type 0 where
   pub own : new.own ≡ old.own
   pub ready : new.ready ≡ old.ready
+
+-- no reclaim begins or ends, and a block that is reclaimed stays in its filling
+pub record KeepsReclaims (place : ℕ → model_state.BlockSet) (filling : ℕ → ℕ) (place' : ℕ → model_state.BlockSet) (filling' : ℕ → ℕ) : Type 0 where
+  pub sets : (b : ℕ) → is_reclaimed (place' b) ≡ is_reclaimed (place b)
+  pub fillings : (b : ℕ) → is_reclaimed (place b) ≡ true → filling' b ≡ filling b

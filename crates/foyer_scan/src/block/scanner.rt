@@ -152,6 +152,19 @@ impl BlockScanner {
         }
     }
 
+    /// The same scan, where it stands: whoever tries a step on it can go back.
+    pub fn copy(&self) -> BlockScanner
+        ensures { result ≡ self.now }
+    {
+        BlockScanner {
+            block: self.block,
+            filling: self.filling,
+            block_size: self.block_size,
+            index_size: self.index_size,
+            blob_offset: self.blob_offset,
+        }
+    }
+
     /// Where the next index is to be read, which is as long as an index is; `None` once the scan has ended.
     pub fn blob_offset(&self) -> Option<usize>
         ensures blob_offset { result ≡ self.now.blob_offset }

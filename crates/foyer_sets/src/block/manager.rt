@@ -271,7 +271,7 @@ impl<A: Allocator> BlockManager<A> {
     ghost use Rattle.foyer_model.specs.Reclaim as model_reclaim;
     ghost use Rattle.foyer_model.specs.State as model_state;
     ghost use Rattle.foyer_sets.specs.Picks.{usable_in};
-    ghost use Rattle.foyer_sets.specs.Managed.{IsWritten, IsReclaimed};
+    ghost use Rattle.foyer_sets.specs.Managed.{IsWritten, IsReclaimed, is_evictable};
     ghost use Rattle.foyer_sets.specs.BlockSets.{BlockSets, Stands, HasSameRules, HandsOut, HasFinished, after_writing, reclaim_count, MayReclaim};
 
     /// How many blocks there are.
@@ -354,8 +354,9 @@ impl<A: Allocator> BlockManager<A> {
         }
     }
 
-    // Whether a reclaim may begin.
-    fn may_reclaim(&self) -> bool
+    /// Whether a reclaim may begin: where fewer blocks than the threshold may be handed out or a flusher waits, a reclaimer is
+    /// free, a block is evictable, and no destroy cleans.
+    pub fn may_reclaim(&self) -> bool
         ensures some { result ≡ true → 0 < length self.now.evictable }
         ensures may { (s : BlockSets) → Stands self.now s
             → IsTrue result ↔ MayReclaim (length self.now.blocks) self.now.reclaimers self.now.clean_threshold s }
@@ -388,6 +389,7 @@ impl<A: Allocator> BlockManager<A> {
         ensures may { IfOk result (λ o. IfSome o (λ _. (s : BlockSets) → Stands self.old s
             → MayReclaim (length self.old.blocks) self.old.reclaimers self.old.clean_threshold s)) }
         ensures evictable { IfOk result (λ o. IfSome o (λ r. is_id_in r.block self.old.evictable ≡ true)) }
+        ensures there { IfOk result (λ o. IfSome o (λ r. is_evictable (slice_get self.old.blocks r.block) ≡ true)) }
         ensures answers { IfOk result (λ o. IfSome o (λ r. r.answers.items ≡ answers_given self.old.blocks
             (answers_of P.answer P.marks pickers.old (picker_info self.old.blocks self.old.evictable (usable_in self.old))))) }
         ensures probation { IfOk result (λ o. IfSome o (λ r. r.probation.items ≡ marks_given self.old.blocks

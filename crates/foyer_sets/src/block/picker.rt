@@ -74,18 +74,11 @@ pub enum BuiltInPicker {
 }
 
 impl EvictionPicker for BuiltInPicker {
-    ghost use Rattle.foyer_sets.specs.Pickers.{Info, fifo_answer, fifo_marks, ratio_answer};
-    ghost use Rattle.foyer_sets.specs.declared.block.picker.BuiltInPicker.TheVariants.{InvalidRatio, Fifo};
+    ghost use Rattle.foyer_sets.specs.BuiltIn.{built_in_answer, built_in_marks};
 
-    ghost answer = { λ p info. elim p as (λ _. Option ℕ) [
-      | InvalidRatio q ↦ ratio_answer q.num q.den q.block_size info
-      | Fifo q ↦ fifo_answer q info
-    ] };
+    ghost answer = { built_in_answer };
 
-    ghost marks = { λ p info. elim p as (λ _. List ℕ) [
-      | InvalidRatio q ↦ []
-      | Fifo q ↦ fifo_marks q info
-    ] };
+    ghost marks = { built_in_marks };
 
     fn init(&mut self, alloc: Global, blocks: &[BlockId], block_size: usize) -> Result<()> {
         match self {

@@ -17,5 +17,5 @@ returns-in-Err-clause-refused g c =
 
 pub returns-in-Ok-clause-placed : goal.returns-in-Ok-clause-placed
 returns-in-Ok-clause-placed g c =
-    opened_manager c.args.settings.now 0 0 c.in_ok-manager.manager c.init-2.new.self c.args.clean.now c.in_ok-manager.ensures.made c.init-2.ensures.same
+    opened_manager c.args.settings.now c.in_ok-manager.manager c.init-2.new.self c.args.clean.now c.in_ok-manager.ensures.made c.init-2.ensures.same
     c.in-Ok.ensures.clean

@@ -19,7 +19,7 @@ returns-clause-meets g c = λ built s sound it stands.
     let m = meaning g.K.Code.encoding g.V.Code.encoding g.K.Code.is_encodable g.V.Code.is_encodable g.K.Code.is_decodable g.V.Code.is_decodable g.P.Properties.age in
     let few : c.args.self.now.steps < 2 ^ 64 - 1 = omega (arith, c.if-self.false) in
     met m s sound c.args.step c.args.self.now c.dispatch-reply.new.self it stands c.dispatch-reply.result (c.args.self.now.steps + 1) _
-    (record { index = refl; next = refl; steps = refl; closed = refl; queued = refl; settings = refl; flushers = refl; manager = refl })
+    (record { index = refl; next = refl; steps = refl; closed = refl; queued = refl; settings = refl; flushers = refl; manager = refl; reclaims = λ b. refl })
     c.if-is_handed_back.ensures few refl
     (c.dispatch-reply.ensures.meets built s sound it stands few)
 

@@ -33,6 +33,7 @@ returns-then-is_err-clause-back g c =
         flushers = same_seen c.args.self.now.flushers.items c.flusher_of-flusher.result found _
             c.index_mut.ensures.value (ap (λ q. record (seen found) { queue = q }) c.reserve.ensures.items);
         manager = refl;
+        reclaims = λ b. refl;
       },
     )
 

@@ -31,6 +31,7 @@ returns-then-not-has_block-clause-meets g c = λ m s sound it stands few.
       settings = refl;
       flushers = same_seen core.flushers.items f found found c.index_mut-found.ensures.value refl;
       manager = refl;
+      reclaims = λ b. refl;
     }) stands few (λ d. d)
     (λ turn. false≢true (c.if-not-has_block.ensures.1 (wants_block m s found.own found.batch (it.flushers f).batch (at.flusher).batch turn.1)))
 
@@ -55,6 +56,7 @@ returns-in-Err-clause-meets g c = λ m s sound it stands few.
         settings = refl;
         flushers = same_seen core.flushers.items f found c.next.new.self c.index_mut-found.ensures.value c.in-Err.ensures.refused;
         manager = c.in-Err.ensures.manager_kept;
+        reclaims = λ b. refl;
       }) stands;
       reply = (model_reply.Memory, refl, refl);
       turns = (
@@ -81,7 +83,7 @@ returns-in-Ok-NoBlock-clause-meets g c = λ m s sound it stands few.
     record {
       after = done.after;
       it = model_reply.NoBlock;
-      stands = core_stands m s sound core _ it f c.next.new.self _ _ stands within done refl refl refl refl refl refl;
+      stands = core_stands m s sound core _ it f c.next.new.self _ _ stands within done refl refl refl refl refl refl (λ b. refl);
       reply = refl;
       turns = ((flusher_there m s core it f stands within, has_block m s found.own found.batch (it.flushers f).batch (at.flusher).batch (c.if-not-has_block.ensures.0 refl)), done.does);
     }
@@ -97,7 +99,7 @@ returns-in-Ok-Block-clause-meets g c = λ m s sound it stands few.
     record {
       after = done.after;
       it = model_reply.Written c.in-Ok-Block.block (map write_of c.in-Ok-Block.writes.items);
-      stands = core_stands m s sound core _ it f c.next.new.self _ _ stands within done refl refl refl refl refl refl;
+      stands = core_stands m s sound core _ it f c.next.new.self _ _ stands within done refl refl refl refl refl refl (λ b. refl);
       reply = refl;
       turns = ((flusher_there m s core it f stands within, has_block m s found.own found.batch (it.flushers f).batch (at.flusher).batch (c.if-not-has_block.ensures.0 refl)), done.does);
     }
@@ -121,5 +123,6 @@ returns-in-Err-clause-back g c =
         settings = refl;
         flushers = same_seen c.args.self.now.flushers.items c.args.flusher found c.next.new.self c.index_mut-found.ensures.value c.in-Err.ensures.refused;
         manager = c.in-Err.ensures.manager_kept;
+        reclaims = λ b. refl;
       },
     )

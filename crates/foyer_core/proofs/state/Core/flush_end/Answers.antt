@@ -24,6 +24,7 @@ returns-then-not-is_written-clause-meets g c = λ m s sound it stands few.
       settings = refl;
       flushers = same_seen core.flushers.items f found found c.index_mut-found.ensures.value refl;
       manager = refl;
+      reclaims = λ b. refl;
     }) stands few (λ d. d)
     (λ turn. false≢true (c.if-not-is_written.ensures.1 (was_written m s found.own found.batch (it.flushers f).batch (at.flusher).batch turn.1)))
 
@@ -38,7 +39,7 @@ returns-clause-meets g c = λ m s sound it stands few.
     record {
       after = (done.2).after;
       it = model_reply.Ended done.0 c.end-pieces.result.waits.items;
-      stands = core_stands m s sound core _ it f c.end-pieces.new.self _ _ stands within done.2 refl refl refl refl refl refl;
+      stands = core_stands m s sound core _ it f c.end-pieces.new.self _ _ stands within done.2 refl refl refl refl refl refl (λ b. refl);
       reply = (done.0, done.1, refl);
       turns = ((flusher_there m s core it f stands within, is_written m s found.own found.batch (it.flushers f).batch (at.flusher).batch (c.if-not-is_written.ensures.0 refl)), (done.2).does);
     }

@@ -72,6 +72,8 @@ returns-clause-meets g c = λ m s sound it stands few.
         manager = record {
           blocks = c.note_access.ensures.same.blocks ∙ stands.manager.blocks;
           flushers = c.note_access.ensures.same.flushers ∙ stands.manager.flushers;
+          reclaimers = c.note_access.ensures.same.reclaimers ∙ stands.manager.reclaimers;
+          clean_threshold = c.note_access.ensures.same.clean_threshold ∙ stands.manager.clean_threshold;
           sets = c.note_access.ensures.access (sets_of it) stands.manager.sets;
         };
         has = stands.has;

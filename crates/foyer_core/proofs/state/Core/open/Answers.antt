@@ -1,4 +1,4 @@
-use Rattle.std.proofs.Common.{◌≡◌, ◌≢◌, ℕ, ◌+◌, ◌<◌, inl, inr, refl, sym, ap, subst, ◌∙◌, arith, List, []}
+use Rattle.std.proofs.Common.{nat_eq, option_map, ◌≡◌, ◌≢◌, ℕ, ◌+◌, ◌<◌, inl, inr, refl, sym, ap, subst, ◌∙◌, arith, List, []}
 use Rattle.foyer_model.specs.Ids.{is_id_in, AreDistinct}
 use Rattle.foyer_recover.proofs.CleanLemmas.{clean_once, clean_below}
 use Rattle.foyer_recover.proofs.EmptyLemmas.{none_at_end}
@@ -7,6 +7,8 @@ use Rattle.foyer_device.specs.declared.error.Error.TheVariants as error
 use Rattle.foyer_rules.specs.Sizes.{AreValid, sizes_in}
 use Rattle.foyer_standing.specs.Standing.{IsManagedAs}
 use Rattle.foyer_core.specs.Opened.{opened_sets}
+use Rattle.std.specs.Map.{lookup}
+use Rattle.foyer_core.specs.Reclaiming.{reclaiming}
 use Rattle.foyer_core.proofs.state.Core.open.Goals as goal
 
 pub returns-clause-unsound : goal.returns-clause-unsound
@@ -24,7 +26,11 @@ invariant_of-result g c =
     record {
       some_flusher = omega (arith, valid.some_flusher, c.in_ok-flushers.ensures.count);
       all_flushers = c.in_ok-manager.ensures.placed.flushers ∙ sym c.in_ok-flushers.ensures.count;
+      small_blocks = valid.offsets_fit;
     }
+
+pub returns-in_err-clone-clause-unsound : goal.returns-in_err-clone-clause-unsound
+returns-in_err-clone-clause-unsound g c = λ bad. absurd (bad (c.in_ok-check.ensures.sound.0 refl))
 
 pub returns-in-Err-clause-refused : goal.returns-in-Err-clause-refused
 returns-in-Err-clause-refused g c =
@@ -67,5 +73,6 @@ returns-clause-opened g c = record {
     queued = refl;
     flushers = c.in_ok-flushers.ensures.idle;
     manager = subst (λ l. IsManagedAs c.args.settings c.in_ok-manager.manager (opened_sets c.args.settings.blocks l)) c.deref.ensures.value c.in_ok-manager.ensures.placed;
+    reclaims = λ b. ap (λ es. option_map reclaiming (lookup (nat_eq b) es)) c.new-reclaims.ensures.empty;
   };
 }

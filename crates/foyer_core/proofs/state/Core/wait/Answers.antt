@@ -25,6 +25,7 @@ returns-then-is_err-clause-back g c =
         flushers = same_seen c.args.self.now.flushers.items c.args.flusher found _
             c.index_mut-found.ensures.value (ap (λ q. record (seen found) { queue = q }) c.reserve.ensures.items);
         manager = refl;
+        reclaims = λ b. refl;
       },
     )
 

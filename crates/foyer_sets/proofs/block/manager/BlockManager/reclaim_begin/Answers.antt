@@ -72,6 +72,12 @@ returns-clause-evictable g c =
     let m = c.self.inside in
     subst (λ (w : Managed). is_id_in c.choose-block.result w.evictable ≡ true) c.self.view_is (chosen_in m.blocks.items c.info_of-info.result.blocks.now m.evictable.ids c.as_slice.result.now (answers_of g.P.EvictionPicker.answer g.P.EvictionPicker.marks c.args.pickers.now (picker_info c.info_of-info.result.blocks.now c.info_of-info.result.evictable.now c.info_of-info.result.clean)) c.in_ok-first_pick.first_pick c.choose-block.result c.info_of-info.ensures.0 c.as_slice.ensures (c.self.invariant).evictable_is c.in_ok-first_pick.ensures.picked c.choose-block.ensures)
 
+pub returns-clause-there : goal.returns-clause-there
+returns-clause-there g c =
+    let m = c.self.inside in
+    let is : is_id_in c.choose-block.result m.evictable.ids ≡ true = chosen_in m.blocks.items c.info_of-info.result.blocks.now m.evictable.ids c.as_slice.result.now (answers_of g.P.EvictionPicker.answer g.P.EvictionPicker.marks c.args.pickers.now (picker_info c.info_of-info.result.blocks.now c.info_of-info.result.evictable.now c.info_of-info.result.clean)) c.in_ok-first_pick.first_pick c.choose-block.result c.info_of-info.ensures.0 c.as_slice.ensures (c.self.invariant).evictable_is c.in_ok-first_pick.ensures.picked c.choose-block.ensures in
+    subst (λ (w : Managed). is_evictable (slice_get w.blocks c.choose-block.result) ≡ true) c.self.view_is (sym ((c.self.invariant).evictable_is c.choose-block.result) ∙ is)
+
 pub returns-clause-may : goal.returns-clause-may
 returns-clause-may g c = λ s st. (c.may_reclaim.ensures.may s st).0 c.if-not-may_reclaim.false
 

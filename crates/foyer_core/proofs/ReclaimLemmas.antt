@@ -1,0 +1,142 @@
+-- The reclaims of a core and the model's, and what the steps of one do to them.
+use Rattle.std.proofs.Common.{◌≡◌, ℕ, zero, suc, ◌+◌, ◌==◌, nat_le, Bool, true, false, ◌&&◌, ◌||◌, if◌then◌else◌, List, [], ◌∷◌, ◌++◌, map, length, replicate, Option, Some, None, refl, sym, ap, subst, ◌∙◌}
+use Rattle.foyer_blob.specs.declared.blob.BlobEntryIndex.{BlobEntryIndex}
+use Rattle.foyer_block.specs.declared.indexer.HashedEntryAddress.{HashedEntryAddress}
+use Rattle.foyer_buffer.specs.Listing.{behind, placed}
+use Rattle.foyer_buffer.specs.Position.{Sizes}
+use Rattle.foyer_format.specs.Page.{page_up}
+use Rattle.foyer_model.specs.Flush.{is_some}
+use Rattle.foyer_model.specs.Index.{is_same}
+use Rattle.foyer_model.specs.Record as model_record
+use Rattle.foyer_model.specs.Reclaim.{is_listed, not_among, addresses, admitted, place_behind, running}
+use Rattle.foyer_model.specs.State as model_state
+use Rattle.foyer_placing.specs.Bridge.{entry_of}
+use Rattle.foyer_rules.specs.declared.settings.Settings.{Settings}
+use Rattle.foyer_scan.specs.Scan.{next_blob, infos_of}
+use Rattle.foyer_sets.specs.BlockSets.{is_reclaimed, reclaim_count}
+use Rattle.foyer_sets.specs.Managed.{one_if}
+use Rattle.foyer_standing.specs.Addresses.{listed_of}
+use Rattle.foyer_core.specs.Reclaiming.{Reclaiming, IsReclaimAs, AreReclaimAs, hashed_of, at_offset}
+
+-- where a block's reclaim, its set and its filling are as they were, it stands for the same
+pub reclaim_kept : (s : Settings) (b : ℕ) (place place' : model_state.BlockSet) (filling filling' : ℕ)
+    → is_reclaimed place' ≡ is_reclaimed place → (is_reclaimed place ≡ true → filling' ≡ filling)
+    → (o : Option Reclaiming) (its : Option model_state.Reclaim) → AreReclaimAs s b place filling o its → AreReclaimAs s b place' filling' o its
+reclaim_kept s b place place' filling filling' sets fillings None None are = sets ∙ are
+reclaim_kept s b place place' filling filling' sets fillings (Some r) (Some it) are =
+    (sets ∙ are.0, subst (λ n. IsReclaimAs s b n r it) (sym (fillings are.0)) are.1)
+reclaim_kept s b place place' filling filling' sets fillings None (Some it) are = absurd are
+reclaim_kept s b place place' filling filling' sets fillings (Some r) None are = absurd are
+
+-- one runs exactly where the block is reclaimed
+pub runs_where : (s : Settings) (b : ℕ) (place : model_state.BlockSet) (filling : ℕ) (o : Option Reclaiming) (its : Option model_state.Reclaim)
+    → AreReclaimAs s b place filling o its → is_some its ≡ is_reclaimed place
+runs_where s b place filling None None are = sym are
+runs_where s b place filling (Some r) (Some it) are = sym are.0
+runs_where s b place filling None (Some it) are = absurd are
+runs_where s b place filling (Some r) None are = absurd are
+
+-- and so as many run
+pub running_is : (n : ℕ) (place : ℕ → model_state.BlockSet) (reclaims : ℕ → Option model_state.Reclaim)
+    → ((b : ℕ) → is_some (reclaims b) ≡ is_reclaimed (place b)) → running n reclaims ≡ reclaim_count n place
+running_is zero place reclaims same = refl
+running_is (suc n) place reclaims same =
+    ap (λ t. (if t then 1 else 0) + running n reclaims) (same n)
+    ∙ ap (λ k. (if is_reclaimed (place n) then 1 else 0) + k) (running_is n place reclaims same)
+    ∙ ap (λ k. k + reclaim_count n place) (one (is_reclaimed (place n)))
+  where
+    one : (t : Bool) → (if t then 1 else 0) ≡ one_if t
+    one true = refl
+    one false = refl
+
+-- one that runs is the model's
+pub of_some : (s : Settings) (b : ℕ) (place : model_state.BlockSet) (filling : ℕ) (o : Option Reclaiming) (its : Option model_state.Reclaim) (r : Reclaiming)
+    → AreReclaimAs s b place filling o its → o ≡ Some r
+    → (it : model_state.Reclaim) × (its ≡ Some it) × (is_reclaimed place ≡ true) × IsReclaimAs s b filling r it
+of_some s b place filling (Some q) (Some it) r are is =
+    let same : q ≡ r = cc in (it, refl, are.0, subst (λ x. IsReclaimAs s b filling x it) same are.1)
+of_some s b place filling None its r are is = absurd (cc)
+of_some s b place filling (Some q) None r are is = absurd are
+
+-- where none runs, none does in the model
+pub of_none : (s : Settings) (b : ℕ) (place : model_state.BlockSet) (filling : ℕ) (o : Option Reclaiming) (its : Option model_state.Reclaim)
+    → AreReclaimAs s b place filling o its → o ≡ None → (its ≡ None) × (is_reclaimed place ≡ false)
+of_none s b place filling None None are is = (refl, are)
+of_none s b place filling None (Some it) are is = absurd are
+of_none s b place filling (Some r) its are is = absurd (cc)
+
+-- a reclaimed set is the one
+pub reclaims_set : (p : model_state.BlockSet) → is_reclaimed p ≡ true → p ≡ model_state.Reclaims
+reclaims_set model_state.Clean is = absurd (cc)
+reclaims_set (model_state.Writes f) is = absurd (cc)
+reclaims_set model_state.Evictable is = absurd (cc)
+reclaims_set model_state.Reclaims is = refl
+
+-- lists
+
+-- what one of two lists has
+joined : (p : ℕ × model_record.Address) (xs ys : List (ℕ × model_record.Address)) → is_listed p (xs ++ ys) ≡ (is_listed p xs || is_listed p ys)
+joined p [] ys = refl
+joined p (x ∷ xs) ys = go ((p.0 == x.0) && is_same p.1 x.1) (joined p xs ys)
+  where
+    go : (t : Bool) → is_listed p (xs ++ ys) ≡ (is_listed p xs || is_listed p ys) → (t || is_listed p (xs ++ ys)) ≡ ((t || is_listed p xs) || is_listed p ys)
+    go true rest = refl
+    go false rest = rest
+
+either : (a b : Bool) → (a || b) ≡ (b || a)
+either true true = refl
+either true false = refl
+either false true = refl
+either false false = refl
+
+mapped : {X Y : Type 0} (f : X → Y) (xs ys : List X) → map f (xs ++ ys) ≡ map f xs ++ map f ys
+mapped f [] ys = refl
+mapped f (x ∷ xs) ys = ap (λ zs. f x ∷ zs) (mapped f xs ys)
+
+-- more is listed, in front of the one list and behind the other
+pub listed_more : (p : ℕ × model_record.Address) (more its : List (ℕ × model_record.Address)) (ours new : List HashedEntryAddress)
+    → ((q : ℕ × model_record.Address) → is_listed q its ≡ is_listed q (map listed_of ours)) → more ≡ map listed_of new
+    → is_listed p (more ++ its) ≡ is_listed p (map listed_of (ours ++ new))
+listed_more p more its ours new same news =
+    joined p more its
+    ∙ ap (λ l. is_listed p l || is_listed p its) news
+    ∙ ap (λ t. is_listed p (map listed_of new) || t) (same p)
+    ∙ either (is_listed p (map listed_of new)) (is_listed p (map listed_of ours))
+    ∙ sym (joined p (map listed_of ours) (map listed_of new))
+    ∙ ap (is_listed p) (sym (mapped listed_of ours new))
+
+-- what an index lists is what the scan lists of it
+pub addresses_are : (b n p : ℕ) (es : List BlobEntryIndex) → addresses b n p (map entry_of es) ≡ map listed_of (map hashed_of (infos_of b n (placed p es)))
+addresses_are b n p [] = refl
+addresses_are b n p (e ∷ es) =
+    ap (λ l. (e.hash, record { block = b; offset = p + e.offset; len = e.len; sequence = e.sequence; filling = n }) ∷ l) (addresses_are b n p es)
+
+pub none_admitted : (n : ℕ) (ps : List (ℕ × model_record.Address)) → admitted (replicate n false) ps ≡ []
+none_admitted zero ps = refl
+none_admitted (suc n) [] = refl
+none_admitted (suc n) (p ∷ ps) = none_admitted n ps
+
+pub behind_is : (s : Sizes) (p : ℕ) (es : List BlobEntryIndex) → place_behind page_up s.block p (map entry_of es) ≡ behind s p es
+behind_is s p [] = refl
+behind_is s p (e ∷ []) = refl
+behind_is s p (e ∷ f ∷ es) = behind_is s p (f ∷ es)
+
+pub stage_behind_is : (s : Sizes) (q : ℕ) → at_offset (next_blob s q) ≡ (if nat_le (q + s.index) s.block then model_state.AtIndex q else model_state.AllListed)
+stage_behind_is s q = go (nat_le (q + s.index) s.block)
+  where
+    go : (t : Bool) → at_offset (if t then Some q else None) ≡ (if t then model_state.AtIndex q else model_state.AllListed)
+    go true = refl
+    go false = refl
+
+pub as_many : (b n p : ℕ) (es : List BlobEntryIndex) → length (infos_of b n (placed p es)) ≡ length (map entry_of es)
+as_many b n p [] = refl
+as_many b n p (e ∷ es) = ap suc (as_many b n p es)
+
+pub copies : {X : Type 0} (n : ℕ) (x : X) → length (replicate n x) ≡ n
+copies zero x = refl
+copies (suc n) x = ap suc (copies n x)
+
+-- nothing is taken out of a list by nothing
+pub all_stay : (ps : List (ℕ × model_record.Address)) → not_among [] ps ≡ ps
+all_stay [] = refl
+all_stay (p ∷ ps) = ap (λ l. p ∷ l) (all_stay ps)

@@ -1,0 +1,54 @@
+use Rattle.std.proofs.Common.{◌≡◌, ◌<◌, Bool, true, Option, Some, option_map, map, refl, sym, ap, subst, ◌∙◌}
+use Rattle.std.specs.Prelude.{IfSome}
+use Rattle.foyer_block.specs.Removal.{without_addresses}
+use Rattle.foyer_model.specs.Index.{forgotten}
+use Rattle.foyer_model.specs.Numbers.{put}
+use Rattle.foyer_model.specs.Reclaim.{Forgets, not_among}
+use Rattle.foyer_model.specs.Reply as model_reply
+use Rattle.foyer_model.specs.State as model_state
+use Rattle.foyer_model.specs.Step as model_step
+use Rattle.foyer_rules.specs.CoreRules.{machine}
+use Rattle.foyer_standing.specs.Addresses.{listed_of}
+use Rattle.foyer_standing.specs.Standing.{IsIndexedAs}
+use Rattle.foyer_standing.proofs.ForgetLemmas.{forgotten_is}
+use Rattle.foyer_core.specs.Reclaiming.{Reclaiming, ChangesReclaim, reclaim_at, after_forget}
+use Rattle.foyer_core.proofs.ReclaimLemmas.{all_stay}
+use Rattle.foyer_core.proofs.ReclaimSteps.{forgets, at_stage, reclaim_stands}
+use Rattle.foyer_core.proofs.state.Core.reclaim_forget.Goals as goal
+
+pub returns-clause-meets : goal.returns-clause-meets
+returns-clause-meets g c = λ m s sound it stands few.
+    let core = c.args.self.now in
+    let b = c.args.block in
+    let o = reclaim_at core.reclaims b in
+    let at = forgets m s sound b (it.place b) (it.filling b) o (it.reclaims b) (stands.reclaims b) (sym c.may_forget.ensures ∙ c.if-not-may_forget.false) in
+    let its : model_state.Reclaim = record at.model { stage = model_state.ToClean } in
+    let gone : c.forget.new.index ≡ without_addresses core.index (at.ours).listed =
+    subst (λ (k : Option Reclaiming). IfSome k (λ r. c.forget.new.index ≡ without_addresses core.index r.listed)) at.mine c.forget.ensures.index in
+    let indexed : IsIndexedAs s c.forget.new.index (forgotten (not_among (at.model).requeued (at.model).listed) it.index) =
+    subst (λ l. IsIndexedAs s c.forget.new.index (forgotten l it.index)) (sym (ap (λ q. not_among q (at.model).listed) (at.stands_as).requeued ∙ all_stay (at.model).listed))
+    (subst (λ k. IsIndexedAs s k (forgotten (at.model).listed it.index)) (sym gone)
+    (forgotten_is s core.index it.index (at.ours).listed (at.model).listed (at.stands_as).listed stands.index)) in
+    let changes : ChangesReclaim core.reclaims c.forget.new.reclaims b (Some (after_forget at.ours)) =
+    subst (λ (k : Option Reclaiming). ChangesReclaim core.reclaims c.forget.new.reclaims b (option_map after_forget k)) at.mine c.forget.ensures.forgotten in
+    record {
+      after = record it { index = forgotten (not_among (at.model).requeued (at.model).listed) it.index; reclaims = put it.reclaims b (Some its) };
+      it = model_reply.Cleans b;
+      stands = reclaim_stands m s core it stands b _ _ (Some (after_forget at.ours)) (Some its)
+          (record { settings = refl; next = refl; steps = refl; closed = refl; queued = refl; flushers = refl }) refl indexed changes (
+            at.set,
+            record {
+              there = (at.stands_as).there;
+              scan = (at.stands_as).scan;
+              stage = refl;
+              listed = (at.stands_as).listed;
+              requeued = (at.stands_as).requeued;
+            },
+          );
+      reply = refl;
+      turns = (
+        ((at.stands_as).there, at_stage m s sound b (it.place b) (it.filling b) model_state.AllListed o (it.reclaims b) at),
+        subst (λ k. Forgets (machine m s sound) it b k (model_reply.Cleans b)
+            (record it { index = forgotten (not_among (at.model).requeued (at.model).listed) it.index; reclaims = put it.reclaims b (Some its) })) (sym at.is) (refl, refl),
+      );
+    }
