@@ -11,6 +11,8 @@ pub mod LoadLemmas
 pub mod LookUpLemmas
 pub mod MissedLemmas
 pub mod NewestLemmas
+pub mod ReclaimIdle
+pub mod ReclaimRuns
 pub mod ReplyLemmas
 pub mod RestLemmas
 pub mod RunLemmas

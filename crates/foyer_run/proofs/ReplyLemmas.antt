@@ -78,9 +78,10 @@ module _ {K V P A : Type 0} (m : Meaning K V P) where
   sorted (reply.Committed n) it is = ap sort is
   sorted reply.Failed it is = ap sort is
   sorted (reply.Ended pieces waits) it is = ap sort is.2
-  sorted (reply.Scan block offset len) it is = absurd is
-  sorted reply.Listed it is = absurd is
-  sorted (reply.Clean block) it is = absurd is
+  sorted (reply.Picked block answers probation) it is = ap sort is
+  sorted (reply.Scan block offset len verdicts) it is = ap sort is
+  sorted (reply.Listed verdicts) it is = ap sort is
+  sorted (reply.Clean block) it is = ap sort is
   sorted (reply.Destroying q) it is = absurd is
   sorted reply.Cleared it is = absurd is
   sorted (reply.Destroyed ok) it is = absurd is

@@ -22,7 +22,7 @@ use Rattle.foyer_core.specs.declared.step.Step.{Step}
 use Rattle.foyer_core.specs.declared.step.Step.TheVariants as step
 use Rattle.foyer_core.proofs.RefinesLemmas.{IsOrdinary}
 use Rattle.foyer_run.specs.Accesses.{AsksNoMore}
-use Rattle.foyer_run.specs.AtRest.{BeginsNone, ComesToRest, EndsBatch, EndsBatchOnce, KeepsOthers, Leads, LeavesAllIdle, LeavesIdle, LeavesIdleBelow, MayNotBegin, TakesQueue, TakesQueueIf}
+use Rattle.foyer_run.specs.AtRest.{BeginsNone, ComesToRest, EndsBatch, EndsBatchOnce, KeepsOthers, KeepsIdle, KeepsOthersIdle, Leads, LeavesAllIdle, LeavesIdle, LeavesIdleBelow, MayNotBegin, TakesQueue, TakesQueueIf}
 use Rattle.foyer_run.proofs.FlusherSteps.{begins_none_more, described_next, finishes_ends, follows_keep, keeps_more, keeps_same, receives_none, takes_empty, wrote_next}
 use Rattle.foyer_run.proofs.IdleLemmas.{idle_in_each}
 use Rattle.foyer_run.proofs.ReplyLemmas.{ordinary}
@@ -192,13 +192,20 @@ module _ {K V P A : Type 0} (m : Meaning K V P) where
 
 -- one relation after another
 
+-- what has what it had is idle where it was
+pub keeps_idle : {C : Type 0} (f : ℕ) (x y : State C) → KeepsOthers f x y → KeepsOthersIdle f x y
+keeps_idle f x y keeps g ne idle = subst IsIdle (sym (keeps g ne)) idle
+
+idle_more : {C : Type 0} (f : ℕ) (x y z : State C) → KeepsOthersIdle f x y → KeepsOthersIdle f y z → KeepsOthersIdle f x z
+idle_more f x y z one two g ne idle = two g ne (one g ne idle)
+
 takes_then : {C : Type 0} (f : ℕ) (x y z : State C) → BeginsNone f x y → TakesQueue f y z → TakesQueue f x z
 takes_then f x y z one two = (begins_none_more f x y z one two.0, two.1)
 
 -- what a turn of a flush did before, and what it takes
 once_then : {C : Type 0} (has_ended : Bool) (f : ℕ) (x y z : State C) → EndsBatchOnce has_ended f x y → TakesQueue f y z
     → EndsBatchOnce has_ended f x z × ((z.flushers f).queue ≡ [])
-once_then has_ended f x y z one two = ((keeps_more f x y z one.0 (two.0).0, λ ended. (two.0).1 (one.1 ended)), two.1)
+once_then has_ended f x y z one two = ((idle_more f x y z one.0 (keeps_idle f y z (two.0).0), λ ended. (two.0).1 (one.1 ended)), two.1)
 
 -- after a batch that is over, with an empty queue, a flusher that may not begin is idle
 idle_then : {C : Type 0} (has_ended : Bool) → has_ended ≡ true → (f : ℕ) (x y z : State C)
@@ -213,16 +220,16 @@ idle_then has_ended ended f x y z one two =
       none_received (y.flushers f).waits (λ some. unreceived (inr (inr some))),
       none,
     ) in
-    (keeps_more f x y z (one.0).0 (keeps_same f y z two.0), subst (λ k. IsIdle (k.flushers f)) (sym two.0) idle)
+    (idle_more f x y z (one.0).0 (keeps_idle f y z (keeps_same f y z two.0)), subst (λ k. IsIdle (k.flushers f)) (sym two.0) idle)
 
-ended_then : {C : Type 0} (f : ℕ) (x y z : State C) → KeepsOthers f x y → EndsBatch f y z → EndsBatchOnce true f x z
-ended_then f x y z one two = (keeps_more f x y z one two.0, λ ended. two.1)
+ended_then : {C : Type 0} (f : ℕ) (x y z : State C) → KeepsOthersIdle f x y → EndsBatch f y z → EndsBatchOnce true f x z
+ended_then f x y z one two = (idle_more f x y z one (keeps_idle f y z two.0), λ ended. two.1)
 
 -- one more flusher is idle
 below_then : {C : Type 0} (n next : ℕ) → next ≡ n + 1 → (x y z : State C) → LeavesIdleBelow n x y → LeavesIdle n y z → LeavesIdleBelow next x z
 below_then n next e x y z one two = λ f lt.
     elim (cases_lt f n) [
-      | inl less ↦ subst IsIdle (sym (two.0 f (λ same. absurd (omega (arith, less, same))))) (one f less)
+      | inl less ↦ two.0 f (λ same. absurd (omega (arith, less, same))) (one f less)
       | inr more ↦ let same : f ≡ n = omega (arith, lt, more, e) in subst (λ g. IsIdle (z.flushers g)) (sym same) two.1
     ]
 
@@ -250,12 +257,16 @@ module _ {K V P A : Type 0} (m : Meaning K V P) (f : ℕ) (a b c : Core K V P A)
     receive_over nothing led refines = leads_more m (BeginsNone f) (TakesQueue f) (TakesQueue f) a b c (takes_then f) led (receive_ends m f answer b c nothing refines)
 
   -- one more block is written
-  pub write_more : Leads m (KeepsOthers f) a b → Leads m (KeepsOthers f) b c → Leads m (KeepsOthers f) a c
-  write_more led writes = leads_more m (KeepsOthers f) (KeepsOthers f) (KeepsOthers f) a b c (keeps_more f) led writes
+  pub write_more : Leads m (KeepsOthersIdle f) a b → Leads m (KeepsOthers f) b c → Leads m (KeepsOthersIdle f) a c
+  write_more led writes = leads_more m (KeepsOthersIdle f) (KeepsOthers f) (KeepsOthersIdle f) a b c (λ x y z one two. idle_more f x y z one (keeps_idle f y z two)) led writes
+
+  -- one more block is reclaimed
+  pub reclaim_more : Leads m (KeepsOthersIdle f) a b → Leads m KeepsIdle b c → Leads m (KeepsOthersIdle f) a c
+  reclaim_more led reclaims = leads_more m (KeepsOthersIdle f) KeepsIdle (KeepsOthersIdle f) a b c (λ x y z one two g ne idle. two g (one g ne idle)) led reclaims
 
   -- one more flusher is idle
-  pub idle_more : (next : ℕ) → next ≡ f + 1 → Leads m (LeavesIdleBelow f) a b → Leads m (LeavesIdle f) b c → Leads m (LeavesIdleBelow next) a c
-  idle_more next is led idle = leads_more m (LeavesIdleBelow f) (LeavesIdle f) (LeavesIdleBelow next) a b c (below_then f next is) led idle
+  pub flusher_more : (next : ℕ) → next ≡ f + 1 → Leads m (LeavesIdleBelow f) a b → Leads m (LeavesIdle f) b c → Leads m (LeavesIdleBelow next) a c
+  flusher_more next is led idle = leads_more m (LeavesIdleBelow f) (LeavesIdle f) (LeavesIdleBelow next) a b c (below_then f next is) led idle
 
 -- the same, where it is said whether the queue is taken up to its end
 pub takes_all : {K V P A : Type 0} (m : Meaning K V P) (f : ℕ) (a b : Core K V P A) → Leads m (TakesQueue f) a b → Leads m (TakesQueueIf true f) a b
@@ -277,11 +288,11 @@ module _ {K V P A : Type 0} (m : Meaning K V P) (f : ℕ) (has_ended is_empty : 
       (begin_not m f begun c d nothing begins)
 
   -- and on to its end
-  pub flush_more : (ended : Reply K V P A) (e g : Core K V P A) → (IsHandedBack ended → ⊥) → Leads m (KeepsOthers f) d e → Refines m (step.FlushEnd f) ended e g → Leads m (EndsBatchOnce true f) a g
+  pub flush_more : (ended : Reply K V P A) (e g : Core K V P A) → (IsHandedBack ended → ⊥) → Leads m (KeepsOthersIdle f) d e → Refines m (step.FlushEnd f) ended e g → Leads m (EndsBatchOnce true f) a g
   flush_more ended e g not written ends =
-      leads_more m (KeepsOthers f) (EndsBatch f) (EndsBatchOnce true f) a e g (ended_then f)
-      (leads_more m (KeepsOthers f) (KeepsOthers f) (KeepsOthers f) a d e (keeps_more f)
-      (leads_more m (KeepsOthers f) (KeepsOthers f) (KeepsOthers f) a c d (keeps_more f)
-      (leads_more m (EndsBatchOnce has_ended f) (TakesQueueIf is_empty f) (KeepsOthers f) a b c (λ x y z one two. keeps_more f x y z one.0 (two.0).0) led taken)
+      leads_more m (KeepsOthersIdle f) (EndsBatch f) (EndsBatchOnce true f) a e g (ended_then f)
+      (leads_more m (KeepsOthersIdle f) (KeepsOthersIdle f) (KeepsOthersIdle f) a d e (idle_more f)
+      (leads_more m (KeepsOthersIdle f) (KeepsOthers f) (KeepsOthersIdle f) a c d (λ x y z one two. idle_more f x y z one (keeps_idle f y z two))
+      (leads_more m (EndsBatchOnce has_ended f) (TakesQueueIf is_empty f) (KeepsOthersIdle f) a b c (λ x y z one two. idle_more f x y z one.0 (keeps_idle f y z (two.0).0)) led taken)
       (begin_keeps m f begun c d begins)) written)
       (end_leads m f ended e g not ends)

@@ -110,11 +110,6 @@ module _ {K V P A : Type 0} (m : Meaning K V P) where
 
     built : (given : Step K V P A) → IsBuilt given ⊎ (IsBuilt given → ⊥)
     built (step.LogWrote flusher outcome) = inr (λ b. b)
-    built step.ReclaimBegin = inr (λ b. b)
-    built (step.ReclaimRead block outcome) = inr (λ b. b)
-    built (step.ReclaimForget block) = inr (λ b. b)
-    built (step.ReclaimCleaned block outcome) = inr (λ b. b)
-    built step.ReclaimIdle = inr (λ b. b)
     built step.DestroyBegin = inr (λ b. b)
     built step.DestroyClear = inr (λ b. b)
     built (step.DestroyCleaned block outcome) = inr (λ b. b)

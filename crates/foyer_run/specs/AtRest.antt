@@ -30,6 +30,14 @@ Leads m Relates old new =
 abbrev pub KeepsOthers : {C : Type 0} → ℕ → State C → State C → Type 0
 KeepsOthers f old new = (g : ℕ) → g ≢ f → new.flushers g ≡ old.flushers g
 
+-- a flusher that was idle is idle
+abbrev pub KeepsIdle : {C : Type 0} → State C → State C → Type 0
+KeepsIdle old new = (f : ℕ) → IsIdle (old.flushers f) → IsIdle (new.flushers f)
+
+-- every other flusher that was idle is idle
+abbrev pub KeepsOthersIdle : {C : Type 0} → ℕ → State C → State C → Type 0
+KeepsOthersIdle f old new = (g : ℕ) → g ≢ f → IsIdle (old.flushers g) → IsIdle (new.flushers g)
+
 -- this flusher has no batch that it hadn't
 abbrev pub BeginsNone : {C : Type 0} → ℕ → State C → State C → Type 0
 BeginsNone f old new = KeepsOthers f old new × ((old.flushers f).batch ≡ None → (new.flushers f).batch ≡ None)
@@ -50,13 +58,13 @@ MayNotBegin f old new = (new ≡ old) × ((old.flushers f).batch ≡ None → Ha
 abbrev pub EndsBatch : {C : Type 0} → ℕ → State C → State C → Type 0
 EndsBatch f old new = KeepsOthers f old new × ((new.flushers f).batch ≡ None)
 
--- and it is, once this is true
+-- once this is true it is, and others that were idle are idle
 abbrev pub EndsBatchOnce : {C : Type 0} → Bool → ℕ → State C → State C → Type 0
-EndsBatchOnce has_ended f old new = KeepsOthers f old new × (has_ended ≡ true → (new.flushers f).batch ≡ None)
+EndsBatchOnce has_ended f old new = KeepsOthersIdle f old new × (has_ended ≡ true → (new.flushers f).batch ≡ None)
 
--- this flusher has nothing left to do
+-- this flusher has nothing left to do, and others that were idle are idle
 abbrev pub LeavesIdle : {C : Type 0} → ℕ → State C → State C → Type 0
-LeavesIdle f old new = KeepsOthers f old new × IsIdle (new.flushers f)
+LeavesIdle f old new = KeepsOthersIdle f old new × IsIdle (new.flushers f)
 
 -- the first n flushers have nothing left to do
 abbrev pub LeavesIdleBelow : {C : Type 0} → ℕ → State C → State C → Type 0

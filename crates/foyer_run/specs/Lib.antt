@@ -6,6 +6,7 @@ pub mod Lawful
 pub mod Moves
 pub mod Newest
 pub mod Begun
+pub mod Reclaims
 pub mod Running
 pub mod Runs
 pub mod Texts

@@ -5,3 +5,4 @@ pub mod accesses;
 pub mod disk;
 pub mod moves;
 pub mod opened;
+pub mod reclaims;

@@ -25,3 +25,11 @@ returns-in_default-reply g c = record {
       ∙ none_at_all c.in-Some.reply.now c.args.issued.now.next c.in_default-reply.not-Write;
   room = tt;
 }
+
+pub returns-in_default-clause-write : goal.returns-in_default-clause-write
+returns-in_default-clause-write g c =
+    let i = c.args.issued.now.reply in
+    let none : slice_get c.args.replies.now i ≡ None =
+    subst (λ r. MatchOption r (slice_get c.args.replies.now i ≡ None) (λ x. slice_get c.args.replies.now i ≡ Some x.now)) c.in_default.is
+    (looked c.args.replies.now i c.get.result c.get.ensures.lookup.0 c.get.ensures.lookup.1) in
+    ap (λ o. write_at o c.args.issued.now.next) none

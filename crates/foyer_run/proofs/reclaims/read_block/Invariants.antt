@@ -1,0 +1,14 @@
+use Rattle.std.proofs.Common.{◌≡◌, Some}
+use Rattle.foyer_rules.specs.Content.{meaning}
+use Rattle.foyer_run.specs.AtRest.{KeepsIdle, Leads}
+use Rattle.foyer_run.specs.Reclaims.{Reads}
+use Rattle.foyer_run.proofs.reclaims.read_block.Given as goal
+
+abbrev pub invariant-parts : goal.invariant-parts
+invariant-parts g l = record {
+  known : g.D.Disk.is_known l.fn.disk → g.D.Disk.is_known l.disk;
+  same : g.D.Disk.byte_at l.disk ≡ g.D.Disk.byte_at l.fn.disk;
+  reads : g.D.Disk.is_known l.fn.disk → Reads (meaning g.K.Code.encoding g.V.Code.encoding g.K.Code.is_encodable g.V.Code.is_encodable g.K.Code.is_decodable g.V.Code.is_decodable g.P.Properties.age)
+      l.block (Some l.fn.first) (Some l.part) l.fn.core l.core (g.D.Disk.byte_at l.fn.disk);
+  leads : Leads (meaning g.K.Code.encoding g.V.Code.encoding g.K.Code.is_encodable g.V.Code.is_encodable g.K.Code.is_decodable g.V.Code.is_decodable g.P.Properties.age) KeepsIdle l.fn.core l.core;
+}
