@@ -7,6 +7,7 @@ use Rattle.foyer_core.specs.Refines.{IsHandedBack}
 use Rattle.foyer_core.specs.declared.reply.Reply.{Reply}
 use Rattle.foyer_core.specs.declared.reply.Reply.TheVariants as reply
 use Rattle.foyer_core.specs.declared.state.Core.{Core}
+use Rattle.foyer_run.specs.AtRest.{IsFlusherIdle, KeepsIdle, KeepsOthers, KeepsOthersIdle, Leads, LeavesIdle}
 use Rattle.foyer_run.specs.Waiting.{Waits}
 use Rattle.foyer_device.specs.declared.error.Error.{Error}
 use Rattle.foyer_rules.specs.Sizes.{AreValid}
@@ -16,7 +17,7 @@ use Rattle.foyer_recover.specs.declared.block.recover.RecoverMode.TheVariants as
 use Rattle.foyer_run.specs.Begun.{IsBegun, IsBegunEmpty}
 use Rattle.foyer_run.specs.Newest.{IsMissedOnly, IsNewest, IsPutOrFault}
 use Rattle.foyer_run.proofs.OpenedRuns.{begun_empty}
-use Rattle.foyer_run.proofs.RestLemmas.{SaysNothing}
+use Rattle.foyer_run.proofs.RestLemmas.{SaysNothing, keeps_idle, leads_more}
 use Rattle.foyer_serve.specs.Texts.{IsMissedText, IsNewestText, IsTextOrFault, done_as, got, plain}
 use Rattle.foyer_serve.specs.declared.engine.Engine.{Engine}
 use Rattle.foyer_serve.specs.declared.engine.NoProperties.{NoProperties}
@@ -62,3 +63,19 @@ pub done_something : {A : Type 0} (last : Reply ℕ (String A) NoProperties A) (
 done_something (reply.NotNow back) did is done = let e : Ok false ≡ Ok did = is in cc
 done_something (reply.Refused kind back) did is done = let e : Err kind ≡ Ok did = is in cc
 done_something last did is done = λ back. absurd back
+
+-- what leads a core on, one after the other
+module _ {A : Type 0} (f : ℕ) (a b c : Core ℕ (String A) NoProperties A) where
+  pub others_more : Leads plain (KeepsOthersIdle f) a b → Leads plain (KeepsOthersIdle f) b c → Leads plain (KeepsOthersIdle f) a c
+  others_more led writes = leads_more plain (KeepsOthersIdle f) (KeepsOthersIdle f) (KeepsOthersIdle f) a b c (λ x y z one two g ne idle. two g ne (one g ne idle)) led writes
+
+  pub written_reclaimed : Leads plain (KeepsOthers f) a b → Leads plain KeepsIdle b c → Leads plain (KeepsOthersIdle f) a c
+  written_reclaimed writes reclaims = leads_more plain (KeepsOthers f) KeepsIdle (KeepsOthersIdle f) a b c (λ x y z one two g ne idle. two g (keeps_idle f x y one g ne idle)) writes reclaims
+
+-- a block that was written alone
+pub written_alone : {A : Type 0} (f : ℕ) (a b : Core ℕ (String A) NoProperties A) → Leads plain (KeepsOthers f) a b → Leads plain (KeepsOthersIdle f) a b
+written_alone f a b writes = λ s sound it at. let led = writes s sound it at in (led.0, led.1, keeps_idle f it led.0 led.2)
+
+-- a flusher that is idle is left so
+pub left_alone : {A : Type 0} (f : ℕ) (core : Core ℕ (String A) NoProperties A) → IsFlusherIdle plain f core → Leads plain (LeavesIdle f) core core
+left_alone f core still = λ s sound it at. (it, at, (λ g ne idle. idle, still s it at))

@@ -3,7 +3,7 @@ ghost use Rattle.std.specs.Prelude.{◌≡◌, ◌≢◌, ◌⊎◌, ◌≤◌, 
 ghost use Rattle.foyer_device.specs.declared.error.Error.TheVariants.{Config, Memory, OutOfRange, Recover, SequenceEnd};
 ghost use Rattle.foyer_recover.specs.declared.block.recover.RecoverMode.TheVariants as recover_mode;
 ghost use Rattle.foyer_rules.specs.Sizes.{AreValid};
-ghost use Rattle.foyer_run.specs.AtRest.{ComesToRest, KeepsOthers, Leads, LeavesAllIdle, LeavesIdle, TakesQueueIf};
+ghost use Rattle.foyer_run.specs.AtRest.{ComesToRest, KeepsIdle, KeepsOthersIdle, Leads, LeavesAllIdle, LeavesIdle, TakesQueueIf};
 ghost use Rattle.foyer_run.specs.Driven.{Drives};
 ghost use Rattle.foyer_run.specs.Begun.{IsBegun, IsBegunEmpty};
 ghost use Rattle.foyer_run.specs.Waiting.{Closes, Waits};
@@ -21,6 +21,7 @@ use foyer_device::error::{ErrorKind, Result};
 use foyer_format::serde::{Age, EntrySerializer, Properties};
 use foyer_policy::keeper::Piece;
 use foyer_run::accesses::{load, step, write_block};
+use foyer_run::reclaims::reclaim_block;
 use std::alloc::Allocator;
 
 /// Entries of this program have no age of their own.
@@ -233,16 +234,34 @@ impl<A: Allocator + Clone, D: Disk + Drop> Engine<A, D> {
         answer_delete(step(&mut self.core, &mut self.env, Step::Delete { hash: key }))
     }
 
-    /// Queues a wait at each flusher, and flushes until no flusher has anything left to do. It puts, deletes and loads
-    /// nothing, and closes nothing. `Io`: a flusher's batch can't be ended, since a write of it was never reported.
-    /// `SequenceEnd`: the limit of steps is reached, or 2^64 - 1 turns weren't enough.
+    /// Queues a wait at each flusher that isn't idle, and flushes until none has anything left to do; then reclaims blocks until
+    /// enough are clean, as far as that goes. It puts, deletes and loads nothing, and closes nothing. `Io`: a flusher's
+    /// batch can't be ended, since a write of it was never reported. `NoSpace`: no block can be reclaimed. `SequenceEnd`:
+    /// the limit of steps is reached, or 2^64 - 1 turns weren't enough. `Memory` where a reclaim or a flush is refused it.
     pub fn wait(&mut self) -> Answer<A>
         ensures answered { IsOkOrFault result }
         ensures rest { result ≡ Answer.Ok → ComesToRest plain self.old.core self.new.core }
         ensures waited { D.is_known self.old.disk → D.is_known self.new.disk × Waits plain self.old.core self.new.core
             (D.byte_at self.old.disk) (D.byte_at self.new.disk) }
     {
+        let answer = self.flush_queued();
+        if let Answer::Ok = &answer {
+            self.keep_clean();
+        }
+        answer
+    }
+
+    // Queues a wait at each flusher that isn't idle, and flushes.
+    fn flush_queued(&mut self) -> Answer<A>
+        ensures answered { IsOkOrFault result }
+        ensures leads { result ≡ Answer.Ok → Leads plain LeavesAllIdle self.old.core self.new.core }
+        ensures waited { D.is_known self.old.disk → D.is_known self.new.disk × Waits plain self.old.core self.new.core
+            (D.byte_at self.old.disk) (D.byte_at self.new.disk) }
+    {
         for flusher in 0..self.core.settings().flushers {
+            if self.core.is_idle(flusher) {
+                continue;
+            }
             let id = self.next_wait;
             let queued = step(&mut self.core, &mut self.env, Step::Wait { flusher, id });
             if let Err(kind) = answer_step(queued) {
@@ -253,7 +272,7 @@ impl<A: Allocator + Clone, D: Disk + Drop> Engine<A, D> {
         self.flush_all()
     }
 
-    /// Takes no more puts, deletes and destroys, and waits: nothing else.
+    /// Takes no more puts, deletes and destroys, and flushes what is queued, as a wait does: nothing else.
     pub fn close(&mut self) -> Answer<A>
         ensures answered { IsOkOrFault result }
         ensures rest { result ≡ Answer.Ok → ComesToRest plain self.old.core self.new.core }
@@ -263,11 +282,11 @@ impl<A: Allocator + Clone, D: Disk + Drop> Engine<A, D> {
         let closed = step(&mut self.core, &mut self.env, Step::Close);
         match answer_step(closed) {
             Err(kind) => Answer::Fault(kind),
-            Ok(_) => self.wait(),
+            Ok(_) => self.flush_queued(),
         }
     }
 
-    // A wait is queued at each flusher.
+    // Where a flusher isn't idle, a wait is queued there.
     fn flush_all(&mut self) -> Answer<A>
         ensures answered { IsOkOrFault result }
         ensures leads { result ≡ Answer.Ok → Leads plain LeavesAllIdle self.old.core self.new.core }
@@ -275,6 +294,9 @@ impl<A: Allocator + Clone, D: Disk + Drop> Engine<A, D> {
             (D.byte_at self.old.disk) (D.byte_at self.new.disk) }
     {
         for flusher in 0..self.core.settings().flushers {
+            if self.core.is_idle(flusher) {
+                continue;
+            }
             match self.flush(flusher) {
                 Ok(()) => {}
                 Err(kind) => return Answer::Fault(kind),
@@ -330,16 +352,63 @@ impl<A: Allocator + Clone, D: Disk + Drop> Engine<A, D> {
 
     // Writes the blocks of the batch.
     fn write_all(&mut self, flusher: u32) -> std::result::Result<(), ErrorKind>
-        ensures leads { IfOk result (λ _. Leads plain (KeepsOthers flusher) self.old.core self.new.core) }
+        ensures leads { IfOk result (λ _. Leads plain (KeepsOthersIdle flusher) self.old.core self.new.core) }
         ensures waited { D.is_known self.old.disk → D.is_known self.new.disk × Waits plain self.old.core self.new.core
             (D.byte_at self.old.disk) (D.byte_at self.new.disk) }
     {
         for _ in 0..u64::MAX {
-            let wrote = write_block(&mut self.core, &mut self.env, &mut self.disk, flusher);
-            if !answer_block(wrote)? {
+            if !self.write_next(flusher)? {
                 return Ok(());
             }
         }
         Err(ErrorKind::SequenceEnd)
+    }
+
+    // Writes the next block of the batch, or reclaims one for it where none is clean: false where none is left to write.
+    fn write_next(&mut self, flusher: u32) -> std::result::Result<bool, ErrorKind>
+        ensures leads { Leads plain (KeepsOthersIdle flusher) self.old.core self.new.core }
+        ensures waited { D.is_known self.old.disk → D.is_known self.new.disk × Waits plain self.old.core self.new.core
+            (D.byte_at self.old.disk) (D.byte_at self.new.disk) }
+    {
+        let wrote = write_block(&mut self.core, &mut self.env, &mut self.disk, flusher);
+        match answer_block(wrote) {
+            Err(ErrorKind::NoSpace) => self.make_room(),
+            other => other,
+        }
+    }
+
+    // Reclaims a block for a flusher that waits. `NoSpace` where none may be reclaimed.
+    fn make_room(&mut self) -> std::result::Result<bool, ErrorKind>
+        ensures leads { Leads plain KeepsIdle self.old.core self.new.core }
+        ensures waited { D.is_known self.old.disk → D.is_known self.new.disk × Waits plain self.old.core self.new.core
+            (D.byte_at self.old.disk) (D.byte_at self.new.disk) }
+    {
+        match self.reclaim() {
+            Ok(false) => Err(ErrorKind::NoSpace),
+            other => other,
+        }
+    }
+
+    // Reclaims a block, where one may be: whether it was.
+    fn reclaim(&mut self) -> std::result::Result<bool, ErrorKind>
+        ensures leads { Leads plain KeepsIdle self.old.core self.new.core }
+        ensures waited { D.is_known self.old.disk → D.is_known self.new.disk × Waits plain self.old.core self.new.core
+            (D.byte_at self.old.disk) (D.byte_at self.new.disk) }
+    {
+        answer_step(reclaim_block(&mut self.core, &mut self.env, &mut self.disk))
+    }
+
+    // Reclaims blocks until enough are clean, or one is refused.
+    fn keep_clean(&mut self)
+        ensures leads { Leads plain KeepsIdle self.old.core self.new.core }
+        ensures waited { D.is_known self.old.disk → D.is_known self.new.disk × Waits plain self.old.core self.new.core
+            (D.byte_at self.old.disk) (D.byte_at self.new.disk) }
+    {
+        for _ in 0..u64::MAX {
+            match self.reclaim() {
+                Ok(true) => {}
+                _ => return,
+            }
+        }
     }
 }

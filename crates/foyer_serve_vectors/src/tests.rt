@@ -3,5 +3,6 @@
 mod directories;
 mod failing;
 mod listing;
+mod reclaims;
 mod reopening;
 mod same;

@@ -107,3 +107,36 @@ fn a_file_that_was_cut_finds_less(rt: HostRuntime) -> Result<(), Fail> {
     }
     Ok(())
 }
+
+// What is found is evictable: the oldest block goes first, once a block is wanted.
+#[test]
+fn one_block_of_two_is_found_and_taken(rt: HostRuntime) -> Result<(), Fail> {
+    let words = ["taken", "32768", "16384"];
+    expect(&rt, words, "put 1 a\nwait\n", "queued\nok\n")?;
+    expect(
+        &rt,
+        words,
+        "get 1\nput 2 b\nget 1\nwait\nget 1\nget 2\n",
+        "entry a\nqueued\nentry a\nok\nmiss\nentry b\n",
+    )?;
+    expect(&rt, words, "get 1\nget 2\n", "miss\nentry b\n")?;
+    fs::remove_dir_all(&rt, "taken")?;
+    Ok(())
+}
+
+// Opening and closing alone takes nothing from a directory that is full.
+#[test]
+fn a_full_directory_keeps_what_it_has_until_a_put(rt: HostRuntime) -> Result<(), Fail> {
+    let words = ["full", "16384", "16384"];
+    expect(&rt, words, "put 1 a\nwait\n", "queued\nok\n")?;
+    expect(&rt, words, "get 1\nclose\n", "entry a\nok\n")?;
+    expect(&rt, words, "get 1\n", "entry a\n")?;
+    expect(
+        &rt,
+        words,
+        "put 2 b\nwait\nget 1\nget 2\n",
+        "queued\nok\nmiss\nentry b\n",
+    )?;
+    fs::remove_dir_all(&rt, "full")?;
+    Ok(())
+}

@@ -67,15 +67,39 @@ fn the_newest_pair_is_answered(rt: HostRuntime) -> Result<(), Fail> {
     )
 }
 
-// A block has room for three small records. What is left of the batch waits for a block, and nothing frees one.
+// A block has room for three small records. What is left of the batch takes the block again.
 #[test]
-fn where_no_block_is_left_a_wait_is_no_space(rt: HostRuntime) -> Result<(), Fail> {
+fn where_no_block_is_clean_the_oldest_is_reclaimed(rt: HostRuntime) -> Result<(), Fail> {
     check(
         &rt,
         &SMALL,
-        "put 1 a\nput 2 b\nput 3 c\nput 4 d\nwait\nget 1\nget 3\nget 4\nput 5 e\nwait\nget 5\nget 2\n",
-        "queued\nqueued\nqueued\nqueued\nfault NoSpace\nentry a\nentry c\nmiss\nqueued\nfault NoSpace\nmiss\nentry b\n",
-        1,
+        "put 1 a\nput 2 b\nput 3 c\nput 4 d\nwait\nget 1\nget 3\nget 4\nput 5 e\nwait\nget 5\nget 4\n",
+        "queued\nqueued\nqueued\nqueued\nok\nmiss\nmiss\nentry d\nqueued\nok\nentry e\nentry d\n",
+        0,
+    )
+}
+
+// The second block is written, and the first one is reclaimed once the wait has no clean block left.
+#[test]
+fn a_wait_keeps_a_block_clean(rt: HostRuntime) -> Result<(), Fail> {
+    check(
+        &rt,
+        &[":memory:", "32768", "16384"],
+        "put 1 a\nput 2 b\nput 3 c\nput 4 d\nwait\nget 1\nget 3\nget 4\nput 1 e\nwait\nget 1\n",
+        "queued\nqueued\nqueued\nqueued\nok\nmiss\nmiss\nentry d\nqueued\nok\nentry e\n",
+        0,
+    )
+}
+
+// Nothing waits to be written, so that no block is needed.
+#[test]
+fn a_wait_of_an_idle_engine_takes_no_block(rt: HostRuntime) -> Result<(), Fail> {
+    check(
+        &rt,
+        &SMALL,
+        "put 1 a\nput 2 b\nput 3 c\nwait\nwait\nwait\nget 1\nclose\nget 3\n",
+        "queued\nqueued\nqueued\nok\nok\nok\nentry a\nok\nentry c\n",
+        0,
     )
 }
 
@@ -83,7 +107,7 @@ fn where_no_block_is_left_a_wait_is_no_space(rt: HostRuntime) -> Result<(), Fail
 fn what_does_not_fit_one_block_goes_into_the_next(rt: HostRuntime) -> Result<(), Fail> {
     check(
         &rt,
-        &[":memory:", "32768", "16384"],
+        &[":memory:", "49152", "16384"],
         "put 1 a\nput 2 b\nput 3 c\nput 4 d\nwait\nget 1\nget 3\nget 4\nput 5 e\nwait\nget 5\nget 4\nput 6 f\nwait\nget 6\n",
         "queued\nqueued\nqueued\nqueued\nok\nentry a\nentry c\nentry d\nqueued\nok\nentry e\nentry d\nqueued\nok\nentry f\n",
         0,

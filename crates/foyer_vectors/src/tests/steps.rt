@@ -234,7 +234,7 @@ fn steps_out_of_turn_are_handed_back(rt: HostRuntime) -> std::result::Result<(),
         1,
         0,
         "begin 0\nblock 0\nend 0\nreceive 0\nreceive 1\nwait 1\nreclaim\nidle\ndestroy\nclear\n",
-        "not now\nnot now\nnot now\nempty\nnot now\nnot now\nnot now\nnot now\nnot now\nnot now\n",
+        "not now\nnot now\nnot now\nempty\nnot now\nnot now\nnot now\nyes\nnot now\nnot now\n",
     )
 }
 

@@ -10,7 +10,7 @@ use Rattle.foyer_serve.proofs.engine.Engine.flush.Goals as goal
 pub loop-init : goal.loop-init
 loop-init g c = (
   known_none plain (g.D.Disk.is_known c.args.self.now.disk) c.args.self.now.core (g.D.Disk.byte_at c.args.self.now.disk),
-  leads_none plain (EndsBatchOnce false c.args.flusher) c.args.self.now.core (λ it. (λ g ne. refl, λ ended. absurd (let e : false ≡ true = ended in cc))),
+  leads_none plain (EndsBatchOnce false c.args.flusher) c.args.self.now.core (λ it. (λ g ne idle. idle, λ ended. absurd (let e : false ≡ true = ended in cc))),
 )
 
 pub returns-in_err-is_empty-clause-waited : goal.returns-in_err-is_empty-clause-waited

@@ -1,6 +1,8 @@
-use Rattle.std.proofs.Common.{◌≡◌, ◌+◌, refl, ap, arith}
+use Rattle.std.proofs.Common.{◌≡◌, ◌+◌, refl, sym, ap, ◌∙◌, arith}
 use Rattle.foyer_run.specs.AtRest.{LeavesIdleBelow}
-use Rattle.foyer_run.proofs.RestLemmas.{all_idle, idle_more, leads_none}
+use Rattle.foyer_run.proofs.IdleLemmas.{still_idle}
+use Rattle.foyer_serve.proofs.EngineLemmas.{left_alone}
+use Rattle.foyer_run.proofs.RestLemmas.{all_idle, flusher_more, leads_none}
 use Rattle.foyer_run.proofs.WaitingLemmas.{known_more, known_none}
 use Rattle.foyer_serve.specs.Texts.{plain}
 use Rattle.foyer_serve.proofs.engine.Engine.flush_all.Goals as goal
@@ -18,7 +20,14 @@ returns-in-Err-clause-waited g c =
 pub loop-flusher-preserved : goal.loop-flusher-preserved
 loop-flusher-preserved g c = (
   known_more plain c.args.self.now.core c.loop-flusher.self.core c.flush.new.self.core (g.D.Disk.byte_at c.args.self.now.disk) (g.D.Disk.byte_at c.loop-flusher.self.disk) (g.D.Disk.byte_at c.flush.new.self.disk) c.loop-flusher.invariant.0 (c.flush.ensures.waited),
-  idle_more plain c.loop-flusher.flusher c.args.self.now.core c.loop-flusher.self.core c.flush.new.self.core (c.loop-flusher.flusher + 1) refl c.loop-flusher.invariant.1 c.in-Ok.ensures.leads,
+  flusher_more plain c.loop-flusher.flusher c.args.self.now.core c.loop-flusher.self.core c.flush.new.self.core (c.loop-flusher.flusher + 1) refl c.loop-flusher.invariant.1 c.in-Ok.ensures.leads,
+)
+
+pub loop-flusher-preserved-then-is_idle : goal.loop-flusher-preserved-then-is_idle
+loop-flusher-preserved-then-is_idle g c = (
+  c.loop-flusher.invariant.0,
+  flusher_more plain c.loop-flusher.flusher c.args.self.now.core c.loop-flusher.self.core c.loop-flusher.self.core (c.loop-flusher.flusher + 1) refl c.loop-flusher.invariant.1
+      (left_alone c.loop-flusher.flusher c.loop-flusher.self.core (still_idle plain c.loop-flusher.self.core c.loop-flusher.flusher (λ found lt at. sym (c.is_idle.ensures.there found lt at) ∙ c.if-is_idle.true))),
 )
 
 pub returns-clause-leads : goal.returns-clause-leads

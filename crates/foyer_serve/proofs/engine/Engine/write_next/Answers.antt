@@ -1,0 +1,27 @@
+use Rattle.foyer_run.proofs.WaitingLemmas.{known_more, known_wrote}
+use Rattle.foyer_serve.specs.Texts.{plain}
+use Rattle.foyer_serve.proofs.EngineLemmas.{written_alone, written_reclaimed}
+use Rattle.foyer_serve.proofs.engine.Engine.write_next.Goals as goal
+
+pub returns-in-Err-NoSpace-clause-leads : goal.returns-in-Err-NoSpace-clause-leads
+returns-in-Err-NoSpace-clause-leads g c =
+    written_reclaimed c.args.flusher c.args.self.now.core c.write_block-wrote.new.core c.make_room.new.self.core c.write_block-wrote.ensures.leads c.make_room.ensures.leads
+
+pub returns-in-Err-NoSpace-clause-waited : goal.returns-in-Err-NoSpace-clause-waited
+returns-in-Err-NoSpace-clause-waited g c =
+    known_more plain c.args.self.now.core c.write_block-wrote.new.core c.make_room.new.self.core
+    (g.D.Disk.byte_at c.args.self.now.disk) (g.D.Disk.byte_at c.write_block-wrote.new.disk) (g.D.Disk.byte_at c.make_room.new.self.disk)
+    (known_wrote plain c.args.flusher c.write_block-wrote.result c.args.self.now.core c.write_block-wrote.new.core (g.D.Disk.byte_at c.args.self.now.disk) (g.D.Disk.byte_at c.write_block-wrote.new.disk) c.write_block-wrote.ensures.known c.write_block-wrote.ensures.writes)
+    c.make_room.ensures.waited
+
+pub returns-in_default : goal.returns-in_default
+returns-in_default g c = record {
+  leads = written_alone c.args.flusher c.args.self.now.core c.write_block-wrote.new.core c.write_block-wrote.ensures.leads;
+  waited = known_wrote plain c.args.flusher c.write_block-wrote.result c.args.self.now.core c.write_block-wrote.new.core (g.D.Disk.byte_at c.args.self.now.disk) (g.D.Disk.byte_at c.write_block-wrote.new.disk) c.write_block-wrote.ensures.known c.write_block-wrote.ensures.writes;
+}
+
+pub returns-in_default-2-clause-leads : goal.returns-in_default-2-clause-leads
+returns-in_default-2-clause-leads g c = written_alone c.args.flusher c.args.self.now.core c.write_block-wrote.new.core c.write_block-wrote.ensures.leads
+
+pub returns-in_default-2-clause-waited : goal.returns-in_default-2-clause-waited
+returns-in_default-2-clause-waited g c = known_wrote plain c.args.flusher c.write_block-wrote.result c.args.self.now.core c.write_block-wrote.new.core (g.D.Disk.byte_at c.args.self.now.disk) (g.D.Disk.byte_at c.write_block-wrote.new.disk) c.write_block-wrote.ensures.known c.write_block-wrote.ensures.writes
