@@ -67,12 +67,12 @@ module _ (A : Type 0) {C : Type 0} (rules : Rules C) (Splits : Splitting C) (is_
       none : (b : ℕ) → puts_in w.core.filling w.committed b ≡ []
       none b = ap (puts_at b (w.core.filling b)) opened.committed
 
-  run_known : (w : World C) → IsRun rules Splits is_value w → IsKnown rules Splits is_value demands w
+  pub run_known : (w : World C) → IsRun rules Splits is_value w → IsKnown rules Splits is_value demands w
   run_known w run = subst (IsKnown rules Splits is_value demands) run.is
       (all_known rules Splits is_value demands run.first run.events run.happened
       (record { sound = new_sound rules run.first run.opened; again = new_again rules run.first run.opened; sets = new_sets rules run.first run.opened }))
 
-  run_safe : (w : World C) → IsRun rules Splits is_value w → IsSafe A rules (sight_of w)
+  pub run_safe : (w : World C) → IsRun rules Splits is_value w → IsSafe A rules (sight_of w)
   run_safe w run = subst (λ k. IsSafe A rules (sight_of k)) run.is
       (all_safe A rules Splits is_value demands real run.first run.events run.happened run.well
       (record { sound = new_sound rules run.first run.opened; again = new_again rules run.first run.opened; sets = new_sets rules run.first run.opened })

@@ -234,10 +234,10 @@ module _ {C : Type 0} (rules : Rules C) (format : IsFormat rules) (small : rules
         spread = (infos_of l.now, infos_of l.later, l.made, ap infos_of l.all ∙ map-append info_of l.now l.later, l.fills, l.same, l.spread);
       }
 
-  laid_is_real : IsReal (Unit {0}) rules (IsLaidOut (sizes_of rules))
+  pub laid_is_real : IsReal (Unit {0}) rules (IsLaidOut (sizes_of rules))
   laid_is_real = record { format = format; places = laid_is_spread }
 
-  laid_demands : (is_value : C → Type 0) → HasRoundTrip rules is_value → Demands rules (IsLaidOut (sizes_of rules)) is_value
+  pub laid_demands : (is_value : C → Type 0) → HasRoundTrip rules is_value → Demands rules (IsLaidOut (sizes_of rules)) is_value
   laid_demands is_value trips = record { trips = trips; places = keeps_records rules (record { pages = format.pages; writes = format.writes }) }
 
 pub laid_restart_law_lem : {C : Type 0} (rules : Rules C) (is_value : C → Type 0) → LaidRestartLaw rules is_value

@@ -17,3 +17,4 @@ pub mod Placings
 pub mod Total
 pub mod Witness
 pub mod Layouts
+pub mod Newest

@@ -108,7 +108,7 @@ module _ (A : Type 0) {C : Type 0} (rules : Rules C) (w : World C) (sound : Worl
           go false e = refl
 
   -- a block with something in its filling isn't cleaned, unless it is dead
-  dry : (b o : ℕ) → (IsDead w.core.place w.core.reclaims b → ⊥) → (puts b ≡ [] → ⊥) → clean_covers (w.clean_states b) o ≡ false
+  pub dry : (b o : ℕ) → (IsDead w.core.place w.core.reclaims b → ⊥) → (puts b ≡ [] → ⊥) → clean_covers (w.clean_states b) o ≡ false
   dry b o alive some = go (w.clean_states b) refl
     where
       go : (k : CleanState) → w.clean_states b ≡ k → clean_covers k o ≡ false

@@ -71,7 +71,7 @@ past B p q (later {es = es} is more) =
     go p (e ∷ d ∷ es) fits = go p (d ∷ es) fits.1
 
 -- so the first place is the only one with an index
-first_only : (B : ℕ → ℕ) (q : ℕ) (es : List BlobEntryIndex) → IsScanned (record { block = 8192; index = 4096 }) B 0 q → q + 4096 ≤ 8192 → q ≡ 0
+pub first_only : (B : ℕ → ℕ) (q : ℕ) (es : List BlobEntryIndex) → IsScanned (record { block = 8192; index = 4096 }) B 0 q → q + 4096 ≤ 8192 → q ≡ 0
 first_only B q es (here) room = refl
 first_only B q es (later {es = fs} is more) room =
     let l : 4096 < behind (record { block = 8192; index = 4096 }) 0 fs = far B all_read fs is in

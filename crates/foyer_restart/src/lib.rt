@@ -6,6 +6,7 @@ ghost use Rattle.foyer_model.specs.Record.{Record};
 ghost use Rattle.foyer_model.specs.Position.{Position, BlockLayout};
 ghost use Rattle.foyer_model.specs.Rules.{Rules};
 ghost use Rattle.foyer_restart.specs.Laid.{LaidIdleLaw, LaidRestartLaw};
+ghost use Rattle.foyer_restart.specs.Newest.{LaidNewestLaw};
 ghost use Rattle.foyer_restart.specs.Real.{IsFormat};
 ghost use Rattle.foyer_restart.specs.Restart.{IdleLaw, RestartLaw};
 ghost use Rattle.foyer_restart.specs.Splits.{RealIdleLaw, RealRestartLaw, SplitIsReal};
@@ -45,6 +46,11 @@ pub fn laid_restart_law<C>()
 /// The same where no flush was under way.
 pub fn laid_idle_law<C>()
     ensures { (rules : Rules C) (is_value : C → Bool) → LaidIdleLaw rules (λ c. is_value c ≡ true) }
+{}
+
+/// What is found again is what was newest at the stop: the history of the world that the opening begins says the same of it.
+pub fn laid_newest_law<C>()
+    ensures { (rules : Rules C) (is_value : C → Bool) → LaidNewestLaw rules (λ c. is_value c ≡ true) }
 {}
 
 /// Whatever the splitter places is a placing of the model.

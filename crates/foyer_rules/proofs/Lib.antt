@@ -1,3 +1,5 @@
 pub mod OpenedWorlds
 pub mod LawLemmas
 pub mod TripLemmas
+pub mod FormatLemmas
+pub mod ReachedLemmas

@@ -1,5 +1,5 @@
 -- The model that a core is: its sizes, and what its bytes mean.
-use Rattle.std.specs.Prelude.{◌≡◌, ℕ, ◌-◌, ◌%◌, ◌^◌, ◌<◌, ◌≤◌, Bool, true, false, nat_lt, ◌&&◌, if◌then◌else◌, List, map, length, Option, Some, None}
+use Rattle.std.specs.Prelude.{◌≡◌, ℕ, ◌-◌, ◌%◌, ◌^◌, ◌<◌, ◌≤◌, Bool, true, nat_lt, ◌&&◌, if◌then◌else◌, List, map, length, Option, Some, None}
 use Rattle.std.specs.Option.{option_map}
 use Rattle.std.proofs.Common.{arith}
 use Rattle.foyer_format.specs.Page.{page_up}
@@ -45,7 +45,7 @@ holds_page size some whole = omega arith
 abbrev pub entries_at : Settings → (place : ℕ) → List ℕ → Option (List IndexEntry)
 entries_at s place b = option_map (map entry_of) (index_at (sizes_in s) place b)
 
--- The machine of these sizes and codes. A log isn't built yet.
+-- The machine of these sizes and codes.
 abbrev pub rules_of : (is_key is_value : List ℕ → Bool) (s : Settings) → AreValid s → Rules Content
 rules_of is_key is_value s sound = record {
   flushers = s.flushers;
@@ -56,7 +56,7 @@ rules_of is_key is_value s sound = record {
   room = λ f. buffer_room s;
   threshold = s.submit_queue_size_threshold;
   clean_threshold = s.clean_block_threshold;
-  has_log = false;
+  has_log = s.tombstone_log;
   page_up = page_up;
   encode = encoded;
   pair_of = λ b hash sequence. outcome_of (pair_of is_key is_value b hash sequence);

@@ -2,4 +2,5 @@ pub mod Begins
 pub mod Content
 pub mod CoreRules
 pub mod Headline
+pub mod Reached
 pub mod Sizes

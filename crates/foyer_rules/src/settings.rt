@@ -1,5 +1,5 @@
 //! The sizes that a core is opened with.
-ghost use Rattle.std.specs.Prelude.{◌≡◌, ◌^◌, ◌↔◌, IsOk, IsOkUnless};
+ghost use Rattle.std.specs.Prelude.{◌≡◌, ◌^◌, ◌↔◌, false, IsOk, IsOkUnless};
 ghost use Rattle.foyer_rules.specs.Sizes.{AreValid, buffer_room};
 
 use foyer_device::error::{Error, Result};
@@ -26,6 +26,9 @@ pub const DEFAULT_RECLAIMERS: u32 = 1;
 /// The clean blocks below which a reclaim may begin where none are given.
 pub const DEFAULT_CLEAN_BLOCK_THRESHOLD: usize = 1;
 
+/// Whether deletes are logged where nothing is said.
+pub const DEFAULT_TOMBSTONE_LOG: bool = false;
+
 /// The greatest block: offsets in a block have 32 bits.
 pub const MAX_BLOCK_SIZE: usize = 1 << 32;
 
@@ -50,6 +53,8 @@ pub struct Settings {
     pub reclaimers: u32,
     /// A reclaim may begin where fewer blocks than this are clean, and also where a flusher waits for one.
     pub clean_block_threshold: usize,
+    /// Whether each batch ends only once the log of deletes has answered for its marks.
+    pub tombstone_log: bool,
 }
 
 impl Settings {
@@ -59,6 +64,7 @@ impl Settings {
         ensures defaults { (result.blob_index_size ≡ 4096) × (result.flushers ≡ 1) × (result.indexer_shards ≡ 64)
             × (result.submit_queue_size_threshold ≡ 2 ^ 24) × (result.buffer_pool_size ≡ 2 ^ 24) }
         ensures reclaims { (result.reclaimers ≡ 1) × (result.clean_block_threshold ≡ 1) }
+        ensures log { result.tombstone_log ≡ false }
     {
         Settings {
             blocks,
@@ -70,6 +76,7 @@ impl Settings {
             buffer_pool_size: DEFAULT_BUFFER_POOL_SIZE,
             reclaimers: DEFAULT_RECLAIMERS,
             clean_block_threshold: DEFAULT_CLEAN_BLOCK_THRESHOLD,
+            tombstone_log: DEFAULT_TOMBSTONE_LOG,
         }
     }
 
@@ -87,6 +94,16 @@ impl Settings {
     {
         Settings {
             clean_block_threshold,
+            ..self
+        }
+    }
+
+    /// The same sizes, with a log of deletes or without one. Default: `DEFAULT_TOMBSTONE_LOG`.
+    pub fn with_tombstone_log(self, tombstone_log: bool) -> Settings
+        ensures { result ≡ record self { tombstone_log = tombstone_log } }
+    {
+        Settings {
+            tombstone_log,
             ..self
         }
     }
