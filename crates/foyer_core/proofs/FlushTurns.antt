@@ -1,5 +1,5 @@
 -- A flusher's step in the whole core.
-use Rattle.std.proofs.Common.{◌≡◌, ◌≢◌, ℕ, ◌+◌, ◌-◌, ◌*◌, ◌^◌, ◌<◌, ◌≤◌, false, List, [], ◌∷◌, length, map, slice_set, slice_index_or, Option, Some, None, IsSome, IsSomeAnd, Result, Ok, Err, is_ok, inl, refl, sym, ap, subst, ◌∙◌, arith}
+use Rattle.std.proofs.Common.{◌≡◌, ◌≢◌, ℕ, ◌+◌, ◌-◌, ◌*◌, ◌^◌, ◌<◌, ◌≤◌, ◌⊎◌, Bool, false, List, [], ◌∷◌, length, map, slice_set, slice_index_or, Option, Some, None, IsSome, IsSomeAnd, Result, Ok, Err, is_ok, inl, inr, refl, sym, ap, subst, ◌∙◌, arith}
 use Rattle.std.specs.Prelude.{MatchOption}
 use Rattle.foyer_block.specs.Index.{IndexMap}
 use Rattle.foyer_device.specs.declared.error.Error.{Error}
@@ -15,6 +15,7 @@ use Rattle.foyer_flusher.specs.FlusherSteps.{StandsAt, FlusherStep}
 use Rattle.foyer_rules.specs.Content.{Content, Meaning}
 use Rattle.foyer_flusher.specs.Flushing.{AreWriting, AreBatched}
 use Rattle.foyer_rules.specs.CoreRules.{machine}
+use Rattle.foyer_core.specs.Destroying.{IsDestroyAs}
 use Rattle.foyer_core.specs.Reclaiming.{reclaim_at, KeepsReclaim, AreReclaimAs}
 use Rattle.foyer_core.specs.Refines.{IsRefinedUncounted}
 use Rattle.foyer_rules.specs.Sizes.{AreValid}
@@ -45,6 +46,18 @@ pub went_is : {X : Type 0} (r : Result X Error) → is_ok r ≡ went_well r
 went_is (Ok x) = refl
 went_is (Err e) = refl
 
+-- where there is a log, it has answered
+has_answered : (has_log : Bool) (answer logged : Option Bool) → logged ≡ answer → (has_log ≡ false) ⊎ IsSome answer
+    → (has_log ≡ false) ⊎ ((ok : Bool) × (logged ≡ Some ok))
+has_answered has_log answer logged is (inl none) = inl none
+has_answered has_log None logged is (inr some) = absurd (cc)
+has_answered has_log (Some ok) logged is (inr some) = inr (ok, is)
+
+had_answered : (has_log : Bool) (answer logged : Option Bool) → logged ≡ answer → (has_log ≡ false) ⊎ ((ok : Bool) × (logged ≡ Some ok))
+    → (has_log ≡ false) ⊎ IsSome answer
+had_answered has_log answer logged is (inl none) = inl none
+had_answered has_log answer logged is (inr some) = inr (subst IsSome (sym some.1 ∙ is) refl)
+
 module _ {K V P A : Type 0} (m : Meaning K V P) (s : Settings) where
   -- a flusher of a core that stands for a state of the model
   pub stands_at : (core : Core K V P A) (it : model_state.State Content) (f : ℕ) (φ : Flusher K V P A) → IsStateOf m s core it
@@ -65,9 +78,9 @@ module _ {K V P A : Type 0} (m : Meaning K V P) (s : Settings) where
       → IsStateOf m s old it → f < length old.flushers.items
       → (done : FlusherStep m s sound given f it answer (seen ψ) new.index new.manager)
       → new.flushers.items ≡ slice_set old.flushers.items f ψ
-      → new.settings ≡ old.settings → new.next ≡ old.next → new.steps ≡ old.steps → new.closed ≡ old.closed → new.queued ≡ old.queued → KeepsReclaim old.reclaims new.reclaims
+      → new.settings ≡ old.settings → new.next ≡ old.next → new.steps ≡ old.steps → new.closed ≡ old.closed → new.queued ≡ old.queued → KeepsReclaim old.reclaims new.reclaims → new.destroy ≡ old.destroy
       → IsStateOf m s new done.after
-  core_stands sound old new it f ψ given answer stands lt done items settings next counted closed queued reclaims =
+  core_stands sound old new it f ψ given answer stands lt done items settings next counted closed queued reclaims destroy =
       let there : f < s.flushers = flusher_there old it f stands lt in
       let put_is : AreFlushersAs m s (map seen new.flushers.items) (put it.flushers f done.flusher) =
       subst (λ xs. AreFlushersAs m s (map seen xs) (put it.flushers f done.flusher)) (sym items)
@@ -95,7 +108,7 @@ module _ {K V P A : Type 0} (m : Meaning K V P) (s : Settings) where
             subst (λ (r : ℕ → Option model_state.Reclaim). AreReclaimAs s b ((done.after).place b) ((done.after).filling b) (reclaim_at new.reclaims b) (r b)) (sym done.reclaims)
             (subst (λ o. AreReclaimAs s b ((done.after).place b) ((done.after).filling b) o (it.reclaims b)) (sym (reclaims b))
             (reclaim_kept s b (it.place b) ((done.after).place b) (it.filling b) ((done.after).filling b) ((done.kept).sets b) ((done.kept).fillings b) (reclaim_at old.reclaims b) (it.reclaims b) (stands.reclaims b)));
-        destroy = done.destroy ∙ stands.destroy;
+        destroy = subst (λ d. IsDestroyAs s.blocks d (done.after).destroy) (sym destroy) (subst (IsDestroyAs s.blocks old.destroy) (sym done.destroy) stands.destroy);
       }
 
   none_laid_here : (xs : List (Block A)) → AreLaidOutAs {C = Content} (map parts_of xs) [] → xs ≡ []
@@ -105,6 +118,10 @@ module _ {K V P A : Type 0} (m : Meaning K V P) (s : Settings) where
   none_written_here : (o : Option (Writing A)) → AreWriting s o None → o ≡ None
   none_written_here None are = refl
   none_written_here (Some w) are = absurd are
+
+  -- whether there is a log
+  pub log_is : (core : Core K V P A) (it : model_state.State Content) → IsStateOf m s core it → core.settings.tombstone_log ≡ s.tombstone_log
+  log_is core it stands = ap (λ (sizes : Settings). sizes.tombstone_log) stands.sizes
 
   -- what is in turn for a flusher, and for the model's
   pub has_block : (own : Option ℕ) (o : Option (Batch K V P A)) (p : Option (model_state.Batch Content)) → AreBatched m s own o p
@@ -149,21 +166,38 @@ module _ {K V P A : Type 0} (m : Meaning K V P) (s : Settings) where
   must_write own o None are is = absurd is
   must_write own None (Some it) are is = absurd are
 
-  pub is_written : (own : Option ℕ) (o : Option (Batch K V P A)) (p : Option (model_state.Batch Content)) → AreBatched m s own o p
-      → IsSomeAnd o (λ batch. (batch.writing ≡ None) × (batch.blocks.items ≡ [])) → model.IsWritten false p
-  is_written own (Some batch) (Some it) are has =
-      (none_laid batch.blocks.items it.blocks are.blocks has.1, none_written m s batch.writing it.writing are.writing has.0, inl refl)
-  is_written own (Some batch) None are has = absurd are
-  is_written own None p are has = absurd has
+  -- the log hasn't answered for a flusher's batch, where it hasn't for the model's
+  pub is_unlogged : (own : Option ℕ) (o : Option (Batch K V P A)) (p : Option (model_state.Batch Content)) → AreBatched m s own o p
+      → IsSomeAnd o (λ batch. batch.logged ≡ None) → model.IsUnlogged p
+  is_unlogged own (Some batch) (Some it) are none = are.logged ∙ none
+  is_unlogged own (Some batch) None are none = absurd are
+  is_unlogged own None p are none = absurd none
 
-  pub was_written : (own : Option ℕ) (o : Option (Batch K V P A)) (p : Option (model_state.Batch Content)) → AreBatched m s own o p
-      → model.IsWritten false p → IsSomeAnd o (λ batch. (batch.writing ≡ None) × (batch.blocks.items ≡ []))
-  was_written own (Some batch) (Some it) are is = (
+  pub was_unlogged : (own : Option ℕ) (o : Option (Batch K V P A)) (p : Option (model_state.Batch Content)) → AreBatched m s own o p
+      → model.IsUnlogged p → IsSomeAnd o (λ batch. batch.logged ≡ None)
+  was_unlogged own (Some batch) (Some it) are none = sym are.logged ∙ none
+  was_unlogged own o None are none = absurd none
+  was_unlogged own None (Some it) are none = absurd are
+
+  pub is_written : (has_log : Bool) (own : Option ℕ) (o : Option (Batch K V P A)) (p : Option (model_state.Batch Content)) → AreBatched m s own o p
+      → IsSomeAnd o (λ batch. (batch.writing ≡ None) × (batch.blocks.items ≡ []) × ((has_log ≡ false) ⊎ IsSome batch.logged)) → model.IsWritten has_log p
+  is_written has_log own (Some batch) (Some it) are has = (
+    none_laid batch.blocks.items it.blocks are.blocks has.1,
+    none_written m s batch.writing it.writing are.writing has.0,
+    has_answered has_log batch.logged it.logged are.logged has.2,
+  )
+  is_written has_log own (Some batch) None are has = absurd are
+  is_written has_log own None p are has = absurd has
+
+  pub was_written : (has_log : Bool) (own : Option ℕ) (o : Option (Batch K V P A)) (p : Option (model_state.Batch Content)) → AreBatched m s own o p
+      → model.IsWritten has_log p → IsSomeAnd o (λ batch. (batch.writing ≡ None) × (batch.blocks.items ≡ []) × ((has_log ≡ false) ⊎ IsSome batch.logged))
+  was_written has_log own (Some batch) (Some it) are is = (
     none_written_here batch.writing (subst (λ v. AreWriting s batch.writing v) is.1 are.writing),
     none_laid_here batch.blocks.items (subst (λ layouts. AreLaidOutAs (map parts_of batch.blocks.items) layouts) is.0 are.blocks),
+    had_answered has_log batch.logged it.logged are.logged is.2,
   )
-  was_written own o None are is = absurd is
-  was_written own None (Some it) are is = absurd are
+  was_written has_log own o None are is = absurd is
+  was_written has_log own None (Some it) are is = absurd are
 
   -- a step that isn't in turn
   pub not_now : (sound : AreValid s) (old new : Core K V P A) (it : model_state.State Content) (given : Step K V P A) → IsUnchanged old new → IsStateOf m s old it

@@ -1,6 +1,8 @@
 pub mod CleanLemmas
+pub mod CleanedSteps
 pub mod Deleted
 pub mod Describing
+pub mod DestroySteps
 pub mod Enqueued
 pub mod FlushTurns
 pub mod FlusherLists
@@ -9,9 +11,13 @@ pub mod OpenedLemmas
 pub mod Opening
 pub mod QueueLemmas
 pub mod ReclaimCame
+pub mod ReclaimEnds
 pub mod ReclaimLemmas
 pub mod ReclaimReads
+pub mod ReclaimStages
 pub mod ReclaimSteps
 pub mod RefinesLemmas
+pub mod ReopenedLemmas
 pub mod StateLemmas
+pub mod StillLemmas
 pub mod TurnLemmas

@@ -1,12 +1,10 @@
 -- An opened core stands for the state with what was found.
 use Rattle.std.proofs.Common.{◌≡◌, ℕ, zero, suc, ◌<◌, ◌≤◌, nat_lt, Bool, true, false, if◌then◌else◌, replicate, List, [], length, Option, Some, None, slice_get, refl, sym, ap, subst, ◌∙◌, arith}
 use Rattle.std.specs.FinMap as finite
-use Rattle.foyer_block.specs.declared.indexer.EntryAddress.{EntryAddress}
 use Rattle.foyer_block.specs.declared.indexer.Index.{Index}
 use Rattle.foyer_block.specs.declared.indexer.Index.TheVariants.{Address, Tombstone}
 use Rattle.foyer_model.specs.Opened.{idle as plain_idle}
 use Rattle.foyer_model.specs.Rules.{Rules}
-use Rattle.foyer_model.specs.Record as model_record
 use Rattle.foyer_recover.specs.Opening.{Opened}
 use Rattle.foyer_recover.specs.Placed.{IsOpening}
 use Rattle.foyer_recover.specs.Recovery.{held_slot}
@@ -21,6 +19,7 @@ use Rattle.foyer_rules.specs.CoreRules.{machine}
 use Rattle.foyer_core.specs.Opened.{IsOpened}
 use Rattle.foyer_flusher.specs.Idle.{idle}
 use Rattle.foyer_rules.specs.Sizes.{AreValid, sizes_in}
+use Rattle.foyer_core.specs.Destroying.{IsDestroyAs}
 use Rattle.foyer_core.specs.Reclaiming.{AreReclaimAs}
 use Rattle.foyer_core.specs.StateOf.{IsStateOf, AreFlushersAs, size_of_all}
 use Rattle.foyer_standing.specs.Addresses.{address_of}
@@ -108,5 +107,5 @@ module _ {K V P A : Type 0} (m : Meaning K V P) (s : Settings) (sound : AreValid
       waits = λ is. (refl, refl);
     };
     reclaims = λ b. subst (λ r. AreReclaimAs s b (place_of s.blocks o.clean b) 0 r None) (sym (opened.reclaims b)) (not_reclaimed s.blocks o.clean b);
-    destroy = refl;
+    destroy = subst (λ d. IsDestroyAs s.blocks d model_state.NoDestroy) (sym opened.destroy) refl;
   }

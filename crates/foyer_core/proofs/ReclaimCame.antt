@@ -1,10 +1,9 @@
 -- The step that brings an index for a reclaim.
-use Rattle.std.proofs.Common.{◌≡◌, ℕ, Bool, true, false, if◌then◌else◌, List, Option, Some, None, option_map, length, refl, sym, ap, subst, ◌∙◌}
+use Rattle.std.proofs.Common.{◌≡◌, ℕ, Bool, if◌then◌else◌, List, Option, Some, None, option_map, length, refl, sym, ap, subst, ◌∙◌}
 use Rattle.std.proofs.lemmas.Bool.{eq-eqb}
-use Rattle.std.specs.Prelude.{◌==◌, IfSome}
+use Rattle.std.specs.Prelude.{IfSome}
 use Rattle.std.specs.declared.vec.Vec.{Vec}
 use Rattle.foyer_model.specs.InTurn.{InTurn}
-use Rattle.foyer_model.specs.Numbers.{put}
 use Rattle.foyer_model.specs.Reclaim.{issued_at, reclaiming, Lists, Scanned, Rereads}
 use Rattle.foyer_model.specs.Refusal.{NeedsMemory}
 use Rattle.foyer_model.specs.Reply as model_reply
@@ -14,11 +13,12 @@ use Rattle.foyer_rules.specs.Content.{Content, Meaning}
 use Rattle.foyer_rules.specs.CoreRules.{machine, layout}
 use Rattle.foyer_rules.specs.Sizes.{AreValid}
 use Rattle.foyer_rules.specs.declared.settings.Settings.{Settings}
-use Rattle.foyer_core.specs.Reclaiming.{Reclaiming, ChangesReclaim, reclaim_at, awaited, offset_of, after_index, rejected, at_offset, verdict_list, verdicts_of}
+use Rattle.foyer_core.specs.Reclaiming.{Reclaiming, ChangesReclaim, reclaim_at, awaited, after_index, rejected, at_offset, verdict_list, verdicts_of}
 use Rattle.foyer_core.specs.StateOf.{IsStateOf}
 use Rattle.foyer_core.specs.declared.state.Core.{Core}
 use Rattle.foyer_core.proofs.ReclaimReads.{IsListed, lists, would_list}
-use Rattle.foyer_core.proofs.ReclaimSteps.{Reads, reads_for, SameBeside, reclaim_stands}
+use Rattle.foyer_core.proofs.ReclaimStages.{Reads, reads_for}
+use Rattle.foyer_core.proofs.ReclaimSteps.{SameBeside, reclaim_stands}
 use Rattle.foyer_standing.specs.Standing.{IsIndexedAs}
 
 module _ {K V P : Type 0} (m : Meaning K V P) (s : Settings) (sound : AreValid s) (it : model_state.State Content) (b : ℕ) (r : Reclaiming) (bytes : List ℕ)

@@ -1,10 +1,9 @@
 -- An index that came for a reclaim, as the model lists it.
-use Rattle.std.proofs.Common.{◌≡◌, ℕ, ◌+◌, nat_le, Bool, true, false, if◌then◌else◌, List, [], ◌∷◌, ◌++◌, map, length, replicate, Option, Some, None, option_map, refl, sym, ap, subst, ◌∙◌}
+use Rattle.std.proofs.Common.{◌≡◌, ℕ, Bool, false, if◌then◌else◌, List, [], ◌++◌, map, length, replicate, Option, Some, None, option_map, refl, sym, ap, subst, ◌∙◌}
 use Rattle.std.specs.declared.vec.Vec.{Vec}
 use Rattle.foyer_blob.specs.declared.blob.BlobEntryIndex.{BlobEntryIndex}
 use Rattle.foyer_buffer.specs.Listing.{behind, placed}
 use Rattle.foyer_format.specs.Page.{page_up}
-use Rattle.foyer_model.specs.Record.{IndexEntry}
 use Rattle.foyer_model.specs.Reclaim.{addresses, admitted, place_behind, stage_after, stage_behind, issued_at, reclaiming, Lists}
 use Rattle.foyer_model.specs.State as model_state
 use Rattle.foyer_placing.specs.Bridge.{entry_of}

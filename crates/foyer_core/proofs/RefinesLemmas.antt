@@ -86,9 +86,9 @@ module _ {K V P A : Type 0} (m : Meaning K V P) where
   ordinary (reply.Scan block offset len verdicts) it not is = subst IsOrdinary (sym is) tt
   ordinary (reply.Listed verdicts) it not is = subst IsOrdinary (sym is) tt
   ordinary (reply.Clean block) it not is = subst IsOrdinary (sym is) tt
-  ordinary (reply.Destroying q) it not is = absurd is
-  ordinary reply.Cleared it not is = absurd is
-  ordinary (reply.Destroyed ok) it not is = absurd is
+  ordinary (reply.Destroying q) it not is = subst IsOrdinary (sym is) tt
+  ordinary reply.Cleared it not is = subst IsOrdinary (sym is.1) tt
+  ordinary (reply.Destroyed first) it not is = subst IsOrdinary (sym is.2) tt
 
 module _ {K V P A : Type 0} (m : Meaning K V P) (s : Settings) (sound : AreValid s) (given : Step K V P A) (old new : Core K V P A) (it : State Content) (stands : IsStateOf m s old it) where
   -- one that counts

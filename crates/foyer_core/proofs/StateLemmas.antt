@@ -9,6 +9,7 @@ use Rattle.foyer_model.specs.State as model_state
 use Rattle.foyer_model.proofs.Basics.{put_at, put_same, put_other}
 use Rattle.foyer_rules.specs.Content.{Content, Meaning}
 use Rattle.foyer_flusher.specs.Flushing.{IsFlusherAs}
+use Rattle.foyer_core.specs.Destroying.{IsDestroyAs}
 use Rattle.foyer_core.specs.Reclaiming.{AreReclaimAs}
 use Rattle.foyer_core.specs.StateOf.{AreFlushersAs, IsSizedAs, IsStateOf, size_of_all}
 use Rattle.foyer_flusher.specs.Taking.{size_in}
@@ -75,7 +76,7 @@ module _ {K V P A : Type 0} (m : Meaning K V P) (s : Settings) where
     manager = subst (λ k. IsManagedAs s k (sets_of it)) (sym same.manager) stands.manager;
     has = stands.has;
     reclaims = λ b. subst (λ o. AreReclaimAs s b (it.place b) (it.filling b) o (it.reclaims b)) (sym (same.reclaims b)) (stands.reclaims b);
-    destroy = stands.destroy;
+    destroy = subst (λ d. IsDestroyAs s.blocks d it.destroy) (sym same.destroy) stands.destroy;
   }
 
 -- the sum of the queued sizes, when one flusher changes

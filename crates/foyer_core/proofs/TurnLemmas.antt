@@ -11,7 +11,7 @@ use Rattle.foyer_rules.specs.Content.{Content, Meaning}
 use Rattle.foyer_rules.specs.CoreRules.{layout}
 use Rattle.foyer_rules.specs.CoreRules.{machine}
 use Rattle.foyer_core.specs.Refines.{IsRefinedUncounted}
-use Rattle.foyer_core.specs.Replied.{kind_of}
+use Rattle.foyer_core.specs.Destroying.{kind_of}
 use Rattle.foyer_rules.specs.Sizes.{AreValid}
 use Rattle.foyer_core.specs.StateOf.{IsStateOf}
 use Rattle.foyer_core.specs.Unchanged.{IsUnchanged}
@@ -38,6 +38,7 @@ same core = record {
   flushers = refl;
   manager = refl;
   reclaims = λ b. refl;
+  destroy = refl;
 }
 
 module _ {K V P A : Type 0} (m : Meaning K V P) (s : Settings) (sound : AreValid s) (given : Step K V P A) (old new : Core K V P A) (it : State Content) where

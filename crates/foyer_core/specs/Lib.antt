@@ -1,8 +1,10 @@
 pub mod Answered
 pub mod Asked
+pub mod Destroying
 pub mod Opened
 pub mod Reclaiming
 pub mod Refines
+pub mod Reopened
 pub mod Replied
 pub mod StateOf
 pub mod Unchanged

@@ -14,6 +14,7 @@ use Rattle.foyer_rules.specs.declared.settings.Settings.{Settings}
 use Rattle.foyer_sets.specs.BlockSets.{BlockSets}
 use Rattle.foyer_standing.specs.Standing.{IsManagedAs}
 use Rattle.foyer_core.specs.Reclaiming.{reclaim_at}
+use Rattle.foyer_core.specs.declared.destroy.Destroy.TheVariants as destroy
 use Rattle.foyer_core.specs.declared.state.Core.{Core}
 
 -- so many blocks that were never handed out: these are clean, in this order, and all others are evictable
@@ -39,6 +40,7 @@ pub record IsOpened {K V P A : Type 0} (settings : Settings) (o : Opened) (core 
   pub flushers : map seen core.flushers.items ≡ replicate settings.flushers (idle settings)
   pub manager : IsManagedAs settings core.manager (opened_sets settings.blocks o.clean)
   pub reclaims : (b : ℕ) → reclaim_at core.reclaims b ≡ None
+  pub destroy : core.destroy ≡ destroy.Absent
 
 -- What it was opened with lies in the blocks, whatever the disk gave; and where it shows its bytes, it is what these, with
 -- some failed reads, are defined to give.

@@ -1,5 +1,5 @@
 -- The reclaims that a core runs, and which of the model's they stand for.
-use Rattle.std.specs.Prelude.{◌≡◌, ◌≢◌, ℕ, ◌<◌, Bool, true, false, not, ◌&&◌, if◌then◌else◌, is_none, List, [], ◌++◌, map, length, replicate, Option, Some, None, nat_eq}
+use Rattle.std.specs.Prelude.{◌≡◌, ℕ, ◌<◌, Bool, true, false, not, ◌&&◌, if◌then◌else◌, is_none, List, [], ◌++◌, map, length, replicate, Option, Some, None, nat_eq}
 use Rattle.std.specs.HashMap.{HashMap, get}
 use Rattle.std.specs.Option.{option_map}
 use Rattle.std.specs.declared.hash.BuildHasherDefault.{BuildHasherDefault}

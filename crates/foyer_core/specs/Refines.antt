@@ -1,6 +1,5 @@
 -- Steps of a core meet the model.
-use Rattle.std.specs.Prelude.{◌≡◌, ◌⊎◌, ◌<◌, ◌^◌, ◌-◌}
-use Rattle.foyer_device.specs.declared.error.ErrorKind.TheVariants as kind
+use Rattle.std.specs.Prelude.{◌≡◌, ◌<◌, ◌^◌, ◌-◌}
 use Rattle.foyer_model.specs.Changes.{Changes}
 use Rattle.foyer_model.specs.InTurn.{InTurn}
 use Rattle.foyer_model.specs.Refusal.{MayRefuse}
@@ -23,26 +22,13 @@ use Rattle.foyer_core.specs.declared.reply.Reply.TheVariants as reply
 use Rattle.foyer_rules.specs.declared.settings.Settings.{Settings}
 use Rattle.foyer_core.specs.declared.state.Core.{Core}
 use Rattle.foyer_core.specs.declared.step.Step.{Step}
-use Rattle.foyer_core.specs.declared.step.Step.TheVariants as step
 use Rattle.foyer_core.specs.declared.step.Ticket.{Ticket}
-
--- The steps that are built: destroys and a log come later.
-abbrev pub IsBuilt : {K V P A : Type 0} → Step K V P A → Type 0
-IsBuilt (step.LogWrote flusher outcome) = ⊥
-IsBuilt step.DestroyBegin = ⊥
-IsBuilt step.DestroyClear = ⊥
-IsBuilt (step.DestroyCleaned block outcome) = ⊥
-IsBuilt given = Unit {0}
 
 -- the step comes back, out of turn or refused
 abbrev pub IsHandedBack : {K V P A : Type 0} → Reply K V P A → Type 0
 IsHandedBack (reply.NotNow back) = Unit {0}
 IsHandedBack (reply.Refused why back) = Unit {0}
 IsHandedBack answer = ⊥
-
--- the step is out of turn, or the limit of steps is reached
-abbrev pub IsPutOff : {K V P A : Type 0} → Step K V P A → Reply K V P A → Type 0
-IsPutOff given answer = (answer ≡ reply.NotNow given) ⊎ (answer ≡ reply.Refused kind.SequenceEnd given)
 
 -- The relation of the model, but for the count of steps.
 abbrev pub FollowsUncounted : {C : Type 0} → Rules C → Splitting C → State C → model_step.Step C → model_reply.Reply C → State C → Type 0

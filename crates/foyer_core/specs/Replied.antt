@@ -1,29 +1,17 @@
 -- A core's reply as the model's.
-use Rattle.std.specs.Prelude.{◌≡◌, ℕ, List, map, length, Option, Some, None}
-use Rattle.foyer_device.specs.declared.error.ErrorKind.{ErrorKind}
-use Rattle.foyer_device.specs.declared.error.ErrorKind.TheVariants as kind
+use Rattle.std.specs.Prelude.{◌≡◌, ℕ, List, map, length, Option, Some}
 use Rattle.foyer_model.specs.Position as model_position
 use Rattle.foyer_model.specs.Reply as model_reply
 use Rattle.foyer_core.specs.Asked.{ticket_of, age_of, step_of}
 use Rattle.foyer_flusher.specs.Issuing.{write_of}
 use Rattle.foyer_rules.specs.Content.{Content, Meaning, content, content_of, contents_of, returned}
 use Rattle.foyer_standing.specs.Addresses.{mark_of}
+use Rattle.foyer_core.specs.Destroying.{kind_of, IsFaultAs}
 use Rattle.foyer_core.specs.Reclaiming.{verdicts_of}
 use Rattle.foyer_core.specs.declared.reply.Reply.{Reply}
 use Rattle.foyer_core.specs.declared.reply.Reply.TheVariants as reply
 
--- the kinds by which a step is refused
-abbrev pub kind_of : ErrorKind → Option model_reply.Kind
-kind_of kind.Io = Some model_reply.Io
-kind_of kind.Memory = Some model_reply.Memory
-kind_of kind.Parse = Some model_reply.Parse
-kind_of kind.Closed = Some model_reply.Closed
-kind_of kind.Unsupported = Some model_reply.Unsupported
-kind_of kind.SequenceEnd = Some model_reply.SequenceEnd
-kind_of other = None
-
--- What a reply says. How a batch was laid out isn't said, but into how many blocks; the replies of destroys aren't
--- given yet.
+-- What a reply says. How a batch was laid out isn't said, but into how many blocks; nor is a list of all blocks.
 abbrev pub IsReply : {K V P A : Type 0} → Meaning K V P → Reply K V P A → model_reply.Reply Content → Type 0
 IsReply m (reply.NotNow back) it = it ≡ model_reply.NotNow (step_of m back)
 IsReply m (reply.Refused why back) it = (k : model_reply.Kind) × (kind_of why ≡ Some k) × (it ≡ model_reply.Refused k (step_of m back))
@@ -51,6 +39,6 @@ IsReply m (reply.Picked block answers probation) it = it ≡ model_reply.Picked 
 IsReply m (reply.Scan block offset len verdicts) it = it ≡ model_reply.Scans block offset len (verdicts_of verdicts)
 IsReply m (reply.Listed verdicts) it = it ≡ model_reply.Listed (verdicts_of verdicts)
 IsReply m (reply.Clean block) it = it ≡ model_reply.Cleans block
-IsReply m (reply.Destroying sequence) it = ⊥
-IsReply m reply.Cleared it = ⊥
-IsReply m (reply.Destroyed is_ok) it = ⊥
+IsReply m (reply.Destroying sequence) it = it ≡ model_reply.Destroying sequence
+IsReply m reply.Cleared it = (blocks : List ℕ) × (it ≡ model_reply.Cleared blocks)
+IsReply m (reply.Destroyed first) it = (fault : Option model_reply.Kind) × IsFaultAs first fault × (it ≡ model_reply.Destroyed fault)

@@ -1,5 +1,5 @@
 -- The model's states that a core stands for. They differ in what a core doesn't keep: the bytes of writes that were issued.
-use Rattle.std.specs.Prelude.{◌≡◌, ℕ, zero, suc, ◌+◌, ◌*◌, ◌^◌, ◌≤◌, List, map, length, Some, None, slice_get}
+use Rattle.std.specs.Prelude.{◌≡◌, ℕ, zero, suc, ◌+◌, ◌*◌, ◌^◌, ◌≤◌, List, map, length, Some, slice_get}
 use Rattle.foyer_model.specs.Destroy.{IsIdle}
 use Rattle.foyer_model.specs.State as model_state
 use Rattle.foyer_rules.specs.Content.{Content, Meaning}
@@ -8,6 +8,7 @@ use Rattle.foyer_standing.specs.Standing.{IsIndexedAs, sets_of, IsManagedAs, Has
 use Rattle.foyer_flusher.specs.Flushing.{IsFlusherAs}
 use Rattle.foyer_flusher.specs.Seen.{Seen, seen}
 use Rattle.foyer_flusher.specs.Taking.{size_in}
+use Rattle.foyer_core.specs.Destroying.{IsDestroyAs}
 use Rattle.foyer_core.specs.Reclaiming.{reclaim_at, AreReclaimAs}
 use Rattle.foyer_core.specs.declared.state.Core.{Core}
 
@@ -39,4 +40,4 @@ pub record IsStateOf {K V P A : Type 0} (m : Meaning K V P) (s : Settings) (core
   pub manager : IsManagedAs s core.manager (sets_of it)
   pub has : (f : ℕ) → HasItsBlocks s it.place it.waiting f (it.flushers f)
   pub reclaims : (b : ℕ) → AreReclaimAs s b (it.place b) (it.filling b) (reclaim_at core.reclaims b) (it.reclaims b)
-  pub destroy : it.destroy ≡ model_state.NoDestroy
+  pub destroy : IsDestroyAs s.blocks core.destroy it.destroy

@@ -15,3 +15,4 @@ pub record IsUnchanged {K V P A : Type 0} (old new : Core K V P A) : Type 0 wher
   pub flushers : map seen new.flushers.items ≡ map seen old.flushers.items
   pub manager : new.manager ≡ old.manager
   pub reclaims : KeepsReclaim old.reclaims new.reclaims
+  pub destroy : new.destroy ≡ old.destroy

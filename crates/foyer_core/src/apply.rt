@@ -3,7 +3,7 @@ ghost use Rattle.std.specs.Prelude.{◌≡◌, ◌<◌, ◌-◌, ◌^◌, MatchB
 ghost use Rattle.foyer_sets.specs.BuiltIn.{built_in_answer, built_in_marks};
 ghost use Rattle.foyer_core.specs.Answered.{HandsBack, Describes, MayFail, IsPicked};
 ghost use Rattle.foyer_rules.specs.Content.{meaning};
-ghost use Rattle.foyer_core.specs.Refines.{IsBuilt, IsHandedBack, IsPutOff, RefinesUncounted, Refines};
+ghost use Rattle.foyer_core.specs.Refines.{IsHandedBack, RefinesUncounted, Refines};
 ghost use Rattle.foyer_core.specs.declared.reply.Reply.TheVariants as reply;
 ghost use Rattle.foyer_core.specs.declared.step.Step.TheVariants as steps;
 
@@ -35,19 +35,16 @@ where
 {
     #[tactic(auto, using(crate::proofs::Describing::issues_counted))]
     /// Applies one step, at any time. A step that is out of turn or refused changes nothing and is handed back, and
-    /// isn't counted; after 2^64 - 1 steps each one is refused as `SequenceEnd`. Destroys and a tombstone log aren't
-    /// built yet: their steps are out of turn.
+    /// isn't counted; after 2^64 - 1 steps each one is refused as `SequenceEnd`.
     pub fn apply(&mut self, env: &mut Env, step: Step<K, V, P, A>) -> Reply<K, V, P, A>
         ensures back { HandsBack step result self.old self.new }
         ensures issued { Describes K.is_decodable V.is_decodable K.encoding V.encoding
             step result self.old self.new }
-        ensures meets { IsBuilt step → Refines
+        ensures meets { Refines
             (meaning K.encoding V.encoding K.is_encodable V.is_encodable K.is_decodable V.is_decodable P.age)
             step result self.old self.new }
         ensures failed { result ≡ reply.Failed → MayFail step self.old }
         ensures picks { step ≡ steps.ReclaimBegin → IsPicked built_in_answer built_in_marks env.old.pickers.items result self.old self.new }
-        ensures later { (IsBuilt step → ⊥) → IsPutOff step result }
-        ensures not_now { (IsBuilt step → ⊥) → self.old.steps < 2 ^ 64 - 1 → result ≡ reply.NotNow step }
     {
         if self.steps == u64::MAX {
             return Reply::Refused(ErrorKind::SequenceEnd, step);
@@ -66,12 +63,11 @@ where
         ensures back { HandsBack step result self.old self.new }
         ensures issued { Describes K.is_decodable V.is_decodable K.encoding V.encoding
             step result self.old self.new }
-        ensures meets { IsBuilt step → RefinesUncounted
+        ensures meets { RefinesUncounted
             (meaning K.encoding V.encoding K.is_encodable V.is_encodable K.is_decodable V.is_decodable P.age)
             step result self.old self.new }
         ensures failed { result ≡ reply.Failed → MayFail step self.old }
         ensures picks { step ≡ steps.ReclaimBegin → IsPicked built_in_answer built_in_marks env.old.pickers.items result self.old self.new }
-        ensures later { (IsBuilt step → ⊥) → result ≡ reply.NotNow step }
     {
         match step {
             Step::Enqueue { piece, size } => self.enqueue(piece, size),
@@ -90,6 +86,10 @@ where
                 flusher,
                 result: outcome,
             } => self.flush_wrote(env, flusher, outcome),
+            Step::LogWrote {
+                flusher,
+                result: outcome,
+            } => self.log_wrote(flusher, outcome),
             Step::FlushEnd { flusher } => self.flush_end(flusher),
             Step::ReclaimBegin => self.reclaim_begin(env),
             Step::ReclaimRead {
@@ -102,8 +102,13 @@ where
                 result: outcome,
             } => self.reclaim_cleaned(block, outcome),
             Step::ReclaimIdle => self.reclaim_idle(),
+            Step::DestroyBegin => self.destroy_begin(),
+            Step::DestroyClear => self.destroy_clear(env),
+            Step::DestroyCleaned {
+                block,
+                result: outcome,
+            } => self.destroy_cleaned(block, outcome),
             Step::Close => self.close(),
-            later => Reply::NotNow(later),
         }
     }
 }

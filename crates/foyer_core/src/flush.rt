@@ -151,6 +151,28 @@ impl<K, V, P, A: Allocator + Clone> Core<K, V, P, A> {
         }
     }
 
+    pub(crate) fn log_wrote(&mut self, flusher: u32, outcome: Result<()>) -> Reply<K, V, P, A>
+        ensures back { HandsBack (step.LogWrote flusher outcome) result self.old self.new }
+        ensures nothing { DescribesNothing result }
+        ensures meets { (m : Meaning K V P) → RefinesUncounted m (step.LogWrote flusher outcome) result self.old self.new }
+    {
+        if flusher as usize >= self.flushers.len() || !self.settings.tombstone_log {
+            return Reply::NotNow(Step::LogWrote {
+                flusher,
+                result: outcome,
+            });
+        }
+        let found = &mut self.flushers[flusher as usize];
+        if !found.is_unlogged() {
+            return Reply::NotNow(Step::LogWrote {
+                flusher,
+                result: outcome,
+            });
+        }
+        found.log(outcome.is_ok());
+        Reply::Done
+    }
+
     // Takes no memory: the lists that are handed out were made by the steps before.
     pub(crate) fn flush_end(&mut self, flusher: u32) -> Reply<K, V, P, A>
         ensures back { HandsBack (step.FlushEnd flusher) result self.old self.new }
@@ -161,7 +183,7 @@ impl<K, V, P, A: Allocator + Clone> Core<K, V, P, A> {
             return Reply::NotNow(Step::FlushEnd { flusher });
         }
         let found = &mut self.flushers[flusher as usize];
-        if !found.is_written() {
+        if !found.is_written(self.settings.tombstone_log) {
             return Reply::NotNow(Step::FlushEnd { flusher });
         }
         let Ended { pieces, waits } = found.end(&mut self.index, &mut self.manager);

@@ -17,6 +17,7 @@ ghost use Rattle.foyer_rules.specs.declared.settings.Settings.{Settings};
 pub use foyer_rules::laws::{
     answers_only, demands_are_met, headline, missed_only, puts_are_queued, steps_keep_their_clauses,
 };
+pub use foyer_rules::restart::{restart, restart_idle, restart_keeps_newest};
 
 /// An opened core stands for the state that has what was found, and the world with that state, over any bytes, is one that
 /// the laws begin with.

@@ -7,6 +7,7 @@
 
 pub mod apply;
 pub mod block;
+pub mod destroy;
 mod env;
 mod flush;
 pub mod laws;
@@ -15,6 +16,7 @@ pub mod open;
 mod queue;
 mod reclaim;
 pub mod reply;
+pub mod restart;
 
 pub use foyer_rules::settings;
 

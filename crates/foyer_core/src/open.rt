@@ -9,6 +9,7 @@ ghost use Rattle.foyer_recover.specs.Recovery.{IsRefused};
 ghost use Rattle.foyer_rules.specs.Sizes.{AreValid, sizes_in};
 ghost use Rattle.foyer_standing.specs.Standing.{IsManagedAs};
 
+use crate::destroy::Destroy;
 use crate::env::Env;
 use crate::settings::Settings;
 use crate::state::Core;
@@ -123,6 +124,7 @@ impl<K: Drop, V: Drop, P: Drop, A: Allocator + Clone> Core<K, V, P, A> {
             flushers,
             manager,
             reclaims,
+            destroy: Destroy::Absent,
         })
     }
 }

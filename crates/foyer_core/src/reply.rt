@@ -91,6 +91,6 @@ pub enum Reply<K, V, P, A: Allocator> {
     Destroying(Sequence),
     /// The index is clear. Clean every block, and bring each result.
     Cleared,
-    /// The last block's clean came; the kind of the first fault, if a clean failed.
+    /// The last block's clean came; the kind of the first fault, if a clean failed: `Io` or `Memory`.
     Destroyed(Option<ErrorKind>),
 }

@@ -2,6 +2,7 @@
 ghost use Rattle.std.specs.Prelude.{◌≡◌, ◌<◌, ◌≤◌, ◌^◌, length, vec_len};
 
 use crate::block::reclaimer::Reclaims;
+use crate::destroy::Destroy;
 use crate::settings::Settings;
 use foyer_block::indexer::Indexer;
 use foyer_flusher::flusher::Flusher;
@@ -26,6 +27,7 @@ pub struct Core<K, V, P, A: Allocator> {
     pub(crate) manager: BlockManager<A>,
     /// The reclaims that run, by their blocks.
     pub(crate) reclaims: Reclaims<A>,
+    pub(crate) destroy: Destroy<A>,
     ghost some_flusher: { 0 < vec_len flushers },
     ghost all_flushers: { length manager.ready ≡ vec_len flushers },
     ghost small_blocks: { settings.block_size ≤ 2 ^ 32 },

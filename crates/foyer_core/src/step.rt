@@ -80,12 +80,12 @@ pub enum Step<K, V, P, A: Allocator> {
         flusher: u32,
         result: Result<()>,
     },
-    /// Brings the outcome of writing the batch's marks to the tombstone log.
+    /// Brings the outcome of writing the batch's marks to the tombstone log, once for each batch. Out of turn without one.
     LogWrote {
         flusher: u32,
         result: Result<()>,
     },
-    /// Ends the batch.
+    /// Ends the batch; where there is a tombstone log, behind its outcome.
     FlushEnd {
         flusher: u32,
     },

@@ -67,10 +67,11 @@ impl<C: StorageFilterCondition, A: Allocator> StorageFilter<C, A> {
     {
         let mut wait = Duration::ZERO;
         for condition in &self.conditions {
-            match condition.filter(io, hash, size) {
-                StorageFilterResult::Admit => {}
-                StorageFilterResult::Reject => return StorageFilterResult::Reject,
+            let answer = condition.filter(io, hash, size);
+            match answer {
                 StorageFilterResult::Throttled(more) => wait = add_waits(wait, more),
+                StorageFilterResult::Admit => {}
+                StorageFilterResult::Reject => return answer,
             }
         }
         if wait.is_zero() {

@@ -138,7 +138,7 @@ module _ {K V P A : Type 0} (m : Meaning K V P) (rules : Rules Content) (s : Set
         invalidated = stands.invalidated ∙ ap (map invalid_of) (sym is.invalid);
         pieces = pieces_are m old.pieces.items it.buffer stands.given ∙ ap (map (content_of m)) (sym is.pieces);
         waits = stands.waits ∙ sym is.waits;
-        logged = refl;
+        logged = sym is.logged;
       };
     });
     queue = refl;

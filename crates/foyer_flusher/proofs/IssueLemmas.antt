@@ -159,7 +159,7 @@ module _ {A : Type 0} where
             invalidated = stands.invalidated ∙ ap (λ v. map invalid_of v.items) (sym is.invalid);
             pieces = stands.pieces ∙ ap (λ v. map (content_of m) v.items) (sym is.pieces);
             waits = stands.waits ∙ ap (λ v. v.items) (sym is.waits);
-            logged = stands.logged;
+            logged = stands.logged ∙ sym is.logged;
           };
         }
 

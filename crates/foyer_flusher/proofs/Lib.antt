@@ -4,6 +4,7 @@ pub mod CommitLemmas
 pub mod FilledLemmas
 pub mod FlushLemmas
 pub mod IssueLemmas
+pub mod LoggedLemmas
 pub mod NextLemmas
 pub mod TakenLemmas
 pub mod WroteLemmas

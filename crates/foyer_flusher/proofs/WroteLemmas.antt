@@ -5,7 +5,7 @@ use Rattle.foyer_block.specs.Insertion.{inserted_all}
 use Rattle.foyer_block.specs.Removal.{without_marks}
 use Rattle.foyer_model.specs.Commit.{commit_of}
 use Rattle.foyer_model.specs.Position.{Write}
-use Rattle.foyer_model.specs.Flush.{released, all_invalidated, invalidated_unless, commit_in, write_done, block_done, batch_failed, Wrote, Finishes}
+use Rattle.foyer_model.specs.Flush.{released, invalidated_unless, commit_in, write_done, block_done, batch_failed, Wrote, Finishes}
 use Rattle.foyer_model.specs.Index.{unmarked}
 use Rattle.foyer_model.specs.Numbers.{put}
 use Rattle.foyer_model.specs.Reply as model_reply
@@ -49,7 +49,7 @@ last_left first (w ∷ rest) ws is few = let two : length ws ≡ length (first �
 
 module _ {K V P A : Type 0} (m : Meaning K V P) (s : Settings) where
   -- another batch in a flusher
-  batch_put : (φ : Seen K V P A) (it : model_state.Flusher Content) (batch : Batch K V P A) (p : model_state.Batch Content) → IsFlusherAs m s φ it
+  pub batch_put : (φ : Seen K V P A) (it : model_state.Flusher Content) (batch : Batch K V P A) (p : model_state.Batch Content) → IsFlusherAs m s φ it
       → IsBatchAs m s φ.own batch p → IsFlusherAs m s (record φ { batch = Some batch }) (record it { batch = Some p })
   batch_put φ it batch p stands are = record {
     queue = stands.queue;
@@ -247,7 +247,7 @@ pub ended : {K V P A : Type 0} (m : Meaning K V P) (s : Settings) (sound : AreVa
     (φ : Seen K V P A) (slots : IndexMap) (blocks : Managed) → StandsAt m s f it φ slots blocks
     → (batch : Batch K V P A) → φ.batch ≡ Some batch → (slots' : IndexMap) (blocks' : Managed)
     → slots' ≡ without_marks slots batch.marks.items → HasSameRules blocks blocks'
-    → Stands blocks' (record (sets_of it) { stats = all_invalidated (map invalid_of batch.invalid.items) it.stats })
+    → Stands blocks' (record (sets_of it) { stats = invalidated_unless batch.logged (map invalid_of batch.invalid.items) it.stats })
     → HasEnded m s sound f it batch.pieces.items batch.waits.items (record φ { batch = None }) slots' blocks'
 ended m s sound f it φ slots blocks stands batch is slots' blocks' gone rules sets =
     let got = batched m s φ.own φ.batch (it.flushers f).batch (stands.flusher).batch batch is in
@@ -292,7 +292,7 @@ ended m s sound f it φ slots blocks stands batch is slots' blocks' gone rules s
           clean_threshold = rules.clean_threshold ∙ (stands.manager).clean_threshold;
           sets = ready_same blocks' (record (sets_of it) { stats = invalidated_unless (got.0).logged (got.0).invalidated it.stats }) (λ g. (new.flushers g).ready)
               (subst (λ o. Stands blocks' (record (sets_of it) { stats = invalidated_unless o (got.0).invalidated it.stats })) (sym (got.2).logged)
-              (subst (λ k. Stands blocks' (record (sets_of it) { stats = all_invalidated k it.stats })) (sym (got.2).invalidated) sets))
+              (subst (λ k. Stands blocks' (record (sets_of it) { stats = invalidated_unless batch.logged k it.stats })) (sym (got.2).invalidated) sets))
               (λ g. put_at (λ (χ : model_state.Flusher Content). χ.ready ≡ (it.flushers g).ready) it.flushers f (record (it.flushers f) { batch = None }) g
               (λ at. sym (ap (λ k. (it.flushers k).ready) at)) (λ _. refl));
         };

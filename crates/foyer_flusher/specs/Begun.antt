@@ -21,6 +21,7 @@ pub record IsBegun {K V P A : Type 0} (old new : Flusher K V P A) (marks_issued 
   pub invalid : batch.invalid.items ≡ old.invalid.items
   pub pieces : batch.pieces.items ≡ old.pieces.items
   pub waits : batch.waits.items ≡ old.waits.items
+  pub logged : batch.logged ≡ None
   pub left : seen new ≡ record {
     queue = old.queue.items;
     filled = record { entries = []; room = old.filled.room; greatest = old.filled.greatest };

@@ -77,7 +77,7 @@ pub record IsBatchAs {K V P A : Type 0} (m : Meaning K V P) (s : Settings) (own 
   pub invalidated : it.invalidated ≡ map invalid_of batch.invalid.items
   pub pieces : contents_of it.pieces ≡ map (content_of m) batch.pieces.items
   pub waits : it.waits ≡ batch.waits.items
-  pub logged : it.logged ≡ None
+  pub logged : it.logged ≡ batch.logged
 
 abbrev pub AreBatched : {K V P A : Type 0} → Meaning K V P → Settings → Option ℕ → Option (Batch K V P A) → Option (model_state.Batch Content) → Type 0
 AreBatched m s own None None = Unit {0}

@@ -39,3 +39,4 @@ module _ {K V P A : Type 0} where
     pub invalid : new.invalid ≡ old.invalid
     pub pieces : new.pieces ≡ old.pieces
     pub waits : new.waits ≡ old.waits
+    pub logged : new.logged ≡ old.logged

@@ -1,6 +1,7 @@
 pub mod BatchBegun
 pub mod Begun
 pub mod BlockIssued
+pub mod Cleared
 pub mod Failing
 pub mod Filled
 pub mod FlushInTurn

@@ -20,6 +20,7 @@ ghost use Rattle.foyer_flusher.specs.Seen.{seen};
 ghost use Rattle.foyer_flusher.specs.declared.batch.Wrote.TheVariants as wrote;
 
 use crate::flusher::{Batch, Flusher, Write, Writing};
+use crate::logged::invalidate_unless;
 use foyer_block::indexer::{HashedEntryAddress, Indexer};
 use foyer_block::manager::BlockId;
 use foyer_device::error::Result;
@@ -27,7 +28,7 @@ use foyer_device::io::bytes::{IoSlice, IoSliceMut};
 use foyer_policy::keeper::Piece;
 use foyer_sets::block::eviction::EvictionPicker;
 use foyer_sets::block::manager::BlockManager;
-use foyer_standing::manager::{filling_of, invalidate_all, release};
+use foyer_standing::manager::{filling_of, release};
 use std::alloc::Allocator;
 
 /// The next block of a batch.
@@ -274,24 +275,29 @@ impl<K, V, P, A: Allocator + Clone> Flusher<K, V, P, A> {
         Wrote::Failed
     }
 
-    /// Whether the batch has nothing left to write.
-    pub fn is_written(&self) -> bool
-        ensures { IsTrue result ↔ IsWritten self.now }
+    /// Whether the batch has nothing left to write, and the log of deletes has answered, where there is one.
+    pub fn is_written(&self, has_log: bool) -> bool
+        ensures { IsTrue result ↔ IsWritten has_log self.now }
     {
         match &self.batch {
-            Some(batch) => batch.writing.is_none() && batch.blocks.is_empty(),
+            Some(batch) => {
+                batch.writing.is_none()
+                    && batch.blocks.is_empty()
+                    && (!has_log || batch.logged.is_some())
+            }
             None => false,
         }
     }
 
-    /// Ends the batch: its marks leave the index, and what it has is given back. Its pages are kept, to be filled again,
-    /// unless somebody still has a part of them. It doesn't allocate.
+    /// Ends the batch: its marks leave the index, what they made invalid counts unless the log of deletes failed, and
+    /// what it has is given back. Its pages are kept, to be filled again, unless somebody still has a part of them. It
+    /// doesn't allocate.
     pub fn end(
         &mut self,
         index: &mut Indexer<A>,
         manager: &mut BlockManager<A>,
     ) -> Ended<K, V, P, A>
-        requires { IsWritten self.old }
+        requires { IsWritten false self.old }
         ensures ended { self.new.batch ≡ None }
         ensures same { HasSameRules manager.old manager.new }
         ensures done { (m : Meaning K V P) (s : Settings) (sound : AreValid s) (f : ℕ) (it : State Content)
@@ -311,9 +317,10 @@ impl<K, V, P, A: Allocator + Clone> Flusher<K, V, P, A> {
             invalid,
             pieces,
             waits,
+            logged,
         } = batch;
         index.remove_marks(marks.as_slice());
-        invalidate_all(manager, invalid.as_slice());
+        invalidate_unless(logged, manager, invalid.as_slice());
         keep_pages(&mut self.spare, pages);
         Ended { pieces, waits }
     }

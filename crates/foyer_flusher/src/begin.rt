@@ -45,6 +45,7 @@ impl<K, V, P, A: Allocator + Clone> Flusher<K, V, P, A> {
             invalid: mem::replace(&mut self.invalid, Vec::new(for_invalid)),
             pieces: mem::replace(&mut self.pieces, Vec::new(for_pieces)),
             waits: mem::replace(&mut self.waits, Vec::new(for_waits)),
+            logged: None,
         };
         match self.batch.replace(batch) {
             None => {}

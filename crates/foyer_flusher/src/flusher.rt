@@ -89,6 +89,8 @@ pub struct Batch<K, V, P, A: Allocator> {
     pub invalid: Vec<InvalidStats, A>,
     pub pieces: Vec<Piece<K, V, P, A>, A>,
     pub waits: Vec<u64, A>,
+    /// Whether the log of deletes took the marks, once it has answered.
+    pub logged: Option<bool>,
 }
 
 /// One flusher: its queue, what it received since the batch before, and its batch.

@@ -4,9 +4,11 @@
 
 pub mod batch;
 pub mod begin;
+pub mod clearing;
 pub mod filled;
 pub mod flusher;
 pub mod issuing;
 pub mod laws;
+pub mod logged;
 pub mod receive;
 pub mod state;

@@ -6,7 +6,7 @@ use Rattle.foyer_model.specs.World.{World, after_all}
 use Rattle.foyer_core.specs.Answered.{HandsBack}
 use Rattle.foyer_core.specs.Asked.{went_well}
 use Rattle.foyer_rules.specs.Content.{Content, Meaning}
-use Rattle.foyer_core.specs.Refines.{IsBuilt, IsPutOff, IsRefined}
+use Rattle.foyer_core.specs.Refines.{IsRefined}
 use Rattle.foyer_rules.specs.CoreRules.{machine}
 use Rattle.foyer_rules.specs.Sizes.{AreValid}
 use Rattle.foyer_core.specs.StateOf.{IsStateOf}
@@ -56,14 +56,14 @@ module _ {K V P A : Type 0} (m : Meaning K V P) (s : Settings) (sound : AreValid
   -- a step that brings no result and issues no write, alone
   pub step_alone : (encodes : Encodes m) (w : World Content) (x : Move K V P A) (given : Step K V P A) (answer : Reply K V P A) (old new : Core K V P A) (bytes : ℕ → ℕ → ℕ)
       → IsStateOf m s old w.core → ((b o : ℕ) → w.bytes b o ≡ bytes b o) → asked x ≡ asks.Step given → IsFree given
-      → HandsBack given answer old new → ((v : World Content) → IsStateOf m s old v.core → IsBuilt given → IsRefined m s sound given answer new v.core) → ((IsBuilt given → ⊥) → IsPutOff given answer)
+      → HandsBack given answer old new → ((v : World Content) → IsStateOf m s old v.core → IsRefined m s sound given answer new v.core)
       → IsGoing m s sound w (x ∷ []) (with_ticket (ticket_in answer) []) (unnoted s) (answer ∷ []) new bytes
-  step_alone encodes w x given answer old new bytes stands same is free back meets later =
+  step_alone encodes w x given answer old new bytes stands same is free back meets =
       let going = going_first m s sound w (unnoted s) old bytes stands same refl in
       let v = after_all (machine m s sound) w going.events in
       going_on m s sound w [] x [] (with_ticket (ticket_in answer) []) (unnoted s) (unnoted s) [] (answer ∷ []) old new bytes bytes going
       (subst (λ y. IsMoved m s sound w.issued w.block_writes y [] (with_ticket (ticket_in answer) []) (unnoted s) (answer ∷ []) new bytes v) (sym is)
-      (step_moves m s sound encodes w.issued w.block_writes given answer [] (with_ticket (ticket_in answer) []) (unnoted s) [] (answer ∷ []) old new bytes v going.running free back (meets v (going.running).stands) later refl refl))
+      (step_moves m s sound encodes w.issued w.block_writes given answer [] (with_ticket (ticket_in answer) []) (unnoted s) [] (answer ∷ []) old new bytes v going.running free back (meets v (going.running).stands) refl refl))
 
   -- a look-up that issues no read is a load's end too
   pub load_alone : (w : World Content) (hash : ℕ) (throttled : _) (answer : Reply K V P A) (new : Core K V P A) (bytes : ℕ → ℕ → ℕ)

@@ -75,7 +75,7 @@ module _ {K V P A : Type 0} (m : Meaning K V P) (s : Settings) (sound : AreValid
     events = Applies (model_step.FlushBlock f) met.it met.after ∷ [];
     answers = answer ∷ [];
     happened = ((tt, met.follows), tt);
-    made = inl (tt, record { it = met.it; after = met.after; answer = answer; is = refl; said_is = refl; reply = met.reply });
+    made = record { it = met.it; after = met.after; answer = answer; is = refl; said_is = refl; reply = met.reply };
     replies = ss;
     running = record {
       stands = met.stands;

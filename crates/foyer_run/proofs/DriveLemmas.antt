@@ -4,7 +4,7 @@ use Rattle.foyer_model.specs.World.{World, WorldEvent, after_all}
 use Rattle.foyer_core.specs.Answered.{HandsBack}
 use Rattle.foyer_rules.specs.Content.{Content, Meaning}
 use Rattle.foyer_rules.specs.CoreRules.{layout}
-use Rattle.foyer_core.specs.Refines.{IsBuilt, IsPutOff, IsRefined}
+use Rattle.foyer_core.specs.Refines.{IsRefined}
 use Rattle.foyer_rules.specs.CoreRules.{machine}
 use Rattle.foyer_rules.specs.CoreRules.{IsEncoded}
 use Rattle.foyer_rules.specs.Sizes.{AreValid}
@@ -61,14 +61,14 @@ module _ {K V P A : Type 0} (m : Meaning K V P) where
   -- a step that brings no result and issues no write
   pub step_drives : (encodes : Encodes m) (given : Step K V P A) (answer : Reply K V P A) (old new : Core K V P A) (bytes : ℕ → ℕ → ℕ)
       → IsFree given → HandsBack given answer old new
-      → ((s : Settings) (sound : AreValid s) (v : World Content) → IsStateOf m s old v.core → IsBuilt given → IsRefined m s sound given answer new v.core) → ((IsBuilt given → ⊥) → IsPutOff given answer)
+      → ((s : Settings) (sound : AreValid s) (v : World Content) → IsStateOf m s old v.core → IsRefined m s sound given answer new v.core)
       → Drives m old new bytes bytes
-  step_drives encodes given answer old new bytes free back meets later s sound w stands same =
+  step_drives encodes given answer old new bytes free back meets s sound w stands same =
       let going = going_first m s sound w (unnoted s) old bytes stands same refl in
       let rules = machine m s sound in
       let v = after_all rules w going.events in
       let moved = step_moves m s sound encodes w.issued w.block_writes given answer [] (with_ticket (ticket_in answer) []) (unnoted s) [] (answer ∷ []) old new bytes v going.running free back
-      (meets s sound v (going.running).stands) later refl refl in record {
+      (meets s sound v (going.running).stands) refl refl in record {
         events = going.events ++ moved.events;
         happened = happen_more rules (layout s) (IsEncoded m.is_key m.is_value) w going.events moved.events going.happened moved.happened;
         stands = subst (λ u. IsStateOf m s new u.core) (sym (after_more rules w going.events moved.events)) (moved.running).stands;
@@ -78,11 +78,11 @@ module _ {K V P A : Type 0} (m : Meaning K V P) where
   -- the same, as a run of the move that is this step
   pub step_says : (encodes : Encodes m) (x : Move K V P A) (given : Step K V P A) (answer : Reply K V P A) (old new : Core K V P A) (bytes : ℕ → ℕ → ℕ)
       → asked x ≡ asks.Step given → IsFree given → HandsBack given answer old new
-      → ((s : Settings) (sound : AreValid s) (v : World Content) → IsStateOf m s old v.core → IsBuilt given → IsRefined m s sound given answer new v.core) → ((IsBuilt given → ⊥) → IsPutOff given answer)
+      → ((s : Settings) (sound : AreValid s) (v : World Content) → IsStateOf m s old v.core → IsRefined m s sound given answer new v.core)
       → Says m (x ∷ []) answer old new bytes bytes
-  step_says encodes x given answer old new bytes is free back meets later =
+  step_says encodes x given answer old new bytes is free back meets =
       says_last m (x ∷ []) (with_ticket (ticket_in answer) []) [] answer old new bytes bytes
-      (λ s sound w stands same. step_alone m s sound encodes w x given answer old new bytes stands same is free back (meets s sound) later)
+      (λ s sound w stands same. step_alone m s sound encodes w x given answer old new bytes stands same is free back (meets s sound))
 
   -- a history goes on
   pub history_more : (s : Settings) (sound : AreValid s) (first : World Content) (events : List (WorldEvent Content)) (old new : Core K V P A) (bytes bytes' : ℕ → ℕ → ℕ)

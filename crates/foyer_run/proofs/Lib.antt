@@ -1,5 +1,7 @@
 pub mod AccessLemmas
 pub mod BlockLemmas
+pub mod DestroyLemmas
+pub mod DestroyRuns
 pub mod DriveLemmas
 pub mod DueLemmas
 pub mod FlusherSteps

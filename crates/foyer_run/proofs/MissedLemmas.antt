@@ -124,9 +124,8 @@ module _ {K V P A : Type 0} (m : Meaning K V P) where
   put_or_fault x (reply.Refused why back) it (k, issued, is) what = absurd (let e : None ≡ Some k = issued in cc)
   put_or_fault x (reply.Began blocks marks) it (ss, count, is) what = absurd (subst (Gives x) is what)
   put_or_fault x (reply.Ended pieces waits) it (ps, same, is) what = absurd (subst (Gives x) is what)
-  put_or_fault x (reply.Destroying q) it is what = absurd is
-  put_or_fault x reply.Cleared it is what = absurd is
-  put_or_fault x (reply.Destroyed well) it is what = absurd is
+  put_or_fault x reply.Cleared it (blocks, is) what = absurd (subst (Gives x) is what)
+  put_or_fault x (reply.Destroyed first) it (fault, as_model, is) what = absurd (subst (Gives x) is what)
   put_or_fault x answer it is what = absurd (subst (Gives x) is what)
 
   -- a reply that issues a read is the core's own
@@ -134,9 +133,8 @@ module _ {K V P A : Type 0} (m : Meaning K V P) where
   issues_read (reply.Read ticket) t is = (ticket, refl)
   issues_read (reply.Began blocks marks) t (ss, count, is) = absurd (cc)
   issues_read (reply.Ended pieces waits) t (ps, same, is) = absurd (cc)
-  issues_read (reply.Destroying q) t is = absurd is
-  issues_read reply.Cleared t is = absurd is
-  issues_read (reply.Destroyed well) t is = absurd is
+  issues_read reply.Cleared t (blocks, is) = absurd (cc)
+  issues_read (reply.Destroyed first) t (fault, as_model, is) = absurd (cc)
   issues_read (reply.Refused why back) t (k, issued, is) = absurd (cc)
   issues_read answer t is = absurd (cc)
 

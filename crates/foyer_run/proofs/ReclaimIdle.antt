@@ -194,9 +194,9 @@ module _ {K V P A : Type 0} (m : Meaning K V P) where
   sorted (reply.Scan block offset len verdicts) it is = ap sort is
   sorted (reply.Listed verdicts) it is = ap sort is
   sorted (reply.Clean block) it is = ap sort is
-  sorted (reply.Destroying q) it is = absurd is
-  sorted reply.Cleared it is = absurd is
-  sorted (reply.Destroyed ok) it is = absurd is
+  sorted (reply.Destroying q) it is = ap sort is
+  sorted reply.Cleared it is = ap sort is.1
+  sorted (reply.Destroyed first) it is = ap sort is.2
 
   over_of : (answer : Reply K V P A) → (sort_of answer ≡ Finishing) ⊎ (sort_of answer ≡ Back) → (answer ≡ reply.Done) ⊎ IsHandedBack answer
   over_of reply.Done is = inl refl

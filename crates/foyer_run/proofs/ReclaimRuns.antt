@@ -72,12 +72,12 @@ pub clean_done : {X : Type 0} (old new : ℕ → ℕ → ℕ) (b : ℕ) (outcome
 clean_done old new b (Ok x) cleaned torn = cleaned
 clean_done old new b (Err e) cleaned torn = torn
 
-done_torn : (old new : ℕ → ℕ → ℕ) (b : ℕ) (ok : Bool) → IsCleanDone old new b ok → IsTorn old b 0 page new
+pub done_torn : (old new : ℕ → ℕ → ℕ) (b : ℕ) (ok : Bool) → IsCleanDone old new b ok → IsTorn old b 0 page new
 done_torn old new b true is = is.1
 done_torn old new b false is = is
 
 -- the world's bytes after it are the disk's
-clean_same : (bytes old new : ℕ → ℕ → ℕ) (b : ℕ) (ok : Bool) → IsCleanDone old new b ok → ((c o : ℕ) → bytes c o ≡ old c o)
+pub clean_same : (bytes old new : ℕ → ℕ → ℕ) (b : ℕ) (ok : Bool) → IsCleanDone old new b ok → ((c o : ℕ) → bytes c o ≡ old c o)
     → (c o : ℕ) → put bytes b (if ok then cleaned_page (bytes b) else new b) c o ≡ new c o
 clean_same bytes old new b ok is same c o =
     put_at (λ f. f o ≡ new c o) bytes b (if ok then cleaned_page (bytes b) else new b) c

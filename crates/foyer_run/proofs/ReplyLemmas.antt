@@ -4,7 +4,7 @@ use Rattle.foyer_model.specs.Reply as model_reply
 use Rattle.foyer_core.specs.Asked.{ticket_of}
 use Rattle.foyer_rules.specs.Content.{Content, Meaning}
 use Rattle.foyer_core.specs.declared.step.Step.{Step}
-use Rattle.foyer_core.specs.Refines.{IsHandedBack, IsPutOff}
+use Rattle.foyer_core.specs.Refines.{IsHandedBack}
 use Rattle.foyer_core.specs.Replied.{IsReply}
 use Rattle.foyer_core.specs.declared.reply.Reply.{Reply}
 use Rattle.foyer_core.specs.declared.reply.Reply.TheVariants as reply
@@ -82,9 +82,9 @@ module _ {K V P A : Type 0} (m : Meaning K V P) where
   sorted (reply.Scan block offset len verdicts) it is = ap sort is
   sorted (reply.Listed verdicts) it is = ap sort is
   sorted (reply.Clean block) it is = ap sort is
-  sorted (reply.Destroying q) it is = absurd is
-  sorted reply.Cleared it is = absurd is
-  sorted (reply.Destroyed ok) it is = absurd is
+  sorted (reply.Destroying q) it is = ap sort is
+  sorted reply.Cleared it is = ap sort is.1
+  sorted (reply.Destroyed first) it is = ap sort is.2
 
   not_read : (answer : Reply K V P A) → ticket_in answer ≡ None → sort_of answer ≡ Reads → ⊥
   not_read (reply.Read t) none e = let f : Some t ≡ None = none in cc
@@ -136,11 +136,6 @@ module _ {K V P A : Type 0} (m : Meaning K V P) where
   reads answer it t e is = absurd (let f : None ≡ Some t = e in cc)
 
 -- a step that comes back issues nothing
--- a step that is put off comes back
-pub put_off_back : {K V P A : Type 0} (given : Step K V P A) (answer : Reply K V P A) → IsPutOff given answer → IsHandedBack answer
-put_off_back given answer (inl e) = subst IsHandedBack (sym e) tt
-put_off_back given answer (inr e) = subst IsHandedBack (sym e) tt
-
 pub back_issued : {K V P A : Type 0} (answer : Reply K V P A) → IsHandedBack answer → ticket_in answer ≡ None
 back_issued (reply.NotNow back) handed = refl
 back_issued (reply.Refused why back) handed = refl

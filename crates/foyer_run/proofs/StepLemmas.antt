@@ -10,7 +10,7 @@ use Rattle.foyer_core.specs.Answered.{HandsBack}
 use Rattle.foyer_core.specs.Asked.{step_of, ticket_of}
 use Rattle.foyer_rules.specs.Content.{Content, Meaning, content, meaning}
 use Rattle.foyer_rules.specs.CoreRules.{layout}
-use Rattle.foyer_core.specs.Refines.{IsBuilt, IsHandedBack, IsPutOff, IsRefined}
+use Rattle.foyer_core.specs.Refines.{IsHandedBack, IsRefined}
 use Rattle.foyer_rules.specs.CoreRules.{machine}
 use Rattle.foyer_rules.specs.CoreRules.{IsEncoded}
 use Rattle.foyer_core.specs.Replied.{IsReply}
@@ -30,7 +30,7 @@ use Rattle.foyer_run.specs.declared.moves.Asked.TheVariants as asks
 use Rattle.foyer_run.specs.declared.moves.Issued.{Issued}
 use Rattle.foyer_run.proofs.DueLemmas.{loads_stay, issued_stays, block_writes_stay, IsBeside}
 use Rattle.foyer_run.proofs.ListLemmas.{get_left, get_pushed, pushed_count}
-use Rattle.foyer_run.proofs.ReplyLemmas.{put_off_back, no_read, reads, back_issued}
+use Rattle.foyer_run.proofs.ReplyLemmas.{no_read, reads}
 
 -- the reads that are due
 abbrev pub AreUnread : {C : Type 0} → ℕ → List (Option Ticket) → (ℕ → Option (Load C)) → Type 0
@@ -108,63 +108,28 @@ module _ {K V P A : Type 0} (m : Meaning K V P) where
     fed w (step.DestroyCleaned block outcome) free = absurd free
     fed w given free = tt
 
-    built : (given : Step K V P A) → IsBuilt given ⊎ (IsBuilt given → ⊥)
-    built (step.LogWrote flusher outcome) = inr (λ b. b)
-    built step.DestroyBegin = inr (λ b. b)
-    built step.DestroyClear = inr (λ b. b)
-    built (step.DestroyCleaned block outcome) = inr (λ b. b)
-    built given = inl tt
-
-    unchanged : (given : Step K V P A) (answer : Reply K V P A) (old new : Core K V P A) → IsHandedBack answer → HandsBack given answer old new → IsUnchanged old new
-    unchanged given (reply.NotNow back) old new handed back_is = back_is.1
-    unchanged given (reply.Refused why back) old new handed back_is = back_is.1
-    unchanged given answer old new handed back_is = absurd handed
-
     -- a step that brings no result and issues no write
     pub step_moves : (first : ℕ) (block_writes : ℕ → BlockWrites) (given : Step K V P A) (answer : Reply K V P A) (tickets tickets' : List (Option Ticket)) (issued : List (Option Issued)) (said said' : List (Reply K V P A))
         (old new : Core K V P A) (bytes : ℕ → ℕ → ℕ) (w : World Content) → IsRunning m s first block_writes tickets issued said old bytes w → IsFree given
-        → HandsBack given answer old new → (IsBuilt given → IsRefined m s sound given answer new w.core) → ((IsBuilt given → ⊥) → IsPutOff given answer)
+        → HandsBack given answer old new → IsRefined m s sound given answer new w.core
         → tickets' ≡ with_ticket (ticket_in answer) tickets → said' ≡ said ++ answer ∷ []
         → IsMoved m s sound first block_writes (asks.Step given) said tickets' issued said' new bytes w
-    step_moves first block_writes given answer tickets tickets' issued said said' old new bytes w running free back meets later ts ss = go (built given)
-      where
-        go : IsBuilt given ⊎ (IsBuilt given → ⊥) → IsMoved m s sound first block_writes (asks.Step given) said tickets' issued said' new bytes w
-        go (inl is) =
-            let met = meets is in
-            let reads = unread_goes first w.issued tickets w.loads w.history w.kept answer met.it met.reply running.count running.loads in
-            record {
-              events = Applies (step_of m given) met.it met.after ∷ [];
-              answers = answer ∷ [];
-              happened = ((fed w given free, met.follows), tt);
-              made = inl (is, record { it = met.it; after = met.after; answer = answer; is = refl; said_is = refl; reply = met.reply });
-              replies = ss;
-              running = record {
-                stands = met.stands;
-                same = running.same;
-                count = reads.0 ∙ ap (λ xs. first + length xs) (sym ts);
-                loads = subst (λ xs. AreUnread first xs (loads_after met.it w.history w.kept w.issued w.loads)) (sym ts) reads.1;
-                flushers = running.flushers;
-                writes = λ f. subst (λ xs. IsDue (block_writes f) xs (at (slice_get issued f)) (block_writes_after met.it (step_of m given) w.block_writes f)) (sym ss)
-                    (due_more (block_writes f) said (answer ∷ []) (at (slice_get issued f)) _
-                    (subst (λ all. IsDue (block_writes f) said (at (slice_get issued f)) (all f)) (sym (block_writes_stay met.it (step_of m given) w.block_writes (free_beside given free))) (running.writes f)));
-              };
-            }
-        go (inr not) =
-            let handed = put_off_back given answer (later not) in
-            let same : tickets' ≡ tickets = ts ∙ ap (λ o. with_ticket o tickets) (back_issued answer handed) in
-            record {
-              events = [];
-              answers = answer ∷ [];
-              happened = tt;
-              made = inr (record { answer = answer; later = not; is = refl; said_is = refl; back = later not });
-              replies = ss;
-              running = record {
-                stands = unchanged_stands m s old new w.core (unchanged given answer old new handed back) running.stands;
-                same = running.same;
-                count = running.count ∙ ap (λ xs. first + length xs) (sym same);
-                loads = subst (λ xs. AreUnread first xs w.loads) (sym same) running.loads;
-                flushers = running.flushers;
-                writes = λ f. subst (λ xs. IsDue (block_writes f) xs (at (slice_get issued f)) (w.block_writes f)) (sym ss)
-                    (due_more (block_writes f) said (answer ∷ []) (at (slice_get issued f)) _ (running.writes f));
-              };
-            }
+    step_moves first block_writes given answer tickets tickets' issued said said' old new bytes w running free back met ts ss =
+        let reads = unread_goes first w.issued tickets w.loads w.history w.kept answer met.it met.reply running.count running.loads in
+        record {
+          events = Applies (step_of m given) met.it met.after ∷ [];
+          answers = answer ∷ [];
+          happened = ((fed w given free, met.follows), tt);
+          made = record { it = met.it; after = met.after; answer = answer; is = refl; said_is = refl; reply = met.reply };
+          replies = ss;
+          running = record {
+            stands = met.stands;
+            same = running.same;
+            count = reads.0 ∙ ap (λ xs. first + length xs) (sym ts);
+            loads = subst (λ xs. AreUnread first xs (loads_after met.it w.history w.kept w.issued w.loads)) (sym ts) reads.1;
+            flushers = running.flushers;
+            writes = λ f. subst (λ xs. IsDue (block_writes f) xs (at (slice_get issued f)) (block_writes_after met.it (step_of m given) w.block_writes f)) (sym ss)
+                (due_more (block_writes f) said (answer ∷ []) (at (slice_get issued f)) _
+                (subst (λ all. IsDue (block_writes f) said (at (slice_get issued f)) (all f)) (sym (block_writes_stay met.it (step_of m given) w.block_writes (free_beside given free))) (running.writes f)));
+          };
+        }

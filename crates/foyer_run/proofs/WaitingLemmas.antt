@@ -13,9 +13,10 @@ use Rattle.foyer_core.specs.declared.reply.Reply.{Reply}
 use Rattle.foyer_core.specs.declared.reply.Reply.TheVariants as reply
 use Rattle.foyer_rules.specs.declared.settings.Settings.{Settings}
 use Rattle.foyer_core.specs.declared.state.Core.{Core}
+use Rattle.foyer_core.specs.declared.step.Step.{Step}
 use Rattle.foyer_core.specs.declared.step.Step.TheVariants as step
 use Rattle.foyer_run.specs.Accesses.{Says, Writes, writes_of}
-use Rattle.foyer_run.specs.Moves.{asked, AreMade, Makes, IsStepped}
+use Rattle.foyer_run.specs.Moves.{asked, AreMade, Makes, IsApplied}
 use Rattle.foyer_run.specs.Runs.{Runs}
 use Rattle.foyer_run.specs.Waiting.{AllSteps, IsWaiting, IsClosing, DrivesBy, Waits, Closes}
 use Rattle.foyer_run.specs.declared.moves.Asked.{Asked}
@@ -24,7 +25,7 @@ use Rattle.foyer_run.specs.declared.moves.Move.{Move}
 use Rattle.foyer_run.specs.declared.moves.Move.TheVariants as move
 use Rattle.foyer_run.proofs.RunLemmas.{after_more, happen_more}
 
-all_join : {C : Type 0} (Is : model_step.Step C → Type 0) (one two : List (WorldEvent C)) → AllSteps Is one → AllSteps Is two → AllSteps Is (one ++ two)
+pub all_join : {C : Type 0} (Is : model_step.Step C → Type 0) (one two : List (WorldEvent C)) → AllSteps Is one → AllSteps Is two → AllSteps Is (one ++ two)
 all_join Is [] two all others = others
 all_join Is (Applies given answer after ∷ one) two all others = (all.0, all_join Is one two all.1 others)
 all_join Is (event ∷ one) two all others = all_join Is one two all others
@@ -47,9 +48,8 @@ module _ {K V P A : Type 0} (m : Meaning K V P) where
   AllMake Is [] = Unit {0}
   AllMake Is (x ∷ xs) = MakesOnly Is (asked x) × AllMake Is xs
 
-  stepped_only : (Is : model_step.Step Content → Type 0) (given : _) (events : List (WorldEvent Content)) (said : List (Reply K V P A)) → IsStepped m given events said → Is (step_of m given) → AllSteps Is events
-  stepped_only Is given events said (inl applied) is = subst (AllSteps Is) (sym (applied.1).is) (is, tt)
-  stepped_only Is given events said (inr later) is = subst (AllSteps Is) (sym later.is) tt
+  stepped_only : (Is : model_step.Step Content → Type 0) (given : Step K V P A) (events : List (WorldEvent Content)) (said : List (Reply K V P A)) → IsApplied m [] (step_of m given) events said → Is (step_of m given) → AllSteps Is events
+  stepped_only Is given events said applied is = subst (AllSteps Is) (sym applied.is) (is, tt)
 
   makes_only : (Is : model_step.Step Content → Type 0) (first : ℕ) (block_writes : ℕ → BlockWrites) (w : World Content) (x : Asked K V P A) (events : List (WorldEvent Content)) (said : List (Reply K V P A))
       → Makes m first block_writes w x events said → MakesOnly Is x → AllSteps Is events
@@ -96,9 +96,14 @@ module _ {K V P A : Type 0} (m : Meaning K V P) where
         all_join IsWaiting (one.0).events (two.0).events one.1 two.1,
       )
 
+  -- one step
+  pub said_by : (Is : model_step.Step Content → Type 0) (y : Move K V P A) (last : Reply K V P A) (a b : Core K V P A) (bytes : ℕ → ℕ → ℕ) → MakesOnly Is (asked y) → Says m (y ∷ []) last a b bytes bytes
+      → DrivesBy (AllSteps Is) m a b bytes bytes
+  said_by Is y last a b bytes is says = runs_by Is (y ∷ []) (says.before ++ last ∷ []) a b bytes bytes (is, tt) says.runs
+
   -- one step of a wait
   pub waits_said : (y : Move K V P A) (last : Reply K V P A) (a b : Core K V P A) (bytes : ℕ → ℕ → ℕ) → MakesOnly IsWaiting (asked y) → Says m (y ∷ []) last a b bytes bytes → Waits m a b bytes bytes
-  waits_said y last a b bytes is says = runs_by IsWaiting (y ∷ []) (says.before ++ last ∷ []) a b bytes bytes (is, tt) says.runs
+  waits_said = said_by IsWaiting
 
   writes_by : (Is : model_step.Step Content → Type 0) (core : Core K V P A) (f n : ℕ) → ((is_ok : Bool) → Is (model_step.FlushWrote f is_ok)) → AllMake Is (replicate n (move.FlushWrote f))
   writes_by Is core f zero are = tt
@@ -138,9 +143,8 @@ module _ {K V P A : Type 0} (m : Meaning K V P) where
       let run = (says.runs) s sound w stands same in
       (record { events = run.events; happened = run.happened; stands = run.stands; same = run.same }, subst IsClosing (sym (run.made).is) (go (run.made).now (run.made).later ((run.made).more).0 (run.made).made))
     where
-      go : (now later : List (WorldEvent Content)) {said : List (Reply K V P A)} → later ≡ [] → IsStepped m step.Close now said → IsClosing (now ++ later)
-      go now later none (inl applied) = subst (λ l. IsClosing (now ++ l)) (sym none) (subst (λ n. IsClosing (n ++ [])) (sym (applied.1).is) tt)
-      go now later none (inr not) = absurd (not.later tt)
+      go : (now later : List (WorldEvent Content)) {said : List (Reply K V P A)} → later ≡ [] → IsApplied m [] model_step.Close now said → IsClosing (now ++ later)
+      go now later none applied = subst (λ l. IsClosing (now ++ l)) (sym none) (subst (λ n. IsClosing (n ++ [])) (sym applied.is) tt)
 
   -- and a wait behind it
   pub closes_more : (a b c : Core K V P A) (x y z : ℕ → ℕ → ℕ) → Closes m a b x y → Waits m b c y z → Closes m a c x z

@@ -1,5 +1,6 @@
 pub mod Accesses
 pub mod AtRest
+pub mod Destroys
 pub mod Driven
 pub mod Due
 pub mod Lawful

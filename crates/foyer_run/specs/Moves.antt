@@ -7,7 +7,6 @@ use Rattle.foyer_model.specs.Step as model_step
 use Rattle.foyer_model.specs.World.{World, WorldEvent, Applies, ReadBegins, ReadEnds, WriteBegins, WriteEnds, after_all}
 use Rattle.foyer_core.specs.Asked.{step_of}
 use Rattle.foyer_rules.specs.Content.{Content, Meaning}
-use Rattle.foyer_core.specs.Refines.{IsBuilt, IsPutOff}
 use Rattle.foyer_rules.specs.CoreRules.{machine}
 use Rattle.foyer_core.specs.Replied.{IsReply}
 use Rattle.foyer_rules.specs.Sizes.{AreValid}
@@ -59,23 +58,12 @@ module _ {K V P A : Type 0} (m : Meaning K V P) where
   abbrev pub IsPassed : List (WorldEvent Content) → List (Reply K V P A) → Type 0
   IsPassed events said = (events ≡ []) × (said ≡ [])
 
-  -- a step that isn't built: nothing happens, and it is put off
-  pub record IsLater (given : Step K V P A) (events : List (WorldEvent Content)) (said : List (Reply K V P A)) : Type 0 where
-    pub answer : Reply K V P A
-    pub later : IsBuilt given → ⊥
-    pub is : events ≡ []
-    pub said_is : said ≡ answer ∷ []
-    pub back : IsPutOff given answer
-
-  abbrev pub IsStepped : Step K V P A → List (WorldEvent Content) → List (Reply K V P A) → Type 0
-  IsStepped given events said = (IsBuilt given × IsApplied [] (step_of m given) events said) ⊎ IsLater given events said
-
   -- What a move makes in a world, in a run whose first ticket has this number, and that began with these writes of flushers. A load
   -- ends where its read was issued and hasn't begun, with that read before it. A write is reported where one is due, with
   -- that write before it: it is passed over only where none is due, or none was issued in this run.
   abbrev pub Makes : (first : ℕ) → (ℕ → BlockWrites) → World Content → Asked K V P A → List (WorldEvent Content) → List (Reply K V P A) → Type 0
-  Makes first block_writes w (asks.Step given) events said = IsStepped given events said
-  Makes first block_writes w (asks.FlushBlock f) events said = IsStepped (step.FlushBlock f) events said
+  Makes first block_writes w (asks.Step given) events said = IsApplied [] (step_of m given) events said
+  Makes first block_writes w (asks.FlushBlock f) events said = IsApplied [] (model_step.FlushBlock f) events said
   Makes first block_writes w (asks.LoadEnd n) events said =
       (IsPassed events said × ((unread (w.loads (first + n)) ≡ None) ⊎ (w.issued ≤ first + n)))
       ⊎ ((t : model_step.Ticket) × (came : model_step.ReadResult) × (unread (w.loads (first + n)) ≡ Some t)

@@ -4,7 +4,7 @@ ghost use Rattle.foyer_model.specs.World.{World, WorldEvent};
 ghost use Rattle.foyer_rules.specs.Content.{Content, Meaning, meaning};
 ghost use Rattle.foyer_rules.specs.Sizes.{AreValid};
 ghost use Rattle.foyer_rules.specs.declared.settings.Settings.{Settings};
-ghost use Rattle.foyer_core.specs.Refines.{IsBuilt, Refines};
+ghost use Rattle.foyer_core.specs.Refines.{Refines};
 ghost use Rattle.foyer_core.specs.declared.state.Core.{Core};
 ghost use Rattle.foyer_run.specs.Accesses.{AsksNoMore, Says, Writes, load_of};
 ghost use Rattle.foyer_run.specs.AtRest.{KeepsOthers, Leads};
@@ -44,7 +44,7 @@ where
     ensures drives { (bytes : ℕ → ℕ → ℕ) → Drives
         (meaning K.encoding V.encoding K.is_encodable V.is_encodable K.is_decodable V.is_decodable P.age)
         core.old core.new bytes bytes }
-    ensures meets { IsBuilt given → Refines
+    ensures meets { Refines
         (meaning K.encoding V.encoding K.is_encodable V.is_encodable K.is_decodable V.is_decodable P.age)
         given result core.old core.new }
 {

@@ -108,7 +108,7 @@ enum Asked<K, V, P, A: Allocator> {
     FlushBlock(u32),
     LoadEnd(usize),
     FlushWrote(u32),
-    // The result of an access that no reply issues yet.
+    // The result of an access that a list of moves doesn't do: a reclaim's or a destroy's.
     Nothing,
 }
 
@@ -466,7 +466,7 @@ fn begin<K, V, P, A: Allocator + Clone>(
 ///
 /// An access that a reply issued is done when its move comes, once, and a fault of the disk is the step's result. A move
 /// whose access wasn't issued in this run, or is done, is passed over; so is a write behind one that failed, or behind one
-/// whose report came back. `Memory` where the result of an access, or the list of replies, couldn't be had: then some
+/// whose report came back, and what brings a reclaim's read or a clean: `reclaim_block` and `clear_blocks` do those. `Memory` where the result of an access, or the list of replies, couldn't be had: then some
 /// front of the moves was run, and the others are dropped.
 pub fn run<K, V, P, A, D>(
     core: &mut Core<K, V, P, A>,

@@ -141,7 +141,7 @@ where
 }
 
 // Cleans a block: its first page becomes zeros.
-fn clean_block<D: Disk>(disk: &mut D, block: BlockId) -> Result<()>
+pub(crate) fn clean_block<D: Disk>(disk: &mut D, block: BlockId) -> Result<()>
     ensures cleaned { D.is_known disk.old → OnOk result (IsCleaned (D.byte_at disk.old) block (D.byte_at disk.new)) }
     ensures torn { D.is_known disk.old → OnErr result (IsTorn (D.byte_at disk.old) block 0 page (D.byte_at disk.new)) }
     ensures known { D.is_known disk.old → D.is_known disk.new }

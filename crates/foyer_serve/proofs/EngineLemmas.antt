@@ -8,6 +8,7 @@ use Rattle.foyer_core.specs.declared.reply.Reply.{Reply}
 use Rattle.foyer_core.specs.declared.reply.Reply.TheVariants as reply
 use Rattle.foyer_core.specs.declared.state.Core.{Core}
 use Rattle.foyer_run.specs.AtRest.{IsFlusherIdle, KeepsIdle, KeepsOthers, KeepsOthersIdle, Leads, LeavesIdle}
+use Rattle.foyer_run.specs.Destroys.{Destroys}
 use Rattle.foyer_run.specs.Waiting.{Waits}
 use Rattle.foyer_device.specs.declared.error.Error.{Error}
 use Rattle.foyer_rules.specs.Sizes.{AreValid}
@@ -16,15 +17,40 @@ use Rattle.foyer_model.specs.Record.{Outcome}
 use Rattle.foyer_recover.specs.declared.block.recover.RecoverMode.TheVariants as recover_mode
 use Rattle.foyer_run.specs.Begun.{IsBegun, IsBegunEmpty}
 use Rattle.foyer_run.specs.Newest.{IsMissedOnly, IsNewest, IsPutOrFault}
+use Rattle.foyer_run.proofs.DestroyLemmas.{destroys_more}
 use Rattle.foyer_run.proofs.OpenedRuns.{begun_empty}
 use Rattle.foyer_run.proofs.RestLemmas.{SaysNothing, keeps_idle, leads_more}
-use Rattle.foyer_serve.specs.Texts.{IsMissedText, IsNewestText, IsTextOrFault, done_as, got, plain}
+use Rattle.foyer_serve.specs.Texts.{IsFault, IsMissedText, IsNewestText, IsTextOrFault, done_as, got, plain}
+use Rattle.foyer_serve.specs.declared.engine.Answer.{Answer}
+use Rattle.foyer_serve.specs.declared.engine.Answer.TheVariants as answer
 use Rattle.foyer_serve.specs.declared.engine.Engine.{Engine}
 use Rattle.foyer_serve.specs.declared.engine.NoProperties.{NoProperties}
 
 -- a wait's steps lead from one engine to another, where the disk of the one is known
 abbrev pub Waited : {A D : Type 0} → (D → Type 0) → (D → ℕ → ℕ → ℕ) → Engine A D → Engine A D → Type 0
 Waited is_known byte_at a b = is_known a.disk → is_known b.disk × Waits plain a.core b.core (byte_at a.disk) (byte_at b.disk)
+
+-- and a destroy's, of which one cleared the index where this holds
+abbrev pub Destroyed : {A D : Type 0} → Type 0 → (D → Type 0) → (D → ℕ → ℕ → ℕ) → Engine A D → Engine A D → Type 0
+Destroyed WasCleared is_known byte_at a b = is_known a.disk → is_known b.disk × Destroys WasCleared plain a.core b.core (byte_at a.disk) (byte_at b.disk)
+
+-- one destroy's steps behind another's
+pub known_destroys : {A Known After Last : Type 0} (Was Is : Type 0) (a b c : Core ℕ (String A) NoProperties A) (x y z : ℕ → ℕ → ℕ)
+    → (Known → After × Destroys Was plain a b x y) → (After → Last × Destroys Is plain b c y z) → Known → Last × Destroys Is plain a c x z
+known_destroys Was Is a b c x y z one two known =
+    let first = one known in
+    let second = two first.0 in
+    (second.0, destroys_more plain Was Is a b c x y z first.1 second.1)
+
+-- a fault isn't a success
+pub fault_not_ok : {A : Type 0} (said : Answer A) → IsFault said → said ≡ answer.Ok → ⊥
+fault_not_ok (answer.Fault kind) is = λ e. cc
+fault_not_ok answer.Queued is = absurd is
+fault_not_ok answer.Ignored is = absurd is
+fault_not_ok (answer.Entry text) is = absurd is
+fault_not_ok answer.Throttled is = absurd is
+fault_not_ok answer.Miss is = absurd is
+fault_not_ok answer.Ok is = absurd is
 
 -- an engine that was opened over zeros
 pub zeroed : {A D : Type 0} (s : Settings) (byte_at : D → ℕ → ℕ → ℕ) (surely : ℕ → ℕ → ℕ → Type 0) (seen : Type 0) → seen → (disk : D) → ((b o : ℕ) → byte_at disk b o ≡ 0)

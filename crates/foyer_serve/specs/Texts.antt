@@ -104,7 +104,12 @@ wrote_as None = Ok true
 wrote_as (Some reply.NoBlock) = Err kind.NoSpace
 wrote_as (Some said) = done_as said
 
--- what a wait and a close are answered as
+-- what is answered is a fault
+abbrev pub IsFault : {A : Type 0} → Answer A → Type 0
+IsFault (answer.Fault kind) = Unit {0}
+IsFault answered = ⊥
+
+-- what a wait, a close and a destroy are answered as
 abbrev pub IsOkOrFault : {A : Type 0} → Answer A → Type 0
 IsOkOrFault answer.Ok = Unit {0}
 IsOkOrFault (answer.Fault kind) = Unit {0}

@@ -51,11 +51,13 @@ pub enum Answer<A: Allocator> {
     Throttled,
     /// The key has no text that was written.
     Miss,
-    /// The delete, the wait or the close is done.
+    /// The delete, the wait, the close or the destroy is done.
     Ok,
     /// The call was refused.
     Fault(ErrorKind),
 }
+
+mod destroy;
 
 type EngineReply<A> = Reply<Key, String<A>, NoProperties, A>;
 

@@ -196,7 +196,7 @@ where
         Some(Command::Get { key }) => engine.get(key),
         Some(Command::Delete { key }) => engine.delete(key),
         Some(Command::Wait) => engine.wait(),
-        Some(Command::Destroy) => Answer::Fault(ErrorKind::Unsupported),
+        Some(Command::Destroy) => engine.destroy(),
         Some(Command::Close) => engine.close(),
         None => {
             *is_well = false;

@@ -1,5 +1,6 @@
 //! The program over directories, what it lists of them, and its engine over devices whose calls fail.
 
+mod destroys;
 mod directories;
 mod failing;
 mod listing;

@@ -6,7 +6,7 @@ use Rattle.std.proofs.Math.ListN.{get_or-append}
 use Rattle.std.proofs.Math.Seq.{get_or-append_seam}
 use Rattle.foyer_model.specs.Ids.{is_id_in, without_id, AreDistinct}
 use Rattle.foyer_model.proofs.Ids.{same_in, later_in, in_cases, not_in_cases, not_in_both, in_not_in, not_in_without, in_append}
-use Rattle.foyer_sets.specs.IdList.{AreStored, IsWithout}
+use Rattle.foyer_sets.specs.IdList.{IdList, AreStored, IsWithout}
 
 -- each is below n
 abbrev pub AllBelow : ℕ → List ℕ → Type 0
@@ -22,6 +22,13 @@ where_in x (y ∷ ys) is = go (x == y) refl is (where_in x ys)
         → (is_id_in x ys ≡ true → (i : ℕ) × (i < length ys) × (slice_index ys i ≡ x)) → (i : ℕ) × (i < length (y ∷ ys)) × (slice_index (y ∷ ys) i ≡ x)
     go true e h later = (0, omega arith, sym (eqb-true x y e))
     go false e h later = let r = later h in let lt : r.0 < length ys = r.1 in (suc r.0, omega arith, r.2)
+
+-- the ids of a set are stored, and one that is there stands at its position
+pub stands : (v : IdList) (ids at : List ℕ) (id : ℕ) → AreStored ids at → (λ (w : IdList). w) (record { ids = ids; bound = length at }) ≡ v
+    → is_id_in id v.ids ≡ true → (i : ℕ) × (i < length ids) × (slice_index ids i ≡ id) × (id < length at) × (slice_index at id ≡ i)
+stands v ids at id are view is =
+    let w = where_in id ids (subst (λ (w : IdList). is_id_in id w.ids ≡ true) (sym view) is) in
+    (w.0, w.1, w.2, subst (λ k. k < length at) w.2 (are.there w.0 w.1), ap (slice_index at) (sym w.2) ∙ are.position w.0 w.1)
 
 pub in_at : (xs : List ℕ) (i : ℕ) → i < length xs → is_id_in (slice_index xs i) xs ≡ true
 in_at [] i lt = absurd (omega arith)

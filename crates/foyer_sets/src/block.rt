@@ -2,7 +2,7 @@
 
 pub mod eviction;
 mod fifo;
-mod ids;
+pub mod ids;
 pub mod manager;
 mod picker;
 mod queue;

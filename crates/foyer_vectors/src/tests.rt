@@ -1,3 +1,4 @@
+mod destroys;
 mod driver;
 mod every_step;
 mod filled;

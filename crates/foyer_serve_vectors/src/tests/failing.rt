@@ -14,10 +14,10 @@ use std::process::Abort;
 use std::rt::Files;
 use std::test::Fail;
 
-type Blocks = Partitions<FaultIoEngine<MemoryIoEngine<Global>>, MemoryPartition, Global>;
+pub type Blocks = Partitions<FaultIoEngine<MemoryIoEngine<Global>>, MemoryPartition, Global>;
 
 // Two blocks in memory, of which call n fails, a write after some bytes.
-fn blocks<R: Files + AllocGlobal>(rt: &R, n: u64, kept: usize, stop: bool) -> Result<Blocks> {
+pub fn blocks<R: Files + AllocGlobal>(rt: &R, n: u64, kept: usize, stop: bool) -> Result<Blocks> {
     let alloc = rt.alloc();
     let mut device = MemoryDeviceBuilder::new(32768).build(rt, alloc, 0)?;
     let blocks = create_blocks(rt, alloc, &mut device, 2, 16384)?;
@@ -26,7 +26,7 @@ fn blocks<R: Files + AllocGlobal>(rt: &R, n: u64, kept: usize, stop: bool) -> Re
     Ok(Partitions::new(FaultIoEngine::new(memory, n, kept, stop), blocks))
 }
 
-fn word_of<A: Allocator>(answer: &Answer<A>) -> &str {
+pub fn word_of<A: Allocator>(answer: &Answer<A>) -> &str {
     match answer {
         Answer::Queued => "queued",
         Answer::Entry(text) => text.as_str(),

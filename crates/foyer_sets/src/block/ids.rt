@@ -9,8 +9,9 @@ use foyer_device::error::Result;
 use std::alloc::Allocator;
 use std::marker::Model;
 
+/// A set of ids below a bound. It has room for all of them from the start.
 #[derive(Drop)]
-pub(crate) struct IdSet<A: Allocator> {
+pub struct IdSet<A: Allocator> {
     ids: Vec<BlockId, A>,
     // Of each id below the bound its position in `ids`; of one that isn't there any number.
     at: Vec<u32, A>,
@@ -41,8 +42,8 @@ impl<A: Allocator> IdSet<A> {
         Ok(IdSet { ids, at })
     }
 
-    // All ids below the bound, in order.
-    pub(crate) fn full(alloc: &A, bound: u32) -> Result<IdSet<A>>
+    /// All ids below the bound, in order. `Memory` alone.
+    pub fn full(alloc: &A, bound: u32) -> Result<IdSet<A>>
     where
         A: Clone,
         ensures all { IfOk result (λ s. s.ids ≡ ids bound) }
@@ -56,10 +57,24 @@ impl<A: Allocator> IdSet<A> {
         Ok(set)
     }
 
-    pub(crate) fn as_slice(&self) -> &[BlockId]
+    /// The ids, in any order.
+    pub fn as_slice(&self) -> &[BlockId]
         ensures { result.now ≡ self.now.ids }
     {
         &self.ids
+    }
+
+    /// Whether an id is there.
+    pub fn contains(&self, id: BlockId) -> bool
+        ensures { result ≡ is_id_in id self.now.ids }
+    {
+        let Some(position) = self.at.get(id as usize) else {
+            return false;
+        };
+        match self.ids.get(*position as usize) {
+            Some(found) => *found == id,
+            None => false,
+        }
     }
 
     pub(crate) fn insert(&mut self, id: BlockId)
@@ -73,7 +88,8 @@ impl<A: Allocator> IdSet<A> {
         self.at[id as usize] = position as u32;
     }
 
-    pub(crate) fn remove(&mut self, id: BlockId)
+    /// An id leaves the set; the others may change their order.
+    pub fn remove(&mut self, id: BlockId)
         requires { is_id_in id self.old.ids ≡ true }
         ensures ids { IsWithout id self.old.ids self.new.ids }
         ensures bound { self.new.bound ≡ self.old.bound }

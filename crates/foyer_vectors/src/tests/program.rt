@@ -177,8 +177,21 @@ fn nothing_is_taken_once_closed(rt: HostRuntime) -> Result<(), Fail> {
 }
 
 #[test]
-fn a_destroy_is_not_supported_yet(rt: HostRuntime) -> Result<(), Fail> {
-    check(&rt, &SMALL, "destroy\n", "fault Unsupported\n", 1)
+fn a_destroy_leaves_nothing_and_the_engine_goes_on(rt: HostRuntime) -> Result<(), Fail> {
+    check(
+        &rt,
+        &SMALL,
+        "put 1 a\nwait\ndestroy\nget 1\nput 2 b\nwait\nget 2\nget 1\n",
+        "queued\nok\nok\nmiss\nqueued\nok\nentry b\nmiss\n",
+        0,
+    )?;
+    check(
+        &rt,
+        &SMALL,
+        "destroy\nput 1 a\ndestroy\nwait\nget 1\ndestroy\nclose\ndestroy\n",
+        "ok\nqueued\nok\nok\nmiss\nok\nok\nfault Closed\n",
+        1,
+    )
 }
 
 // Nothing is printed but the usage, as an error.

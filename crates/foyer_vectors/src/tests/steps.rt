@@ -9,7 +9,7 @@ use foyer_core::open::RecoverMode;
 use foyer_core::reply::Reply;
 use foyer_core::settings::Settings;
 use foyer_core::state::Core;
-use foyer_device::error::Result;
+use foyer_device::error::{Error, Result};
 use foyer_format::serde::{Age, Properties};
 use foyer_policy::keeper::Piece;
 use foyer_run::moves::{Move, run};
@@ -72,6 +72,14 @@ fn plain_move<A: Allocator>(word: &str, number: u64) -> TestMove<A> {
         "begin" => Move::FlushBegin { flusher },
         "block" => Move::FlushBlock { flusher },
         "wrote" => Move::FlushWrote { flusher },
+        "logged" => Move::LogWrote {
+            flusher,
+            result: Ok(()),
+        },
+        "unlogged" => Move::LogWrote {
+            flusher,
+            result: Err(Error::Io),
+        },
         "end" => Move::FlushEnd { flusher },
         "reclaim" => Move::ReclaimBegin,
         "idle" => Move::ReclaimIdle,
@@ -133,6 +141,9 @@ pub fn word_of<A: Allocator>(reply: &TestReply<A>) -> &'static str {
             pieces: _,
             waits: _,
         } => "ended",
+        Reply::Destroying(_) => "destroying",
+        Reply::Cleared => "cleared",
+        Reply::Destroyed(_) => "destroyed",
         _ => "another",
     }
 }
@@ -228,13 +239,24 @@ fn a_delete_hides_an_older_put(rt: HostRuntime) -> std::result::Result<(), Fail>
 }
 
 #[test]
+fn a_batch_ends_behind_the_log(rt: HostRuntime) -> std::result::Result<(), Fail> {
+    check_with(
+        &rt,
+        small(1).with_tombstone_log(true),
+        0,
+        "logged 0\ndelete 7\nreceive 0\nbegin 0\nblock 0\nwrote 0\nend 0\nlogged 1\nlogged 0\nunlogged 0\nend 0\n",
+        "not now\ndeleted\nreceived\nbegan\nwrite\nnot now\nnot now\ndone\nnot now\nended\n",
+    )
+}
+
+#[test]
 fn steps_out_of_turn_are_handed_back(rt: HostRuntime) -> std::result::Result<(), Fail> {
     check(
         &rt,
         1,
         0,
-        "begin 0\nblock 0\nend 0\nreceive 0\nreceive 1\nwait 1\nreclaim\nidle\ndestroy\nclear\n",
-        "not now\nnot now\nnot now\nempty\nnot now\nnot now\nnot now\nyes\nnot now\nnot now\n",
+        "begin 0\nblock 0\nend 0\nreceive 0\nreceive 1\nwait 1\nreclaim\nidle\nclear\ndestroy\nclear\ndestroy\n",
+        "not now\nnot now\nnot now\nempty\nnot now\nnot now\nnot now\nyes\nnot now\ndestroying\nnot now\nnot now\n",
     )
 }
 

@@ -1,4 +1,4 @@
-use Rattle.std.proofs.Common.{ℕ, List, sym, subst, inl, inr}
+use Rattle.std.proofs.Common.{sym, subst, inl, inr}
 use Rattle.foyer_sets.specs.Initial.{CanBeClean}
 use Rattle.foyer_sets.specs.Managed.{Managed}
 use Rattle.foyer_core.proofs.CleanLemmas.{can_be_clean, opened_manager}

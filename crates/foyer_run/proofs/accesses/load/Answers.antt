@@ -28,12 +28,12 @@ returns-in_default g c =
     (λ s sound w stands same.
     load_alone m s sound w h throttled answer c.apply.new.self bytes
     (step_alone m s sound encodes w (move.LoadBegin h throttled) (step.LoadBegin h throttled) answer c.args.core.now c.apply.new.self bytes stands same refl tt
-    c.apply.ensures.back (λ v at built. c.apply.ensures.meets built s sound v.core at) c.apply.ensures.later)
+    c.apply.ensures.back (λ v at. c.apply.ensures.meets s sound v.core at))
     (no_ticket answer c.in_default.not-Read)) in record {
       runs = λ known. says;
       drives = λ known. says_drive m (load_of h throttled) answer c.args.core.now c.apply.new.self bytes bytes says;
-      newest = λ known. look_up_newest m h throttled answer c.args.core.now c.apply.new.self bytes (λ s sound v at. c.apply.ensures.meets tt s sound v.core at);
-      missed = λ known not. look_up_missed m h throttled answer c.args.core.now c.apply.new.self bytes not (no_ticket answer c.in_default.not-Read) (λ s sound v at. c.apply.ensures.meets tt s sound v.core at);
+      newest = λ known. look_up_newest m h throttled answer c.args.core.now c.apply.new.self bytes (λ s sound v at. c.apply.ensures.meets s sound v.core at);
+      missed = λ known not. look_up_missed m h throttled answer c.args.core.now c.apply.new.self bytes not (no_ticket answer c.in_default.not-Read) (λ s sound v at. c.apply.ensures.meets s sound v.core at);
       front = λ known. tt;
       known = λ known. known;
       same = refl;
@@ -51,7 +51,7 @@ returns-in_err-clone-clause-front g c = λ known.
     (front_is m (move.LoadBegin h throttled ∷ []) (move.LoadEnd 0 ∷ []) (with_ticket (ticket_in answer) []) (answer ∷ []) c.args.core.now c.apply.new.self bytes bytes
     (λ s sound w stands same.
     step_alone m s sound encodes w (move.LoadBegin h throttled) (step.LoadBegin h throttled) answer c.args.core.now c.apply.new.self bytes stands same refl tt
-    c.apply.ensures.back (λ v at built. c.apply.ensures.meets built s sound v.core at) c.apply.ensures.later))
+    c.apply.ensures.back (λ v at. c.apply.ensures.meets s sound v.core at)))
 
 pub returns-in_err-clone-clause-drives : goal.returns-in_err-clone-clause-drives
 returns-in_err-clone-clause-drives g c = λ known.
@@ -59,7 +59,7 @@ returns-in_err-clone-clause-drives g c = λ known.
     let encodes = encodings_of g.K.Code.encoding g.V.Code.encoding g.K.Code.is_encodable g.V.Code.is_encodable g.K.Code.is_decodable g.V.Code.is_decodable g.P.Properties.age g.met.K.Code.is_encoded g.met.V.Code.is_encoded in
     let bytes = g.D.Disk.byte_at c.args.disk.now in
     step_drives m encodes (step.LoadBegin c.args.hash c.args.throttled) c.apply.result c.args.core.now c.apply.new.self bytes tt c.apply.ensures.back
-    (λ s sound v at built. c.apply.ensures.meets built s sound v.core at) c.apply.ensures.later
+    (λ s sound v at. c.apply.ensures.meets s sound v.core at)
 
 pub returns-in_err-came-clause-front : goal.returns-in_err-came-clause-front
 returns-in_err-came-clause-front g c = λ known.
@@ -74,7 +74,7 @@ returns-in_err-came-clause-front g c = λ known.
     (front_is m (move.LoadBegin h throttled ∷ []) (move.LoadEnd 0 ∷ []) (with_ticket (ticket_in answer) []) (answer ∷ []) c.args.core.now c.apply.new.self bytes bytes
     (λ s sound w stands same.
     step_alone m s sound encodes w (move.LoadBegin h throttled) (step.LoadBegin h throttled) answer c.args.core.now c.apply.new.self bytes stands same refl tt
-    c.apply.ensures.back (λ v at built. c.apply.ensures.meets built s sound v.core at) c.apply.ensures.later)))
+    c.apply.ensures.back (λ v at. c.apply.ensures.meets s sound v.core at))))
 
 pub returns-in_err-came-clause-drives : goal.returns-in_err-came-clause-drives
 returns-in_err-came-clause-drives g c = λ known.
@@ -83,7 +83,7 @@ returns-in_err-came-clause-drives g c = λ known.
     let bytes = g.D.Disk.byte_at c.args.disk.now in
     subst (λ new. Drives m c.args.core.now c.apply.new.self bytes new) (sym c.in_err-came.ensures.same)
     (step_drives m encodes (step.LoadBegin c.args.hash c.args.throttled) c.apply.result c.args.core.now c.apply.new.self bytes tt c.apply.ensures.back
-    (λ s sound v at built. c.apply.ensures.meets built s sound v.core at) c.apply.ensures.later)
+    (λ s sound v at. c.apply.ensures.meets s sound v.core at))
 
 pub returns-clause-runs : goal.returns-clause-runs
 returns-clause-runs g c = λ known.
@@ -100,7 +100,7 @@ returns-clause-runs g c = λ known.
     (λ s sound w stands same.
     load_whole m s sound w h throttled c.in-Read.ticket c.in_ok-came.came issued answer c.apply.new.self c.apply_load-reply.new.self bytes
     (step_alone m s sound encodes w (move.LoadBegin h throttled) (step.LoadBegin h throttled) issued c.args.core.now c.apply.new.self bytes stands same refl tt
-    c.apply.ensures.back (λ v at built. c.apply.ensures.meets built s sound v.core at) c.apply.ensures.later)
+    c.apply.ensures.back (λ v at. c.apply.ensures.meets s sound v.core at))
     (ap ticket_in c.in-Read.is)
     (come_is bytes c.in-Read.ticket c.in_ok-came.came (c.in_ok-came.ensures.read known) c.in_ok-came.ensures.len)
     (λ v at. c.apply_load-reply.ensures.meets s sound v.core at)))
@@ -110,7 +110,7 @@ returns-clause-newest g c = λ known.
     let m = meaning g.K.Code.encoding g.V.Code.encoding g.K.Code.is_encodable g.V.Code.is_encodable g.K.Code.is_decodable g.V.Code.is_decodable g.P.Properties.age in
     let bytes = g.D.Disk.byte_at c.args.disk.now in
     load_newest m c.args.hash c.args.throttled c.in-Read.ticket c.in_ok-came.came c.apply_load-reply.result.0 c.args.core.now c.apply.new.self c.apply_load-reply.new.self bytes
-    (λ s sound v at. subst (λ r. IsRefined m s sound (step.LoadBegin c.args.hash c.args.throttled) r c.apply.new.self v.core) c.in-Read.is (c.apply.ensures.meets tt s sound v.core at))
+    (λ s sound v at. subst (λ r. IsRefined m s sound (step.LoadBegin c.args.hash c.args.throttled) r c.apply.new.self v.core) c.in-Read.is (c.apply.ensures.meets s sound v.core at))
     (come_is bytes c.in-Read.ticket c.in_ok-came.came (c.in_ok-came.ensures.read known) c.in_ok-came.ensures.len)
     (λ s sound v at. c.apply_load-reply.ensures.meets s sound v.core at)
 
@@ -119,7 +119,7 @@ returns-clause-missed g c = λ known not.
     let m = meaning g.K.Code.encoding g.V.Code.encoding g.K.Code.is_encodable g.V.Code.is_encodable g.K.Code.is_decodable g.V.Code.is_decodable g.P.Properties.age in
     let bytes = g.D.Disk.byte_at c.args.disk.now in
     load_missed m c.args.hash c.args.throttled c.in-Read.ticket c.in_ok-came.came c.apply_load-reply.result.0 c.args.core.now c.apply.new.self c.apply_load-reply.new.self bytes not
-    (λ s sound v at. subst (λ r. IsRefined m s sound (step.LoadBegin c.args.hash c.args.throttled) r c.apply.new.self v.core) c.in-Read.is (c.apply.ensures.meets tt s sound v.core at))
+    (λ s sound v at. subst (λ r. IsRefined m s sound (step.LoadBegin c.args.hash c.args.throttled) r c.apply.new.self v.core) c.in-Read.is (c.apply.ensures.meets s sound v.core at))
     (come_is bytes c.in-Read.ticket c.in_ok-came.came (c.in_ok-came.ensures.read known) c.in_ok-came.ensures.len)
     (λ s sound v at. c.apply_load-reply.ensures.meets s sound v.core at)
 

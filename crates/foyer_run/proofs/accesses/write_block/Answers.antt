@@ -18,12 +18,12 @@ returns-in_default g c =
     let bytes = g.D.Disk.byte_at c.args.disk.now in
     let writes =
     written_none m c.args.flusher c.apply.result c.args.core.now c.apply.new.self bytes
-    (λ s sound v at. c.apply.ensures.meets tt s sound v.core at) (no_block c.apply.result c.in_default.not-Write) in
+    (λ s sound v at. c.apply.ensures.meets s sound v.core at) (no_block c.apply.result c.in_default.not-Write) in
     record {
       writes = λ known. writes;
       drives = λ known. writes_drive m c.args.flusher (Some c.apply.result) c.args.core.now c.apply.new.self bytes bytes writes;
-      ends = block_asks m c.args.flusher c.apply.result c.args.core.now c.apply.new.self (c.apply.ensures.meets tt);
-      leads = block_keeps m c.args.flusher c.apply.result c.args.core.now c.apply.new.self (c.apply.ensures.meets tt);
+      ends = block_asks m c.args.flusher c.apply.result c.args.core.now c.apply.new.self c.apply.ensures.meets;
+      leads = block_keeps m c.args.flusher c.apply.result c.args.core.now c.apply.new.self c.apply.ensures.meets;
       known = λ known. known;
     }
 
@@ -39,9 +39,9 @@ writes-init g c =
         items_are = sym c.deref-write-items.ensures.value;
         writing = λ s sound w stands same.
             writing_first m s sound w c.args.flusher c.in-Write.block c.in-Write.writes c.args.core.now c.apply.new.self (g.D.Disk.byte_at c.args.disk.now) stands same
-            (λ v at. subst (λ r. IsRefined m s sound (step.FlushBlock c.args.flusher) r c.apply.new.self v.core) c.in-Write.is (c.apply.ensures.meets tt s sound v.core at));
+            (λ v at. subst (λ r. IsRefined m s sound (step.FlushBlock c.args.flusher) r c.apply.new.self v.core) c.in-Write.is (c.apply.ensures.meets s sound v.core at));
       };
-      leads = block_keeps m c.args.flusher c.apply.result c.args.core.now c.apply.new.self (c.apply.ensures.meets tt);
+      leads = block_keeps m c.args.flusher c.apply.result c.args.core.now c.apply.new.self c.apply.ensures.meets;
     }
 
 pub returns-then-not-wants_next_write : goal.returns-then-not-wants_next_write
@@ -59,13 +59,13 @@ returns-then-not-wants_next_write g c =
     written_ends m c.args.flusher b c.writes.write-index c.deref-write-items.result.now write outcome c.apply-reply.result c.args.core.now c.writes.core c.apply-reply.new.self
     (g.D.Disk.byte_at c.args.disk.now) before after (c.writes.invariant.written known) at
     (done_is before after b write outcome (c.do_write-wrote.ensures.wrote (c.writes.invariant.known known)) (c.do_write-wrote.ensures.torn (c.writes.invariant.known known)))
-    (λ s sound v at. c.apply-reply.ensures.meets tt s sound v.core at)
+    (λ s sound v at. c.apply-reply.ensures.meets s sound v.core at)
     why in
     record {
       writes = writes;
-      ends = report_asks m c.args.flusher outcome c.apply-reply.result c.args.core.now c.writes.core c.apply-reply.new.self c.writes.invariant.leads (c.apply-reply.ensures.meets tt) why;
+      ends = report_asks m c.args.flusher outcome c.apply-reply.result c.args.core.now c.writes.core c.apply-reply.new.self c.writes.invariant.leads c.apply-reply.ensures.meets why;
       drives = λ known. writes_drive m c.args.flusher (Some c.apply-reply.result) c.args.core.now c.apply-reply.new.self (g.D.Disk.byte_at c.args.disk.now) after (writes known);
-      leads = report_more m c.args.flusher outcome c.apply-reply.result c.args.core.now c.writes.core c.apply-reply.new.self c.writes.invariant.leads (c.apply-reply.ensures.meets tt);
+      leads = report_more m c.args.flusher outcome c.apply-reply.result c.args.core.now c.writes.core c.apply-reply.new.self c.writes.invariant.leads c.apply-reply.ensures.meets;
       known = λ known. c.do_write-wrote.ensures.known (c.writes.invariant.known known);
     }
 
@@ -81,12 +81,12 @@ writes-preserved g c =
     let ok = c.is_ok-went_well.ensures.value ∙ went_is outcome in
     record {
       known = λ known. c.do_write-wrote.ensures.known (c.writes.invariant.known known);
-      leads = report_more m c.args.flusher outcome c.apply-reply.result c.args.core.now c.writes.core c.apply-reply.new.self c.writes.invariant.leads (c.apply-reply.ensures.meets tt);
+      leads = report_more m c.args.flusher outcome c.apply-reply.result c.args.core.now c.writes.core c.apply-reply.new.self c.writes.invariant.leads c.apply-reply.ensures.meets;
       written = λ known.
           written_on m c.args.flusher b c.writes.write-index c.deref-write-items.result.now write outcome c.apply-reply.result c.args.core.now c.writes.core c.apply-reply.new.self
           (g.D.Disk.byte_at c.args.disk.now) before after (c.writes.invariant.written known) c.writes-test.true at
           (done_is before after b write outcome (c.do_write-wrote.ensures.wrote (c.writes.invariant.known known)) (c.do_write-wrote.ensures.torn (c.writes.invariant.known known)))
-          (λ s sound v at. c.apply-reply.ensures.meets tt s sound v.core at)
+          (λ s sound v at. c.apply-reply.ensures.meets s sound v.core at)
           (sym ok ∙ c.if-not-wants_next_write.ensures.0) c.if-not-wants_next_write.ensures.1;
     }
 

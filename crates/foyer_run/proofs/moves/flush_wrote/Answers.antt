@@ -50,7 +50,7 @@ returns-then-wants_next_write-clause-moved g c = λ known s sound first block_wr
     (ap (λ xs. at (slice_get xs f)) (sym c.as_slice.ensures.value) ∙ sym c.get_due.ensures ∙ c.in-Some.is)
     (ap (λ xs. write_at (slice_get xs x.reply) x.next) (sym c.as_slice-2.ensures.value) ∙ c.in-Some-next_write.ensures.write)
     (done_is bytes (g.D.Disk.byte_at c.do_write-wrote.new.disk) x.block write outcome (c.do_write-wrote.ensures.wrote known) (c.do_write-wrote.ensures.torn known))
-    (c.apply-reply.ensures.meets tt s sound w.core running.stands) c.note_ticket.ensures.noted c.push_reserved.ensures.items
+    (c.apply-reply.ensures.meets s sound w.core running.stands) c.note_ticket.ensures.noted c.push_reserved.ensures.items
     (inl (
       sym ok ∙ c.if-wants_next_write.ensures.0,
       c.if-wants_next_write.ensures.1,
@@ -74,5 +74,5 @@ returns-clause-moved g c = λ known s sound first block_writes w running.
     (ap (λ xs. at (slice_get xs f)) (sym c.as_slice.ensures.value) ∙ sym c.get_due.ensures ∙ c.in-Some.is)
     (ap (λ xs. write_at (slice_get xs x.reply) x.next) (sym c.as_slice-2.ensures.value) ∙ c.in-Some-next_write.ensures.write)
     (done_is bytes (g.D.Disk.byte_at c.do_write-wrote.new.disk) x.block write outcome (c.do_write-wrote.ensures.wrote known) (c.do_write-wrote.ensures.torn known))
-    (c.apply-reply.ensures.meets tt s sound w.core running.stands) c.note_ticket.ensures.noted c.push_reserved-2.ensures.items
+    (c.apply-reply.ensures.meets s sound w.core running.stands) c.note_ticket.ensures.noted c.push_reserved-2.ensures.items
     (inr ((elim c.if-wants_next_write.ensures [ inl failed ↦ inl (sym ok ∙ failed) | inr last ↦ inr last ]), c.set_due.ensures.set))

@@ -23,6 +23,6 @@ returns-clause-moved g c = λ known s sound first block_writes w running.
     c.args.kept.now.replies.items c.push_reserved.new.self.items c.args.core.now c.apply-answer.new.self bytes w running
     (ap (λ xs. at (slice_get xs c.args.n)) (sym c.as_slice.ensures.value) ∙ sym c.get_due.ensures ∙ c.in-Some.is)
     (come_is bytes c.in-Some.ticket c.in_ok-came.came (c.in_ok-came.ensures.read known) c.in_ok-came.ensures.len)
-    (c.apply-answer.ensures.meets tt s sound w.core running.stands)
+    (c.apply-answer.ensures.meets s sound w.core running.stands)
     (c.note_ticket.ensures.noted ∙ ap (with_ticket (ticket_in c.apply-answer.result)) c.set_due.ensures.set)
     c.push_reserved.ensures.items)

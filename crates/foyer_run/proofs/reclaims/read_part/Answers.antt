@@ -17,15 +17,15 @@ returns-in-Refused-clause-reads g c = λ known.
     subst (λ next. Reads m c.args.block (Some c.args.part) next c.args.core.now c.apply-reply.new.self bytes) (sym c.next_part.ensures)
     (reads_twice m c.args.block c.args.part outcome error.Memory c.in-Refused.field-0 c.in-Refused.field-1 c.apply-reply.result c.args.core.now c.apply-brought.new.self c.apply-reply.new.self bytes
     (part_come bytes c.args.block c.args.part outcome (c.read_bytes-outcome.ensures.read known) c.read_bytes-outcome.ensures.len)
-    (subst (λ r. Refines m (step.ReclaimRead c.args.block outcome) r c.args.core.now c.apply-brought.new.self) c.in-Refused.is (c.apply-brought.ensures.meets tt))
-    (c.apply-reply.ensures.meets tt))
+    (subst (λ r. Refines m (step.ReclaimRead c.args.block outcome) r c.args.core.now c.apply-brought.new.self) c.in-Refused.is c.apply-brought.ensures.meets)
+    c.apply-reply.ensures.meets)
 
 pub returns-in-Refused-clause-leads : goal.returns-in-Refused-clause-leads
 returns-in-Refused-clause-leads g c =
     let m = meaning g.K.Code.encoding g.V.Code.encoding g.K.Code.is_encodable g.V.Code.is_encodable g.K.Code.is_decodable g.V.Code.is_decodable g.P.Properties.age in
     idle_more m c.args.core.now c.apply-brought.new.self c.apply-reply.new.self
-    (idle_kept m (step.ReclaimRead c.args.block c.read_bytes-outcome.result) c.apply-brought.result c.args.core.now c.apply-brought.new.self tt (c.apply-brought.ensures.meets tt))
-    (idle_kept m (step.ReclaimRead c.args.block (Rattle.std.specs.Prelude.Err error.Memory)) c.apply-reply.result c.apply-brought.new.self c.apply-reply.new.self tt (c.apply-reply.ensures.meets tt))
+    (idle_kept m (step.ReclaimRead c.args.block c.read_bytes-outcome.result) c.apply-brought.result c.args.core.now c.apply-brought.new.self tt c.apply-brought.ensures.meets)
+    (idle_kept m (step.ReclaimRead c.args.block (Rattle.std.specs.Prelude.Err error.Memory)) c.apply-reply.result c.apply-brought.new.self c.apply-reply.new.self tt c.apply-reply.ensures.meets)
 
 pub returns : goal.returns
 returns g c =
@@ -36,8 +36,8 @@ returns g c =
           subst (λ next. Reads m c.args.block (Some c.args.part) next c.args.core.now c.apply-brought.new.self bytes) (sym c.next_part-2.ensures)
           (reads_once m c.args.block c.args.part outcome c.apply-brought.result c.args.core.now c.apply-brought.new.self bytes
           (part_come bytes c.args.block c.args.part outcome (c.read_bytes-outcome.ensures.read known) c.read_bytes-outcome.ensures.len)
-          (c.apply-brought.ensures.meets tt));
-      leads = idle_kept m (step.ReclaimRead c.args.block outcome) c.apply-brought.result c.args.core.now c.apply-brought.new.self tt (c.apply-brought.ensures.meets tt);
+          c.apply-brought.ensures.meets);
+      leads = idle_kept m (step.ReclaimRead c.args.block outcome) c.apply-brought.result c.args.core.now c.apply-brought.new.self tt c.apply-brought.ensures.meets;
       known = c.read_bytes-outcome.ensures.known;
       same = c.read_bytes-outcome.ensures.same;
     }

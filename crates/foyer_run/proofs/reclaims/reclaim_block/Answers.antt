@@ -13,9 +13,9 @@ pub returns-in_default : goal.returns-in_default
 returns-in_default g c =
     let m = meaning g.K.Code.encoding g.V.Code.encoding g.K.Code.is_encodable g.V.Code.is_encodable g.K.Code.is_decodable g.V.Code.is_decodable g.P.Properties.age in
     let bytes = g.D.Disk.byte_at c.args.disk.now in record {
-      reclaims = λ known. reclaims_none m c.apply.result c.args.core.now c.apply.new.self bytes (c.apply.ensures.meets tt);
-      ends = begin_over m c.apply.result c.args.core.now c.apply.new.self c.in_default.not-Picked (c.apply.ensures.meets tt);
-      leads = idle_kept m step.ReclaimBegin c.apply.result c.args.core.now c.apply.new.self tt (c.apply.ensures.meets tt);
+      reclaims = λ known. reclaims_none m c.apply.result c.args.core.now c.apply.new.self bytes c.apply.ensures.meets;
+      ends = begin_over m c.apply.result c.args.core.now c.apply.new.self c.in_default.not-Picked c.apply.ensures.meets;
+      leads = idle_kept m step.ReclaimBegin c.apply.result c.args.core.now c.apply.new.self tt c.apply.ensures.meets;
       known = λ known. known;
     }
 
@@ -27,17 +27,17 @@ returns-in_default-apply g c =
     let first : Part = record { offset = 0; len = c.settings.result.blob_index_size } in
     let begun = c.apply.new.self in
     let read = c.read_block.new.core in
-    let begins = subst (λ r. Refines m step.ReclaimBegin r c.args.core.now begun) c.in-Picked.is (c.apply.ensures.meets tt) in
+    let begins = subst (λ r. Refines m step.ReclaimBegin r c.args.core.now begun) c.in-Picked.is c.apply.ensures.meets in
     let size : c.settings.result.blob_index_size ≡ begun.settings.blob_index_size = ap (λ k. k.blob_index_size) c.settings.ensures in
     let led = idle_more m c.args.core.now c.apply.new.self c.read_block.new.core
-    (idle_kept m step.ReclaimBegin c.apply.result c.args.core.now c.apply.new.self tt (c.apply.ensures.meets tt)) c.read_block.ensures.leads in
+    (idle_kept m step.ReclaimBegin c.apply.result c.args.core.now c.apply.new.self tt c.apply.ensures.meets) c.read_block.ensures.leads in
     record {
       reclaims = λ known.
           subst (λ z. Reclaims m c.apply-2.result c.args.core.now c.apply-2.new.self bytes z) (sym c.read_block.ensures.same)
           (reclaims_kept m b c.in-Picked.answers c.in-Picked.probation first refl c.args.core.now begun read size bytes begins (c.read_block.ensures.reads known)
-          c.apply-2.result c.apply-2.new.self (c.apply-2.ensures.meets tt));
-      ends = over_behind m c.args.core.now read c.apply-2.result led (forget_over m b c.apply-2.result read c.apply-2.new.self c.in_default-apply.not-Clean (c.apply-2.ensures.meets tt));
-      leads = idle_more m c.args.core.now read c.apply-2.new.self led (idle_kept m (step.ReclaimForget b) c.apply-2.result read c.apply-2.new.self tt (c.apply-2.ensures.meets tt));
+          c.apply-2.result c.apply-2.new.self c.apply-2.ensures.meets);
+      ends = over_behind m c.args.core.now read c.apply-2.result led (forget_over m b c.apply-2.result read c.apply-2.new.self c.in_default-apply.not-Clean c.apply-2.ensures.meets);
+      leads = idle_more m c.args.core.now read c.apply-2.new.self led (idle_kept m (step.ReclaimForget b) c.apply-2.result read c.apply-2.new.self tt c.apply-2.ensures.meets);
       known = c.read_block.ensures.known;
     }
 
@@ -49,17 +49,17 @@ returns-clause-reclaims g c = λ known.
     let first : Part = record { offset = 0; len = c.settings.result.blob_index_size } in
     let begun = c.apply.new.self in
     let read = c.read_block.new.core in
-    let begins = subst (λ r. Refines m step.ReclaimBegin r c.args.core.now begun) c.in-Picked.is (c.apply.ensures.meets tt) in
+    let begins = subst (λ r. Refines m step.ReclaimBegin r c.args.core.now begun) c.in-Picked.is c.apply.ensures.meets in
     let size : c.settings.result.blob_index_size ≡ begun.settings.blob_index_size = ap (λ k. k.blob_index_size) c.settings.ensures in
     let outcome = c.clean_block-cleaned.result in
     let after = g.D.Disk.byte_at c.clean_block-cleaned.new.disk in
     let still = c.read_block.ensures.known known in
     reclaims_whole m b c.in-Picked.answers c.in-Picked.probation first refl c.args.core.now begun read size bytes begins (c.read_block.ensures.reads known)
     c.in-Clean.field-0 outcome c.apply-3.result c.apply-2.new.self c.apply-3.new.self after
-    (subst (λ r. Refines m (step.ReclaimForget b) r read c.apply-2.new.self) c.in-Clean.is (c.apply-2.ensures.meets tt))
+    (subst (λ r. Refines m (step.ReclaimForget b) r read c.apply-2.new.self) c.in-Clean.is c.apply-2.ensures.meets)
     (subst (λ z. IsCleanDone z after b (went_well outcome)) c.read_block.ensures.same
     (clean_done (g.D.Disk.byte_at c.read_block.new.disk) after b outcome (c.clean_block-cleaned.ensures.cleaned still) (c.clean_block-cleaned.ensures.torn still)))
-    (c.apply-3.ensures.meets tt)
+    c.apply-3.ensures.meets
 
 pub returns-clause-ends : goal.returns-clause-ends
 returns-clause-ends g c =
@@ -67,10 +67,10 @@ returns-clause-ends g c =
     let b = c.in-Picked.block in
     let read = c.read_block.new.core in
     let led = idle_more m c.args.core.now c.apply.new.self c.read_block.new.core
-    (idle_kept m step.ReclaimBegin c.apply.result c.args.core.now c.apply.new.self tt (c.apply.ensures.meets tt)) c.read_block.ensures.leads in
+    (idle_kept m step.ReclaimBegin c.apply.result c.args.core.now c.apply.new.self tt c.apply.ensures.meets) c.read_block.ensures.leads in
     over_behind m c.args.core.now c.apply-2.new.self c.apply-3.result
-    (idle_more m c.args.core.now read c.apply-2.new.self led (idle_kept m (step.ReclaimForget b) c.apply-2.result read c.apply-2.new.self tt (c.apply-2.ensures.meets tt)))
-    (cleaned_over m b c.clean_block-cleaned.result c.apply-3.result c.apply-2.new.self c.apply-3.new.self (c.apply-3.ensures.meets tt))
+    (idle_more m c.args.core.now read c.apply-2.new.self led (idle_kept m (step.ReclaimForget b) c.apply-2.result read c.apply-2.new.self tt c.apply-2.ensures.meets))
+    (cleaned_over m b c.clean_block-cleaned.result c.apply-3.result c.apply-2.new.self c.apply-3.new.self c.apply-3.ensures.meets)
 
 pub returns-clause-leads : goal.returns-clause-leads
 returns-clause-leads g c =
@@ -78,7 +78,7 @@ returns-clause-leads g c =
     let b = c.in-Picked.block in
     let read = c.read_block.new.core in
     let led = idle_more m c.args.core.now c.apply.new.self c.read_block.new.core
-    (idle_kept m step.ReclaimBegin c.apply.result c.args.core.now c.apply.new.self tt (c.apply.ensures.meets tt)) c.read_block.ensures.leads in
+    (idle_kept m step.ReclaimBegin c.apply.result c.args.core.now c.apply.new.self tt c.apply.ensures.meets) c.read_block.ensures.leads in
     idle_more m c.args.core.now c.apply-2.new.self c.apply-3.new.self
-    (idle_more m c.args.core.now read c.apply-2.new.self led (idle_kept m (step.ReclaimForget b) c.apply-2.result read c.apply-2.new.self tt (c.apply-2.ensures.meets tt)))
-    (idle_kept m (step.ReclaimCleaned b c.clean_block-cleaned.result) c.apply-3.result c.apply-2.new.self c.apply-3.new.self tt (c.apply-3.ensures.meets tt))
+    (idle_more m c.args.core.now read c.apply-2.new.self led (idle_kept m (step.ReclaimForget b) c.apply-2.result read c.apply-2.new.self tt c.apply-2.ensures.meets))
+    (idle_kept m (step.ReclaimCleaned b c.clean_block-cleaned.result) c.apply-3.result c.apply-2.new.self c.apply-3.new.self tt c.apply-3.ensures.meets)

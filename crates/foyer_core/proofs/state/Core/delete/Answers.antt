@@ -39,6 +39,7 @@ returns-then-is_err-clause-back g c =
             c.index_mut.ensures.value (ap (λ q. record (seen found) { queue = q }) c.reserve.ensures.items);
         manager = refl;
         reclaims = λ b. refl;
+        destroy = refl;
       },
     )
 
@@ -57,6 +58,7 @@ returns-in-Err-clause-back g c =
             c.index_mut.ensures.value (ap (λ q. record (seen found) { queue = q }) c.reserve.ensures.items);
         manager = refl;
         reclaims = λ b. refl;
+        destroy = refl;
       },
     )
 

@@ -41,6 +41,7 @@ returns-then-not-may_begin-clause-meets g c = λ m s sound it stands few.
       flushers = same_seen old.flushers.items f found found c.index_mut-found.ensures.value refl;
       manager = refl;
       reclaims = λ b. refl;
+      destroy = refl;
     }) stands (
       is_early m s old it stands few,
       (λ draws. absurd draws),
@@ -100,6 +101,7 @@ returns-in-Err-clause-meets g c = λ m s sound it stands few.
       flushers = same_seen old.flushers.items f found c.begin.new.self c.index_mut-found.ensures.value c.in-Err.ensures.refused;
       manager = refl;
       reclaims = λ b. refl;
+      destroy = refl;
     }) stands
     (is_early m s old it stands few, ((there, turn.0, turn.1), tt))
 
@@ -123,5 +125,6 @@ returns-in-Err-clause-back g c =
         flushers = same_seen c.args.self.now.flushers.items c.args.flusher found c.begin.new.self c.index_mut-found.ensures.value c.in-Err.ensures.refused;
         manager = refl;
         reclaims = λ b. refl;
+        destroy = refl;
       },
     )

@@ -32,6 +32,7 @@ returns-then-not-has_block-clause-meets g c = λ m s sound it stands few.
       flushers = same_seen core.flushers.items f found found c.index_mut-found.ensures.value refl;
       manager = refl;
       reclaims = λ b. refl;
+      destroy = refl;
     }) stands few (λ d. d)
     (λ turn. false≢true (c.if-not-has_block.ensures.1 (wants_block m s found.own found.batch (it.flushers f).batch (at.flusher).batch turn.1)))
 
@@ -57,6 +58,7 @@ returns-in-Err-clause-meets g c = λ m s sound it stands few.
         flushers = same_seen core.flushers.items f found c.next.new.self c.index_mut-found.ensures.value c.in-Err.ensures.refused;
         manager = c.in-Err.ensures.manager_kept;
         reclaims = λ b. refl;
+        destroy = refl;
       }) stands;
       reply = (model_reply.Memory, refl, refl);
       turns = (
@@ -83,7 +85,7 @@ returns-in-Ok-NoBlock-clause-meets g c = λ m s sound it stands few.
     record {
       after = done.after;
       it = model_reply.NoBlock;
-      stands = core_stands m s sound core _ it f c.next.new.self _ _ stands within done refl refl refl refl refl refl (λ b. refl);
+      stands = core_stands m s sound core _ it f c.next.new.self _ _ stands within done refl refl refl refl refl refl (λ b. refl) refl;
       reply = refl;
       turns = ((flusher_there m s core it f stands within, has_block m s found.own found.batch (it.flushers f).batch (at.flusher).batch (c.if-not-has_block.ensures.0 refl)), done.does);
     }
@@ -99,7 +101,7 @@ returns-in-Ok-Block-clause-meets g c = λ m s sound it stands few.
     record {
       after = done.after;
       it = model_reply.Written c.in-Ok-Block.block (map write_of c.in-Ok-Block.writes.items);
-      stands = core_stands m s sound core _ it f c.next.new.self _ _ stands within done refl refl refl refl refl refl (λ b. refl);
+      stands = core_stands m s sound core _ it f c.next.new.self _ _ stands within done refl refl refl refl refl refl (λ b. refl) refl;
       reply = refl;
       turns = ((flusher_there m s core it f stands within, has_block m s found.own found.batch (it.flushers f).batch (at.flusher).batch (c.if-not-has_block.ensures.0 refl)), done.does);
     }
@@ -124,5 +126,6 @@ returns-in-Err-clause-back g c =
         flushers = same_seen c.args.self.now.flushers.items c.args.flusher found c.next.new.self c.index_mut-found.ensures.value c.in-Err.ensures.refused;
         manager = c.in-Err.ensures.manager_kept;
         reclaims = λ b. refl;
+        destroy = refl;
       },
     )

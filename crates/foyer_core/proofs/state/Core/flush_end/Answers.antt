@@ -1,8 +1,9 @@
 use Rattle.std.proofs.lemmas.Grind.{common_steps}
-use Rattle.std.proofs.Common.{◌<◌, length, refl, arith}
+use Rattle.std.proofs.Common.{◌<◌, length, refl, sym, subst, arith}
 use Rattle.std.proofs.lemmas.Bool.{false≢true}
+use Rattle.foyer_model.specs.InTurn.{IsWritten}
 use Rattle.foyer_model.specs.Reply as model_reply
-use Rattle.foyer_core.proofs.FlushTurns.{stands_at, flusher_there, core_stands, is_written, was_written, not_now}
+use Rattle.foyer_core.proofs.FlushTurns.{stands_at, flusher_there, core_stands, log_is, is_written, was_written, not_now}
 use Rattle.foyer_core.proofs.FlusherLists.{same_seen}
 use Rattle.foyer_core.specs.declared.step.Step.TheVariants as step
 use Rattle.foyer_core.proofs.state.Core.flush_end.Goals as goal
@@ -25,8 +26,10 @@ returns-then-not-is_written-clause-meets g c = λ m s sound it stands few.
       flushers = same_seen core.flushers.items f found found c.index_mut-found.ensures.value refl;
       manager = refl;
       reclaims = λ b. refl;
+      destroy = refl;
     }) stands few (λ d. d)
-    (λ turn. false≢true (c.if-not-is_written.ensures.1 (was_written m s found.own found.batch (it.flushers f).batch (at.flusher).batch turn.1)))
+    (λ turn. false≢true (c.if-not-is_written.ensures.1 (was_written m s core.settings.tombstone_log found.own found.batch (it.flushers f).batch (at.flusher).batch
+    (subst (λ b. IsWritten b (it.flushers f).batch) (sym (log_is m s core it stands)) turn.1))))
 
 pub returns-clause-meets : goal.returns-clause-meets
 returns-clause-meets g c = λ m s sound it stands few.
@@ -39,9 +42,16 @@ returns-clause-meets g c = λ m s sound it stands few.
     record {
       after = (done.2).after;
       it = model_reply.Ended done.0 c.end-pieces.result.waits.items;
-      stands = core_stands m s sound core _ it f c.end-pieces.new.self _ _ stands within done.2 refl refl refl refl refl refl (λ b. refl);
+      stands = core_stands m s sound core _ it f c.end-pieces.new.self _ _ stands within done.2 refl refl refl refl refl refl (λ b. refl) refl;
       reply = (done.0, done.1, refl);
-      turns = ((flusher_there m s core it f stands within, is_written m s found.own found.batch (it.flushers f).batch (at.flusher).batch (c.if-not-is_written.ensures.0 refl)), (done.2).does);
+      turns = (
+        (
+          flusher_there m s core it f stands within,
+          subst (λ b. IsWritten b (it.flushers f).batch) (log_is m s core it stands)
+              (is_written m s core.settings.tombstone_log found.own found.batch (it.flushers f).batch (at.flusher).batch (c.if-not-is_written.ensures.0 refl)),
+        ),
+        (done.2).does,
+      );
     }
 
 pub returns-then-flusher-len-clause-meets : goal.returns-then-flusher-len-clause-meets

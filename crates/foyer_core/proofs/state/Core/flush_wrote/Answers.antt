@@ -29,6 +29,7 @@ returns-then-not-is_writing-clause-meets g c = λ m s sound it stands few.
       flushers = same_seen core.flushers.items f found found c.index_mut-found.ensures.value refl;
       manager = refl;
       reclaims = λ b. refl;
+      destroy = refl;
     }) stands few (λ d. d)
     (λ turn. false≢true (c.if-not-is_writing.ensures.1 (must_write m s found.own found.batch (it.flushers f).batch (at.flusher).batch turn.1)))
 
@@ -44,7 +45,7 @@ returns-in-Next-clause-meets g c = λ m s sound it stands few.
     record {
       after = done.after;
       it = model_reply.Next;
-      stands = core_stands m s sound core _ it f c.wrote.new.self _ _ stands within done refl refl refl refl refl refl (λ b. refl);
+      stands = core_stands m s sound core _ it f c.wrote.new.self _ _ stands within done refl refl refl refl refl refl (λ b. refl) refl;
       reply = refl;
       turns = ((flusher_there m s core it f stands within, is_writing m s found.own found.batch (it.flushers f).batch (at.flusher).batch (c.if-not-is_writing.ensures.0 refl)), done.does);
     }
@@ -61,7 +62,7 @@ returns-in-Committed-clause-meets g c = λ m s sound it stands few.
     record {
       after = done.after;
       it = model_reply.Committed c.in-Committed.count;
-      stands = core_stands m s sound core _ it f c.wrote.new.self _ _ stands within done refl refl refl refl refl refl (λ b. refl);
+      stands = core_stands m s sound core _ it f c.wrote.new.self _ _ stands within done refl refl refl refl refl refl (λ b. refl) refl;
       reply = refl;
       turns = ((flusher_there m s core it f stands within, is_writing m s found.own found.batch (it.flushers f).batch (at.flusher).batch (c.if-not-is_writing.ensures.0 refl)), done.does);
     }
@@ -78,7 +79,7 @@ returns-in-Failed-clause-meets g c = λ m s sound it stands few.
     record {
       after = done.after;
       it = model_reply.Failed;
-      stands = core_stands m s sound core _ it f c.wrote.new.self _ _ stands within done refl refl refl refl refl refl (λ b. refl);
+      stands = core_stands m s sound core _ it f c.wrote.new.self _ _ stands within done refl refl refl refl refl refl (λ b. refl) refl;
       reply = refl;
       turns = ((flusher_there m s core it f stands within, is_writing m s found.own found.batch (it.flushers f).batch (at.flusher).batch (c.if-not-is_writing.ensures.0 refl)), done.does);
     }

@@ -1,4 +1,4 @@
-use Rattle.std.proofs.Common.{nat_eq, option_map, ◌≡◌, ◌≢◌, ℕ, ◌+◌, ◌<◌, inl, inr, refl, sym, ap, subst, ◌∙◌, arith, List, []}
+use Rattle.std.proofs.Common.{nat_eq, option_map, ◌+◌, ◌<◌, inl, inr, refl, sym, ap, subst, ◌∙◌, arith, []}
 use Rattle.foyer_model.specs.Ids.{is_id_in, AreDistinct}
 use Rattle.foyer_recover.proofs.CleanLemmas.{clean_once, clean_below}
 use Rattle.foyer_recover.proofs.EmptyLemmas.{none_at_end}
@@ -74,5 +74,6 @@ returns-clause-opened g c = record {
     flushers = c.in_ok-flushers.ensures.idle;
     manager = subst (λ l. IsManagedAs c.args.settings c.in_ok-manager.manager (opened_sets c.args.settings.blocks l)) c.deref.ensures.value c.in_ok-manager.ensures.placed;
     reclaims = λ b. ap (λ es. option_map reclaiming (lookup (nat_eq b) es)) c.new-reclaims.ensures.empty;
+    destroy = refl;
   };
 }

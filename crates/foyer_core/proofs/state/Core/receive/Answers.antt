@@ -31,6 +31,7 @@ returns-in-Err-clause-back g c =
             c.index_mut-found.ensures.value c.in-Err.ensures.refused;
         manager = refl;
         reclaims = λ b. refl;
+        destroy = refl;
       },
     )
 
@@ -50,6 +51,7 @@ returns-then-flusher-len-clause-meets g c = λ age_of s sound it stands few.
       flushers = refl;
       manager = refl;
       reclaims = λ b. refl;
+      destroy = refl;
     }) stands (is_early m s old it stands few, (λ draws. absurd draws), (λ turn. let lt : f < s.flushers = turn in omega (arith, c.len.ensures, c.if-flusher-len.true)))
 
 pub returns-in-Err-clause-meets : goal.returns-in-Err-clause-meets

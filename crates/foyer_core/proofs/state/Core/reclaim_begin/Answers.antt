@@ -1,14 +1,9 @@
-use Rattle.std.proofs.Common.{◌≡◌, ◌<◌, ◌-◌, ◌^◌, ℕ, true, false, IsTrue, List, [], Option, Some, None, option_map, length, if◌then◌else◌, nat_eq, slice_get, refl, sym, ap, subst, ◌∙◌, arith}
-use Rattle.std.proofs.lemmas.Bool.{false≢true}
+use Rattle.std.proofs.Common.{◌≡◌, ◌<◌, ℕ, true, false, IsTrue, List, Option, Some, option_map, length, if◌then◌else◌, nat_eq, slice_get, refl, sym, ap, subst, ◌∙◌}
 use Rattle.foyer_device.specs.declared.error.ErrorKind.TheVariants as kind
-use Rattle.foyer_model.specs.InTurn.{InTurn}
 use Rattle.foyer_model.specs.Numbers.{put}
 use Rattle.foyer_model.specs.Reclaim as model_reclaim
-use Rattle.foyer_model.specs.Refusal.{MayRefuse}
 use Rattle.foyer_model.specs.Reply as model_reply
 use Rattle.foyer_model.specs.State as model_state
-use Rattle.foyer_model.specs.Step as model_step
-use Rattle.foyer_rules.specs.CoreRules.{machine, layout}
 use Rattle.foyer_sets.specs.BuiltIn.{built_in_answer, built_in_marks}
 use Rattle.foyer_sets.specs.Pickers.{Answer, answers_of, answers_given, marks_given, picker_info, pick_of}
 use Rattle.foyer_sets.specs.BlockSets.{BlockSets, Stands, MayReclaim}
@@ -20,14 +15,15 @@ use Rattle.foyer_sets.proofs.ModelPickLemmas.{picks_match}
 use Rattle.foyer_standing.specs.Standing.{sets_of}
 use Rattle.foyer_core.specs.Reclaiming.{Reclaiming, ChangesReclaim, reclaim_at, reclaiming, first_reclaim}
 use Rattle.foyer_core.specs.declared.step.Step.TheVariants as step
-use Rattle.foyer_core.proofs.ReclaimSteps.{may_begin, must_begin, would_begin, evictable_there, picked, after_pick, asked_by_all}
-use Rattle.foyer_core.proofs.TurnLemmas.{is_early, same, refused, not_now}
+use Rattle.foyer_core.proofs.ReclaimEnds.{picked, after_pick, asked_by_all}
+use Rattle.foyer_core.proofs.ReclaimSteps.{may_begin, must_begin, would_begin, evictable_there}
+use Rattle.foyer_core.proofs.TurnLemmas.{is_early, refused, not_now}
 use Rattle.foyer_core.proofs.state.Core.reclaim_begin.Goals as goal
 
 pub returns-then-not-may_reclaim-clause-meets : goal.returns-then-not-may_reclaim-clause-meets
 returns-then-not-may_reclaim-clause-meets g c = λ m s sound it stands few.
     let core = c.args.self.now in
-    not_now m s sound step.ReclaimBegin core _ it (record { index = refl; next = refl; steps = refl; closed = refl; queued = refl; settings = refl; flushers = refl; manager = refl; reclaims = λ b. refl }) stands (
+    not_now m s sound step.ReclaimBegin core _ it (record { index = refl; next = refl; steps = refl; closed = refl; queued = refl; settings = refl; flushers = refl; manager = refl; reclaims = λ b. refl; destroy = refl }) stands (
       is_early m s core it stands few,
       (λ draws. absurd draws),
       (λ turn.
@@ -39,21 +35,21 @@ pub returns-in_default-clause-meets : goal.returns-in_default-clause-meets
 returns-in_default-clause-meets g c = λ m s sound it stands few.
     let core = c.args.self.now in
     refused m s sound step.ReclaimBegin core _ it kind.Memory model_reply.Memory refl
-    (record { index = refl; next = refl; steps = refl; closed = refl; queued = refl; settings = refl; flushers = refl; manager = refl; reclaims = λ b. ap (option_map reclaiming) (c.reserve.ensures.entries.2 b) }) stands
+    (record { index = refl; next = refl; steps = refl; closed = refl; queued = refl; settings = refl; flushers = refl; manager = refl; reclaims = λ b. ap (option_map reclaiming) (c.reserve.ensures.entries.2 b); destroy = refl }) stands
     (is_early m s core it stands few, would_begin m s sound core it stands ((c.may_reclaim.ensures.may (sets_of it) stands.manager.sets).0 c.if-not-may_reclaim.false))
 
 pub returns-then-is_err-clause-meets : goal.returns-then-is_err-clause-meets
 returns-then-is_err-clause-meets g c = λ m s sound it stands few.
     let core = c.args.self.now in
     refused m s sound step.ReclaimBegin core _ it kind.Memory model_reply.Memory refl
-    (record { index = refl; next = refl; steps = refl; closed = refl; queued = refl; settings = refl; flushers = refl; manager = refl; reclaims = λ b. ap (option_map reclaiming) (c.reserve.ensures.entries.2 b) }) stands
+    (record { index = refl; next = refl; steps = refl; closed = refl; queued = refl; settings = refl; flushers = refl; manager = refl; reclaims = λ b. ap (option_map reclaiming) (c.reserve.ensures.entries.2 b); destroy = refl }) stands
     (is_early m s core it stands few, would_begin m s sound core it stands ((c.may_reclaim.ensures.may (sets_of it) stands.manager.sets).0 c.if-not-may_reclaim.false))
 
 pub returns-in-Err-clause-meets : goal.returns-in-Err-clause-meets
 returns-in-Err-clause-meets g c = λ m s sound it stands few.
     let core = c.args.self.now in
     refused m s sound step.ReclaimBegin core _ it kind.Memory model_reply.Memory refl
-    (record { index = refl; next = refl; steps = refl; closed = refl; queued = refl; settings = refl; flushers = refl; manager = c.in-Err.ensures.unchanged; reclaims = λ b. ap (option_map reclaiming) (c.reserve.ensures.entries.2 b) }) stands
+    (record { index = refl; next = refl; steps = refl; closed = refl; queued = refl; settings = refl; flushers = refl; manager = c.in-Err.ensures.unchanged; reclaims = λ b. ap (option_map reclaiming) (c.reserve.ensures.entries.2 b); destroy = refl }) stands
     (is_early m s core it stands few, would_begin m s sound core it stands ((c.may_reclaim.ensures.may (sets_of it) stands.manager.sets).0 c.if-not-may_reclaim.false))
 
 pub returns-in-Ok-None-clause-meets : goal.returns-in-Ok-None-clause-meets
@@ -79,7 +75,7 @@ returns-in-Ok-Some-clause-meets g c = λ m s sound it stands few.
     record {
       after = after_pick m s sound core it stands r.block r.probation.items;
       it = model_reply.Picked r.block r.answers.items r.probation.items;
-      stands = picked m s sound core it stands r.block _ r.probation.items c.filling_of.result (record { settings = refl; next = refl; steps = refl; closed = refl; queued = refl; flushers = refl }) refl
+      stands = picked m s sound core it stands r.block _ r.probation.items c.filling_of.result (record { settings = refl; next = refl; steps = refl; closed = refl; queued = refl; flushers = refl; destroy = refl }) refl
           c.reclaim_begin.ensures.same (after (sets_of it) stands.manager.sets) c.filling_of.ensures changes there.0 there.1;
       reply = refl;
       turns = (

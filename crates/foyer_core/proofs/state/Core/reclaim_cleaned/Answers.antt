@@ -1,10 +1,12 @@
-use Rattle.std.proofs.Common.{◌≡◌, ◌<◌, true, false, IsTrue, refl, sym, ap, subst, ◌∙◌}
+use Rattle.std.proofs.Common.{◌≡◌, ◌<◌, true, false, IsTrue, refl, sym, subst, ◌∙◌}
 use Rattle.foyer_model.specs.Reply as model_reply
 use Rattle.foyer_model.specs.State as model_state
 use Rattle.foyer_standing.specs.Standing.{sets_of}
 use Rattle.foyer_core.specs.Reclaiming.{reclaim_at}
 use Rattle.foyer_core.proofs.ReclaimLemmas.{reclaims_set}
-use Rattle.foyer_core.proofs.ReclaimSteps.{cleans, at_stage, reclaimed_in, finished}
+use Rattle.foyer_core.proofs.ReclaimEnds.{finished}
+use Rattle.foyer_core.proofs.ReclaimStages.{cleans, at_stage}
+use Rattle.foyer_core.proofs.ReclaimSteps.{reclaimed_in}
 use Rattle.foyer_core.proofs.state.Core.reclaim_cleaned.Goals as goal
 
 pub returns-then-not-is_reclaimed-clause-meets : goal.returns-then-not-is_reclaimed-clause-meets
@@ -21,7 +23,7 @@ returns-clause-meets g c = λ m s sound it stands few.
     let core = c.args.self.now in
     let b = c.args.block in
     let at = cleans m s sound b (it.place b) (it.filling b) (reclaim_at core.reclaims b) (it.reclaims b) (stands.reclaims b) (sym c.may_clean.ensures ∙ c.if-not-may_clean.false) in
-    let ended = finished m s sound core it stands b _ c.on_reclaim_finish.result (record { settings = refl; next = refl; steps = refl; closed = refl; queued = refl; flushers = refl }) refl
+    let ended = finished m s sound core it stands b _ c.on_reclaim_finish.result (record { settings = refl; next = refl; steps = refl; closed = refl; queued = refl; flushers = refl; destroy = refl }) refl
     c.on_reclaim_finish.ensures.same (c.on_reclaim_finish.ensures.finished (sets_of it) stands.manager.sets) c.end.ensures (at.stands_as).there (reclaims_set (it.place b) at.set) in
     record {
       after = ended.after;

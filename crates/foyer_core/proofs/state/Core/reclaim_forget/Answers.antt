@@ -1,4 +1,4 @@
-use Rattle.std.proofs.Common.{◌≡◌, ◌<◌, Bool, true, Option, Some, option_map, map, refl, sym, ap, subst, ◌∙◌}
+use Rattle.std.proofs.Common.{◌≡◌, Option, Some, option_map, refl, sym, ap, subst, ◌∙◌}
 use Rattle.std.specs.Prelude.{IfSome}
 use Rattle.foyer_block.specs.Removal.{without_addresses}
 use Rattle.foyer_model.specs.Index.{forgotten}
@@ -6,14 +6,13 @@ use Rattle.foyer_model.specs.Numbers.{put}
 use Rattle.foyer_model.specs.Reclaim.{Forgets, not_among}
 use Rattle.foyer_model.specs.Reply as model_reply
 use Rattle.foyer_model.specs.State as model_state
-use Rattle.foyer_model.specs.Step as model_step
 use Rattle.foyer_rules.specs.CoreRules.{machine}
-use Rattle.foyer_standing.specs.Addresses.{listed_of}
 use Rattle.foyer_standing.specs.Standing.{IsIndexedAs}
 use Rattle.foyer_standing.proofs.ForgetLemmas.{forgotten_is}
 use Rattle.foyer_core.specs.Reclaiming.{Reclaiming, ChangesReclaim, reclaim_at, after_forget}
 use Rattle.foyer_core.proofs.ReclaimLemmas.{all_stay}
-use Rattle.foyer_core.proofs.ReclaimSteps.{forgets, at_stage, reclaim_stands}
+use Rattle.foyer_core.proofs.ReclaimStages.{forgets, at_stage}
+use Rattle.foyer_core.proofs.ReclaimSteps.{reclaim_stands}
 use Rattle.foyer_core.proofs.state.Core.reclaim_forget.Goals as goal
 
 pub returns-clause-meets : goal.returns-clause-meets
@@ -35,7 +34,7 @@ returns-clause-meets g c = λ m s sound it stands few.
       after = record it { index = forgotten (not_among (at.model).requeued (at.model).listed) it.index; reclaims = put it.reclaims b (Some its) };
       it = model_reply.Cleans b;
       stands = reclaim_stands m s core it stands b _ _ (Some (after_forget at.ours)) (Some its)
-          (record { settings = refl; next = refl; steps = refl; closed = refl; queued = refl; flushers = refl }) refl indexed changes (
+          (record { settings = refl; next = refl; steps = refl; closed = refl; queued = refl; flushers = refl; destroy = refl }) refl indexed changes (
             at.set,
             record {
               there = (at.stands_as).there;

@@ -1,4 +1,4 @@
-use Rattle.std.proofs.Common.{◌≡◌, ◌==◌, length, refl, sym, ap, ◌∙◌}
+use Rattle.std.proofs.Common.{◌≡◌, ◌==◌, refl, sym, ap, ◌∙◌}
 use Rattle.foyer_model.specs.Reclaim.{running}
 use Rattle.foyer_model.specs.Reply as model_reply
 use Rattle.foyer_sets.specs.BlockSets.{reclaim_count}

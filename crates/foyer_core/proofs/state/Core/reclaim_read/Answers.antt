@@ -1,23 +1,21 @@
-use Rattle.std.proofs.Common.{◌≡◌, ◌<◌, ◌-◌, ◌^◌, ℕ, Bool, true, false, not, if◌then◌else◌, List, [], Option, Some, None, Result, Ok, Err, option_map, length, map, refl, sym, ap, subst, ◌∙◌, arith}
-use Rattle.std.specs.Prelude.{IfSome, is_none}
+use Rattle.std.proofs.Common.{◌≡◌, not, if◌then◌else◌, [], Option, Some, None, Ok, Err, option_map, length, refl, sym, ap, subst, ◌∙◌, arith}
+use Rattle.std.specs.Prelude.{IfSome}
 use Rattle.foyer_device.specs.declared.error.ErrorKind.TheVariants as kind
-use Rattle.foyer_model.specs.InTurn.{ReadsFor}
 use Rattle.foyer_model.specs.Numbers.{put}
-use Rattle.foyer_model.specs.Reclaim.{issued_at, reclaiming, Lists, Scanned, Rereads}
+use Rattle.foyer_model.specs.Reclaim.{Scanned, Rereads}
 use Rattle.foyer_model.specs.Reply as model_reply
 use Rattle.foyer_model.specs.State as model_state
 use Rattle.foyer_model.specs.Step as model_step
-use Rattle.foyer_rules.specs.Content.{Content}
 use Rattle.foyer_rules.specs.CoreRules.{machine}
 use Rattle.foyer_scan.specs.ScanState.{Scan}
-use Rattle.foyer_core.specs.Reclaiming.{Reclaiming, ChangesReclaim, awaited, reclaim_at, after_fault, after_index, at_offset, offset_of, rejected, verdict_list, verdicts_of}
-use Rattle.foyer_core.specs.Refines.{IsRefinedUncounted}
-use Rattle.foyer_core.specs.declared.reply.Reply.TheVariants as reply
+use Rattle.foyer_core.specs.Reclaiming.{Reclaiming, ChangesReclaim, reclaim_at, after_fault, after_index, rejected, verdict_list, verdicts_of}
 use Rattle.foyer_core.specs.declared.step.Step.TheVariants as step
 use Rattle.foyer_core.proofs.ReclaimCame.{read_turn, would_read, reads_index}
 use Rattle.foyer_rules.specs.declared.settings.Settings.{Settings}
-use Rattle.foyer_core.proofs.ReclaimSteps.{Awaits, awaits, not_reading, no_place, reads_for, not_as_long, reclaim_stands}
-use Rattle.foyer_core.proofs.TurnLemmas.{is_early, same, refused, not_now, comes_back, comes_back_late, brought}
+use Rattle.foyer_core.proofs.ReclaimEnds.{no_place}
+use Rattle.foyer_core.proofs.ReclaimStages.{awaits, not_reading, reads_for, not_as_long}
+use Rattle.foyer_core.proofs.ReclaimSteps.{reclaim_stands}
+use Rattle.foyer_core.proofs.TurnLemmas.{is_early, refused, not_now, comes_back, comes_back_late, brought}
 use Rattle.foyer_core.proofs.state.Core.reclaim_read.Goals as goal
 
 pub returns-in-Err-clause-meets : goal.returns-in-Err-clause-meets
@@ -32,7 +30,7 @@ returns-in-Err-clause-meets g c = λ m s sound it stands few.
       after = record it { reclaims = put it.reclaims b (Some its) };
       it = model_reply.Listed [];
       stands = reclaim_stands m s core it stands b _ it.index (Some (after_fault a.ours)) (Some its)
-          (record { settings = refl; next = refl; steps = refl; closed = refl; queued = refl; flushers = refl }) refl stands.index changes (
+          (record { settings = refl; next = refl; steps = refl; closed = refl; queued = refl; flushers = refl; destroy = refl }) refl stands.index changes (
             (a.reads).set,
             record {
               there = ((a.reads).stands_as).there;
@@ -55,7 +53,7 @@ returns-then-is_none-clause-meets g c = λ m s sound it stands few.
     let core = c.args.self.now in
     let b = c.args.block in
     comes_back_late m s sound (step.ReclaimRead b c.args.outcome) _ _ it c.reclaim_read.ensures
-    (not_now m s sound (step.ReclaimRead b c.args.outcome) core _ it (record { index = refl; next = refl; steps = refl; closed = refl; queued = refl; settings = refl; flushers = refl; manager = refl; reclaims = λ q. refl }) stands (
+    (not_now m s sound (step.ReclaimRead b c.args.outcome) core _ it (record { index = refl; next = refl; steps = refl; closed = refl; queued = refl; settings = refl; flushers = refl; manager = refl; reclaims = λ q. refl; destroy = refl }) stands (
       is_early m s core it stands few,
       (λ draws. absurd draws),
       (λ turn.
@@ -69,7 +67,7 @@ returns-then-len-self-clause-meets g c = λ m s sound it stands few.
     let a = awaits m s sound b (it.place b) (it.filling b) (reclaim_at core.reclaims b) (it.reclaims b) (stands.reclaims b) c.awaited.result (sym c.awaited.ensures) (c.is_none.ensures ∙ ap not c.if-is_none.false) in
     brought m s sound (step.ReclaimRead b c.args.outcome) (step.ReclaimRead b (Ok c.in-Ok.bytes)) _ _ it (ap (step.ReclaimRead b) c.in-Ok.is)
     (comes_back_late m s sound (step.ReclaimRead b (Ok c.in-Ok.bytes)) _ _ it c.reclaim_read-then-len-self.ensures
-    (not_now m s sound (step.ReclaimRead b (Ok c.in-Ok.bytes)) core _ it (record { index = refl; next = refl; steps = refl; closed = refl; queued = refl; settings = refl; flushers = refl; manager = refl; reclaims = λ q. refl }) stands (
+    (not_now m s sound (step.ReclaimRead b (Ok c.in-Ok.bytes)) core _ it (record { index = refl; next = refl; steps = refl; closed = refl; queued = refl; settings = refl; flushers = refl; manager = refl; reclaims = λ q. refl; destroy = refl }) stands (
       is_early m s core it stands few,
       (λ draws. absurd draws),
       (λ turn.
@@ -88,7 +86,7 @@ returns-in-Err-read-clause-meets g c = λ m s sound it stands few.
     brought m s sound (step.ReclaimRead b c.args.outcome) (step.ReclaimRead b (Ok c.in-Ok.bytes)) _ _ it (ap (step.ReclaimRead b) c.in-Ok.is)
     (comes_back m s sound (step.ReclaimRead b (Ok c.in-Ok.bytes)) _ kind.Memory _ it c.reclaim_read-in-Err-read.ensures
     (refused m s sound (step.ReclaimRead b (Ok c.in-Ok.bytes)) core _ it kind.Memory model_reply.Memory refl
-    (record { index = refl; next = refl; steps = refl; closed = refl; queued = refl; settings = refl; flushers = refl; manager = refl; reclaims = c.in-Err-read.ensures.unchanged }) stands
+    (record { index = refl; next = refl; steps = refl; closed = refl; queued = refl; settings = refl; flushers = refl; manager = refl; reclaims = c.in-Err-read.ensures.unchanged; destroy = refl }) stands
     (is_early m s core it stands few, would_read m s sound it b a.ours c.in-Ok.bytes.items a.reads long)))
 
 pub returns-in-Some-clause-meets : goal.returns-in-Some-clause-meets
@@ -100,7 +98,7 @@ returns-in-Some-clause-meets g c = λ m s sound it stands few.
     let long : length c.in-Ok.bytes.items ≡ s.blob_index_size = omega (arith, size, c.len.ensures, c.if-len-self.false) in
     let came : c.deref.result.now ≡ c.in-Ok.bytes.items = c.deref.ensures.value in
     let d = reads_index m s sound core it stands b a.ours c.in-Ok.bytes.items a.mine a.reads c.in-Ok-read.verdicts _
-    (record { settings = refl; next = refl; steps = refl; closed = refl; queued = refl; flushers = refl }) refl refl
+    (record { settings = refl; next = refl; steps = refl; closed = refl; queued = refl; flushers = refl; destroy = refl }) refl refl
     (subst (λ x. ChangesReclaim core.reclaims c.read.new.reclaims b (option_map (after_index x) (reclaim_at core.reclaims b))) came c.in-Ok-read.ensures.read)
     (subst (λ x. IfSome (reclaim_at core.reclaims b) (λ k. verdict_list c.in-Ok-read.verdicts ≡ rejected x k)) came c.in-Ok-read.ensures.verdicts) in
     brought m s sound (step.ReclaimRead b c.args.outcome) (step.ReclaimRead b (Ok c.in-Ok.bytes)) _ _ it (ap (step.ReclaimRead b) c.in-Ok.is) (record {
@@ -120,7 +118,7 @@ returns-clause-meets g c = λ m s sound it stands few.
     let long : length c.in-Ok.bytes.items ≡ s.blob_index_size = omega (arith, size, c.len.ensures, c.if-len-self.false) in
     let came : c.deref.result.now ≡ c.in-Ok.bytes.items = c.deref.ensures.value in
     let d = reads_index m s sound core it stands b a.ours c.in-Ok.bytes.items a.mine a.reads c.in-Ok-read.verdicts _
-    (record { settings = refl; next = refl; steps = refl; closed = refl; queued = refl; flushers = refl }) refl refl
+    (record { settings = refl; next = refl; steps = refl; closed = refl; queued = refl; flushers = refl; destroy = refl }) refl refl
     (subst (λ x. ChangesReclaim core.reclaims c.read.new.reclaims b (option_map (after_index x) (reclaim_at core.reclaims b))) came c.in-Ok-read.ensures.read)
     (subst (λ x. IfSome (reclaim_at core.reclaims b) (λ k. verdict_list c.in-Ok-read.verdicts ≡ rejected x k)) came c.in-Ok-read.ensures.verdicts) in
     brought m s sound (step.ReclaimRead b c.args.outcome) (step.ReclaimRead b (Ok c.in-Ok.bytes)) _ _ it (ap (step.ReclaimRead b) c.in-Ok.is) (record {

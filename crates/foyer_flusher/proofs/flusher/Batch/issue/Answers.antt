@@ -23,4 +23,5 @@ returns g c =
       invalid = refl;
       pieces = refl;
       waits = refl;
+      logged = refl;
     }

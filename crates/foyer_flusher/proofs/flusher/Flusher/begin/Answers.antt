@@ -15,6 +15,7 @@ returns-clause-begins g c =
       invalid = c.replace-2.result;
       pieces = c.replace-3.result;
       waits = c.replace-4.result;
+      logged = None;
     } in
     let filled : c.reset.new.self ≡ record old.filled { entries = [] } = c.reset.ensures ∙ ap (λ (b : Entries). record b { entries = [] }) c.split.ensures.same in
     let batch : c.replace-5.new.self ≡ Some all = c.replace-5.ensures.after in
@@ -36,6 +37,7 @@ returns-clause-begins g c =
       invalid = λ i. (c.replace-2.ensures.value i).items;
       pieces = λ i. (c.replace-3.ensures.value i).items;
       waits = λ i. (c.replace-4.ensures.value i).items;
+      logged = refl;
       left = λ i. record {
         queue = old.queue.items;
         filled = filled i;

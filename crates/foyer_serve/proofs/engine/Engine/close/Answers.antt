@@ -26,4 +26,4 @@ pub returns-in-Ok-clause-rest : goal.returns-in-Ok-clause-rest
 returns-in-Ok-clause-rest g c = λ ok.
     comes_to_rest plain c.args.self.now.core c.flush_queued.new.self.core
     (leads_more plain IsAny LeavesAllIdle LeavesAllIdle c.args.self.now.core c.step-closed.new.core c.flush_queued.new.self.core (λ x y z one two. two)
-    (step_leads plain step.Close c.step-closed.result c.args.self.now.core c.step-closed.new.core (c.step-closed.ensures.meets tt)) (c.flush_queued.ensures.leads ok))
+    (step_leads plain step.Close c.step-closed.result c.args.self.now.core c.step-closed.new.core c.step-closed.ensures.meets) (c.flush_queued.ensures.leads ok))

@@ -30,7 +30,7 @@ returns-then-not-has_begun-clause-waited g c =
 pub returns-then-not-has_begun-clause-leads : goal.returns-then-not-has_begun-clause-leads
 returns-then-not-has_begun-clause-leads g c =
     flush_over plain c.args.flusher c.loop.has_ended c.in_ok-is_empty.is_empty c.step-begin.result c.args.self.now.core c.loop.self.core c.receive_all.new.self.core c.step-begin.new.core
-    c.loop.invariant.1 c.in_ok-is_empty.ensures.leads (c.step-begin.ensures.meets tt) c.if-has_ended.true c.if-is_empty.true
+    c.loop.invariant.1 c.in_ok-is_empty.ensures.leads c.step-begin.ensures.meets c.if-has_ended.true c.if-is_empty.true
     (done_nothing c.step-begin.result c.in_ok-has_begun.has_begun (sym c.answer_step.ensures ∙ c.in_ok-has_begun.was) c.if-not-has_begun.true)
 
 pub returns-in_err-write_all-clause-waited : goal.returns-in_err-write_all-clause-waited
@@ -60,9 +60,9 @@ loop-preserved g c =
     let written = known_more plain c.args.self.now.core c.step-begin.new.core c.write_all.new.self.core (g.D.Disk.byte_at c.args.self.now.disk) (g.D.Disk.byte_at c.receive_all.new.self.disk) (g.D.Disk.byte_at c.write_all.new.self.disk) begun (c.write_all.ensures.waited) in (
       known_more plain c.args.self.now.core c.write_all.new.self.core c.step-end.new.core (g.D.Disk.byte_at c.args.self.now.disk) (g.D.Disk.byte_at c.write_all.new.self.disk) (g.D.Disk.byte_at c.write_all.new.self.disk) written (known_said plain (g.D.Disk.is_known c.write_all.new.self.disk) (move.FlushEnd c.args.flusher) c.step-end.result c.write_all.new.self.core c.step-end.new.core (g.D.Disk.byte_at c.write_all.new.self.disk) tt (c.step-end.ensures.runs (move.FlushEnd c.args.flusher) refl (g.D.Disk.byte_at c.write_all.new.self.disk))),
       flush_more plain c.args.flusher c.loop.has_ended c.in_ok-is_empty.is_empty c.step-begin.result c.args.self.now.core c.loop.self.core c.receive_all.new.self.core c.step-begin.new.core
-          c.loop.invariant.1 c.in_ok-is_empty.ensures.leads (c.step-begin.ensures.meets tt) c.step-end.result c.write_all.new.self.core c.step-end.new.core
+          c.loop.invariant.1 c.in_ok-is_empty.ensures.leads c.step-begin.ensures.meets c.step-end.result c.write_all.new.self.core c.step-end.new.core
           (done_something c.step-end.result c.in_ok-answer_step.field-0 (sym c.answer_step-in-loop.ensures ∙ c.in_ok-answer_step.was) c.if-not-branch.false)
-          c.in_ok-write_all.ensures.leads (c.step-end.ensures.meets tt),
+          c.in_ok-write_all.ensures.leads c.step-end.ensures.meets,
     )
 
 pub returns-clause-waited : goal.returns-clause-waited

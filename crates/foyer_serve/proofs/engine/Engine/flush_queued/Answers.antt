@@ -17,7 +17,7 @@ returns-in-Err-clause-waited g c =
 pub loop-flusher-preserved : goal.loop-flusher-preserved
 loop-flusher-preserved g c = (
   known_more plain c.args.self.now.core c.loop-flusher.self.core c.step-queued.new.core (g.D.Disk.byte_at c.args.self.now.disk) (g.D.Disk.byte_at c.loop-flusher.self.disk) (g.D.Disk.byte_at c.loop-flusher.self.disk) c.loop-flusher.invariant.0 (known_said plain (g.D.Disk.is_known c.loop-flusher.self.disk) (move.Wait c.loop-flusher.flusher c.loop-flusher.self.next_wait) c.step-queued.result c.loop-flusher.self.core c.step-queued.new.core (g.D.Disk.byte_at c.loop-flusher.self.disk) tt (c.step-queued.ensures.runs (move.Wait c.loop-flusher.flusher c.loop-flusher.self.next_wait) refl (g.D.Disk.byte_at c.loop-flusher.self.disk))),
-  any_more plain (step.Wait c.loop-flusher.flusher c.loop-flusher.self.next_wait) c.step-queued.result c.args.self.now.core c.loop-flusher.self.core c.step-queued.new.core c.loop-flusher.invariant.1 (c.step-queued.ensures.meets tt),
+  any_more plain (step.Wait c.loop-flusher.flusher c.loop-flusher.self.next_wait) c.step-queued.result c.args.self.now.core c.loop-flusher.self.core c.step-queued.new.core c.loop-flusher.invariant.1 c.step-queued.ensures.meets,
 )
 
 pub returns-clause-waited : goal.returns-clause-waited

@@ -22,12 +22,12 @@ returns-then-not-branch-clause-leads g c =
     takes_all plain c.args.flusher c.args.self.now.core c.step-received.new.core
     (receive_over plain c.args.flusher c.args.self.now.core c.loop.self.core c.step-received.new.core c.step-received.result
     (done_nothing c.step-received.result c.in_ok-answer_step.field-0 (sym c.answer_step.ensures ∙ c.in_ok-answer_step.was) c.if-not-branch.true)
-    c.loop.invariant.1 (c.step-received.ensures.meets tt))
+    c.loop.invariant.1 c.step-received.ensures.meets)
 
 pub returns-then-wants_flush-clause-leads : goal.returns-then-wants_flush-clause-leads
 returns-then-wants_flush-clause-leads g c =
     takes_some plain c.args.flusher c.args.self.now.core c.step-received.new.core
-    (receive_more plain c.args.flusher c.args.self.now.core c.loop.self.core c.step-received.new.core c.step-received.result c.loop.invariant.1 (c.step-received.ensures.meets tt))
+    (receive_more plain c.args.flusher c.args.self.now.core c.loop.self.core c.step-received.new.core c.step-received.result c.loop.invariant.1 c.step-received.ensures.meets)
 
 pub returns-then-wants_flush-clause-waited : goal.returns-then-wants_flush-clause-waited
 returns-then-wants_flush-clause-waited g c = known_more plain c.args.self.now.core c.loop.self.core c.step-received.new.core (g.D.Disk.byte_at c.args.self.now.disk) (g.D.Disk.byte_at c.loop.self.disk) (g.D.Disk.byte_at c.loop.self.disk) c.loop.invariant.0 (known_said plain (g.D.Disk.is_known c.loop.self.disk) (move.Receive c.args.flusher) c.step-received.result c.loop.self.core c.step-received.new.core (g.D.Disk.byte_at c.loop.self.disk) tt (c.step-received.ensures.runs (move.Receive c.args.flusher) refl (g.D.Disk.byte_at c.loop.self.disk)))
@@ -38,7 +38,7 @@ returns-then-not-branch-clause-waited g c = known_more plain c.args.self.now.cor
 pub loop-preserved : goal.loop-preserved
 loop-preserved g c = (
   known_more plain c.args.self.now.core c.loop.self.core c.step-received.new.core (g.D.Disk.byte_at c.args.self.now.disk) (g.D.Disk.byte_at c.loop.self.disk) (g.D.Disk.byte_at c.loop.self.disk) c.loop.invariant.0 (known_said plain (g.D.Disk.is_known c.loop.self.disk) (move.Receive c.args.flusher) c.step-received.result c.loop.self.core c.step-received.new.core (g.D.Disk.byte_at c.loop.self.disk) tt (c.step-received.ensures.runs (move.Receive c.args.flusher) refl (g.D.Disk.byte_at c.loop.self.disk))),
-  receive_more plain c.args.flusher c.args.self.now.core c.loop.self.core c.step-received.new.core c.step-received.result c.loop.invariant.1 (c.step-received.ensures.meets tt),
+  receive_more plain c.args.flusher c.args.self.now.core c.loop.self.core c.step-received.new.core c.step-received.result c.loop.invariant.1 c.step-received.ensures.meets,
 )
 
 pub returns-clause-waited : goal.returns-clause-waited

@@ -2,15 +2,8 @@ use Rattle.std.proofs.Common.{◌≡◌, ◌<◌, ◌≤◌, ◌+◌, ◌-◌, t
 use Rattle.std.proofs.lemmas.List.{get_or_read}
 use Rattle.foyer_model.specs.Ids.{is_id_in}
 use Rattle.foyer_sets.specs.IdList.{IdList, AreStored, IsWithout}
-use Rattle.foyer_sets.proofs.IdLemmas.{where_in, removed_ids}
+use Rattle.foyer_sets.proofs.IdLemmas.{stands, removed_ids}
 use Rattle.foyer_sets.proofs.block.ids.IdSet.remove.Goals as goal
-
--- where the id stands
-stands : (v : IdList) (ids at : List ℕ) (id : ℕ) → AreStored ids at → (λ (w : IdList). w) (record { ids = ids; bound = length at }) ≡ v
-    → is_id_in id v.ids ≡ true → (i : ℕ) × (i < length ids) × (slice_index ids i ≡ id) × (id < length at) × (slice_index at id ≡ i)
-stands v ids at id are view is =
-    let w = where_in id ids (subst (λ (w : IdList). is_id_in id w.ids ≡ true) (sym view) is) in
-    (w.0, w.1, w.2, subst (λ k. k < length at) w.2 (are.there w.0 w.1), ap (slice_index at) (sym w.2) ∙ are.position w.0 w.1)
 
 pub index-requires : goal.index-requires
 index-requires g c =
