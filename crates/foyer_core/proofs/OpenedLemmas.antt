@@ -79,13 +79,13 @@ module _ {K V P A : Type 0} (m : Meaning K V P) (s : Settings) (sound : AreValid
     batch = tt;
   })
 
-  pub opened_stands : (o : Opened) (core : Core K V P A) → IsOpening (sizes_in s) s.blocks [] o → IsOpened s o core → IsStateOf m s core (opened_state (machine m s sound) o)
-  opened_stands o core opening opened = record {
+  pub opened_stands : (marks : List (ℕ × ℕ)) (o : Opened) (core : Core K V P A) → IsOpening (sizes_in s) s.blocks marks o → IsOpened s o core → IsStateOf m s core (opened_state (machine m s sound) o)
+  opened_stands marks o core opening opened = record {
     sizes = opened.sizes;
     index = record {
       slot = λ hash. sym (opened.index hash) ∙ slot_held (finite.get core.index hash);
       there = λ hash a is.
-          (stands_at m.is_key m.is_value s sound [] o opening hash (address_of a)
+          (stands_at m.is_key m.is_value s sound marks o opening hash (address_of a)
           (sym (opened.index hash) ∙ ap held_slot is)).block;
     };
     next = sym opened.next;

@@ -1,5 +1,5 @@
 -- What a core has that was opened on the bytes that a run of one left.
-use Rattle.std.specs.Prelude.{◌≡◌, ℕ, ◌+◌, ◌<◌, ◌≤◌, Bool, List, Option, Some, ◌⊎◌}
+use Rattle.std.specs.Prelude.{◌≡◌, ℕ, ◌+◌, ◌<◌, ◌≤◌, Bool, List, [], Option, Some, ◌⊎◌}
 use Rattle.std.specs.FinMap as finite
 use Rattle.foyer_core.specs.Opened.{IsOpenedFrom}
 use Rattle.foyer_core.specs.declared.state.Core.{Core}
@@ -29,7 +29,7 @@ ReadsAll s surely_has recover_mode.Quiet = HasPlaces s surely_has
 ReadsAll s surely_has recover_mode.Strict = Unit {0}
 
 -- A run of a core was stopped in this world and left these bytes, which contracts see, and a core of the same sizes was
--- opened on them.
+-- opened on them, without marks of deletes.
 pub record IsReopened {K V P A : Type 0} (is_key is_value : List ℕ → Bool) (s : Settings) (sound : AreValid s)
     (w : World Content) (bytes : ℕ → ℕ → ℕ) (surely_has : ℕ → ℕ → ℕ → Type 0) (is_known : Type 0) (mode : RecoverMode)
     (core : Core K V P A) : Type 0 where
@@ -38,7 +38,7 @@ pub record IsReopened {K V P A : Type 0} (is_key is_value : List ℕ → Bool) (
   pub strays : HasNoStrays (rules_of is_key is_value s sound) w bytes
   pub known : is_known
   pub reads : ReadsAll s surely_has mode
-  pub opened : IsOpenedFrom s bytes surely_has mode ((mode ≡ recover_mode.None) ⊎ is_known) core
+  pub opened : IsOpenedFrom s bytes surely_has mode [] ((mode ≡ recover_mode.None) ⊎ is_known) core
 
 -- what the core's index has for a hash
 abbrev pub slot_at : {K V P A : Type 0} → Core K V P A → ℕ → Option Slot

@@ -19,11 +19,11 @@ pub use foyer_rules::laws::{
 };
 pub use foyer_rules::restart::{restart, restart_idle, restart_keeps_newest};
 
-/// An opened core stands for the state that has what was found, and the world with that state, over any bytes, is one that
+/// An opened core stands for the state that has what was found, with some marks, and the world with that state, over any bytes, is one that
 /// the laws begin with.
 pub fn opening_begins<K, V, P, A>()
-    ensures stands { (m : Meaning K V P) (s : Settings) (sound : AreValid s) (o : Opened) (core : Core K V P A)
-        → IsOpening (sizes_in s) s.blocks [] o → IsOpened s o core
+    ensures stands { (m : Meaning K V P) (s : Settings) (sound : AreValid s) (marks : List (ℕ × ℕ)) (o : Opened) (core : Core K V P A)
+        → IsOpening (sizes_in s) s.blocks marks o → IsOpened s o core
         → IsStateOf m s core (opened_state (rules_of m.is_key m.is_value s sound) o) }
     ensures opened { (is_key is_value : List ℕ → Bool) (s : Settings) (sound : AreValid s) → Begins is_key is_value s sound }
 {}

@@ -5,7 +5,7 @@ ghost use Rattle.foyer_core.specs.Opened.{IsOpenedFrom, opened_sets};
 ghost use Rattle.foyer_flusher.specs.Idle.{idle};
 ghost use Rattle.foyer_flusher.specs.Seen.{seen};
 ghost use Rattle.foyer_model.specs.Ids.{is_id_in, AreDistinct};
-ghost use Rattle.foyer_recover.specs.Recovery.{IsRefused};
+ghost use Rattle.foyer_recover.specs.Recovery.{IsRefused, marks_of};
 ghost use Rattle.foyer_rules.specs.Sizes.{AreValid, sizes_in};
 ghost use Rattle.foyer_standing.specs.Standing.{IsManagedAs};
 
@@ -14,6 +14,7 @@ use crate::env::Env;
 use crate::settings::Settings;
 use crate::state::Core;
 use foyer_block::manager::BlockId;
+use foyer_block::tombstone::Tombstone;
 use foyer_blockio::disk::Disk;
 use foyer_device::error::Result;
 use foyer_flusher::flusher::Flusher;
@@ -72,26 +73,29 @@ fn place_blocks<A: Allocator + Clone>(
 impl<K: Drop, V: Drop, P: Drop, A: Allocator + Clone> Core<K, V, P, A> {
     ghost use Rattle.foyer_recover.specs.declared.block.recover.RecoverMode.TheVariants as recover_mode;
 
-    /// Opens a core with what is found in the disk's blocks: the newest entry of each hash, the sequence behind the
-    /// greatest, and as clean blocks those that keep nothing, in the order of their ids. In `None` no block is read,
-    /// and all are clean. The pickers learn of the blocks. Nothing is written.
+    /// Opens a core with what is found in the disk's blocks and with the marks of deletes: the newest entry of each hash,
+    /// unless a mark of the hash is as new; the sequence behind the greatest of entries and marks; and as clean blocks
+    /// those that keep nothing, in the order of their ids. In `None` no block is read, and all are clean; marks count in
+    /// every mode. The pickers learn of the blocks. Nothing is written.
     ///
     /// `Config` where the settings don't go together, before anything is read; `Recover` where a read failed in
-    /// `Strict`; `SequenceEnd` where what was found has the last sequence; `Memory` at any time. No bytes refuse it.
+    /// `Strict`; `SequenceEnd` where what was found, or a mark, has the last sequence; `Memory` at any time. No bytes
+    /// refuse it.
     pub fn open<D: Disk>(
         alloc: A,
         env: &mut Env,
         settings: Settings,
         disk: &mut D,
         mode: RecoverMode,
+        marks: &[Tombstone],
     ) -> Result<Core<K, V, P, A>>
-        ensures opened { IfOk result (IsOpenedFrom settings (D.byte_at disk.old) (D.surely_has disk.old) mode
+        ensures opened { IfOk result (IsOpenedFrom settings (D.byte_at disk.old) (D.surely_has disk.old) mode (marks_of marks.now)
             ((mode ≡ recover_mode.None) ⊎ D.is_known disk.old)) }
         ensures sound { IfOk result (λ _. AreValid settings) }
         ensures refused { IfErr result (λ e. (e ≡ Memory) ⊎ ((e ≡ Config) × (AreValid settings → ⊥))
-            ⊎ ((e ≡ Recover) × (mode ≡ recover_mode.Strict)) ⊎ ((e ≡ SequenceEnd) × (mode ≢ recover_mode.None))) }
+            ⊎ ((e ≡ Recover) × (mode ≡ recover_mode.Strict)) ⊎ ((e ≡ SequenceEnd) × (mode ≡ recover_mode.None → marks.now ≢ []))) }
         ensures cause { AreValid settings → (mode ≡ recover_mode.None) ⊎ D.is_known disk.old → IfErr result
-            (IsRefused (sizes_in settings) settings.blocks (D.byte_at disk.old) (D.surely_has disk.old) mode []) }
+            (IsRefused (sizes_in settings) settings.blocks (D.byte_at disk.old) (D.surely_has disk.old) mode (marks_of marks.now)) }
         ensures unsound { (AreValid settings → ⊥) → result ≡ Err Config }
         ensures unread { mode ≡ recover_mode.None → disk.new ≡ disk.old }
         ensures known { D.is_known disk.old → D.is_known disk.new }
@@ -105,7 +109,7 @@ impl<K: Drop, V: Drop, P: Drop, A: Allocator + Clone> Core<K, V, P, A> {
             block_size: settings.block_size,
             blob_index_size: settings.blob_index_size,
         };
-        let recovered = match runner.run(&alloc, disk, settings.indexer_shards, &[]) {
+        let recovered = match runner.run(&alloc, disk, settings.indexer_shards, marks) {
             Ok(recovered) => recovered,
             Err(error) => return Err(error),
         };

@@ -1,3 +1,4 @@
+pub mod Appended
 pub mod Mark
 pub mod Pages
 pub mod PageBytes

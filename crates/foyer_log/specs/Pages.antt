@@ -19,6 +19,10 @@ abbrev pub pages_of : List Place → ℕ
 pages_of [] = 0
 pages_of (p ∷ ps) = p.size / 4096 + pages_of ps
 
+-- The pages of the log of a device of so many bytes: a slot for each of the device's pages, rounded up.
+abbrev pub log_pages : ℕ → ℕ
+log_pages capacity = (capacity / 4096 + 255) / 256
+
 -- an offset of a partition
 pub record PageAt : Type 0 where
   pub extent : Extent

@@ -1,4 +1,5 @@
 pub mod AccessLemmas
+pub mod BatchRuns
 pub mod BlockLemmas
 pub mod DestroyLemmas
 pub mod DestroyRuns

@@ -33,13 +33,13 @@ err_weakens (Ok x) P Q f is = tt
 err_weakens (Err e) P Q f is = f e is
 
 -- an opening that reads nothing is refused for its sizes and for memory alone
-pub none_refuses : {Bad : Type 0} (e : Error)
-    → ((e ≡ error.Memory) ⊎ ((e ≡ error.Config) × Bad) ⊎ ((e ≡ error.Recover) × (recover_mode.None ≡ recover_mode.Strict)) ⊎ ((e ≡ error.SequenceEnd) × (recover_mode.None ≢ recover_mode.None)))
+pub none_refuses : {Bad Never : Type 0} → (Never → ⊥) → (e : Error)
+    → ((e ≡ error.Memory) ⊎ ((e ≡ error.Config) × Bad) ⊎ ((e ≡ error.Recover) × (recover_mode.None ≡ recover_mode.Strict)) ⊎ ((e ≡ error.SequenceEnd) × Never))
     → (e ≡ error.Memory) ⊎ ((e ≡ error.Config) × Bad)
-none_refuses e (inl memory) = inl memory
-none_refuses e (inr (inl config)) = inr config
-none_refuses e (inr (inr (inl recover))) = absurd (let bad : recover_mode.None ≡ recover_mode.Strict = recover.1 in cc)
-none_refuses e (inr (inr (inr end))) = absurd (end.1 refl)
+none_refuses not e (inl memory) = inl memory
+none_refuses not e (inr (inl config)) = inr config
+none_refuses not e (inr (inr (inl recover))) = absurd (let bad : recover_mode.None ≡ recover_mode.Strict = recover.1 in cc)
+none_refuses not e (inr (inr (inr end))) = absurd (not end.1)
 
 -- a map of no address has none
 none_among : (found : List (ℕ × Address)) → ((h : ℕ) → slot_among h found ≡ None) → found ≡ []
@@ -62,10 +62,10 @@ module _ {K V P : Type 0} (m : Meaning K V P) (s : Settings) (sound : AreValid s
       let empty : opened.found ≡ [] = none_among opened.found (λ h. sym (opened.index h) ∙ none h) in
       empty_recovered (machine m s sound) bytes found (opened.history ∙ ap (recovered (machine m s sound) bytes) empty)
 
-  pub begun : {A : Type 0} (core : Core K V P A) (bytes now : ℕ → ℕ → ℕ) (surely : ℕ → ℕ → ℕ → Type 0) (mode : RecoverMode) (seen : Type 0)
-      → IsOpenedFrom s bytes surely mode seen core → bytes ≡ now → IsBegun m s sound bytes surely mode seen core now
-  begun core bytes now surely mode seen from same =
-      let world = world_opened m.is_key m.is_value s sound [] from.found from.opening bytes in
+  pub begun : {A : Type 0} (core : Core K V P A) (bytes now : ℕ → ℕ → ℕ) (surely : ℕ → ℕ → ℕ → Type 0) (mode : RecoverMode) (marks : List (ℕ × ℕ)) (seen : Type 0)
+      → IsOpenedFrom s bytes surely mode marks seen core → bytes ≡ now → IsBegun m s sound bytes surely mode marks seen core now
+  begun core bytes now surely mode marks seen from same =
+      let world = world_opened m.is_key m.is_value s sound marks from.found from.opening bytes in
       record {
         found = from.found;
         addresses = world.0;
@@ -73,14 +73,14 @@ module _ {K V P : Type 0} (m : Meaning K V P) (s : Settings) (sound : AreValid s
         history = record {
           opened = world.1;
           happened = tt;
-          stands = opened_stands m s sound from.found core from.opening from.opened;
+          stands = opened_stands m s sound marks from.found core from.opening from.opened;
           same = λ b o. ap (λ (g : ℕ → ℕ → ℕ). g b o) same;
         };
       }
 
   -- an opening that reads nothing begins an empty one
   pub begun_empty : {A : Type 0} (core : Core K V P A) (bytes bytes' now : ℕ → ℕ → ℕ) (surely : ℕ → ℕ → ℕ → Type 0) (seen : Type 0) → seen
-      → IsBegun m s sound bytes surely recover_mode.None seen core now → ((b o : ℕ) → bytes b o ≡ bytes' b o) → IsBegunEmpty m s sound bytes' core now
+      → IsBegun m s sound bytes surely recover_mode.None [] seen core now → ((b o : ℕ) → bytes b o ≡ bytes' b o) → IsBegunEmpty m s sound bytes' core now
   begun_empty core bytes bytes' now surely seen is_seen from same =
       let none : (h : ℕ) → (from.found).index h ≡ None = none_indexed (sizes_in s) s.blocks bytes surely from.found (from.recovered is_seen) in
       let listed : from.addresses ≡ [] = none_listed bytes from.found from.addresses (from.history).opened none in
@@ -93,23 +93,23 @@ module _ {K V P : Type 0} (m : Meaning K V P) (s : Settings) (sound : AreValid s
       }
 
   -- what a run from it gives
-  pub lawful_from : {A : Type 0} (core : Core K V P A) (bytes shown : ℕ → ℕ → ℕ) (surely : ℕ → ℕ → ℕ → Type 0) (mode : RecoverMode) (seen : Type 0) → seen
-      → IsOpenedFrom s shown surely mode seen core → (moves : List (Move K V P A)) (said : List (Reply K V P A)) (new : Core K V P A) (now now' : ℕ → ℕ → ℕ)
-      → ((b o : ℕ) → bytes b o ≡ now b o) → Runs m moves said core new now now' → IsLawfulFrom m s sound bytes shown surely mode moves said
-  lawful_from core bytes shown surely mode seen is_seen from moves said new now now' same runs =
-      let world = world_opened m.is_key m.is_value s sound [] from.found from.opening bytes in
+  pub lawful_from : {A : Type 0} (core : Core K V P A) (bytes shown : ℕ → ℕ → ℕ) (surely : ℕ → ℕ → ℕ → Type 0) (mode : RecoverMode) (marks : List (ℕ × ℕ)) (seen : Type 0) → seen
+      → IsOpenedFrom s shown surely mode marks seen core → (moves : List (Move K V P A)) (said : List (Reply K V P A)) (new : Core K V P A) (now now' : ℕ → ℕ → ℕ)
+      → ((b o : ℕ) → bytes b o ≡ now b o) → Runs m moves said core new now now' → IsLawfulFrom m s sound bytes shown surely mode marks moves said
+  lawful_from core bytes shown surely mode marks seen is_seen from moves said new now now' same runs =
+      let world = world_opened m.is_key m.is_value s sound marks from.found from.opening bytes in
       record {
         found = from.found;
         addresses = world.0;
         recovered = from.recovered is_seen;
         lawful =
             lawful m s sound (world_of bytes from.found world.0) world.1 moves said new now'
-            (runs s sound (world_of bytes from.found world.0) (opened_stands m s sound from.found core from.opening from.opened) same);
+            (runs s sound (world_of bytes from.found world.0) (opened_stands m s sound marks from.found core from.opening from.opened) same);
       }
 
   -- of one that reads nothing
   pub lawful_empty : {A : Type 0} (bytes shown : ℕ → ℕ → ℕ) (surely : ℕ → ℕ → ℕ → Type 0) (moves : List (Move K V P A)) (said : List (Reply K V P A))
-      → IsLawfulFrom m s sound bytes shown surely recover_mode.None moves said → IsLawfulEmpty m s sound bytes moves said
+      → IsLawfulFrom m s sound bytes shown surely recover_mode.None [] moves said → IsLawfulEmpty m s sound bytes moves said
   lawful_empty bytes shown surely moves said from =
       let none = none_indexed (sizes_in s) s.blocks shown surely from.found from.recovered in
       let listed : from.addresses ≡ [] = none_listed bytes from.found from.addresses (from.lawful).opened none in

@@ -278,21 +278,23 @@ takes_some m f a b led = λ s sound it at. let l = led s sound it at in (l.0, l.
 took_all : {K V P A : Type 0} (m : Meaning K V P) (f : ℕ) (is_empty : Bool) (a b : Core K V P A) → is_empty ≡ true → Leads m (TakesQueueIf is_empty f) a b → Leads m (TakesQueue f) a b
 took_all m f is_empty a b empty led = λ s sound it at. let l = led s sound it at in (l.0, l.1, (l.2.0, l.2.1 empty))
 
--- a turn of a flush, up to its batch: from what the turns before did, the queue is taken, and a batch begins or may not
-module _ {K V P A : Type 0} (m : Meaning K V P) (f : ℕ) (has_ended is_empty : Bool) (begun : Reply K V P A) (a b c d : Core K V P A) (led : Leads m (EndsBatchOnce has_ended f) a b)
-    (taken : Leads m (TakesQueueIf is_empty f) b c) (begins : Refines m (step.FlushBegin f) begun c d) where
-  pub flush_over : has_ended ≡ true → is_empty ≡ true → SaysNothing begun → Leads m (LeavesIdle f) a d
-  flush_over ended empty nothing =
+-- a turn of a flush, up to its batch: from what the turns before did, the queue is taken
+module _ {K V P A : Type 0} (m : Meaning K V P) (f : ℕ) (has_ended is_empty : Bool) (a b c d : Core K V P A) (led : Leads m (EndsBatchOnce has_ended f) a b)
+    (taken : Leads m (TakesQueueIf is_empty f) b c) where
+  -- and a batch may not begin
+  pub flush_over : (begun : Reply K V P A) → has_ended ≡ true → is_empty ≡ true → SaysNothing begun → Refines m (step.FlushBegin f) begun c d → Leads m (LeavesIdle f) a d
+  flush_over begun ended empty nothing begins =
       leads_more m (λ x y. EndsBatchOnce has_ended f x y × ((y.flushers f).queue ≡ [])) (MayNotBegin f) (LeavesIdle f) a c d (idle_then has_ended ended f)
       (leads_more m (EndsBatchOnce has_ended f) (TakesQueue f) (λ x y. EndsBatchOnce has_ended f x y × ((y.flushers f).queue ≡ [])) a b c (once_then has_ended f) led (took_all m f is_empty b c empty taken))
       (begin_not m f begun c d nothing begins)
 
-  -- and on to its end
-  pub flush_more : (ended : Reply K V P A) (e g : Core K V P A) → (IsHandedBack ended → ⊥) → Leads m (KeepsOthersIdle f) d e → Refines m (step.FlushEnd f) ended e g → Leads m (EndsBatchOnce true f) a g
-  flush_more ended e g not written ends =
+  -- or one begins and goes on to its end
+  pub flush_more : Leads m (KeepsOthers f) c d → (ended : Reply K V P A) (e g : Core K V P A) → (IsHandedBack ended → ⊥) → Leads m (KeepsOthersIdle f) d e → Refines m (step.FlushEnd f) ended e g
+      → Leads m (EndsBatchOnce true f) a g
+  flush_more begins ended e g not written ends =
       leads_more m (KeepsOthersIdle f) (EndsBatch f) (EndsBatchOnce true f) a e g (ended_then f)
       (leads_more m (KeepsOthersIdle f) (KeepsOthersIdle f) (KeepsOthersIdle f) a d e (idle_more f)
       (leads_more m (KeepsOthersIdle f) (KeepsOthers f) (KeepsOthersIdle f) a c d (λ x y z one two. idle_more f x y z one (keeps_idle f y z two))
       (leads_more m (EndsBatchOnce has_ended f) (TakesQueueIf is_empty f) (KeepsOthersIdle f) a b c (λ x y z one two. idle_more f x y z one.0 (keeps_idle f y z (two.0).0)) led taken)
-      (begin_keeps m f begun c d begins)) written)
+      begins) written)
       (end_leads m f ended e g not ends)

@@ -13,11 +13,11 @@ use Rattle.foyer_core.specs.declared.state.Core.{Core}
 use Rattle.foyer_run.specs.Newest.{IsHistory}
 
 -- The history begins with a put for each address that was found over these bytes; where the disk shows them, what was found
--- is exactly what they give.
-pub record IsBegun {K V P A : Type 0} (m : Meaning K V P) (s : Settings) (sound : AreValid s) (bytes : ℕ → ℕ → ℕ) (surely_has : ℕ → ℕ → ℕ → Type 0) (mode : RecoverMode) (is_seen : Type 0) (core : Core K V P A) (now : ℕ → ℕ → ℕ) : Type 0 where
+-- is exactly what they and these marks give.
+pub record IsBegun {K V P A : Type 0} (m : Meaning K V P) (s : Settings) (sound : AreValid s) (bytes : ℕ → ℕ → ℕ) (surely_has : ℕ → ℕ → ℕ → Type 0) (mode : RecoverMode) (marks : List (ℕ × ℕ)) (is_seen : Type 0) (core : Core K V P A) (now : ℕ → ℕ → ℕ) : Type 0 where
   pub found : Opened
   pub addresses : List (ℕ × Address)
-  pub recovered : is_seen → IsRecovered (sizes_in s) s.blocks bytes surely_has mode [] found
+  pub recovered : is_seen → IsRecovered (sizes_in s) s.blocks bytes surely_has mode marks found
   pub history : IsHistory m s sound (opened_world (machine m s sound) bytes found addresses) [] core now
 
 -- The history begins with nothing: no address was found, and the first sequence is drawn next.

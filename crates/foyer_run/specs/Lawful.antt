@@ -86,11 +86,11 @@ pub record IsLawful {K V P A : Type 0} (m : Meaning K V P) (s : Settings) (sound
   pub misses : NewestAreAnswered (machine m s sound) first events
   pub puts : PutsWereQueued (machine m s sound) first events
 
--- the same of a world with what an opening found over these bytes: where the disk shows them, exactly what they give
-pub record IsLawfulFrom {K V P A : Type 0} (m : Meaning K V P) (s : Settings) (sound : AreValid s) (bytes shown : ℕ → ℕ → ℕ) (surely_has : ℕ → ℕ → ℕ → Type 0) (mode : RecoverMode) (moves : List (Move K V P A)) (said : List (Reply K V P A)) : Type 0 where
+-- the same of a world with what an opening found over these bytes and marks: where the disk shows them, exactly what they give
+pub record IsLawfulFrom {K V P A : Type 0} (m : Meaning K V P) (s : Settings) (sound : AreValid s) (bytes shown : ℕ → ℕ → ℕ) (surely_has : ℕ → ℕ → ℕ → Type 0) (mode : RecoverMode) (marks : List (ℕ × ℕ)) (moves : List (Move K V P A)) (said : List (Reply K V P A)) : Type 0 where
   pub found : Opened
   pub addresses : List (ℕ × Address)
-  pub recovered : IsRecovered (sizes_in s) s.blocks shown surely_has mode [] found
+  pub recovered : IsRecovered (sizes_in s) s.blocks shown surely_has mode marks found
   pub lawful : IsLawful m s sound (opened_world (machine m s sound) bytes found addresses) moves said
 
 -- the same of a world in which nothing was found

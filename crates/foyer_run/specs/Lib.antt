@@ -6,6 +6,7 @@ pub mod Due
 pub mod Lawful
 pub mod Moves
 pub mod Newest
+pub mod Batches
 pub mod Begun
 pub mod Reclaims
 pub mod Running

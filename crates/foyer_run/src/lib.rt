@@ -2,6 +2,7 @@
 #![tactic(auto)]
 
 pub mod accesses;
+pub mod batches;
 pub mod destroys;
 pub mod disk;
 pub mod moves;

@@ -1,6 +1,7 @@
 //! Runs that begin with an opened core, and what the laws say of them.
-ghost use Rattle.std.specs.Prelude.{◌≡◌, ◌≢◌, ◌⊎◌, ◌≤◌, ◌*◌, ◌^◌, ℕ, Err, IfOk, IfErr};
+ghost use Rattle.std.specs.Prelude.{◌≡◌, ◌≢◌, ◌⊎◌, ◌≤◌, ◌*◌, ◌^◌, ℕ, [], Err, IfOk, IfErr};
 ghost use Rattle.foyer_device.specs.declared.error.Error.TheVariants.{Config, Memory, OutOfRange, Recover, SequenceEnd};
+ghost use Rattle.foyer_recover.specs.Recovery.{marks_of};
 ghost use Rattle.foyer_recover.specs.declared.block.recover.RecoverMode.TheVariants as recover_mode;
 ghost use Rattle.foyer_rules.specs.Content.{meaning};
 ghost use Rattle.foyer_rules.specs.Sizes.{AreValid};
@@ -8,6 +9,7 @@ ghost use Rattle.foyer_run.specs.Lawful.{IsLawfulEmpty, IsLawfulFrom};
 ghost use Rattle.foyer_run.specs.Texts.{of_texts};
 
 use crate::moves::{Move, run};
+use foyer_block::tombstone::Tombstone;
 use foyer_blockio::disk::Disk;
 use foyer_blockio::memory::MemoryDisk;
 use foyer_core::apply::Env;
@@ -19,9 +21,9 @@ use foyer_device::error::Result;
 use foyer_format::serde::{Code, Properties};
 use std::alloc::{Allocator, Global};
 
-/// Opens a core with what a disk's blocks give in the mode, runs the moves over it with what is lent, and gives their
-/// replies. `Config` where the settings don't go together; `Recover` where a read failed in `Strict`; `SequenceEnd` where
-/// what was found has the last sequence; `Memory` at any time.
+/// Opens a core with what a disk's blocks give in the mode, and with the marks of deletes, runs the moves over it with what
+/// is lent, and gives their replies. `Config` where the settings don't go together; `Recover` where a read failed in
+/// `Strict`; `SequenceEnd` where what was found, or a mark, has the last sequence; `Memory` at any time.
 ///
 /// The replies are those of events of a world that began with what was found over the disk's bytes: what a load answers
 /// was newest of its hash at its look-up; what was newest is answered, or missed for a named cause; and what was put was
@@ -32,6 +34,7 @@ pub fn open_and_run<K, V, P, A, D>(
     settings: Settings,
     disk: &mut D,
     mode: RecoverMode,
+    marks: &[Tombstone],
     moves: Vec<Move<K, V, P, A>, A>,
 ) -> Result<Vec<Reply<K, V, P, A>, A>>
 where
@@ -42,14 +45,14 @@ where
     D: Disk,
     ensures sound { IfOk result (λ _. AreValid settings) }
     ensures refused { IfErr result (λ e. (e ≡ Memory) ⊎ ((e ≡ Config) × (AreValid settings → ⊥))
-        ⊎ ((e ≡ Recover) × (mode ≡ recover_mode.Strict)) ⊎ ((e ≡ SequenceEnd) × (mode ≢ recover_mode.None))) }
+        ⊎ ((e ≡ Recover) × (mode ≡ recover_mode.Strict)) ⊎ ((e ≡ SequenceEnd) × (mode ≡ recover_mode.None → marks.now ≢ []))) }
     ensures unsound { (AreValid settings → ⊥) → result ≡ Err Config }
     ensures lawful { D.is_known disk.old → IfOk result (λ replies. (sound : AreValid settings) (bytes : ℕ → ℕ → ℕ)
         → ((b o : ℕ) → bytes b o ≡ D.byte_at disk.old b o) → IsLawfulFrom
         (meaning K.encoding V.encoding K.is_encodable V.is_encodable K.is_decodable V.is_decodable P.age)
-        settings sound bytes (D.byte_at disk.old) (D.surely_has disk.old) mode moves.items replies.items) }
+        settings sound bytes (D.byte_at disk.old) (D.surely_has disk.old) mode (marks_of marks.now) moves.items replies.items) }
 {
-    let mut core = Core::open(alloc, env, settings, disk, mode)?;
+    let mut core = Core::open(alloc, env, settings, disk, mode, marks)?;
     let replies = run(&mut core, env, disk, moves)?;
     Ok(replies)
 }
@@ -75,6 +78,7 @@ pub fn run_texts<P: Properties + Drop>(
         settings,
         &mut disk,
         RecoverMode::None,
+        &[],
         moves,
     )
 }

@@ -1,6 +1,7 @@
-//! The engine that the program keeps: a core over a disk, driven on one thread.
+//! The engine that the program keeps: a core over a disk, with a log of deletes or without one, driven on one thread.
 ghost use Rattle.std.specs.Prelude.{◌≡◌, ◌≢◌, ◌⊎◌, ◌≤◌, ◌*◌, ◌^◌, ℕ, [], None, IfOk, IfErr, string_bytes};
 ghost use Rattle.foyer_device.specs.declared.error.Error.TheVariants.{Config, Memory, OutOfRange, Recover, SequenceEnd};
+ghost use Rattle.foyer_recover.specs.Recovery.{marks_of};
 ghost use Rattle.foyer_recover.specs.declared.block.recover.RecoverMode.TheVariants as recover_mode;
 ghost use Rattle.foyer_rules.specs.Sizes.{AreValid};
 ghost use Rattle.foyer_run.specs.AtRest.{ComesToRest, KeepsIdle, KeepsOthersIdle, Leads, LeavesAllIdle, LeavesIdle, TakesQueueIf};
@@ -9,6 +10,7 @@ ghost use Rattle.foyer_run.specs.Begun.{IsBegun, IsBegunEmpty};
 ghost use Rattle.foyer_run.specs.Waiting.{Closes, Waits};
 ghost use Rattle.foyer_serve.specs.Texts.{IsDeleted, IsGot, IsMissedText, IsNewestText, IsOkOrFault, IsPut, deleted_as, done_as, got, plain, put_as, wrote_as};
 
+use foyer_block::tombstone::Tombstone;
 use foyer_blockio::disk::Disk;
 use foyer_blockio::memory::MemoryDisk;
 use foyer_core::apply::Env;
@@ -19,8 +21,10 @@ use foyer_core::state::Core;
 use foyer_core::step::Step;
 use foyer_device::error::{ErrorKind, Result};
 use foyer_format::serde::{Age, EntrySerializer, Properties};
+pub use foyer_log::block::tombstone::{MarkLog, NoLog};
 use foyer_policy::keeper::Piece;
 use foyer_run::accesses::{load, step, write_block};
+use foyer_run::batches::begin_batch;
 use foyer_run::reclaims::reclaim_block;
 use std::alloc::Allocator;
 
@@ -117,23 +121,24 @@ fn answer_block<A: Allocator>(last: Option<EngineReply<A>>) -> std::result::Resu
     }
 }
 
-/// A core with its disk. What is said of a disk's bytes is said where they are known: those of memory are, those of a
-/// system's files aren't.
+/// A core with its disk, and with what the marks of its batches are appended to. What is said of a disk's bytes is said
+/// where they are known: those of memory are, those of a system's files aren't.
 #[derive(Drop)]
-pub struct Engine<A: Allocator, D: Disk + Drop> {
+pub struct Engine<A: Allocator, D: Disk + Drop, L: MarkLog + Drop> {
     alloc: A,
     core: Core<Key, String<A>, NoProperties, A>,
     env: Env,
     disk: D,
+    log: L,
     // What a load reads into.
     spare: Vec<u8, A>,
     next_wait: u64,
 }
 
-impl<A: Allocator + Clone> Engine<A, MemoryDisk<A>> {
+impl<A: Allocator + Clone> Engine<A, MemoryDisk<A>, NoLog> {
     /// Opens an engine over zeroed memory that has every block, of which nothing is read; `env` has its pickers and its
     /// generator.
-    pub fn open(alloc: A, env: Env, settings: Settings) -> Result<Engine<A, MemoryDisk<A>>>
+    pub fn open(alloc: A, env: Env, settings: Settings) -> Result<Engine<A, MemoryDisk<A>, NoLog>>
         ensures sound { IfOk result (λ _. AreValid settings) }
         ensures begins { IfOk result (λ engine. (sound : AreValid settings) → IsBegunEmpty plain settings sound (λ b o. 0)
             engine.core (⟦<MemoryDisk<A> as Disk>⟧.byte_at engine.disk)) }
@@ -147,31 +152,62 @@ impl<A: Allocator + Clone> Engine<A, MemoryDisk<A>> {
     }
 }
 
-impl<A: Allocator + Clone, D: Disk + Drop> Engine<A, D> {
-    /// Opens an engine with what the disk's blocks give in the mode; `env` has its pickers and its generator. `Config`
-    /// where the settings don't go together; `Recover` where a read failed in `Strict`; `SequenceEnd` where what was
-    /// found has the last sequence; `Memory` at any time.
+impl<A: Allocator + Clone, D: Disk + Drop> Engine<A, D, NoLog> {
+    /// Opens an engine with what the disk's blocks give in the mode, without a log of deletes, so that a delete is
+    /// forgotten by the next opening; `env` has its pickers and its generator. `Config` where the settings don't go
+    /// together; `Recover` where a read failed in `Strict`; `SequenceEnd` where what was found has the last sequence;
+    /// `Memory` at any time.
     pub fn with_disk(
         alloc: A,
-        mut env: Env,
+        env: Env,
         settings: Settings,
-        mut disk: D,
+        disk: D,
         mode: RecoverMode,
-    ) -> Result<Engine<A, D>>
+    ) -> Result<Engine<A, D, NoLog>>
         ensures sound { IfOk result (λ _. AreValid settings) }
         ensures begins { IfOk result (λ engine. (sound : AreValid settings) → IsBegun plain settings sound (D.byte_at disk)
-            (D.surely_has disk) mode ((mode ≡ recover_mode.None) ⊎ D.is_known disk) engine.core (D.byte_at engine.disk)) }
+            (D.surely_has disk) mode [] ((mode ≡ recover_mode.None) ⊎ D.is_known disk) engine.core (D.byte_at engine.disk)) }
         ensures refused { IfErr result (λ e. (e ≡ Memory) ⊎ ((e ≡ Config) × (AreValid settings → ⊥))
             ⊎ ((e ≡ Recover) × (mode ≡ recover_mode.Strict)) ⊎ ((e ≡ SequenceEnd) × (mode ≢ recover_mode.None))) }
         ensures unread { IfOk result (λ engine. mode ≡ recover_mode.None → engine.disk ≡ disk) }
         ensures known { IfOk result (λ engine. D.is_known disk → D.is_known engine.disk) }
         ensures has { IfOk result (λ engine. (b o n : ℕ) → D.surely_has disk b o n → D.surely_has engine.disk b o n) }
     {
-        let core = Core::open(alloc.clone()?, &mut env, settings, &mut disk, mode)?;
+        Engine::with_log(alloc, env, settings, disk, mode, &[], NoLog)
+    }
+}
+
+impl<A: Allocator + Clone, D: Disk + Drop, L: MarkLog + Drop> Engine<A, D, L> {
+    /// Opens an engine with what the disk's blocks give in the mode and with the marks of deletes that its log has listed;
+    /// `env` has its pickers and its generator. The marks of each batch are appended to the log before the batch ends; one
+    /// whose append fails ends all the same, so that its deletes may be forgotten by the next opening. `Config` where the
+    /// settings don't go together; `Recover` where a read failed in `Strict`; `SequenceEnd` where what was found, or a
+    /// mark, has the last sequence; `Memory` at any time.
+    pub fn with_log(
+        alloc: A,
+        mut env: Env,
+        settings: Settings,
+        mut disk: D,
+        mode: RecoverMode,
+        marks: &[Tombstone],
+        log: L,
+    ) -> Result<Engine<A, D, L>>
+        ensures sound { IfOk result (λ _. AreValid settings) }
+        ensures begins { IfOk result (λ engine. (sound : AreValid settings) → IsBegun plain settings sound (D.byte_at disk)
+            (D.surely_has disk) mode (marks_of marks.now) ((mode ≡ recover_mode.None) ⊎ D.is_known disk) engine.core (D.byte_at engine.disk)) }
+        ensures refused { IfErr result (λ e. (e ≡ Memory) ⊎ ((e ≡ Config) × (AreValid settings → ⊥))
+            ⊎ ((e ≡ Recover) × (mode ≡ recover_mode.Strict)) ⊎ ((e ≡ SequenceEnd) × (mode ≡ recover_mode.None → marks.now ≢ []))) }
+        ensures unread { IfOk result (λ engine. mode ≡ recover_mode.None → engine.disk ≡ disk) }
+        ensures known { IfOk result (λ engine. D.is_known disk → D.is_known engine.disk) }
+        ensures has { IfOk result (λ engine. (b o n : ℕ) → D.surely_has disk b o n → D.surely_has engine.disk b o n) }
+        ensures log { IfOk result (λ engine. engine.log ≡ log) }
+    {
+        let core = Core::open(alloc.clone()?, &mut env, settings, &mut disk, mode, marks)?;
         Ok(Engine {
             core,
             env,
             disk,
+            log,
             spare: Vec::new(alloc.clone()?),
             next_wait: 0,
             alloc,
@@ -308,7 +344,7 @@ impl<A: Allocator + Clone, D: Disk + Drop> Engine<A, D> {
     }
 
     // Flushes until nothing is queued or received at a flusher where a wait is queued, so that a batch is under way in
-    // each turn but the last: a burst is written in several batches. One that isn't ended by then has a write that was
+    // each turn but the last: a burst is written in several batches, and each batch's marks are appended to the log. One that isn't ended by then has a write that was
     // never reported.
     fn flush(&mut self, flusher: u32) -> std::result::Result<(), ErrorKind>
         ensures leads { IfOk result (λ _. Leads plain (LeavesIdle flusher) self.old.core self.new.core) }
@@ -318,7 +354,7 @@ impl<A: Allocator + Clone, D: Disk + Drop> Engine<A, D> {
         let mut has_ended = false;
         for _ in 0..u64::MAX {
             let is_empty = self.receive_all(flusher)?;
-            let begin = step(&mut self.core, &mut self.env, Step::FlushBegin { flusher });
+            let begin = begin_batch(&mut self.core, &mut self.env, &mut self.log, flusher);
             let has_begun = answer_step(begin)?;
             if has_ended && is_empty && !has_begun {
                 return Ok(());

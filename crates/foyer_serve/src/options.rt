@@ -1,6 +1,7 @@
 //! The program's arguments.
 use crate::command::number;
-use foyer_core::settings::{MAX_BLOCK_SIZE, Settings};
+use crate::directory::blocks_in;
+use foyer_core::settings::{DEFAULT_TOMBSTONE_LOG, MAX_BLOCK_SIZE, Settings};
 use foyer_device::error::{Error, Result};
 use foyer_format::block::buffer::PAGE;
 use std::alloc::Allocator;
@@ -48,8 +49,7 @@ impl<'a> Options<'a> {
             return Err(Error::Config);
         }
         let block_size = (self.block_size as usize).div_ceil(PAGE) * PAGE;
-        let pages = self.capacity as usize / PAGE;
-        let blocks = pages / (block_size / PAGE);
+        let blocks = blocks_in(self.capacity as usize, block_size, DEFAULT_TOMBSTONE_LOG);
         if blocks > u32::MAX as usize {
             return Err(Error::Config);
         }

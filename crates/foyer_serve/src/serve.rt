@@ -2,7 +2,7 @@
 use crate::answer::{print, print_fault};
 use crate::command::Command;
 use crate::directory::{open_directory, report};
-use crate::engine::{Answer, Engine};
+use crate::engine::{Answer, Engine, MarkLog, NoLog};
 use crate::lines::{Filled, Lines};
 use crate::options::{GENERATOR_SEED, Options, USAGE};
 use foyer_blockio::disk::Disk;
@@ -84,7 +84,7 @@ fn open_memory<T: AllocGlobal, A: Allocator + Clone>(
     rt: &T,
     alloc: &A,
     settings: Settings,
-) -> Result<Engine<A, MemoryDisk<A>>> {
+) -> Result<Engine<A, MemoryDisk<A>, NoLog>> {
     let env = Env::with_default_pickers(rt.alloc(), GENERATOR_SEED)?;
     Engine::open(alloc.clone()?, env, settings)
 }
@@ -95,10 +95,11 @@ fn answer_fault<W: Write + Drop>(mut output: W, kind: ErrorKind) -> u8 {
 }
 
 // Answers the input, once the engine is open.
-fn answer_input<A, D, R, W>(alloc: A, engine: Engine<A, D>, input: R, output: W) -> u8
+fn answer_input<A, D, L, R, W>(alloc: A, engine: Engine<A, D, L>, input: R, output: W) -> u8
 where
     A: Allocator + Clone,
     D: Disk + Drop,
+    L: MarkLog + Drop,
     R: Read + Drop,
     W: Write + Drop,
 {
@@ -112,15 +113,16 @@ where
 }
 
 // Answers the input's lines, and closes the engine.
-fn answer_lines<A, D, R, W>(
+fn answer_lines<A, D, L, R, W>(
     alloc: A,
-    mut engine: Engine<A, D>,
+    mut engine: Engine<A, D, L>,
     mut lines: Lines<R, A>,
     mut direct: W,
 ) -> u8
 where
     A: Allocator + Clone,
     D: Disk + Drop,
+    L: MarkLog + Drop,
     R: Read + Drop,
     W: Write + Drop,
 {
@@ -143,8 +145,8 @@ where
 }
 
 // Answers every line, until the input ends or fails, or the output fails.
-fn answer_all<A, D, R, W>(
-    engine: &mut Engine<A, D>,
+fn answer_all<A, D, L, R, W>(
+    engine: &mut Engine<A, D, L>,
     lines: &mut Lines<R, A>,
     output: &mut W,
     is_well: &mut bool,
@@ -152,6 +154,7 @@ fn answer_all<A, D, R, W>(
 where
     A: Allocator + Clone,
     D: Disk + Drop,
+    L: MarkLog + Drop,
     R: Read + Drop,
     W: Write,
 {
@@ -180,8 +183,8 @@ where
     Ok(())
 }
 
-fn answer_line<A, D, W>(
-    engine: &mut Engine<A, D>,
+fn answer_line<A, D, L, W>(
+    engine: &mut Engine<A, D, L>,
     line: &[u8],
     output: &mut W,
     is_well: &mut bool,
@@ -189,6 +192,7 @@ fn answer_line<A, D, W>(
 where
     A: Allocator + Clone,
     D: Disk + Drop,
+    L: MarkLog + Drop,
     W: Write,
 {
     let answer = match Command::parse(line) {

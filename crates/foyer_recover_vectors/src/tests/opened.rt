@@ -5,7 +5,7 @@ use foyer_core::apply::Env;
 use foyer_core::open::RecoverMode;
 use foyer_core::settings::Settings;
 use foyer_device::error::{Error, ErrorKind, Result};
-use foyer_serve::engine::{Answer, Engine};
+use foyer_serve::engine::{Answer, Engine, NoLog};
 use std::alloc::Global;
 use std::test::Fail;
 
@@ -42,7 +42,7 @@ fn record(forged: Forged) -> [u8; 4096] {
 }
 
 // An engine over a block that lists hash 1 with sequence 5, whose record is none, and behind it hash 9 with sequence 6.
-fn opened(alloc: Global, forged: Forged, len: u32) -> Result<Engine<Global, ForgedDisk>> {
+fn opened(alloc: Global, forged: Forged, len: u32) -> Result<Engine<Global, ForgedDisk, NoLog>> {
     let mut disk = ForgedDisk::new(alloc, 1)?;
     disk.put(0, &page(&[entry(1, 5, 4096, 53)], 1));
     disk.put(8192, &page(&[entry(9, 6, 4096, len)], 1));

@@ -5,7 +5,7 @@ ghost use Rattle.foyer_run.specs.Destroys.{Destroys};
 ghost use Rattle.foyer_run.specs.Waiting.{Waits};
 ghost use Rattle.foyer_serve.specs.Texts.{IsFault, IsOkOrFault, plain};
 
-use crate::engine::{Answer, Engine, EngineReply, answer_step};
+use crate::engine::{Answer, Engine, EngineReply, MarkLog, answer_step};
 use foyer_blockio::disk::Disk;
 use foyer_core::reply::Reply;
 use foyer_core::step::Step;
@@ -35,7 +35,7 @@ fn answer_cleaned<A: Allocator>(last: EngineReply<A>) -> Answer<A>
     }
 }
 
-impl<A: Allocator + Clone, D: Disk + Drop> Engine<A, D> {
+impl<A: Allocator + Clone, D: Disk + Drop, L: MarkLog + Drop> Engine<A, D, L> {
     /// Destroys all entries: flushes as a wait does, clears the index, and cleans each block, so that an opening finds
     /// nothing of it again. Where a destroy has begun and isn't over it goes on with that one. `Closed` after a close,
     /// `SequenceEnd` and `Memory` before it has begun; once it has, it tries again what is refused memory. Another fault

@@ -7,7 +7,7 @@ use foyer_core::settings::Settings;
 use foyer_device::error::{ErrorKind, Result};
 use foyer_disk::io::device::{DeviceBuilder, MemoryDeviceBuilder, MemoryPartition};
 use foyer_io::io::engine::{FaultIoEngine, MemoryIoEngine};
-use foyer_serve::engine::{Answer, Engine};
+use foyer_serve::engine::{Answer, Engine, NoLog};
 use std::alloc::{Allocator, Global};
 use std::fs::File;
 use std::process::Abort;
@@ -40,7 +40,7 @@ pub fn word_of<A: Allocator>(answer: &Answer<A>) -> &str {
 // The answers to two puts that are written by a batch each, and are read back.
 fn answers_of<A: Allocator + Clone, D: Disk + Drop>(
     alloc: Global,
-    engine: &mut Engine<A, D>,
+    engine: &mut Engine<A, D, NoLog>,
 ) -> Result<String> {
     let mut answers = String::new(alloc);
     for call in ["put 1", "wait", "get 1", "put 2", "wait", "get 1", "get 2"] {

@@ -6,7 +6,7 @@ use foyer_core::open::RecoverMode;
 use foyer_core::settings::Settings;
 use foyer_device::error::Result;
 use foyer_serve::directory::open_directory;
-use foyer_serve::engine::{Answer, Engine};
+use foyer_serve::engine::{Answer, Engine, MarkLog};
 use std::alloc::{Allocator, Global};
 use std::fs;
 use std::test::Fail;
@@ -25,9 +25,9 @@ fn text_of(alloc: Global, number: u64) -> Result<String> {
 
 // Puts 60 texts under 25 keys, with a wait behind each fifth, deletes each seventh, and counts the keys that answer
 // their newest text, that are missed, and that are answered otherwise.
-fn counts_of<A: Allocator + Clone, D: Disk + Drop>(
+fn counts_of<A: Allocator + Clone, D: Disk + Drop, L: MarkLog + Drop>(
     alloc: Global,
-    engine: &mut Engine<A, D>,
+    engine: &mut Engine<A, D, L>,
 ) -> Result<(u32, u32, u32)> {
     for number in 0..60 {
         let text = text_of(alloc, number)?;

@@ -8,7 +8,7 @@ use foyer_core::state::Core;
 use foyer_core::step::Step;
 use foyer_device::error::{Error, ErrorKind};
 use foyer_format_vectors::refusing::Refusing;
-use foyer_serve::engine::{Answer, Engine};
+use foyer_serve::engine::{Answer, Engine, NoLog};
 use std::alloc::Global;
 use std::process::Abort;
 use std::test::Fail;
@@ -24,7 +24,7 @@ fn cleaned(block: u32, is_well: bool) -> TestStep {
 // A core of two blocks, in which nothing is queued.
 fn opened(alloc: Global, env: &mut Env) -> foyer_device::error::Result<TestCore<Global>> {
     let mut disk = MemoryDisk::new(alloc, 2, 16384)?;
-    Core::open(alloc, env, small(2), &mut disk, RecoverMode::None)
+    Core::open(alloc, env, small(2), &mut disk, RecoverMode::None, &[])
 }
 
 #[test]
@@ -69,15 +69,12 @@ fn answers_of(
     has_put: bool,
 ) -> foyer_device::error::Result<Option<[bool; 3]>> {
     let env = Env::with_default_pickers(alloc, 0)?;
-    let mut engine: Engine<&Refusing<Global>, MemoryDisk<&Refusing<Global>>> = match Engine::open(
-        heap,
-        env,
-        small(2),
-    ) {
-        Ok(engine) => engine,
-        Err(Error::Memory) => return Ok(None),
-        Err(error) => return Err(error),
-    };
+    let mut engine: Engine<&Refusing<Global>, MemoryDisk<&Refusing<Global>>, NoLog> =
+        match Engine::open(heap, env, small(2)) {
+            Ok(engine) => engine,
+            Err(Error::Memory) => return Ok(None),
+            Err(error) => return Err(error),
+        };
     if has_put {
         let _ = engine.put(1, "a");
         let _ = engine.wait();

@@ -47,7 +47,7 @@ pub fn new_driver<A: Allocator + Clone>(
     let mut env = Env::with_default_pickers(alloc, 0)?;
     let mut memory = MemoryDisk::new(heap.clone()?, settings.blocks, settings.block_size)?;
     let mode = RecoverMode::None;
-    let core = Core::open(heap.clone()?, &mut env, settings, &mut memory, mode)?;
+    let core = Core::open(heap.clone()?, &mut env, settings, &mut memory, mode, &[])?;
     let mut issued = Vec::new(alloc);
     for _ in 0..settings.flushers {
         issued.push(None)?;

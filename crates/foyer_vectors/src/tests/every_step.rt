@@ -277,7 +277,14 @@ fn opened<'a>(
     };
     let mut env = Env::with_default_pickers(alloc, 0)?;
     let mut memory = MemoryDisk::new(heap, settings.blocks, settings.block_size)?;
-    let core = Core::open(heap, &mut env, settings, &mut memory, RecoverMode::None)?;
+    let core = Core::open(
+        heap,
+        &mut env,
+        settings,
+        &mut memory,
+        RecoverMode::None,
+        &[],
+    )?;
     Ok(Driven {
         core,
         env,

@@ -18,7 +18,8 @@ fn first_sequence(alloc: Global) -> Result<Option<u64>> {
     let mut env = Env::with_default_pickers(alloc, 0)?;
     let settings = Settings::new(1, 16384);
     let mut disk = MemoryDisk::new(alloc, settings.blocks, settings.block_size)?;
-    let mut core = Core::open(alloc, &mut env, settings, &mut disk, RecoverMode::Quiet)?;
+    let mode = RecoverMode::Quiet;
+    let mut core = Core::open(alloc, &mut env, settings, &mut disk, mode, &[])?;
     let value = String::from_str(alloc, "a")?;
     let piece = Piece::new(alloc, 1u64, value, 1, NoProperties)?;
     let size = EntrySerializer::estimated_size::<Global, u64, String>(piece.key(), piece.value());

@@ -196,7 +196,14 @@ fn run_over(
 ) -> Result<(String, bool)> {
     let mut env = Env::with_default_pickers(alloc, 0)?;
     let mut memory = MemoryDisk::new(alloc, settings.blocks, settings.block_size)?;
-    let mut core = Core::open(alloc, &mut env, settings, &mut memory, RecoverMode::None)?;
+    let mut core = Core::open(
+        alloc,
+        &mut env,
+        settings,
+        &mut memory,
+        RecoverMode::None,
+        &[],
+    )?;
     let mut disk = Failing::new(memory, fails_at, 100);
     let replies = run(&mut core, &mut env, &mut disk, moves_of(alloc, script)?)?;
     Ok((words_of(alloc, replies.as_slice())?, disk.has_failed()))

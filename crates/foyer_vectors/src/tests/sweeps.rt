@@ -5,7 +5,7 @@ use foyer_blockio::memory::MemoryDisk;
 use foyer_core::apply::Env;
 use foyer_device::error::{Error, ErrorKind};
 use foyer_format_vectors::refusing::Refusing;
-use foyer_serve::engine::{Answer, Engine};
+use foyer_serve::engine::{Answer, Engine, NoLog};
 use std::alloc::Global;
 use std::fs::File;
 use std::rt::Files;
@@ -49,7 +49,7 @@ fn are_allowed(text: &str, has_fault: bool) -> bool {
 
 // The answer of the engine to a line of the script.
 fn answer_of<'a>(
-    engine: &mut Engine<&'a Refusing<Global>, MemoryDisk<&'a Refusing<Global>>>,
+    engine: &mut Engine<&'a Refusing<Global>, MemoryDisk<&'a Refusing<Global>>, NoLog>,
     line: &str,
 ) -> Answer<&'a Refusing<Global>> {
     match line {

@@ -1,4 +1,4 @@
-use Rattle.std.proofs.Common.{rules, sym, inl, inr}
+use Rattle.std.proofs.Common.{rules, refl, sym, inl, inr}
 use Rattle.foyer_recover.proofs.OpeningLemmas.{ok_weakens}
 use Rattle.foyer_rules.specs.Sizes.{AreValid}
 use Rattle.foyer_run.specs.Texts.{of_texts}
@@ -18,4 +18,4 @@ pub returns-in_err-disk-clause-refused : goal.returns-in_err-disk-clause-refused
 returns-in_err-disk-clause-refused g c = search rules depth 1
 
 pub returns-clause-refused : goal.returns-clause-refused
-returns-clause-refused g c = err_weakens c.open_and_run.result _ _ (λ e is. elim (none_refuses {Bad = AreValid c.args.settings → ⊥} e is) [ inl memory ↦ inl memory | inr config ↦ inr (inl config) ]) c.open_and_run.ensures.refused
+returns-clause-refused g c = err_weakens c.open_and_run.result _ _ (λ e is. elim (none_refuses {Bad = AreValid c.args.settings → ⊥} (λ some. some refl refl) e is) [ inl memory ↦ inl memory | inr config ↦ inr (inl config) ]) c.open_and_run.ensures.refused

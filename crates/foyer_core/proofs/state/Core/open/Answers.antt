@@ -2,7 +2,7 @@ use Rattle.std.proofs.Common.{nat_eq, option_map, ◌+◌, ◌<◌, inl, inr, re
 use Rattle.foyer_model.specs.Ids.{is_id_in, AreDistinct}
 use Rattle.foyer_recover.proofs.CleanLemmas.{clean_once, clean_below}
 use Rattle.foyer_recover.proofs.EmptyLemmas.{none_at_end}
-use Rattle.foyer_recover.specs.Recovery.{IsRefused, opened_of}
+use Rattle.foyer_recover.specs.Recovery.{IsRefused, marks_of, opened_of}
 use Rattle.foyer_device.specs.declared.error.Error.TheVariants as error
 use Rattle.foyer_rules.specs.Sizes.{AreValid, sizes_in}
 use Rattle.foyer_standing.specs.Standing.{IsManagedAs}
@@ -40,9 +40,10 @@ returns-in-Err-clause-refused g c =
       | inr (inl recover) ↦ inr (inr (inl recover))
       | inr (inr end) ↦ inr (inr (inr (
         end,
-        λ none.
+        λ none unmarked.
             let refused = c.in-Err.ensures.refused (inl none) in
-            let at = subst (λ e. IsRefused (sizes_in s) s.blocks (g.D.Disk.byte_at c.args.disk.now) (g.D.Disk.surely_has c.args.disk.now) c.args.mode [] e) end refused in
+            let some = subst (λ e. IsRefused (sizes_in s) s.blocks (g.D.Disk.byte_at c.args.disk.now) (g.D.Disk.surely_has c.args.disk.now) c.args.mode (marks_of c.args.marks.now) e) end refused in
+            let at = subst (λ l. IsRefused (sizes_in s) s.blocks (g.D.Disk.byte_at c.args.disk.now) (g.D.Disk.surely_has c.args.disk.now) c.args.mode l error.SequenceEnd) (ap marks_of unmarked) some in
             let empty = subst (λ m. IsRefused (sizes_in s) s.blocks (g.D.Disk.byte_at c.args.disk.now) (g.D.Disk.surely_has c.args.disk.now) m [] error.SequenceEnd) none at in
             none_at_end (sizes_in s) s.blocks (g.D.Disk.byte_at c.args.disk.now) empty.0 empty.2,
       )))

@@ -1,6 +1,7 @@
 use Rattle.std.proofs.Common.{◌≡◌, true, false, refl, sym, ◌∙◌}
 use Rattle.foyer_run.specs.AtRest.{EndsBatchOnce}
 use Rattle.foyer_run.specs.declared.moves.Move.TheVariants as move
+use Rattle.foyer_run.proofs.BatchRuns.{known_begun, nothing_begins}
 use Rattle.foyer_run.proofs.RestLemmas.{flush_more, flush_over, leads_none}
 use Rattle.foyer_run.proofs.WaitingLemmas.{known_more, known_none, known_said}
 use Rattle.foyer_serve.specs.Texts.{plain}
@@ -20,47 +21,48 @@ returns-in_err-is_empty-clause-waited g c =
 pub returns-in_err-has_begun-clause-waited : goal.returns-in_err-has_begun-clause-waited
 returns-in_err-has_begun-clause-waited g c =
     let received = known_more plain c.args.self.now.core c.loop.self.core c.receive_all.new.self.core (g.D.Disk.byte_at c.args.self.now.disk) (g.D.Disk.byte_at c.loop.self.disk) (g.D.Disk.byte_at c.receive_all.new.self.disk) c.loop.invariant.0 (c.receive_all.ensures.waited) in
-    known_more plain c.args.self.now.core c.receive_all.new.self.core c.step-begin.new.core (g.D.Disk.byte_at c.args.self.now.disk) (g.D.Disk.byte_at c.receive_all.new.self.disk) (g.D.Disk.byte_at c.receive_all.new.self.disk) received (known_said plain (g.D.Disk.is_known c.receive_all.new.self.disk) (move.FlushBegin c.args.flusher) c.step-begin.result c.receive_all.new.self.core c.step-begin.new.core (g.D.Disk.byte_at c.receive_all.new.self.disk) tt (c.step-begin.ensures.runs (move.FlushBegin c.args.flusher) refl (g.D.Disk.byte_at c.receive_all.new.self.disk)))
+    known_more plain c.args.self.now.core c.receive_all.new.self.core c.begin_batch-begin.new.core (g.D.Disk.byte_at c.args.self.now.disk) (g.D.Disk.byte_at c.receive_all.new.self.disk) (g.D.Disk.byte_at c.receive_all.new.self.disk) received (known_begun plain c.args.flusher (g.D.Disk.is_known c.receive_all.new.self.disk) g.L.MarkLog.appends c.receive_all.new.self.log c.begin_batch-begin.new.log c.begin_batch-begin.result c.receive_all.new.self.core c.begin_batch-begin.new.core (g.D.Disk.byte_at c.receive_all.new.self.disk) c.begin_batch-begin.ensures.begins)
 
 pub returns-then-not-has_begun-clause-waited : goal.returns-then-not-has_begun-clause-waited
 returns-then-not-has_begun-clause-waited g c =
     let received = known_more plain c.args.self.now.core c.loop.self.core c.receive_all.new.self.core (g.D.Disk.byte_at c.args.self.now.disk) (g.D.Disk.byte_at c.loop.self.disk) (g.D.Disk.byte_at c.receive_all.new.self.disk) c.loop.invariant.0 (c.receive_all.ensures.waited) in
-    known_more plain c.args.self.now.core c.receive_all.new.self.core c.step-begin.new.core (g.D.Disk.byte_at c.args.self.now.disk) (g.D.Disk.byte_at c.receive_all.new.self.disk) (g.D.Disk.byte_at c.receive_all.new.self.disk) received (known_said plain (g.D.Disk.is_known c.receive_all.new.self.disk) (move.FlushBegin c.args.flusher) c.step-begin.result c.receive_all.new.self.core c.step-begin.new.core (g.D.Disk.byte_at c.receive_all.new.self.disk) tt (c.step-begin.ensures.runs (move.FlushBegin c.args.flusher) refl (g.D.Disk.byte_at c.receive_all.new.self.disk)))
+    known_more plain c.args.self.now.core c.receive_all.new.self.core c.begin_batch-begin.new.core (g.D.Disk.byte_at c.args.self.now.disk) (g.D.Disk.byte_at c.receive_all.new.self.disk) (g.D.Disk.byte_at c.receive_all.new.self.disk) received (known_begun plain c.args.flusher (g.D.Disk.is_known c.receive_all.new.self.disk) g.L.MarkLog.appends c.receive_all.new.self.log c.begin_batch-begin.new.log c.begin_batch-begin.result c.receive_all.new.self.core c.begin_batch-begin.new.core (g.D.Disk.byte_at c.receive_all.new.self.disk) c.begin_batch-begin.ensures.begins)
 
 pub returns-then-not-has_begun-clause-leads : goal.returns-then-not-has_begun-clause-leads
 returns-then-not-has_begun-clause-leads g c =
-    flush_over plain c.args.flusher c.loop.has_ended c.in_ok-is_empty.is_empty c.step-begin.result c.args.self.now.core c.loop.self.core c.receive_all.new.self.core c.step-begin.new.core
-    c.loop.invariant.1 c.in_ok-is_empty.ensures.leads c.step-begin.ensures.meets c.if-has_ended.true c.if-is_empty.true
-    (done_nothing c.step-begin.result c.in_ok-has_begun.has_begun (sym c.answer_step.ensures ∙ c.in_ok-has_begun.was) c.if-not-has_begun.true)
+    let nothing = done_nothing c.begin_batch-begin.result c.in_ok-has_begun.has_begun (sym c.answer_step.ensures ∙ c.in_ok-has_begun.was) c.if-not-has_begun.true in
+    flush_over plain c.args.flusher c.loop.has_ended c.in_ok-is_empty.is_empty c.args.self.now.core c.loop.self.core c.receive_all.new.self.core c.begin_batch-begin.new.core
+    c.loop.invariant.1 c.in_ok-is_empty.ensures.leads c.begin_batch-begin.result c.if-has_ended.true c.if-is_empty.true nothing
+    (c.begin_batch-begin.ensures.alone (nothing_begins c.begin_batch-begin.result nothing))
 
 pub returns-in_err-write_all-clause-waited : goal.returns-in_err-write_all-clause-waited
 returns-in_err-write_all-clause-waited g c =
     let received = known_more plain c.args.self.now.core c.loop.self.core c.receive_all.new.self.core (g.D.Disk.byte_at c.args.self.now.disk) (g.D.Disk.byte_at c.loop.self.disk) (g.D.Disk.byte_at c.receive_all.new.self.disk) c.loop.invariant.0 (c.receive_all.ensures.waited) in
-    let begun = known_more plain c.args.self.now.core c.receive_all.new.self.core c.step-begin.new.core (g.D.Disk.byte_at c.args.self.now.disk) (g.D.Disk.byte_at c.receive_all.new.self.disk) (g.D.Disk.byte_at c.receive_all.new.self.disk) received (known_said plain (g.D.Disk.is_known c.receive_all.new.self.disk) (move.FlushBegin c.args.flusher) c.step-begin.result c.receive_all.new.self.core c.step-begin.new.core (g.D.Disk.byte_at c.receive_all.new.self.disk) tt (c.step-begin.ensures.runs (move.FlushBegin c.args.flusher) refl (g.D.Disk.byte_at c.receive_all.new.self.disk))) in
-    known_more plain c.args.self.now.core c.step-begin.new.core c.write_all.new.self.core (g.D.Disk.byte_at c.args.self.now.disk) (g.D.Disk.byte_at c.receive_all.new.self.disk) (g.D.Disk.byte_at c.write_all.new.self.disk) begun (c.write_all.ensures.waited)
+    let begun = known_more plain c.args.self.now.core c.receive_all.new.self.core c.begin_batch-begin.new.core (g.D.Disk.byte_at c.args.self.now.disk) (g.D.Disk.byte_at c.receive_all.new.self.disk) (g.D.Disk.byte_at c.receive_all.new.self.disk) received (known_begun plain c.args.flusher (g.D.Disk.is_known c.receive_all.new.self.disk) g.L.MarkLog.appends c.receive_all.new.self.log c.begin_batch-begin.new.log c.begin_batch-begin.result c.receive_all.new.self.core c.begin_batch-begin.new.core (g.D.Disk.byte_at c.receive_all.new.self.disk) c.begin_batch-begin.ensures.begins) in
+    known_more plain c.args.self.now.core c.begin_batch-begin.new.core c.write_all.new.self.core (g.D.Disk.byte_at c.args.self.now.disk) (g.D.Disk.byte_at c.receive_all.new.self.disk) (g.D.Disk.byte_at c.write_all.new.self.disk) begun (c.write_all.ensures.waited)
 
 pub returns-in_err-answer_step-clause-waited : goal.returns-in_err-answer_step-clause-waited
 returns-in_err-answer_step-clause-waited g c =
     let received = known_more plain c.args.self.now.core c.loop.self.core c.receive_all.new.self.core (g.D.Disk.byte_at c.args.self.now.disk) (g.D.Disk.byte_at c.loop.self.disk) (g.D.Disk.byte_at c.receive_all.new.self.disk) c.loop.invariant.0 (c.receive_all.ensures.waited) in
-    let begun = known_more plain c.args.self.now.core c.receive_all.new.self.core c.step-begin.new.core (g.D.Disk.byte_at c.args.self.now.disk) (g.D.Disk.byte_at c.receive_all.new.self.disk) (g.D.Disk.byte_at c.receive_all.new.self.disk) received (known_said plain (g.D.Disk.is_known c.receive_all.new.self.disk) (move.FlushBegin c.args.flusher) c.step-begin.result c.receive_all.new.self.core c.step-begin.new.core (g.D.Disk.byte_at c.receive_all.new.self.disk) tt (c.step-begin.ensures.runs (move.FlushBegin c.args.flusher) refl (g.D.Disk.byte_at c.receive_all.new.self.disk))) in
-    let written = known_more plain c.args.self.now.core c.step-begin.new.core c.write_all.new.self.core (g.D.Disk.byte_at c.args.self.now.disk) (g.D.Disk.byte_at c.receive_all.new.self.disk) (g.D.Disk.byte_at c.write_all.new.self.disk) begun (c.write_all.ensures.waited) in
+    let begun = known_more plain c.args.self.now.core c.receive_all.new.self.core c.begin_batch-begin.new.core (g.D.Disk.byte_at c.args.self.now.disk) (g.D.Disk.byte_at c.receive_all.new.self.disk) (g.D.Disk.byte_at c.receive_all.new.self.disk) received (known_begun plain c.args.flusher (g.D.Disk.is_known c.receive_all.new.self.disk) g.L.MarkLog.appends c.receive_all.new.self.log c.begin_batch-begin.new.log c.begin_batch-begin.result c.receive_all.new.self.core c.begin_batch-begin.new.core (g.D.Disk.byte_at c.receive_all.new.self.disk) c.begin_batch-begin.ensures.begins) in
+    let written = known_more plain c.args.self.now.core c.begin_batch-begin.new.core c.write_all.new.self.core (g.D.Disk.byte_at c.args.self.now.disk) (g.D.Disk.byte_at c.receive_all.new.self.disk) (g.D.Disk.byte_at c.write_all.new.self.disk) begun (c.write_all.ensures.waited) in
     known_more plain c.args.self.now.core c.write_all.new.self.core c.step-end.new.core (g.D.Disk.byte_at c.args.self.now.disk) (g.D.Disk.byte_at c.write_all.new.self.disk) (g.D.Disk.byte_at c.write_all.new.self.disk) written (known_said plain (g.D.Disk.is_known c.write_all.new.self.disk) (move.FlushEnd c.args.flusher) c.step-end.result c.write_all.new.self.core c.step-end.new.core (g.D.Disk.byte_at c.write_all.new.self.disk) tt (c.step-end.ensures.runs (move.FlushEnd c.args.flusher) refl (g.D.Disk.byte_at c.write_all.new.self.disk)))
 
 pub returns-then-not-branch-clause-waited : goal.returns-then-not-branch-clause-waited
 returns-then-not-branch-clause-waited g c =
     let received = known_more plain c.args.self.now.core c.loop.self.core c.receive_all.new.self.core (g.D.Disk.byte_at c.args.self.now.disk) (g.D.Disk.byte_at c.loop.self.disk) (g.D.Disk.byte_at c.receive_all.new.self.disk) c.loop.invariant.0 (c.receive_all.ensures.waited) in
-    let begun = known_more plain c.args.self.now.core c.receive_all.new.self.core c.step-begin.new.core (g.D.Disk.byte_at c.args.self.now.disk) (g.D.Disk.byte_at c.receive_all.new.self.disk) (g.D.Disk.byte_at c.receive_all.new.self.disk) received (known_said plain (g.D.Disk.is_known c.receive_all.new.self.disk) (move.FlushBegin c.args.flusher) c.step-begin.result c.receive_all.new.self.core c.step-begin.new.core (g.D.Disk.byte_at c.receive_all.new.self.disk) tt (c.step-begin.ensures.runs (move.FlushBegin c.args.flusher) refl (g.D.Disk.byte_at c.receive_all.new.self.disk))) in
-    let written = known_more plain c.args.self.now.core c.step-begin.new.core c.write_all.new.self.core (g.D.Disk.byte_at c.args.self.now.disk) (g.D.Disk.byte_at c.receive_all.new.self.disk) (g.D.Disk.byte_at c.write_all.new.self.disk) begun (c.write_all.ensures.waited) in
+    let begun = known_more plain c.args.self.now.core c.receive_all.new.self.core c.begin_batch-begin.new.core (g.D.Disk.byte_at c.args.self.now.disk) (g.D.Disk.byte_at c.receive_all.new.self.disk) (g.D.Disk.byte_at c.receive_all.new.self.disk) received (known_begun plain c.args.flusher (g.D.Disk.is_known c.receive_all.new.self.disk) g.L.MarkLog.appends c.receive_all.new.self.log c.begin_batch-begin.new.log c.begin_batch-begin.result c.receive_all.new.self.core c.begin_batch-begin.new.core (g.D.Disk.byte_at c.receive_all.new.self.disk) c.begin_batch-begin.ensures.begins) in
+    let written = known_more plain c.args.self.now.core c.begin_batch-begin.new.core c.write_all.new.self.core (g.D.Disk.byte_at c.args.self.now.disk) (g.D.Disk.byte_at c.receive_all.new.self.disk) (g.D.Disk.byte_at c.write_all.new.self.disk) begun (c.write_all.ensures.waited) in
     known_more plain c.args.self.now.core c.write_all.new.self.core c.step-end.new.core (g.D.Disk.byte_at c.args.self.now.disk) (g.D.Disk.byte_at c.write_all.new.self.disk) (g.D.Disk.byte_at c.write_all.new.self.disk) written (known_said plain (g.D.Disk.is_known c.write_all.new.self.disk) (move.FlushEnd c.args.flusher) c.step-end.result c.write_all.new.self.core c.step-end.new.core (g.D.Disk.byte_at c.write_all.new.self.disk) tt (c.step-end.ensures.runs (move.FlushEnd c.args.flusher) refl (g.D.Disk.byte_at c.write_all.new.self.disk)))
 
 pub loop-preserved : goal.loop-preserved
 loop-preserved g c =
     let received = known_more plain c.args.self.now.core c.loop.self.core c.receive_all.new.self.core (g.D.Disk.byte_at c.args.self.now.disk) (g.D.Disk.byte_at c.loop.self.disk) (g.D.Disk.byte_at c.receive_all.new.self.disk) c.loop.invariant.0 (c.receive_all.ensures.waited) in
-    let begun = known_more plain c.args.self.now.core c.receive_all.new.self.core c.step-begin.new.core (g.D.Disk.byte_at c.args.self.now.disk) (g.D.Disk.byte_at c.receive_all.new.self.disk) (g.D.Disk.byte_at c.receive_all.new.self.disk) received (known_said plain (g.D.Disk.is_known c.receive_all.new.self.disk) (move.FlushBegin c.args.flusher) c.step-begin.result c.receive_all.new.self.core c.step-begin.new.core (g.D.Disk.byte_at c.receive_all.new.self.disk) tt (c.step-begin.ensures.runs (move.FlushBegin c.args.flusher) refl (g.D.Disk.byte_at c.receive_all.new.self.disk))) in
-    let written = known_more plain c.args.self.now.core c.step-begin.new.core c.write_all.new.self.core (g.D.Disk.byte_at c.args.self.now.disk) (g.D.Disk.byte_at c.receive_all.new.self.disk) (g.D.Disk.byte_at c.write_all.new.self.disk) begun (c.write_all.ensures.waited) in (
+    let begun = known_more plain c.args.self.now.core c.receive_all.new.self.core c.begin_batch-begin.new.core (g.D.Disk.byte_at c.args.self.now.disk) (g.D.Disk.byte_at c.receive_all.new.self.disk) (g.D.Disk.byte_at c.receive_all.new.self.disk) received (known_begun plain c.args.flusher (g.D.Disk.is_known c.receive_all.new.self.disk) g.L.MarkLog.appends c.receive_all.new.self.log c.begin_batch-begin.new.log c.begin_batch-begin.result c.receive_all.new.self.core c.begin_batch-begin.new.core (g.D.Disk.byte_at c.receive_all.new.self.disk) c.begin_batch-begin.ensures.begins) in
+    let written = known_more plain c.args.self.now.core c.begin_batch-begin.new.core c.write_all.new.self.core (g.D.Disk.byte_at c.args.self.now.disk) (g.D.Disk.byte_at c.receive_all.new.self.disk) (g.D.Disk.byte_at c.write_all.new.self.disk) begun (c.write_all.ensures.waited) in (
       known_more plain c.args.self.now.core c.write_all.new.self.core c.step-end.new.core (g.D.Disk.byte_at c.args.self.now.disk) (g.D.Disk.byte_at c.write_all.new.self.disk) (g.D.Disk.byte_at c.write_all.new.self.disk) written (known_said plain (g.D.Disk.is_known c.write_all.new.self.disk) (move.FlushEnd c.args.flusher) c.step-end.result c.write_all.new.self.core c.step-end.new.core (g.D.Disk.byte_at c.write_all.new.self.disk) tt (c.step-end.ensures.runs (move.FlushEnd c.args.flusher) refl (g.D.Disk.byte_at c.write_all.new.self.disk))),
-      flush_more plain c.args.flusher c.loop.has_ended c.in_ok-is_empty.is_empty c.step-begin.result c.args.self.now.core c.loop.self.core c.receive_all.new.self.core c.step-begin.new.core
-          c.loop.invariant.1 c.in_ok-is_empty.ensures.leads c.step-begin.ensures.meets c.step-end.result c.write_all.new.self.core c.step-end.new.core
+      flush_more plain c.args.flusher c.loop.has_ended c.in_ok-is_empty.is_empty c.args.self.now.core c.loop.self.core c.receive_all.new.self.core c.begin_batch-begin.new.core
+          c.loop.invariant.1 c.in_ok-is_empty.ensures.leads c.begin_batch-begin.ensures.keeps c.step-end.result c.write_all.new.self.core c.step-end.new.core
           (done_something c.step-end.result c.in_ok-answer_step.field-0 (sym c.answer_step-in-loop.ensures ∙ c.in_ok-answer_step.was) c.if-not-branch.false)
           c.in_ok-write_all.ensures.leads c.step-end.ensures.meets,
     )

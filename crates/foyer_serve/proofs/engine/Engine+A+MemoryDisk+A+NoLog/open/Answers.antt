@@ -3,7 +3,7 @@ use Rattle.std.specs.Prelude.{if◌then◌else◌, nat_lt, slice_index}
 use Rattle.foyer_rules.specs.Sizes.{AreValid}
 use Rattle.foyer_run.proofs.OpenedRuns.{err_weakens, none_refuses}
 use Rattle.foyer_serve.proofs.EngineLemmas.{zeroed}
-use Rattle.foyer_serve.proofs.engine.Engine+A+MemoryDisk+A.open.Goals as goal
+use Rattle.foyer_serve.proofs.engine.Engine+A+MemoryDisk+A+NoLog.open.Goals as goal
 
 pub returns-clause-begins : goal.returns-clause-begins
 returns-clause-begins g c =
@@ -11,4 +11,4 @@ returns-clause-begins g c =
     c.in_ok-disk.ensures.zeros c.with_disk.result c.with_disk.ensures.begins
 
 pub returns-clause-refused : goal.returns-clause-refused
-returns-clause-refused g c = err_weakens c.with_disk.result _ _ (λ e is. elim (none_refuses {Bad = AreValid c.args.settings → ⊥} e is) [ inl memory ↦ inl memory | inr config ↦ inr (inl config) ]) c.with_disk.ensures.refused
+returns-clause-refused g c = err_weakens c.with_disk.result _ _ (λ e is. elim (none_refuses {Bad = AreValid c.args.settings → ⊥} (λ read. read refl) e is) [ inl memory ↦ inl memory | inr config ↦ inr (inl config) ]) c.with_disk.ensures.refused

@@ -1,0 +1,51 @@
+//! The begin of a batch, with its marks in the log of deletes.
+ghost use Rattle.std.specs.Prelude.{ℕ};
+ghost use Rattle.foyer_rules.specs.Content.{meaning};
+ghost use Rattle.foyer_core.specs.Refines.{Refines};
+ghost use Rattle.foyer_core.specs.declared.step.Step.TheVariants as step;
+ghost use Rattle.foyer_run.specs.AtRest.{KeepsOthers, Leads};
+ghost use Rattle.foyer_run.specs.Batches.{BeginsNoBatch, IsBatchBegun};
+ghost use Rattle.foyer_run.specs.Waiting.{DrivesBy};
+
+use foyer_core::apply::Env;
+use foyer_core::reply::Reply;
+use foyer_core::state::Core;
+use foyer_core::step::Step;
+use foyer_format::serde::{Code, Properties};
+use foyer_log::block::tombstone::MarkLog;
+use std::alloc::Allocator;
+
+/// Begins a flusher's batch, appends its marks to the log, and brings what came of it: what the begin was answered. Where
+/// no batch begins the log is left alone. Without a log of deletes in the core's settings what is brought is out of turn.
+pub fn begin_batch<K, V, P, A, L>(
+    core: &mut Core<K, V, P, A>,
+    env: &mut Env,
+    log: &mut L,
+    flusher: u32,
+) -> Reply<K, V, P, A>
+where
+    K: Code<A> + Drop,
+    V: Code<A> + Drop,
+    P: Properties + Drop,
+    A: Allocator + Clone,
+    L: MarkLog,
+    ensures begins { (bytes : ℕ → ℕ → ℕ) → DrivesBy (IsBatchBegun
+        (meaning K.encoding V.encoding K.is_encodable V.is_encodable K.is_decodable V.is_decodable P.age)
+        flusher L.appends log.old log.new result)
+        (meaning K.encoding V.encoding K.is_encodable V.is_encodable K.is_decodable V.is_decodable P.age)
+        core.old core.new bytes bytes }
+    ensures keeps { Leads
+        (meaning K.encoding V.encoding K.is_encodable V.is_encodable K.is_decodable V.is_decodable P.age)
+        (KeepsOthers flusher) core.old core.new }
+    ensures alone { BeginsNoBatch result → Refines
+        (meaning K.encoding V.encoding K.is_encodable V.is_encodable K.is_decodable V.is_decodable P.age)
+        (step.FlushBegin flusher) result core.old core.new }
+{
+    let (blocks, marks) = match core.apply(env, Step::FlushBegin { flusher }) {
+        Reply::Began { blocks, marks } => (blocks, marks),
+        other => return other,
+    };
+    let result = log.append_marks(&marks);
+    let _ = core.apply(env, Step::LogWrote { flusher, result });
+    Reply::Began { blocks, marks }
+}

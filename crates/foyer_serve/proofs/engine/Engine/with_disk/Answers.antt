@@ -1,9 +1,0 @@
-use Rattle.std.proofs.Common.{sym}
-use Rattle.foyer_run.proofs.OpenedRuns.{begun}
-use Rattle.foyer_serve.specs.Texts.{plain}
-use Rattle.foyer_serve.proofs.engine.Engine.with_disk.Goals as goal
-
-pub returns-clause-begins : goal.returns-clause-begins
-returns-clause-begins g c = λ sound.
-    begun plain c.args.settings sound c.in_ok-core.core (g.D.Disk.byte_at c.args.disk) (g.D.Disk.byte_at c.open.new.disk) (g.D.Disk.surely_has c.args.disk) c.args.mode _
-    c.in_ok-core.ensures.opened (sym c.open.ensures.same)
