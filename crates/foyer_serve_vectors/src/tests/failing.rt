@@ -33,6 +33,7 @@ pub fn word_of<A: Allocator>(answer: &Answer<A>) -> &str {
         Answer::Miss => "miss",
         Answer::Ok => "ok",
         Answer::Fault(ErrorKind::Io) => "Io",
+        Answer::Fault(ErrorKind::Memory) => "Memory",
         _ => "another",
     }
 }

@@ -14,17 +14,17 @@ use foyer_io::io::engine::{
 };
 use foyer_log::block::tombstone::TombstoneLog;
 use foyer_serve::engine::Engine;
-use std::alloc::Global;
+use std::alloc::{Allocator, Global};
 use std::rt::Files;
 use std::sync::Wait;
 
 type Accesses<R> = FaultIoEngine<SharedMemoryIoEngine<R, Global>>;
 
-type Log<R> = TombstoneLog<Accesses<R>, MemoryPartition, Global>;
+type Log<R, A> = TombstoneLog<Accesses<R>, MemoryPartition, A>;
 
-type Blocks<R> = Partitions<Accesses<R>, MemoryPartition, Global>;
+type Blocks<R, A> = Partitions<Accesses<R>, MemoryPartition, A>;
 
-pub type MemoryEngine<R> = Engine<Global, Blocks<R>, Option<Log<R>>>;
+pub type MemoryEngine<R, A> = Engine<A, Blocks<R, A>, Option<Log<R, A>>>;
 
 const BLOCK: usize = 16384;
 
@@ -77,27 +77,33 @@ impl Memory {
         Ok(FaultIoEngine::new(engine, n, SLOT, false))
     }
 
-    fn open_log<R: Wait + Clone + Drop>(
+    fn open_log<R: Wait + Clone + Drop, A: Allocator>(
         &self,
         rt: &R,
+        alloc: A,
         n: u64,
-        marks: &mut Vec<Tombstone, Global>,
-    ) -> Result<Log<R>> {
-        let mut partitions = Vec::new(self.alloc);
+        mut partitions: Vec<MemoryPartition, A>,
+        marks: &mut Vec<Tombstone, A>,
+    ) -> Result<Log<R, A>>
+    where
+        A: Clone,
+    {
         partitions.push(self.log)?;
-        TombstoneLog::open(self.alloc, partitions, self.accesses(rt, n)?, marks)
+        TombstoneLog::open(alloc, partitions, self.accesses(rt, n)?, marks)
     }
 
-    /// An engine over it, with the log or without it.
-    pub fn open<R: Wait + Clone + Drop>(
+    /// An engine over it, with the log or without it, whose memory comes from an allocator.
+    pub fn open<R: Wait + Clone + Drop, A: Allocator + Clone>(
         &self,
         rt: &R,
+        alloc: A,
         has_log: bool,
         faults: Faults,
-    ) -> Result<MemoryEngine<R>> {
-        let mut marks = Vec::new(self.alloc);
+    ) -> Result<MemoryEngine<R, A>> {
+        let mut marks = Vec::new(alloc.clone()?);
         let log = if has_log {
-            Some(self.open_log(rt, faults.log, &mut marks)?)
+            let partitions = Vec::new(alloc.clone()?);
+            Some(self.open_log(rt, alloc.clone()?, faults.log, partitions, &mut marks)?)
         } else {
             None
         };
@@ -107,17 +113,9 @@ impl Memory {
         };
         let disk = Partitions::new(
             self.accesses(rt, faults.blocks)?,
-            Vec::from_slice(self.alloc, &self.blocks)?,
+            Vec::from_slice(alloc.clone()?, &self.blocks)?,
         );
         let env = Env::with_default_pickers(self.alloc, 0)?;
-        Engine::with_log(
-            self.alloc,
-            env,
-            settings,
-            disk,
-            RecoverMode::Quiet,
-            &marks,
-            log,
-        )
+        Engine::with_log(alloc, env, settings, disk, RecoverMode::Quiet, &marks, log)
     }
 }

@@ -99,7 +99,7 @@ fn draw(generator: &mut Pcg32, below: u32) -> u32 {
 // Whether the engine shows of each key the text that is known, a text being its number.
 fn shows<R: Wait + Clone + Drop>(
     alloc: Global,
-    engine: &mut MemoryEngine<R>,
+    engine: &mut MemoryEngine<R, Global>,
     table: &[Known; 4],
 ) -> Result<bool> {
     for key in 0..4usize {
@@ -119,7 +119,7 @@ fn shows<R: Wait + Clone + Drop>(
 // One step of a script: whether the engine answered it as it should.
 fn makes_step<R: Wait + Clone + Drop>(
     alloc: Global,
-    engine: &mut MemoryEngine<R>,
+    engine: &mut MemoryEngine<R, Global>,
     table: &mut [Known; 4],
     drawn: u32,
     key: usize,
@@ -158,13 +158,13 @@ fn holds<R: Files + Wait + Clone + Drop>(rt: &R, alloc: Global, seed: u64) -> Re
     let has_log = seed % 2 == 0;
     let none = Faults { log: 0, blocks: 0 };
     let memory = Memory::new(rt, alloc, 28)?;
-    let mut engine = memory.open(rt, has_log, none)?;
+    let mut engine = memory.open(rt, alloc, has_log, none)?;
     let mut table = [NOTHING; 4];
     for number in 1..=STEPS {
         let drawn = draw(&mut generator, 20);
         let key = draw(&mut generator, KEYS) as usize;
         if drawn == 19 {
-            engine = memory.open(rt, has_log, none)?;
+            engine = memory.open(rt, alloc, has_log, none)?;
             for known in table.iter_mut() {
                 *known = after_reopening(*known, has_log);
             }
