@@ -1,0 +1,4 @@
+mod premises;
+mod reopened;
+mod running;
+mod stopped;
