@@ -1,3 +1,4 @@
+mod moves;
 mod premises;
 mod reopened;
 mod running;

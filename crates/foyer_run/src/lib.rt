@@ -7,3 +7,4 @@ pub mod disk;
 pub mod moves;
 pub mod opened;
 pub mod reclaims;
+pub mod stopped;

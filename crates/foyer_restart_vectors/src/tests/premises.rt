@@ -161,3 +161,20 @@ fn a_reclaim_that_reads_a_fault_cleans_what_the_index_keeps(
     assert!(rt; sequences(alloc, &mut run, 1, RecoverMode::Strict)? == (Some(1), None));
     Ok(())
 }
+
+// The very index stands a second time, behind its record: of two equals the last one wins, and no record stands where it says.
+#[test]
+fn a_stray_index_hides_a_record(rt: HostRuntime) -> std::result::Result<(), Fail> {
+    let alloc = rt.alloc();
+    let mut run = begin(alloc, sizes(1))?;
+    assert!(rt; flush_puts(alloc, &mut run, 1)?);
+    let mut page = Vec::new(alloc);
+    page.resize(4096, 0)?;
+    let (page, outcome) = run.disk.read(0, 0, page);
+    outcome?;
+    run.disk.write(0, 8192, page.as_slice())?;
+    let mut opened = reopen(alloc, &mut run, None, RecoverMode::Strict)?;
+    let found = find(alloc, &mut opened, key_of(1))?;
+    assert!(rt; found.is_some_and(|found| !found.is_text));
+    Ok(())
+}

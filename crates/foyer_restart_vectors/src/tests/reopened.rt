@@ -1,5 +1,5 @@
 //! A core that is opened on the bytes of a stopped run, and what it answers.
-use crate::tests::running::{Plain, Running, TextCore, key_of, text_of};
+use crate::tests::running::{Running, TextCore, key_of, text_of};
 use foyer_block::indexer::EntryAddress;
 use foyer_block::manager::BlockId;
 use foyer_blockio::disk::Disk;
@@ -7,7 +7,6 @@ use foyer_blockio::memory::MemoryDisk;
 use foyer_core::apply::Env;
 use foyer_core::open::RecoverMode;
 use foyer_core::reply::Reply;
-use foyer_core::settings::Settings;
 use foyer_core::state::Core;
 use foyer_core::step::{Step, Ticket};
 use foyer_device::error::Result;
@@ -17,9 +16,9 @@ use std::alloc::Global;
 /// A core over a copy of the bytes that a run left.
 #[derive(Drop)]
 pub(crate) struct Reopened {
-    core: TextCore,
-    env: Env,
-    disk: MemoryDisk<Global>,
+    pub(crate) core: TextCore,
+    pub(crate) env: Env,
+    pub(crate) disk: MemoryDisk<Global>,
 }
 
 /// What a look-up found: where, and whether a load answers the text of that sequence, which is one of the key.

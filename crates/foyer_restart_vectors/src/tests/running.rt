@@ -120,14 +120,19 @@ pub(crate) fn apply(run: &mut Running, step: TextStep) -> TextReply {
     run.core.apply(&mut run.env, step)
 }
 
+/// The piece of the n-th put.
+pub(crate) fn piece_of(alloc: Global, put: u64) -> Result<Piece<u64, String, Plain, Global>> {
+    let key = key_of(put);
+    let text = text_of(alloc, put)?;
+    Ok(Piece::new(alloc, key, text, key, Plain)?)
+}
+
 /// Puts the next number's text. Whether it was queued under that number.
 pub(crate) fn put(alloc: Global, run: &mut Running) -> Result<bool> {
     let number = run.puts.saturating_add(1);
     run.puts = number;
-    let text = text_of(alloc, number)?;
-    let size = text.len();
-    let key = key_of(number);
-    let piece = Piece::new(alloc, key, text, key, Plain)?;
+    let piece = piece_of(alloc, number)?;
+    let size = 1000;
     match apply(run, Step::Enqueue { piece, size }) {
         Reply::Queued(sequence) => Ok(sequence == number),
         _ => Ok(false),
