@@ -20,5 +20,6 @@ pub mod ReplyLemmas
 pub mod RestLemmas
 pub mod RunLemmas
 pub mod StepLemmas
+pub mod StoppedRuns
 pub mod WriteLemmas
 pub mod WaitingLemmas

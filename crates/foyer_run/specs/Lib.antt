@@ -11,5 +11,6 @@ pub mod Begun
 pub mod Reclaims
 pub mod Running
 pub mod Runs
+pub mod Stopped
 pub mod Texts
 pub mod Waiting

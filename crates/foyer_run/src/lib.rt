@@ -8,3 +8,4 @@ pub mod disk;
 pub mod moves;
 pub mod opened;
 pub mod reclaims;
+pub mod stopped;

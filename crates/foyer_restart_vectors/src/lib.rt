@@ -1,0 +1,5 @@
+//! Tests of what an opening finds on the bytes that a stopped run left.
+#![tactic(auto)]
+
+#[cfg(test)]
+mod tests;

@@ -1,0 +1,5 @@
+mod moves;
+mod premises;
+mod reopened;
+mod running;
+mod stopped;
