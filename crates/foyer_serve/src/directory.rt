@@ -1,4 +1,7 @@
 //! An engine over the files of a directory.
+ghost use Rattle.std.specs.Prelude.{◌≡◌, IfOk};
+ghost use Rattle.foyer_recover.specs.declared.block.recover.RecoverMode.TheVariants as recover_mode;
+
 use crate::answer::name_of;
 use crate::engine::Engine;
 use crate::options::GENERATOR_SEED;
@@ -28,7 +31,7 @@ pub struct Failed {
     pub what: &'static str,
 }
 
-fn stopped_at(what: &'static str, error: Error) -> Failed {
+pub(crate) fn stopped_at(what: &'static str, error: Error) -> Failed {
     Failed {
         kind: error.kind(),
         what,
@@ -50,31 +53,25 @@ where
     R: Files<File = File> + AllocGlobal,
     A: Allocator + Clone,
 {
-    let disk = open_blocks(rt, alloc, directory, capacity, settings)?;
-    let opened = match alloc.clone() {
-        Ok(own) => open_engine(rt, own, settings, disk, mode),
-        Err(error) => Err(Error::from(error)),
-    };
-    match opened {
-        Ok(engine) => Ok(engine),
-        Err(error) => Err(stopped_at("the engine", error)),
-    }
+    let builder = FsDeviceBuilder::new(directory).with_capacity(capacity);
+    let (files, blocks) = open_files(rt, alloc, builder, 0, settings)?;
+    open_engine(rt, alloc, settings, Partitions::new(files, blocks), mode)
 }
 
-fn open_blocks<R, A>(
+/// The files of a directory's device, which is built at a moment, and the partition of each block.
+pub(crate) fn open_files<R, A>(
     rt: &R,
     alloc: &A,
-    directory: &str,
-    capacity: usize,
+    builder: FsDeviceBuilder<'_>,
+    now: u64,
     settings: Settings,
-) -> Result<FileBlocks<R::A, A>, Failed>
+) -> Result<(PsyncIoEngine<R::A>, Vec<FsPartition, A>), Failed>
 where
     R: Files<File = File> + AllocGlobal,
     A: Allocator + Clone,
 {
-    let builder = FsDeviceBuilder::new(directory).with_capacity(capacity);
     let built = match alloc.clone() {
-        Ok(own) => builder.build(rt, own, 0),
+        Ok(own) => builder.build(rt, own, now),
         Err(error) => Err(Error::from(error)),
     };
     let mut device = match built {
@@ -103,20 +100,38 @@ where
         Err(error) => Err(error),
     };
     match opened {
-        Ok(engine) => Ok(Partitions::new(engine, blocks)),
+        Ok(files) => Ok((files, blocks)),
         Err(error) => Err(stopped_at("a file of a block", error)),
     }
 }
 
-fn open_engine<R: AllocGlobal, A: Allocator + Clone, D: Disk + Drop>(
+/// An engine over the blocks of a directory.
+pub(crate) fn open_engine<R: AllocGlobal, A: Allocator + Clone, D: Disk + Drop>(
     rt: &R,
-    alloc: A,
+    alloc: &A,
     settings: Settings,
     disk: D,
     mode: RecoverMode,
-) -> Result<Engine<A, D>, Error> {
+) -> Result<Engine<A, D>, Failed>
+    ensures unread { IfOk result (λ engine. mode ≡ recover_mode.None → engine.disk ≡ disk) }
+{
+    match open_core(rt, alloc, settings, disk, mode) {
+        Ok(engine) => Ok(engine),
+        Err(error) => Err(stopped_at("the engine", error)),
+    }
+}
+
+fn open_core<R: AllocGlobal, A: Allocator + Clone, D: Disk + Drop>(
+    rt: &R,
+    alloc: &A,
+    settings: Settings,
+    disk: D,
+    mode: RecoverMode,
+) -> Result<Engine<A, D>, Error>
+    ensures unread { IfOk result (λ engine. mode ≡ recover_mode.None → engine.disk ≡ disk) }
+{
     let env = Env::with_default_pickers(rt.alloc(), GENERATOR_SEED)?;
-    Engine::with_disk(alloc, env, settings, disk, mode)
+    Engine::with_disk(alloc.clone()?, env, settings, disk, mode)
 }
 
 /// Says on a line of its own what of a directory couldn't be opened.

@@ -4,6 +4,7 @@ mod destroys;
 mod directories;
 mod failing;
 mod listing;
+mod monitored;
 mod reclaims;
 mod reopening;
 mod same;
