@@ -8,7 +8,7 @@ use Rattle.foyer_model.specs.Rules.{Rules}
 use Rattle.foyer_model.specs.State.{State}
 use Rattle.foyer_model.specs.Step as model_step
 use Rattle.foyer_model.specs.Follows.{Follows}
-use Rattle.foyer_model.specs.World.{World, WorldEvent, Applies, ReadBegins, ReadEnds, MayAllHappen, after, after_all}
+use Rattle.foyer_model.specs.World.{World, Applies, ReadBegins, ReadEnds, MayAllHappen, after, after_all}
 use Rattle.foyer_rules.specs.Content.{Content}
 use Rattle.foyer_rules.specs.CoreRules.{IsEncoded, layout, machine}
 use Rattle.foyer_rules.specs.Sizes.{AreValid}
@@ -19,9 +19,7 @@ use Rattle.foyer_core.specs.declared.reply.Reply.{Reply}
 use Rattle.foyer_core.specs.declared.reply.Reply.TheVariants as reply
 use Rattle.foyer_core.specs.declared.state.Core.{Core}
 use Rattle.foyer_run.specs.Accesses.{Says, load_of}
-use Rattle.foyer_run.specs.Newest.{IsHistory}
 use Rattle.foyer_serve.specs.Texts.{IsThrottledOnly, got, plain}
-use Rattle.foyer_serve.specs.declared.engine.Answer.{Answer}
 use Rattle.foyer_serve.specs.declared.engine.Answer.TheVariants as answer
 use Rattle.foyer_serve.specs.declared.engine.NoProperties.{NoProperties}
 
