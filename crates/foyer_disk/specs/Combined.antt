@@ -1,7 +1,7 @@
 -- Several devices as one.
 use Rattle.std.specs.Prelude.{◌≡◌, ℕ, ◌+◌, ◌≤◌, List, Option, Some, None, map, take, drop, length, slice_get, sum_by}
 use Rattle.foyer_disk.specs.Extent.{Extent, AreDisjoint, LieInFiles}
-use Rattle.foyer_disk.specs.declared.io.device.throttle.Throttle.{Throttle}
+use Rattle.foyer_throttle.specs.declared.throttle.Throttle.{Throttle}
 
 -- what contracts see of a combined device: its devices, which of them is asked, the partitions, and how many files there are
 pub record Combined (D : Type 0) : Type 0 where

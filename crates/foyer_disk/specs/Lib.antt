@@ -4,4 +4,3 @@ pub mod Extent
 pub mod Paths
 pub mod Region
 pub mod Slot
-pub mod Throttle

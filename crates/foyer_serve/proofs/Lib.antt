@@ -1,2 +1,3 @@
 pub mod EngineLemmas
 pub mod LineLemmas
+pub mod ThrottledLemmas

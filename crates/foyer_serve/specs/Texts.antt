@@ -5,13 +5,16 @@ use Rattle.foyer_device.specs.declared.error.ErrorKind.{ErrorKind}
 use Rattle.foyer_device.specs.declared.error.ErrorKind.TheVariants as kind
 use Rattle.foyer_format.specs.declared.serde.ages.Age.{Age}
 use Rattle.foyer_model.specs.Record.{Outcome, Holds}
+use Rattle.foyer_model.specs.World.{World, WorldEvent}
 use Rattle.foyer_policy.specs.Record.{Record}
 use Rattle.foyer_rules.specs.Content.{Content, Meaning, content}
+use Rattle.foyer_rules.specs.Sizes.{AreValid}
+use Rattle.foyer_rules.specs.declared.settings.Settings.{Settings}
 use Rattle.foyer_core.specs.declared.reply.Reply.{Reply}
 use Rattle.foyer_core.specs.declared.reply.Reply.TheVariants as reply
 use Rattle.foyer_core.specs.declared.state.Core.{Core}
 use Rattle.foyer_run.specs.Accesses.{Says, load_of}
-use Rattle.foyer_run.specs.Newest.{IsNewest, MayFail, OfPut}
+use Rattle.foyer_run.specs.Newest.{IsHistory, IsNewest, MayFail, OfPut}
 use Rattle.foyer_run.specs.Runs.{IsFront}
 use Rattle.foyer_run.specs.Texts.{of_texts}
 use Rattle.foyer_run.specs.declared.moves.Move.TheVariants as move
@@ -39,6 +42,12 @@ IsTextOrFault x said = ⊥
 abbrev pub IsMissedText : {A : Type 0} → ℕ → Core ℕ (String A) NoProperties A → (ℕ → ℕ → ℕ) → Answer A → Type 0
 IsMissedText key core bytes said = OfPut plain key core bytes (λ x. IsTextOrFault x said)
 
+-- Throttled is answered, in every history that led to this core and these bytes, only where the device is said to be
+abbrev pub IsThrottledOnly : {A : Type 0} → Bool → Core ℕ (String A) NoProperties A → (ℕ → ℕ → ℕ) → Answer A → Type 0
+IsThrottledOnly throttled core bytes said =
+    (s : Settings) (sound : AreValid s) (first : World Content) (events : List (WorldEvent Content)) → IsHistory plain s sound first events core bytes
+    → said ≡ answer.Throttled → throttled ≡ true
+
 -- what a load's reply is answered as
 abbrev pub got : {A : Type 0} → Reply ℕ (String A) NoProperties A → Answer A
 got (reply.Entry key text age) = answer.Entry text
@@ -46,16 +55,21 @@ got reply.Throttled = answer.Throttled
 got (reply.Refused kind back) = answer.Fault kind
 got said = answer.Miss
 
--- a load of this key was answered so, and nothing else happened
-pub record IsLoaded {A : Type 0} (key : ℕ) (old new : Core ℕ (String A) NoProperties A) (old_bytes new_bytes : ℕ → ℕ → ℕ) (answered : Answer A) : Type 0 where
+-- a load of this key, at a device that is throttled or not, was answered so, and nothing else happened
+pub record IsLoaded {A : Type 0} (key : ℕ) (throttled : Bool) (old new : Core ℕ (String A) NoProperties A) (old_bytes new_bytes : ℕ → ℕ → ℕ) (answered : Answer A) : Type 0 where
   pub last : Reply ℕ (String A) NoProperties A
   pub is : answered ≡ got last
-  pub says : Says plain (load_of key false) last old new old_bytes new_bytes
+  pub says : Says plain (load_of key throttled) last old new old_bytes new_bytes
 
 -- or memory for it was refused, and a front of it happened
+abbrev pub IsLoadedOrRefused : {A : Type 0} → ℕ → Bool → (old new : Core ℕ (String A) NoProperties A) → (old_bytes new_bytes : ℕ → ℕ → ℕ) → Answer A → Type 0
+IsLoadedOrRefused key throttled old new old_bytes new_bytes answered =
+    IsLoaded key throttled old new old_bytes new_bytes answered
+    ⊎ ((answered ≡ answer.Fault kind.Memory) × IsFront plain (load_of key throttled) old new old_bytes new_bytes)
+
+-- and so it is at a device that isn't throttled
 abbrev pub IsGot : {A : Type 0} → ℕ → (old new : Core ℕ (String A) NoProperties A) → (old_bytes new_bytes : ℕ → ℕ → ℕ) → Answer A → Type 0
-IsGot key old new old_bytes new_bytes answered =
-    IsLoaded key old new old_bytes new_bytes answered ⊎ ((answered ≡ answer.Fault kind.Memory) × IsFront plain (load_of key false) old new old_bytes new_bytes)
+IsGot key old new old_bytes new_bytes answered = IsLoadedOrRefused key false old new old_bytes new_bytes answered
 
 -- what an enqueue's reply is answered as
 abbrev pub put_as : {A : Type 0} → Reply ℕ (String A) NoProperties A → Answer A

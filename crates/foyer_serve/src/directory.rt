@@ -1,11 +1,13 @@
 //! An engine over the files of a directory.
-ghost use Rattle.std.specs.Prelude.{◌≡◌, ◌-◌, ◌/◌, ◌≤◌, true, false};
+ghost use Rattle.std.specs.Prelude.{◌≡◌, ◌-◌, ◌/◌, ◌≤◌, true, false, IfOk};
 ghost use Rattle.foyer_log.specs.Pages.{log_pages};
+ghost use Rattle.foyer_recover.specs.declared.block.recover.RecoverMode.TheVariants as recover_mode;
 
 use crate::answer::name_of;
 use crate::engine::Engine;
 use crate::options::GENERATOR_SEED;
 use foyer_block::tombstone::Tombstone;
+use foyer_blockio::disk::Disk;
 use foyer_blockio::partitions::{Partitions, create_blocks};
 use foyer_core::apply::Env;
 use foyer_core::open::RecoverMode;
@@ -39,7 +41,7 @@ pub struct Failed {
     pub what: &'static str,
 }
 
-fn stopped_at(what: &'static str, error: Error) -> Failed {
+pub(crate) fn stopped_at(what: &'static str, error: Error) -> Failed {
     Failed {
         kind: error.kind(),
         what,
@@ -65,12 +67,19 @@ pub fn blocks_in(capacity: usize, block_size: usize, tombstone_log: bool) -> usi
     }
 }
 
-// What an engine over a directory is made of: its blocks, its log of deletes, if it has one, and the marks there.
+/// A log of deletes, if there is one, and the marks that it has listed.
 #[derive(Drop)]
-struct Parts<B: Allocator, A: Allocator> {
-    disk: FileBlocks<B, A>,
+pub(crate) struct Deletes<B: Allocator, A: Allocator> {
     log: Option<FileLog<B, A>>,
     marks: Vec<Tombstone, A>,
+}
+
+/// What a directory's device is made of: the files of all partitions, the partition of each block, and the deletes.
+#[derive(Drop)]
+pub(crate) struct DeviceParts<B: Allocator, A: Allocator> {
+    pub(crate) files: PsyncIoEngine<B>,
+    pub(crate) blocks: Vec<FsPartition, A>,
+    pub(crate) deletes: Deletes<B, A>,
 }
 
 /// Opens an engine over a directory, which is made with its parents where it is missing: a file for each block, of exactly
@@ -89,31 +98,32 @@ where
     R: Files<File = File> + AllocGlobal,
     A: Allocator + Clone,
 {
-    let parts = open_parts(rt, alloc, directory, capacity, settings)?;
-    let opened = match alloc.clone() {
-        Ok(own) => open_engine(rt, own, settings, parts, mode),
-        Err(error) => Err(Error::from(error)),
-    };
-    match opened {
-        Ok(engine) => Ok(engine),
-        Err(error) => Err(stopped_at("the engine", error)),
-    }
+    let builder = FsDeviceBuilder::new(directory).with_capacity(capacity);
+    let parts = open_parts(rt, alloc, builder, 0, capacity, settings)?;
+    let DeviceParts {
+        files,
+        blocks,
+        deletes,
+    } = parts;
+    let disk = Partitions::new(files, blocks);
+    open_engine(rt, alloc, settings, disk, deletes, mode)
 }
 
-fn open_parts<R, A>(
+/// The parts of a directory's device of so many bytes, which is built at a moment.
+pub(crate) fn open_parts<R, A>(
     rt: &R,
     alloc: &A,
-    directory: &str,
+    builder: FsDeviceBuilder<'_>,
+    now: u64,
     capacity: usize,
     settings: Settings,
-) -> Result<Parts<R::A, A>, Failed>
+) -> Result<DeviceParts<R::A, A>, Failed>
 where
     R: Files<File = File> + AllocGlobal,
     A: Allocator + Clone,
 {
-    let builder = FsDeviceBuilder::new(directory).with_capacity(capacity);
     let built = match alloc.clone() {
-        Ok(own) => builder.build(rt, own, 0),
+        Ok(own) => builder.build(rt, own, now),
         Err(error) => Err(Error::from(error)),
     };
     let mut device = match built {
@@ -132,21 +142,24 @@ where
         Ok(blocks) => blocks,
         Err(error) => return Err(stopped_at("a file of a block", error)),
     };
-    let paths = match alloc.clone() {
+    let listed = match alloc.clone() {
         Ok(own) => device.files(own),
         Err(error) => Err(Error::from(error)),
     };
-    let files = match paths {
+    let paths = match listed {
+        Ok(paths) => paths,
+        Err(error) => return Err(stopped_at("a file of a block", error)),
+    };
+    let files = match open_files(rt, paths.as_slice()) {
         Ok(files) => files,
         Err(error) => return Err(stopped_at("a file of a block", error)),
     };
-    let engine = match open_files(rt, files.as_slice()) {
-        Ok(engine) => engine,
-        Err(error) => return Err(stopped_at("a file of a block", error)),
-    };
-    let disk = Partitions::new(engine, blocks);
-    match open_log(rt, alloc, log, files.as_slice()) {
-        Ok((log, marks)) => Ok(Parts { disk, log, marks }),
+    match open_log(rt, alloc, log, paths.as_slice()) {
+        Ok(deletes) => Ok(DeviceParts {
+            files,
+            blocks,
+            deletes,
+        }),
         Err(error) => Err(stopped_at("the log of deletes", error)),
     }
 }
@@ -166,12 +179,12 @@ fn make_log<R: Files, D: Device>(
 }
 
 // An engine that has files of its own.
-fn open_files<R, A>(rt: &R, files: &[String<A>]) -> Result<PsyncIoEngine<R::A>, Error>
+fn open_files<R, A>(rt: &R, paths: &[String<A>]) -> Result<PsyncIoEngine<R::A>, Error>
 where
     R: Files<File = File> + AllocGlobal,
     A: Allocator,
 {
-    PsyncIoEngineConfig::new().build(rt, &IoEngineBuildContext { files })
+    PsyncIoEngineConfig::new().build(rt, &IoEngineBuildContext { files: paths })
 }
 
 // The log in its partition, which lies in the first file, by an engine of its own, and the marks there.
@@ -179,33 +192,66 @@ fn open_log<R, A>(
     rt: &R,
     alloc: &A,
     partition: Option<FsPartition>,
-    files: &[String<A>],
-) -> Result<(Option<FileLog<R::A, A>>, Vec<Tombstone, A>), Error>
+    paths: &[String<A>],
+) -> Result<Deletes<R::A, A>, Error>
 where
     R: Files<File = File> + AllocGlobal,
     A: Allocator + Clone,
 {
     let mut marks = Vec::new(alloc.clone()?);
     let Some(partition) = partition else {
-        return Ok((None, marks));
+        return Ok(Deletes { log: None, marks });
     };
     let mut partitions = Vec::new(alloc.clone()?);
     partitions.push(partition)?;
-    let engine = open_files(rt, files.get(..1).unwrap_or(files))?;
-    let log = TombstoneLog::open(alloc.clone()?, partitions, engine, &mut marks)?;
-    Ok((Some(log), marks))
+    let files = open_files(rt, paths.get(..1).unwrap_or(paths))?;
+    let log = TombstoneLog::open(alloc.clone()?, partitions, files, &mut marks)?;
+    Ok(Deletes {
+        log: Some(log),
+        marks,
+    })
 }
 
-fn open_engine<R: AllocGlobal, A: Allocator + Clone>(
+/// An engine over the blocks of a directory, and its deletes.
+pub(crate) fn open_engine<R, A, B, D>(
     rt: &R,
-    alloc: A,
+    alloc: &A,
     settings: Settings,
-    parts: Parts<R::A, A>,
+    disk: D,
+    deletes: Deletes<B, A>,
     mode: RecoverMode,
-) -> Result<FileEngine<R::A, A>, Error> {
+) -> Result<Engine<A, D, Option<FileLog<B, A>>>, Failed>
+where
+    R: AllocGlobal,
+    A: Allocator + Clone,
+    B: Allocator,
+    D: Disk + Drop,
+    ensures unread { IfOk result (λ engine. mode ≡ recover_mode.None → engine.disk ≡ disk) }
+{
+    match open_core(rt, alloc, settings, disk, deletes, mode) {
+        Ok(engine) => Ok(engine),
+        Err(error) => Err(stopped_at("the engine", error)),
+    }
+}
+
+fn open_core<R, A, B, D>(
+    rt: &R,
+    alloc: &A,
+    settings: Settings,
+    disk: D,
+    deletes: Deletes<B, A>,
+    mode: RecoverMode,
+) -> Result<Engine<A, D, Option<FileLog<B, A>>>, Error>
+where
+    R: AllocGlobal,
+    A: Allocator + Clone,
+    B: Allocator,
+    D: Disk + Drop,
+    ensures unread { IfOk result (λ engine. mode ≡ recover_mode.None → engine.disk ≡ disk) }
+{
     let env = Env::with_default_pickers(rt.alloc(), GENERATOR_SEED)?;
-    let Parts { disk, log, marks } = parts;
-    Engine::with_log(alloc, env, settings, disk, mode, &marks, log)
+    let Deletes { log, marks } = deletes;
+    Engine::with_log(alloc.clone()?, env, settings, disk, mode, &marks, log)
 }
 
 /// Says on a line of its own what of a directory couldn't be opened.

@@ -1,5 +1,5 @@
 //! The engine that the program keeps: a core over a disk, with a log of deletes or without one, driven on one thread.
-ghost use Rattle.std.specs.Prelude.{◌≡◌, ◌≢◌, ◌⊎◌, ◌≤◌, ◌*◌, ◌^◌, ℕ, [], None, IfOk, IfErr, string_bytes};
+ghost use Rattle.std.specs.Prelude.{◌≡◌, ◌≢◌, ◌⊎◌, ◌≤◌, ◌*◌, ◌^◌, ℕ, [], false, None, IfOk, IfErr, string_bytes};
 ghost use Rattle.foyer_device.specs.declared.error.Error.TheVariants.{Config, Memory, OutOfRange, Recover, SequenceEnd};
 ghost use Rattle.foyer_recover.specs.Recovery.{marks_of};
 ghost use Rattle.foyer_recover.specs.declared.block.recover.RecoverMode.TheVariants as recover_mode;
@@ -8,7 +8,7 @@ ghost use Rattle.foyer_run.specs.AtRest.{ComesToRest, KeepsIdle, KeepsOthersIdle
 ghost use Rattle.foyer_run.specs.Driven.{Drives};
 ghost use Rattle.foyer_run.specs.Begun.{IsBegun, IsBegunEmpty};
 ghost use Rattle.foyer_run.specs.Waiting.{Closes, Waits};
-ghost use Rattle.foyer_serve.specs.Texts.{IsDeleted, IsGot, IsMissedText, IsNewestText, IsOkOrFault, IsPut, deleted_as, done_as, got, plain, put_as, wrote_as};
+ghost use Rattle.foyer_serve.specs.Texts.{IsDeleted, IsGot, IsLoadedOrRefused, IsMissedText, IsNewestText, IsOkOrFault, IsPut, IsThrottledOnly, deleted_as, done_as, got, plain, put_as, wrote_as};
 
 use foyer_block::tombstone::Tombstone;
 use foyer_blockio::disk::Disk;
@@ -51,7 +51,7 @@ pub enum Answer<A: Allocator> {
     Ignored,
     /// The key's text.
     Entry(String<A>),
-    /// The device is throttled: never of this engine, which loads without a throttle.
+    /// The key has a text, and the caller said that the device is throttled.
     Throttled,
     /// The key has no text that was written.
     Miss,
@@ -253,8 +253,26 @@ impl<A: Allocator + Clone, D: Disk + Drop, L: MarkLog + Drop> Engine<A, D, L> {
         ensures driven { D.is_known self.old.disk → Drives plain self.old.core self.new.core
             (D.byte_at self.old.disk) (D.byte_at self.new.disk) }
     {
+        self.load(key, false)
+    }
+
+    /// The text of a key, as a get answers it, where the caller says whether the device is throttled. If it is, a key that
+    /// has a text is answered `Throttled`, and nothing is read.
+    pub fn load(&mut self, key: u64, throttled: bool) -> Answer<A>
+        ensures waits { self.new.next_wait ≡ self.old.next_wait }
+        ensures newest { D.is_known self.old.disk → IsNewestText key self.old.core (D.byte_at self.old.disk) result }
+        ensures missed { D.is_known self.old.disk → throttled ≡ false
+            → IsMissedText key self.old.core (D.byte_at self.old.disk) result }
+        ensures throttled { D.is_known self.old.disk
+            → IsThrottledOnly throttled self.old.core (D.byte_at self.old.disk) result }
+        ensures known { D.is_known self.old.disk → D.is_known self.new.disk }
+        ensures says { D.is_known self.old.disk → IsLoadedOrRefused key throttled self.old.core self.new.core
+            (D.byte_at self.old.disk) (D.byte_at self.new.disk) result }
+        ensures driven { D.is_known self.old.disk → Drives plain self.old.core self.new.core
+            (D.byte_at self.old.disk) (D.byte_at self.new.disk) }
+    {
         let (env, disk, spare) = (&mut self.env, &mut self.disk, &mut self.spare);
-        match load(&mut self.core, env, disk, spare, key, false) {
+        match load(&mut self.core, env, disk, spare, key, throttled) {
             Ok(last) => answer_load(last),
             Err(_) => Answer::Fault(ErrorKind::Memory),
         }

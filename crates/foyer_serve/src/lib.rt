@@ -9,5 +9,6 @@ mod command;
 pub mod directory;
 pub mod engine;
 mod lines;
+pub mod monitored;
 pub mod options;
 pub mod serve;

@@ -7,6 +7,7 @@ mod failing;
 mod listing;
 mod logged;
 mod memories;
+mod monitored;
 mod reclaims;
 mod reopening;
 mod same;

@@ -9,6 +9,7 @@ ghost use Rattle.foyer_statistics.specs.Counted.{Records, Sees, SeesMore, SeesSt
 use crate::state::IoState;
 use crate::statistics::{Seat, Statistics};
 use foyer_device::error::Result;
+use foyer_throttle::Throttle;
 use std::alloc::Allocator;
 use std::marker::Model;
 use std::sync::{Arc, Wait};
@@ -56,6 +57,13 @@ impl<A: Allocator> Clerk<A> {
     {
         let Clerk { seat, statistics } = self;
         (seat, statistics)
+    }
+
+    /// The limits.
+    pub fn throttle(&self) -> Throttle
+        ensures { result ≡ self.now.limits }
+    {
+        *self.statistics.throttle()
     }
 
     /// A clerk at the same counters that has so many of this one's parts, and has recorded nothing. Memory.

@@ -14,19 +14,18 @@ mod paths;
 mod region;
 mod sizes;
 mod slot;
-mod throttle;
 
 pub use any::{AnyDevice, AnyPartition};
 pub use combined::{CombinedDevice, CombinedDeviceBuilder, CombinedPartition};
 pub use file::{FileDevice, FileDeviceBuilder, FilePartition};
 use foyer_device::error::Result;
+pub use foyer_throttle::{IopsCounter, Throttle};
 pub use fs::{FsDevice, FsDeviceBuilder, FsPartition, partition_path};
 pub use memory::{MemoryDevice, MemoryDeviceBuilder, MemoryPartition};
 pub use noop::{NoopDevice, NoopDeviceBuilder, NoopPartition};
 pub use partial::{PartialDevice, PartialDeviceBuilder, PartialPartition};
 use std::alloc::Allocator;
 use std::rt::Files;
-pub use throttle::{IopsCounter, Throttle};
 
 /// The number of a partition of a device, from 0 on.
 pub type PartitionId = u32;
@@ -65,7 +64,7 @@ pub trait Partition {
 
 /// Bytes in which partitions are made.
 pub trait Device: Drop {
-    ghost use Rattle.foyer_disk.specs.declared.io.device.throttle.Throttle.{Throttle};
+    ghost use Rattle.foyer_throttle.specs.declared.throttle.Throttle.{Throttle};
 
     type Partition: Partition + Copy;
 
