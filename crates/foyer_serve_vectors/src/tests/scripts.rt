@@ -90,6 +90,19 @@ fn after_reopening(known: Known, has_log: bool) -> Known {
     }
 }
 
+fn known_of(table: &[Known; 4], key: usize) -> Known {
+    match table.get(key) {
+        Some(known) => *known,
+        None => NOTHING,
+    }
+}
+
+fn set(table: &mut [Known; 4], key: usize, known: Known) {
+    if let Some(place) = table.get_mut(key) {
+        *place = known;
+    }
+}
+
 // Below the bound.
 fn draw(generator: &mut Pcg32, below: u32) -> u32 {
     let word = generator.next_word();
@@ -103,10 +116,11 @@ fn shows<R: Wait + Clone + Drop>(
     table: &[Known; 4],
 ) -> Result<bool> {
     for key in 0..4usize {
-        let wanted = format!(in alloc; "{}", table[key].shown)?;
+        let shown = known_of(table, key).shown;
+        let wanted = format!(in alloc; "{}", shown)?;
         let is_so = match engine.get(key as u64) {
             Answer::Entry(text) => text.as_str() == wanted.as_str(),
-            Answer::Miss => table[key].shown == 0,
+            Answer::Miss => shown == 0,
             _ => false,
         };
         if !is_so {
@@ -127,12 +141,12 @@ fn makes_step<R: Wait + Clone + Drop>(
 ) -> Result<bool> {
     let answer = match drawn {
         0..=8 => {
-            table[key] = after_put(table[key], number);
+            set(table, key, after_put(known_of(table, key), number));
             let text = format!(in alloc; "{}", number)?;
             engine.put(key as u64, text.as_str())
         }
         9..=12 => {
-            table[key] = after_delete(table[key]);
+            set(table, key, after_delete(known_of(table, key)));
             engine.delete(key as u64)
         }
         13 => {

@@ -91,21 +91,42 @@ fn answers_of(
     Ok(Some([is_done, is_refused, is_missed]))
 }
 
+// What came of a destroy whose n-th allocation is refused; an engine that can't be opened is refused too.
+#[derive(Clone, Copy, Debug)]
+struct Outcome {
+    is_open: bool,
+    is_done: bool,
+    is_refused: bool,
+    is_missed: bool,
+    // Whether the allocation came.
+    has_come: bool,
+}
+
+fn outcome_of(alloc: Global, n: u64, has_put: bool) -> foyer_device::error::Result<Outcome> {
+    let heap = Refusing::new(alloc, n);
+    let answers = answers_of(alloc, &heap, has_put)?;
+    let is_open = answers.is_some();
+    let [is_done, is_refused, is_missed] = answers.unwrap_or([false, true, true]);
+    Ok(Outcome {
+        is_open,
+        is_done,
+        is_refused,
+        is_missed,
+        has_come: heap.has_refused(),
+    })
+}
+
 // Each allocation is refused in turn: how often a destroy is refused memory. One that is done leaves nothing.
 fn count_refusals(rt: &(impl Abort + AllocGlobal), has_put: bool) -> Result<u32, Fail> {
     let mut refused = 0u32;
     for n in 1..2000 {
-        let heap = Refusing::new(rt.alloc(), n);
-        let Some([is_done, is_refused, is_missed]) = answers_of(rt.alloc(), &heap, has_put)? else {
-            assert!(*rt; heap.has_refused());
-            continue;
-        };
-        assert!(*rt; is_done || is_refused, "allocation {n}");
-        assert!(*rt; is_missed || !is_done, "allocation {n}");
-        if !heap.has_refused() {
+        let outcome = outcome_of(rt.alloc(), n, has_put)?;
+        assert!(*rt; outcome.is_done || outcome.is_refused, "allocation {n}");
+        assert!(*rt; outcome.is_missed || !outcome.is_done, "allocation {n}");
+        if !outcome.has_come {
             return Ok(refused);
         }
-        if is_refused {
+        if outcome.is_refused && outcome.is_open {
             refused = refused.saturating_add(1);
         }
     }
