@@ -141,12 +141,14 @@ fn makes_step<R: Wait + Clone + Drop>(
 ) -> Result<bool> {
     let answer = match drawn {
         0..=8 => {
-            set(table, key, after_put(known_of(table, key), number));
+            let known = known_of(table, key);
+            set(table, key, after_put(known, number));
             let text = format!(in alloc; "{}", number)?;
             engine.put(key as u64, text.as_str())
         }
         9..=12 => {
-            set(table, key, after_delete(known_of(table, key)));
+            let known = known_of(table, key);
+            set(table, key, after_delete(known));
             engine.delete(key as u64)
         }
         13 => {
