@@ -1,4 +1,5 @@
 mod disk;
+mod many;
 mod opened;
 mod random;
 mod rows;

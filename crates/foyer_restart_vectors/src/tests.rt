@@ -1,3 +1,4 @@
+mod cleans;
 mod moves;
 mod premises;
 mod reopened;

@@ -2,7 +2,7 @@
 use crate::tests::reopened::{copy_of, find, reopen};
 use crate::tests::running::{
     NextBlock, Running, address_of, apply, begin, begin_flush, begin_over, do_next, end_flush,
-    key_of, next_block, put, sizes, take_issued,
+    flush_puts, key_of, next_block, put, sizes, take_issued,
 };
 use foyer_block::manager::BlockId;
 use foyer_blockio::disk::Disk;
@@ -13,33 +13,6 @@ use foyer_core::step::Step;
 use foyer_device::error::{Error, Result};
 use std::alloc::Global;
 use std::test::Fail;
-
-// Writes what was issued. Whether the block was committed.
-fn write_block(run: &mut Running) -> bool {
-    for _ in 0..10 {
-        let Some(issued) = take_issued(run, 0) else {
-            return true;
-        };
-        if !do_next(run, 0, issued) {
-            return false;
-        }
-    }
-    false
-}
-
-// Puts so many numbers and flushes them, while there are clean blocks.
-fn flush_puts(alloc: Global, run: &mut Running, count: u32) -> Result<bool> {
-    for _ in 0..count {
-        put(alloc, run)?;
-    }
-    let mut went_well = begin_flush(run, 0);
-    for _ in 0..10 {
-        if next_block(run, 0) == NextBlock::Given {
-            went_well = write_block(run) && went_well;
-        }
-    }
-    Ok(end_flush(run, 0) && went_well)
-}
 
 // The sequences under which a key is indexed, and is found again.
 fn sequences(

@@ -227,6 +227,33 @@ pub(crate) fn end_flush(run: &mut Running, flusher: u32) -> bool {
     }
 }
 
+// Writes what was issued. Whether the block was committed.
+fn write_block(run: &mut Running) -> bool {
+    for _ in 0..10 {
+        let Some(issued) = take_issued(run, 0) else {
+            return true;
+        };
+        if !do_next(run, 0, issued) {
+            return false;
+        }
+    }
+    false
+}
+
+/// Puts so many numbers and flushes them, while there are clean blocks.
+pub(crate) fn flush_puts(alloc: Global, run: &mut Running, count: u32) -> Result<bool> {
+    for _ in 0..count {
+        put(alloc, run)?;
+    }
+    let mut went_well = begin_flush(run, 0);
+    for _ in 0..10 {
+        if next_block(run, 0) == NextBlock::Given {
+            went_well = write_block(run) && went_well;
+        }
+    }
+    Ok(end_flush(run, 0) && went_well)
+}
+
 /// Where the index has a key.
 pub(crate) fn address_of(run: &mut Running, key: u64) -> Option<EntryAddress> {
     let step = Step::LoadBegin {

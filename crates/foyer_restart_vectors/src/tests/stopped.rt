@@ -28,16 +28,16 @@ enum Verdict {
     Wrong,
 }
 
-// How many were judged so.
-#[derive(Clone, Copy, Debug)]
-struct Tally {
-    reclaims: u64,
-    stops: u64,
-    idle: u64,
-    again: u64,
-    newer: u64,
-    lost: u64,
-    wrong: u64,
+/// How many were judged so.
+#[derive(Clone, Copy, Debug, Default)]
+pub(crate) struct Tally {
+    pub(crate) reclaims: u64,
+    pub(crate) stops: u64,
+    pub(crate) idle: u64,
+    pub(crate) again: u64,
+    pub(crate) newer: u64,
+    pub(crate) lost: u64,
+    pub(crate) wrong: u64,
 }
 
 // The blocks that are being written.
@@ -143,8 +143,8 @@ fn judge_all(
     Ok(())
 }
 
-// Stops the run here, opens its bytes, and judges what is found.
-fn stop(
+/// Stops the run here, opens its bytes, and judges what is found.
+pub(crate) fn stop(
     alloc: Global,
     run: &mut Running,
     torn: Option<Torn<'_>>,
@@ -164,8 +164,8 @@ fn stop(
     judge_all(alloc, run, &mut opened, blocks, tally)
 }
 
-// After how many bytes a write of whole pages is stopped: none, 1, 511, and each page.
-fn cut_at(number: usize) -> usize {
+/// After how many bytes a write of whole pages is stopped: none, 1, 511, and each page.
+pub(crate) fn cut_at(number: usize) -> usize {
     match number {
         0 => 0,
         1 => 1,
@@ -246,15 +246,7 @@ fn flush(alloc: Global, run: &mut Running, flushers: u32, tally: &mut Tally) -> 
 
 // Twelve flushes of two puts each.
 fn judge_run(alloc: Global, flushers: u32) -> Result<(u64, Tally)> {
-    let mut tally = Tally {
-        reclaims: 0,
-        stops: 0,
-        idle: 0,
-        again: 0,
-        newer: 0,
-        lost: 0,
-        wrong: 0,
-    };
+    let mut tally = Tally::default();
     let mut run = begin(alloc, sizes(flushers))?;
     let rounds = if flushers == 2 { 6 } else { 12 };
     let mut flushes = 0u64;
