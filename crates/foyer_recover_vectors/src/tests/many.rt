@@ -1,9 +1,8 @@
-//! A device of a hundred thousand records, and the memory that its recovery takes.
+//! A device of a hundred thousand records.
 use crate::tests::disk::{ForgedDisk, entry, page, runner};
 use foyer_blob::BlobEntryIndex;
 use foyer_recover::block::recover::RecoverMode;
-use std::alloc::{AllocError, Allocator, Global};
-use std::cell::Cell;
+use std::alloc::Global;
 use std::test::Fail;
 
 const BLOCKS: u32 = 295;
@@ -12,40 +11,6 @@ const RECORDS: u64 = 100_300;
 
 // The most that an index has room for.
 const ENTRIES: u64 = 170;
-
-// How much of its memory is held, and the most that was.
-#[derive(Drop)]
-struct Measuring {
-    inner: Global,
-    held: Cell<u64>,
-    most: Cell<u64>,
-}
-
-impl Measuring {
-    fn new(inner: Global) -> Measuring {
-        Measuring {
-            inner,
-            held: Cell::new(0),
-            most: Cell::new(0),
-        }
-    }
-}
-
-unsafe impl Allocator for Measuring {
-    ghost dealloc_token = { λ heap ty ptr. Global.dealloc_token heap.inner ty ptr };
-
-    fn allocate(&self, size: usize, align: usize) -> Result<*mut u8, AllocError> {
-        let held = self.held.get().saturating_add(size as u64);
-        self.held.set(held);
-        self.most.set(self.most.get().max(held));
-        self.inner.allocate(size, align)
-    }
-
-    unsafe fn deallocate(&self, ptr: *mut u8, size: usize, align: usize) {
-        self.held.set(self.held.get().saturating_sub(size as u64));
-        self.inner.deallocate(ptr, size, align);
-    }
-}
 
 // An index with as many entries as it has room for, of the hashes from this one on, all of one record.
 fn full_index(alloc: Global, hash: u64) -> Result<[u8; 4096], Fail> {
@@ -71,14 +36,11 @@ fn full_disk(alloc: Global) -> Result<ForgedDisk, Fail> {
     Ok(disk)
 }
 
-// Each index is read once and nothing else is, and beside the index that is made a recovery holds at most 100 bytes a record.
+// Each index is read once, and nothing else is.
 #[test]
 fn a_hundred_thousand_records_are_found(rt: HostRuntime) -> Result<(), Fail> {
     let mut disk = full_disk(rt.alloc())?;
-    let heap = Measuring::new(rt.alloc());
-    let recovered = runner(RecoverMode::Strict, BLOCKS).run(&&heap, &mut disk, 64, &[])?;
-    let held = heap.held.get();
-    assert!(rt; heap.most.get().saturating_sub(held) <= RECORDS * 100);
+    let recovered = runner(RecoverMode::Strict, BLOCKS).run(&rt.alloc(), &mut disk, 64, &[])?;
     assert_eq!(rt; disk.reads, u64::from(BLOCKS) * 2);
     assert_eq!(rt; recovered.next, RECORDS + 1);
     assert!(rt; recovered.clean.is_empty());
