@@ -1,5 +1,5 @@
 #!/usr/bin/env python3
-"""Files as they come: unusual names, and a file system without room.
+"""Files as they come: unusual names, a file system without room, and many records.
 
     files.py [--binary PATH]
 
@@ -8,7 +8,9 @@ It prints one line a check, and ends with status 0 when all held, 1 for a wrong 
   run; one whose name isn't UTF-8 is a bad argument, status 2, and nothing is made;
 - where the file system has no room (a tmpfs of 1 MiB under files of 4 MiB, where one may be mounted: as root on Linux),
   each `put` is `queued` and each `wait` is `ok`; a text is missed only if its batch met the full file system; what earlier
-  batches wrote is answered, byte for byte, and by a second run too; and no answer is another text.
+  batches wrote is answered, byte for byte, and by a second run too; and no answer is another text;
+- a directory of 100,000 records is opened, and each of a thousand that are asked is found; the peak of its memory above that
+  of an empty directory is at most 212 bytes a record: 112 of the index where it has just grown, and 100 beside it.
 """
 
 import argparse
@@ -101,6 +103,37 @@ def check_no_room(binary, top):
         subprocess.run(["umount", mounted], check=False)
 
 
+def peak_of(binary, directory, capacity, block):
+    """The greatest memory of a program up to its first answer, in bytes."""
+    words = [os.fsencode(binary), directory, b"%d" % capacity, b"%d" % block]
+    child = subprocess.Popen(words, stdin=subprocess.PIPE, stdout=subprocess.PIPE)
+    child.stdin.write(b"get 1\n")
+    child.stdin.flush()
+    child.stdout.readline()
+    with open(f"/proc/{child.pid}/status", encoding="ascii") as counts:
+        peak = int(next(it for it in counts if it.startswith("VmHWM:")).split()[1]) << 10
+    child.communicate()
+    return peak
+
+
+def check_memory(binary, top):
+    capacity, block, count = 1 << 29, 1 << 24, 100_000
+    full, empty = os.fsencode(os.path.join(top, "full")), os.fsencode(os.path.join(top, "empty"))
+    words = [os.fsencode(binary), full, b"%d" % capacity, b"%d" % block]
+    lines = b"".join(b"put %d %s\n%s" % (it, text_of(it, 1, 40), b"wait\n" if it % 10_000 == 9_999 else b"") for it in range(count))
+    done = subprocess.run(words, input=lines, stdout=subprocess.PIPE, check=False)
+    if done.returncode or done.stdout.count(b"queued\n") != count:
+        raise Wrong("the puts of so many records don't go well")
+    asked = range(0, count, 100)
+    done = subprocess.run(words, input=b"".join(b"get %d\n" % it for it in asked), stdout=subprocess.PIPE, check=False)
+    if done.stdout != b"".join(b"entry %s\n" % text_of(it, 1, 40) for it in asked):
+        raise Wrong("one of so many records isn't found again")
+    a_record = (peak_of(binary, full, capacity, block) - peak_of(binary, empty, capacity, block)) / count
+    if a_record > 212:
+        raise Wrong(f"an opening takes {a_record:.0f} bytes a record")
+    print(f"memory: an opening of {count} records takes {a_record:.0f} bytes a record, its index included")
+
+
 def main():
     words = argparse.ArgumentParser(description=__doc__.split("\n", maxsplit=1)[0])
     words.add_argument("--binary", default=BINARY)
@@ -111,6 +144,7 @@ def main():
     try:
         check_names(binary, top)
         check_no_room(binary, top)
+        check_memory(binary, top)
     except Wrong as wrong:
         print(f"wrong: {wrong}", file=sys.stderr)
         return 1
