@@ -7,6 +7,8 @@ mod failing;
 mod listing;
 mod logged;
 mod memories;
+mod monitored;
 mod reclaims;
 mod reopening;
 mod same;
+mod scripts;
