@@ -10,7 +10,7 @@ It prints one line a check, and ends with status 0 when all held, 1 for a wrong 
   each `put` is `queued` and each `wait` is `ok`; a text is missed only if its batch met the full file system; what earlier
   batches wrote is answered, byte for byte, and by a second run too; and no answer is another text;
 - a directory of 100,000 records is opened, and each of a thousand that are asked is found; the peak of its memory above that
-  of an empty directory is at most 212 bytes a record: 112 of the index where it has just grown, and 100 beside it.
+  of an empty directory is at most 100 bytes a record, its index included.
 """
 
 import argparse
@@ -129,7 +129,7 @@ def check_memory(binary, top):
     if done.stdout != b"".join(b"entry %s\n" % text_of(it, 1, 40) for it in asked):
         raise Wrong("one of so many records isn't found again")
     a_record = (peak_of(binary, full, capacity, block) - peak_of(binary, empty, capacity, block)) / count
-    if a_record > 212:
+    if a_record > 100:
         raise Wrong(f"an opening takes {a_record:.0f} bytes a record")
     print(f"memory: an opening of {count} records takes {a_record:.0f} bytes a record, its index included")
 
