@@ -25,6 +25,7 @@ impl<E: IoEngine + Drop> FaultIoEngine<E> {
     pub fn new(inner: E, n: u64, kept: usize, stop: bool) -> FaultIoEngine<E>
         ensures inner { result.inner ≡ inner }
         ensures fresh { result.failed ≡ 0 }
+        ensures armed { (result.left ≡ n) × (result.kept ≡ kept) × (result.stop ≡ stop) }
     {
         FaultIoEngine {
             inner,
