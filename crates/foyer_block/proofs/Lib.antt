@@ -1,4 +1,5 @@
 pub mod Batches
+pub mod Commits
 pub mod Found
 pub mod Greatest
 pub mod Indexed

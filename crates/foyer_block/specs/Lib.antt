@@ -1,3 +1,4 @@
+pub mod Committing
 pub mod Greatest
 pub mod Index
 pub mod Insertion

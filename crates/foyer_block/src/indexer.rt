@@ -1,9 +1,10 @@
 //! The index: what each hash has, an address on the device or the mark of a delete.
-ghost use Rattle.std.specs.Prelude.{◌≡◌, ◌<◌, ◌↔◌, ℕ, List, MatchOption, IsTrue};
+ghost use Rattle.std.specs.Prelude.{◌≡◌, ◌<◌, ◌↔◌, ℕ, List, length, MatchOption, IsTrue};
 ghost use Rattle.std.specs.Prelude.{IfOk, OnOk, OnErr, IsOk, IsSome, IsOkUnless};
 ghost use Rattle.std.specs.Bool.{OnTrue, OnFalse};
 ghost use Rattle.std.specs.FinMap as map;
 ghost use Rattle.foyer_block.specs.Insertion.{displaced, inserted, inserted_all, all_left_out, AllHeld};
+ghost use Rattle.foyer_block.specs.Committing.{committed_all, put_count, PiecesHeld};
 ghost use Rattle.foyer_block.specs.Removal.{without_addresses, without_marks};
 ghost use Rattle.foyer_block.specs.Index.{address_at};
 ghost use Rattle.foyer_block.specs.Greatest.{IsAbsent, HoldsNewest};
@@ -51,7 +52,7 @@ pub enum Index {
 #[derive(Drop)]
 pub struct Indexer<A: Allocator> {
     shards: Vec<Shard<A>, A>,
-    // For each shard a count, of use during `insert_batch` alone.
+    // For each shard a count, of use while a batch enters alone.
     counts: Vec<usize, A>,
 }
 
@@ -134,6 +135,30 @@ impl<A: Allocator + Clone> Indexer<A> {
         let answers = shards::enter_all(&mut self.shards, &mut batch);
         batch.truncate(answers);
         Ok(batch)
+    }
+
+    /// The records of a block enter the index, in order, and it says how many are puts. One without a source is inserted, and
+    /// is a put; one with a source replaces that address where its hash has just it, and is a put then. Memory is the only
+    /// refusal, and comes only where a hash of a record without a source has nothing yet.
+    pub fn commit_batch(
+        &mut self,
+        batch: &[HashedEntryAddress],
+        sources: &[Option<EntryAddress>],
+    ) -> Result<usize>
+        requires { length sources.now ≡ length batch.now }
+        ensures committed { OnOk result (self.new ≡ committed_all self.old batch.now sources.now) }
+        ensures puts { IfOk result (λ n. n ≡ put_count self.old batch.now sources.now) }
+        ensures err { OnErr result (self.new ≡ self.old) }
+        ensures refused { IsOkUnless result Error.Memory }
+        ensures overwrites { PiecesHeld self.old batch.now sources.now → IsOk result }
+    {
+        shards::count(&mut self.counts, batch);
+        if let Err(refused) = shards::reserve(&mut self.shards, &self.counts) {
+            if !shards::holds_pieces(&self.shards, batch, sources) {
+                return Err(refused);
+            }
+        }
+        Ok(shards::commit_all(&mut self.shards, batch, sources))
     }
 
     /// Moves a hash from one address to another of the same sequence, where it has the first one.

@@ -1,6 +1,6 @@
 //! The shards of the index: a hash lies in the shard of its number modulo the count of shards.
-ghost use Rattle.std.specs.Prelude.{◌≡◌, ◌<◌, ◌≤◌, ◌+◌, ◌%◌, ◌↔◌, ◌⊎◌, length, take, slice_index};
-ghost use Rattle.std.specs.Prelude.{EachIndex, IfOk, OnOk, OnErr, IsOk, IsSome, IsOkUnless, IsTrue};
+ghost use Rattle.std.specs.Prelude.{◌≡◌, ◌<◌, ◌≤◌, ◌+◌, ◌%◌, ◌↔◌, ◌⊎◌, None, length, take, slice_index};
+ghost use Rattle.std.specs.Prelude.{EachIndex, IfOk, OnOk, OnErr, IsOk, IsSome, IsOkUnless, IsTrue, MatchOption, is_some, true};
 ghost use Rattle.std.specs.Bool.{OnTrue, OnFalse};
 ghost use Rattle.std.specs.Option.{option_copied};
 ghost use Rattle.std.specs.FinMap as map;
@@ -8,6 +8,7 @@ ghost use Rattle.std.specs.HashMap.{spare};
 ghost use Rattle.foyer_block.specs.Index.{sequence_of, address_of};
 ghost use Rattle.foyer_block.specs.Insertion.{entered, displaced, inserted};
 ghost use Rattle.foyer_block.specs.Insertion.{inserted_all, all_left_out, AllHeld};
+ghost use Rattle.foyer_block.specs.Committing.{is_put, committed_one, committed_all, put_count, PiecesHeld};
 ghost use Rattle.foyer_block.specs.Removal.{without_addresses, without_marks};
 ghost use Rattle.foyer_block.specs.Shards.{held_at, map_of, ChangesAt, HoldsSame};
 ghost use Rattle.foyer_block.specs.Shards.{belonging, room, HasRoom, TakesOnePlace};
@@ -177,6 +178,7 @@ fn replace_here<A: Allocator>(shard: &mut Shard<A>, hash: u64, old: Index, new: 
     ensures answer { IsTrue result ↔ (held_at shard.old hash ≡ Some old) }
     ensures replaced { OnTrue result (ChangesAt shard.old shard.new hash (Some new)) }
     ensures unchanged { OnFalse result (HoldsSame shard.old shard.new) }
+    ensures spare { spare shard.old ≤ spare shard.new + 1 }
 {
     match shard.get_mut(&hash) {
         Some(held) if *held == old => {
@@ -201,6 +203,7 @@ pub(crate) fn replace<A: Allocator>(
         (map_of shards.new.items ≡ map.insert (map_of shards.old.items) hash new) }
     ensures unchanged { OnFalse result (map_of shards.new.items ≡ map_of shards.old.items) }
     ensures len { length shards.new.items ≡ length shards.old.items }
+    ensures room { TakesOnePlace shards.old.items shards.new.items hash }
 {
     let place = (hash % shards.len() as u64) as usize;
     replace_here(&mut shards[place], hash, old, new)
@@ -283,4 +286,90 @@ pub(crate) fn enter_all<A: Allocator + Clone>(
         }
     }
     answers
+}
+
+// Whether the hash of a record has something, or the record a source.
+fn holds_piece<A: Allocator>(
+    shards: &[Shard<A>],
+    record: &HashedEntryAddress,
+    source: Option<EntryAddress>,
+) -> bool
+    requires { 0 < length shards.now }
+    ensures { MatchOption source (result ≡ is_some (map.get (map_of shards.now) record.now.hash)) (λ _. result ≡ true) }
+{
+    match source {
+        None => find(shards, record.hash).is_some(),
+        Some(_) => true,
+    }
+}
+
+// Whether each hash of a batch's records without a source has something.
+pub(crate) fn holds_pieces<A: Allocator>(
+    shards: &[Shard<A>],
+    batch: &[HashedEntryAddress],
+    sources: &[Option<EntryAddress>],
+) -> bool
+    requires some { 0 < length shards.now }
+    requires all { length sources.now ≡ length batch.now }
+    ensures { IsTrue result ↔ PiecesHeld (map_of shards.now) batch.now sources.now }
+{
+    'each_record: for i in 0..batch.len() {
+        if !holds_piece(shards, &batch[i], sources[i]) {
+            return false;
+        }
+    }
+    true
+}
+
+// A record enters the index, for which there is room. Whether it is a put.
+fn commit_one<A: Allocator + Clone>(
+    shards: &mut Vec<Shard<A>, A>,
+    record: &HashedEntryAddress,
+    source: Option<EntryAddress>,
+) -> bool
+    requires some { 0 < length shards.old.items }
+    requires goes { source ≡ None → (0 < room shards.old.items (record.now.hash % length shards.old.items))
+        ⊎ IsSome (map.get (map_of shards.old.items) record.now.hash) }
+    ensures committed { map_of shards.new.items ≡ committed_one (map_of shards.old.items) record.now source }
+    ensures put { result ≡ is_put (map.get (map_of shards.old.items) record.now.hash) source }
+    ensures len { length shards.new.items ≡ length shards.old.items }
+    ensures room { TakesOnePlace shards.old.items shards.new.items record.now.hash }
+{
+    match source {
+        None => {
+            let entered: Result<_> = enter(shards, record.hash, Index::Address(record.address));
+            let _ = entered.unwrap();
+            true
+        }
+        Some(over) => replace(
+            shards,
+            record.hash,
+            Index::Address(over),
+            Index::Address(record.address),
+        ),
+    }
+}
+
+// The records of a batch enter the index in order, where each shard has room for them or no hash of one without a source is
+// new. How many are puts.
+pub(crate) fn commit_all<A: Allocator + Clone>(
+    shards: &mut Vec<Shard<A>, A>,
+    batch: &[HashedEntryAddress],
+    sources: &[Option<EntryAddress>],
+) -> usize
+    requires some { 0 < length shards.old.items }
+    requires all { length sources.now ≡ length batch.now }
+    requires room { HasRoom (length shards.old.items) shards.old.items batch.now
+        ⊎ PiecesHeld (map_of shards.old.items) batch.now sources.now }
+    ensures committed { map_of shards.new.items ≡ committed_all (map_of shards.old.items) batch.now sources.now }
+    ensures puts { result ≡ put_count (map_of shards.old.items) batch.now sources.now }
+    ensures len { length shards.new.items ≡ length shards.old.items }
+{
+    let mut puts = 0usize;
+    'each_record: for i in 0..batch.len() {
+        if commit_one(shards, &batch[i], sources[i]) {
+            puts += 1;
+        }
+    }
+    puts
 }

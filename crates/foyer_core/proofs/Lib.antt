@@ -1,3 +1,4 @@
+pub mod AdmitLemmas
 pub mod CleanLemmas
 pub mod CleanedSteps
 pub mod Deleted
@@ -6,6 +7,7 @@ pub mod DestroySteps
 pub mod Enqueued
 pub mod FlushTurns
 pub mod FlusherLists
+pub mod JudgedLemmas
 pub mod LoadLemmas
 pub mod OpenedLemmas
 pub mod Opening
@@ -14,6 +16,7 @@ pub mod ReclaimCame
 pub mod ReclaimEnds
 pub mod ReclaimLemmas
 pub mod ReclaimReads
+pub mod ReclaimRecord
 pub mod ReclaimStages
 pub mod ReclaimSteps
 pub mod RefinesLemmas

@@ -64,7 +64,7 @@ module _ {K V P A : Type 0} (m : Meaning K V P) (s : Settings) (sound : AreValid
     buffer = refl;
     room = refl;
     greatest = let lt : s.blob_index_size < s.block_size = sound.room in omega arith;
-    given = tt;
+    given = refl;
     marks = refl;
     invalidated = refl;
     waits = refl;

@@ -204,8 +204,9 @@ module _ {K V P A : Type 0} (m : Meaning K V P) (s : Settings) (sound : AreValid
         there = there;
         scan = refl;
         stage = ap (λ (t : Bool). at_offset (if t then Some 0 else None)) fits;
-        listed = λ p. refl;
-        requeued = refl;
+        listed = λ un p. refl;
+        requeued = λ p. refl;
+        count = refl;
       }))
     where
       fits : true ≡ nat_le (0 + s.blob_index_size) s.block_size

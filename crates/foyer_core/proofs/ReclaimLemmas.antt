@@ -1,5 +1,8 @@
 -- The reclaims of a core and the model's, and what the steps of one do to them.
-use Rattle.std.proofs.Common.{◌≡◌, ℕ, zero, suc, ◌+◌, ◌==◌, nat_le, Bool, true, false, ◌&&◌, ◌||◌, if◌then◌else◌, List, [], ◌∷◌, ◌++◌, map, length, replicate, Option, Some, None, refl, sym, ap, subst, ◌∙◌}
+use Rattle.std.proofs.Common.{◌≡◌, ℕ, zero, suc, ◌+◌, ◌==◌, nat_le, Bool, true, false, not, ◌&&◌, ◌||◌, if◌then◌else◌, List, [], ◌∷◌, ◌++◌, map, length, replicate, Option, Some, None, refl, sym, ap, subst, ◌∙◌}
+use Rattle.std.proofs.lemmas.Bool.{eqb-true}
+use Rattle.foyer_model.proofs.CommitSteps.{same_address}
+use Rattle.foyer_rules.specs.Sizes.{sizes_in}
 use Rattle.foyer_blob.specs.declared.blob.BlobEntryIndex.{BlobEntryIndex}
 use Rattle.foyer_block.specs.declared.indexer.HashedEntryAddress.{HashedEntryAddress}
 use Rattle.foyer_buffer.specs.Listing.{behind, placed}
@@ -16,7 +19,7 @@ use Rattle.foyer_scan.specs.Scan.{next_blob, infos_of}
 use Rattle.foyer_sets.specs.BlockSets.{is_reclaimed, reclaim_count}
 use Rattle.foyer_sets.specs.Managed.{one_if}
 use Rattle.foyer_standing.specs.Addresses.{listed_of}
-use Rattle.foyer_core.specs.Reclaiming.{Reclaiming, IsReclaimAs, AreReclaimAs, hashed_of, at_offset}
+use Rattle.foyer_core.specs.Reclaiming.{Reclaiming, IsReclaimAs, AreReclaimAs, IsAtRead, hashed_of, at_offset, chosen, is_entry, is_entry_among, left_in}
 
 -- where a block's reclaim, its set and its filling are as they were, it stands for the same
 pub reclaim_kept : (s : Settings) (b : ℕ) (place place' : model_state.BlockSet) (filling filling' : ℕ)
@@ -111,10 +114,14 @@ addresses_are b n p [] = refl
 addresses_are b n p (e ∷ es) =
     ap (λ l. (e.hash, record { block = b; offset = p + e.offset; len = e.len; sequence = e.sequence; filling = n }) ∷ l) (addresses_are b n p es)
 
-pub none_admitted : (n : ℕ) (ps : List (ℕ × model_record.Address)) → admitted (replicate n false) ps ≡ []
-none_admitted zero ps = refl
-none_admitted (suc n) [] = refl
-none_admitted (suc n) (p ∷ ps) = none_admitted n ps
+-- what is admitted of it is what has such a verdict
+pub admitted_is : (vs : List Bool) (es : List HashedEntryAddress) → admitted vs (map listed_of es) ≡ map listed_of (chosen vs es)
+admitted_is [] [] = refl
+admitted_is [] (e ∷ es) = refl
+admitted_is (true ∷ vs) [] = refl
+admitted_is (false ∷ vs) [] = refl
+admitted_is (true ∷ vs) (e ∷ es) = ap (λ l. listed_of e ∷ l) (admitted_is vs es)
+admitted_is (false ∷ vs) (e ∷ es) = admitted_is vs es
 
 pub behind_is : (s : Sizes) (p : ℕ) (es : List BlobEntryIndex) → place_behind page_up s.block p (map entry_of es) ≡ behind s p es
 behind_is s p [] = refl
@@ -136,7 +143,86 @@ pub copies : {X : Type 0} (n : ℕ) (x : X) → length (replicate n x) ≡ n
 copies zero x = refl
 copies (suc n) x = ap suc (copies n x)
 
--- nothing is taken out of a list by nothing
-pub all_stay : (ps : List (ℕ × model_record.Address)) → not_among [] ps ≡ ps
-all_stay [] = refl
-all_stay (p ∷ ps) = ap (λ l. p ∷ l) (all_stay ps)
+-- the model's stage, by the records that are read and the place of the index behind them
+abbrev pub stage_from : Settings → List (ℕ × model_record.Address) → ℕ → model_state.Stage
+stage_from s [] q = if nat_le (q + s.blob_index_size) s.block_size then model_state.AtIndex q else model_state.AllListed
+stage_from s (p ∷ ps) q = model_state.AtRecord p.0 p.1 ps q
+
+-- where a reclaim reads these records, and then an index where one has room
+pub stage_read : (s : Settings) (es : List HashedEntryAddress) (q : ℕ)
+    → IsAtRead (sizes_in s) (next_blob (sizes_in s) q) es (stage_from s (map listed_of es) q)
+stage_read s [] q = sym (stage_behind_is (sizes_in s) q)
+stage_read s (e ∷ es) q = record { place = q; is = refl; at = refl }
+
+-- lists without what was queued
+
+same_pair : (p q : ℕ × model_record.Address) → ((p.0 == q.0) && is_same p.1 q.1) ≡ true → p ≡ q
+same_pair p q is = go (p.0 == q.0) refl (is_same p.1 q.1) refl is
+  where
+    go : (t : Bool) → (p.0 == q.0) ≡ t → (u : Bool) → is_same p.1 q.1 ≡ u → (t && u) ≡ true → p ≡ q
+    go true e true f g = ap (λ h. (h, p.1)) (eqb-true p.0 q.0 e) ∙ ap (λ a. (q.0, a)) (same_address p.1 q.1 f)
+    go true e false f g = absurd (cc)
+    go false e u f g = absurd (cc)
+
+-- what a list without others has
+pub kept_is : (p : ℕ × model_record.Address) (requeued listed : List (ℕ × model_record.Address))
+    → is_listed p (not_among requeued listed) ≡ (is_listed p listed && not (is_listed p requeued))
+kept_is p requeued [] = refl
+kept_is p requeued (q ∷ qs) = go (is_listed q requeued) refl ((p.0 == q.0) && is_same p.1 q.1) refl (kept_is p requeued qs)
+  where
+    no_more : (t : Bool) → (t && not true) ≡ false
+    no_more true = refl
+    no_more false = refl
+
+    go : (t : Bool) → is_listed q requeued ≡ t → (u : Bool) → ((p.0 == q.0) && is_same p.1 q.1) ≡ u
+        → is_listed p (not_among requeued qs) ≡ (is_listed p qs && not (is_listed p requeued))
+        → is_listed p (if t then not_among requeued qs else q ∷ not_among requeued qs) ≡ ((u || is_listed p qs) && not (is_listed p requeued))
+    go true e true f rest =
+        let gone : is_listed p requeued ≡ true = ap (λ x. is_listed x requeued) (same_pair p q f) ∙ e in
+        rest ∙ ap (λ t. is_listed p qs && not t) gone ∙ no_more (is_listed p qs) ∙ sym (ap not gone)
+    go true e false f rest = rest
+    go false e true f rest =
+        let stays : is_listed p requeued ≡ false = ap (λ x. is_listed x requeued) (same_pair p q f) ∙ e in
+        ap (λ t. t || is_listed p (not_among requeued qs)) f ∙ sym (ap not stays)
+    go false e false f rest = ap (λ t. t || is_listed p (not_among requeued qs)) f ∙ rest
+
+-- an entry that was queued is one of the model's
+among_is : (e : HashedEntryAddress) (requeued : List HashedEntryAddress) → is_entry_among requeued e ≡ is_listed (listed_of e) (map listed_of requeued)
+among_is e [] = refl
+among_is e (r ∷ rs) = go (is_entry e r) (among_is e rs)
+  where
+    go : (t : Bool) → is_entry_among rs e ≡ is_listed (listed_of e) (map listed_of rs) → (t || is_entry_among rs e) ≡ (t || is_listed (listed_of e) (map listed_of rs))
+    go true is = refl
+    go false is = is
+
+pub left_is : (requeued listed : List HashedEntryAddress) → map listed_of (left_in requeued listed) ≡ not_among (map listed_of requeued) (map listed_of listed)
+left_is requeued [] = refl
+left_is requeued (e ∷ es) = go (is_entry_among requeued e) (among_is e requeued) (left_is requeued es)
+  where
+    go : (t : Bool) → t ≡ is_listed (listed_of e) (map listed_of requeued) → map listed_of (left_in requeued es) ≡ not_among (map listed_of requeued) (map listed_of es)
+        → map listed_of (if not t then e ∷ left_in requeued es else left_in requeued es)
+        ≡ (if is_listed (listed_of e) (map listed_of requeued) then not_among (map listed_of requeued) (map listed_of es) else listed_of e ∷ not_among (map listed_of requeued) (map listed_of es))
+    go true is same = same ∙ ap (λ t. if t then not_among (map listed_of requeued) (map listed_of es) else listed_of e ∷ not_among (map listed_of requeued) (map listed_of es)) is
+    go false is same = ap (λ l. listed_of e ∷ l) same ∙ ap (λ t. if t then not_among (map listed_of requeued) (map listed_of es) else listed_of e ∷ not_among (map listed_of requeued) (map listed_of es)) is
+
+-- what leaves the index of a core leaves the model's
+pub left_as : (its_requeued its : List (ℕ × model_record.Address)) (requeued listed : List HashedEntryAddress)
+    → ((p : ℕ × model_record.Address) → is_listed p its ≡ is_listed p (map listed_of listed))
+    → ((p : ℕ × model_record.Address) → is_listed p its_requeued ≡ is_listed p (map listed_of requeued))
+    → (p : ℕ × model_record.Address) → is_listed p (not_among its_requeued its) ≡ is_listed p (map listed_of (left_in requeued listed))
+left_as its_requeued its requeued listed same queued p =
+    kept_is p its_requeued its
+    ∙ ap (λ t. t && not (is_listed p its_requeued)) (same p) ∙ ap (λ t. is_listed p (map listed_of listed) && not t) (queued p)
+    ∙ sym (kept_is p (map listed_of requeued) (map listed_of listed))
+    ∙ ap (is_listed p) (sym (left_is requeued listed))
+
+-- one more is queued, in front of the one list and behind the other
+pub listed_one : (p : ℕ × model_record.Address) (e : HashedEntryAddress) (its : List (ℕ × model_record.Address)) (ours : List HashedEntryAddress)
+    → ((q : ℕ × model_record.Address) → is_listed q its ≡ is_listed q (map listed_of ours))
+    → is_listed p (listed_of e ∷ its) ≡ is_listed p (map listed_of (ours ++ e ∷ []))
+listed_one p e its ours same = listed_more p (listed_of e ∷ []) its ours (e ∷ []) same refl
+
+-- a list that has one more
+pub one_more : {X : Type 0} (xs : List X) (x : X) → length (xs ++ x ∷ []) ≡ suc (length xs)
+one_more [] x = refl
+one_more (y ∷ ys) x = ap suc (one_more ys x)

@@ -2,6 +2,7 @@
 use Rattle.std.proofs.Common.{◌≡◌, ℕ, zero, suc, ◌<◌, ◌==◌, ◌&&◌, Bool, true, false, List, [], ◌∷◌, length, map, slice_get, Option, Some, None, is_none, vec_len, refl, sym, ap, subst, ◌∙◌, arith}
 use Rattle.std.proofs.lemmas.Bool.{eqb-true, eq-eqb}
 use Rattle.std.specs.VecDeque.{deque_len}
+use Rattle.foyer_block.specs.declared.indexer.EntryAddress.{EntryAddress}
 use Rattle.foyer_model.specs.Destroy.{IsIdle}
 use Rattle.foyer_model.specs.State as model_state
 use Rattle.foyer_model.specs.Record as model_record
@@ -9,7 +10,7 @@ use Rattle.foyer_rules.specs.Content.{Content, Meaning}
 use Rattle.foyer_rules.specs.declared.settings.Settings.{Settings}
 use Rattle.foyer_flusher.proofs.BeginTurns.{no_map}
 use Rattle.foyer_flusher.specs.Cleared.{are_still}
-use Rattle.foyer_flusher.specs.Flushing.{AreBatched, AreGiven, IsFlusherAs, submission_of}
+use Rattle.foyer_flusher.specs.Flushing.{AreBatched, AreReceived, IsFlusherAs, submission_of}
 use Rattle.foyer_flusher.specs.Seen.{is_still, seen}
 use Rattle.foyer_flusher.specs.declared.flusher.Batch.{Batch}
 use Rattle.foyer_flusher.specs.declared.flusher.Flusher.{Flusher}
@@ -34,13 +35,17 @@ no_one : {X : Type 0} (o : Option X) → is_none o ≡ true → o ≡ None
 no_one None e = refl
 no_one (Some x) e = absurd (let f : false ≡ true = e in cc)
 
-none_given : {K V P : Type 0} (m : Meaning K V P) (xs : List (model_record.Record Content)) → AreGiven m [] xs → xs ≡ []
-none_given m [] are = refl
-none_given m (x ∷ xs) are = absurd are
+-- without sources nothing is in a buffer, and the other way round
+none_given : {K V P : Type 0} (m : Meaning K V P) (os : List (Option EntryAddress)) (rs : List (model_record.Record Content)) (ps : List (Record K V P)) → os ≡ [] → AreReceived m os rs ps → rs ≡ []
+none_given m [] [] ps is are = refl
+none_given m [] (r ∷ rs) ps is are = absurd are
+none_given m (o ∷ os) rs ps is are = absurd (let clash : o ∷ os ≡ [] = is in cc)
 
-given_none : {K V P : Type 0} (m : Meaning K V P) (ps : List (Record K V P)) → AreGiven m ps [] → ps ≡ []
-given_none m [] are = refl
-given_none m (p ∷ ps) are = absurd are
+given_none : {K V P : Type 0} (m : Meaning K V P) (os : List (Option EntryAddress)) (rs : List (model_record.Record Content)) (ps : List (Record K V P)) → rs ≡ [] → AreReceived m os rs ps → os ≡ []
+given_none m [] rs ps is are = refl
+given_none m (None ∷ os) [] ps is are = absurd are
+given_none m (Some a ∷ os) [] ps is are = absurd are
+given_none m (o ∷ os) (r ∷ rs) ps is are = absurd (let clash : r ∷ rs ≡ [] = is in cc)
 
 module _ {K V P A : Type 0} (m : Meaning K V P) where
   none_batched : (s : Settings) (own : Option ℕ) (batch : Option (Batch K V P A)) (x : Option (model_state.Batch Content)) → batch ≡ None → AreBatched m s own batch x → x ≡ None
@@ -58,19 +63,19 @@ module _ {K V P A : Type 0} (m : Meaning K V P) where
   pub idle_of : (s : Settings) (φ : Flusher K V P A) (x : model_state.Flusher Content) → is_still φ ≡ true → IsFlusherAs m s (seen φ) x → IsIdle x
   idle_of s φ x still is =
       let queue = deque_len φ.queue == 0 in
-      let pieces = vec_len φ.pieces == 0 in
+      let sources = deque_len φ.sources == 0 in
       let marks = vec_len φ.marks == 0 in
       let waits = vec_len φ.waits == 0 in
-      let four = and_both (queue && pieces && marks && waits) (is_none φ.batch) still in
-      let three = and_both (queue && pieces && marks) waits four.0 in
-      let two = and_both (queue && pieces) marks three.0 in
-      let one = and_both queue pieces two.0 in
+      let four = and_both (queue && sources && marks && waits) (is_none φ.batch) still in
+      let three = and_both (queue && sources && marks) waits four.0 in
+      let two = and_both (queue && sources) marks three.0 in
+      let one = and_both queue sources two.0 in
       let q : φ.queue.items ≡ [] = nothing φ.queue.items (omega (arith, eqb-true (deque_len φ.queue) 0 one.0, φ.queue.ok)) in
-      let p : φ.pieces.items ≡ [] = nothing φ.pieces.items (omega (arith, eqb-true (vec_len φ.pieces) 0 one.1, φ.pieces.ok)) in
+      let p : φ.sources.items ≡ [] = nothing φ.sources.items (omega (arith, eqb-true (deque_len φ.sources) 0 one.1, φ.sources.ok)) in
       let k : φ.marks.items ≡ [] = nothing φ.marks.items (omega (arith, eqb-true (vec_len φ.marks) 0 two.1, φ.marks.ok)) in
       let w : φ.waits.items ≡ [] = nothing φ.waits.items (omega (arith, eqb-true (vec_len φ.waits) 0 three.1, φ.waits.ok)) in (
         is.queue ∙ ap (map (submission_of m)) q,
-        none_given m x.buffer (subst (λ ps. AreGiven m ps x.buffer) p is.given),
+        none_given m φ.sources.items x.buffer φ.pieces.items p is.given,
         is.marks ∙ ap (map mark_of) k,
         is.waits ∙ w,
         none_batched s φ.own φ.batch x.batch (no_one φ.batch four.1) is.batch,
@@ -80,21 +85,21 @@ module _ {K V P A : Type 0} (m : Meaning K V P) where
   pub still_of : (s : Settings) (φ : Flusher K V P A) (x : model_state.Flusher Content) → IsIdle x → IsFlusherAs m s (seen φ) x → is_still φ ≡ true
   still_of s φ x idle is =
       let q : φ.queue.items ≡ [] = no_map (submission_of m) φ.queue.items (sym is.queue ∙ idle.0) in
-      let p : φ.pieces.items ≡ [] = given_none m φ.pieces.items (subst (AreGiven m φ.pieces.items) idle.1 is.given) in
+      let p : φ.sources.items ≡ [] = given_none m φ.sources.items x.buffer φ.pieces.items idle.1 is.given in
       let k : φ.marks.items ≡ [] = no_map mark_of φ.marks.items (sym is.marks ∙ idle.2) in
       let w : φ.waits.items ≡ [] = sym is.waits ∙ idle.3 in
       let lq : length φ.queue.items ≡ 0 = ap length q in
-      let lp : length φ.pieces.items ≡ 0 = ap length p in
+      let lp : length φ.sources.items ≡ 0 = ap length p in
       let lk : length φ.marks.items ≡ 0 = ap length k in
       let lw : length φ.waits.items ≡ 0 = ap length w in
       let queue = deque_len φ.queue == 0 in
-      let pieces = vec_len φ.pieces == 0 in
+      let sources = deque_len φ.sources == 0 in
       let marks = vec_len φ.marks == 0 in
       let waits = vec_len φ.waits == 0 in
-      both_and (queue && pieces && marks && waits) (is_none φ.batch)
-      (both_and (queue && pieces && marks) waits
-      (both_and (queue && pieces) marks
-      (both_and queue pieces (eq-eqb (deque_len φ.queue) 0 (omega (arith, φ.queue.ok))) (eq-eqb (vec_len φ.pieces) 0 (omega (arith, φ.pieces.ok))))
+      both_and (queue && sources && marks && waits) (is_none φ.batch)
+      (both_and (queue && sources && marks) waits
+      (both_and (queue && sources) marks
+      (both_and queue sources (eq-eqb (deque_len φ.queue) 0 (omega (arith, φ.queue.ok))) (eq-eqb (deque_len φ.sources) 0 (omega (arith, φ.sources.ok))))
       (eq-eqb (vec_len φ.marks) 0 (omega (arith, φ.marks.ok))))
       (eq-eqb (vec_len φ.waits) 0 (omega (arith, φ.waits.ok))))
       (batched_none s φ.own φ.batch x.batch idle.4 is.batch)

@@ -6,5 +6,6 @@ pub mod Reclaiming
 pub mod Refines
 pub mod Reopened
 pub mod Replied
+pub mod Scanning
 pub mod StateOf
 pub mod Unchanged

@@ -1,7 +1,10 @@
 //! The call that changes the core, by any step.
-ghost use Rattle.std.specs.Prelude.{◌≡◌, ◌<◌, ◌-◌, ◌^◌, MatchBool};
+ghost use Rattle.std.specs.Prelude.{◌≡◌, ℕ, ◌<◌, ◌-◌, ◌^◌, MatchBool, Result};
+ghost use Rattle.std.specs.declared.vec.Vec.{Vec};
+ghost use Rattle.foyer_device.specs.declared.error.Error.{Error};
 ghost use Rattle.foyer_sets.specs.BuiltIn.{built_in_answer, built_in_marks};
 ghost use Rattle.foyer_core.specs.Answered.{HandsBack, Describes, MayFail, IsPicked};
+ghost use Rattle.foyer_core.specs.Scanning.{IsJudged};
 ghost use Rattle.foyer_rules.specs.Content.{meaning};
 ghost use Rattle.foyer_core.specs.Refines.{IsHandedBack, RefinesUncounted, Refines};
 ghost use Rattle.foyer_core.specs.declared.reply.Reply.TheVariants as reply;
@@ -45,6 +48,9 @@ where
             step result self.old self.new }
         ensures failed { result ≡ reply.Failed → MayFail step self.old }
         ensures picks { step ≡ steps.ReclaimBegin → IsPicked built_in_answer built_in_marks env.old.pickers.items result self.old self.new }
+        ensures judged { (block : ℕ) (came : Result (Vec ℕ A) Error) → step ≡ steps.ReclaimRead block came
+            → IsJudged env.old.reinsertion env.old.io block came result self.old }
+        ensures lent { (env.new.reinsertion ≡ env.old.reinsertion) × (env.new.io ≡ env.old.io) }
     {
         if self.steps == u64::MAX {
             return Reply::Refused(ErrorKind::SequenceEnd, step);
@@ -68,6 +74,9 @@ where
             step result self.old self.new }
         ensures failed { result ≡ reply.Failed → MayFail step self.old }
         ensures picks { step ≡ steps.ReclaimBegin → IsPicked built_in_answer built_in_marks env.old.pickers.items result self.old self.new }
+        ensures judged { (block : ℕ) (came : Result (Vec ℕ A) Error) → step ≡ steps.ReclaimRead block came
+            → IsJudged env.old.reinsertion env.old.io block came result self.old }
+        ensures lent { (env.new.reinsertion ≡ env.old.reinsertion) × (env.new.io ≡ env.old.io) }
     {
         match step {
             Step::Enqueue { piece, size } => self.enqueue(piece, size),
@@ -95,7 +104,7 @@ where
             Step::ReclaimRead {
                 block,
                 result: outcome,
-            } => self.reclaim_read(block, outcome),
+            } => self.reclaim_read(env, block, outcome),
             Step::ReclaimForget { block } => self.reclaim_forget(block),
             Step::ReclaimCleaned {
                 block,

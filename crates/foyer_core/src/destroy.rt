@@ -128,6 +128,7 @@ impl<K, V, P, A: Allocator + Clone> Core<K, V, P, A> {
         ensures back { HandsBack step.DestroyClear result self.old self.new }
         ensures nothing { DescribesNothing result }
         ensures meets { (m : Meaning K V P) → RefinesUncounted m step.DestroyClear result self.old self.new }
+        ensures lent { (env.new.reinsertion ≡ env.old.reinsertion) × (env.new.io ≡ env.old.io) }
     {
         let Destroy::Begun = &self.destroy else {
             return Reply::NotNow(Step::DestroyClear);

@@ -1,35 +1,90 @@
 //! What a core's callers lend it.
-ghost use Rattle.std.specs.Prelude.{◌≡◌, [], ◌∷◌, OnOk, IfOk, IsOkUnless};
+ghost use Rattle.std.specs.Prelude.{◌≡◌, [], ◌∷◌, None, Some, OnOk, IfOk, IsOkUnless};
 ghost use Rattle.foyer_device.specs.declared.error.Error.TheVariants.{Memory};
 ghost use Rattle.foyer_model.specs.Ids.{ids};
 ghost use Rattle.foyer_sets.specs.declared.block.picker.BuiltInPicker.TheVariants as picker;
 
 use foyer_block::manager::BlockId;
 use foyer_device::error::Result;
+use foyer_filter::{BuiltInCondition, StorageFilter};
 use foyer_sets::block::eviction::{BuiltInPicker, EvictionPicker, FifoPicker, InvalidRatioPicker};
+use foyer_statistics::IoState;
 use rand_pcg::Pcg32;
 use std::alloc::Global;
+use std::mem;
+use std::time::Duration;
 
 /// What callers lend the core at its opening and at each step: the pickers, which are asked in their order what is
-/// reclaimed next, and the generator that chooses where none of them picks.
+/// reclaimed next, the generator that chooses where none of them picks, and the filter of which records of a reclaimed block
+/// are written again.
 #[derive(Drop)]
 pub struct Env {
     pub(crate) pickers: Vec<BuiltInPicker>,
     // The ids that pickers learn of, or put on probation.
     pub(crate) own: Vec<BlockId>,
     pub(crate) generator: Pcg32,
+    // What admits the records of a reclaimed block for reinsertion; without one none is.
+    pub(crate) reinsertion: Option<StorageFilter<BuiltInCondition, Global>>,
+    // What the device did and has callers wait for, as the filter is shown it.
+    pub(crate) io: IoState,
+}
+
+// Nothing was done, and nothing is to be waited for.
+fn no_io() -> IoState {
+    IoState {
+        disk_write_bytes: 0,
+        disk_read_bytes: 0,
+        disk_write_ios: 0,
+        disk_read_ios: 0,
+        write_throttle: Duration::ZERO,
+        read_throttle: Duration::ZERO,
+    }
 }
 
 impl Env {
-    /// These pickers, in this order, and a generator that begins with this seed. It doesn't allocate.
+    /// These pickers, in this order, and a generator that begins with this seed; no record is written again. It doesn't
+    /// allocate.
     pub fn new(alloc: Global, pickers: Vec<BuiltInPicker>, seed: u64) -> Env
         ensures pickers { result.pickers ≡ pickers }
+        ensures reinsertion { result.reinsertion ≡ None }
     {
         Env {
             pickers,
             own: Vec::new(alloc),
             generator: Pcg32::new(seed, seed),
+            reinsertion: None,
+            io: no_io(),
         }
+    }
+
+    /// The filter that is asked of each listed entry of a reclaimed block, by its hash and its record's length in bytes: what
+    /// it admits is written again, and keeps its sequence.
+    pub fn with_reinsertion(self, filter: StorageFilter<BuiltInCondition, Global>) -> Env
+        ensures pickers { result.pickers ≡ self.pickers }
+        ensures reinsertion { result.reinsertion ≡ Some filter }
+    {
+        Env {
+            reinsertion: Some(filter),
+            ..self
+        }
+    }
+
+    /// This filter, or none, from now on; the one before comes back.
+    pub fn replace_reinsertion(
+        &mut self,
+        filter: Option<StorageFilter<BuiltInCondition, Global>>,
+    ) -> Option<StorageFilter<BuiltInCondition, Global>>
+        ensures before { result ≡ self.old.reinsertion }
+        ensures filter { self.new ≡ record self.old { reinsertion = filter } }
+    {
+        mem::replace(&mut self.reinsertion, filter)
+    }
+
+    /// What the device did and has callers wait for, as the filter is shown it from now on.
+    pub fn set_io(&mut self, io: IoState)
+        ensures { self.new ≡ record self.old { io = io } }
+    {
+        self.io = io;
     }
 
     /// The pickers where none are given: by invalid bytes from 8/10 of a block on, then by age with a tenth of the
@@ -49,6 +104,7 @@ impl Env {
     // Its own list has the ids of so many blocks, in order.
     fn list_blocks(&mut self, blocks: u32) -> Result<()>
         ensures ids { OnOk result (self.new.own.items ≡ ids blocks) }
+        ensures filter { (self.new.reinsertion ≡ self.old.reinsertion) × (self.new.io ≡ self.old.io) }
         ensures refused { IsOkUnless result Memory }
     {
         self.own.clear();
@@ -61,6 +117,7 @@ impl Env {
     // Describes the pickers so many blocks, before all else; its own list has their ids then, in order.
     pub(crate) fn init(&mut self, blocks: u32, block_size: usize) -> Result<()>
         ensures ids { OnOk result (self.new.own.items ≡ ids blocks) }
+        ensures filter { (self.new.reinsertion ≡ self.old.reinsertion) × (self.new.io ≡ self.old.io) }
         ensures refused { IsOkUnless result Memory }
     {
         self.list_blocks(blocks)?;

@@ -64,7 +64,7 @@ impl<K, V, P, A: Allocator + Clone> Core<K, V, P, A> {
             return Reply::NotNow(Step::Receive { flusher });
         }
         let found = &mut self.flushers[flusher as usize];
-        match found.receive(&self.alloc) {
+        match found.receive(&self.alloc, &self.index) {
             Err(_) => Reply::Refused(ErrorKind::Memory, Step::Receive { flusher }),
             Ok(Taken::Nothing) => Reply::Empty,
             Ok(Taken::Other) => Reply::Received(None),
@@ -100,6 +100,7 @@ impl<K, V, P, A: Allocator + Clone> Core<K, V, P, A> {
         ensures back { HandsBack (step.FlushBlock flusher) result self.old self.new }
         ensures nothing { DescribesNothing result }
         ensures meets { (m : Meaning K V P) → RefinesUncounted m (step.FlushBlock flusher) result self.old self.new }
+        ensures lent { (env.new.reinsertion ≡ env.old.reinsertion) × (env.new.io ≡ env.old.io) }
     {
         if flusher as usize >= self.flushers.len() {
             return Reply::NotNow(Step::FlushBlock { flusher });
@@ -124,6 +125,7 @@ impl<K, V, P, A: Allocator + Clone> Core<K, V, P, A> {
         ensures back { HandsBack (step.FlushWrote flusher outcome) result self.old self.new }
         ensures nothing { DescribesNothing result }
         ensures meets { (m : Meaning K V P) → RefinesUncounted m (step.FlushWrote flusher outcome) result self.old self.new }
+        ensures lent { (env.new.reinsertion ≡ env.old.reinsertion) × (env.new.io ≡ env.old.io) }
         ensures failed { result ≡ reply.Failed → MayFail (step.FlushWrote flusher outcome) self.old }
     {
         if flusher as usize >= self.flushers.len() {

@@ -1,5 +1,10 @@
 //! The steps of a reclaim.
-ghost use Rattle.std.specs.Prelude.{◌≡◌};
+ghost use Rattle.std.specs.Prelude.{◌≡◌, ◌<◌, ◌%◌, ℕ, List, Option, Some, Ok, IfSome, vec_len};
+ghost use Rattle.foyer_filter.specs.declared.any.BuiltInCondition.{BuiltInCondition};
+ghost use Rattle.foyer_statistics.specs.declared.state.IoState.{IoState};
+ghost use Rattle.foyer_format.specs.Page.{page_up};
+ghost use Rattle.foyer_core.specs.Reclaiming.{awaited, reclaim_at, requeue_count};
+ghost use Rattle.foyer_core.specs.Scanning.{IsJudged, scan_reply};
 ghost use Rattle.foyer_sets.specs.BuiltIn.{built_in_answer, built_in_marks};
 ghost use Rattle.foyer_core.specs.Answered.{HandsBack, DescribesNothing, Idling, IsPicked};
 ghost use Rattle.foyer_core.specs.Refines.{RefinesUncounted};
@@ -7,13 +12,16 @@ ghost use Rattle.foyer_core.specs.declared.step.Step.TheVariants as step;
 ghost use Rattle.foyer_rules.specs.Content.{Meaning};
 
 use crate::block::reclaimer;
-use crate::block::reclaimer::Reclaimer;
+use crate::block::reclaimer::{Lists, Reclaimer, Wanted};
 use crate::env::Env;
 use crate::reply::Reply;
 use crate::state::Core;
 use crate::step::Step;
+use foyer_block::indexer::{EntryAddress, HashedEntryAddress};
 use foyer_block::manager::BlockId;
 use foyer_device::error::{ErrorKind, Result};
+use foyer_flusher::flusher::{Reinsertion, Submission};
+use foyer_format::block::buffer::PAGE;
 use foyer_sets::block::manager::ReclaimingBlock;
 use foyer_standing::manager::filling_of;
 use std::alloc::Allocator;
@@ -31,6 +39,14 @@ fn reclaim_read<K, V, P, A: Allocator>(
     }
 }
 
+// The bytes that a record takes, in whole pages.
+#[tactic(auto, unfolding(foyer_format::specs::Page::page_up))]
+fn record_pages(address: &EntryAddress) -> usize
+    ensures { result ≡ page_up address.now.len }
+{
+    (address.len as usize).div_ceil(PAGE) * PAGE
+}
+
 impl<K, V, P, A: Allocator + Clone> Core<K, V, P, A> {
     // The pickers that are lent choose the block, or the generator does.
     pub(crate) fn reclaim_begin(&mut self, env: &mut Env) -> Reply<K, V, P, A>
@@ -38,6 +54,7 @@ impl<K, V, P, A: Allocator + Clone> Core<K, V, P, A> {
         ensures nothing { DescribesNothing result }
         ensures meets { (m : Meaning K V P) → RefinesUncounted m step.ReclaimBegin result self.old self.new }
         ensures picks { IsPicked built_in_answer built_in_marks env.old.pickers.items result self.old self.new }
+        ensures lent { (env.new.reinsertion ≡ env.old.reinsertion) × (env.new.io ≡ env.old.io) }
     {
         if !self.manager.may_reclaim() {
             return Reply::NotNow(Step::ReclaimBegin);
@@ -45,7 +62,7 @@ impl<K, V, P, A: Allocator + Clone> Core<K, V, P, A> {
         if self.reclaims.reserve(1).is_err() {
             return Reply::Refused(ErrorKind::Memory, Step::ReclaimBegin);
         }
-        let Ok(alloc) = self.alloc.clone() else {
+        let Ok(lists) = Lists::new(&self.alloc) else {
             return Reply::Refused(ErrorKind::Memory, Step::ReclaimBegin);
         };
         match self.manager.reclaim_begin(
@@ -63,7 +80,7 @@ impl<K, V, P, A: Allocator + Clone> Core<K, V, P, A> {
                     probation,
                 } = reclaiming;
                 let begun = Reclaimer::new(
-                    alloc,
+                    lists,
                     block,
                     filling_of(&self.manager, block),
                     self.settings.block_size,
@@ -79,39 +96,118 @@ impl<K, V, P, A: Allocator + Clone> Core<K, V, P, A> {
         }
     }
 
-    // A fault, and bytes that are no index, end the listing. Nothing is admitted, so that no record is read.
+    // What the reclaim of a block reads next.
+    fn next_read(&self, block: BlockId, verdicts: Option<Vec<bool, A>>) -> Reply<K, V, P, A>
+        ensures { result ≡ scan_reply block self.now.settings.blob_index_size (awaited (reclaim_at self.now.reclaims block)) verdicts }
+    {
+        match reclaimer::awaited(&self.reclaims, block) {
+            Some(Wanted::Index(offset)) => Reply::Scan {
+                block,
+                offset,
+                len: self.settings.blob_index_size,
+                verdicts,
+            },
+            Some(Wanted::Record(entry)) => Reply::Scan {
+                block,
+                offset: entry.address.offset as usize,
+                len: record_pages(&entry.address),
+                verdicts,
+            },
+            None => Reply::Listed { verdicts },
+        }
+    }
+
+    // The flusher whose turn it is to reinsert: for the n-th record of a reclaim, from 0, that of n.
+    fn turn_of(&self, block: BlockId) -> usize
+        ensures number { IfSome (reclaim_at self.now.reclaims block) (λ r. result ≡ requeue_count r % vec_len self.now.flushers) }
+        ensures within { result < vec_len self.now.flushers }
+    {
+        reclaimer::requeue_count(&self.reclaims, block) % self.flushers.len()
+    }
+
+    // An index is listed, and the filter is asked of each of its entries.
+    fn read_index(&mut self, env: &Env, block: BlockId, bytes: Vec<u8, A>) -> Reply<K, V, P, A>
+        requires { (place : ℕ) × (awaited (reclaim_at self.old.reclaims block) ≡ Some (Wanted.Index place)) }
+        ensures back { HandsBack (step.ReclaimRead block (Ok bytes)) result self.old self.new }
+        ensures nothing { DescribesNothing result }
+        ensures meets { (m : Meaning K V P) → RefinesUncounted m (step.ReclaimRead block (Ok bytes)) result self.old self.new }
+        ensures judged { IsJudged env.now.reinsertion env.now.io block (Ok bytes) result self.old }
+    {
+        if bytes.len() != self.settings.blob_index_size {
+            return Reply::NotNow(reclaim_read(block, Ok(bytes)));
+        }
+        match reclaimer::read(
+            &mut self.reclaims,
+            &self.alloc,
+            block,
+            &bytes,
+            &env.reinsertion,
+            &env.io,
+        ) {
+            Err(_) => Reply::Refused(ErrorKind::Memory, reclaim_read(block, Ok(bytes))),
+            Ok(verdicts) => self.next_read(block, verdicts),
+        }
+    }
+
+    // A record is queued for reinsertion.
+    fn read_record(
+        &mut self,
+        block: BlockId,
+        entry: HashedEntryAddress,
+        bytes: Vec<u8, A>,
+    ) -> Reply<K, V, P, A>
+        requires { awaited (reclaim_at self.old.reclaims block) ≡ Some (Wanted.Record entry) }
+        ensures back { HandsBack (step.ReclaimRead block (Ok bytes)) result self.old self.new }
+        ensures nothing { DescribesNothing result }
+        ensures meets { (m : Meaning K V P) → RefinesUncounted m (step.ReclaimRead block (Ok bytes)) result self.old self.new }
+        ensures judged { (filter : Option (List BuiltInCondition)) (io : IoState) → IsJudged filter io block (Ok bytes) result self.old }
+    {
+        if bytes.len() != record_pages(&entry.address) {
+            return Reply::NotNow(reclaim_read(block, Ok(bytes)));
+        }
+        let flusher = self.turn_of(block);
+        let queue = &mut self.flushers[flusher].queue;
+        if queue.reserve(1).is_err() {
+            return Reply::Refused(ErrorKind::Memory, reclaim_read(block, Ok(bytes)));
+        }
+        match reclaimer::requeue(&mut self.reclaims, block) {
+            Err(_) => Reply::Refused(ErrorKind::Memory, reclaim_read(block, Ok(bytes))),
+            Ok(()) => {
+                let mut slice = bytes;
+                slice.truncate(entry.address.len as usize);
+                queue.push_back_reserved(Submission::Reinsertion(Reinsertion {
+                    hash: entry.hash,
+                    address: entry.address,
+                    slice,
+                }));
+                self.next_read(block, None)
+            }
+        }
+    }
+
+    // A fault, and bytes that are no index, end the listing.
     pub(crate) fn reclaim_read(
         &mut self,
+        env: &Env,
         block: BlockId,
         outcome: Result<Vec<u8, A>>,
     ) -> Reply<K, V, P, A>
         ensures back { HandsBack (step.ReclaimRead block outcome) result self.old self.new }
         ensures nothing { DescribesNothing result }
         ensures meets { (m : Meaning K V P) → RefinesUncounted m (step.ReclaimRead block outcome) result self.old self.new }
+        ensures judged { IsJudged env.now.reinsertion env.now.io block outcome result self.old }
     {
-        if reclaimer::awaited(&self.reclaims, block).is_none() {
+        let Some(wanted) = reclaimer::awaited(&self.reclaims, block) else {
             return Reply::NotNow(reclaim_read(block, outcome));
-        }
-        let bytes = match outcome {
-            Ok(bytes) => bytes,
+        };
+        match outcome {
             Err(_) => {
                 reclaimer::fail(&mut self.reclaims, block);
-                return Reply::Listed { verdicts: None };
+                Reply::Listed { verdicts: None }
             }
-        };
-        if bytes.len() != self.settings.blob_index_size {
-            return Reply::NotNow(reclaim_read(block, Ok(bytes)));
-        }
-        match reclaimer::read(&mut self.reclaims, &self.alloc, block, &bytes) {
-            Err(_) => Reply::Refused(ErrorKind::Memory, reclaim_read(block, Ok(bytes))),
-            Ok(verdicts) => match reclaimer::awaited(&self.reclaims, block) {
-                Some(offset) => Reply::Scan {
-                    block,
-                    offset,
-                    len: self.settings.blob_index_size,
-                    verdicts,
-                },
-                None => Reply::Listed { verdicts },
+            Ok(bytes) => match wanted {
+                Wanted::Index(_) => self.read_index(env, block, bytes),
+                Wanted::Record(entry) => self.read_record(block, entry, bytes),
             },
         }
     }

@@ -1,8 +1,8 @@
 -- A batch that begins.
 use Rattle.std.proofs.Common.{◌≡◌, ℕ, Bool, true, false, List, [], ◌∷◌, map, length, Option, Some, None, is_some, refl, sym, ap, subst, ◌∙◌, arith}
 use Rattle.std.proofs.lemmas.List.{length-map}
+use Rattle.foyer_block.specs.declared.indexer.EntryAddress.{EntryAddress}
 use Rattle.foyer_block.specs.declared.tombstone.Tombstone.{Tombstone}
-use Rattle.foyer_buffer.specs.BlockBytes.{Each}
 use Rattle.foyer_buffer.specs.Layout.{parts_of}
 use Rattle.foyer_buffer.specs.declared.split.BlobPart.{BlobPart}
 use Rattle.foyer_buffer.specs.declared.split.Block.{Block}
@@ -25,7 +25,7 @@ use Rattle.foyer_standing.specs.Addresses.{mark_of, invalid_of}
 use Rattle.foyer_flusher.specs.BatchBegun.{HasBegun}
 use Rattle.foyer_flusher.specs.Begun.{IsBegun}
 use Rattle.foyer_flusher.specs.Filled.{AreSome, WasSplit}
-use Rattle.foyer_flusher.specs.Flushing.{IsGiven, AreGiven, AreWriting, HasOwn, IsFlusherAs}
+use Rattle.foyer_flusher.specs.Flushing.{AreFrom, AreReceived, AreWriting, HasOwn, IsFlusherAs}
 use Rattle.foyer_rules.specs.Sizes.{sizes_in}
 use Rattle.foyer_flusher.specs.Seen.{seen}
 use Rattle.foyer_flusher.specs.declared.flusher.Flusher.{Flusher}
@@ -41,21 +41,34 @@ same_some (Some x) = refl
 
 module _ {K V P : Type 0} (m : Meaning K V P) where
   -- the contents of what was received
-  pieces_are : (ps : List (Record K V P)) (rs : List (model_record.Record Content)) → AreGiven m ps rs → contents_of (pieces_of rs) ≡ map (content_of m) ps
-  pieces_are [] [] given = refl
-  pieces_are [] (r ∷ rs) given = absurd given
-  pieces_are (p ∷ ps) [] given = absurd given
-  pieces_are (p ∷ ps) (r ∷ rs) given =
-      ap (λ x. with_source x rs) given.0 ∙ ap (λ cs. content_of m p ∷ cs) (pieces_are ps rs given.1)
+  pieces_are : (os : List (Option EntryAddress)) (rs : List (model_record.Record Content)) (ps : List (Record K V P)) → AreReceived m os rs ps → contents_of (pieces_of rs) ≡ map (content_of m) ps
+  pieces_are [] [] ps given = ap (map (content_of m)) (sym given)
+  pieces_are [] (r ∷ rs) ps given = absurd given
+  pieces_are (o ∷ os) [] ps given = absurd (go o given)
+    where
+      go : (x : Option EntryAddress) → AreReceived m (x ∷ os) [] ps → ⊥
+      go None g = g
+      go (Some a) g = g
+  pieces_are (Some over ∷ os) (r ∷ rs) ps given =
+      ap (λ x. with_source x rs) given.0 ∙ pieces_are os rs ps given.1
+    where
+      with_source : model_record.Source Content → List (model_record.Record Content) → List Content
+      with_source x rest = contents_of (pieces_of (record { hash = r.hash; sequence = r.sequence; bytes = r.bytes; source = x } ∷ rest))
+  pieces_are (None ∷ os) (r ∷ rs) [] given = absurd given
+  pieces_are (None ∷ os) (r ∷ rs) (p ∷ ps) given =
+      ap (λ x. with_source x rs) given.0 ∙ ap (λ cs. content_of m p ∷ cs) (pieces_are os rs ps given.1)
     where
       with_source : model_record.Source Content → List (model_record.Record Content) → List Content
       with_source x rest = contents_of (pieces_of (record { hash = r.hash; sequence = r.sequence; bytes = r.bytes; source = x } ∷ rest))
 
-  each_given : (ps : List (Record K V P)) (rs : List (model_record.Record Content)) → AreGiven m ps rs → AreSome (map kept_of rs) → Each IsGiven rs
-  each_given [] [] given some = tt
-  each_given [] (r ∷ rs) given some = absurd given
-  each_given (p ∷ ps) [] given some = absurd given
-  each_given (p ∷ ps) (r ∷ rs) given some = ((content_of m p, given.0, some.0), each_given ps rs given.1 some.1)
+  all_from : (os : List (Option EntryAddress)) (rs : List (model_record.Record Content)) (ps : List (Record K V P)) → AreReceived m os rs ps → AreSome (map kept_of rs) → AreFrom os rs
+  all_from [] [] ps given some = tt
+  all_from [] (r ∷ rs) ps given some = absurd given
+  all_from (None ∷ os) [] ps given some = absurd given
+  all_from (Some over ∷ os) [] ps given some = absurd given
+  all_from (Some over ∷ os) (r ∷ rs) ps given some = ((given.0, some.0), all_from os rs ps given.1 some.1)
+  all_from (None ∷ os) (r ∷ rs) [] given some = absurd given
+  all_from (None ∷ os) (r ∷ rs) (p ∷ ps) given some = ((content_of m p, given.0, some.0), all_from os rs ps given.1 some.1)
 
 module _ {A C : Type 0} where
   -- as many blocks
@@ -118,7 +131,7 @@ module _ {K V P A : Type 0} (m : Meaning K V P) (rules : Rules Content) (s : Set
       buffer = refl;
       room = stands.room;
       greatest = stands.greatest;
-      given = tt;
+      given = refl;
       marks = refl;
       invalidated = refl;
       waits = refl;
@@ -130,13 +143,14 @@ module _ {K V P A : Type 0} (m : Meaning K V P) (rules : Rules Content) (s : Set
       batch = record {
         blocks = blocks_are;
         within = all_within (sizes_in s) it.context it.buffer laid.spreads laid.laid;
-        given = subst (Each IsGiven) (sym all_laid_out) (each_given m old.pieces.items it.buffer stands.given (subst AreSome (sym stands.buffer) (is.was_split).some));
+        given = subst (λ os. AreFrom os (records_of laid.spreads)) (sym is.sources)
+            (subst (AreFrom old.sources.items) (sym all_laid_out) (all_from m old.sources.items it.buffer old.pieces.items stands.given (subst AreSome (sym stands.buffer) (is.was_split).some)));
         continues_own_block = same_some it.own ∙ ap is_some stands.own ∙ sym is.continues_own_block;
         owned = own_there old.own (is.batch).continues_own_block is.continues_own_block;
         writing = subst (λ (w : Option (Writing A)). AreWriting s w None) (sym is.writing) tt;
         marks = stands.marks ∙ ap (map mark_of) (sym is.marks);
         invalidated = stands.invalidated ∙ ap (map invalid_of) (sym is.invalid);
-        pieces = pieces_are m old.pieces.items it.buffer stands.given ∙ ap (map (content_of m)) (sym is.pieces);
+        pieces = pieces_are m old.sources.items it.buffer old.pieces.items stands.given ∙ ap (map (content_of m)) (sym is.pieces);
         waits = stands.waits ∙ sym is.waits;
         logged = sym is.logged;
       };

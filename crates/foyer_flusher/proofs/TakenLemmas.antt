@@ -1,16 +1,16 @@
 -- What the front of a queue becomes.
-use Rattle.std.proofs.Common.{◌≡◌, ℕ, ◌+◌, ◌*◌, ◌/◌, ◌%◌, ◌^◌, ◌≤◌, ◌==◌, Bool, true, false, ◌&&◌, nat_lt, if◌then◌else◌, List, [], ◌∷◌, ◌++◌, map, length, Option, Some, None, option_to_list, refl, sym, ap, subst, ◌∙◌, arith}
+use Rattle.std.proofs.Common.{◌≡◌, ℕ, ◌+◌, ◌-◌, ◌*◌, ◌/◌, ◌%◌, ◌^◌, ◌<◌, ◌≤◌, ◌==◌, inl, inr, option_and_then, Bool, true, false, ◌&&◌, nat_lt, if◌then◌else◌, List, [], ◌∷◌, ◌++◌, map, length, Option, Some, None, option_to_list, refl, sym, ap, subst, ◌∙◌, arith}
 use Rattle.std.specs.Prelude.{◌↔◌}
 use Rattle.std.proofs.lemmas.Bool.{lt-ltb}
 use Rattle.std.specs.Cmp.Derive.{both_true}
-use Rattle.foyer_buffer.specs.Entries.{FitsBuffer, left_of, with_entry}
+use Rattle.foyer_buffer.specs.Entries.{Entries, FitsBuffer, left_of, size_of, with_entry}
 use Rattle.foyer_format.specs.Page.{page_up}
 use Rattle.foyer_format.specs.Record.{record_bytes}
 use Rattle.foyer_format.specs.declared.compress.Compression.TheVariants as compression
 use Rattle.foyer_format.proofs.PageLaws.{page_up-holds}
 use Rattle.foyer_format.proofs.PushLemmas.{length-record_bytes}
 use Rattle.foyer_policy.specs.Record.{Record}
-use Rattle.foyer_model.specs.Receive.{Fits, TakesFront as TakesOne, turned}
+use Rattle.foyer_model.specs.Receive.{Fits, TakesFront as TakesOne, bytes_taken, turned}
 use Rattle.foyer_model.specs.Record as model_record
 use Rattle.foyer_model.specs.Refusal.{TakesMemory}
 use Rattle.foyer_model.specs.Reply as model_reply
@@ -23,12 +23,23 @@ use Rattle.foyer_rules.specs.Sizes.{AreValid, buffer_room}
 use Rattle.foyer_rules.specs.declared.settings.Settings.{Settings}
 use Rattle.foyer_rules.proofs.LawLemmas.{are_rules}
 use Rattle.foyer_rules.proofs.TripLemmas.{left, right, some_is}
-use Rattle.foyer_standing.specs.Addresses.{mark_of, invalid_of}
+use Rattle.foyer_standing.specs.Addresses.{address_of, mark_of, invalid_of}
 use Rattle.foyer_standing.specs.declared.blocks.InvalidStats.{InvalidStats}
-use Rattle.foyer_flusher.specs.Filled.{HasRoom}
-use Rattle.foyer_flusher.specs.Flushing.{AreGiven, IsFlusherAs, submission_of, invalid_of_all}
+use Rattle.foyer_flusher.specs.Filled.{HasRoom, HasRoomFor}
+use Rattle.foyer_flusher.specs.Flushing.{AreReceived, IsFlusherAs, submission_of, invalid_of_all}
 use Rattle.foyer_flusher.specs.Seen.{Seen, seen}
-use Rattle.foyer_flusher.specs.Taking.{size_in, IsReceivedAs}
+use Rattle.foyer_flusher.specs.Taking.{size_in, IsPutAgain, PutsAgain, IsReceivedAs}
+use Rattle.foyer_flusher.specs.declared.flusher.Reinsertion.{Reinsertion}
+use Rattle.foyer_block.specs.Index.{IndexMap, address_of as indexed_at}
+use Rattle.foyer_block.specs.declared.indexer.EntryAddress.{EntryAddress}
+use Rattle.foyer_block.specs.declared.indexer.Index.{Index}
+use Rattle.foyer_block.specs.declared.indexer.Index.TheVariants.{Address, Tombstone as Mark}
+use Rattle.foyer_buffer.proofs.EntriesLemmas.{size_none, size_cons}
+use Rattle.foyer_model.proofs.CommitSteps.{same_address}
+use Rattle.foyer_model.specs.Index as model_index
+use Rattle.foyer_standing.proofs.SlotLemmas.{same_itself}
+use Rattle.foyer_standing.specs.Standing.{IsIndexedAs, slot_of}
+use Rattle.std.specs.FinMap as finite
 use Rattle.foyer_flusher.specs.declared.flusher.Flusher.{Flusher}
 use Rattle.foyer_flusher.specs.declared.flusher.Submission.{Submission}
 use Rattle.foyer_flusher.specs.declared.flusher.Submission.TheVariants as submission
@@ -56,12 +67,43 @@ whole_room s = go (s.flushers == 0)
     go false = omega arith
 
 module _ {K V P : Type 0} (m : Meaning K V P) where
-  given_end : (ps : List (Record K V P)) (rs : List (model_record.Record Content)) (p : Record K V P) (r : model_record.Record Content)
-      → AreGiven m ps rs → r.source ≡ model_record.Given (content_of m p) → AreGiven m (ps ++ p ∷ []) (rs ++ r ∷ [])
-  given_end [] [] p r are is = (is, tt)
-  given_end [] (t ∷ rs) p r are is = absurd are
-  given_end (q ∷ ps) [] p r are is = absurd are
-  given_end (q ∷ ps) (t ∷ rs) p r are is = (are.0, given_end ps rs p r are.1 is)
+  given_end : (os : List (Option EntryAddress)) (rs : List (model_record.Record Content)) (ps : List (Record K V P)) (p : Record K V P) (r : model_record.Record Content)
+      → AreReceived m os rs ps → r.source ≡ model_record.Given (content_of m p) → AreReceived m (os ++ None ∷ []) (rs ++ r ∷ []) (ps ++ p ∷ [])
+  given_end [] [] ps p r are is = subst (λ qs. AreReceived m (None ∷ []) (r ∷ []) (qs ++ p ∷ [])) (sym are) (is, refl)
+  given_end [] (t ∷ rs) ps p r are is = absurd are
+  given_end (None ∷ os) [] ps p r are is = absurd are
+  given_end (Some a ∷ os) [] ps p r are is = absurd are
+  given_end (None ∷ os) (t ∷ rs) [] p r are is = absurd are
+  given_end (None ∷ os) (t ∷ rs) (q ∷ ps) p r are is = (are.0, given_end os rs ps p r are.1 is)
+  given_end (Some a ∷ os) (t ∷ rs) ps p r are is = (are.0, given_end os rs ps p r are.1 is)
+
+  reread_end : (os : List (Option EntryAddress)) (rs : List (model_record.Record Content)) (ps : List (Record K V P)) (a : EntryAddress) (r : model_record.Record Content)
+      → AreReceived m os rs ps → r.source ≡ model_record.Reread (address_of a) → AreReceived m (os ++ Some a ∷ []) (rs ++ r ∷ []) ps
+  reread_end [] [] ps a r are is = (is, are)
+  reread_end [] (t ∷ rs) ps a r are is = absurd are
+  reread_end (None ∷ os) [] ps a r are is = absurd are
+  reread_end (Some b ∷ os) [] ps a r are is = absurd are
+  reread_end (None ∷ os) (t ∷ rs) [] a r are is = absurd are
+  reread_end (None ∷ os) (t ∷ rs) (q ∷ ps) a r are is = (are.0, reread_end os rs ps a r are.1 is)
+  reread_end (Some b ∷ os) (t ∷ rs) ps a r are is = (are.0, reread_end os rs ps a r are.1 is)
+
+-- the bytes that records take
+size_of_records : (rs : List (model_record.Record Content)) → size_of (map kept_of rs) ≡ bytes_taken page_up rs
+size_of_records [] = size_none
+size_of_records (r ∷ rs) = omega (arith, size_cons (kept_of r) (map kept_of rs), size_of_records rs)
+
+-- the index has a very address where the model's has
+very : (held : Option Index) (a : EntryAddress) → option_and_then indexed_at held ≡ Some a → model_index.holds (address_of a) (slot_of held) ≡ true
+very None a is = absurd (cc)
+very (Some (Address b)) a is = let same : b ≡ a = cc in ap (λ x. model_index.is_same (address_of a) (address_of x)) same ∙ same_itself (address_of a)
+very (Some (Mark n)) a is = absurd (cc)
+
+very_back : (held : Option Index) (a : EntryAddress) → model_index.holds (address_of a) (slot_of held) ≡ true → option_and_then indexed_at held ≡ Some a
+very_back None a is = absurd (cc)
+very_back (Some (Address b)) a is =
+    let same : address_of a ≡ address_of b = same_address (address_of a) (address_of b) is in
+    (λ i. Some (record { block = (sym same i).block; offset = (sym same i).offset; len = (sym same i).len; sequence = (sym same i).sequence; filling = (sym same i).filling }))
+very_back (Some (Mark n)) a is = absurd (cc)
 
 module _ {K V P A : Type 0} (m : Meaning K V P) (s : Settings) (sound : AreValid s) (st : model_state.State Content) (f : ℕ)
     (φ : Seen K V P A) (stands : IsFlusherAs m s φ (st.flushers f)) where
@@ -147,6 +189,110 @@ module _ {K V P A : Type 0} (m : Meaning K V P) (s : Settings) (sound : AreValid
       → TakesMemory (machine m s sound) st (st.flushers f) (st.flushers f).queue
   wait_takes id rest is = subst (TakesMemory (machine m s sound) st (st.flushers f)) (sym (stands.queue ∙ ap (map (submission_of m)) is)) tt
 
+  -- bytes have room just where the model says that they fit
+  bytes_agree : (bytes : List ℕ) → HasRoomFor φ.filled (length bytes) ↔ Fits (machine m s sound) st (st.flushers f) bytes
+  bytes_agree bytes =
+      let room : φ.filled.room ≡ buffer_room s = stands.room in
+      let greatest : s.blob_index_size + φ.filled.greatest ≡ s.block_size = stands.greatest in
+      let size : size_of φ.filled.entries ≡ bytes_taken page_up (st.flushers f).buffer = ap size_of (sym stands.buffer) ∙ size_of_records (st.flushers f).buffer in
+      let above : length bytes ≤ page_up (length bytes) = page_up-holds (length bytes) in (
+        (λ has.
+            let some : 0 < length bytes = has.some in
+            let left : page_up (length bytes) ≤ φ.filled.room - size_of φ.filled.entries = has.room in
+            let less : page_up (length bytes) ≤ φ.filled.greatest = has.greatest in
+            (omega arith, (some, omega arith))),
+        (λ fits.
+            let some : 0 < length bytes = (fits.1).0 in
+            let all : bytes_taken page_up (st.flushers f).buffer + page_up (length bytes) ≤ buffer_room s = fits.0 in
+            let less : s.blob_index_size + page_up (length bytes) ≤ s.block_size = (fits.1).1 in
+            record { some = some; room = omega arith; greatest = omega arith }),
+      )
+
+  module _ (index : IndexMap) (indexed : IsIndexedAs s index st.index) (r : Reinsertion A) (rest : List (Submission K V P A)) (is : φ.queue ≡ submission.Reinsertion r ∷ rest) where
+    again_queue : (st.flushers f).queue ≡ model_state.Reinsert r.hash r.slice.items (address_of r.address) ∷ map (submission_of m) rest
+    again_queue = stands.queue ∙ ap (map (submission_of m)) is
+
+    held : IsPutAgain index r φ.filled → model_index.holds (address_of r.address) (st.index r.hash) ≡ true
+    held put = ap (model_index.holds (address_of r.address)) (indexed.slot r.hash) ∙ very (finite.get index r.hash) r.address put.holds
+
+    fits_again : IsPutAgain index r φ.filled → Fits (machine m s sound) st (st.flushers f) r.slice.items
+    fits_again put = (bytes_agree r.slice.items).0 put.room
+
+    put_again : model_index.holds (address_of r.address) (st.index r.hash) ≡ true → Fits (machine m s sound) st (st.flushers f) r.slice.items → IsPutAgain index r φ.filled
+    put_again holds fits = record {
+      holds = very_back (finite.get index r.hash) r.address (ap (model_index.holds (address_of r.address)) (sym (indexed.slot r.hash)) ∙ holds);
+      room = (bytes_agree r.slice.items).1 fits;
+    }
+
+    -- it stays in front where memory was refused for it
+    pub again_takes : IsPutAgain index r φ.filled → TakesMemory (machine m s sound) st (st.flushers f) (st.flushers f).queue
+    again_takes put = subst (TakesMemory (machine m s sound) st (st.flushers f)) (sym again_queue) (held put, fits_again put)
+
+    again_size : (after : model_state.Flusher Content) → after.queue ≡ map (submission_of m) rest → size_in (st.flushers f).queue ≡ 0 + size_in after.queue
+    again_size after same =
+        let e : size_in (st.flushers f).queue ≡ size_in (map (submission_of m) rest) = size_front (submission.Reinsertion r) rest is in
+        let d : size_in after.queue ≡ size_in (map (submission_of m) rest) = ap size_in same in
+        omega arith
+
+    -- it is put into the buffer, or dropped
+    pub again_kept : (new : Flusher K V P A) (b : Entries) (sources : List (Option EntryAddress)) → PutsAgain index r φ.filled φ.sources b sources
+        → seen new ≡ record φ { queue = rest; filled = b; sources = sources } → IsReceivedAs m s sound st f 0 None new
+    again_kept new b sources (inl put) now = record {
+      after = after;
+      stands = subst (λ x. IsFlusherAs m s x after) (sym (now ∙ (λ i. record φ { queue = rest; filled = (put.1) i; sources = (put.2) i }))) (record {
+        queue = refl;
+        buffer = map_end kept_of (st.flushers f).buffer t ∙ ap (λ es. es ++ kept_of t ∷ []) stands.buffer;
+        room = stands.room;
+        greatest = stands.greatest;
+        given = reread_end m φ.sources (st.flushers f).buffer φ.pieces r.address t stands.given refl;
+        marks = stands.marks;
+        invalidated = stands.invalidated;
+        waits = stands.waits;
+        own = stands.own;
+        there = stands.there;
+        sizes = stands.sizes;
+        context = stands.context;
+        goes_on = stands.goes_on;
+        batch = stands.batch;
+      });
+      receives = at_queue (model_reply.Received None) (turned (machine m s sound) st f after) (model_state.Reinsert r.hash r.slice.items (address_of r.address) ∷ map (submission_of m) rest)
+          again_queue (inl (held put.0, fits_again put.0, refl));
+      keeps = record { own = refl; ready = refl };
+      size_is = again_size after refl;
+    }
+      where
+        t : model_record.Record Content
+        t = record { hash = r.hash; sequence = (r.address).sequence; bytes = r.slice.items; source = model_record.Reread (address_of r.address) }
+
+        after : model_state.Flusher Content
+        after = record (st.flushers f) { queue = map (submission_of m) rest; buffer = (st.flushers f).buffer ++ t ∷ [] }
+    again_kept new b sources (inr dropped) now = record {
+      after = after;
+      stands = subst (λ x. IsFlusherAs m s x after) (sym (now ∙ (λ i. record φ { queue = rest; filled = (dropped.1) i; sources = (dropped.2) i }))) (record {
+        queue = refl;
+        buffer = stands.buffer;
+        room = stands.room;
+        greatest = stands.greatest;
+        given = stands.given;
+        marks = stands.marks;
+        invalidated = stands.invalidated;
+        waits = stands.waits;
+        own = stands.own;
+        there = stands.there;
+        sizes = stands.sizes;
+        context = stands.context;
+        goes_on = stands.goes_on;
+        batch = stands.batch;
+      });
+      receives = at_queue (model_reply.Received None) (turned (machine m s sound) st f after) (model_state.Reinsert r.hash r.slice.items (address_of r.address) ∷ map (submission_of m) rest)
+          again_queue (inr ((λ holds fits. dropped.0 (put_again holds fits)), refl));
+      keeps = record { own = refl; ready = refl };
+      size_is = again_size after refl;
+    }
+      where
+        after : model_state.Flusher Content
+        after = record (st.flushers f) { queue = map (submission_of m) rest }
+
   -- a record has room just where the model says that it fits
   agrees : (n : ℕ) (bytes : List ℕ) → length bytes ≡ 36 + n
       → ((36 + n ≤ left_of φ.filled) × (page_up (36 + n) ≤ φ.filled.greatest)) ↔ Fits (machine m s sound) st (st.flushers f) bytes
@@ -186,7 +332,7 @@ module _ {K V P A : Type 0} (m : Meaning K V P) (s : Settings) (sound : AreValid
 
     -- it is put into the buffer
     pub piece_kept : (new : Flusher K V P A) → FitsBuffer φ.filled compression.None ((a ≡ true) × (b ≡ true)) n
-        → seen new ≡ record φ { queue = rest; filled = with_entry φ.filled p.hash sequence whole; pieces = φ.pieces ++ p ∷ [] }
+        → seen new ≡ record φ { queue = rest; filled = with_entry φ.filled p.hash sequence whole; sources = φ.sources ++ None ∷ []; pieces = φ.pieces ++ p ∷ [] }
         → IsReceivedAs m s sound st f size None new
     piece_kept new fits now = record {
       after = after;
@@ -195,7 +341,7 @@ module _ {K V P A : Type 0} (m : Meaning K V P) (s : Settings) (sound : AreValid
         buffer = map_end kept_of (st.flushers f).buffer r ∙ ap (λ es. es ++ kept_of r ∷ []) stands.buffer;
         room = stands.room;
         greatest = stands.greatest;
-        given = given_end m φ.pieces (st.flushers f).buffer p r stands.given refl;
+        given = given_end m φ.sources (st.flushers f).buffer φ.pieces p r stands.given refl;
         marks = stands.marks;
         invalidated = stands.invalidated;
         waits = stands.waits;

@@ -1,7 +1,10 @@
 -- The report of a write, and the end of a batch, as the model takes them.
 use Rattle.std.proofs.Common.{◌≡◌, ℕ, ◌-◌, ◌<◌, ◌≤◌, Bool, true, false, List, [], ◌∷◌, map, length, Option, Some, None, refl, sym, ap, subst, ◌∙◌, arith}
+use Rattle.std.specs.declared.vec.Vec.{Vec}
 use Rattle.foyer_block.specs.Index.{IndexMap}
-use Rattle.foyer_block.specs.Insertion.{inserted_all}
+use Rattle.foyer_block.specs.declared.indexer.EntryAddress.{EntryAddress}
+use Rattle.foyer_block.specs.declared.indexer.HashedEntryAddress.{HashedEntryAddress}
+use Rattle.foyer_block.specs.Committing.{committed_all, put_count}
 use Rattle.foyer_block.specs.Removal.{without_marks}
 use Rattle.foyer_model.specs.Commit.{commit_of}
 use Rattle.foyer_model.specs.Position.{Write}
@@ -13,7 +16,7 @@ use Rattle.foyer_model.specs.State as model_state
 use Rattle.foyer_model.specs.Step as model_step
 use Rattle.foyer_flusher.specs.FlusherSteps.{StandsAt, FlusherStep, settled, failed_batch, issued_wrote, HasEnded}
 use Rattle.foyer_rules.specs.Content.{Content, Meaning}
-use Rattle.foyer_flusher.specs.Flushing.{IsWritingAs, AreWriting, IsBatchAs, IsFlusherAs}
+use Rattle.foyer_flusher.specs.Flushing.{AreEntering, AreFrom, IsWritingAs, AreWriting, IsBatchAs, IsFlusherAs}
 use Rattle.foyer_standing.specs.Addresses.{invalid_of}
 use Rattle.foyer_sets.specs.BlockSets.{Stands, HasSameRules}
 use Rattle.foyer_sets.specs.Managed.{Managed, filling_in}
@@ -95,9 +98,9 @@ module _ {K V P A : Type 0} (m : Meaning K V P) (s : Settings) (sound : AreValid
   at = written m s batch.writing (got.0).writing ((got.2).writing) w writes
 
   -- another write is left
-  pub wrote_next : (n : ℕ) → 1 < w.left → n ≡ w.left - 1
-      → FlusherStep m s sound (model_step.FlushWrote f true) f it model_reply.Next (record φ { batch = Some (record batch { writing = Some (record w { left = n }) }) }) slots blocks
-  wrote_next n more less =
+  pub wrote_next : (u : Writing A) → 1 < w.left → u.left ≡ w.left - 1 → u.block ≡ w.block → u.records ≡ w.records → u.sources ≡ w.sources
+      → FlusherStep m s sound (model_step.FlushWrote f true) f it model_reply.Next (record φ { batch = Some (record batch { writing = Some u }) }) slots blocks
+  wrote_next u more less same_block same_records same_sources =
       let two = two_left (at.0).left (let e : length (at.0).left ≡ w.left = (at.2).left in omega arith) in
       let v : model_state.Writing Content = record at.0 { left = two.1 ∷ two.2 } in
       let p : model_state.Batch Content = record got.0 { writing = Some v } in
@@ -107,12 +110,13 @@ module _ {K V P A : Type 0} (m : Meaning K V P) (s : Settings) (sound : AreValid
             (at.0, two.0, two.1, two.2, at.1, two.3, refl);
         flusher = record (it.flushers f) { batch = Some p };
         flushers = refl;
-        it = batch_put m s φ (it.flushers f) (record batch { writing = Some (record w { left = n }) }) p stands.flusher
-            (writing_put m s φ.own batch got.0 (Some (record w { left = n })) (Some v) got.2 (record {
-              records = (at.2).records;
+        it = batch_put m s φ (it.flushers f) (record batch { writing = Some u }) p stands.flusher
+            (writing_put m s φ.own batch got.0 (Some u) (Some v) got.2 (record {
+              records = subst (λ (es : Vec HashedEntryAddress A). AreEntering es.items (at.0).records) (sym same_records) (at.2).records;
+              given = subst (λ (os : Vec (Option EntryAddress) A). AreFrom os.items (map (λ p. p.1) (at.0).records)) (sym same_sources) (at.2).given;
               within = (at.2).within;
-              block = (at.2).block;
-              there = (at.2).there;
+              block = (at.2).block ∙ sym same_block;
+              there = subst (λ k. k < s.blocks) (sym same_block) (at.2).there;
               left = let e : length (at.0).left ≡ w.left = (at.2).left in let k : length (at.0).left ≡ length (two.0 ∷ two.1 ∷ two.2) = ap length two.3 in omega arith;
               some = omega arith;
             }));
@@ -135,8 +139,9 @@ module _ {K V P A : Type 0} (m : Meaning K V P) (s : Settings) (sound : AreValid
       (writing_put m s φ.own batch got.0 None None got.2 tt)
 
   -- the block's records enter the index
-  pub wrote_last : (n filling : ℕ) (slots' : IndexMap) → w.left ≤ 1 → filling ≡ filling_in blocks.blocks w.block → n ≡ length w.records.items
-      → slots' ≡ inserted_all slots (map (settled w.block filling) w.records.items)
+  pub wrote_last : (n filling : ℕ) (slots' : IndexMap) → w.left ≤ 1 → filling ≡ filling_in blocks.blocks w.block
+      → n ≡ put_count slots (map (settled w.block filling) w.records.items) w.sources.items
+      → slots' ≡ committed_all slots (map (settled w.block filling) w.records.items) w.sources.items
       → FlusherStep m s sound (model_step.FlushWrote f true) f it (model_reply.Committed n) (record φ { batch = Some (record batch { writing = None }) }) slots' blocks
   wrote_last n filling slots' few read count new =
       let size : length blocks.blocks ≡ s.blocks = (stands.manager).blocks in
@@ -154,7 +159,7 @@ module _ {K V P A : Type 0} (m : Meaning K V P) (s : Settings) (sound : AreValid
           one.0,
           at.1,
           one.2 ∙ ap (λ l. one.0 ∷ l) last,
-          count ∙ puts_all s w.block filling (at.2).there w.records.items (at.0).records it.index (at.2).records ∙ ap (λ k. length k.puts) (sym commits),
+          count ∙ puts_all s w.block filling (at.2).there w.records.items w.sources.items (at.0).records slots it.index (at.2).records (at.2).given stands.index ∙ ap (λ k. length k.puts) (sym commits),
           refl,
         );
         flusher = record (it.flushers f) { batch = Some (record got.0 { writing = None }) };
@@ -162,8 +167,8 @@ module _ {K V P A : Type 0} (m : Meaning K V P) (s : Settings) (sound : AreValid
         it = idle_is;
         queue = refl;
         index = subst (λ k. IsIndexedAs s k (commit_in it at.0).index) (sym new)
-            (subst (λ k. IsIndexedAs s (inserted_all slots (map (settled w.block filling) w.records.items)) k.index) (sym commits)
-            (committed s w.block filling (at.2).there w.records.items (at.0).records slots it.index (at.2).records stands.index));
+            (subst (λ k. IsIndexedAs s (committed_all slots (map (settled w.block filling) w.records.items) w.sources.items) k.index) (sym commits)
+            (committed s w.block filling (at.2).there w.records.items w.sources.items (at.0).records slots it.index (at.2).records (at.2).given stands.index));
         manager = managed_kept s f it blocks (record (it.flushers f) { batch = Some (record got.0 { writing = None }) }) (record { own = refl; ready = refl }) stands.manager;
         has = same_blocks s f it.place it.waiting (it.flushers f) (record (it.flushers f) { batch = Some (record got.0 { writing = None }) }) (record { own = refl; ready = refl }) stands.has;
         others = leaves_all f it.place it.waiting;

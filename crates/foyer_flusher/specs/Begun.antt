@@ -15,6 +15,7 @@ pub record IsBegun {K V P A : Type 0} (old new : Flusher K V P A) (marks_issued 
   pub sizes : new.context.sizes ≡ old.context.sizes
   pub blocks : batch.blocks.items ≡ split.blocks.items
   pub pages : batch.pages ≡ split.bytes
+  pub sources : batch.sources.items ≡ old.sources.items
   pub continues_own_block : batch.continues_own_block ≡ is_some old.own
   pub writing : batch.writing ≡ None
   pub marks : batch.marks.items ≡ old.marks.items
@@ -25,6 +26,7 @@ pub record IsBegun {K V P A : Type 0} (old new : Flusher K V P A) (marks_issued 
   pub left : seen new ≡ record {
     queue = old.queue.items;
     filled = record { entries = []; room = old.filled.room; greatest = old.filled.greatest };
+    sources = [];
     marks = [];
     invalid = [];
     pieces = [];

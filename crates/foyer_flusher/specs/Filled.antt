@@ -20,6 +20,12 @@ pub record HasRoom (b : Entries) (n : ℕ) : Type 0 where
   pub room : 36 + n ≤ left_of b
   pub greatest : page_up (36 + n) ≤ b.greatest
 
+-- there is room for a record of n bytes, which are some
+pub record HasRoomFor (b : Entries) (n : ℕ) : Type 0 where
+  pub some : 0 < n
+  pub room : page_up n ≤ left_of b
+  pub greatest : page_up n ≤ b.greatest
+
 -- the entries stand where these say, and none takes more than it may
 pub record AreShared (greatest : ℕ) (bytes : Section) (infos : List BufferEntryInfo) : Type 0 where
   pub packed : IsPacked 0 infos

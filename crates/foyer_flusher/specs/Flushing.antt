@@ -1,5 +1,6 @@
 -- A flusher as the model's.
 use Rattle.std.specs.Prelude.{◌≡◌, ℕ, ◌+◌, ◌<◌, true, List, [], ◌∷◌, map, length, Option, Some, None}
+use Rattle.foyer_block.specs.declared.indexer.EntryAddress.{EntryAddress}
 use Rattle.foyer_block.specs.declared.indexer.HashedEntryAddress.{HashedEntryAddress}
 use Rattle.foyer_buffer.specs.BlockBytes.{Each}
 use Rattle.foyer_buffer.specs.Layout.{parts_of}
@@ -12,7 +13,7 @@ use Rattle.foyer_placing.specs.Splits.{MayGoOn, AllEndBy, LiesWithin}
 use Rattle.foyer_rules.specs.Content.{Content, Meaning, content_of, contents_of}
 use Rattle.foyer_rules.specs.Sizes.{buffer_room, sizes_in}
 use Rattle.foyer_rules.specs.declared.settings.Settings.{Settings}
-use Rattle.foyer_standing.specs.Addresses.{mark_of, invalid_of}
+use Rattle.foyer_standing.specs.Addresses.{address_of, mark_of, invalid_of}
 use Rattle.foyer_standing.specs.declared.blocks.InvalidStats.{InvalidStats}
 use Rattle.foyer_flusher.specs.Seen.{Seen}
 use Rattle.foyer_flusher.specs.declared.flusher.Batch.{Batch}
@@ -27,29 +28,44 @@ invalid_of_all (Some stats) = invalid_of stats ∷ []
 abbrev pub submission_of : {K V P A : Type 0} → Meaning K V P → Submission K V P A → model_state.Submission Content
 submission_of m (submission.CacheEntry piece size sequence) = model_state.Piece piece.hash sequence size (content_of m piece)
 submission_of m (submission.Tombstone info) = model_state.Remove info.tombstone.hash info.tombstone.sequence (invalid_of_all info.stats)
+submission_of m (submission.Reinsertion r) = model_state.Reinsert r.hash r.slice.items (address_of r.address)
 submission_of m (submission.Wait id) = model_state.Await id
 
--- the record of a piece, which isn't empty
-abbrev pub IsGiven : model_record.Record Content → Type 0
-IsGiven r = (c : Content) × (r.source ≡ model_record.Given c) × (0 < length r.bytes)
+-- it isn't empty
+abbrev pub IsSomeRecord : model_record.Record Content → Type 0
+IsSomeRecord r = 0 < length r.bytes
 
--- records of these pieces, in order
-abbrev pub AreGiven : {K V P : Type 0} → Meaning K V P → List (Record K V P) → List (model_record.Record Content) → Type 0
-AreGiven m [] [] = Unit {0}
-AreGiven m (p ∷ ps) (r ∷ rs) = (r.source ≡ model_record.Given (content_of m p)) × AreGiven m ps rs
-AreGiven m ps rs = ⊥
+-- a record of a piece, or one that was read from this address
+abbrev pub IsFrom : Option EntryAddress → model_record.Record Content → Type 0
+IsFrom None r = (c : Content) × (r.source ≡ model_record.Given c) × IsSomeRecord r
+IsFrom (Some over) r = (r.source ≡ model_record.Reread (address_of over)) × IsSomeRecord r
+
+-- records of these sources, in order
+abbrev pub AreFrom : List (Option EntryAddress) → List (model_record.Record Content) → Type 0
+AreFrom [] [] = Unit {0}
+AreFrom (o ∷ os) (r ∷ rs) = IsFrom o r × AreFrom os rs
+AreFrom os rs = ⊥
+
+-- records of these sources, in order, and of these pieces where they have none
+abbrev pub AreReceived : {K V P : Type 0} → Meaning K V P → List (Option EntryAddress) → List (model_record.Record Content) → List (Record K V P) → Type 0
+AreReceived m [] [] ps = ps ≡ []
+AreReceived m (Some over ∷ os) (r ∷ rs) ps = (r.source ≡ model_record.Reread (address_of over)) × AreReceived m os rs ps
+AreReceived m (None ∷ os) (r ∷ rs) [] = ⊥
+AreReceived m (None ∷ os) (r ∷ rs) (p ∷ ps) = (r.source ≡ model_record.Given (content_of m p)) × AreReceived m os rs ps
+AreReceived m os rs ps = ⊥
 
 -- records that stand in a block, as they are to be indexed
 abbrev pub AreEntering : List HashedEntryAddress → List (ℕ × model_record.Record Content) → Type 0
 AreEntering [] [] = Unit {0}
 AreEntering (e ∷ es) (p ∷ ps) =
     (e.hash ≡ (p.1).hash) × (e.address.sequence ≡ (p.1).sequence) × (e.address.offset ≡ p.0) × (e.address.len ≡ length (p.1).bytes)
-    × IsGiven p.1 × AreEntering es ps
+    × AreEntering es ps
 AreEntering es ps = ⊥
 
 -- The block that is being written. The model's writes that aren't reported yet are any of that number.
 pub record IsWritingAs {A : Type 0} (s : Settings) (w : Writing A) (v : model_state.Writing Content) : Type 0 where
   pub records : AreEntering w.records.items v.records
+  pub given : AreFrom w.sources.items (map (λ p. p.1) v.records)
   pub within : AllEndBy s.block_size v.records
   pub block : v.block ≡ w.block
   pub there : w.block < s.blocks
@@ -69,7 +85,7 @@ HasOwn (Some b) = Unit {0}
 pub record IsBatchAs {K V P A : Type 0} (m : Meaning K V P) (s : Settings) (own : Option ℕ) (batch : Batch K V P A) (it : model_state.Batch Content) : Type 0 where
   pub blocks : AreBlocksAs (map parts_of batch.blocks.items) it.blocks
   pub within : Each (LiesWithin s.block_size) it.blocks
-  pub given : Each IsGiven (records_of it.blocks)
+  pub given : AreFrom batch.sources.items (records_of it.blocks)
   pub continues_own_block : it.continues_own_block ≡ batch.continues_own_block
   pub owned : batch.continues_own_block ≡ true → HasOwn own
   pub writing : AreWriting s batch.writing it.writing
@@ -94,7 +110,7 @@ pub record IsFlusherAs {K V P A : Type 0} (m : Meaning K V P) (s : Settings) (φ
   pub buffer : map kept_of it.buffer ≡ φ.filled.entries
   pub room : φ.filled.room ≡ buffer_room s
   pub greatest : s.blob_index_size + φ.filled.greatest ≡ s.block_size
-  pub given : AreGiven m φ.pieces it.buffer
+  pub given : AreReceived m φ.sources it.buffer φ.pieces
   pub marks : it.marks ≡ map mark_of φ.marks
   pub invalidated : it.invalidated ≡ map invalid_of φ.invalid
   pub waits : it.waits ≡ φ.waits

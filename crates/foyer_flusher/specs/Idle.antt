@@ -11,6 +11,7 @@ idle settings =
     record {
       queue = [];
       filled = record { entries = []; room = buffer_room settings; greatest = settings.block_size - settings.blob_index_size };
+      sources = [];
       marks = [];
       invalid = [];
       pieces = [];

@@ -1,6 +1,7 @@
 -- What a flusher has, whatever room its lists have and whichever spare pages it keeps.
 use Rattle.std.specs.Prelude.{ℕ, Bool, ◌==◌, ◌&&◌, List, Option, is_none, vec_len}
 use Rattle.std.specs.VecDeque.{deque_len}
+use Rattle.foyer_block.specs.declared.indexer.EntryAddress.{EntryAddress}
 use Rattle.foyer_block.specs.declared.tombstone.Tombstone.{Tombstone}
 use Rattle.foyer_buffer.specs.Entries.{Entries}
 use Rattle.foyer_buffer.specs.Position.{Context}
@@ -13,6 +14,7 @@ use Rattle.foyer_flusher.specs.declared.flusher.Submission.{Submission}
 pub record Seen (K V P A : Type 0) : Type 0 where
   pub queue : List (Submission K V P A)
   pub filled : Entries
+  pub sources : List (Option EntryAddress)
   pub marks : List Tombstone
   pub invalid : List InvalidStats
   pub pieces : List (Record K V P)
@@ -26,6 +28,7 @@ seen φ =
     record {
       queue = φ.queue.items;
       filled = φ.filled;
+      sources = φ.sources.items;
       marks = φ.marks.items;
       invalid = φ.invalid.items;
       pieces = φ.pieces.items;
@@ -37,4 +40,4 @@ seen φ =
 
 -- nothing is queued, received or in a batch
 abbrev pub is_still : {K V P A : Type 0} → Flusher K V P A → Bool
-is_still φ = (deque_len φ.queue == 0) && (vec_len φ.pieces == 0) && (vec_len φ.marks == 0) && (vec_len φ.waits == 0) && is_none φ.batch
+is_still φ = (deque_len φ.queue == 0) && (deque_len φ.sources == 0) && (vec_len φ.marks == 0) && (vec_len φ.waits == 0) && is_none φ.batch

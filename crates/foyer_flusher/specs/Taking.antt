@@ -1,5 +1,8 @@
 -- What a flusher takes from its queue.
-use Rattle.std.specs.Prelude.{◌≡◌, ℕ, ◌+◌, List, [], ◌∷◌, Option, None, Result, Ok, Err}
+use Rattle.std.specs.Prelude.{◌≡◌, ℕ, ◌+◌, ◌⊎◌, List, [], ◌∷◌, ◌++◌, length, Option, Some, None, Result, Ok, Err}
+use Rattle.foyer_block.specs.Index.{IndexMap, address_at}
+use Rattle.foyer_block.specs.declared.indexer.EntryAddress.{EntryAddress}
+use Rattle.foyer_buffer.specs.Entries.{Entries, with_entry}
 use Rattle.foyer_device.specs.declared.error.Error.{Error}
 use Rattle.foyer_model.specs.Receive.{Receives, turned}
 use Rattle.foyer_model.specs.Refusal.{TakesMemory}
@@ -10,9 +13,11 @@ use Rattle.foyer_rules.specs.CoreRules.{machine}
 use Rattle.foyer_rules.specs.Sizes.{AreValid}
 use Rattle.foyer_rules.specs.declared.settings.Settings.{Settings}
 use Rattle.foyer_standing.specs.Standing.{KeepsItsBlocks}
+use Rattle.foyer_flusher.specs.Filled.{HasRoomFor}
 use Rattle.foyer_flusher.specs.Flushing.{IsFlusherAs}
 use Rattle.foyer_flusher.specs.Seen.{seen}
 use Rattle.foyer_flusher.specs.declared.flusher.Flusher.{Flusher}
+use Rattle.foyer_flusher.specs.declared.flusher.Reinsertion.{Reinsertion}
 use Rattle.foyer_flusher.specs.declared.receive.Taken.{Taken}
 use Rattle.foyer_flusher.specs.declared.receive.Taken.TheVariants as taken
 
@@ -23,6 +28,17 @@ size_in (model_state.Piece h q n c ∷ rest) = n + size_in rest
 size_in (model_state.Remove h q invalidated ∷ rest) = size_in rest
 size_in (model_state.Await i ∷ rest) = size_in rest
 size_in (model_state.Reinsert h bytes a ∷ rest) = size_in rest
+
+-- a record that was read back is put into the buffer: the index has it where it was read, and it has room
+pub record IsPutAgain {A : Type 0} (index : IndexMap) (r : Reinsertion A) (b : Entries) : Type 0 where
+  pub holds : address_at index r.hash ≡ Some r.address
+  pub room : HasRoomFor b (length r.slice.items)
+
+-- and else it is dropped
+abbrev pub PutsAgain : {A : Type 0} → IndexMap → Reinsertion A → Entries → List (Option EntryAddress) → Entries → List (Option EntryAddress) → Type 0
+PutsAgain index r b sources new now =
+    (IsPutAgain index r b × (new ≡ with_entry b r.hash (r.address).sequence r.slice.items) × (now ≡ sources ++ Some r.address ∷ []))
+    ⊎ ((IsPutAgain index r b → ⊥) × (new ≡ b) × (now ≡ sources))
 
 -- the front was taken, with a piece of this size
 pub record IsReceivedAs {K V P A : Type 0} (m : Meaning K V P) (s : Settings) (sound : AreValid s) (st : model_state.State Content) (f : ℕ) (size : ℕ) (back : Option Content) (new : Flusher K V P A) : Type 0 where

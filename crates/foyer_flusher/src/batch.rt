@@ -2,7 +2,7 @@
 ghost use Rattle.std.specs.Prelude.{◌≡◌, ◌≢◌, ◌↔◌, ◌<◌, ℕ, [], map, length, Option, None, Some, IsSome, IsSomeAnd, IsTrue, true, false};
 ghost use Rattle.std.specs.Prelude.{IfErr, IfOk, OnErr, MatchOption, vec_len};
 ghost use Rattle.foyer_block.specs.Index.{IndexMap};
-ghost use Rattle.foyer_block.specs.Insertion.{inserted_all, AllHeld};
+ghost use Rattle.foyer_block.specs.Committing.{committed_all, put_count, PiecesHeld};
 ghost use Rattle.foyer_device.specs.declared.error.Error.{Error as error};
 ghost use Rattle.foyer_model.specs.Flush.{released};
 ghost use Rattle.foyer_model.specs.State as model_state;
@@ -21,7 +21,7 @@ ghost use Rattle.foyer_flusher.specs.declared.batch.Wrote.TheVariants as wrote;
 
 use crate::flusher::{Batch, Flusher, Write, Writing};
 use crate::logged::invalidate_unless;
-use foyer_block::indexer::{HashedEntryAddress, Indexer};
+use foyer_block::indexer::{EntryAddress, HashedEntryAddress, Indexer};
 use foyer_block::manager::BlockId;
 use foyer_device::error::Result;
 use foyer_device::io::bytes::{IoSlice, IoSliceMut};
@@ -45,7 +45,7 @@ pub enum Next<A: Allocator> {
 pub enum Wrote {
     /// The block has another write.
     Next,
-    /// The block's records are in the index, so many.
+    /// The block's records entered the index: so many are puts.
     Committed(usize),
     /// The batch failed.
     Failed,
@@ -68,25 +68,22 @@ fn settle<A: Allocator>(records: &mut Vec<HashedEntryAddress, A>, block: BlockId
     }
 }
 
-// The records of a block enter the index: gives how many, or None where it has to grow and can't.
+// The records of a block enter the index: gives how many are puts, or None where it has to grow and can't.
 fn commit<A: Allocator + Clone>(
     mut records: Vec<HashedEntryAddress, A>,
+    sources: &[Option<EntryAddress>],
     block: BlockId,
     filling: u64,
     index: &mut Indexer<A>,
 ) -> Option<usize>
+    requires { length sources.now ≡ length records.items }
     ensures committed { MatchOption result (index.new ≡ index.old)
-        (λ n. (n ≡ vec_len records)
-        × (index.new ≡ inserted_all index.old (map (settled block filling) records.items))) }
-    ensures overwrites { AllHeld index.old records.items → IsSome result }
+        (λ n. (n ≡ put_count index.old (map (settled block filling) records.items) sources.now)
+        × (index.new ≡ committed_all index.old (map (settled block filling) records.items) sources.now)) }
+    ensures overwrites { PiecesHeld index.old records.items sources.now → IsSome result }
 {
     settle(&mut records, block, filling);
-    let count = records.len();
-    if index.insert_batch(records).is_ok() {
-        Some(count)
-    } else {
-        None
-    }
+    index.commit_batch(&records, sources).ok()
 }
 
 // The pages of a batch are filled again, unless it had none or somebody still has a part of them.
@@ -131,9 +128,11 @@ impl<K, V, P, A: Allocator> Batch<K, V, P, A> {
     // What isn't issued yet will not be written.
     fn drop_rest(&mut self)
         ensures none { self.new.blocks.items ≡ [] }
-        ensures rest { self.new ≡ record self.old { blocks = self.new.blocks; continues_own_block = false } }
+        ensures no_sources { self.new.sources.items ≡ [] }
+        ensures rest { self.new ≡ record self.old { blocks = self.new.blocks; sources = self.new.sources; continues_own_block = false } }
     {
         self.blocks.clear();
+        self.sources.clear();
         self.continues_own_block = false;
     }
 }
@@ -183,16 +182,16 @@ impl<K, V, P, A: Allocator + Clone> Flusher<K, V, P, A> {
         let Some(batch) = &mut self.batch else {
             unreachable!()
         };
-        let (records, writes) = batch.prepare(alloc)?;
+        let prepared = batch.prepare(alloc)?;
         if let Some(block) = batch.goes_on_with(self.own) {
-            return Ok(Next::Block(block, batch.issue(block, records, writes)));
+            return Ok(Next::Block(block, batch.issue(block, prepared)));
         }
         release(&mut self.own, manager, pickers);
         match manager.get_clean_block(number) {
             None => Ok(Next::NoBlock),
             Some(block) => {
                 self.own = Some(block);
-                Ok(Next::Block(block, batch.issue(block, records, writes)))
+                Ok(Next::Block(block, batch.issue(block, prepared)))
             }
         }
     }
@@ -238,16 +237,18 @@ impl<K, V, P, A: Allocator + Clone> Flusher<K, V, P, A> {
             block,
             left,
             records,
+            sources,
         } = writing;
         if left > 1 {
             batch.put_writing(Writing {
                 block,
                 left: left - 1,
                 records,
+                sources,
             });
             return Wrote::Next;
         }
-        match commit(records, block, filling_of(manager, block), index) {
+        match commit(records, &sources, block, filling_of(manager, block), index) {
             Some(count) => Wrote::Committed(count),
             None => self.fail(manager, pickers),
         }
@@ -311,6 +312,7 @@ impl<K, V, P, A: Allocator + Clone> Flusher<K, V, P, A> {
         let Batch {
             blocks: _,
             pages,
+            sources: _,
             continues_own_block: _,
             writing: _,
             marks,

@@ -9,13 +9,15 @@ use foyer_block::tombstone::Tombstone;
 use foyer_buffer::Batch as Split;
 use foyer_device::error::Result;
 use std::alloc::Allocator;
+use std::collections::VecDeque;
 use std::mem;
 
-// Handles for the four lists that are made once nothing can be refused any more.
-fn handles<A: Allocator + Clone>(alloc: &A) -> Result<(A, A, A, A)>
+// Handles for the five lists that are made once nothing can be refused any more.
+fn handles<A: Allocator + Clone>(alloc: &A) -> Result<(A, A, A, A, A)>
     ensures memory { IfErr result (λ e. e ≡ error.Memory) }
 {
     Ok((
+        alloc.clone()?,
         alloc.clone()?,
         alloc.clone()?,
         alloc.clone()?,
@@ -33,12 +35,13 @@ impl<K, V, P, A: Allocator + Clone> Flusher<K, V, P, A> {
         ensures memory { IfErr result (λ e. e ≡ error.Memory) }
     {
         let issued = Vec::from_slice(alloc.clone()?, self.marks.as_slice())?;
-        let (for_marks, for_invalid, for_pieces, for_waits) = handles(alloc)?;
+        let (for_marks, for_invalid, for_pieces, for_waits, for_sources) = handles(alloc)?;
         let Split { blocks, bytes } = self.filled.split(alloc, &mut self.context)?;
         self.filled.reset();
         let batch = Batch {
             blocks,
             pages: bytes,
+            sources: mem::replace(&mut self.sources, VecDeque::new(for_sources)),
             continues_own_block: self.own.is_some(),
             writing: None,
             marks: mem::replace(&mut self.marks, Vec::new(for_marks)),

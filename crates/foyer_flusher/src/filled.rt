@@ -3,11 +3,12 @@ ghost use Rattle.std.specs.Prelude.{◌≡◌, ◌^◌, ◌+◌, ◌<◌, ◌≤
 ghost use Rattle.std.specs.Prelude.{◌↔◌, IsTrue, true};
 ghost use Rattle.std.specs.Bool.{OnTrue, OnFalse};
 ghost use Rattle.foyer_buffer.specs.Entries.{Entries, FitsBuffer, entries_at, with_entry, left_of};
+ghost use Rattle.foyer_format.specs.Page.{page_up};
 ghost use Rattle.foyer_format.specs.Record.{record_bytes};
 ghost use Rattle.foyer_format.specs.declared.compress.Compression.TheVariants as compression;
 ghost use Rattle.foyer_device.specs.Section.{bytes_of, all_of};
 ghost use Rattle.foyer_device.specs.declared.error.Error.{Error as error};
-ghost use Rattle.foyer_flusher.specs.Filled.{AreSome, HasRoom, IsFull, IsShared, IsState, WasSplit, entries_in};
+ghost use Rattle.foyer_flusher.specs.Filled.{AreSome, HasRoom, HasRoomFor, IsFull, IsShared, IsState, WasSplit, entries_in};
 ghost use Rattle.foyer_flusher.specs.declared.filled.State.TheVariants as state;
 
 use foyer_buffer::{Batch, Buffer, BufferEntryInfo, SplitCtx, Splitter};
@@ -232,6 +233,26 @@ fn push_open<K: Code<A>, V: Code<A>, A: Allocator>(
     buffer.push(key, value, hash, Compression::None, sequence)
 }
 
+// Appends bytes that are some.
+fn push_bytes<A: Allocator>(
+    buffer: &mut Buffer<A>,
+    slice: &[u8],
+    hash: u64,
+    sequence: Sequence,
+) -> Result<bool>
+    requires { 0 < length slice.now }
+    ensures pushed { IfOk result (λ done. OnTrue done (buffer.new ≡ with_entry buffer.old hash sequence slice.now)) }
+    ensures fits { IfOk result (λ done. IsTrue done ↔ ((page_up (length slice.now) ≤ left_of buffer.old)
+        × (page_up (length slice.now) ≤ buffer.old.greatest))) }
+    ensures kept { IfOk result (λ done. OnFalse done (buffer.new ≡ buffer.old)) }
+    ensures memory { IfErr result (λ e. e ≡ error.Memory) }
+    ensures refused { OnErr result (buffer.new ≡ buffer.old) }
+    ensures some { AreSome buffer.old.entries → AreSome buffer.new.entries }
+    ensures sizes { (buffer.new.room ≡ buffer.old.room) × (buffer.new.greatest ≡ buffer.old.greatest) }
+{
+    buffer.push_slice(slice, hash, sequence)
+}
+
 impl<A: Allocator> Filled<A> {
     /// No records, in `room` bytes, which are whole pages; a record takes at most `greatest` with its padding. It
     /// doesn't allocate.
@@ -296,6 +317,46 @@ impl<A: Allocator> Filled<A> {
         }
         let len = EntryHeader::serialized_len() + estimated;
         len <= self.left() && whole_pages(len) <= self.greatest
+    }
+
+    /// Whether a record of so many bytes has room.
+    pub fn has_room_for(&self, len: usize) -> bool
+        ensures { IsTrue result ↔ HasRoomFor self.now len }
+    {
+        if len == 0 || self.greatest < len {
+            return false;
+        }
+        let pages = whole_pages(len);
+        pages <= self.left() && pages <= self.greatest
+    }
+
+    /// Appends a record as it is, which has room; false where it hasn't. Pages are taken for the first record, the spare ones
+    /// if there are some. Memory where an allocation was refused. Another answer than true leaves the records.
+    pub fn push_slice(
+        &mut self,
+        alloc: &A,
+        spare: &mut Option<IoSliceMut<A>>,
+        slice: &[u8],
+        hash: u64,
+        sequence: Sequence,
+    ) -> Result<bool>
+    where
+        A: Clone,
+        ensures pushed { IfOk result (λ done. OnTrue done (self.new ≡ with_entry self.old hash sequence slice.now)) }
+        ensures fits { IfOk result (λ done. IsTrue done ↔ HasRoomFor self.old (length slice.now)) }
+        ensures kept { IfOk result (λ done. OnFalse done (self.new ≡ self.old)) }
+        ensures memory { IfErr result (λ e. e ≡ error.Memory) }
+        ensures due { OnErr result (HasRoomFor self.old (length slice.now)) }
+        ensures refused { OnErr result (self.new ≡ self.old) }
+        ensures sizes { (self.new.room ≡ self.old.room) × (self.new.greatest ≡ self.old.greatest) }
+    {
+        if !self.has_room_for(slice.len()) {
+            return Ok(false);
+        }
+        let mut buffer = self.take_buffer(alloc, spare)?;
+        let pushed = push_bytes(&mut buffer, slice, hash, sequence);
+        self.state = State::Open(buffer);
+        pushed
     }
 
     // Takes the pages with their entries, for one owner, or opens some. Memory leaves it.

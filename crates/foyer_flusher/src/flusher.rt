@@ -1,9 +1,9 @@
 //! What waits at a flusher, and the batch that it writes.
-ghost use Rattle.std.specs.Prelude.{◌≡◌, ◌+◌, ◌≤◌};
+ghost use Rattle.std.specs.Prelude.{◌≡◌, ◌+◌, ◌≤◌, length};
 ghost use Rattle.foyer_flusher.specs.Issuing.{written_bytes};
 
 use crate::filled::Filled;
-use foyer_block::indexer::HashedEntryAddress;
+use foyer_block::indexer::{EntryAddress, HashedEntryAddress};
 use foyer_block::manager::BlockId;
 use foyer_block::tombstone::Tombstone;
 use foyer_buffer::{Block, SplitCtx};
@@ -21,6 +21,15 @@ pub struct TombstoneInfo {
     pub stats: Option<InvalidStats>,
 }
 
+/// A record that a reclaim read back, to be written again: the bytes of its address, `address.len` of them. It keeps the sequence
+/// of its address.
+#[derive(Drop)]
+pub struct Reinsertion<A: Allocator> {
+    pub hash: u64,
+    pub address: EntryAddress,
+    pub slice: Vec<u8, A>,
+}
+
 /// What waits in a flusher's queue.
 #[derive(Drop)]
 pub enum Submission<K, V, P, A: Allocator> {
@@ -32,6 +41,8 @@ pub enum Submission<K, V, P, A: Allocator> {
     },
     /// A mark to be logged.
     Tombstone(TombstoneInfo),
+    /// A record to be written again.
+    Reinsertion(Reinsertion<A>),
     /// A wait to be answered.
     Wait {
         id: u64,
@@ -73,6 +84,9 @@ pub struct Writing<A: Allocator> {
     pub left: usize,
     /// The records, each by its offset in the block.
     pub records: Vec<HashedEntryAddress, A>,
+    /// Of each the address that it was read from, if it was.
+    pub sources: Vec<Option<EntryAddress>, A>,
+    ghost paired: { length sources.items ≡ length records.items },
 }
 
 /// What a flusher is writing.
@@ -82,6 +96,8 @@ pub struct Batch<K, V, P, A: Allocator> {
     pub blocks: Vec<Block<A>, A>,
     /// The pages of all records, to be filled again once they are written.
     pub pages: IoSlice<A>,
+    /// Of the records of these blocks, in order, the address that each was read from, if it was.
+    pub sources: VecDeque<Option<EntryAddress>, A>,
     /// Whether the first of the blocks is the flusher's own.
     pub continues_own_block: bool,
     pub writing: Option<Writing<A>>,
@@ -99,6 +115,8 @@ pub struct Flusher<K, V, P, A: Allocator> {
     pub queue: VecDeque<Submission<K, V, P, A>, A>,
     /// The records that were received.
     pub filled: Filled<A>,
+    /// Of each of them the address that it was read from, if it was.
+    pub sources: VecDeque<Option<EntryAddress>, A>,
     /// Pages of a batch that was written, to be filled next.
     pub spare: Option<IoSliceMut<A>>,
     pub marks: Vec<Tombstone, A>,

@@ -1,8 +1,8 @@
 //! The blocks of a batch, as they are issued.
-ghost use Rattle.std.specs.Prelude.{◌≡◌, ◌≢◌, ◌<◌, None, MatchOption, ◌+◌, ◌*◌, ◌≤◌, ◌++◌, [], map, length, OnOk, IfOk, IfErr, vec_len, vec_capacity};
+ghost use Rattle.std.specs.Prelude.{◌≡◌, ◌≢◌, ◌<◌, None, MatchOption, ◌+◌, ◌*◌, ◌≤◌, ◌++◌, [], map, drop, length, OnOk, IfOk, IfErr, vec_len, vec_capacity};
 ghost use Rattle.foyer_device.specs.declared.error.Error.{Error as error};
 ghost use Rattle.foyer_flusher.specs.Issuing.{entering, entering_of, writes_of};
-ghost use Rattle.foyer_flusher.specs.Issued.{IsReady, IssuesFirst};
+ghost use Rattle.foyer_flusher.specs.Issued.{IsReady, IssuesFirst, padded, source_in};
 
 use crate::flusher::{Batch, Write, WriteBytes, Writing};
 use foyer_block::indexer::{EntryAddress, HashedEntryAddress};
@@ -10,6 +10,7 @@ use foyer_block::manager::BlockId;
 use foyer_buffer::{BlobEntryIndex, BlobPart, Block};
 use foyer_device::error::Result;
 use std::alloc::Allocator;
+use std::collections::VecDeque;
 
 // A record of a blob, by its offset in the block, whose number isn't known yet.
 fn entering(blob: usize, entry: &BlobEntryIndex) -> HashedEntryAddress
@@ -62,6 +63,44 @@ fn records_of<A: Allocator + Clone>(
     Ok(records)
 }
 
+// The source at a place; none past the end.
+fn source_at<A: Allocator>(
+    sources: &VecDeque<Option<EntryAddress>, A>,
+    place: usize,
+) -> Option<EntryAddress>
+    ensures { result ≡ source_in sources.now.items place }
+{
+    match sources.get(place) {
+        Some(source) => *source,
+        None => None,
+    }
+}
+
+// The first sources, so many; none where there are fewer.
+fn first_sources<A: Allocator>(
+    alloc: A,
+    sources: &VecDeque<Option<EntryAddress>, A>,
+    count: usize,
+) -> Result<Vec<Option<EntryAddress>, A>>
+    ensures first { IfOk result (λ v. v.items ≡ padded count sources.now.items) }
+    ensures memory { IfErr result (λ e. e ≡ error.Memory) }
+{
+    let mut first = Vec::with_capacity(alloc, count)?;
+    'each_place: for place in 0..count {
+        first.push_reserved(source_at(sources, place));
+    }
+    Ok(first)
+}
+
+// The first sources leave, so many.
+fn drop_sources<A: Allocator>(sources: &mut VecDeque<Option<EntryAddress>, A>, count: usize)
+    ensures { sources.new.items ≡ drop count sources.old.items }
+{
+    'each_place: for _ in 0..count {
+        let _ = sources.pop_front();
+    }
+}
+
 // The writes of a block, in room that was made for them; nothing is copied.
 fn writes_of<A: Allocator>(writes: Vec<Write<A>, A>, block: Block<A>) -> Vec<Write<A>, A>
     requires none { writes.items ≡ [] }
@@ -94,9 +133,11 @@ fn begin_writing<A: Allocator>(
     block: BlockId,
     left: usize,
     records: Vec<HashedEntryAddress, A>,
+    sources: Vec<Option<EntryAddress>, A>,
 ) -> Option<Writing<A>>
+    requires { length sources.items ≡ length records.items }
     ensures { MatchOption result (left ≡ 0) (λ w. (w.block ≡ block) × (w.left ≡ left) × (0 < left)
-        × (w.records ≡ records)) }
+        × (w.records ≡ records) × (w.sources ≡ sources)) }
 {
     if left == 0 {
         return None;
@@ -105,41 +146,56 @@ fn begin_writing<A: Allocator>(
         block,
         left,
         records,
+        sources,
     })
 }
 
+/// What the next block of a batch is issued with: its records, as they are to be indexed, of each the address that it was read
+/// from, if it was, and room for its writes.
+#[derive(Drop)]
+pub struct Prepared<A: Allocator> {
+    pub records: Vec<HashedEntryAddress, A>,
+    pub sources: Vec<Option<EntryAddress>, A>,
+    pub writes: Vec<Write<A>, A>,
+}
+
 impl<K, V, P, A: Allocator + Clone> Batch<K, V, P, A> {
-    /// The records of the next block, as they are to be indexed, and room for its writes. Memory where an allocation
-    /// was refused.
-    pub fn prepare(&self, alloc: &A) -> Result<(Vec<HashedEntryAddress, A>, Vec<Write<A>, A>)>
+    /// What the next block is issued with. Memory where an allocation was refused.
+    pub fn prepare(&self, alloc: &A) -> Result<Prepared<A>>
         requires { self.now.blocks.items ≢ [] }
-        ensures ready { IfOk result (λ p. IsReady self.now p.0 p.1) }
+        ensures ready { IfOk result (λ p. IsReady self.now p.records p.sources p.writes) }
         ensures memory { IfErr result (λ e. e ≡ error.Memory) }
     {
         let Some(block) = self.blocks.first() else {
             unreachable!()
         };
         let records = records_of(alloc, block)?;
+        let sources = first_sources(alloc.clone()?, &self.sources, records.len())?;
         let room = block.blob_parts.len().saturating_mul(2);
         let writes = Vec::with_capacity(alloc.clone()?, room)?;
-        Ok((records, writes))
+        Ok(Prepared {
+            records,
+            sources,
+            writes,
+        })
     }
 
     /// The next block of the batch goes into this block: gives its writes. Nothing is copied, and it doesn't allocate.
-    pub fn issue(
-        &mut self,
-        block: BlockId,
-        records: Vec<HashedEntryAddress, A>,
-        writes: Vec<Write<A>, A>,
-    ) -> Vec<Write<A>, A>
+    pub fn issue(&mut self, block: BlockId, prepared: Prepared<A>) -> Vec<Write<A>, A>
         requires idle { self.old.writing ≡ None }
-        requires ready { IsReady self.old records writes }
+        requires ready { IsReady self.old prepared.records prepared.sources prepared.writes }
         ensures { IssuesFirst block self.old self.new result.items }
     {
+        let Prepared {
+            records,
+            sources,
+            writes,
+        } = prepared;
         self.continues_own_block = false;
+        drop_sources(&mut self.sources, records.len());
         let placed = self.blocks.remove(0);
         let issued = writes_of(writes, placed);
-        self.writing = begin_writing(block, issued.len(), records);
+        self.writing = begin_writing(block, issued.len(), records, sources);
         issued
     }
 }

@@ -1,5 +1,9 @@
 //! From a flusher's queue into its buffer.
-ghost use Rattle.std.specs.Prelude.{◌≡◌, ◌+◌, ◌<◌, ◌↔◌, ◌++◌, ◌∷◌, [], ℕ, true, IsTrue, option_to_list, length, Option, IfErr, IfOk, OnOk, OnErr, vec_len, vec_capacity};
+ghost use Rattle.std.specs.VecDeque.{deque_len, deque_capacity};
+ghost use Rattle.foyer_block.specs.Index.{address_at};
+ghost use Rattle.foyer_standing.specs.Standing.{IsIndexedAs};
+ghost use Rattle.foyer_flusher.specs.Taking.{IsPutAgain, PutsAgain};
+ghost use Rattle.std.specs.Prelude.{◌≡◌, ◌+◌, ◌<◌, ◌↔◌, ◌++◌, ◌∷◌, [], ℕ, true, Some, IsTrue, option_to_list, length, Option, IfErr, IfOk, OnOk, OnErr, vec_len, vec_capacity};
 ghost use Rattle.std.specs.Bool.{OnTrue, OnFalse};
 ghost use Rattle.foyer_buffer.specs.Entries.{FitsBuffer, with_entry};
 ghost use Rattle.foyer_device.specs.declared.error.Error.{Error as error};
@@ -16,7 +20,8 @@ ghost use Rattle.foyer_flusher.specs.Seen.{seen};
 ghost use Rattle.foyer_flusher.specs.Taking.{TakesFront};
 
 use crate::filled::Filled;
-use crate::flusher::{Flusher, Submission, TombstoneInfo};
+use crate::flusher::{Flusher, Reinsertion, Submission, TombstoneInfo};
+use foyer_block::indexer::{EntryAddress, Indexer};
 use foyer_block::tombstone::Tombstone;
 use foyer_device::error::Result;
 use foyer_device::io::bytes::IoSliceMut;
@@ -25,16 +30,27 @@ use foyer_format::serde::Code;
 use foyer_policy::keeper::Piece;
 use foyer_standing::blocks::InvalidStats;
 use std::alloc::Allocator;
+use std::collections::VecDeque;
 
 /// What was taken from a queue.
 #[derive(Drop)]
 pub enum Taken<K, V, P, A: Allocator> {
     /// The queue is empty.
     Nothing,
-    /// A mark or a wait.
+    /// A mark, a record that was read back, or a wait.
     Other,
     /// A piece that stood in the queue with this size in bytes, handed back where it doesn't fit.
     Piece(usize, Option<Piece<K, V, P, A>>),
+}
+
+// Whether the index has a hash at the very address that a record of it was read from.
+fn holds<A: Allocator + Clone>(index: &Indexer<A>, reinsertion: &Reinsertion<A>) -> bool
+    ensures { IsTrue result ↔ (address_at index.now reinsertion.now.hash ≡ Some reinsertion.now.address) }
+{
+    match index.get(reinsertion.hash) {
+        Some(address) => address == reinsertion.address,
+        None => false,
+    }
 }
 
 // Appends a piece's record, with room for the piece in its list; false where it doesn't fit or a code fails.
@@ -43,6 +59,7 @@ fn put_piece<K: Code<A>, V: Code<A>, P, A: Allocator + Clone>(
     filled: &mut Filled<A>,
     spare: &mut Option<IoSliceMut<A>>,
     pieces: &mut Vec<Piece<K, V, P, A>, A>,
+    sources: &mut VecDeque<Option<EntryAddress>, A>,
     piece: &Piece<K, V, P, A>,
     sequence: Sequence,
 ) -> Result<bool>
@@ -50,6 +67,8 @@ fn put_piece<K: Code<A>, V: Code<A>, P, A: Allocator + Clone>(
         sequence (record_bytes piece.now.hash sequence (K.encoding piece.now.key) (V.encoding piece.now.value)))) }
     ensures list { pieces.new.items ≡ pieces.old.items }
     ensures room { IfOk result (λ done. OnTrue done (vec_len pieces.new < vec_capacity pieces.new)) }
+    ensures sources { sources.new.items ≡ sources.old.items }
+    ensures place { IfOk result (λ done. OnTrue done (deque_len sources.new < deque_capacity sources.new)) }
     ensures fits { IfOk result (λ done. IsTrue done ↔ FitsBuffer filled.old compression.None
         ((K.is_encodable piece.now.key ≡ true) × (V.is_encodable piece.now.value ≡ true))
         (length (V.encoding piece.now.value) + length (K.encoding piece.now.key))) }
@@ -64,6 +83,7 @@ fn put_piece<K: Code<A>, V: Code<A>, P, A: Allocator + Clone>(
         return Ok(false);
     }
     pieces.reserve(1)?;
+    sources.reserve(1)?;
     filled.push(
         alloc,
         spare,
@@ -72,6 +92,41 @@ fn put_piece<K: Code<A>, V: Code<A>, P, A: Allocator + Clone>(
         piece.hash(),
         sequence,
     )
+}
+
+// Appends a record that was read back, with where it was read from, if the index has it there still and it has room.
+fn put_reinsertion<A: Allocator + Clone>(
+    alloc: &A,
+    filled: &mut Filled<A>,
+    spare: &mut Option<IoSliceMut<A>>,
+    sources: &mut VecDeque<Option<EntryAddress>, A>,
+    index: &Indexer<A>,
+    reinsertion: &Reinsertion<A>,
+) -> Result<()>
+    ensures put { OnOk result (PutsAgain index.now reinsertion.now filled.old sources.old.items filled.new sources.new.items) }
+    ensures filled_kept { OnErr result (filled.new ≡ filled.old) }
+    ensures sources_kept { OnErr result (sources.new.items ≡ sources.old.items) }
+    ensures due { OnErr result (IsPutAgain index.now reinsertion.now filled.old) }
+    ensures memory { IfErr result (λ e. e ≡ error.Memory) }
+{
+    if !holds(index, reinsertion) {
+        return Ok(());
+    }
+    if !filled.has_room_for(reinsertion.slice.len()) {
+        return Ok(());
+    }
+    sources.reserve(1)?;
+    let pushed = filled.push_slice(
+        alloc,
+        spare,
+        &reinsertion.slice,
+        reinsertion.hash,
+        reinsertion.address.sequence,
+    )?;
+    if pushed {
+        sources.push_back_reserved(Some(reinsertion.address));
+    }
+    Ok(())
 }
 
 // Appends a mark, and what it made invalid, if it did.
@@ -107,9 +162,10 @@ fn put_wait<A: Allocator>(waits: &mut Vec<u64, A>, id: u64) -> Result<()>
 }
 
 impl<K, V, P, A: Allocator + Clone> Flusher<K, V, P, A> {
-    /// Takes the front of the queue. What has no room is handed back. Memory where an allocation was refused for what
-    /// has room: it stays at the front then.
-    pub fn receive(&mut self, alloc: &A) -> Result<Taken<K, V, P, A>>
+    /// Takes the front of the queue. What has no room is handed back; a record that was read back is dropped then, and where the
+    /// index hasn't the very address that it was read from. Memory where an allocation was refused for what has room: it stays
+    /// at the front then.
+    pub fn receive(&mut self, alloc: &A, index: &Indexer<A>) -> Result<Taken<K, V, P, A>>
     where
         K: Code<A>,
         V: Code<A>,
@@ -117,6 +173,7 @@ impl<K, V, P, A: Allocator + Clone> Flusher<K, V, P, A> {
         ensures memory { IfErr result (λ e. e ≡ error.Memory) }
         ensures takes { (age_of : P → Option age) (s : Settings) (sound : AreValid s) (st : State Content) (f : ℕ)
             → IsFlusherAs (meaning K.encoding V.encoding K.is_encodable V.is_encodable K.is_decodable V.is_decodable age_of) s (seen self.old) (st.flushers f)
+            → IsIndexedAs s index.now st.index
             → TakesFront (meaning K.encoding V.encoding K.is_encodable V.is_encodable K.is_decodable V.is_decodable age_of) s sound st f result self.new }
     {
         match self.queue.pop_front() {
@@ -132,11 +189,13 @@ impl<K, V, P, A: Allocator + Clone> Flusher<K, V, P, A> {
                 &mut self.filled,
                 &mut self.spare,
                 &mut self.pieces,
+                &mut self.sources,
                 &piece,
                 sequence,
             ) {
                 Ok(true) => {
                     self.pieces.push_reserved(piece);
+                    self.sources.push_back_reserved(None);
                     Ok(Taken::Piece(estimated_size, None))
                 }
                 Ok(false) => Ok(Taken::Piece(estimated_size, Some(piece))),
@@ -158,6 +217,21 @@ impl<K, V, P, A: Allocator + Clone> Flusher<K, V, P, A> {
                     }
                 }
             }
+            Some(Submission::Reinsertion(reinsertion)) => match put_reinsertion(
+                alloc,
+                &mut self.filled,
+                &mut self.spare,
+                &mut self.sources,
+                index,
+                &reinsertion,
+            ) {
+                Ok(()) => Ok(Taken::Other),
+                Err(error) => {
+                    self.queue
+                        .push_front_reserved(Submission::Reinsertion(reinsertion));
+                    Err(error)
+                }
+            },
             Some(Submission::Wait { id }) => match put_wait(&mut self.waits, id) {
                 Ok(()) => Ok(Taken::Other),
                 Err(error) => {

@@ -32,6 +32,7 @@ impl<K, V, P, A: Allocator> Flusher<K, V, P, A> {
             settings.block_size,
             settings.blob_index_size,
         )?;
+        let sources = VecDeque::new(alloc.clone()?);
         let pieces = Vec::new(alloc.clone()?);
         Ok(Flusher {
             queue: VecDeque::new(queue_alloc),
@@ -39,6 +40,7 @@ impl<K, V, P, A: Allocator> Flusher<K, V, P, A> {
                 settings.buffer_room(),
                 settings.block_size - settings.blob_index_size,
             ),
+            sources,
             spare: None,
             marks,
             invalid,
@@ -74,7 +76,7 @@ impl<K, V, P, A: Allocator> Flusher<K, V, P, A> {
         ensures { result ≡ is_still self.now }
     {
         self.queue.is_empty()
-            && self.pieces.is_empty()
+            && self.sources.is_empty()
             && self.marks.is_empty()
             && self.waits.is_empty()
             && self.batch.is_none()

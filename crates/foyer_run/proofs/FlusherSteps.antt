@@ -4,11 +4,12 @@ use Rattle.foyer_model.specs.Changes.{Changes}
 use Rattle.foyer_model.specs.Flush.{Begins, Describes, Finishes, Logs, Wrote}
 use Rattle.foyer_model.specs.Follows.{Follows}
 use Rattle.foyer_model.specs.Numbers.{put}
+use Rattle.foyer_model.specs.Queue.{Waits}
 use Rattle.foyer_model.specs.Receive.{TakesFront}
 use Rattle.foyer_model.specs.Reply.{Reply, NotNow, Refused, Done, Empty, Received, Began, Written, NoBlock, Next, Committed, Failed, Ended}
 use Rattle.foyer_model.specs.Rules.{Rules, Splitting}
 use Rattle.foyer_model.specs.State.{Submission, Piece, Remove, Await, Reinsert, Batch, Flusher, State}
-use Rattle.foyer_model.specs.Step.{Step, Receive, FlushBegin, FlushBlock, FlushWrote, LogWrote, FlushEnd}
+use Rattle.foyer_model.specs.Step.{Step, Wait, Receive, FlushBegin, FlushBlock, FlushWrote, LogWrote, FlushEnd}
 use Rattle.foyer_model.specs.World.{World, WorldEvent, Applies, ReadBegins, ReadEnds, ScanBegins, ScanEnds, WriteBegins, WriteEnds, CleanBegins, CleanEnds, MayAllHappen, after, after_all}
 use Rattle.foyer_model.proofs.Basics.{put_other, put_same}
 use Rattle.foyer_run.specs.AtRest.{BeginsNone, KeepsOthers}
@@ -16,6 +17,7 @@ use Rattle.foyer_run.specs.Waiting.{AllSteps}
 
 -- a step of the flushes of this flusher
 abbrev pub IsOf : {C : Type 0} → ℕ → Step C → Type 0
+IsOf f (Wait g id) = g ≡ f
 IsOf f (Receive g) = g ≡ f
 IsOf f (FlushBegin g) = g ≡ f
 IsOf f (FlushBlock g) = g ≡ f
@@ -63,6 +65,10 @@ module _ {C : Type 0} (rules : Rules C) where
       ]
   takes_none c new f queue reply ok = absurd ok
 
+  waits_keeps : (c new : State C) (f id : ℕ) (reply : Reply C) → Waits rules c f id reply new → KeepsOthers f c new
+  waits_keeps c new f id Done ok = put_keeps f c new _ (flushers_of new _ ok)
+  waits_keeps c new f id reply ok = absurd ok
+
   -- only of an empty queue nothing is taken
   pub takes_empty : (c new : State C) (f : ℕ) (queue : List (Submission C)) → TakesFront rules c f queue Empty new → queue ≡ []
   takes_empty c new f [] ok = refl
@@ -103,6 +109,7 @@ module _ {C : Type 0} (rules : Rules C) (Splits : Splitting C) where
   begins_keeps c new f reply ok = absurd ok
 
   changes_keep : (c new : State C) (f : ℕ) (step : Step C) (reply : Reply C) → IsOf f step → Changes rules Splits c step reply new → KeepsOthers f c new
+  changes_keep c new f (Wait g id) reply is ok = subst (λ k. KeepsOthers k c new) is (waits_keeps rules c new g id reply ok)
   changes_keep c new f (Receive g) reply is ok = subst (λ k. KeepsOthers k c new) is (takes_none rules c new g (c.flushers g).queue reply ok).0
   changes_keep c new f (FlushBegin g) reply is ok = subst (λ k. KeepsOthers k c new) is (begins_keeps c new g reply ok)
   changes_keep c new f (FlushBlock g) reply is ok = subst (λ k. KeepsOthers k c new) is (describes_keeps rules c new g (c.flushers g).batch reply ok)

@@ -1,20 +1,32 @@
--- A reclaim keeps flushers that are idle, and what its last step answers.
-use Rattle.std.proofs.Common.{◌≡◌, ℕ, Bool, true, false, if◌then◌else◌, List, [], ◌∷◌, ◌⊎◌, inl, inr, Option, Some, None, refl, sym, ap, subst, ◌∙◌}
+-- Without a filter a reclaim keeps flushers that are idle; and what its last step answers.
+use Rattle.std.proofs.Common.{◌≡◌, ℕ, ◌+◌, Bool, true, false, if◌then◌else◌, List, [], ◌∷◌, ◌⊎◌, inl, inr, Option, Some, None, Ok, Err, refl, sym, ap, subst, ◌∙◌}
+use Rattle.std.specs.Prelude.{Result, nat_le}
+use Rattle.std.specs.List.{AllZip}
+use Rattle.std.specs.declared.vec.Vec.{Vec}
+use Rattle.foyer_device.specs.declared.error.Error.{Error}
+use Rattle.foyer_filter.specs.declared.any.BuiltInCondition.{BuiltInCondition}
+use Rattle.foyer_scan.specs.declared.block.scanner.EntryInfo.{EntryInfo}
+use Rattle.foyer_statistics.specs.declared.state.IoState.{IoState}
+use Rattle.foyer_restart.specs.Restart.{AllRefused}
 use Rattle.foyer_model.specs.Destroy.{IsIdle}
 use Rattle.foyer_model.specs.Follows.{Follows}
-use Rattle.foyer_model.specs.Reclaim.{Cleaned, Forgets, Lists, Picks, Rereads, Scanned}
-use Rattle.foyer_model.specs.Record.{IndexEntry}
+use Rattle.foyer_model.specs.Numbers.{put}
+use Rattle.foyer_model.specs.Reclaim.{Cleaned, Forgets, Lists, Picks, Rereads, Scanned, addresses, admitted, issued_at, place_behind, stage_after, stage_behind}
+use Rattle.foyer_model.specs.Record.{Address, IndexEntry}
 use Rattle.foyer_model.specs.Reply as model_reply
 use Rattle.foyer_model.specs.Rules.{Rules, Splitting}
-use Rattle.foyer_model.specs.State.{BlockSet, State, Stage, AtIndex, AtRecord, AllListed, ToClean, Reclaim}
+use Rattle.foyer_model.specs.State.{State, Stage, AtIndex, AtRecord, AllListed, ToClean, Reclaim}
 use Rattle.foyer_model.specs.Step as model_step
-use Rattle.foyer_model.proofs.Basics.{put_at}
+use Rattle.foyer_model.proofs.Basics.{put_at, put_same}
 use Rattle.foyer_rules.specs.Content.{Content, Meaning}
 use Rattle.foyer_rules.specs.CoreRules.{layout, machine}
 use Rattle.foyer_rules.specs.Sizes.{AreValid}
 use Rattle.foyer_rules.specs.declared.settings.Settings.{Settings}
-use Rattle.foyer_core.specs.Asked.{step_of}
-use Rattle.foyer_core.specs.Reclaiming.{AreReclaimAs, Reclaiming, at_offset, reclaim_at, stage_of}
+use Rattle.foyer_core.specs.Asked.{came_of, step_of}
+use Rattle.foyer_core.specs.Reclaiming.{IsReread, IsVerdictOn, Reclaiming, index_infos, reclaim_at, verdict_list, verdicts_of, wanted_of}
+use Rattle.foyer_core.specs.Scanning.{AreOn, HasJudged, IsJudged}
+use Rattle.foyer_core.specs.declared.block.reclaimer.Wanted.{Wanted}
+use Rattle.foyer_core.specs.declared.block.reclaimer.Wanted.TheVariants as wanted
 use Rattle.foyer_core.specs.Refines.{IsHandedBack, Refines}
 use Rattle.foyer_core.specs.Replied.{IsReply}
 use Rattle.foyer_core.specs.StateOf.{IsStateOf}
@@ -23,33 +35,28 @@ use Rattle.foyer_core.specs.declared.reply.Reply.TheVariants as reply
 use Rattle.foyer_core.specs.declared.state.Core.{Core}
 use Rattle.foyer_core.specs.declared.step.Step.{Step}
 use Rattle.foyer_core.specs.declared.step.Step.TheVariants as step
-use Rattle.foyer_run.specs.AtRest.{KeepsIdle, KeepsOthersIdle, Leads}
-use Rattle.foyer_run.specs.Reclaims.{IsOver}
+use Rattle.foyer_run.specs.AtRest.{KeepsIdle, Leads, Without}
+use Rattle.foyer_run.specs.Reclaims.{IsOver, IsUnread, IsUnreadIn, KeepsUnread}
 use Rattle.foyer_run.proofs.RestLemmas.{leads_more, leads_none}
 
--- a step of a reclaim
+-- a step of a reclaim, but for a read
 abbrev pub IsOfReclaim : {C : Type 0} → model_step.Step C → Type 0
 IsOfReclaim model_step.ReclaimBegin = Unit {0}
-IsOfReclaim (model_step.ReclaimRead b came) = Unit {0}
 IsOfReclaim (model_step.ReclaimForget b) = Unit {0}
 IsOfReclaim (model_step.ReclaimCleaned b is_ok) = Unit {0}
 IsOfReclaim given = ⊥
 
--- no record is read
-abbrev IsUnread : Stage → Type 0
-IsUnread (AtRecord h a rest place) = ⊥
-IsUnread stage = Unit {0}
+-- what a reply's verdicts are
+abbrev given_verdicts : {C : Type 0} → model_reply.Reply C → List Bool
+given_verdicts (model_reply.Scans b offset len vs) = vs
+given_verdicts (model_reply.Listed vs) = vs
+given_verdicts it = []
 
-at_offset_unread : (o : Option ℕ) → IsUnread (at_offset o)
-at_offset_unread None = tt
-at_offset_unread (Some p) = tt
-
-unread_of : (r : Reclaiming) → IsUnread (stage_of r)
-unread_of r = go r.is_forgotten
-  where
-    go : (t : Bool) → IsUnread (if t then ToClean else at_offset r.scan.blob_offset)
-    go true = tt
-    go false = at_offset_unread r.scan.blob_offset
+none_admitted : (vs : List Bool) (ps : List (ℕ × Address)) → AllRefused vs → admitted vs ps ≡ []
+none_admitted [] ps none = refl
+none_admitted (false ∷ vs) [] none = refl
+none_admitted (false ∷ vs) (p ∷ ps) none = none_admitted vs ps none
+none_admitted (true ∷ vs) ps none = absurd none
 
 module _ {C : Type 0} (rules : Rules C) where
   same_idle : (old new : State C) → new.flushers ≡ old.flushers → KeepsIdle old new
@@ -80,47 +87,184 @@ module _ {C : Type 0} (rules : Rules C) where
   cleaned_idle old new b model_reply.Done (inr (nobody, eq)) = same_idle old new (ap (λ c. c.flushers) eq)
   cleaned_idle old new b it ok = absurd ok
 
+  index_unread : (old : State C) (place : ℕ) → IsUnread (stage_after rules old [] place)
+  index_unread old place = go (nat_le (place + rules.index_size) rules.block_size)
+    where
+      go : (t : Bool) → IsUnread (if t then AtIndex place else AllListed)
+      go true = tt
+      go false = tt
+
+  verdicts_issued : (old : State C) (b : ℕ) (stage : Stage) (vs : List Bool) → given_verdicts (issued_at rules old b stage vs) ≡ vs
+  verdicts_issued old b (AtIndex place) vs = refl
+  verdicts_issued old b (AtRecord h a rest place) vs = refl
+  verdicts_issued old b AllListed vs = refl
+  verdicts_issued old b ToClean vs = refl
+
+  goes_unread : (old new : State C) (b : ℕ) (r : Reclaim) → IsUnread r.stage → new ≡ record old { reclaims = put old.reclaims b (Some r) } → IsUnreadIn (new.reclaims b)
+  goes_unread old new b r unread is = subst (λ c. IsUnreadIn (c.reclaims b)) (sym is) (subst IsUnreadIn (sym (put_same old.reclaims b (Some r))) unread)
+
+  -- an index without an admitted entry leads to no record
+  lists_unread : (old new : State C) (b : ℕ) (r : Reclaim) (place : ℕ) (es : Option (List IndexEntry)) (it : model_reply.Reply C) → AllRefused (given_verdicts it) → Lists rules old b r place es it new → IsUnreadIn (new.reclaims b)
+  lists_unread old new b r place None it refused ok = goes_unread old new b (record r { stage = AllListed }) tt ok.1
+  lists_unread old new b r place (Some es) it refused (vs, count, issued, eq) =
+      goes_unread old new b (record r { stage = stage_behind rules old b place es vs; listed = _ })
+      (subst (λ ps. IsUnread (stage_after rules old ps (place_behind rules.page_up rules.block_size place es))) (sym (none_admitted vs (addresses b (old.filling b) place es) none)) (index_unread old _)) eq
+    where
+      none : AllRefused vs
+      none = subst AllRefused (ap given_verdicts issued ∙ verdicts_issued old b (stage_behind rules old b place es vs) vs) refused
+
+  scanned_unread : (old new : State C) (b : ℕ) (r : Reclaim) (stage : Stage) (came : model_step.ReadResult) (it : model_reply.Reply C) → IsUnread stage → AllRefused (given_verdicts it)
+      → Scanned rules old b r stage came it new → IsUnreadIn (new.reclaims b)
+  scanned_unread old new b r (AtIndex place) model_step.Fault it unread refused ok = goes_unread old new b (record r { stage = AllListed }) tt ok.1
+  scanned_unread old new b r (AtIndex place) (model_step.Bytes bs) it unread refused ok = lists_unread old new b r place (rules.entries_of place bs) it refused ok
+  scanned_unread old new b r (AtRecord h a rest place) came it unread refused ok = absurd unread
+  scanned_unread old new b r stage came it unread refused ok = absurd ok
+
   module _ (Splits : Splitting C) where
-    -- where no record is read, a step of a reclaim keeps idle flushers
-    pub follows_idle : (old new : State C) (given : model_step.Step C) (it : model_reply.Reply C) → ((b : ℕ) (r : Reclaim) → old.reclaims b ≡ Some r → IsUnread r.stage) → IsOfReclaim given → Follows rules Splits old given it new → KeepsIdle old new
-    follows_idle old new given (model_reply.NotNow back) unread is ok = same_idle old new (ap (λ c. c.flushers) ok.2)
-    follows_idle old new given (model_reply.Refused kind back) unread is ok = same_idle old new (ap (λ c. c.flushers) ok.2)
-    follows_idle old new given it unread is (few, turn, (done, does, eq)) =
+    -- a read whose verdicts admit nothing, where no record is read
+    read_unread : (old new : State C) (b : ℕ) (came : model_step.ReadResult) (it : model_reply.Reply C) → AllRefused (given_verdicts it) → Follows rules Splits old (model_step.ReclaimRead b came) it new → KeepsUnread b old new
+    read_unread old new b came (model_reply.NotNow back) refused ok = λ unread.
+        (same_idle old new (ap (λ c. c.flushers) ok.2), subst (λ c. IsUnreadIn (c.reclaims b)) (sym ok.2) unread)
+    read_unread old new b came (model_reply.Refused kind back) refused ok = λ unread.
+        (same_idle old new (ap (λ c. c.flushers) ok.2), subst (λ c. IsUnreadIn (c.reclaims b)) (sym ok.2) unread)
+    read_unread old new b came it refused (few, turn, (done, does, eq)) = λ unread.
+        let goes = go (old.reclaims b) unread does in
+        (λ f idle. subst (λ c. IsIdle (c.flushers f)) (sym eq) (goes.0 f idle), subst (λ c. IsUnreadIn (c.reclaims b)) (sym eq) goes.1)
+      where
+        go : (r : Option Reclaim) → IsUnreadIn r → Rereads rules old b r came it done → KeepsIdle old done × IsUnreadIn (done.reclaims b)
+        go None unread ok = absurd ok
+        go (Some r) unread ok = (same_idle old done (scanned_same old done b r r.stage came it unread ok), scanned_unread old done b r r.stage came it unread refused ok)
+
+    -- a block is picked
+    picked_unread : (old new : State C) (b : ℕ) (answers : List (Option ℕ)) (probation : List ℕ) → Follows rules Splits old model_step.ReclaimBegin (model_reply.Picked b answers probation) new → IsUnreadIn (new.reclaims b)
+    picked_unread old new b answers probation (few, turn, (done, does, eq)) =
+        subst (λ c. IsUnreadIn (c.reclaims b)) (sym eq)
+        (subst (λ c. IsUnreadIn (c.reclaims b)) (sym does.4) (subst IsUnreadIn (sym (put_same old.reclaims b (Some (record { stage = AtIndex 0; listed = []; requeued = [] })))) tt))
+
+    -- each other step of a reclaim keeps idle flushers
+    pub follows_idle : (old new : State C) (given : model_step.Step C) (it : model_reply.Reply C) → IsOfReclaim given → Follows rules Splits old given it new → KeepsIdle old new
+    follows_idle old new given (model_reply.NotNow back) is ok = same_idle old new (ap (λ c. c.flushers) ok.2)
+    follows_idle old new given (model_reply.Refused kind back) is ok = same_idle old new (ap (λ c. c.flushers) ok.2)
+    follows_idle old new given it is (few, turn, (done, does, eq)) =
         λ f idle. subst (λ c. IsIdle (c.flushers f)) (sym eq) (go given is does f idle)
       where
         go : (given : model_step.Step C) → IsOfReclaim given → Rattle.foyer_model.specs.Changes.Changes rules Splits old given it done → KeepsIdle old done
         go model_step.ReclaimBegin is ok = same_idle old done (picks_same old done it ok)
-        go (model_step.ReclaimRead b came) is ok = rereads (old.reclaims b) refl ok
-          where
-            rereads : (r : Option Reclaim) → old.reclaims b ≡ r → Rereads rules old b r came it done → KeepsIdle old done
-            rereads None e ok = absurd ok
-            rereads (Some r) e ok = same_idle old done (scanned_same old done b r r.stage came it (unread b r e) ok)
         go (model_step.ReclaimForget b) is ok = same_idle old done (forgets_same old done b (old.reclaims b) it ok)
         go (model_step.ReclaimCleaned b is_ok) is ok = cleaned_idle old done b it ok
         go given is ok = absurd is
 
+-- what a reply's verdicts are
+abbrev answered_verdicts : {K V P A : Type 0} → Reply K V P A → List Bool
+answered_verdicts (reply.Scan b offset len vs) = verdicts_of vs
+answered_verdicts (reply.Listed vs) = verdicts_of vs
+answered_verdicts answer = []
+
+-- verdicts without a filter
+none_judged : (io : IoState) (infos : List EntryInfo) (vs : List Bool) → AllZip (IsVerdictOn None io) infos vs → AllRefused vs
+none_judged io [] [] all = tt
+none_judged io (i ∷ is) (true ∷ vs) all = absurd (let clash : true ≡ false = all.0 in cc)
+none_judged io (i ∷ is) (false ∷ vs) all = none_judged io is vs all.1
+none_judged io [] (v ∷ vs) all = absurd all
+none_judged io (i ∷ is) [] all = absurd all
+
+none_reread : (io : IoState) (infos : Option (List EntryInfo)) (vs : List Bool) → IsReread None io infos (Some vs) → AllRefused vs
+none_reread io None vs reread = absurd reread
+none_reread io (Some infos) vs reread = none_judged io infos vs reread
+
+none_on : (io : IoState) (bytes : List ℕ) (r : Reclaiming) (w : Option Wanted) (vs : List Bool) → AreOn None io bytes r w (Some vs) → AllRefused vs
+none_on io bytes r (Some (wanted.Index place)) vs on = none_reread io (index_infos bytes r) vs on
+none_on io bytes r (Some (wanted.Record e)) vs on = absurd (let clash : Some vs ≡ None = on in cc)
+none_on io bytes r None vs on = absurd (let clash : Some vs ≡ None = on in cc)
+
+none_given : {A : Type 0} (io : IoState) (came : Result (Vec ℕ A) Error) (o : Option Reclaiming) (vs : Option (Vec Bool A)) → HasJudged None io came o (verdict_list vs) → AllRefused (verdicts_of vs)
+none_given io came o None has = tt
+none_given io (Ok bytes) (Some r) (Some v) has = none_on io bytes.items r (wanted_of r) v.items has
+none_given io (Ok bytes) None (Some v) has = absurd (let clash : Some v.items ≡ None = has in cc)
+none_given io (Err e) o (Some v) has = absurd (let clash : Some v.items ≡ None = has in cc)
+
+none_answered : {K V P A : Type 0} (io : IoState) (b : ℕ) (came : Result (Vec ℕ A) Error) (answer : Reply K V P A) (core : Core K V P A) → IsJudged None io b came answer core → AllRefused (answered_verdicts answer)
+none_answered io b came (reply.Scan c offset len vs) core judged = none_given io came (reclaim_at core.reclaims b) vs judged
+none_answered io b came (reply.Listed vs) core judged = none_given io came (reclaim_at core.reclaims b) vs judged
+none_answered io b came answer core judged = tt
+
 module _ {K V P A : Type 0} (m : Meaning K V P) where
-  -- a core reads no record
-  all_unread : (s : Settings) (core : Core K V P A) (it : State Content) → IsStateOf m s core it → (b : ℕ) (r : Reclaim) → it.reclaims b ≡ Some r → IsUnread r.stage
-  all_unread s core it at b r is = go (it.place b) (it.filling b) (reclaim_at core.reclaims b) (it.reclaims b) (at.reclaims b) is
-    where
-      go : (place : BlockSet) (filling : ℕ) (x : Option Reclaiming) (y : Option Reclaim) → AreReclaimAs s b place filling x y → y ≡ Some r → IsUnread r.stage
-      go place filling None None are e = absurd (let f : None ≡ Some r = e in cc)
-      go place filling None (Some k) are e = absurd are
-      go place filling (Some q) None are e = absurd are
-      go place filling (Some q) (Some k) are e = let f : Some k ≡ Some r = e in let same : k ≡ r = cc in
-          subst (λ i. IsUnread i.stage) same (subst IsUnread (sym (are.1).stage) (unread_of q))
+  same_verdicts : (answer : Reply K V P A) (it : model_reply.Reply Content) → IsReply m answer it → given_verdicts it ≡ answered_verdicts answer
+  same_verdicts (reply.NotNow back) it is = ap given_verdicts is
+  same_verdicts (reply.Refused why back) it is = ap given_verdicts is.2
+  same_verdicts (reply.Ignored piece) it is = ap given_verdicts is
+  same_verdicts (reply.Queued q) it is = ap given_verdicts is
+  same_verdicts (reply.Deleted q) it is = ap given_verdicts is
+  same_verdicts reply.Done it is = ap given_verdicts is
+  same_verdicts (reply.Answer b) it is = ap given_verdicts is
+  same_verdicts reply.Miss it is = ap given_verdicts is
+  same_verdicts reply.Throttled it is = ap given_verdicts is
+  same_verdicts (reply.Read t) it is = ap given_verdicts is
+  same_verdicts (reply.Entry key value age) it is = ap given_verdicts is
+  same_verdicts reply.Empty it is = ap given_verdicts is
+  same_verdicts (reply.Received back) it is = ap given_verdicts is
+  same_verdicts (reply.Began blocks marks) it is = ap given_verdicts is.2
+  same_verdicts (reply.Write block writes) it is = ap given_verdicts is
+  same_verdicts reply.NoBlock it is = ap given_verdicts is
+  same_verdicts reply.Next it is = ap given_verdicts is
+  same_verdicts (reply.Committed n) it is = ap given_verdicts is
+  same_verdicts reply.Failed it is = ap given_verdicts is
+  same_verdicts (reply.Ended pieces waits) it is = ap given_verdicts is.2
+  same_verdicts (reply.Picked b answers probation) it is = ap given_verdicts is
+  same_verdicts (reply.Scan block offset len verdicts) it is = ap given_verdicts is
+  same_verdicts (reply.Listed verdicts) it is = ap given_verdicts is
+  same_verdicts (reply.Clean block) it is = ap given_verdicts is
+  same_verdicts (reply.Destroying q) it is = ap given_verdicts is
+  same_verdicts reply.Cleared it is = ap given_verdicts is.1
+  same_verdicts (reply.Destroyed first) it is = ap given_verdicts is.2
 
-  pub idle_kept : (given : Step K V P A) (answer : Reply K V P A) (old new : Core K V P A) → IsOfReclaim (step_of m given) → Refines m given answer old new → Leads m KeepsIdle old new
-  idle_kept given answer old new is refines = λ s sound it at.
+  -- a read that is judged by no filter
+  pub unread_kept : (filter : Option (List BuiltInCondition)) (io : IoState) (b : ℕ) (outcome : Result (Vec ℕ A) Error) (answer : Reply K V P A) (old new : Core K V P A)
+      → IsJudged filter io b outcome answer old → Refines m (step.ReclaimRead b outcome) answer old new → Leads m (Without filter (KeepsUnread b)) old new
+  unread_kept filter io b outcome answer old new judged refines = λ s sound it at.
+      let met = refines s sound it at in (
+        met.after,
+        met.stands,
+        λ none.
+            let refused : AllRefused (answered_verdicts answer) = none_answered io b outcome answer old (subst (λ f. IsJudged f io b outcome answer old) none judged) in
+            read_unread (machine m s sound) (layout s) it met.after b (came_of outcome) met.it (subst AllRefused (sym (same_verdicts answer met.it met.reply)) refused) met.follows,
+      )
+
+  pub unread_none : (filter : Option (List BuiltInCondition)) (b : ℕ) (core : Core K V P A) → Leads m (Without filter (KeepsUnread b)) core core
+  unread_none filter b core = leads_none m (Without filter (KeepsUnread b)) core (λ it none unread. ((λ f idle. idle), unread))
+
+  pub unread_more : (filter other : Option (List BuiltInCondition)) (b : ℕ) (a c d : Core K V P A) → other ≡ filter
+      → Leads m (Without filter (KeepsUnread b)) a c → Leads m (Without other (KeepsUnread b)) c d → Leads m (Without filter (KeepsUnread b)) a d
+  unread_more filter other b a c d same one two =
+      leads_more m (Without filter (KeepsUnread b)) (Without other (KeepsUnread b)) (Without filter (KeepsUnread b)) a c d
+      (λ x y z first next none unread.
+      let f = first none unread in
+      let g = next (same ∙ none) f.1 in
+      ((λ k idle. g.0 k (f.0 k idle)), g.1)) one two
+
+  -- from the pick of a block on
+  pub unread_picked : (filter other : Option (List BuiltInCondition)) (b : ℕ) (answers : _) (probation : _) (old begun read : Core K V P A) → other ≡ filter
+      → Refines m step.ReclaimBegin (reply.Picked b answers probation) old begun → Leads m (Without other (KeepsUnread b)) begun read → Leads m (Without filter KeepsIdle) old read
+  unread_picked filter other b answers probation old begun read same begins led = λ s sound it at.
+      let met = begins s sound it at in
+      let next = led s sound met.after met.stands in (
+        next.0,
+        next.1,
+        λ none f idle.
+            let rules = machine m s sound in
+            let picked = subst (λ i. Follows rules (layout s) it model_step.ReclaimBegin i met.after) met.reply met.follows in
+            (next.2 (same ∙ none) (picked_unread rules (layout s) it met.after b answers.items probation.items picked)).0 f
+            (follows_idle rules (layout s) it met.after model_step.ReclaimBegin met.it tt met.follows f idle),
+      )
+
+  pub idle_kept : (filter : Option (List BuiltInCondition)) (given : Step K V P A) (answer : Reply K V P A) (old new : Core K V P A) → IsOfReclaim (step_of m given) → Refines m given answer old new → Leads m (Without filter KeepsIdle) old new
+  idle_kept filter given answer old new is refines = λ s sound it at.
       let met = refines s sound it at in
-      (met.after, met.stands, follows_idle (machine m s sound) (layout s) it met.after (step_of m given) met.it (all_unread s old it at) is met.follows)
+      (met.after, met.stands, λ none. follows_idle (machine m s sound) (layout s) it met.after (step_of m given) met.it is met.follows)
 
-  pub idle_none : (core : Core K V P A) → Leads m KeepsIdle core core
-  idle_none core = leads_none m KeepsIdle core (λ it f idle. idle)
-
-  pub idle_more : (a b c : Core K V P A) → Leads m KeepsIdle a b → Leads m KeepsIdle b c → Leads m KeepsIdle a c
-  idle_more a b c one two = leads_more m KeepsIdle KeepsIdle KeepsIdle a b c (λ x y z first next f idle. next f (first f idle)) one two
+  pub idle_more : (filter : Option (List BuiltInCondition)) (a b c : Core K V P A) → Leads m (Without filter KeepsIdle) a b → Leads m (Without filter KeepsIdle) b c → Leads m (Without filter KeepsIdle) a c
+  idle_more filter a b c one two =
+      leads_more m (Without filter KeepsIdle) (Without filter KeepsIdle) (Without filter KeepsIdle) a b c (λ x y z first next none f idle. next none f (first none f idle)) one two
 
 -- what a reply is of
 data Sort : Type 0 where
@@ -238,8 +382,8 @@ module _ {K V P A : Type 0} (m : Meaning K V P) where
       ]
 
   -- what leads to a step may come before it
-  pub over_behind : (a b : Core K V P A) (answer : Reply K V P A) → Leads m KeepsIdle a b → IsOver m b answer → IsOver m a answer
-  over_behind a b answer leads over s sound it at = let led = leads s sound it at in over s sound led.0 led.1
+  pub over_behind : (R : State Content → State Content → Type 0) (a b : Core K V P A) (answer : Reply K V P A) → Leads m R a b → IsOver m b answer → IsOver m a answer
+  over_behind R a b answer leads over s sound it at = let led = leads s sound it at in over s sound led.0 led.1
 
   pub forget_over : (block : ℕ) (answer : Reply K V P A) (old new : Core K V P A) → ((b : ℕ) → answer ≡ reply.Clean b → ⊥) → Refines m (step.ReclaimForget block) answer old new → IsOver m old answer
   forget_over block answer old new not refines s sound it at =

@@ -1,5 +1,5 @@
 -- What leads a core to rest: the steps of a flush, one after the other.
-use Rattle.std.proofs.Common.{◌≡◌, ◌≢◌, ℕ, ◌+◌, ◌<◌, ◌⊎◌, Bool, true, false, List, [], ◌∷◌, inl, inr, refl, sym, ap, subst, ◌∙◌, arith}
+use Rattle.std.proofs.Common.{◌≡◌, ◌≢◌, ℕ, ◌+◌, ◌<◌, ◌⊎◌, Bool, true, false, List, [], ◌∷◌, Option, inl, inr, refl, sym, ap, subst, ◌∙◌, arith}
 use Rattle.std.proofs.lemmas.Bool.{cases_lt}
 use Rattle.foyer_model.specs.Destroy.{IsIdle}
 use Rattle.foyer_model.specs.Follows.{Follows}
@@ -22,7 +22,7 @@ use Rattle.foyer_core.specs.declared.step.Step.{Step}
 use Rattle.foyer_core.specs.declared.step.Step.TheVariants as step
 use Rattle.foyer_core.proofs.RefinesLemmas.{IsOrdinary}
 use Rattle.foyer_run.specs.Accesses.{AsksNoMore}
-use Rattle.foyer_run.specs.AtRest.{BeginsNone, ComesToRest, EndsBatch, EndsBatchOnce, KeepsOthers, KeepsIdle, KeepsOthersIdle, Leads, LeavesAllIdle, LeavesIdle, LeavesIdleBelow, MayNotBegin, TakesQueue, TakesQueueIf}
+use Rattle.foyer_run.specs.AtRest.{BeginsNone, ComesToRest, EndsBatch, EndsBatchOnce, KeepsOthers, KeepsIdle, KeepsOthersIdle, Leads, LeavesAllIdle, LeavesIdle, LeavesIdleBelow, MayNotBegin, TakesQueue, TakesQueueIf, Without}
 use Rattle.foyer_run.proofs.FlusherSteps.{begins_none_more, described_next, finishes_ends, follows_keep, keeps_more, keeps_same, receives_none, takes_empty, wrote_next}
 use Rattle.foyer_run.proofs.IdleLemmas.{idle_in_each}
 use Rattle.foyer_run.proofs.ReplyLemmas.{ordinary}
@@ -143,6 +143,11 @@ module _ {K V P A : Type 0} (m : Meaning K V P) where
         let met = refines s sound it at in
         (met.after, met.stands, follows_keep (machine m s sound) (layout s) it met.after f (model_step.FlushBegin f) met.it refl met.follows)
 
+    pub wait_keeps : (id : ℕ) → Refines m (step.Wait f id) answer a b → Leads m (KeepsOthers f) a b
+    wait_keeps id refines = λ s sound it at.
+        let met = refines s sound it at in
+        (met.after, met.stands, follows_keep (machine m s sound) (layout s) it met.after f (model_step.Wait f id) met.it refl met.follows)
+
     pub block_keeps : Refines m (step.FlushBlock f) answer a b → Leads m (KeepsOthers f) a b
     block_keeps refines = λ s sound it at.
         let met = refines s sound it at in
@@ -193,24 +198,24 @@ module _ {K V P A : Type 0} (m : Meaning K V P) where
 -- one relation after another
 
 -- what has what it had is idle where it was
-pub keeps_idle : {C : Type 0} (f : ℕ) (x y : State C) → KeepsOthers f x y → KeepsOthersIdle f x y
-keeps_idle f x y keeps g ne idle = subst IsIdle (sym (keeps g ne)) idle
+pub keeps_idle : {C F : Type 0} (filter : Option F) (f : ℕ) (x y : State C) → KeepsOthers f x y → KeepsOthersIdle filter f x y
+keeps_idle filter f x y keeps none g ne idle = subst IsIdle (sym (keeps g ne)) idle
 
-idle_more : {C : Type 0} (f : ℕ) (x y z : State C) → KeepsOthersIdle f x y → KeepsOthersIdle f y z → KeepsOthersIdle f x z
-idle_more f x y z one two g ne idle = two g ne (one g ne idle)
+idle_more : {C F : Type 0} (filter : Option F) (f : ℕ) (x y z : State C) → KeepsOthersIdle filter f x y → KeepsOthersIdle filter f y z → KeepsOthersIdle filter f x z
+idle_more filter f x y z one two none g ne idle = two none g ne (one none g ne idle)
 
 takes_then : {C : Type 0} (f : ℕ) (x y z : State C) → BeginsNone f x y → TakesQueue f y z → TakesQueue f x z
 takes_then f x y z one two = (begins_none_more f x y z one two.0, two.1)
 
 -- what a turn of a flush did before, and what it takes
-once_then : {C : Type 0} (has_ended : Bool) (f : ℕ) (x y z : State C) → EndsBatchOnce has_ended f x y → TakesQueue f y z
-    → EndsBatchOnce has_ended f x z × ((z.flushers f).queue ≡ [])
-once_then has_ended f x y z one two = ((idle_more f x y z one.0 (keeps_idle f y z (two.0).0), λ ended. (two.0).1 (one.1 ended)), two.1)
+once_then : {C F : Type 0} (filter : Option F) (has_ended : Bool) (f : ℕ) (x y z : State C) → EndsBatchOnce filter has_ended f x y → TakesQueue f y z
+    → EndsBatchOnce filter has_ended f x z × ((z.flushers f).queue ≡ [])
+once_then filter has_ended f x y z one two = ((idle_more filter f x y z one.0 (keeps_idle filter f y z (two.0).0), λ ended. (two.0).1 (one.1 ended)), two.1)
 
 -- after a batch that is over, with an empty queue, a flusher that may not begin is idle
-idle_then : {C : Type 0} (has_ended : Bool) → has_ended ≡ true → (f : ℕ) (x y z : State C)
-    → EndsBatchOnce has_ended f x y × ((y.flushers f).queue ≡ []) → MayNotBegin f y z → LeavesIdle f x z
-idle_then has_ended ended f x y z one two =
+idle_then : {C F : Type 0} (filter : Option F) (has_ended : Bool) → has_ended ≡ true → (f : ℕ) (x y z : State C)
+    → EndsBatchOnce filter has_ended f x y × ((y.flushers f).queue ≡ []) → MayNotBegin f y z → LeavesIdle filter f x z
+idle_then filter has_ended ended f x y z one two =
     let none = (one.0).1 ended in
     let unreceived = two.1 none in
     let idle : IsIdle (y.flushers f) = (
@@ -220,28 +225,29 @@ idle_then has_ended ended f x y z one two =
       none_received (y.flushers f).waits (λ some. unreceived (inr (inr some))),
       none,
     ) in
-    (idle_more f x y z (one.0).0 (keeps_idle f y z (keeps_same f y z two.0)), subst (λ k. IsIdle (k.flushers f)) (sym two.0) idle)
+    (idle_more filter f x y z (one.0).0 (keeps_idle filter f y z (keeps_same f y z two.0)), subst (λ k. IsIdle (k.flushers f)) (sym two.0) idle)
 
-ended_then : {C : Type 0} (f : ℕ) (x y z : State C) → KeepsOthersIdle f x y → EndsBatch f y z → EndsBatchOnce true f x z
-ended_then f x y z one two = (idle_more f x y z one (keeps_idle f y z two.0), λ ended. two.1)
+ended_then : {C F : Type 0} (filter : Option F) (f : ℕ) (x y z : State C) → KeepsOthersIdle filter f x y → EndsBatch f y z → EndsBatchOnce filter true f x z
+ended_then filter f x y z one two = (idle_more filter f x y z one (keeps_idle filter f y z two.0), λ ended. two.1)
 
 -- one more flusher is idle
-below_then : {C : Type 0} (n next : ℕ) → next ≡ n + 1 → (x y z : State C) → LeavesIdleBelow n x y → LeavesIdle n y z → LeavesIdleBelow next x z
-below_then n next e x y z one two = λ f lt.
+below_then : {C F : Type 0} (filter : Option F) (n next : ℕ) → next ≡ n + 1 → (x y z : State C) → LeavesIdleBelow filter n x y → LeavesIdle filter n y z → LeavesIdleBelow filter next x z
+below_then filter n next e x y z one two = λ none f lt.
     elim (cases_lt f n) [
-      | inl less ↦ two.0 f (λ same. absurd (omega (arith, less, same))) (one f less)
+      | inl less ↦ two.0 none f (λ same. absurd (omega (arith, less, same))) (one none f less)
       | inr more ↦ let same : f ≡ n = omega (arith, lt, more, e) in subst (λ g. IsIdle (z.flushers g)) (sym same) two.1
     ]
 
 -- so are all
-pub all_idle : {K V P A : Type 0} (m : Meaning K V P) (a b : Core K V P A) (n : ℕ) → n ≡ a.settings.flushers → Leads m (LeavesIdleBelow n) a b → Leads m LeavesAllIdle a b
-all_idle m a b n is leads = λ s sound it at.
+pub all_idle : {K V P A F : Type 0} (m : Meaning K V P) (filter : Option F) (a b : Core K V P A) (n : ℕ) → n ≡ a.settings.flushers → Leads m (LeavesIdleBelow filter n) a b
+    → Leads m (Without filter LeavesAllIdle) a b
+all_idle m filter a b n is leads = λ s sound it at.
     let led = leads s sound it at in
     let count : n ≡ s.flushers = is ∙ ap (λ k. k.flushers) at.sizes in (
       led.0,
       led.1,
-      λ f. elim (cases_lt f n) [
-        | inl lt ↦ led.2 f lt
+      λ none f. elim (cases_lt f n) [
+        | inl lt ↦ led.2 none f lt
         | inr le ↦ ((led.1).flushers).beyond f (omega (arith, le, count))
       ],
     )
@@ -256,17 +262,9 @@ module _ {K V P A : Type 0} (m : Meaning K V P) (f : ℕ) (a b c : Core K V P A)
     pub receive_over : SaysNothing answer → Leads m (BeginsNone f) a b → Refines m (step.Receive f) answer b c → Leads m (TakesQueue f) a c
     receive_over nothing led refines = leads_more m (BeginsNone f) (TakesQueue f) (TakesQueue f) a b c (takes_then f) led (receive_ends m f answer b c nothing refines)
 
-  -- one more block is written
-  pub write_more : Leads m (KeepsOthersIdle f) a b → Leads m (KeepsOthers f) b c → Leads m (KeepsOthersIdle f) a c
-  write_more led writes = leads_more m (KeepsOthersIdle f) (KeepsOthers f) (KeepsOthersIdle f) a b c (λ x y z one two. idle_more f x y z one (keeps_idle f y z two)) led writes
-
-  -- one more block is reclaimed
-  pub reclaim_more : Leads m (KeepsOthersIdle f) a b → Leads m KeepsIdle b c → Leads m (KeepsOthersIdle f) a c
-  reclaim_more led reclaims = leads_more m (KeepsOthersIdle f) KeepsIdle (KeepsOthersIdle f) a b c (λ x y z one two g ne idle. two g (one g ne idle)) led reclaims
-
   -- one more flusher is idle
-  pub flusher_more : (next : ℕ) → next ≡ f + 1 → Leads m (LeavesIdleBelow f) a b → Leads m (LeavesIdle f) b c → Leads m (LeavesIdleBelow next) a c
-  flusher_more next is led idle = leads_more m (LeavesIdleBelow f) (LeavesIdle f) (LeavesIdleBelow next) a b c (below_then f next is) led idle
+  pub flusher_more : {F : Type 0} (filter : Option F) (next : ℕ) → next ≡ f + 1 → Leads m (LeavesIdleBelow filter f) a b → Leads m (LeavesIdle filter f) b c → Leads m (LeavesIdleBelow filter next) a c
+  flusher_more filter next is led idle = leads_more m (LeavesIdleBelow filter f) (LeavesIdle filter f) (LeavesIdleBelow filter next) a b c (below_then filter f next is) led idle
 
 -- the same, where it is said whether the queue is taken up to its end
 pub takes_all : {K V P A : Type 0} (m : Meaning K V P) (f : ℕ) (a b : Core K V P A) → Leads m (TakesQueue f) a b → Leads m (TakesQueueIf true f) a b
@@ -279,22 +277,22 @@ took_all : {K V P A : Type 0} (m : Meaning K V P) (f : ℕ) (is_empty : Bool) (a
 took_all m f is_empty a b empty led = λ s sound it at. let l = led s sound it at in (l.0, l.1, (l.2.0, l.2.1 empty))
 
 -- a turn of a flush, up to its batch: from what the turns before did, the queue is taken
-module _ {K V P A : Type 0} (m : Meaning K V P) (f : ℕ) (has_ended is_empty : Bool) (a b c d : Core K V P A) (led : Leads m (EndsBatchOnce has_ended f) a b)
+module _ {K V P A F : Type 0} (m : Meaning K V P) (filter : Option F) (f : ℕ) (has_ended is_empty : Bool) (a b c d : Core K V P A) (led : Leads m (EndsBatchOnce filter has_ended f) a b)
     (taken : Leads m (TakesQueueIf is_empty f) b c) where
   -- and a batch may not begin
-  pub flush_over : (begun : Reply K V P A) → has_ended ≡ true → is_empty ≡ true → SaysNothing begun → Refines m (step.FlushBegin f) begun c d → Leads m (LeavesIdle f) a d
+  pub flush_over : (begun : Reply K V P A) → has_ended ≡ true → is_empty ≡ true → SaysNothing begun → Refines m (step.FlushBegin f) begun c d → Leads m (LeavesIdle filter f) a d
   flush_over begun ended empty nothing begins =
-      leads_more m (λ x y. EndsBatchOnce has_ended f x y × ((y.flushers f).queue ≡ [])) (MayNotBegin f) (LeavesIdle f) a c d (idle_then has_ended ended f)
-      (leads_more m (EndsBatchOnce has_ended f) (TakesQueue f) (λ x y. EndsBatchOnce has_ended f x y × ((y.flushers f).queue ≡ [])) a b c (once_then has_ended f) led (took_all m f is_empty b c empty taken))
+      leads_more m (λ x y. EndsBatchOnce filter has_ended f x y × ((y.flushers f).queue ≡ [])) (MayNotBegin f) (LeavesIdle filter f) a c d (idle_then filter has_ended ended f)
+      (leads_more m (EndsBatchOnce filter has_ended f) (TakesQueue f) (λ x y. EndsBatchOnce filter has_ended f x y × ((y.flushers f).queue ≡ [])) a b c (once_then filter has_ended f) led (took_all m f is_empty b c empty taken))
       (begin_not m f begun c d nothing begins)
 
   -- or one begins and goes on to its end
-  pub flush_more : Leads m (KeepsOthers f) c d → (ended : Reply K V P A) (e g : Core K V P A) → (IsHandedBack ended → ⊥) → Leads m (KeepsOthersIdle f) d e → Refines m (step.FlushEnd f) ended e g
-      → Leads m (EndsBatchOnce true f) a g
+  pub flush_more : Leads m (KeepsOthers f) c d → (ended : Reply K V P A) (e g : Core K V P A) → (IsHandedBack ended → ⊥) → Leads m (KeepsOthersIdle filter f) d e → Refines m (step.FlushEnd f) ended e g
+      → Leads m (EndsBatchOnce filter true f) a g
   flush_more begins ended e g not written ends =
-      leads_more m (KeepsOthersIdle f) (EndsBatch f) (EndsBatchOnce true f) a e g (ended_then f)
-      (leads_more m (KeepsOthersIdle f) (KeepsOthersIdle f) (KeepsOthersIdle f) a d e (idle_more f)
-      (leads_more m (KeepsOthersIdle f) (KeepsOthers f) (KeepsOthersIdle f) a c d (λ x y z one two. idle_more f x y z one (keeps_idle f y z two))
-      (leads_more m (EndsBatchOnce has_ended f) (TakesQueueIf is_empty f) (KeepsOthersIdle f) a b c (λ x y z one two. idle_more f x y z one.0 (keeps_idle f y z (two.0).0)) led taken)
+      leads_more m (KeepsOthersIdle filter f) (EndsBatch f) (EndsBatchOnce filter true f) a e g (ended_then filter f)
+      (leads_more m (KeepsOthersIdle filter f) (KeepsOthersIdle filter f) (KeepsOthersIdle filter f) a d e (idle_more filter f)
+      (leads_more m (KeepsOthersIdle filter f) (KeepsOthers f) (KeepsOthersIdle filter f) a c d (λ x y z one two. idle_more filter f x y z one (keeps_idle filter f y z two))
+      (leads_more m (EndsBatchOnce filter has_ended f) (TakesQueueIf is_empty f) (KeepsOthersIdle filter f) a b c (λ x y z one two. idle_more filter f x y z one.0 (keeps_idle filter f y z (two.0).0)) led taken)
       begins) written)
       (end_leads m f ended e g not ends)

@@ -1,5 +1,5 @@
 -- Flushers that have nothing left to do, and what leads a core there.
-use Rattle.std.specs.Prelude.{◌≡◌, ◌≢◌, ℕ, ◌<◌, Bool, true, [], None}
+use Rattle.std.specs.Prelude.{◌≡◌, ◌≢◌, ℕ, ◌<◌, Bool, true, [], Option, None}
 use Rattle.foyer_model.specs.Destroy.{IsIdle}
 use Rattle.foyer_model.specs.Receive.{HasReceived}
 use Rattle.foyer_model.specs.State.{State}
@@ -34,9 +34,13 @@ KeepsOthers f old new = (g : ℕ) → g ≢ f → new.flushers g ≡ old.flusher
 abbrev pub KeepsIdle : {C : Type 0} → State C → State C → Type 0
 KeepsIdle old new = (f : ℕ) → IsIdle (old.flushers f) → IsIdle (new.flushers f)
 
--- every other flusher that was idle is idle
-abbrev pub KeepsOthersIdle : {C : Type 0} → ℕ → State C → State C → Type 0
-KeepsOthersIdle f old new = (g : ℕ) → g ≢ f → IsIdle (old.flushers g) → IsIdle (new.flushers g)
+-- states are related so where there is no filter
+abbrev pub Without : {C F : Type 0} → Option F → (State C → State C → Type 0) → State C → State C → Type 0
+Without filter Relates old new = filter ≡ None → Relates old new
+
+-- every other flusher that was idle is idle, where there is no filter
+abbrev pub KeepsOthersIdle : {C F : Type 0} → Option F → ℕ → State C → State C → Type 0
+KeepsOthersIdle filter f old new = filter ≡ None → (g : ℕ) → g ≢ f → IsIdle (old.flushers g) → IsIdle (new.flushers g)
 
 -- this flusher has no batch that it hadn't
 abbrev pub BeginsNone : {C : Type 0} → ℕ → State C → State C → Type 0
@@ -58,17 +62,17 @@ MayNotBegin f old new = (new ≡ old) × ((old.flushers f).batch ≡ None → Ha
 abbrev pub EndsBatch : {C : Type 0} → ℕ → State C → State C → Type 0
 EndsBatch f old new = KeepsOthers f old new × ((new.flushers f).batch ≡ None)
 
--- once this is true it is, and others that were idle are idle
-abbrev pub EndsBatchOnce : {C : Type 0} → Bool → ℕ → State C → State C → Type 0
-EndsBatchOnce has_ended f old new = KeepsOthersIdle f old new × (has_ended ≡ true → (new.flushers f).batch ≡ None)
+-- once this is true it is, and without a filter others that were idle are idle
+abbrev pub EndsBatchOnce : {C F : Type 0} → Option F → Bool → ℕ → State C → State C → Type 0
+EndsBatchOnce filter has_ended f old new = KeepsOthersIdle filter f old new × (has_ended ≡ true → (new.flushers f).batch ≡ None)
 
--- this flusher has nothing left to do, and others that were idle are idle
-abbrev pub LeavesIdle : {C : Type 0} → ℕ → State C → State C → Type 0
-LeavesIdle f old new = KeepsOthersIdle f old new × IsIdle (new.flushers f)
+-- this flusher has nothing left to do, and without a filter others that were idle are idle
+abbrev pub LeavesIdle : {C F : Type 0} → Option F → ℕ → State C → State C → Type 0
+LeavesIdle filter f old new = KeepsOthersIdle filter f old new × IsIdle (new.flushers f)
 
--- the first n flushers have nothing left to do
-abbrev pub LeavesIdleBelow : {C : Type 0} → ℕ → State C → State C → Type 0
-LeavesIdleBelow n old new = (f : ℕ) → f < n → IsIdle (new.flushers f)
+-- without a filter the first n flushers have nothing left to do
+abbrev pub LeavesIdleBelow : {C F : Type 0} → Option F → ℕ → State C → State C → Type 0
+LeavesIdleBelow filter n old new = filter ≡ None → (f : ℕ) → f < n → IsIdle (new.flushers f)
 
 -- no flusher has
 abbrev pub LeavesAllIdle : {C : Type 0} → State C → State C → Type 0

@@ -1,9 +1,10 @@
 -- A reclaim of a block, with its accesses in their place.
 use Rattle.std.specs.Prelude.{◌≡◌, ◌⊎◌, ℕ, ◌<◌, List, [], ◌∷◌, ◌++◌, Option, Some, None}
+use Rattle.foyer_run.specs.AtRest.{KeepsIdle}
 use Rattle.foyer_model.specs.Access.{ReadIssued}
 use Rattle.foyer_model.specs.Numbers.{page}
 use Rattle.foyer_model.specs.Reply as model_reply
-use Rattle.foyer_model.specs.State.{State}
+use Rattle.foyer_model.specs.State.{AtRecord, Reclaim, Stage, State}
 use Rattle.foyer_model.specs.Step as model_step
 use Rattle.foyer_model.specs.World.{World, WorldEvent, Applies, ScanBegins, ScanEnds, CleanBegins, CleanEnds, after_all}
 use Rattle.foyer_rules.specs.Content.{Content, Meaning}
@@ -90,3 +91,17 @@ Reads m b part next old new bytes =
 -- the first page of a block is zeros, and all else is as before
 abbrev pub IsCleaned : (ℕ → ℕ → ℕ) → ℕ → (ℕ → ℕ → ℕ) → Type 0
 IsCleaned old block new = ((o : ℕ) → o < page → new block o ≡ 0) × IsTorn old block 0 page new
+
+-- no record is read
+abbrev pub IsUnread : Stage → Type 0
+IsUnread (AtRecord h a rest place) = ⊥
+IsUnread stage = Unit {0}
+
+-- nor by the reclaim of this block, if one runs
+abbrev pub IsUnreadIn : Option Reclaim → Type 0
+IsUnreadIn None = Unit {0}
+IsUnreadIn (Some r) = IsUnread r.stage
+
+-- where the reclaim of this block reads no record it reads none afterwards, and flushers that were idle are
+abbrev pub KeepsUnread : {C : Type 0} → (block : ℕ) → State C → State C → Type 0
+KeepsUnread b old new = IsUnreadIn (old.reclaims b) → KeepsIdle old new × IsUnreadIn (new.reclaims b)

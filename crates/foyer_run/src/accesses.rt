@@ -47,6 +47,7 @@ where
     ensures meets { Refines
         (meaning K.encoding V.encoding K.is_encodable V.is_encodable K.is_decodable V.is_decodable P.age)
         given result core.old core.new }
+    ensures lent { (env.new.reinsertion ≡ env.old.reinsertion) × (env.new.io ≡ env.old.io) }
 {
     core.apply(env, given)
 }
@@ -137,6 +138,7 @@ where
     ensures leads { Leads
         (meaning K.encoding V.encoding K.is_encodable V.is_encodable K.is_decodable V.is_decodable P.age)
         (KeepsOthers flusher) core.old core.new }
+    ensures lent { (env.new.reinsertion ≡ env.old.reinsertion) × (env.new.io ≡ env.old.io) }
     ensures known { D.is_known disk.old → D.is_known disk.new }
 {
     let (block, writes) = match core.apply(env, Step::FlushBlock { flusher }) {

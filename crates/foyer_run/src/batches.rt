@@ -1,5 +1,5 @@
 //! The begin of a batch, with its marks in the log of deletes.
-ghost use Rattle.std.specs.Prelude.{ℕ};
+ghost use Rattle.std.specs.Prelude.{◌≡◌, ℕ};
 ghost use Rattle.foyer_rules.specs.Content.{meaning};
 ghost use Rattle.foyer_core.specs.Refines.{Refines};
 ghost use Rattle.foyer_core.specs.declared.step.Step.TheVariants as step;
@@ -40,6 +40,7 @@ where
     ensures alone { BeginsNoBatch result → Refines
         (meaning K.encoding V.encoding K.is_encodable V.is_encodable K.is_decodable V.is_decodable P.age)
         (step.FlushBegin flusher) result core.old core.new }
+    ensures lent { (env.new.reinsertion ≡ env.old.reinsertion) × (env.new.io ≡ env.old.io) }
 {
     let (blocks, marks) = match core.apply(env, Step::FlushBegin { flusher }) {
         Reply::Began { blocks, marks } => (blocks, marks),

@@ -3,8 +3,8 @@ ghost use Rattle.std.specs.Prelude.{◌≡◌, ℕ, vec_len, Some, None, IfOk, O
 ghost use Rattle.foyer_model.specs.Numbers.{page};
 ghost use Rattle.foyer_rules.specs.Content.{meaning};
 ghost use Rattle.foyer_blockio.specs.Disk.{IsRead, IsTorn};
-ghost use Rattle.foyer_run.specs.AtRest.{KeepsIdle, Leads};
-ghost use Rattle.foyer_run.specs.Reclaims.{IsCleaned, IsOver, Reads, Reclaims, part_in};
+ghost use Rattle.foyer_run.specs.AtRest.{KeepsIdle, Leads, Without};
+ghost use Rattle.foyer_run.specs.Reclaims.{IsCleaned, IsOver, KeepsUnread, Reads, Reclaims, part_in};
 
 use foyer_block::manager::BlockId;
 use foyer_blockio::disk::Disk;
@@ -83,7 +83,8 @@ where
         block (Some part) result core.old core.new (D.byte_at disk.old) }
     ensures leads { Leads
         (meaning K.encoding V.encoding K.is_encodable V.is_encodable K.is_decodable V.is_decodable P.age)
-        KeepsIdle core.old core.new }
+        (Without env.old.reinsertion (KeepsUnread block)) core.old core.new }
+    ensures lent { (env.new.reinsertion ≡ env.old.reinsertion) × (env.new.io ≡ env.old.io) }
     ensures known { D.is_known disk.old → D.is_known disk.new }
     ensures same { D.byte_at disk.new ≡ D.byte_at disk.old }
 {
@@ -127,7 +128,8 @@ where
         block (Some first) None core.old core.new (D.byte_at disk.old) }
     ensures leads { Leads
         (meaning K.encoding V.encoding K.is_encodable V.is_encodable K.is_decodable V.is_decodable P.age)
-        KeepsIdle core.old core.new }
+        (Without env.old.reinsertion (KeepsUnread block)) core.old core.new }
+    ensures lent { (env.new.reinsertion ≡ env.old.reinsertion) × (env.new.io ≡ env.old.io) }
     ensures known { D.is_known disk.old → D.is_known disk.new }
     ensures same { D.byte_at disk.new ≡ D.byte_at disk.old }
 {
@@ -150,10 +152,11 @@ pub(crate) fn clean_block<D: Disk>(disk: &mut D, block: BlockId) -> Result<()>
     disk.write(block, 0, &zeros)
 }
 
-/// Reclaims a block: begins where a reclaim may, reads each index of the picked block and brings it, forgets what they
-/// list, and cleans the block. What was answered last: `Done` once the block may be written again, or the step that was
-/// out of turn or refused. A read or a clean that fails ends no reclaim. Of a disk whose bytes aren't known it is only
-/// claimed that idle flushers stay idle.
+/// Reclaims a block: begins where a reclaim may, reads each index of the picked block and each record that is to be
+/// written again, and brings them, forgets the other entries, and cleans the block. What was answered last: `Done` once the
+/// block may be written again, or the step that was out of turn or refused. A read or a clean that fails ends no reclaim.
+/// Of a disk whose bytes aren't known it is only claimed that, without a filter of reinsertions, idle flushers stay idle;
+/// with one, records are queued at flushers in turn.
 pub fn reclaim_block<K, V, P, A, D>(
     core: &mut Core<K, V, P, A>,
     env: &mut Env,
@@ -173,7 +176,8 @@ where
         core.old result }
     ensures leads { Leads
         (meaning K.encoding V.encoding K.is_encodable V.is_encodable K.is_decodable V.is_decodable P.age)
-        KeepsIdle core.old core.new }
+        (Without env.old.reinsertion KeepsIdle) core.old core.new }
+    ensures lent { (env.new.reinsertion ≡ env.old.reinsertion) × (env.new.io ≡ env.old.io) }
     ensures known { D.is_known disk.old → D.is_known disk.new }
 {
     let block = match core.apply(env, Step::ReclaimBegin) {

@@ -1,5 +1,5 @@
 -- An engine that is driven.
-use Rattle.std.proofs.Common.{◌≡◌, ℕ, [], Bool, true, false, Ok, Err, inl, sym, ap, ◌∙◌}
+use Rattle.std.proofs.Common.{◌≡◌, ℕ, [], Bool, true, false, Option, None, Ok, Err, inl, sym, ap, ◌∙◌}
 use Rattle.std.specs.Prelude.{IfOk, Result}
 use Rattle.std.specs.declared.string.String.{String}
 use Rattle.foyer_rules.specs.Content.{Content}
@@ -7,19 +7,20 @@ use Rattle.foyer_core.specs.Refines.{IsHandedBack}
 use Rattle.foyer_core.specs.declared.reply.Reply.{Reply}
 use Rattle.foyer_core.specs.declared.reply.Reply.TheVariants as reply
 use Rattle.foyer_core.specs.declared.state.Core.{Core}
-use Rattle.foyer_run.specs.AtRest.{IsFlusherIdle, KeepsIdle, KeepsOthers, KeepsOthersIdle, Leads, LeavesIdle}
+use Rattle.foyer_run.specs.AtRest.{ComesToRest, IsAtRest, IsFlusherIdle, KeepsIdle, KeepsOthers, KeepsOthersIdle, Leads, LeavesAllIdle, LeavesIdle, Without}
 use Rattle.foyer_run.specs.Destroys.{Destroys}
 use Rattle.foyer_run.specs.Waiting.{Waits}
 use Rattle.foyer_device.specs.declared.error.Error.{Error}
 use Rattle.foyer_rules.specs.Sizes.{AreValid}
 use Rattle.foyer_rules.specs.declared.settings.Settings.{Settings}
 use Rattle.foyer_model.specs.Record.{Outcome}
+use Rattle.foyer_model.specs.State.{State}
 use Rattle.foyer_recover.specs.declared.block.recover.RecoverMode.TheVariants as recover_mode
 use Rattle.foyer_run.specs.Begun.{IsBegun, IsBegunEmpty}
 use Rattle.foyer_run.specs.Newest.{IsMissedOnly, IsNewest, IsPutOrFault}
 use Rattle.foyer_run.proofs.DestroyLemmas.{destroys_more}
 use Rattle.foyer_run.proofs.OpenedRuns.{begun_empty}
-use Rattle.foyer_run.proofs.RestLemmas.{SaysNothing, keeps_idle, leads_more}
+use Rattle.foyer_run.proofs.RestLemmas.{IsAny, SaysNothing, keeps_idle, leads_more}
 use Rattle.foyer_serve.specs.Texts.{IsFault, IsMissedText, IsNewestText, IsTextOrFault, done_as, got, plain}
 use Rattle.foyer_serve.specs.declared.engine.Answer.{Answer}
 use Rattle.foyer_serve.specs.declared.engine.Answer.TheVariants as answer
@@ -91,17 +92,39 @@ done_something (reply.Refused kind back) did is done = let e : Err kind ≡ Ok d
 done_something last did is done = λ back. absurd back
 
 -- what leads a core on, one after the other
-module _ {A : Type 0} (f : ℕ) (a b c : Core ℕ (String A) NoProperties A) where
-  pub others_more : Leads plain (KeepsOthersIdle f) a b → Leads plain (KeepsOthersIdle f) b c → Leads plain (KeepsOthersIdle f) a c
-  others_more led writes = leads_more plain (KeepsOthersIdle f) (KeepsOthersIdle f) (KeepsOthersIdle f) a b c (λ x y z one two g ne idle. two g ne (one g ne idle)) led writes
+module _ {A F : Type 0} (filter other : Option F) (same : other ≡ filter) (f : ℕ) (a b c : Core ℕ (String A) NoProperties A) where
+  pub others_more : Leads plain (KeepsOthersIdle filter f) a b → Leads plain (KeepsOthersIdle other f) b c → Leads plain (KeepsOthersIdle filter f) a c
+  others_more led writes =
+      leads_more plain (KeepsOthersIdle filter f) (KeepsOthersIdle other f) (KeepsOthersIdle filter f) a b c (λ x y z one two none g ne idle. two (same ∙ none) g ne (one none g ne idle)) led writes
 
-  pub written_reclaimed : Leads plain (KeepsOthers f) a b → Leads plain KeepsIdle b c → Leads plain (KeepsOthersIdle f) a c
-  written_reclaimed writes reclaims = leads_more plain (KeepsOthers f) KeepsIdle (KeepsOthersIdle f) a b c (λ x y z one two g ne idle. two g (keeps_idle f x y one g ne idle)) writes reclaims
+  pub written_reclaimed : Leads plain (KeepsOthers f) a b → Leads plain (Without other KeepsIdle) b c → Leads plain (KeepsOthersIdle filter f) a c
+  written_reclaimed writes reclaims =
+      leads_more plain (KeepsOthers f) (Without other KeepsIdle) (KeepsOthersIdle filter f) a b c (λ x y z one two none g ne idle. two (same ∙ none) g (keeps_idle filter f x y one none g ne idle)) writes reclaims
+
+  pub waited_idle : Leads plain (KeepsOthers f) a b → Leads plain (LeavesIdle other f) b c → Leads plain (LeavesIdle filter f) a c
+  waited_idle waits led =
+      leads_more plain (KeepsOthers f) (LeavesIdle other f) (LeavesIdle filter f) a b c
+      (λ x y z one two. ((λ none g ne idle. two.0 (same ∙ none) g ne (keeps_idle filter f x y one none g ne idle)), two.1)) waits led
 
 -- a block that was written alone
-pub written_alone : {A : Type 0} (f : ℕ) (a b : Core ℕ (String A) NoProperties A) → Leads plain (KeepsOthers f) a b → Leads plain (KeepsOthersIdle f) a b
-written_alone f a b writes = λ s sound it at. let led = writes s sound it at in (led.0, led.1, keeps_idle f it led.0 led.2)
+pub written_alone : {A F : Type 0} (filter : Option F) (f : ℕ) (a b : Core ℕ (String A) NoProperties A) → Leads plain (KeepsOthers f) a b → Leads plain (KeepsOthersIdle filter f) a b
+written_alone filter f a b writes = λ s sound it at. let led = writes s sound it at in (led.0, led.1, keeps_idle filter f it led.0 led.2)
 
 -- a flusher that is idle is left so
-pub left_alone : {A : Type 0} (f : ℕ) (core : Core ℕ (String A) NoProperties A) → IsFlusherIdle plain f core → Leads plain (LeavesIdle f) core core
-left_alone f core still = λ s sound it at. (it, at, (λ g ne idle. idle, still s it at))
+pub left_alone : {A F : Type 0} (filter : Option F) (f : ℕ) (core : Core ℕ (String A) NoProperties A) → IsFlusherIdle plain f core → Leads plain (LeavesIdle filter f) core core
+left_alone filter f core still = λ s sound it at. (it, at, ((λ none g ne idle. idle), still s it at))
+
+-- without a filter from here on
+pub filtered_not : {A F : Type 0} (filter other : Option F) → other ≡ None → (R : State Content → State Content → Type 0) (a b : Core ℕ (String A) NoProperties A) → Leads plain (Without other R) a b → Leads plain (Without filter R) a b
+filtered_not filter other none R a b led = λ s sound it at. let l = led s sound it at in (l.0, l.1, (λ _. l.2 none))
+
+-- whatever a core is led to behind any states
+pub any_then : {A : Type 0} (R : State Content → State Content → Type 0) (a b c : Core ℕ (String A) NoProperties A) → Leads plain IsAny a b → Leads plain R b c → Leads plain IsAny a c
+any_then R a b c led more = leads_more plain IsAny R IsAny a b c (λ x y z one two. tt) led more
+
+-- a core that is led to, and is at rest
+pub led_to_rest : {A : Type 0} (a b : Core ℕ (String A) NoProperties A) → Leads plain IsAny a b → IsAtRest plain b → Leads plain LeavesAllIdle a b
+led_to_rest a b led rest = λ s sound it at. let l = led s sound it at in (l.0, l.1, (λ f. rest f s l.0 l.1))
+
+pub rests : {A : Type 0} (a b : Core ℕ (String A) NoProperties A) → IsAtRest plain b → ComesToRest plain a b
+rests a b rest = λ s sound it at. rest

@@ -1,10 +1,10 @@
 //! The engine that the program keeps: a core over a disk, with a log of deletes or without one, driven on one thread.
-ghost use Rattle.std.specs.Prelude.{◌≡◌, ◌≢◌, ◌⊎◌, ◌≤◌, ◌*◌, ◌^◌, ℕ, [], false, None, IfOk, IfErr, string_bytes};
+ghost use Rattle.std.specs.Prelude.{◌≡◌, ◌≢◌, ◌⊎◌, ◌≤◌, ◌*◌, ◌^◌, ℕ, [], true, false, None, IfOk, IfErr, string_bytes};
 ghost use Rattle.foyer_device.specs.declared.error.Error.TheVariants.{Config, Memory, OutOfRange, Recover, SequenceEnd};
 ghost use Rattle.foyer_recover.specs.Recovery.{marks_of};
 ghost use Rattle.foyer_recover.specs.declared.block.recover.RecoverMode.TheVariants as recover_mode;
 ghost use Rattle.foyer_rules.specs.Sizes.{AreValid};
-ghost use Rattle.foyer_run.specs.AtRest.{ComesToRest, KeepsIdle, KeepsOthersIdle, Leads, LeavesAllIdle, LeavesIdle, TakesQueueIf};
+ghost use Rattle.foyer_run.specs.AtRest.{ComesToRest, IsAtRest, KeepsIdle, KeepsOthers, KeepsOthersIdle, Leads, LeavesAllIdle, LeavesIdle, TakesQueueIf, Without};
 ghost use Rattle.foyer_run.specs.Driven.{Drives};
 ghost use Rattle.foyer_run.specs.Begun.{IsBegun, IsBegunEmpty};
 ghost use Rattle.foyer_run.specs.Waiting.{Closes, Waits};
@@ -20,13 +20,15 @@ use foyer_core::settings::Settings;
 use foyer_core::state::Core;
 use foyer_core::step::Step;
 use foyer_device::error::{ErrorKind, Result};
+use foyer_filter::{BuiltInCondition, StorageFilter};
 use foyer_format::serde::{Age, EntrySerializer, Properties};
 pub use foyer_log::block::tombstone::{MarkLog, NoLog};
 use foyer_policy::keeper::Piece;
 use foyer_run::accesses::{load, step, write_block};
 use foyer_run::batches::begin_batch;
 use foyer_run::reclaims::reclaim_block;
-use std::alloc::Allocator;
+use foyer_statistics::IoState;
+use std::alloc::{Allocator, Global};
 
 /// Entries of this program have no age of their own.
 #[derive(Clone, Copy, Debug, PartialEq, Eq)]
@@ -133,6 +135,8 @@ pub struct Engine<A: Allocator, D: Disk + Drop, L: MarkLog + Drop> {
     // What a load reads into.
     spare: Vec<u8, A>,
     next_wait: u64,
+    // How many reclaims of this call may still have records written again.
+    rereads: u32,
 }
 
 impl<A: Allocator + Clone> Engine<A, MemoryDisk<A>, NoLog> {
@@ -210,8 +214,28 @@ impl<A: Allocator + Clone, D: Disk + Drop, L: MarkLog + Drop> Engine<A, D, L> {
             log,
             spare: Vec::new(alloc.clone()?),
             next_wait: 0,
+            rereads: 0,
             alloc,
         })
+    }
+
+    /// Has reclaims write again, from now on, the records that the filter admits by their lengths in bytes, or none without a
+    /// filter. The one before comes back.
+    pub fn set_reinsertion(
+        &mut self,
+        filter: Option<StorageFilter<BuiltInCondition, Global>>,
+    ) -> Option<StorageFilter<BuiltInCondition, Global>>
+        ensures before { result ≡ self.old.env.reinsertion }
+        ensures set { self.new ≡ record self.old { env = record self.old.env { reinsertion = filter } } }
+    {
+        self.env.replace_reinsertion(filter)
+    }
+
+    /// Shows the filter, from now on, what the device did and has callers wait for.
+    pub fn set_io(&mut self, io: IoState)
+        ensures { self.new ≡ record self.old { env = record self.old.env { io = io } } }
+    {
+        self.env.set_io(io);
     }
 
     fn piece(&self, key: u64, text: &str) -> Result<Piece<Key, String<A>, NoProperties, A>>
@@ -290,42 +314,41 @@ impl<A: Allocator + Clone, D: Disk + Drop, L: MarkLog + Drop> Engine<A, D, L> {
         answer_delete(step(&mut self.core, &mut self.env, Step::Delete { hash: key }))
     }
 
-    /// Queues a wait at each flusher that isn't idle, and flushes until none has anything left to do; then reclaims blocks until
-    /// enough are clean, as far as that goes. It puts, deletes and loads nothing, and closes nothing. `Io`: a flusher's
-    /// batch can't be ended, since a write of it was never reported. `NoSpace`: no block can be reclaimed. `SequenceEnd`:
-    /// the limit of steps is reached, or 2^64 - 1 turns weren't enough. `Memory` where a reclaim or a flush is refused it.
+    /// Flushes until no flusher has anything left to do, then reclaims blocks until enough are clean, as far as that goes,
+    /// and flushes the records that reclaims read back. The first reclaims of a call, as many as there are blocks, have
+    /// records written again where `env` has a filter; the others free their blocks, so that it ends. It puts, deletes and
+    /// loads nothing, and closes nothing. `Io`: a flusher's batch can't be ended, since a write of it was never reported.
+    /// `NoSpace`: no block can be reclaimed. `SequenceEnd`: the limit of steps is reached, or 2^64 - 1 turns weren't
+    /// enough. `Memory` where a reclaim or a flush is refused it.
     pub fn wait(&mut self) -> Answer<A>
         ensures answered { IsOkOrFault result }
         ensures rest { result ≡ Answer.Ok → ComesToRest plain self.old.core self.new.core }
         ensures waited { D.is_known self.old.disk → D.is_known self.new.disk × Waits plain self.old.core self.new.core
             (D.byte_at self.old.disk) (D.byte_at self.new.disk) }
     {
-        let answer = self.flush_queued();
-        if let Answer::Ok = &answer {
+        self.rereads = self.core.settings().blocks;
+        for _ in 0..u64::MAX {
+            match self.settle() {
+                Answer::Ok => {}
+                fault => return fault,
+            }
             self.keep_clean();
+            if self.is_at_rest() {
+                return Answer::Ok;
+            }
         }
-        answer
+        Answer::Fault(ErrorKind::SequenceEnd)
     }
 
-    // Queues a wait at each flusher that isn't idle, and flushes.
+    // Flushes until no flusher has anything left to do.
     fn flush_queued(&mut self) -> Answer<A>
         ensures answered { IsOkOrFault result }
         ensures leads { result ≡ Answer.Ok → Leads plain LeavesAllIdle self.old.core self.new.core }
         ensures waited { D.is_known self.old.disk → D.is_known self.new.disk × Waits plain self.old.core self.new.core
             (D.byte_at self.old.disk) (D.byte_at self.new.disk) }
     {
-        for flusher in 0..self.core.settings().flushers {
-            if self.core.is_idle(flusher) {
-                continue;
-            }
-            let id = self.next_wait;
-            let queued = step(&mut self.core, &mut self.env, Step::Wait { flusher, id });
-            if let Err(kind) = answer_step(queued) {
-                return Answer::Fault(kind);
-            }
-            self.next_wait = id.wrapping_add(1);
-        }
-        self.flush_all()
+        self.rereads = self.core.settings().blocks;
+        self.settle()
     }
 
     /// Takes no more puts, deletes and destroys, and flushes what is queued, as a wait does: nothing else.
@@ -342,12 +365,45 @@ impl<A: Allocator + Clone, D: Disk + Drop, L: MarkLog + Drop> Engine<A, D, L> {
         }
     }
 
-    // Where a flusher isn't idle, a wait is queued there.
-    fn flush_all(&mut self) -> Answer<A>
+    // Whether no flusher has anything left to do.
+    fn is_at_rest(&self) -> bool
+        ensures { result ≡ true → IsAtRest plain self.now.core }
+    {
+        for flusher in 0..self.core.settings().flushers {
+            if !self.core.is_idle(flusher) {
+                return false;
+            }
+        }
+        true
+    }
+
+    // Flushes all flushers, and again where a reclaim had a record queued at one that was idle by then.
+    fn settle(&mut self) -> Answer<A>
         ensures answered { IsOkOrFault result }
         ensures leads { result ≡ Answer.Ok → Leads plain LeavesAllIdle self.old.core self.new.core }
         ensures waited { D.is_known self.old.disk → D.is_known self.new.disk × Waits plain self.old.core self.new.core
             (D.byte_at self.old.disk) (D.byte_at self.new.disk) }
+    {
+        for _ in 0..u64::MAX {
+            match self.flush_all() {
+                Answer::Ok => {}
+                fault => return fault,
+            }
+            if self.is_at_rest() {
+                return Answer::Ok;
+            }
+        }
+        Answer::Fault(ErrorKind::SequenceEnd)
+    }
+
+    // Flushes each flusher that isn't idle, one after the other.
+    fn flush_all(&mut self) -> Answer<A>
+        ensures answered { IsOkOrFault result }
+        ensures leads { result ≡ Answer.Ok
+            → Leads plain (Without self.old.env.reinsertion LeavesAllIdle) self.old.core self.new.core }
+        ensures waited { D.is_known self.old.disk → D.is_known self.new.disk × Waits plain self.old.core self.new.core
+            (D.byte_at self.old.disk) (D.byte_at self.new.disk) }
+        ensures lent { self.new.env.reinsertion ≡ self.old.env.reinsertion }
     {
         for flusher in 0..self.core.settings().flushers {
             if self.core.is_idle(flusher) {
@@ -361,13 +417,40 @@ impl<A: Allocator + Clone, D: Disk + Drop, L: MarkLog + Drop> Engine<A, D, L> {
         Answer::Ok
     }
 
-    // Flushes until nothing is queued or received at a flusher where a wait is queued, so that a batch is under way in
-    // each turn but the last: a burst is written in several batches, and each batch's marks are appended to the log. One that isn't ended by then has a write that was
-    // never reported.
-    fn flush(&mut self, flusher: u32) -> std::result::Result<(), ErrorKind>
-        ensures leads { IfOk result (λ _. Leads plain (LeavesIdle flusher) self.old.core self.new.core) }
+    // Queues a wait at a flusher.
+    fn queue_wait(&mut self, flusher: u32) -> std::result::Result<(), ErrorKind>
+        ensures leads { Leads plain (KeepsOthers flusher) self.old.core self.new.core }
         ensures waited { D.is_known self.old.disk → D.is_known self.new.disk × Waits plain self.old.core self.new.core
             (D.byte_at self.old.disk) (D.byte_at self.new.disk) }
+        ensures lent { self.new.env.reinsertion ≡ self.old.env.reinsertion }
+    {
+        let id = self.next_wait;
+        let queued = step(&mut self.core, &mut self.env, Step::Wait { flusher, id });
+        answer_step(queued)?;
+        self.next_wait = id.wrapping_add(1);
+        Ok(())
+    }
+
+    // Queues a wait at a flusher, so that a batch begins even where all that is queued goes without a record, and flushes
+    // it.
+    fn flush(&mut self, flusher: u32) -> std::result::Result<(), ErrorKind>
+        ensures leads { IfOk result (λ _. Leads plain (LeavesIdle self.old.env.reinsertion flusher) self.old.core self.new.core) }
+        ensures waited { D.is_known self.old.disk → D.is_known self.new.disk × Waits plain self.old.core self.new.core
+            (D.byte_at self.old.disk) (D.byte_at self.new.disk) }
+        ensures lent { self.new.env.reinsertion ≡ self.old.env.reinsertion }
+    {
+        self.queue_wait(flusher)?;
+        self.flush_waiting(flusher)
+    }
+
+    // Flushes until nothing is queued or received at a flusher where a wait is queued, so that a batch is under way in
+    // each turn but the last: a burst is written in several batches, and each batch's marks are appended to the log. One
+    // that isn't ended by then has a write that was never reported.
+    fn flush_waiting(&mut self, flusher: u32) -> std::result::Result<(), ErrorKind>
+        ensures leads { IfOk result (λ _. Leads plain (LeavesIdle self.old.env.reinsertion flusher) self.old.core self.new.core) }
+        ensures waited { D.is_known self.old.disk → D.is_known self.new.disk × Waits plain self.old.core self.new.core
+            (D.byte_at self.old.disk) (D.byte_at self.new.disk) }
+        ensures lent { self.new.env.reinsertion ≡ self.old.env.reinsertion }
     {
         let mut has_ended = false;
         for _ in 0..u64::MAX {
@@ -393,6 +476,7 @@ impl<A: Allocator + Clone, D: Disk + Drop, L: MarkLog + Drop> Engine<A, D, L> {
         ensures leads { IfOk result (λ is_empty. Leads plain (TakesQueueIf is_empty flusher) self.old.core self.new.core) }
         ensures waited { D.is_known self.old.disk → D.is_known self.new.disk × Waits plain self.old.core self.new.core
             (D.byte_at self.old.disk) (D.byte_at self.new.disk) }
+        ensures lent { self.new.env.reinsertion ≡ self.old.env.reinsertion }
     {
         for _ in 0..u64::MAX {
             let received = step(&mut self.core, &mut self.env, Step::Receive { flusher });
@@ -408,9 +492,10 @@ impl<A: Allocator + Clone, D: Disk + Drop, L: MarkLog + Drop> Engine<A, D, L> {
 
     // Writes the blocks of the batch.
     fn write_all(&mut self, flusher: u32) -> std::result::Result<(), ErrorKind>
-        ensures leads { IfOk result (λ _. Leads plain (KeepsOthersIdle flusher) self.old.core self.new.core) }
+        ensures leads { IfOk result (λ _. Leads plain (KeepsOthersIdle self.old.env.reinsertion flusher) self.old.core self.new.core) }
         ensures waited { D.is_known self.old.disk → D.is_known self.new.disk × Waits plain self.old.core self.new.core
             (D.byte_at self.old.disk) (D.byte_at self.new.disk) }
+        ensures lent { self.new.env.reinsertion ≡ self.old.env.reinsertion }
     {
         for _ in 0..u64::MAX {
             if !self.write_next(flusher)? {
@@ -422,9 +507,10 @@ impl<A: Allocator + Clone, D: Disk + Drop, L: MarkLog + Drop> Engine<A, D, L> {
 
     // Writes the next block of the batch, or reclaims one for it where none is clean: false where none is left to write.
     fn write_next(&mut self, flusher: u32) -> std::result::Result<bool, ErrorKind>
-        ensures leads { Leads plain (KeepsOthersIdle flusher) self.old.core self.new.core }
+        ensures leads { Leads plain (KeepsOthersIdle self.old.env.reinsertion flusher) self.old.core self.new.core }
         ensures waited { D.is_known self.old.disk → D.is_known self.new.disk × Waits plain self.old.core self.new.core
             (D.byte_at self.old.disk) (D.byte_at self.new.disk) }
+        ensures lent { self.new.env.reinsertion ≡ self.old.env.reinsertion }
     {
         let wrote = write_block(&mut self.core, &mut self.env, &mut self.disk, flusher);
         match answer_block(wrote) {
@@ -435,9 +521,10 @@ impl<A: Allocator + Clone, D: Disk + Drop, L: MarkLog + Drop> Engine<A, D, L> {
 
     // Reclaims a block for a flusher that waits. `NoSpace` where none may be reclaimed.
     fn make_room(&mut self) -> std::result::Result<bool, ErrorKind>
-        ensures leads { Leads plain KeepsIdle self.old.core self.new.core }
+        ensures leads { Leads plain (Without self.old.env.reinsertion KeepsIdle) self.old.core self.new.core }
         ensures waited { D.is_known self.old.disk → D.is_known self.new.disk × Waits plain self.old.core self.new.core
             (D.byte_at self.old.disk) (D.byte_at self.new.disk) }
+        ensures lent { self.new.env.reinsertion ≡ self.old.env.reinsertion }
     {
         match self.reclaim() {
             Ok(false) => Err(ErrorKind::NoSpace),
@@ -445,18 +532,35 @@ impl<A: Allocator + Clone, D: Disk + Drop, L: MarkLog + Drop> Engine<A, D, L> {
         }
     }
 
-    // Reclaims a block, where one may be: whether it was.
+    // Reclaims a block, where one may be: whether it was. Records of it are written again while the call has reclaims left
+    // for that.
     fn reclaim(&mut self) -> std::result::Result<bool, ErrorKind>
-        ensures leads { Leads plain KeepsIdle self.old.core self.new.core }
+        ensures leads { Leads plain (Without self.old.env.reinsertion KeepsIdle) self.old.core self.new.core }
         ensures waited { D.is_known self.old.disk → D.is_known self.new.disk × Waits plain self.old.core self.new.core
             (D.byte_at self.old.disk) (D.byte_at self.new.disk) }
+        ensures lent { self.new.env.reinsertion ≡ self.old.env.reinsertion }
+    {
+        if self.rereads > 0 {
+            self.rereads -= 1;
+            return self.reclaim_block();
+        }
+        let filter = self.env.replace_reinsertion(None);
+        let reclaimed = self.reclaim_block();
+        let _ = self.env.replace_reinsertion(filter);
+        reclaimed
+    }
+
+    fn reclaim_block(&mut self) -> std::result::Result<bool, ErrorKind>
+        ensures leads { Leads plain (Without self.old.env.reinsertion KeepsIdle) self.old.core self.new.core }
+        ensures waited { D.is_known self.old.disk → D.is_known self.new.disk × Waits plain self.old.core self.new.core
+            (D.byte_at self.old.disk) (D.byte_at self.new.disk) }
+        ensures lent { self.new.env.reinsertion ≡ self.old.env.reinsertion }
     {
         answer_step(reclaim_block(&mut self.core, &mut self.env, &mut self.disk))
     }
 
     // Reclaims blocks until enough are clean, or one is refused.
     fn keep_clean(&mut self)
-        ensures leads { Leads plain KeepsIdle self.old.core self.new.core }
         ensures waited { D.is_known self.old.disk → D.is_known self.new.disk × Waits plain self.old.core self.new.core
             (D.byte_at self.old.disk) (D.byte_at self.new.disk) }
     {

@@ -5,7 +5,7 @@ ghost use Rattle.foyer_run.specs.AtRest.{ComesToRest};
 ghost use Rattle.foyer_run.specs.Destroys.{Destroys};
 ghost use Rattle.foyer_run.specs.Driven.{Drives};
 ghost use Rattle.foyer_run.specs.Waiting.{Closes, Waits};
-ghost use Rattle.foyer_statistics.specs.Counted.{Sees, SeesMore, view, zeros};
+ghost use Rattle.foyer_statistics.specs.Counted.{Sees, SeesMore, SeesState, view, zeros};
 ghost use Rattle.foyer_serve.specs.Texts.{IsDeleted, IsGot, IsLoadedOrRefused, IsMissedText, IsNewestText, IsOkOrFault, IsPut, IsThrottledOnly, plain};
 
 use crate::directory::{DeviceParts, Failed, FileLog, open_engine, open_parts, stopped_at};
@@ -16,11 +16,12 @@ use foyer_core::open::RecoverMode;
 use foyer_core::settings::Settings;
 use foyer_device::error::Error;
 use foyer_disk::io::device::{FsDeviceBuilder, FsPartition};
+use foyer_filter::{BuiltInCondition, StorageFilter};
 use foyer_io::io::engine::PsyncIoEngine;
 use foyer_monitor::MonitoredIoEngine;
 use foyer_statistics::{Clerk, Statistics};
 use foyer_throttle::Throttle;
-use std::alloc::Allocator;
+use std::alloc::{Allocator, Global};
 use std::fs::File;
 use std::rt::Files;
 use std::sync::{Arc, Wait};
@@ -117,6 +118,29 @@ impl<A: Allocator + Clone, D: Disk + Drop, L: MarkLog + Drop> MonitoredEngine<A,
     {
         let MonitoredEngine { engine, clerk } = self;
         (engine, clerk)
+    }
+
+    /// As `Engine::set_reinsertion`.
+    pub fn set_reinsertion(
+        &mut self,
+        filter: Option<StorageFilter<BuiltInCondition, Global>>,
+    ) -> Option<StorageFilter<BuiltInCondition, Global>>
+        ensures before { result ≡ self.old.engine.env.reinsertion }
+        ensures set { self.new.engine ≡ record self.old.engine { env = record self.old.engine.env { reinsertion = filter } } }
+        ensures clerk { self.new.clerk ≡ self.old.clerk }
+    {
+        self.engine.set_reinsertion(filter)
+    }
+
+    /// Shows the filter what the device did so far, and what its limits have callers wait at the moment `now`, in
+    /// nanoseconds.
+    pub fn show_io(&mut self, rt: &impl Wait, now: u64)
+        ensures same { (self.new.clerk.table ≡ self.old.clerk.table) × (self.new.clerk.limits ≡ self.old.clerk.limits) }
+        ensures sees { SeesState self.new.engine.env.io self.old.clerk.view self.new.clerk.view }
+        ensures engine { self.new.engine ≡ record self.old.engine { env = record self.old.engine.env { io = self.new.engine.env.io } } }
+    {
+        let io = self.clerk.io_state(rt, now);
+        self.engine.set_io(io);
     }
 
     /// As `Engine::put`.

@@ -1,5 +1,5 @@
 use Rattle.std.proofs.Common.{◌≡◌, length, arith}
-use Rattle.foyer_block.proofs.Found.{shard_of, replaced_here, unchanged_here, holds_here}
+use Rattle.foyer_block.proofs.Found.{shard_of, replaced_here, unchanged_here, holds_here, room-slice_set}
 use Rattle.foyer_block.proofs.shards.replace.Goals as goal
 
 pub returns-clause-answer : goal.returns-clause-answer
@@ -19,3 +19,9 @@ returns-clause-unchanged g c =
     let len : c.len.result ≡ length c.args.shards.now.items = omega (arith, c.len.ensures) in
     let own = shard_of c.args.shards.now.items c.args.hash c.len.result c.index_mut.result.now len c.requires c.index_mut.ensures.value in
     unchanged_here c.args.shards.now.items c.args.hash _ c.index_mut.result.now c.replace_here.new.shard own c.replace_here.result c.replace_here.ensures.unchanged
+
+pub returns-clause-room : goal.returns-clause-room
+returns-clause-room g c =
+    let len : c.len.result ≡ length c.args.shards.now.items = omega (arith, c.len.ensures) in
+    let own = shard_of c.args.shards.now.items c.args.hash c.len.result c.index_mut.result.now len c.requires c.index_mut.ensures.value in
+    room-slice_set c.args.shards.now.items c.args.hash _ c.index_mut.result.now c.replace_here.new.shard own c.replace_here.ensures.spare

@@ -24,6 +24,7 @@ returns-in_default g c =
       drives = λ known. writes_drive m c.args.flusher (Some c.apply.result) c.args.core.now c.apply.new.self bytes bytes writes;
       ends = block_asks m c.args.flusher c.apply.result c.args.core.now c.apply.new.self c.apply.ensures.meets;
       leads = block_keeps m c.args.flusher c.apply.result c.args.core.now c.apply.new.self c.apply.ensures.meets;
+      lent = c.apply.ensures.lent;
       known = λ known. known;
     }
 
@@ -42,6 +43,7 @@ writes-init g c =
             (λ v at. subst (λ r. IsRefined m s sound (step.FlushBlock c.args.flusher) r c.apply.new.self v.core) c.in-Write.is (c.apply.ensures.meets s sound v.core at));
       };
       leads = block_keeps m c.args.flusher c.apply.result c.args.core.now c.apply.new.self c.apply.ensures.meets;
+      lent = c.apply.ensures.lent;
     }
 
 pub returns-then-not-wants_next_write : goal.returns-then-not-wants_next_write
@@ -66,6 +68,7 @@ returns-then-not-wants_next_write g c =
       ends = report_asks m c.args.flusher outcome c.apply-reply.result c.args.core.now c.writes.core c.apply-reply.new.self c.writes.invariant.leads c.apply-reply.ensures.meets why;
       drives = λ known. writes_drive m c.args.flusher (Some c.apply-reply.result) c.args.core.now c.apply-reply.new.self (g.D.Disk.byte_at c.args.disk.now) after (writes known);
       leads = report_more m c.args.flusher outcome c.apply-reply.result c.args.core.now c.writes.core c.apply-reply.new.self c.writes.invariant.leads c.apply-reply.ensures.meets;
+      lent = (c.apply-reply.ensures.lent.0 ∙ c.writes.invariant.lent.0, c.apply-reply.ensures.lent.1 ∙ c.writes.invariant.lent.1);
       known = λ known. c.do_write-wrote.ensures.known (c.writes.invariant.known known);
     }
 
@@ -82,6 +85,7 @@ writes-preserved g c =
     record {
       known = λ known. c.do_write-wrote.ensures.known (c.writes.invariant.known known);
       leads = report_more m c.args.flusher outcome c.apply-reply.result c.args.core.now c.writes.core c.apply-reply.new.self c.writes.invariant.leads c.apply-reply.ensures.meets;
+      lent = (c.apply-reply.ensures.lent.0 ∙ c.writes.invariant.lent.0, c.apply-reply.ensures.lent.1 ∙ c.writes.invariant.lent.1);
       written = λ known.
           written_on m c.args.flusher b c.writes.write-index c.deref-write-items.result.now write outcome c.apply-reply.result c.args.core.now c.writes.core c.apply-reply.new.self
           (g.D.Disk.byte_at c.args.disk.now) before after (c.writes.invariant.written known) c.writes-test.true at
@@ -101,5 +105,6 @@ returns g c =
       drives = λ known. writes_drive m c.args.flusher None c.args.core.now c.writes.core bytes after (writes known);
       ends = tt;
       leads = c.writes.invariant.leads;
+      lent = c.writes.invariant.lent;
       known = c.writes.invariant.known;
     }

@@ -1,3 +1,4 @@
+use Rattle.std.proofs.Common.{◌≡◌}
 use Rattle.foyer_rules.specs.Content.{meaning}
 use Rattle.foyer_run.specs.AtRest.{KeepsOthers, Leads}
 use Rattle.foyer_run.proofs.AccessLemmas.{AreWritten}
@@ -11,4 +12,5 @@ invariant-writes g l = record {
       l.flusher l.block l.write-index l.write-items l.fn.core l.core (g.D.Disk.byte_at l.fn.disk) (g.D.Disk.byte_at l.disk);
   leads : Leads (meaning g.K.Code.encoding g.V.Code.encoding g.K.Code.is_encodable g.V.Code.is_encodable g.K.Code.is_decodable g.V.Code.is_decodable g.P.Properties.age)
       (KeepsOthers l.flusher) l.fn.core l.core;
+  lent : (l.env.reinsertion ≡ l.fn.env.reinsertion) × (l.env.io ≡ l.fn.env.io);
 }

@@ -1,4 +1,4 @@
-use Rattle.std.proofs.Common.{sym, subst}
+use Rattle.std.proofs.Common.{sym, subst, ◌∙◌}
 use Rattle.foyer_rules.specs.Content.{meaning}
 use Rattle.foyer_core.specs.Refines.{Refines}
 use Rattle.foyer_core.specs.declared.step.Step.TheVariants as step
@@ -13,6 +13,7 @@ returns-in_default g c =
       begins = λ bytes. begins_none m c.args.flusher g.L.MarkLog.appends c.args.log.now c.apply.result (no_batch c.apply.result c.in_default.not-Began) c.args.core.now c.apply.new.self bytes c.apply.ensures.meets;
       keeps = begin_keeps m c.args.flusher c.apply.result c.args.core.now c.apply.new.self c.apply.ensures.meets;
       alone = λ none. c.apply.ensures.meets;
+      lent = c.apply.ensures.lent;
     }
 
 pub returns-clause-begins : goal.returns-clause-begins
@@ -31,3 +32,6 @@ pub returns-clause-keeps : goal.returns-clause-keeps
 returns-clause-keeps g c =
     let m = meaning g.K.Code.encoding g.V.Code.encoding g.K.Code.is_encodable g.V.Code.is_encodable g.K.Code.is_decodable g.V.Code.is_decodable g.P.Properties.age in
     logged_keeps m c.args.flusher c.apply.result c.apply-2.result c.append_marks-result.result c.args.core.now c.apply.new.self c.apply-2.new.self c.apply.ensures.meets c.apply-2.ensures.meets
+
+pub returns-clause-lent : goal.returns-clause-lent
+returns-clause-lent g c = (c.apply-2.ensures.lent.0 ∙ c.apply.ensures.lent.0, c.apply-2.ensures.lent.1 ∙ c.apply.ensures.lent.1)

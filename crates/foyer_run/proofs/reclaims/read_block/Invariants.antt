@@ -1,7 +1,7 @@
 use Rattle.std.proofs.Common.{◌≡◌, Some}
 use Rattle.foyer_rules.specs.Content.{meaning}
-use Rattle.foyer_run.specs.AtRest.{KeepsIdle, Leads}
-use Rattle.foyer_run.specs.Reclaims.{Reads}
+use Rattle.foyer_run.specs.AtRest.{Leads, Without}
+use Rattle.foyer_run.specs.Reclaims.{KeepsUnread, Reads}
 use Rattle.foyer_run.proofs.reclaims.read_block.Given as goal
 
 abbrev pub invariant-parts : goal.invariant-parts
@@ -10,5 +10,7 @@ invariant-parts g l = record {
   same : g.D.Disk.byte_at l.disk ≡ g.D.Disk.byte_at l.fn.disk;
   reads : g.D.Disk.is_known l.fn.disk → Reads (meaning g.K.Code.encoding g.V.Code.encoding g.K.Code.is_encodable g.V.Code.is_encodable g.K.Code.is_decodable g.V.Code.is_decodable g.P.Properties.age)
       l.block (Some l.fn.first) (Some l.part) l.fn.core l.core (g.D.Disk.byte_at l.fn.disk);
-  leads : Leads (meaning g.K.Code.encoding g.V.Code.encoding g.K.Code.is_encodable g.V.Code.is_encodable g.K.Code.is_decodable g.V.Code.is_decodable g.P.Properties.age) KeepsIdle l.fn.core l.core;
+  leads : Leads (meaning g.K.Code.encoding g.V.Code.encoding g.K.Code.is_encodable g.V.Code.is_encodable g.K.Code.is_decodable g.V.Code.is_decodable g.P.Properties.age)
+      (Without l.fn.env.reinsertion (KeepsUnread l.block)) l.fn.core l.core;
+  lent : (l.env.reinsertion ≡ l.fn.env.reinsertion) × (l.env.io ≡ l.fn.env.io);
 }

@@ -1,11 +1,11 @@
-use Rattle.std.proofs.Common.{Some, sym, subst}
+use Rattle.std.proofs.Common.{Err, Some, refl, sym, subst}
 use Rattle.foyer_device.specs.declared.error.Error.TheVariants as error
 use Rattle.foyer_rules.specs.Content.{meaning}
 use Rattle.foyer_core.specs.Refines.{Refines}
 use Rattle.foyer_core.specs.declared.reply.Reply.TheVariants as reply
 use Rattle.foyer_core.specs.declared.step.Step.TheVariants as step
 use Rattle.foyer_run.specs.Reclaims.{Reads}
-use Rattle.foyer_run.proofs.ReclaimIdle.{idle_kept, idle_more}
+use Rattle.foyer_run.proofs.ReclaimIdle.{unread_kept, unread_more}
 use Rattle.foyer_run.proofs.ReclaimRuns.{part_come, reads_once, reads_twice}
 use Rattle.foyer_run.proofs.reclaims.read_part.Goals as goal
 
@@ -23,9 +23,13 @@ returns-in-Refused-clause-reads g c = λ known.
 pub returns-in-Refused-clause-leads : goal.returns-in-Refused-clause-leads
 returns-in-Refused-clause-leads g c =
     let m = meaning g.K.Code.encoding g.V.Code.encoding g.K.Code.is_encodable g.V.Code.is_encodable g.K.Code.is_decodable g.V.Code.is_decodable g.P.Properties.age in
-    idle_more m c.args.core.now c.apply-brought.new.self c.apply-reply.new.self
-    (idle_kept m (step.ReclaimRead c.args.block c.read_bytes-outcome.result) c.apply-brought.result c.args.core.now c.apply-brought.new.self tt c.apply-brought.ensures.meets)
-    (idle_kept m (step.ReclaimRead c.args.block (Rattle.std.specs.Prelude.Err error.Memory)) c.apply-reply.result c.apply-brought.new.self c.apply-reply.new.self tt c.apply-reply.ensures.meets)
+    let b = c.args.block in
+    let outcome = c.read_bytes-outcome.result in
+    unread_more m c.args.env.now.reinsertion c.apply-brought.new.env.reinsertion b c.args.core.now c.apply-brought.new.self c.apply-reply.new.self c.apply-brought.ensures.lent.0
+    (unread_kept m c.args.env.now.reinsertion c.args.env.now.io b outcome c.apply-brought.result c.args.core.now c.apply-brought.new.self
+    (c.apply-brought.ensures.judged b outcome refl) c.apply-brought.ensures.meets)
+    (unread_kept m c.apply-brought.new.env.reinsertion c.apply-brought.new.env.io b (Err error.Memory) c.apply-reply.result c.apply-brought.new.self c.apply-reply.new.self
+    (c.apply-reply.ensures.judged b (Err error.Memory) refl) c.apply-reply.ensures.meets)
 
 pub returns : goal.returns
 returns g c =
@@ -37,7 +41,9 @@ returns g c =
           (reads_once m c.args.block c.args.part outcome c.apply-brought.result c.args.core.now c.apply-brought.new.self bytes
           (part_come bytes c.args.block c.args.part outcome (c.read_bytes-outcome.ensures.read known) c.read_bytes-outcome.ensures.len)
           c.apply-brought.ensures.meets);
-      leads = idle_kept m (step.ReclaimRead c.args.block outcome) c.apply-brought.result c.args.core.now c.apply-brought.new.self tt c.apply-brought.ensures.meets;
+      leads = unread_kept m c.args.env.now.reinsertion c.args.env.now.io c.args.block outcome c.apply-brought.result c.args.core.now c.apply-brought.new.self
+          (c.apply-brought.ensures.judged c.args.block outcome refl) c.apply-brought.ensures.meets;
+      lent = c.apply-brought.ensures.lent;
       known = c.read_bytes-outcome.ensures.known;
       same = c.read_bytes-outcome.ensures.same;
     }

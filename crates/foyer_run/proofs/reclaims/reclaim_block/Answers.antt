@@ -1,11 +1,12 @@
-use Rattle.std.proofs.Common.{◌≡◌, refl, sym, ap, subst}
+use Rattle.std.proofs.Common.{◌≡◌, refl, sym, ap, subst, ◌∙◌}
 use Rattle.foyer_rules.specs.Content.{meaning}
 use Rattle.foyer_core.specs.Asked.{went_well}
 use Rattle.foyer_core.specs.Refines.{Refines}
 use Rattle.foyer_core.specs.declared.step.Step.TheVariants as step
+use Rattle.foyer_run.specs.AtRest.{KeepsIdle, Without}
 use Rattle.foyer_run.specs.Reclaims.{Reclaims}
 use Rattle.foyer_run.specs.declared.reclaims.Part.{Part}
-use Rattle.foyer_run.proofs.ReclaimIdle.{begin_over, cleaned_over, forget_over, idle_kept, idle_more, over_behind}
+use Rattle.foyer_run.proofs.ReclaimIdle.{begin_over, cleaned_over, forget_over, idle_kept, idle_more, over_behind, unread_picked}
 use Rattle.foyer_run.proofs.ReclaimRuns.{IsCleanDone, clean_done, reclaims_kept, reclaims_none, reclaims_whole}
 use Rattle.foyer_run.proofs.reclaims.reclaim_block.Goals as goal
 
@@ -15,7 +16,8 @@ returns-in_default g c =
     let bytes = g.D.Disk.byte_at c.args.disk.now in record {
       reclaims = λ known. reclaims_none m c.apply.result c.args.core.now c.apply.new.self bytes c.apply.ensures.meets;
       ends = begin_over m c.apply.result c.args.core.now c.apply.new.self c.in_default.not-Picked c.apply.ensures.meets;
-      leads = idle_kept m step.ReclaimBegin c.apply.result c.args.core.now c.apply.new.self tt c.apply.ensures.meets;
+      leads = idle_kept m c.args.env.now.reinsertion step.ReclaimBegin c.apply.result c.args.core.now c.apply.new.self tt c.apply.ensures.meets;
+      lent = c.apply.ensures.lent;
       known = λ known. known;
     }
 
@@ -29,15 +31,17 @@ returns-in_default-apply g c =
     let read = c.read_block.new.core in
     let begins = subst (λ r. Refines m step.ReclaimBegin r c.args.core.now begun) c.in-Picked.is c.apply.ensures.meets in
     let size : c.settings.result.blob_index_size ≡ begun.settings.blob_index_size = ap (λ k. k.blob_index_size) c.settings.ensures in
-    let led = idle_more m c.args.core.now c.apply.new.self c.read_block.new.core
-    (idle_kept m step.ReclaimBegin c.apply.result c.args.core.now c.apply.new.self tt c.apply.ensures.meets) c.read_block.ensures.leads in
+    let filter = c.args.env.now.reinsertion in
+    let led = unread_picked m filter c.apply.new.env.reinsertion b c.in-Picked.answers c.in-Picked.probation c.args.core.now c.apply.new.self read c.apply.ensures.lent.0
+    (subst (λ r. Refines m step.ReclaimBegin r c.args.core.now c.apply.new.self) c.in-Picked.is c.apply.ensures.meets) c.read_block.ensures.leads in
     record {
       reclaims = λ known.
           subst (λ z. Reclaims m c.apply-2.result c.args.core.now c.apply-2.new.self bytes z) (sym c.read_block.ensures.same)
           (reclaims_kept m b c.in-Picked.answers c.in-Picked.probation first refl c.args.core.now begun read size bytes begins (c.read_block.ensures.reads known)
           c.apply-2.result c.apply-2.new.self c.apply-2.ensures.meets);
-      ends = over_behind m c.args.core.now read c.apply-2.result led (forget_over m b c.apply-2.result read c.apply-2.new.self c.in_default-apply.not-Clean c.apply-2.ensures.meets);
-      leads = idle_more m c.args.core.now read c.apply-2.new.self led (idle_kept m (step.ReclaimForget b) c.apply-2.result read c.apply-2.new.self tt c.apply-2.ensures.meets);
+      ends = over_behind m (Without filter KeepsIdle) c.args.core.now read c.apply-2.result led (forget_over m b c.apply-2.result read c.apply-2.new.self c.in_default-apply.not-Clean c.apply-2.ensures.meets);
+      leads = idle_more m filter c.args.core.now read c.apply-2.new.self led (idle_kept m filter (step.ReclaimForget b) c.apply-2.result read c.apply-2.new.self tt c.apply-2.ensures.meets);
+      lent = (c.apply-2.ensures.lent.0 ∙ c.read_block.ensures.lent.0 ∙ c.apply.ensures.lent.0, c.apply-2.ensures.lent.1 ∙ c.read_block.ensures.lent.1 ∙ c.apply.ensures.lent.1);
       known = c.read_block.ensures.known;
     }
 
@@ -66,10 +70,11 @@ returns-clause-ends g c =
     let m = meaning g.K.Code.encoding g.V.Code.encoding g.K.Code.is_encodable g.V.Code.is_encodable g.K.Code.is_decodable g.V.Code.is_decodable g.P.Properties.age in
     let b = c.in-Picked.block in
     let read = c.read_block.new.core in
-    let led = idle_more m c.args.core.now c.apply.new.self c.read_block.new.core
-    (idle_kept m step.ReclaimBegin c.apply.result c.args.core.now c.apply.new.self tt c.apply.ensures.meets) c.read_block.ensures.leads in
-    over_behind m c.args.core.now c.apply-2.new.self c.apply-3.result
-    (idle_more m c.args.core.now read c.apply-2.new.self led (idle_kept m (step.ReclaimForget b) c.apply-2.result read c.apply-2.new.self tt c.apply-2.ensures.meets))
+    let filter = c.args.env.now.reinsertion in
+    let led = unread_picked m filter c.apply.new.env.reinsertion b c.in-Picked.answers c.in-Picked.probation c.args.core.now c.apply.new.self read c.apply.ensures.lent.0
+    (subst (λ r. Refines m step.ReclaimBegin r c.args.core.now c.apply.new.self) c.in-Picked.is c.apply.ensures.meets) c.read_block.ensures.leads in
+    over_behind m (Without filter KeepsIdle) c.args.core.now c.apply-2.new.self c.apply-3.result
+    (idle_more m filter c.args.core.now read c.apply-2.new.self led (idle_kept m filter (step.ReclaimForget b) c.apply-2.result read c.apply-2.new.self tt c.apply-2.ensures.meets))
     (cleaned_over m b c.clean_block-cleaned.result c.apply-3.result c.apply-2.new.self c.apply-3.new.self c.apply-3.ensures.meets)
 
 pub returns-clause-leads : goal.returns-clause-leads
@@ -77,8 +82,15 @@ returns-clause-leads g c =
     let m = meaning g.K.Code.encoding g.V.Code.encoding g.K.Code.is_encodable g.V.Code.is_encodable g.K.Code.is_decodable g.V.Code.is_decodable g.P.Properties.age in
     let b = c.in-Picked.block in
     let read = c.read_block.new.core in
-    let led = idle_more m c.args.core.now c.apply.new.self c.read_block.new.core
-    (idle_kept m step.ReclaimBegin c.apply.result c.args.core.now c.apply.new.self tt c.apply.ensures.meets) c.read_block.ensures.leads in
-    idle_more m c.args.core.now c.apply-2.new.self c.apply-3.new.self
-    (idle_more m c.args.core.now read c.apply-2.new.self led (idle_kept m (step.ReclaimForget b) c.apply-2.result read c.apply-2.new.self tt c.apply-2.ensures.meets))
-    (idle_kept m (step.ReclaimCleaned b c.clean_block-cleaned.result) c.apply-3.result c.apply-2.new.self c.apply-3.new.self tt c.apply-3.ensures.meets)
+    let filter = c.args.env.now.reinsertion in
+    let led = unread_picked m filter c.apply.new.env.reinsertion b c.in-Picked.answers c.in-Picked.probation c.args.core.now c.apply.new.self read c.apply.ensures.lent.0
+    (subst (λ r. Refines m step.ReclaimBegin r c.args.core.now c.apply.new.self) c.in-Picked.is c.apply.ensures.meets) c.read_block.ensures.leads in
+    idle_more m filter c.args.core.now c.apply-2.new.self c.apply-3.new.self
+    (idle_more m filter c.args.core.now read c.apply-2.new.self led (idle_kept m filter (step.ReclaimForget b) c.apply-2.result read c.apply-2.new.self tt c.apply-2.ensures.meets))
+    (idle_kept m filter (step.ReclaimCleaned b c.clean_block-cleaned.result) c.apply-3.result c.apply-2.new.self c.apply-3.new.self tt c.apply-3.ensures.meets)
+
+pub returns-clause-lent : goal.returns-clause-lent
+returns-clause-lent g c = (
+  c.apply-3.ensures.lent.0 ∙ c.apply-2.ensures.lent.0 ∙ c.read_block.ensures.lent.0 ∙ c.apply.ensures.lent.0,
+  c.apply-3.ensures.lent.1 ∙ c.apply-2.ensures.lent.1 ∙ c.read_block.ensures.lent.1 ∙ c.apply.ensures.lent.1,
+)

@@ -65,7 +65,7 @@ returns-in-Err-clause-meets g c = λ age_of s sound it stands few.
     let found = c.index_mut-found.result.now in
     let before : IsFlusherAs m s (seen found) (it.flushers f) = flusher_at m s old.flushers.items it.flushers f found stands.flushers within c.index_mut-found.ensures.value in
     refused m s sound (step.Receive f) old _ it kind.Memory model_reply.Memory refl (returns-in-Err-clause-back g c).1 stands
-    (is_early m s old it stands few, (there, c.in-Err.ensures.takes age_of s sound it f before))
+    (is_early m s old it stands few, (there, c.in-Err.ensures.takes age_of s sound it f before stands.index))
 
 pub returns-in-Ok-Nothing-clause-meets : goal.returns-in-Ok-Nothing-clause-meets
 returns-in-Ok-Nothing-clause-meets g c = λ age_of s sound it stands few.
@@ -78,7 +78,7 @@ returns-in-Ok-Nothing-clause-meets g c = λ age_of s sound it stands few.
     let found = c.index_mut-found.result.now in
     let before : IsFlusherAs m s (seen found) (it.flushers f) = flusher_at m s old.flushers.items it.flushers f found stands.flushers within c.index_mut-found.ensures.value in
     let none : ((it.flushers f).queue ≡ []) × IsFlusherAs m s (seen c.receive.new.self) (it.flushers f) =
-    subst (λ x. TakesFront m s sound it f (Ok x) c.receive.new.self) c.in-Ok-Nothing.field-0-is (c.in-Ok-Nothing.ensures.takes age_of s sound it f before) in
+    subst (λ x. TakesFront m s sound it f (Ok x) c.receive.new.self) c.in-Ok-Nothing.field-0-is (c.in-Ok-Nothing.ensures.takes age_of s sound it f before stands.index) in
     record {
       after = it;
       it = model_reply.Empty;
@@ -110,7 +110,7 @@ returns-in-Ok-Other-clause-meets g c = λ age_of s sound it stands few.
     let found = c.index_mut-found.result.now in
     let before : IsFlusherAs m s (seen found) (it.flushers f) = flusher_at m s old.flushers.items it.flushers f found stands.flushers within c.index_mut-found.ensures.value in
     let taken : IsReceivedAs m s sound it f 0 None c.receive.new.self =
-    subst (λ x. TakesFront m s sound it f (Ok x) c.receive.new.self) c.in-Ok-Other.field-0-is (c.in-Ok-Other.ensures.takes age_of s sound it f before) in
+    subst (λ x. TakesFront m s sound it f (Ok x) c.receive.new.self) c.in-Ok-Other.field-0-is (c.in-Ok-Other.ensures.takes age_of s sound it f before stands.index) in
     let all : old.queued ≡ old.queued - 0 = omega arith in
     record {
       after = turned (machine m s sound) it f taken.after;
@@ -143,7 +143,7 @@ returns-in-Ok-Piece-clause-meets g c = λ age_of s sound it stands few.
     let found = c.index_mut-found.result.now in
     let before : IsFlusherAs m s (seen found) (it.flushers f) = flusher_at m s old.flushers.items it.flushers f found stands.flushers within c.index_mut-found.ensures.value in
     let taken : IsReceivedAs m s sound it f c.in-Ok-Piece.size (returned m c.in-Ok-Piece.back) c.receive.new.self =
-    subst (λ x. TakesFront m s sound it f (Ok x) c.receive.new.self) c.in-Ok-Piece.field-0-is (c.in-Ok-Piece.ensures.takes age_of s sound it f before) in
+    subst (λ x. TakesFront m s sound it f (Ok x) c.receive.new.self) c.in-Ok-Piece.field-0-is (c.in-Ok-Piece.ensures.takes age_of s sound it f before stands.index) in
     record {
       after = turned (machine m s sound) it f taken.after;
       it = model_reply.Received (returned m c.in-Ok-Piece.back);

@@ -9,9 +9,9 @@ use Rattle.foyer_model.specs.State as model_state
 use Rattle.foyer_rules.specs.CoreRules.{machine}
 use Rattle.foyer_standing.specs.Standing.{IsIndexedAs}
 use Rattle.foyer_standing.proofs.ForgetLemmas.{forgotten_is}
-use Rattle.foyer_core.specs.Reclaiming.{Reclaiming, ChangesReclaim, reclaim_at, after_forget}
-use Rattle.foyer_core.proofs.ReclaimLemmas.{all_stay}
-use Rattle.foyer_core.proofs.ReclaimStages.{forgets, at_stage}
+use Rattle.foyer_core.specs.Reclaiming.{Reclaiming, ChangesReclaim, reclaim_at, after_forget, left_in}
+use Rattle.foyer_core.proofs.ReclaimLemmas.{left_as}
+use Rattle.foyer_core.proofs.ReclaimStages.{forgets, at_stage, unforgotten_at}
 use Rattle.foyer_core.proofs.ReclaimSteps.{reclaim_stands}
 use Rattle.foyer_core.proofs.state.Core.reclaim_forget.Goals as goal
 
@@ -22,12 +22,13 @@ returns-clause-meets g c = λ m s sound it stands few.
     let o = reclaim_at core.reclaims b in
     let at = forgets m s sound b (it.place b) (it.filling b) o (it.reclaims b) (stands.reclaims b) (sym c.may_forget.ensures ∙ c.if-not-may_forget.false) in
     let its : model_state.Reclaim = record at.model { stage = model_state.ToClean } in
-    let gone : c.forget.new.index ≡ without_addresses core.index (at.ours).listed =
-    subst (λ (k : Option Reclaiming). IfSome k (λ r. c.forget.new.index ≡ without_addresses core.index r.listed)) at.mine c.forget.ensures.index in
+    let gone : c.forget.new.index ≡ without_addresses core.index (left_in (at.ours).requeued (at.ours).listed) =
+    subst (λ (k : Option Reclaiming). IfSome k (λ r. c.forget.new.index ≡ without_addresses core.index (left_in r.requeued r.listed))) at.mine c.forget.ensures.index in
     let indexed : IsIndexedAs s c.forget.new.index (forgotten (not_among (at.model).requeued (at.model).listed) it.index) =
-    subst (λ l. IsIndexedAs s c.forget.new.index (forgotten l it.index)) (sym (ap (λ q. not_among q (at.model).listed) (at.stands_as).requeued ∙ all_stay (at.model).listed))
-    (subst (λ k. IsIndexedAs s k (forgotten (at.model).listed it.index)) (sym gone)
-    (forgotten_is s core.index it.index (at.ours).listed (at.model).listed (at.stands_as).listed stands.index)) in
+    subst (λ k. IsIndexedAs s k (forgotten (not_among (at.model).requeued (at.model).listed) it.index)) (sym gone)
+    (forgotten_is s core.index it.index (left_in (at.ours).requeued (at.ours).listed) (not_among (at.model).requeued (at.model).listed)
+    (left_as (at.model).requeued (at.model).listed (at.ours).requeued (at.ours).listed
+    ((at.stands_as).listed (unforgotten_at m s sound b (it.place b) (it.filling b) o (it.reclaims b) at)) (at.stands_as).requeued) stands.index) in
     let changes : ChangesReclaim core.reclaims c.forget.new.reclaims b (Some (after_forget at.ours)) =
     subst (λ (k : Option Reclaiming). ChangesReclaim core.reclaims c.forget.new.reclaims b (option_map after_forget k)) at.mine c.forget.ensures.forgotten in
     record {
@@ -40,8 +41,9 @@ returns-clause-meets g c = λ m s sound it stands few.
               there = (at.stands_as).there;
               scan = (at.stands_as).scan;
               stage = refl;
-              listed = (at.stands_as).listed;
+              listed = λ un p. absurd (cc);
               requeued = (at.stands_as).requeued;
+              count = (at.stands_as).count;
             },
           );
       reply = refl;

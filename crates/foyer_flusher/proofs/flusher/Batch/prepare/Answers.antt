@@ -1,4 +1,5 @@
 use Rattle.std.proofs.Common.{◌≡◌, get_or, ap, ◌∙◌, arith}
+use Rattle.foyer_flusher.specs.Issued.{padded}
 use Rattle.foyer_flusher.proofs.IssueLemmas.{head_of}
 use Rattle.foyer_flusher.proofs.flusher.Batch.prepare.Goals as goal
 
@@ -14,6 +15,7 @@ returns-clause-ready g c =
       rest = h.0;
       blocks = h.1;
       records = c.in_ok-records.ensures.records;
+      sources = c.in_ok-sources.ensures.first ∙ ap (λ n. padded n c.args.self.now.sources.items) (c.len.ensures ∙ c.in_ok-records.records.ok.0);
       none = c.in_ok-writes.ensures.items;
-      room = omega (arith, c.saturating_mul-room.ensures, c.len.ensures, c.in_ok-writes.ensures.capacity, c.in_ok-writes.ensures.len, block.blob_parts.small, len.0, len.1);
+      room = omega (arith, c.saturating_mul-room.ensures, c.len-2.ensures, c.in_ok-writes.ensures.capacity, c.in_ok-writes.ensures.len, block.blob_parts.small, len.0, len.1);
     }

@@ -1,15 +1,15 @@
-use Rattle.std.proofs.Common.{rules, option_to_list, ◌≡◌, ◌+◌, true, false, length, [], ◌∷◌, ◌++◌, ◌∙◌, refl, sym, ap}
+use Rattle.std.proofs.Common.{rules, option_to_list, None, ◌≡◌, ◌+◌, true, false, length, [], ◌∷◌, ◌++◌, ◌∙◌, refl, sym, ap}
 use Rattle.foyer_buffer.specs.Entries.{FitsBuffer, with_entry}
 use Rattle.foyer_format.specs.Record.{record_bytes}
 use Rattle.foyer_format.specs.declared.compress.Compression.TheVariants as compression
 use Rattle.foyer_rules.specs.Content.{meaning}
 use Rattle.foyer_flusher.specs.Seen.{seen}
-use Rattle.foyer_flusher.specs.declared.flusher.Submission.TheVariants.{CacheEntry, Tombstone, Wait}
-use Rattle.foyer_flusher.proofs.TakenLemmas.{wait_kept, mark_kept, invalidated_listed, piece_kept, piece_back, piece_takes}
+use Rattle.foyer_flusher.specs.declared.flusher.Submission.TheVariants.{CacheEntry, Tombstone, Reinsertion, Wait}
+use Rattle.foyer_flusher.proofs.TakenLemmas.{wait_kept, mark_kept, again_kept, again_takes, invalidated_listed, piece_kept, piece_back, piece_takes}
 use Rattle.foyer_flusher.proofs.flusher.Flusher.receive.Goals as goal
 
 pub returns-in-Ok-true-clause-takes : goal.returns-in-Ok-true-clause-takes
-returns-in-Ok-true-clause-takes g c = λ age_of s sound st f stands.
+returns-in-Ok-true-clause-takes g c = λ age_of s sound st f stands indexed.
     let m = meaning g.K.Code.encoding g.V.Code.encoding g.K.Code.is_encodable g.V.Code.is_encodable g.K.Code.is_decodable g.V.Code.is_decodable age_of in
     let φ = seen c.args.self.now in
     let p = c.in-Some-CacheEntry.piece in
@@ -19,12 +19,14 @@ returns-in-Ok-true-clause-takes g c = λ age_of s sound st f stands.
     let fits : FitsBuffer φ.filled compression.None ((g.K.Code.is_encodable p.key ≡ true) × (g.V.Code.is_encodable p.value ≡ true)) (length (g.V.Code.encoding p.value) + length (g.K.Code.encoding p.key)) = search rules in
     let pushed : c.put_piece.new.filled ≡ with_entry φ.filled p.hash sequence (record_bytes p.hash sequence (g.K.Code.encoding p.key) (g.V.Code.encoding p.value)) = search rules in
     piece_kept m s sound st f φ stands p c.in-Some-CacheEntry.estimated_size sequence (g.K.Code.is_encodable p.key) (g.V.Code.is_encodable p.value) rest is refl _ fits
-    ((λ i. record φ { queue = rest; filled = pushed i; pieces = c.push_reserved.new.self.items })
-    ∙ ap (λ ps. record φ { queue = rest; filled = with_entry φ.filled p.hash sequence (record_bytes p.hash sequence (g.K.Code.encoding p.key) (g.V.Code.encoding p.value)); pieces = ps })
-    (c.push_reserved.ensures.items ∙ ap (λ ps. ps ++ p ∷ []) c.in-Ok-true.ensures.list))
+    ((λ i. record φ { queue = rest; filled = pushed i; sources = c.push_back_reserved.new.self.items; pieces = c.push_reserved.new.self.items })
+    ∙ ap (λ ps. record φ { queue = rest; filled = with_entry φ.filled p.hash sequence (record_bytes p.hash sequence (g.K.Code.encoding p.key) (g.V.Code.encoding p.value)); sources = c.push_back_reserved.new.self.items; pieces = ps })
+    (c.push_reserved.ensures.items ∙ ap (λ ps. ps ++ p ∷ []) c.in-Ok-true.ensures.list)
+    ∙ ap (λ os. record φ { queue = rest; filled = with_entry φ.filled p.hash sequence (record_bytes p.hash sequence (g.K.Code.encoding p.key) (g.V.Code.encoding p.value)); sources = os; pieces = φ.pieces ++ p ∷ [] })
+    (c.push_back_reserved.ensures.items ∙ ap (λ os. os ++ None ∷ []) c.in-Ok-true.ensures.sources))
 
 pub returns-in-Ok-false-clause-takes : goal.returns-in-Ok-false-clause-takes
-returns-in-Ok-false-clause-takes g c = λ age_of s sound st f stands.
+returns-in-Ok-false-clause-takes g c = λ age_of s sound st f stands indexed.
     let m = meaning g.K.Code.encoding g.V.Code.encoding g.K.Code.is_encodable g.V.Code.is_encodable g.K.Code.is_decodable g.V.Code.is_decodable age_of in
     let φ = seen c.args.self.now in
     let p = c.in-Some-CacheEntry.piece in
@@ -35,10 +37,10 @@ returns-in-Ok-false-clause-takes g c = λ age_of s sound st f stands.
     let lacks : FitsBuffer φ.filled compression.None ((g.K.Code.is_encodable p.key ≡ true) × (g.V.Code.is_encodable p.value ≡ true)) (length (g.V.Code.encoding p.value) + length (g.K.Code.encoding p.key)) → ⊥ =
     (λ fits. let clash : c.in-Ok-false.field-0 ≡ true = c.in-Ok-false.ensures.fits.1 fits in let e : false ≡ true = sym c.in-Ok-false.field-0-test ∙ clash in cc) in
     piece_back m s sound st f φ stands p c.in-Some-CacheEntry.estimated_size sequence (g.K.Code.is_encodable p.key) (g.V.Code.is_encodable p.value) rest is refl _ lacks
-    (λ i. record φ { queue = rest; filled = kept i; pieces = c.in-Ok-false.ensures.list i })
+    (λ i. record φ { queue = rest; filled = kept i; sources = c.in-Ok-false.ensures.sources i; pieces = c.in-Ok-false.ensures.list i })
 
 pub returns-in-Err-clause-takes : goal.returns-in-Err-clause-takes
-returns-in-Err-clause-takes g c = λ age_of s sound st f stands.
+returns-in-Err-clause-takes g c = λ age_of s sound st f stands indexed.
     let m = meaning g.K.Code.encoding g.V.Code.encoding g.K.Code.is_encodable g.V.Code.is_encodable g.K.Code.is_decodable g.V.Code.is_decodable age_of in
     let φ = seen c.args.self.now in
     let p = c.in-Some-CacheEntry.piece in
@@ -48,7 +50,7 @@ returns-in-Err-clause-takes g c = λ age_of s sound st f stands.
     piece_takes m s sound st f φ stands p c.in-Some-CacheEntry.estimated_size sequence (g.K.Code.is_encodable p.key) (g.V.Code.is_encodable p.value) rest is refl c.in-Err.ensures.due
 
 pub returns-in-Ok-clause-takes : goal.returns-in-Ok-clause-takes
-returns-in-Ok-clause-takes g c = λ age_of s sound st f stands.
+returns-in-Ok-clause-takes g c = λ age_of s sound st f stands indexed.
     let m = meaning g.K.Code.encoding g.V.Code.encoding g.K.Code.is_encodable g.V.Code.is_encodable g.K.Code.is_decodable g.V.Code.is_decodable age_of in
     let φ = seen c.args.self.now in
     let rest = c.pop_front.new.self.items in
@@ -58,10 +60,28 @@ returns-in-Ok-clause-takes g c = λ age_of s sound st f stands.
     (λ i. record φ { queue = rest; marks = c.in-Ok.ensures.marks i; invalid = c.in-Ok.ensures.invalid i })
 
 pub returns-in-Ok-put_wait-clause-takes : goal.returns-in-Ok-put_wait-clause-takes
-returns-in-Ok-put_wait-clause-takes g c = λ age_of s sound st f stands.
+returns-in-Ok-put_wait-clause-takes g c = λ age_of s sound st f stands indexed.
     let m = meaning g.K.Code.encoding g.V.Code.encoding g.K.Code.is_encodable g.V.Code.is_encodable g.K.Code.is_decodable g.V.Code.is_decodable age_of in
     let φ = seen c.args.self.now in
     let rest = c.pop_front.new.self.items in
     let is : φ.queue ≡ Wait c.in-Some-Wait.id ∷ rest = c.in-Some-Wait.ensures.items ∙ ap (λ x. x ∷ rest) c.in-Some-Wait.field-0-is in
     wait_kept m s sound st f φ stands c.in-Some-Wait.id rest _ is
     (ap (λ xs. record φ { queue = rest; waits = xs }) c.in-Ok-put_wait.ensures.put)
+
+pub returns-in-Ok-put_reinsertion-clause-takes : goal.returns-in-Ok-put_reinsertion-clause-takes
+returns-in-Ok-put_reinsertion-clause-takes g c = λ age_of s sound st f stands indexed.
+    let m = meaning g.K.Code.encoding g.V.Code.encoding g.K.Code.is_encodable g.V.Code.is_encodable g.K.Code.is_decodable g.V.Code.is_decodable age_of in
+    let φ = seen c.args.self.now in
+    let rest = c.pop_front.new.self.items in
+    let r = c.in-Some-Reinsertion.reinsertion in
+    let is : φ.queue ≡ Reinsertion r ∷ rest = c.in-Some-Reinsertion.ensures.items ∙ ap (λ x. x ∷ rest) c.in-Some-Reinsertion.field-0-is in
+    again_kept m s sound st f φ stands c.args.index.now indexed r rest is _ c.put_reinsertion.new.filled c.put_reinsertion.new.sources.items c.in-Ok-put_reinsertion.ensures.put refl
+
+pub returns-in-Err-put_reinsertion-clause-takes : goal.returns-in-Err-put_reinsertion-clause-takes
+returns-in-Err-put_reinsertion-clause-takes g c = λ age_of s sound st f stands indexed.
+    let m = meaning g.K.Code.encoding g.V.Code.encoding g.K.Code.is_encodable g.V.Code.is_encodable g.K.Code.is_decodable g.V.Code.is_decodable age_of in
+    let φ = seen c.args.self.now in
+    let rest = c.pop_front.new.self.items in
+    let r = c.in-Some-Reinsertion.reinsertion in
+    let is : φ.queue ≡ Reinsertion r ∷ rest = c.in-Some-Reinsertion.ensures.items ∙ ap (λ x. x ∷ rest) c.in-Some-Reinsertion.field-0-is in
+    again_takes m s sound st f φ stands c.args.index.now indexed r rest is c.in-Err-put_reinsertion.ensures.due

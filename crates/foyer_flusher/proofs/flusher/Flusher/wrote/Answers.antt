@@ -1,10 +1,12 @@
-use Rattle.std.proofs.Common.{◌≡◌, ◌≤◌, ◌-◌, Bool, true, false, Some, length, sym, ap, subst, ◌∙◌, refl, arith}
+use Rattle.std.proofs.Common.{◌≡◌, ◌≤◌, ◌-◌, Bool, true, false, Some, length, map, sym, ap, subst, ◌∙◌, refl, arith}
 use Rattle.foyer_model.specs.Reply as model_reply
 use Rattle.foyer_model.specs.Step as model_step
-use Rattle.foyer_flusher.specs.FlusherSteps.{FlusherStep}
+use Rattle.foyer_block.specs.Committing.{committed_all, put_count}
+use Rattle.foyer_flusher.specs.FlusherSteps.{FlusherStep, settled}
 use Rattle.foyer_standing.specs.Standing.{sets_of}
 use Rattle.foyer_flusher.specs.Seen.{seen}
 use Rattle.foyer_flusher.specs.declared.flusher.Batch.{Batch}
+use Rattle.foyer_flusher.specs.declared.flusher.Writing.{Writing}
 use Rattle.foyer_flusher.proofs.WroteLemmas.{wrote_next, wrote_last, wrote_fails}
 use Rattle.foyer_flusher.proofs.flusher.Flusher.wrote.Goals as goal
 
@@ -25,30 +27,33 @@ returns-then-left-gt1-clause-done g c = λ m s sound f it stands.
     let self = c.args.self.now in
     let w = c.in-Some-take_writing.writing in
     let writes : (c.in-Some.batch).writing ≡ Some w = sym c.take_writing.ensures.taken ∙ c.in-Some-take_writing.is in
-    let left : c.put_writing.new.self ≡ record c.in-Some.batch { writing = Some (record w { left = w.left - 1 }) } =
-    c.put_writing.ensures.rest ∙ ap (λ (b : Batch g.row.K.Denot g.row.V.Denot g.row.P.Denot g.row.A.Denot). record b { writing = Some (record w { left = w.left - 1 }) }) c.take_writing.ensures.rest in
+    let u : Writing g.row.A.Denot = record w { left = w.left - 1; paired = c.put_writing-arg-1.given.0 } in
+    let left : c.put_writing.new.self ≡ record c.in-Some.batch { writing = Some u } =
+    c.put_writing.ensures.rest ∙ ap (λ (b : Batch g.row.K.Denot g.row.V.Denot g.row.P.Denot g.row.A.Denot). record b { writing = Some u }) c.take_writing.ensures.rest in
     subst (λ (ok : Bool). FlusherStep m s sound (model_step.FlushWrote f ok) f it model_reply.Next (record (seen self) { batch = Some c.put_writing.new.self })
     c.args.index.now c.args.manager.now) (sym c.if-not-is_done.false)
     (subst (λ b. FlusherStep m s sound (model_step.FlushWrote f true) f it model_reply.Next (record (seen self) { batch = Some b })
     c.args.index.now c.args.manager.now) (sym left)
     (wrote_next m s sound f it (seen self) c.args.index.now c.args.manager.now stands c.in-Some.batch c.in-Some.is w writes
-    (w.left - 1) c.if-left-gt1.true refl))
+    u c.if-left-gt1.true refl refl refl refl))
 
 pub returns-in-Some-commit-clause-done : goal.returns-in-Some-commit-clause-done
 returns-in-Some-commit-clause-done g c = λ m s sound f it stands.
     let self = c.args.self.now in
     let w = c.in-Some-take_writing.writing in
     let writes : (c.in-Some.batch).writing ≡ Some w = sym c.take_writing.ensures.taken ∙ c.in-Some-take_writing.is in
-    let count : c.in-Some-commit.count ≡ length w.records.items = omega (arith, w.records.ok.0, c.in-Some-commit.ensures.committed.0) in
+    let sources : c.deref.result.now ≡ w.sources.items = c.deref.ensures.value in
+    let count = subst (λ os. c.in-Some-commit.count ≡ put_count c.args.index.now (map (settled w.block c.filling_of.result) w.records.items) os) sources c.in-Some-commit.ensures.committed.0 in
+    let index = subst (λ os. c.commit.new.index ≡ committed_all c.args.index.now (map (settled w.block c.filling_of.result) w.records.items) os) sources c.in-Some-commit.ensures.committed.1 in
     subst (λ (ok : Bool). FlusherStep m s sound (model_step.FlushWrote f ok) f it (model_reply.Committed c.in-Some-commit.count) (record (seen self) { batch = Some c.take_writing.new.self })
     c.commit.new.index c.args.manager.now) (sym c.if-not-is_done.false)
     (subst (λ b. FlusherStep m s sound (model_step.FlushWrote f true) f it (model_reply.Committed c.in-Some-commit.count) (record (seen self) { batch = Some b })
     c.commit.new.index c.args.manager.now) (sym c.take_writing.ensures.rest)
     (wrote_last m s sound f it (seen self) c.args.index.now c.args.manager.now stands c.in-Some.batch c.in-Some.is w writes
-    c.in-Some-commit.count c.filling_of.result c.commit.new.index c.if-left-gt1.false c.filling_of.ensures count c.in-Some-commit.ensures.committed.1))
+    c.in-Some-commit.count c.filling_of.result c.commit.new.index c.if-left-gt1.false c.filling_of.ensures count index))
 
-pub returns-in-None-clause-done : goal.returns-in-None-clause-done
-returns-in-None-clause-done g c = λ m s sound f it stands.
+pub returns-clause-done : goal.returns-clause-done
+returns-clause-done g c = λ m s sound f it stands.
     let self = c.args.self.now in
     let w = c.in-Some-take_writing.writing in
     let writes : (c.in-Some.batch).writing ≡ Some w = sym c.take_writing.ensures.taken ∙ c.in-Some-take_writing.is in

@@ -1,7 +1,5 @@
-use Rattle.foyer_run.specs.AtRest.{KeepsIdle, Leads}
-use Rattle.foyer_serve.specs.Texts.{plain}
 use Rattle.foyer_serve.proofs.EngineLemmas.{Waited}
 use Rattle.foyer_serve.proofs.engine.Engine.keep_clean.Given as goal
 
 abbrev pub invariant-loop : goal.invariant-loop
-invariant-loop g l = Waited g.D.Disk.is_known g.D.Disk.byte_at l.fn.self l.self × Leads plain KeepsIdle l.fn.self.core l.self.core
+invariant-loop g l = Waited g.D.Disk.is_known g.D.Disk.byte_at l.fn.self l.self

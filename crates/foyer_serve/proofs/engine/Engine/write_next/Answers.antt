@@ -5,7 +5,7 @@ use Rattle.foyer_serve.proofs.engine.Engine.write_next.Goals as goal
 
 pub returns-in-Err-NoSpace-clause-leads : goal.returns-in-Err-NoSpace-clause-leads
 returns-in-Err-NoSpace-clause-leads g c =
-    written_reclaimed c.args.flusher c.args.self.now.core c.write_block-wrote.new.core c.make_room.new.self.core c.write_block-wrote.ensures.leads c.make_room.ensures.leads
+    written_reclaimed c.args.self.now.env.reinsertion c.write_block-wrote.new.env.reinsertion c.write_block-wrote.ensures.lent.0 c.args.flusher c.args.self.now.core c.write_block-wrote.new.core c.make_room.new.self.core c.write_block-wrote.ensures.leads c.make_room.ensures.leads
 
 pub returns-in-Err-NoSpace-clause-waited : goal.returns-in-Err-NoSpace-clause-waited
 returns-in-Err-NoSpace-clause-waited g c =
@@ -16,12 +16,13 @@ returns-in-Err-NoSpace-clause-waited g c =
 
 pub returns-in_default : goal.returns-in_default
 returns-in_default g c = record {
-  leads = written_alone c.args.flusher c.args.self.now.core c.write_block-wrote.new.core c.write_block-wrote.ensures.leads;
+  leads = written_alone c.args.self.now.env.reinsertion c.args.flusher c.args.self.now.core c.write_block-wrote.new.core c.write_block-wrote.ensures.leads;
   waited = known_wrote plain c.args.flusher c.write_block-wrote.result c.args.self.now.core c.write_block-wrote.new.core (g.D.Disk.byte_at c.args.self.now.disk) (g.D.Disk.byte_at c.write_block-wrote.new.disk) c.write_block-wrote.ensures.known c.write_block-wrote.ensures.writes;
+  lent = c.write_block-wrote.ensures.lent.0;
 }
 
 pub returns-in_default-2-clause-leads : goal.returns-in_default-2-clause-leads
-returns-in_default-2-clause-leads g c = written_alone c.args.flusher c.args.self.now.core c.write_block-wrote.new.core c.write_block-wrote.ensures.leads
+returns-in_default-2-clause-leads g c = written_alone c.args.self.now.env.reinsertion c.args.flusher c.args.self.now.core c.write_block-wrote.new.core c.write_block-wrote.ensures.leads
 
 pub returns-in_default-2-clause-waited : goal.returns-in_default-2-clause-waited
 returns-in_default-2-clause-waited g c = known_wrote plain c.args.flusher c.write_block-wrote.result c.args.self.now.core c.write_block-wrote.new.core (g.D.Disk.byte_at c.args.self.now.disk) (g.D.Disk.byte_at c.write_block-wrote.new.disk) c.write_block-wrote.ensures.known c.write_block-wrote.ensures.writes

@@ -1,6 +1,6 @@
 use Rattle.foyer_run.proofs.ReclaimRuns.{reclaims_wait}
 use Rattle.foyer_serve.specs.Texts.{plain}
-use Rattle.foyer_serve.proofs.engine.Engine.reclaim.Goals as goal
+use Rattle.foyer_serve.proofs.engine.Engine.reclaim_block.Goals as goal
 
 pub returns-clause-waited : goal.returns-clause-waited
 returns-clause-waited g c = λ known. (

@@ -1,0 +1,7 @@
+//! Records of reclaimed blocks that are written again, where the filter admits them.
+
+mod asked;
+mod faults;
+mod random;
+mod rows;
+mod settled;

@@ -1,7 +1,0 @@
-use Rattle.foyer_run.specs.AtRest.{EndsBatchOnce, Leads}
-use Rattle.foyer_serve.specs.Texts.{plain}
-use Rattle.foyer_serve.proofs.EngineLemmas.{Waited}
-use Rattle.foyer_serve.proofs.engine.Engine.flush.Given as goal
-
-abbrev pub invariant-loop : goal.invariant-loop
-invariant-loop g l = Waited g.D.Disk.is_known g.D.Disk.byte_at l.fn.self l.self × Leads plain (EndsBatchOnce l.has_ended l.flusher) l.fn.self.core l.self.core

@@ -1,0 +1,8 @@
+use Rattle.foyer_run.specs.AtRest.{Leads}
+use Rattle.foyer_run.proofs.RestLemmas.{IsAny}
+use Rattle.foyer_serve.specs.Texts.{plain}
+use Rattle.foyer_serve.proofs.EngineLemmas.{Waited}
+use Rattle.foyer_serve.proofs.engine.Engine.settle.Given as goal
+
+abbrev pub invariant-loop : goal.invariant-loop
+invariant-loop g l = Waited g.D.Disk.is_known g.D.Disk.byte_at l.fn.self l.self × Leads plain IsAny l.fn.self.core l.self.core
