@@ -18,7 +18,8 @@ use Rattle.foyer_buffer.specs.declared.split.BlobPart.{BlobPart}
 use Rattle.foyer_restart.specs.Entries.{filled_to, stored}
 use Rattle.foyer_restart.specs.Real.{IsSamePart, AreSameParts}
 use Rattle.foyer_restart.specs.Splits.{IsRealSplit}
-use Rattle.foyer_restart.specs.Torn.{IsTornStop, small, older, newer, other, Place, alone, ReachesTorn}
+use Rattle.foyer_restart.specs.Torn.{IsTornStop, small, older, newer, other, Place, alone, ReachesTorn, FindsAfterTorn}
+use Rattle.foyer_restart.proofs.Placings.{real_restart_law_lem}
 use Rattle.foyer_restart.proofs.TornRun.{Machine, Item, StandsAlone, reached}
 
 -- what a part of one record is
@@ -127,3 +128,12 @@ module _ (A : Type 0) (entries_of : ℕ → List ℕ → Option (List IndexEntry
 
 pub reaches_torn_lem : (A : Type 0) → ReachesTorn A
 reaches_torn_lem A entries_of above some whole p q r split split_other = torn_stop A entries_of above some whole p q r split split_other
+
+pub finds_after_torn_lem : (A : Type 0) → FindsAfterTorn A
+finds_after_torn_lem A entries_of above some whole p q r format split split_other =
+    let stop : IsTornStop (small entries_of above some whole) (IsRealSplit A (small entries_of above some whole)) (λ c. Unit {0}) 2
+    (record { block = 0; offset = p.offset; len = 2; sequence = 1; filling = 1 }) = torn_stop A entries_of above some whole p q r split split_other in (
+      stop,
+      λ mode o is opens. real_restart_law_lem A (small entries_of above some whole) (λ c. Unit {0}) format (λ h s c b _ _ _ e. cc) stop.world stop.bytes mode o 2
+          (record { block = 0; offset = p.offset; len = 2; sequence = 1; filling = 1 }) stop.run stop.stopped stop.strays is opens stop.indexed stop.apart,
+    )

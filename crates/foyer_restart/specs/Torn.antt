@@ -1,5 +1,5 @@
 -- That the law speaks of a stop inside writes: two flushers, each inside one, and an address whose block neither writes.
-use Rattle.std.specs.Prelude.{◌≡◌, ◌≢◌, ℕ, ◌+◌, ◌<◌, ◌≤◌, Bool, false, List, [], ◌∷◌, Option, Some}
+use Rattle.std.specs.Prelude.{◌≡◌, ◌≢◌, ℕ, ◌+◌, ◌<◌, ◌≤◌, Bool, false, List, [], ◌∷◌, Option, Some, ◌⊎◌}
 use Rattle.foyer_format.specs.Page.{page_up}
 use Rattle.foyer_model.specs.Access.{InFlight}
 use Rattle.foyer_model.specs.Layout.{laid}
@@ -9,7 +9,12 @@ use Rattle.foyer_model.specs.Record.{Address, Indexed, Holds, IndexEntry, Given,
 use Rattle.foyer_model.specs.Rules.{Rules, Splitting, first_position}
 use Rattle.foyer_model.specs.State.{Writing}
 use Rattle.foyer_model.specs.World.{World}
-use Rattle.foyer_restart.specs.Restart.{IsRun, IsStopped, HasNoStrays, IsWriting, IsBeingWritten}
+use Rattle.foyer_recover.specs.Opening.{Opened, Opens}
+use Rattle.foyer_recover.specs.declared.block.recover.RecoverMode.{RecoverMode}
+use Rattle.foyer_recover.specs.declared.block.recover.RecoverMode.TheVariants as recover_mode
+use Rattle.foyer_restart.specs.Entries.{sizes_of}
+use Rattle.foyer_restart.specs.Real.{IsFormat}
+use Rattle.foyer_restart.specs.Restart.{IsRun, IsStopped, HasNoStrays, IsWriting, IsBeingWritten, IsFoundAgain, IsFoundNewer, no_fault}
 use Rattle.foyer_restart.specs.Splits.{IsRealSplit}
 
 -- Stopped inside a write of this role: the flusher writes into the block, the write is under way, and of its bytes one has come
@@ -38,6 +43,13 @@ pub record IsTornStop {C : Type 0} (rules : Rules C) (Splits : Splitting C) (is_
   pub in_index : IsInside world bytes 1 2 Index
   pub stopped : IsStopped rules world bytes
   pub strays : HasNoStrays rules world bytes
+
+-- Whatever opens the bytes of such a stop finds the address again, or a newer record of its hash.
+abbrev pub FindsAfter : {C : Type 0} {rules : Rules C} {Splits : Splitting C} {is_value : C → Type 0} {h : ℕ} {a : Address}
+    → IsTornStop rules Splits is_value h a → Type 0
+FindsAfter {rules = rules} {h = h} {a = a} stop =
+    (mode : RecoverMode) (o : Opened) → mode ≢ recover_mode.None → Opens (sizes_of rules) rules.blocks stop.bytes mode no_fault [] o
+    → IsFoundAgain o h a ⊎ IsFoundNewer stop.world stop.bytes o h a
 
 -- two flushers, three blocks of two pages, the first of which is its index, and contents that are their own records
 abbrev pub small : (ℕ → List ℕ → Option (List IndexEntry)) → ((n : ℕ) → n ≤ page_up n) → (0 < 2) → (page ≤ 4096) → Rules (List ℕ)
@@ -99,3 +111,16 @@ ReachesTorn A =
     (alone r other ∷ [])
     → IsTornStop (small entries_of above some whole) (IsRealSplit A (small entries_of above some whole)) (λ c. Unit {0}) 2
     (record { block = 0; offset = p.offset; len = 2; sequence = 1; filling = 1 })
+
+-- Where the rules are of the real format, the law speaks of such a stop.
+abbrev pub FindsAfterTorn : Type 0 → Type 0
+FindsAfterTorn A =
+    (entries_of : ℕ → List ℕ → Option (List IndexEntry)) (above : (n : ℕ) → n ≤ page_up n) (some : 0 < 2) (whole : page ≤ 4096)
+    (p q r : Place) → IsFormat (small entries_of above some whole)
+    → IsRealSplit A (small entries_of above some whole) (first_position (small entries_of above some whole)) (older ∷ newer ∷ [])
+    (alone p older ∷ alone q newer ∷ [])
+    → IsRealSplit A (small entries_of above some whole) (first_position (small entries_of above some whole)) (other ∷ [])
+    (alone r other ∷ [])
+    → (stop : IsTornStop (small entries_of above some whole) (IsRealSplit A (small entries_of above some whole)) (λ c. Unit {0}) 2
+    (record { block = 0; offset = p.offset; len = 2; sequence = 1; filling = 1 }))
+    × FindsAfter stop

@@ -10,7 +10,7 @@ ghost use Rattle.foyer_restart.specs.Newest.{LaidNewestLaw};
 ghost use Rattle.foyer_restart.specs.Real.{IsFormat};
 ghost use Rattle.foyer_restart.specs.Restart.{IdleLaw, RestartLaw};
 ghost use Rattle.foyer_restart.specs.Splits.{RealIdleLaw, RealRestartLaw, SplitIsReal};
-ghost use Rattle.foyer_restart.specs.Torn.{ReachesTorn};
+ghost use Rattle.foyer_restart.specs.Torn.{FindsAfterTorn, ReachesTorn};
 ghost use Rattle.foyer_restart.specs.Total.{ListsExist, OpensUnlessLast};
 ghost use Rattle.foyer_restart.specs.Witness.{ReachesIndexed};
 
@@ -78,4 +78,9 @@ pub fn reaches_indexed<A: Allocator>()
 /// index, while an address stands in the index whose block neither writes.
 pub fn reaches_torn<A: Allocator>()
     ensures { ReachesTorn A }
+{}
+
+/// Whatever opens the bytes of that stop finds the address again, or a newer record of its hash.
+pub fn finds_after_torn<A: Allocator>()
+    ensures { FindsAfterTorn A }
 {}
