@@ -672,8 +672,8 @@ module _ {C : Type 0} (m : Machine C) (Splits : Splitting C) (is_value : C → T
           ∙ put_other core0.flushers 0 _ f ne0
           )
 
-  pub reached : IsTornStop rules Splits is_value 2 (record { block = 0; offset = p.offset; len = length i.bytes; sequence = 1; filling = 1 })
-  reached = record {
+  abbrev stop : IsTornStop rules Splits is_value 2 (record { block = 0; offset = p.offset; len = length i.bytes; sequence = 1; filling = 1 })
+  stop = record {
     world = w;
     bytes = torn;
     run = run;
@@ -684,6 +684,9 @@ module _ {C : Type 0} (m : Machine C) (Splits : Splitting C) (is_value : C → T
     stopped = stopped;
     strays = strays;
   }
+
+  pub reached : IsTornStop rules Splits is_value 2 (record { block = 0; offset = p.offset; len = length i.bytes; sequence = 1; filling = 1 })
+  reached = stop
 
   -- what is opened
 
@@ -719,7 +722,7 @@ module _ {C : Type 0} (m : Machine C) (Splits : Splitting C) (is_value : C → T
         fits = (record { some = i.some; behind = omega arith; aligned = refl; within = within }, tt);
       }
 
-  pub opens : IsSealed p.index (entry ∷ []) → Opens sizes 3 torn recover_mode.Quiet no_fault [] found
+  opens : IsSealed p.index (entry ∷ []) → Opens sizes 3 torn recover_mode.Quiet no_fault [] found
   opens sealed = record {
     keeps = keeps;
     kept = λ b lt. elim (which b lt) [
@@ -733,3 +736,8 @@ module _ {C : Type 0} (m : Machine C) (Splits : Splitting C) (is_value : C → T
     below = omega arith;
     read = λ u b lt cut. let t : false ≡ true = cut.4 in cc;
   }
+
+  pub reached_open : IsSealed p.index (entry ∷ [])
+      → (stop : IsTornStop rules Splits is_value 2 (record { block = 0; offset = p.offset; len = length i.bytes; sequence = 1; filling = 1 }))
+      × Opens sizes 3 stop.bytes recover_mode.Quiet no_fault [] found
+  reached_open sealed = (stop, opens sealed)
