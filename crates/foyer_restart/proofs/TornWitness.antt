@@ -18,7 +18,7 @@ use Rattle.foyer_buffer.specs.declared.split.BlobPart.{BlobPart}
 use Rattle.foyer_restart.specs.Entries.{filled_to, stored}
 use Rattle.foyer_restart.specs.Real.{IsSamePart, AreSameParts}
 use Rattle.foyer_restart.specs.Splits.{IsRealSplit}
-use Rattle.foyer_restart.specs.Torn.{IsTornStop, small, older, newer, other, Place, alone, ReachesTorn, FindsAfterTorn}
+use Rattle.foyer_restart.specs.Torn.{small, older, newer, other, Place, alone, TornStop, ReachesTorn, FindsAfterTorn}
 use Rattle.foyer_restart.proofs.Placings.{real_restart_law_lem}
 use Rattle.foyer_restart.proofs.TornRun.{Machine, Item, StandsAlone, reached}
 
@@ -123,16 +123,16 @@ module _ (A : Type 0) (entries_of : ℕ → List ℕ → Option (List IndexEntry
     third_is : StandsAlone 5 4 r
     third_is = stands_alone split_other.whole 0 (filled_to (first_position rules)) (split_other.spread).0 r other 5 4 (split_other.spread).2 (filled_to r.end) refl refl refl refl (split_other.spread).4 (split_other.spread).5
 
-    torn_stop : IsTornStop rules (IsRealSplit A rules) Any 2 (record { block = 0; offset = p.offset; len = 2; sequence = 1; filling = 1 })
-    torn_stop = reached machine (IsRealSplit A rules) Any older_item newer_item other_item p q r 7 6 9 8 5 4 (λ e. omega arith) (λ e. omega arith) first_is second_is third_is split split_other
+    torn_stop : TornStop A rules p
+    torn_stop = reached machine (IsRealSplit A rules) Any older_item newer_item other_item p q r 7 6 9 8 5 4 (λ e. omega arith) (λ e. omega arith)
+        first_is second_is third_is split split_other
 
 pub reaches_torn_lem : (A : Type 0) → ReachesTorn A
-reaches_torn_lem A entries_of above some whole p q r split split_other = torn_stop A entries_of above some whole p q r split split_other
+reaches_torn_lem A entries_of above some whole p q r placed = torn_stop A entries_of above some whole p q r placed.0 placed.1
 
 pub finds_after_torn_lem : (A : Type 0) → FindsAfterTorn A
-finds_after_torn_lem A entries_of above some whole p q r format split split_other =
-    let stop : IsTornStop (small entries_of above some whole) (IsRealSplit A (small entries_of above some whole)) (λ c. Unit {0}) 2
-    (record { block = 0; offset = p.offset; len = 2; sequence = 1; filling = 1 }) = torn_stop A entries_of above some whole p q r split split_other in (
+finds_after_torn_lem A entries_of above some whole p q r format placed =
+    let stop : TornStop A (small entries_of above some whole) p = torn_stop A entries_of above some whole p q r placed.0 placed.1 in (
       stop,
       λ mode o is opens. real_restart_law_lem A (small entries_of above some whole) (λ c. Unit {0}) format (λ h s c b _ _ _ e. cc) stop.world stop.bytes mode o 2
           (record { block = 0; offset = p.offset; len = 2; sequence = 1; filling = 1 }) stop.run stop.stopped stop.strays is opens stop.indexed stop.apart,

@@ -99,28 +99,29 @@ alone p r = record {
   end = p.end;
 }
 
--- Wherever the splitter places these, each alone in a block: a run that goes well commits the older record into block 0, and is
--- stopped while flusher 0 writes the newer one of the same hash, and flusher 1 the third.
+-- the splitter places them, each alone in a block: the first two as one batch, and the third as another
+abbrev pub ArePlaced : Type 0 → Rules (List ℕ) → (p q r : Place) → Type 0
+ArePlaced A rules p q r =
+    IsRealSplit A rules (first_position rules) (older ∷ newer ∷ []) (alone p older ∷ alone q newer ∷ [])
+    × IsRealSplit A rules (first_position rules) (other ∷ []) (alone r other ∷ [])
+
+-- such a stop, at which the older record's address stood in the index
+abbrev pub TornStop : Type 0 → Rules (List ℕ) → Place → Type 0
+TornStop A rules p =
+    IsTornStop rules (IsRealSplit A rules) (λ c. Unit {0}) 2 (record { block = 0; offset = p.offset; len = 2; sequence = 1; filling = 1 })
+
+-- Wherever they are placed, a run that goes well commits the older record into block 0, and is stopped while flusher 0 writes the
+-- newer one of the same hash, and flusher 1 the third.
 abbrev pub ReachesTorn : Type 0 → Type 0
 ReachesTorn A =
     (entries_of : ℕ → List ℕ → Option (List IndexEntry)) (above : (n : ℕ) → n ≤ page_up n) (some : 0 < 2) (whole : page ≤ 4096)
     (p q r : Place)
-    → IsRealSplit A (small entries_of above some whole) (first_position (small entries_of above some whole)) (older ∷ newer ∷ [])
-    (alone p older ∷ alone q newer ∷ [])
-    → IsRealSplit A (small entries_of above some whole) (first_position (small entries_of above some whole)) (other ∷ [])
-    (alone r other ∷ [])
-    → IsTornStop (small entries_of above some whole) (IsRealSplit A (small entries_of above some whole)) (λ c. Unit {0}) 2
-    (record { block = 0; offset = p.offset; len = 2; sequence = 1; filling = 1 })
+    → ArePlaced A (small entries_of above some whole) p q r → TornStop A (small entries_of above some whole) p
 
 -- Where the rules are of the real format, the law speaks of such a stop.
 abbrev pub FindsAfterTorn : Type 0 → Type 0
 FindsAfterTorn A =
     (entries_of : ℕ → List ℕ → Option (List IndexEntry)) (above : (n : ℕ) → n ≤ page_up n) (some : 0 < 2) (whole : page ≤ 4096)
-    (p q r : Place) → IsFormat (small entries_of above some whole)
-    → IsRealSplit A (small entries_of above some whole) (first_position (small entries_of above some whole)) (older ∷ newer ∷ [])
-    (alone p older ∷ alone q newer ∷ [])
-    → IsRealSplit A (small entries_of above some whole) (first_position (small entries_of above some whole)) (other ∷ [])
-    (alone r other ∷ [])
-    → (stop : IsTornStop (small entries_of above some whole) (IsRealSplit A (small entries_of above some whole)) (λ c. Unit {0}) 2
-    (record { block = 0; offset = p.offset; len = 2; sequence = 1; filling = 1 }))
-    × FindsAfter stop
+    (p q r : Place)
+    → IsFormat (small entries_of above some whole) → ArePlaced A (small entries_of above some whole) p q r
+    → (stop : TornStop A (small entries_of above some whole) p) × FindsAfter stop

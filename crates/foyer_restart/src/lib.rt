@@ -74,8 +74,8 @@ pub fn reaches_indexed<A: Allocator>()
     ensures { ReachesIndexed A }
 {}
 
-/// They speak of a stop inside writes: such a run is stopped with two flushers each inside a write, one of data and one of an
-/// index, while an address stands in the index whose block neither writes.
+/// They speak of a stop inside writes: such a run is stopped with two flushers each inside a write, one of data and
+/// one of an index, while an address stands in the index whose block neither writes.
 pub fn reaches_torn<A: Allocator>()
     ensures { ReachesTorn A }
 {}

@@ -1,4 +1,4 @@
--- That the restart law speaks of stops inside writes: two flushers of a core, each inside one, and an address whose block neither writes.
+-- That the restart law speaks of a stop inside writes, of a core with two flushers.
 use Rattle.std.specs.Prelude.{ℕ, []}
 use Rattle.foyer_model.specs.Record.{Address}
 use Rattle.foyer_model.specs.Rules.{Rules, Splitting}

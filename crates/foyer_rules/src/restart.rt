@@ -37,9 +37,9 @@ pub fn restart_is_reached()
         → IsReached (rules_of is_key is_value (smallest s) sound) (layout (smallest s)) (IsEncoded is_key is_value) }
 {}
 
-/// They speak of stops inside writes: with two flushers and three small blocks, and any key and value of these codes whose
-/// record fits a page, a run is stopped with both flushers inside writes, one of data and one of an index, while an address
-/// stands in the index whose block neither writes. The bytes that it left are opened, and the address is found.
+/// They speak of stops inside writes: with two flushers and three small blocks, and any key and value of these codes
+/// whose record fits a page, a run is stopped with both flushers inside writes, one of data and one of an index, while
+/// an address stands in the index whose block neither writes. What it left is opened, and the address is found.
 pub fn restart_is_reached_torn()
     ensures sizes { (s : Settings) → AreValid (two_flushers s) }
     ensures run { (is_key is_value : List ℕ → Bool) (s : Settings) (sound : AreValid (two_flushers s)) (key value : List ℕ)
