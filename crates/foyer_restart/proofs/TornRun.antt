@@ -147,7 +147,7 @@ pub record StandsAlone (x y : ℕ) (p : Place) : Type 0 where
 
 module _ {C : Type 0} (m : Machine C) (Splits : Splitting C) (is_value : C → Type 0) (i : Item m is_value 2 1) (j : Item m is_value 2 2) (k : Item m is_value 3 3)
     (p q r : Place) (x y : ℕ) (a b c d : ℕ) (x_new : x ≡ 255 → ⊥) (y_new : y ≡ 255 → ⊥)
-    (first_is : StandsAlone a b p) (second_is : StandsAlone x y q) (third_is : StandsAlone c d r)
+    (first_is : StandsAlone a b p) (second_is : StandsAlone c d q) (third_is : StandsAlone x y r)
     (split : Splits (first_position (machine_of m)) (record_of i ∷ record_of j ∷ []) (alone p (record_of i) ∷ alone q (record_of j) ∷ []))
     (split_other : Splits (first_position (machine_of m)) (record_of k ∷ []) (alone r (record_of k) ∷ [])) where
   abbrev rules : Rules C
@@ -298,7 +298,7 @@ module _ {C : Type 0} (m : Machine C) (Splits : Splitting C) (is_value : C → T
   abbrev c11 : State C
   c11 = record (block_done rules c10 0 last1 (record writing1 { left = index_of p })) { steps = 11 }
 
-  -- blocks 1 and 2 are issued, and the data of block 2 are written
+  -- blocks 1 and 2 are issued, and the data of block 1 are written
 
   abbrev done1 : Batch C
   done1 = record last1 { writing = None }
@@ -315,11 +315,11 @@ module _ {C : Type 0} (m : Machine C) (Splits : Splitting C) (is_value : C → T
   abbrev writing3 : Writing C
   writing3 = record { block = 2; left = writes_in rules s3.parts; records = (r.offset, other) ∷ [] }
 
-  abbrev issued3 : Batch C
-  issued3 = record batch1 { blocks = []; writing = Some writing3 }
+  abbrev issued2 : Batch C
+  issued2 = record done1 { blocks = []; writing = Some writing2 }
 
   abbrev c14 : State C
-  c14 = record (write_done rules c13 1 issued3 writing3 (index_of r)) { steps = 14 }
+  c14 = record (write_done rules c13 0 issued2 writing2 (index_of q)) { steps = 14 }
 
   -- the events
 
@@ -405,20 +405,20 @@ module _ {C : Type 0} (m : Machine C) (Splits : Splitting C) (is_value : C → T
   w13 = after rules w12 e13
 
   abbrev w14 : World C
-  w14 = after rules (after rules (after rules (after rules w13 e14) (WriteBegins 0)) (WriteBegins 1)) (WriteEnds 1 true (λ o. 255))
+  w14 = after rules (after rules (after rules (after rules w13 e14) (WriteBegins 0)) (WriteBegins 1)) (WriteEnds 0 true (λ o. 255))
 
   abbrev e15 : WorldEvent C
-  e15 = Applies (FlushWrote 1 true) Next c14
+  e15 = Applies (FlushWrote 0 true) Next c14
 
   abbrev w : World C
-  w = after rules (after rules w14 e15) (WriteBegins 1)
+  w = after rules (after rules w14 e15) (WriteBegins 0)
 
   abbrev events : List (WorldEvent C)
-  events = e1 ∷ e2 ∷ e3 ∷ e4 ∷ e5 ∷ e6 ∷ e7 ∷ e8 ∷ e9 ∷ WriteBegins 0 ∷ WriteEnds 0 true (λ o. 255) ∷ e10 ∷ WriteBegins 0 ∷ e11 ∷ e12 ∷ e13 ∷ e14 ∷ WriteBegins 0 ∷ WriteBegins 1 ∷ WriteEnds 1 true (λ o. 255) ∷ e15 ∷ WriteBegins 1 ∷ []
+  events = e1 ∷ e2 ∷ e3 ∷ e4 ∷ e5 ∷ e6 ∷ e7 ∷ e8 ∷ e9 ∷ WriteBegins 0 ∷ WriteEnds 0 true (λ o. 255) ∷ e10 ∷ WriteBegins 0 ∷ e11 ∷ e12 ∷ e13 ∷ e14 ∷ WriteBegins 0 ∷ WriteBegins 1 ∷ WriteEnds 0 true (λ o. 255) ∷ e15 ∷ WriteBegins 0 ∷ []
 
   -- the bytes at the stop: one more of each write that is under way
   abbrev torn : ℕ → ℕ → ℕ
-  torn = put (put w.bytes 1 (put (w.bytes 1) 4096 x)) 2 (put (w.bytes 2) 8 0)
+  torn = put (put w.bytes 1 (put (w.bytes 1) 8 0)) 2 (put (w.bytes 2) 4096 x)
 
   abbrev May : World C → WorldEvent C → Type 0
   May = MayHappen rules Splits is_value
@@ -518,7 +518,7 @@ module _ {C : Type 0} (m : Machine C) (Splits : Splitting C) (is_value : C → T
   )
 
   may15 : May w14 e15
-  may15 = (refl, (omega arith, (omega arith, (writing3, refl)), (write_done rules c13 1 issued3 writing3 (index_of r), (writing3, _, _, _, refl, refl, refl), refl)))
+  may15 = (refl, (omega arith, (omega arith, (writing2, refl)), (write_done rules c13 0 issued2 writing2 (index_of q), (writing2, _, _, _, refl, refl, refl), refl)))
 
   run : IsRun rules Splits is_value w
   run = record {
@@ -536,62 +536,62 @@ module _ {C : Type 0} (m : Machine C) (Splits : Splitting C) (is_value : C → T
   abbrev data2 : Write
   data2 = record { role = Data; offset = q.blob + q.at; bytes = q.content }
 
+  abbrev index2 : Write
+  index2 = record { role = Index; offset = q.blob; bytes = q.index }
+
   abbrev data3 : Write
   data3 = record { role = Data; offset = r.blob + r.at; bytes = r.content }
 
-  abbrev index3 : Write
-  index3 = record { role = Index; offset = r.blob; bytes = r.index }
-
-  data_starts : laid data2 (λ o. 255) 4096 ≡ x
+  data_starts : laid data3 (λ o. 255) 4096 ≡ x
   data_starts =
-      let low : q.blob ≡ 0 = second_is.blob in
-      let at : q.at ≡ 4096 = second_is.at in
-      let e : 4096 ≡ q.blob + q.at + 0 = omega arith in
-      let long : 2 ≤ length q.content = second_is.long in
-      ap (laid data2 (λ o. 255)) e ∙ laid_there data2 (λ o. 255) 0 (omega arith) ∙ second_is.first
-
-  data_goes_on : laid data2 (λ o. 255) 4097 ≡ y
-  data_goes_on =
-      let low : q.blob ≡ 0 = second_is.blob in
-      let at : q.at ≡ 4096 = second_is.at in
-      let e : 4097 ≡ q.blob + q.at + 1 = omega arith in
-      let long : 2 ≤ length q.content = second_is.long in
-      ap (laid data2 (λ o. 255)) e ∙ laid_there data2 (λ o. 255) 1 (omega arith) ∙ second_is.second
-
-  before_data : (o : ℕ) → o < 4096 → laid data3 (λ u. 255) o ≡ 255
-  before_data o l =
       let low : r.blob ≡ 0 = third_is.blob in
       let at : r.at ≡ 4096 = third_is.at in
-      laid_beside data3 (λ u. 255) o (inl (omega arith))
+      let e : 4096 ≡ r.blob + r.at + 0 = omega arith in
+      let long : 2 ≤ length r.content = third_is.long in
+      ap (laid data3 (λ o. 255)) e ∙ laid_there data3 (λ o. 255) 0 (omega arith) ∙ third_is.first
 
-  index_laid : (o : ℕ) → o < 4096 → laid index3 (laid data3 (λ u. 255)) o ≡ slice_index r.index o
-  index_laid o l =
+  data_goes_on : laid data3 (λ o. 255) 4097 ≡ y
+  data_goes_on =
       let low : r.blob ≡ 0 = third_is.blob in
-      let size : length r.index ≡ 4096 = third_is.size in
-      let e : o ≡ r.blob + o = omega arith in
-      ap (laid index3 (laid data3 (λ u. 255))) e ∙ laid_there index3 (laid data3 (λ u. 255)) o (omega arith)
+      let at : r.at ≡ 4096 = third_is.at in
+      let e : 4097 ≡ r.blob + r.at + 1 = omega arith in
+      let long : 2 ≤ length r.content = third_is.long in
+      ap (laid data3 (λ o. 255)) e ∙ laid_there data3 (λ o. 255) 1 (omega arith) ∙ third_is.second
 
-  data_inside : IsInside w torn 0 1 Data
-  data_inside = record {
-    writing = writing2;
+  before_data : (o : ℕ) → o < 4096 → laid data2 (λ u. 255) o ≡ 255
+  before_data o l =
+      let low : q.blob ≡ 0 = second_is.blob in
+      let at : q.at ≡ 4096 = second_is.at in
+      laid_beside data2 (λ u. 255) o (inl (omega arith))
+
+  index_laid : (o : ℕ) → o < 4096 → laid index2 (laid data2 (λ u. 255)) o ≡ slice_index q.index o
+  index_laid o l =
+      let low : q.blob ≡ 0 = second_is.blob in
+      let size : length q.index ≡ 4096 = second_is.size in
+      let e : o ≡ q.blob + o = omega arith in
+      ap (laid index2 (laid data2 (λ u. 255))) e ∙ laid_there index2 (laid data2 (λ u. 255)) o (omega arith)
+
+  data_inside : (B : ℕ → ℕ → ℕ) → B 2 ≡ put (λ o. 255) 4096 x → IsInside w B 1 2 Data
+  data_inside B is = record {
+    writing = writing3;
     is_writing = (_, refl, refl);
     there = refl;
     results = _;
-    write = data2;
+    write = data3;
     rest = _;
     under_way = refl;
     is = refl;
-    came = (4096, sym data_starts, x_new);
-    missing = (4097, refl, λ e. y_new (sym (e ∙ data_goes_on)));
+    came = (4096, ap (λ (g : ℕ → ℕ). g 4096) is ∙ sym data_starts, λ e. x_new (sym (ap (λ (g : ℕ → ℕ). g 4096) is) ∙ e));
+    missing = (4097, ap (λ (g : ℕ → ℕ). g 4097) is, λ e. y_new (sym (sym (ap (λ (g : ℕ → ℕ). g 4097) is) ∙ e ∙ data_goes_on)));
   }
 
-  index_inside : IsInside w torn 1 2 Index
+  index_inside : IsInside w torn 0 1 Index
   index_inside = record {
-    writing = record writing3 { left = index_of r };
+    writing = record writing2 { left = index_of q };
     is_writing = (_, refl, refl);
     there = refl;
     results = _;
-    write = index3;
+    write = index2;
     rest = _;
     under_way = refl;
     is = refl;
@@ -599,36 +599,42 @@ module _ {C : Type 0} (m : Machine C) (Splits : Splitting C) (is_value : C → T
     missing = (9, refl, λ e. let f : 255 ≡ 0 = sym (before_data 9 (omega arith)) ∙ e ∙ index_laid 9 (omega arith) ∙ zeros.1 in omega arith);
   }
     where
-      zeros : (slice_index r.index 8 ≡ 0) × (slice_index r.index 9 ≡ 0)
-      zeros = counts_one r.index third_is.listed third_is.sealed
+      zeros : (slice_index q.index 8 ≡ 0) × (slice_index q.index 9 ≡ 0)
+      zeros = counts_one q.index second_is.listed second_is.sealed
 
-  data_under_way : covers rules w 1 4096 ≡ true
+  data_under_way : covers rules w 2 4096 ≡ true
   data_under_way =
-      let low : q.blob ≡ 0 = second_is.blob in
-      let at : q.at ≡ 4096 = second_is.at in
-      let long : 2 ≤ length q.content = second_is.long in
-      let from : nat_le (q.blob + q.at) 4096 ≡ true = grind (arith, nat_tests) in
-      let to : nat_lt 4096 (q.blob + q.at + length q.content) ≡ true = grind (arith, nat_tests) in
+      let low : r.blob ≡ 0 = third_is.blob in
+      let at : r.at ≡ 4096 = third_is.at in
+      let long : 2 ≤ length r.content = third_is.long in
+      let from : nat_le (r.blob + r.at) 4096 ≡ true = grind (arith, nat_tests) in
+      let to : nat_lt 4096 (r.blob + r.at + length r.content) ≡ true = grind (arith, nat_tests) in
       rw (from, to) refl
 
-  index_under_way : covers rules w 2 8 ≡ true
+  index_under_way : covers rules w 1 8 ≡ true
   index_under_way =
-      let low : r.blob ≡ 0 = third_is.blob in
-      let size : length r.index ≡ 4096 = third_is.size in
-      let from : nat_le r.blob 8 ≡ true = grind (arith, nat_tests) in
-      let to : nat_lt 8 (r.blob + length r.index) ≡ true = grind (arith, nat_tests) in
+      let low : q.blob ≡ 0 = second_is.blob in
+      let size : length q.index ≡ 4096 = second_is.size in
+      let from : nat_le q.blob 8 ≡ true = grind (arith, nat_tests) in
+      let to : nat_lt 8 (q.blob + length q.index) ≡ true = grind (arith, nat_tests) in
       rw (from, to) refl
+
+  -- bytes of the stop: those of block 1 as its index left them so far, and one more of the data of block 2
+  abbrev with_index : (ℕ → ℕ) → ℕ → ℕ → ℕ
+  with_index g = put (put w.bytes 1 g) 2 (put (w.bytes 2) 4096 x)
+
+  stopped_with : (g : ℕ → ℕ) → ((o : ℕ) → covers rules w 1 o ≡ false → g o ≡ w.bytes 1 o) → IsStopped rules w (with_index g)
+  stopped_with g left b o free = put_at (λ (h : ℕ → ℕ). h o ≡ w.bytes b o) (put w.bytes 1 g) 2 (put (w.bytes 2) 4096 x) b
+      (λ is. let there : covers rules w 2 o ≡ false = subst (λ u. covers rules w u o ≡ false) is free in
+      subst (λ u. put (w.bytes 2) 4096 x o ≡ w.bytes u o) (sym is) (put_at (λ u. u ≡ w.bytes 2 o) (w.bytes 2) 4096 x o
+      (λ at. let t : true ≡ false = sym data_under_way ∙ subst (λ u. covers rules w 2 u ≡ false) at there in absurd cc) (λ _. refl)))
+      (λ _. put_at (λ (h : ℕ → ℕ). h o ≡ w.bytes b o) w.bytes 1 g b
+      (λ is. subst (λ u. g o ≡ w.bytes u o) (sym is) (left o (subst (λ u. covers rules w u o ≡ false) is free)))
+      (λ _. refl))
 
   stopped : IsStopped rules w torn
-  stopped b o free = put_at (λ (g : ℕ → ℕ). g o ≡ w.bytes b o) (put w.bytes 1 (put (w.bytes 1) 4096 x)) 2 (put (w.bytes 2) 8 0) b
-      (λ is. let there : covers rules w 2 o ≡ false = subst (λ c. covers rules w c o ≡ false) is free in
-      subst (λ c. put (w.bytes 2) 8 0 o ≡ w.bytes c o) (sym is) (put_at (λ u. u ≡ w.bytes 2 o) (w.bytes 2) 8 0 o
-      (λ at. let t : true ≡ false = sym index_under_way ∙ subst (λ u. covers rules w 2 u ≡ false) at there in absurd cc) (λ _. refl)))
-      (λ _. put_at (λ (g : ℕ → ℕ). g o ≡ w.bytes b o) w.bytes 1 (put (w.bytes 1) 4096 x) b
-      (λ is. let there : covers rules w 1 o ≡ false = subst (λ c. covers rules w c o ≡ false) is free in
-      subst (λ c. put (w.bytes 1) 4096 x o ≡ w.bytes c o) (sym is) (put_at (λ u. u ≡ w.bytes 1 o) (w.bytes 1) 4096 x o
-      (λ at. let t : true ≡ false = sym data_under_way ∙ subst (λ u. covers rules w 1 u ≡ false) at there in absurd cc) (λ _. refl)))
-      (λ _. refl))
+  stopped = stopped_with (put (w.bytes 1) 8 0) (λ o there. put_at (λ u. u ≡ w.bytes 1 o) (w.bytes 1) 8 0 o
+      (λ at. let t : true ≡ false = sym index_under_way ∙ subst (λ u. covers rules w 1 u ≡ false) at there in absurd cc) (λ _. refl))
 
   index_there : p.index ≡ bytes.read (torn 0) 0 4096
   index_there = subst (λ u. p.index ≡ bytes.read (torn 0) u 4096) first_is.blob (subst (λ n. p.index ≡ bytes.read (torn 0) p.blob n) first_is.size
@@ -640,8 +646,8 @@ module _ {C : Type 0} (m : Machine C) (Splits : Splitting C) (is_value : C → T
       let there : IsSealed (bytes.read (torn b) 0 4096) es = subst (λ u. IsSealed (bytes.read (torn b) u 4096) es) at_first is.sealed in
       let only : b ≡ 0 = (elim (which b lt) [
         | inl e ↦ e
-        | inr (inl e) ↦ absurd (unsealed (torn 1) 4096 es refl refl (subst (λ c. IsSealed (bytes.read (torn c) 0 4096) es) e there))
-        | inr (inr e) ↦ absurd (unsealed (torn 2) 4096 es refl (before_data 9 (omega arith)) (subst (λ c. IsSealed (bytes.read (torn c) 0 4096) es) e there))
+        | inr (inl e) ↦ absurd (unsealed (torn 1) 4096 es refl (before_data 9 (omega arith)) (subst (λ c. IsSealed (bytes.read (torn c) 0 4096) es) e there))
+        | inr (inr e) ↦ absurd (unsealed (torn 2) 4096 es refl refl (subst (λ c. IsSealed (bytes.read (torn c) 0 4096) es) e there))
       ]) in (
         record { role = Index; offset = p.blob; bytes = p.index },
         inr (inr (inr (inl (λ t. (only t, record { role = Index; offset = p.blob; bytes = p.index }))))),
@@ -651,25 +657,25 @@ module _ {C : Type 0} (m : Machine C) (Splits : Splitting C) (is_value : C → T
       )
 
   apart : IsBeingWritten w.core 0 → ⊥
-  apart (f, v, (b, given, is), at) = put_at (λ (φ : Flusher C). φ.batch ≡ Some b → ⊥) c13.flushers 1 _ f
-      (λ _ e. let batch_is : record issued3 { writing = Some (record writing3 { left = index_of r }) } ≡ b = cc in
-      let some_is : Some (record writing3 { left = index_of r }) ≡ Some v = ap (λ (u : Batch C). u.writing) batch_is ∙ is in
-      let all_is : record writing3 { left = index_of r } ≡ v = cc in
-      let z : 2 ≡ 0 = ap (λ (u : Writing C). u.block) all_is ∙ at in omega arith)
-      (λ ne1 e. put_at (λ (φ : Flusher C). φ.batch ≡ Some b → ⊥) c11.flushers 0 _ f
-      (λ _ e. let batch_is : record done1 { blocks = []; writing = Some writing2 } ≡ b = cc in
-      let some_is : Some writing2 ≡ Some v = ap (λ (u : Batch C). u.writing) batch_is ∙ is in
-      let all_is : writing2 ≡ v = cc in
+  apart (f, v, (b, given, is), at) = put_at (λ (φ : Flusher C). φ.batch ≡ Some b → ⊥) c13.flushers 0 _ f
+      (λ _ e. let batch_is : record issued2 { writing = Some (record writing2 { left = index_of q }) } ≡ b = cc in
+      let some_is : Some (record writing2 { left = index_of q }) ≡ Some v = ap (λ (u : Batch C). u.writing) batch_is ∙ is in
+      let all_is : record writing2 { left = index_of q } ≡ v = cc in
       let z : 1 ≡ 0 = ap (λ (u : Writing C). u.block) all_is ∙ at in omega arith)
-      (λ ne0 e. let none_is : None ≡ Some b = sym (others f ne0 ne1) ∙ e in cc)
-      (sym (ap (λ (φ : Flusher C). φ.batch) (put_other c12.flushers 1 _ f ne1)) ∙ e))
+      (λ ne0 e. put_at (λ (φ : Flusher C). φ.batch ≡ Some b → ⊥) c12.flushers 1 _ f
+      (λ _ e. let batch_is : record batch1 { blocks = []; writing = Some writing3 } ≡ b = cc in
+      let some_is : Some writing3 ≡ Some v = ap (λ (u : Batch C). u.writing) batch_is ∙ is in
+      let all_is : writing3 ≡ v = cc in
+      let z : 2 ≡ 0 = ap (λ (u : Writing C). u.block) all_is ∙ at in omega arith)
+      (λ ne1 e. let none_is : None ≡ Some b = sym (others f ne0 ne1) ∙ e in cc)
+      e)
       given
     where
-      others : (f : ℕ) → (f ≡ 0 → ⊥) → (f ≡ 1 → ⊥) → (c11.flushers f).batch ≡ None
+      others : (f : ℕ) → (f ≡ 0 → ⊥) → (f ≡ 1 → ⊥) → (c12.flushers f).batch ≡ None
       others f ne0 ne1 = ap (λ (φ : Flusher C). φ.batch) (
-          put_other c10.flushers 0 _ f ne0 ∙ put_other c9.flushers 0 _ f ne0 ∙ put_other c8.flushers 0 _ f ne0 ∙ put_other c7.flushers 1 _ f ne1 ∙ put_other c6.flushers 0 _ f ne0
-          ∙ put_other c5.flushers 1 _ f ne1 ∙ put_other c4.flushers 1 _ f ne1 ∙ put_other c3.flushers 0 _ f ne0 ∙ put_other c2.flushers 0 _ f ne0 ∙ put_other c1.flushers 0 _ f ne0
-          ∙ put_other core0.flushers 0 _ f ne0
+          put_other c11.flushers 0 _ f ne0 ∙ put_other c10.flushers 0 _ f ne0 ∙ put_other c9.flushers 0 _ f ne0 ∙ put_other c8.flushers 0 _ f ne0 ∙ put_other c7.flushers 1 _ f ne1
+          ∙ put_other c6.flushers 0 _ f ne0 ∙ put_other c5.flushers 1 _ f ne1 ∙ put_other c4.flushers 1 _ f ne1 ∙ put_other c3.flushers 0 _ f ne0 ∙ put_other c2.flushers 0 _ f ne0
+          ∙ put_other c1.flushers 0 _ f ne0 ∙ put_other core0.flushers 0 _ f ne0
           )
 
   abbrev stop : IsTornStop rules Splits is_value 2 (record { block = 0; offset = p.offset; len = length i.bytes; sequence = 1; filling = 1 })
@@ -679,7 +685,7 @@ module _ {C : Type 0} (m : Machine C) (Splits : Splitting C) (is_value : C → T
     run = run;
     indexed = refl;
     apart = apart;
-    in_data = data_inside;
+    in_data = data_inside torn refl;
     in_index = index_inside;
     stopped = stopped;
     strays = strays;
@@ -727,8 +733,8 @@ module _ {C : Type 0} (m : Machine C) (Splits : Splitting C) (is_value : C → T
     keeps = keeps;
     kept = λ b lt. elim (which b lt) [
       | inl e ↦ subst (λ u. Keeps sizes recover_mode.Quiet (torn u) (no_fault u) (keeps u)) (sym e) (one_in sealed)
-      | inr (inl e) ↦ subst (λ u. Keeps sizes recover_mode.Quiet (torn u) (no_fault u) (keeps u)) (sym e) (nothing_in (torn 1) refl)
-      | inr (inr e) ↦ subst (λ u. Keeps sizes recover_mode.Quiet (torn u) (no_fault u) (keeps u)) (sym e) (nothing_in (torn 2) (before_data 9 (omega arith)))
+      | inr (inl e) ↦ subst (λ u. Keeps sizes recover_mode.Quiet (torn u) (no_fault u) (keeps u)) (sym e) (nothing_in (torn 1) (before_data 9 (omega arith)))
+      | inr (inr e) ↦ subst (λ u. Keeps sizes recover_mode.Quiet (torn u) (no_fault u) (keeps u)) (sym e) (nothing_in (torn 2) refl)
     ];
     index = λ h. refl;
     next = refl;

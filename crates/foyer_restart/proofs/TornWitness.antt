@@ -124,7 +124,7 @@ module _ (A : Type 0) (entries_of : ℕ → List ℕ → Option (List IndexEntry
     third_is = stands_alone split_other.whole 0 (filled_to (first_position rules)) (split_other.spread).0 r other 5 4 (split_other.spread).2 (filled_to r.end) refl refl refl refl (split_other.spread).4 (split_other.spread).5
 
     torn_stop : TornStop A rules p
-    torn_stop = reached machine (IsRealSplit A rules) Any older_item newer_item other_item p q r 7 6 9 8 5 4 (λ e. omega arith) (λ e. omega arith)
+    torn_stop = reached machine (IsRealSplit A rules) Any older_item newer_item other_item p q r 5 4 9 8 7 6 (λ e. omega arith) (λ e. omega arith)
         first_is second_is third_is split split_other
 
 pub reaches_torn_lem : (A : Type 0) → ReachesTorn A

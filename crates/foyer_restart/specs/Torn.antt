@@ -31,7 +31,7 @@ pub record IsInside {C : Type 0} (w : World C) (bytes : ℕ → ℕ → ℕ) (fl
   pub came : (o : ℕ) × (bytes block o ≡ laid write (w.bytes block) o) × (bytes block o ≢ w.bytes block o)
   pub missing : (o : ℕ) × (bytes block o ≡ w.bytes block o) × (bytes block o ≢ laid write (w.bytes block) o)
 
--- A run that goes well was stopped with flusher 0 inside the data of block 1 and flusher 1 inside the index of block 2. The
+-- A run that goes well was stopped with flusher 0 inside the index of block 1 and flusher 1 inside the data of block 2. The
 -- address stood in the index, neither wrote its block, and the bytes are those of such a stop, with no stray index.
 pub record IsTornStop {C : Type 0} (rules : Rules C) (Splits : Splitting C) (is_value : C → Type 0) (h : ℕ) (a : Address) : Type 0 where
   pub world : World C
@@ -39,8 +39,8 @@ pub record IsTornStop {C : Type 0} (rules : Rules C) (Splits : Splitting C) (is_
   pub run : IsRun rules Splits is_value world
   pub indexed : world.core.index h ≡ Some (Indexed a)
   pub apart : IsBeingWritten world.core a.block → ⊥
-  pub in_data : IsInside world bytes 0 1 Data
-  pub in_index : IsInside world bytes 1 2 Index
+  pub in_index : IsInside world bytes 0 1 Index
+  pub in_data : IsInside world bytes 1 2 Data
   pub stopped : IsStopped rules world bytes
   pub strays : HasNoStrays rules world bytes
 
