@@ -1,5 +1,5 @@
 -- A run that is stopped with two flushers inside writes, of any machine with two flushers and three blocks of two pages.
-use Rattle.std.proofs.Common.{◌≡◌, ℕ, zero, suc, ◌+◌, ◌*◌, ◌<◌, ◌≤◌, nat_le, nat_lt, Bool, true, false, Option, Some, None, List, [], ◌∷◌, ◌++◌, length, drop, slice_index, ◌⊎◌, inl, inr, refl, sym, ap, subst, ◌∙◌, arith}
+use Rattle.std.proofs.Common.{◌≡◌, ℕ, zero, suc, ◌+◌, ◌*◌, ◌<◌, ◌≤◌, nat_le, nat_lt, Bool, true, false, ◌||◌, if◌then◌else◌, ◌-◌, Option, Some, None, List, [], ◌∷◌, ◌++◌, length, drop, slice_index, ◌⊎◌, inl, inr, refl, sym, ap, subst, ◌∙◌, arith}
 use Rattle.std.proofs.lemmas.Bool.Decides.{nat_tests}
 use Rattle.foyer_format.specs.Header.{number_at}
 use Rattle.foyer_format.specs.Page.{page_up}
@@ -15,7 +15,7 @@ use Rattle.foyer_model.specs.Layout.{laid, writes_in}
 use Rattle.foyer_model.specs.Queue.{queued}
 use Rattle.foyer_model.specs.Receive.{pushed_to, turned}
 use Rattle.foyer_model.specs.Flush.{released, block_issued, write_done, block_done}
-use Rattle.foyer_model.specs.Access.{Idle, CleanIdle}
+use Rattle.foyer_model.specs.Access.{Idle, CleanIdle, is_in}
 use Rattle.foyer_model.specs.World.{World, WorldEvent, Applies, WriteBegins, WriteEnds, covers, after, MayHappen}
 use Rattle.foyer_model.specs.Opened.{IsOpened, idle, full_filling}
 use Rattle.foyer_model.proofs.Basics.{put_at, put_other}
@@ -24,15 +24,16 @@ use Rattle.foyer_blob.specs.declared.blob.BlobEntryIndex.{BlobEntryIndex}
 use Rattle.foyer_buffer.specs.BlockBytes as bytes
 use Rattle.foyer_buffer.specs.Position.{Sizes}
 use Rattle.foyer_buffer.specs.Holding.{all_read}
-use Rattle.foyer_buffer.specs.Listing.{IsIndex}
+use Rattle.foyer_buffer.specs.Listing.{IsIndex, kept}
 use Rattle.foyer_buffer.specs.Listing.Chain.{ends, goes}
-use Rattle.foyer_buffer.proofs.BlockBytesLemmas.{read_whole}
+use Rattle.foyer_buffer.proofs.BlockBytesLemmas.{read_whole, read_part, read_same}
 use Rattle.foyer_placing.proofs.LaidLemmas.{laid_beside, laid_there}
 use Rattle.foyer_recover.specs.Opening.{Keeps, Opened, Opens, winner, slot_of, all_stand, greatest, clean_from}
 use Rattle.foyer_recover.specs.declared.block.recover.RecoverMode.TheVariants as recover_mode
 use Rattle.foyer_restart.proofs.Witness.{first_only}
-use Rattle.foyer_restart.specs.Restart.{IsRun, IsStopped, HasNoStrays, IsBeingWritten, no_fault}
-use Rattle.foyer_restart.specs.Torn.{IsInside, IsTornStop, Place, alone}
+use Rattle.foyer_restart.specs.Entries.{In}
+use Rattle.foyer_restart.specs.Restart.{IsRun, IsStopped, HasNoStrays, IsBeingWritten, IsFoundNewer, no_fault}
+use Rattle.foyer_restart.specs.Torn.{IsInside, IsTornStop, FindsNewer, Place, alone}
 
 -- the count of an index
 
@@ -640,21 +641,37 @@ module _ {C : Type 0} (m : Machine C) (Splits : Splitting C) (is_value : C → T
   index_there = subst (λ u. p.index ≡ bytes.read (torn 0) u 4096) first_is.blob (subst (λ n. p.index ≡ bytes.read (torn 0) p.blob n) first_is.size
       (sym (read_whole (record { offset = p.blob; bytes = p.index }) (bytes.laid (record { offset = p.blob + p.at; bytes = p.content }) (λ u. 255)))))
 
-  strays : HasNoStrays rules w torn
-  strays b o es lt scan is =
-      let at_first : o ≡ 0 = first_only (torn b) o es scan is.room in
-      let there : IsSealed (bytes.read (torn b) 0 4096) es = subst (λ u. IsSealed (bytes.read (torn b) u 4096) es) at_first is.sealed in
-      let only : b ≡ 0 = (elim (which b lt) [
-        | inl e ↦ e
-        | inr (inl e) ↦ absurd (unsealed (torn 1) 4096 es refl (before_data 9 (omega arith)) (subst (λ c. IsSealed (bytes.read (torn c) 0 4096) es) e there))
-        | inr (inr e) ↦ absurd (unsealed (torn 2) 4096 es refl refl (subst (λ c. IsSealed (bytes.read (torn c) 0 4096) es) e there))
-      ]) in (
+  -- what passes as an index is one that was written, where in block 1 it is so
+  strays_with : (g : ℕ → ℕ) → ((es : List BlobEntryIndex) → IsSealed (bytes.read g 0 4096) es → q.index ≡ bytes.read g 0 4096) → HasNoStrays rules w (with_index g)
+  strays_with g known b o es lt scan is = go (which b lt)
+    where
+      at_first : o ≡ 0
+      at_first = first_only (with_index g b) o es scan is.room
+
+      there : IsSealed (bytes.read (with_index g b) 0 4096) es
+      there = subst (λ u. IsSealed (bytes.read (with_index g b) u 4096) es) at_first is.sealed
+
+      go : (b ≡ 0) ⊎ (b ≡ 1) ⊎ (b ≡ 2)
+          → (v : Write) × In (b, v) w.begun_writes × (v.role ≡ Index) × (v.offset ≡ o) × (v.bytes ≡ bytes.read (with_index g b) o 4096)
+      go (inl e) = (
         record { role = Index; offset = p.blob; bytes = p.index },
-        inr (inr (inr (inl (λ t. (only t, record { role = Index; offset = p.blob; bytes = p.index }))))),
+        inr (inr (inr (inl (λ t. (e t, record { role = Index; offset = p.blob; bytes = p.index }))))),
         refl,
         first_is.blob ∙ sym at_first,
-        subst (λ c. p.index ≡ bytes.read (torn c) o 4096) (sym only) (subst (λ u. p.index ≡ bytes.read (torn 0) u 4096) (sym at_first) index_there),
+        subst (λ u. p.index ≡ bytes.read (with_index g u) o 4096) (sym e) (subst (λ u. p.index ≡ bytes.read (with_index g 0) u 4096) (sym at_first) index_there),
       )
+      go (inr (inl e)) = (
+        index2,
+        inl (λ t. (e t, index2)),
+        refl,
+        second_is.blob ∙ sym at_first,
+        subst (λ u. q.index ≡ bytes.read (with_index g u) o 4096) (sym e)
+            (subst (λ u. q.index ≡ bytes.read g u 4096) (sym at_first) (known es (subst (λ u. IsSealed (bytes.read (with_index g u) 0 4096) es) e there))),
+      )
+      go (inr (inr e)) = absurd (unsealed (with_index g 2) 4096 es refl refl (subst (λ u. IsSealed (bytes.read (with_index g u) 0 4096) es) e there))
+
+  strays : HasNoStrays rules w torn
+  strays = strays_with (put (w.bytes 1) 8 0) (λ es is. absurd (unsealed (put (w.bytes 1) 8 0) 4096 es refl (before_data 9 (omega arith)) is))
 
   apart : IsBeingWritten w.core 0 → ⊥
   apart (f, v, (b, given, is), at) = put_at (λ (φ : Flusher C). φ.batch ≡ Some b → ⊥) c13.flushers 0 _ f
@@ -694,56 +711,155 @@ module _ {C : Type 0} (m : Machine C) (Splits : Splitting C) (is_value : C → T
   pub reached : IsTornStop rules Splits is_value 2 (record { block = 0; offset = p.offset; len = length i.bytes; sequence = 1; filling = 1 })
   reached = stop
 
+  -- the same stop where the index of block 1 has come whole, though its write hasn't ended
+
+  abbrev whole : ℕ → ℕ → ℕ
+  whole = with_index (laid index2 (w.bytes 1))
+
+  whole_stopped : IsStopped rules w whole
+  whole_stopped = stopped_with (laid index2 (w.bytes 1)) (λ o free. ap (λ (t : Bool). if t then slice_index q.index (o - q.blob) else w.bytes 1 o) (beside (is_in index2 o) free))
+    where
+      beside : (t : Bool) → ((t || false) || false) ≡ false → t ≡ false
+      beside true e = e
+      beside false e = refl
+
+  second_there : q.index ≡ bytes.read (whole 1) 0 4096
+  second_there = subst (λ u. q.index ≡ bytes.read (whole 1) u 4096) second_is.blob (subst (λ n. q.index ≡ bytes.read (whole 1) q.blob n) second_is.size
+      (sym (read_whole (record { offset = q.blob; bytes = q.index }) (bytes.laid (record { offset = q.blob + q.at; bytes = q.content }) (λ u. 255)))))
+
+  whole_strays : HasNoStrays rules w whole
+  whole_strays = strays_with (laid index2 (w.bytes 1)) (λ es is. second_there)
+
   -- what is opened
 
   abbrev sizes : Sizes
   sizes = record { block = 8192; index = 4096 }
 
+  abbrev one_entry : (h s n : ℕ) → BlobEntryIndex
+  one_entry h s n = record { hash = h; sequence = s; offset = 4096; len = n }
+
   abbrev entry : BlobEntryIndex
-  entry = record { hash = 2; sequence = 1; offset = 4096; len = length i.bytes }
+  entry = one_entry 2 1 (length i.bytes)
+
+  abbrev entry_newer : BlobEntryIndex
+  entry_newer = one_entry 2 2 (length j.bytes)
+
+  abbrev opened_of : (ℕ → List BlobEntryIndex) → Opened
+  opened_of keeps = record { index = λ h. slot_of (winner h (all_stand 0 3 keeps ++ [])); next = greatest (all_stand 0 3 keeps ++ []) + 1; clean = clean_from 0 3 keeps }
 
   abbrev keeps : ℕ → List BlobEntryIndex
   keeps = put (λ b. []) 0 (entry ∷ [])
 
+  abbrev keeps_newer : ℕ → List BlobEntryIndex
+  keeps_newer = put keeps 1 (entry_newer ∷ [])
+
   abbrev pub found : Opened
-  found = record { index = λ h. slot_of (winner h (all_stand 0 3 keeps ++ [])); next = greatest (all_stand 0 3 keeps ++ []) + 1; clean = clean_from 0 3 keeps }
+  found = opened_of keeps
 
   nothing_in : (B : ℕ → ℕ) → B 9 ≡ 255 → Keeps sizes recover_mode.Quiet B all_read []
   nothing_in B there = ([], record { end = 0; chain = ends (λ es is. unsealed B 4096 es refl there is.sealed) }, refl)
 
-  one_in : IsSealed p.index (entry ∷ []) → Keeps sizes recover_mode.Quiet (torn 0) all_read (entry ∷ [])
-  one_in sealed = (entry ∷ [], record { end = 0 + 4096 + page_up (length i.bytes); chain = goes there (ends (λ es is. past is.room)) }, refl)
+  one_in : (B : ℕ → ℕ) (h s n : ℕ) → 0 < n → n ≤ 4096 → one_entry h s n ∷ [] ≡ kept (one_entry h s n ∷ []) → IsSealed (bytes.read B 0 4096) (one_entry h s n ∷ [])
+      → Keeps sizes recover_mode.Quiet B all_read (one_entry h s n ∷ [])
+  one_in B h s n some small all sealed = (one_entry h s n ∷ [], record { end = 0 + 4096 + page_up n; chain = goes there (ends (λ es is. past is.room)) }, all)
     where
-      past : 0 + 4096 + page_up (length i.bytes) + 4096 ≤ 8192 → ⊥
-      past l = let m : length i.bytes ≤ page_up (length i.bytes) = page_up-holds (length i.bytes) in let n : 0 < length i.bytes = i.some in omega arith
+      past : 0 + 4096 + page_up n + 4096 ≤ 8192 → ⊥
+      past l = let m : n ≤ page_up n = page_up-holds n in omega arith
 
-      within : 0 + 4096 + page_up (length i.bytes) ≤ 8192
-      within = let l : page_up (length i.bytes) ≤ 4096 = one_page i.bytes i.page in omega arith
-
-      there : IsIndex sizes (torn 0) all_read 0 (entry ∷ [])
+      there : IsIndex sizes B all_read 0 (one_entry h s n ∷ [])
       there = record {
         room = omega arith;
         came = refl;
-        sealed = subst (λ l. IsSealed l (entry ∷ [])) index_there sealed;
-        fits = (record { some = i.some; behind = omega arith; aligned = refl; within = within }, tt);
+        sealed = sealed;
+        fits = (record { some = some; behind = omega arith; aligned = refl; within = (let l : page_up n ≤ 4096 = page_up-least n 4096 small refl in omega arith) }, tt);
       }
 
-  opens : IsSealed p.index (entry ∷ []) → Opens sizes 3 torn recover_mode.Quiet no_fault [] found
-  opens sealed = record {
-    keeps = keeps;
-    kept = λ b lt. elim (which b lt) [
-      | inl e ↦ subst (λ u. Keeps sizes recover_mode.Quiet (torn u) (no_fault u) (keeps u)) (sym e) (one_in sealed)
-      | inr (inl e) ↦ subst (λ u. Keeps sizes recover_mode.Quiet (torn u) (no_fault u) (keeps u)) (sym e) (nothing_in (torn 1) (before_data 9 (omega arith)))
-      | inr (inr e) ↦ subst (λ u. Keeps sizes recover_mode.Quiet (torn u) (no_fault u) (keeps u)) (sym e) (nothing_in (torn 2) refl)
-    ];
-    index = λ h. refl;
-    next = refl;
-    clean = refl;
-    below = omega arith;
-    read = λ u b lt cut. let t : false ≡ true = cut.4 in cc;
-  }
+  module _ (sealed : IsSealed p.index (entry ∷ [])) where
+    first_in : Keeps sizes recover_mode.Quiet (torn 0) all_read (entry ∷ [])
+    first_in = one_in (torn 0) 2 1 (length i.bytes) i.some i.page refl (subst (λ l. IsSealed l (entry ∷ [])) index_there sealed)
 
-  pub reached_open : IsSealed p.index (entry ∷ [])
-      → (stop : IsTornStop rules Splits is_value 2 (record { block = 0; offset = p.offset; len = length i.bytes; sequence = 1; filling = 1 }))
-      × Opens sizes 3 stop.bytes recover_mode.Quiet no_fault [] found
-  reached_open sealed = (stop, opens sealed)
+    opens : Opens sizes 3 torn recover_mode.Quiet no_fault [] found
+    opens = record {
+      keeps = keeps;
+      kept = λ b lt. elim (which b lt) [
+        | inl e ↦ subst (λ u. Keeps sizes recover_mode.Quiet (torn u) (no_fault u) (keeps u)) (sym e) first_in
+        | inr (inl e) ↦ subst (λ u. Keeps sizes recover_mode.Quiet (torn u) (no_fault u) (keeps u)) (sym e) (nothing_in (torn 1) (before_data 9 (omega arith)))
+        | inr (inr e) ↦ subst (λ u. Keeps sizes recover_mode.Quiet (torn u) (no_fault u) (keeps u)) (sym e) (nothing_in (torn 2) refl)
+      ];
+      index = λ h. refl;
+      next = refl;
+      clean = refl;
+      below = omega arith;
+      read = λ u b lt cut. let t : false ≡ true = cut.4 in cc;
+    }
+
+    module _ (sealed_newer : IsSealed q.index (entry_newer ∷ [])) (at : q.offset ≡ 4096) (post : List ℕ) (starts : q.content ≡ j.bytes ++ post) where
+      second_in : Keeps sizes recover_mode.Quiet (whole 1) all_read (entry_newer ∷ [])
+      second_in = one_in (whole 1) 2 2 (length j.bytes) j.some j.page refl (subst (λ l. IsSealed l (entry_newer ∷ [])) second_there sealed_newer)
+
+      whole_opens : Opens sizes 3 whole recover_mode.Quiet no_fault [] (opened_of keeps_newer)
+      whole_opens = record {
+        keeps = keeps_newer;
+        kept = λ b lt. elim (which b lt) [
+          | inl e ↦ subst (λ u. Keeps sizes recover_mode.Quiet (whole u) (no_fault u) (keeps_newer u)) (sym e) first_in
+          | inr (inl e) ↦ subst (λ u. Keeps sizes recover_mode.Quiet (whole u) (no_fault u) (keeps_newer u)) (sym e) second_in
+          | inr (inr e) ↦ subst (λ u. Keeps sizes recover_mode.Quiet (whole u) (no_fault u) (keeps_newer u)) (sym e) (nothing_in (whole 2) refl)
+        ];
+        index = λ h. refl;
+        next = refl;
+        clean = refl;
+        below = omega arith;
+        read = λ u b lt cut. let t : false ≡ true = cut.4 in cc;
+      }
+
+      -- the newer record stands, before the index and behind it
+      data_read : bytes.read (laid data2 (λ u. 255)) 4096 (length j.bytes) ≡ j.bytes
+      data_read =
+          let low : q.blob ≡ 0 = second_is.blob in
+          let at : q.at ≡ 4096 = second_is.at in
+          let e : q.blob + q.at + 0 ≡ 4096 = omega arith in
+          subst (λ u. bytes.read (bytes.laid (record { offset = q.blob + q.at; bytes = u }) (λ v. 255)) 4096 (length j.bytes) ≡ j.bytes) (sym starts)
+          (subst (λ u. bytes.read (bytes.laid (record { offset = q.blob + q.at; bytes = j.bytes ++ post }) (λ v. 255)) u (length j.bytes) ≡ j.bytes) e
+          (read_part (q.blob + q.at) [] j.bytes post (λ v. 255)))
+
+      newer_stands : bytes.read (whole 1) 4096 (length j.bytes) ≡ j.bytes
+      newer_stands =
+          let low : q.blob ≡ 0 = second_is.blob in
+          let size : length q.index ≡ 4096 = second_is.size in
+          read_same (laid index2 (laid data2 (λ u. 255))) (laid data2 (λ u. 255)) 4096 (length j.bytes) (λ o l m. laid_beside index2 (laid data2 (λ u. 255)) o (inr (omega arith)))
+          ∙ data_read
+
+      found_newer : IsFoundNewer w whole (opened_of keeps_newer) 2 (record { block = 0; offset = p.offset; len = length i.bytes; sequence = 1; filling = 1 })
+      found_newer = (
+        record { block = 1; offset = 4096; len = length j.bytes; sequence = 2; filling = 0 },
+        refl,
+        omega arith,
+        record {
+          flusher = 0;
+          writing = record writing2 { left = index_of q };
+          content = newer;
+          is_writing = (_, refl, refl);
+          block = refl;
+          among = inl (λ t. (sym at t, newer));
+          hash = refl;
+          sequence = refl;
+          len = refl;
+          stands = newer_stands;
+        },
+      )
+
+      pub reached_open : (stop : IsTornStop rules Splits is_value 2 (record { block = 0; offset = p.offset; len = length i.bytes; sequence = 1; filling = 1 }))
+          × Opens sizes 3 stop.bytes recover_mode.Quiet no_fault [] found × FindsNewer stop
+      reached_open = (
+        stop,
+        opens,
+        record {
+          bytes = whole;
+          in_data = data_inside whole refl;
+          stopped = whole_stopped;
+          strays = whole_strays;
+          opened = opened_of keeps_newer;
+          opens = whole_opens;
+          newer = found_newer;
+        },
+      )

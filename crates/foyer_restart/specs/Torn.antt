@@ -51,6 +51,17 @@ FindsAfter {rules = rules} {h = h} {a = a} stop =
     (mode : RecoverMode) (o : Opened) → mode ≢ recover_mode.None → Opens (sizes_of rules) rules.blocks stop.bytes mode no_fault [] o
     → IsFoundAgain o h a ⊎ IsFoundNewer stop.world stop.bytes o h a
 
+-- Other bytes that such a stop may leave, with flusher 1 inside its data too: opened, they have a newer record of the hash.
+pub record FindsNewer {C : Type 0} {rules : Rules C} {Splits : Splitting C} {is_value : C → Type 0} {h : ℕ} {a : Address}
+    (stop : IsTornStop rules Splits is_value h a) : Type 0 where
+  pub bytes : ℕ → ℕ → ℕ
+  pub in_data : IsInside stop.world bytes 1 2 Data
+  pub stopped : IsStopped rules stop.world bytes
+  pub strays : HasNoStrays rules stop.world bytes
+  pub opened : Opened
+  pub opens : Opens (sizes_of rules) rules.blocks bytes recover_mode.Quiet no_fault [] opened
+  pub newer : IsFoundNewer stop.world bytes opened h a
+
 -- two flushers, three blocks of two pages, the first of which is its index, and contents that are their own records
 abbrev pub small : (ℕ → List ℕ → Option (List IndexEntry)) → ((n : ℕ) → n ≤ page_up n) → (0 < 2) → (page ≤ 4096) → Rules (List ℕ)
 small entries_of above some whole = record {

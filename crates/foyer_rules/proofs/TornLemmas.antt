@@ -14,11 +14,11 @@ use Rattle.foyer_placing.proofs.SealLemmas.{IndexOf, index_for}
 use Rattle.foyer_placing.specs.Splits.{with_records, IsPart}
 use Rattle.foyer_placing.specs.Splits.LaidOut.{part}
 use Rattle.foyer_placing.specs.Splits.Left.{done, block}
-use Rattle.foyer_recover.specs.Opening.{Opens}
+use Rattle.foyer_recover.specs.Opening.{Opened, Opens}
 use Rattle.foyer_recover.specs.declared.block.recover.RecoverMode.TheVariants as recover_mode
 use Rattle.foyer_restart.proofs.TornRun.{Machine, Item, record_of, StandsAlone, found, reached_open}
 use Rattle.foyer_restart.specs.Restart.{no_fault}
-use Rattle.foyer_restart.specs.Torn.{IsTornStop, Place, alone}
+use Rattle.foyer_restart.specs.Torn.{IsTornStop, FindsNewer, Place, alone}
 use Rattle.foyer_rules.specs.Content.{Content}
 use Rattle.foyer_rules.specs.CoreRules.{rules_of, layout, has_record, encoded, IsEncoded, outcome_of, entries_at, page_up_above, holds_page}
 use Rattle.foyer_rules.specs.ReachedTorn.{two_flushers, IsReachedTorn}
@@ -182,21 +182,23 @@ module _ (is_key is_value : List ℕ → Bool) (s : Settings) (sound : AreValid 
   abbrev Is : Content → Type 0
   Is = IsEncoded is_key is_value
 
-  both : (stop : IsTornStop rules (layout (two_flushers s)) Is 2 address)
-      × Opens (sizes_in (two_flushers s)) 3 stop.bytes recover_mode.Quiet no_fault []
-      (found machine (layout (two_flushers s)) Is (item 2 1) (item 2 2) (item 3 3) p1 p2 p3 0 0 0 0 0 0 (λ e. omega arith) (λ e. omega arith)
-      (stands 2 1 sealed1) (stands 2 2 sealed2) (stands 3 3 sealed3) split split_other)
-  both = reached_open machine (layout (two_flushers s)) Is (item 2 1) (item 2 2) (item 3 3) p1 p2 p3 0 0 0 0 0 0 (λ e. omega arith) (λ e. omega arith)
-      (stands 2 1 sealed1) (stands 2 2 sealed2) (stands 3 3 sealed3) split split_other sealed1.is
+  abbrev opened : Opened
+  opened = found machine (layout (two_flushers s)) Is (item 2 1) (item 2 2) (item 3 3) p1 p2 p3 0 0 0 0 0 0 (λ e. omega arith) (λ e. omega arith)
+      (stands 2 1 sealed1) (stands 2 2 sealed2) (stands 3 3 sealed3) split split_other
+
+  all : (stop : IsTornStop rules (layout (two_flushers s)) Is 2 address)
+      × Opens (sizes_in (two_flushers s)) 3 stop.bytes recover_mode.Quiet no_fault [] opened × FindsNewer stop
+  all = reached_open machine (layout (two_flushers s)) Is (item 2 1) (item 2 2) (item 3 3) p1 p2 p3 0 0 0 0 0 0 (λ e. omega arith) (λ e. omega arith)
+      (stands 2 1 sealed1) (stands 2 2 sealed2) (stands 3 3 sealed3) split split_other sealed1.is sealed2.is refl _ refl
 
   pub reached_torn : IsReachedTorn rules (layout (two_flushers s)) Is
   reached_torn = record {
     hash = 2;
     address = address;
-    stop = both.0;
-    opened = found machine (layout (two_flushers s)) Is (item 2 1) (item 2 2) (item 3 3) p1 p2 p3 0 0 0 0 0 0 (λ e. omega arith) (λ e. omega arith)
-        (stands 2 1 sealed1) (stands 2 2 sealed2) (stands 3 3 sealed3) split split_other;
-    opens = both.1;
+    stop = all.0;
+    opened = opened;
+    opens = all.1;
     again = refl;
-    finds = λ mode o is opens. restart_lem is_key is_value (two_flushers s) sound (both.0).world (both.0).bytes mode o 2 address (both.0).run (both.0).stopped (both.0).strays is opens (both.0).indexed (both.0).apart;
+    finds = λ mode o is opens. restart_lem is_key is_value (two_flushers s) sound (all.0).world (all.0).bytes mode o 2 address (all.0).run (all.0).stopped (all.0).strays is opens (all.0).indexed (all.0).apart;
+    newer = all.2;
   }

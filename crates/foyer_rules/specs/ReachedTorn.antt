@@ -6,7 +6,7 @@ use Rattle.foyer_recover.specs.Opening.{Opened, Opens}
 use Rattle.foyer_recover.specs.declared.block.recover.RecoverMode.TheVariants as recover_mode
 use Rattle.foyer_restart.specs.Entries.{sizes_of}
 use Rattle.foyer_restart.specs.Restart.{IsFoundAgain, no_fault}
-use Rattle.foyer_restart.specs.Torn.{IsTornStop, FindsAfter}
+use Rattle.foyer_restart.specs.Torn.{IsTornStop, FindsAfter, FindsNewer}
 use Rattle.foyer_rules.specs.declared.settings.Settings.{Settings}
 
 -- two flushers, three blocks of two pages, the first of which is its index, and room for two pages at each flusher; all else as
@@ -23,8 +23,8 @@ two_flushers s = record s {
   reclaimers = 1;
 }
 
--- A run was so stopped; what it left is opened, and has the address again; and whatever opens it finds the address, or a newer
--- record of its hash.
+-- A run was so stopped; what it left is opened, and has the address again; whatever opens it finds the address, or a newer record
+-- of its hash; and the same stop may leave what has the newer record.
 pub record IsReachedTorn {C : Type 0} (rules : Rules C) (Splits : Splitting C) (is_value : C → Type 0) : Type 0 where
   pub hash : ℕ
   pub address : Address
@@ -33,3 +33,4 @@ pub record IsReachedTorn {C : Type 0} (rules : Rules C) (Splits : Splitting C) (
   pub opens : Opens (sizes_of rules) rules.blocks stop.bytes recover_mode.Quiet no_fault [] opened
   pub again : IsFoundAgain opened hash address
   pub finds : FindsAfter stop
+  pub newer : FindsNewer stop

@@ -39,7 +39,8 @@ pub fn restart_is_reached()
 
 /// They speak of stops inside writes: with two flushers and three small blocks, and any key and value of these codes
 /// whose record fits a page, a run is stopped with both flushers inside writes, one of data and one of an index, while
-/// an address stands in the index whose block neither writes. What it left is opened, and the address is found.
+/// an address stands in the index whose block neither writes. What it left is opened, and the address is found. Where
+/// that write of an index has come whole, but hasn't ended, the newer record is found that it lists.
 pub fn restart_is_reached_torn()
     ensures sizes { (s : Settings) → AreValid (two_flushers s) }
     ensures run { (is_key is_value : List ℕ → Bool) (s : Settings) (sound : AreValid (two_flushers s)) (key value : List ℕ)
