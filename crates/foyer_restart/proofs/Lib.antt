@@ -16,5 +16,7 @@ pub mod Law
 pub mod Placings
 pub mod Total
 pub mod Witness
+pub mod TornRun
+pub mod TornWitness
 pub mod Layouts
 pub mod Newest

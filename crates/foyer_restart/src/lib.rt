@@ -10,6 +10,7 @@ ghost use Rattle.foyer_restart.specs.Newest.{LaidNewestLaw};
 ghost use Rattle.foyer_restart.specs.Real.{IsFormat};
 ghost use Rattle.foyer_restart.specs.Restart.{IdleLaw, RestartLaw};
 ghost use Rattle.foyer_restart.specs.Splits.{RealIdleLaw, RealRestartLaw, SplitIsReal};
+ghost use Rattle.foyer_restart.specs.Torn.{FindsAfterTorn, ReachesTorn};
 ghost use Rattle.foyer_restart.specs.Total.{ListsExist, OpensUnlessLast};
 ghost use Rattle.foyer_restart.specs.Witness.{ReachesIndexed};
 
@@ -71,4 +72,15 @@ pub fn opens_unless_last<C>()
 /// The laws speak of something: a run that goes well leaves an address in the index.
 pub fn reaches_indexed<A: Allocator>()
     ensures { ReachesIndexed A }
+{}
+
+/// They speak of a stop inside writes: such a run is stopped with two flushers each inside a write, one of data and
+/// one of an index, while an address stands in the index whose block neither writes.
+pub fn reaches_torn<A: Allocator>()
+    ensures { ReachesTorn A }
+{}
+
+/// Whatever opens the bytes of that stop finds the address again, or a newer record of its hash.
+pub fn finds_after_torn<A: Allocator>()
+    ensures { FindsAfterTorn A }
 {}

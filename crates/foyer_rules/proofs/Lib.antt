@@ -3,3 +3,4 @@ pub mod LawLemmas
 pub mod TripLemmas
 pub mod FormatLemmas
 pub mod ReachedLemmas
+pub mod TornLemmas

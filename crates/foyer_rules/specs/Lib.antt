@@ -3,4 +3,5 @@ pub mod Content
 pub mod CoreRules
 pub mod Headline
 pub mod Reached
+pub mod ReachedTorn
 pub mod Sizes

@@ -4,6 +4,7 @@ ghost use Rattle.foyer_restart.specs.Newest.{KeepsNewest};
 ghost use Rattle.foyer_restart.specs.Restart.{FindsAgain, FindsAll};
 ghost use Rattle.foyer_rules.specs.CoreRules.{rules_of, layout, IsEncoded};
 ghost use Rattle.foyer_rules.specs.Reached.{smallest, IsReached};
+ghost use Rattle.foyer_rules.specs.ReachedTorn.{two_flushers, IsReachedTorn};
 ghost use Rattle.foyer_rules.specs.Sizes.{AreValid};
 ghost use Rattle.foyer_rules.specs.declared.settings.Settings.{Settings};
 
@@ -34,4 +35,15 @@ pub fn restart_is_reached()
     ensures run { (is_key is_value : List ℕ → Bool) (s : Settings) (sound : AreValid (smallest s)) (key value : List ℕ)
         → is_key key ≡ true → is_value value ≡ true → length value + length key ≤ 4060
         → IsReached (rules_of is_key is_value (smallest s) sound) (layout (smallest s)) (IsEncoded is_key is_value) }
+{}
+
+/// They speak of stops inside writes: with two flushers and three small blocks, and any key and value of these codes
+/// whose record fits a page, a run is stopped with both flushers inside writes, one of data and one of an index, while
+/// an address stands in the index whose block neither writes. What it left is opened, and the address is found. Where
+/// that write of an index has come whole, but hasn't ended, the newer record is found that it lists.
+pub fn restart_is_reached_torn()
+    ensures sizes { (s : Settings) → AreValid (two_flushers s) }
+    ensures run { (is_key is_value : List ℕ → Bool) (s : Settings) (sound : AreValid (two_flushers s)) (key value : List ℕ)
+        → length key + length value ≤ 4060 → is_value value ≡ true → is_key key ≡ true
+        → IsReachedTorn (rules_of is_key is_value (two_flushers s) sound) (layout (two_flushers s)) (IsEncoded is_key is_value) }
 {}
