@@ -122,7 +122,7 @@ fn behind_get(judge: Judge, key: usize, said: Said) -> Judge {
     }
 }
 
-// What came in it of the fault may have dropped its batch.
+// The fault may have dropped its batch, also a refused allocation that came in it: an index that can't grow.
 fn behind_wait(judge: Judge, said: Said, due: Due) -> Judge {
     let mut table = judge.table;
     let is_ok = said == Said::Ok;
