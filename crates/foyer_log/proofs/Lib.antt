@@ -5,3 +5,4 @@ pub mod RingLemmas
 pub mod PageLemmas
 pub mod StageLemmas
 pub mod MemoryLemmas
+pub mod WriteLemmas

@@ -74,7 +74,7 @@ stage_next ps pages start marks j d e f s within touched changes put = record {
 }
 
 -- the page of a mark is among those that are written
-page_of_mark : (pages start count touched k : ℕ) → 0 < pages → touched ≤ pages → (touched ≡ pages) ⊎ (start % 256 + count ≤ 256 * touched) → k < count
+pub page_of_mark : (pages start count touched k : ℕ) → 0 < pages → touched ≤ pages → (touched ≡ pages) ⊎ (start % 256 + count ≤ 256 * touched) → k < count
     → (m : ℕ) × (m < touched) × (page_number pages start m ≡ (start + k) % (256 * pages) / 256)
 page_of_mark pages start count touched k some few reach lt =
     let m : ℕ = (start % 256 + k) / 256 in

@@ -1,13 +1,14 @@
 -- What an append makes of a log.
-use Rattle.std.specs.Prelude.{◌≡◌, ℕ, ◌+◌, ◌*◌, ◌%◌, ◌<◌, ◌≤◌, ◌^◌, List, [], length, Option, Some, None, Ok, Err, Result, IfErr, OnOk, OnErr}
+use Rattle.std.specs.Prelude.{◌≡◌, ℕ, ◌+◌, ◌*◌, ◌%◌, ◌<◌, ◌≤◌, ◌^◌, List, [], length, Option, Some, None, Ok, Err, Result, IfErr, OnOk, OnErr, MatchResult}
 use Rattle.foyer_block.specs.declared.tombstone.Tombstone.{Tombstone}
 use Rattle.foyer_device.specs.declared.error.Error.{Error}
 use Rattle.foyer_device.specs.declared.error.Error.TheVariants as error
 use Rattle.foyer_io.specs.Disk.{Disk, IfKnown, Becomes}
 use Rattle.foyer_log.specs.PageBytes.{CanHoldLog, ChangesPages, IsLogFault, ring_on}
 use Rattle.foyer_log.specs.Pages.{AreApart, pages_of}
-use Rattle.foyer_log.specs.Ring.{IsPut, IsTouched}
+use Rattle.foyer_log.specs.Ring.{IsPut, IsTouched, touched}
 use Rattle.foyer_log.specs.Views.{LogView}
+use Rattle.foyer_log.specs.Writes.{HasWritten, HasWrittenAtMost}
 
 -- Marks were appended to a log in the pages of partitions, or the append was refused.
 pub record DidAppend {E : Type 0} (disk : E → Option Disk) (faults : E → ℕ) (old : LogView E) (marks : List Tombstone) (new : LogView E) (outcome : Result Unit Error) : Type 0 where
@@ -18,6 +19,9 @@ pub record DidAppend {E : Type 0} (disk : E → Option Disk) (faults : E → ℕ
   pub put : OnOk outcome (Becomes (disk old.engine) (disk new.engine) (λ d e. AreApart old.places
       → IsPut (256 * pages_of old.places) (ring_on d old.places) old.slot marks (ring_on e old.places)))
   pub written : Becomes (disk old.engine) (disk new.engine) (λ d e. ChangesPages d old.places (IsTouched (256 * pages_of old.places) old.slot (length marks)) e)
+  pub once : MatchResult outcome
+      (λ _. HasWritten old.writes (touched old.slot (length marks) (pages_of old.places)) new.writes)
+      (λ _. HasWrittenAtMost old.writes (touched old.slot (length marks) (pages_of old.places)) new.writes)
   pub outside : IfKnown (disk old.engine) (λ d. outcome ≡ Err error.OutOfRange → CanHoldLog d old.places → ⊥)
   pub nothing : marks ≡ [] → (outcome ≡ Ok tt) × (new ≡ old)
   pub counted : faults old.engine ≤ faults new.engine

@@ -4,3 +4,4 @@ pub mod Pages
 pub mod PageBytes
 pub mod Ring
 pub mod Views
+pub mod Writes

@@ -1,5 +1,5 @@
 -- The ring of marks.
-use Rattle.std.specs.Prelude.{◌≡◌, ◌≢◌, ℕ, zero, suc, ◌+◌, ◌%◌, ◌/◌, ◌<◌, ◌≤◌, ◌==◌, ◌⊎◌, if◌then◌else◌, List, [], ◌∷◌, ◌++◌, length, Some, slice_get}
+use Rattle.std.specs.Prelude.{◌≡◌, ◌≢◌, ℕ, zero, suc, ◌+◌, ◌%◌, ◌/◌, ◌<◌, ◌≤◌, ◌==◌, ◌⊎◌, min, if◌then◌else◌, List, [], ◌∷◌, ◌++◌, length, Some, slice_get}
 use Rattle.foyer_block.specs.declared.tombstone.Tombstone.{Tombstone}
 
 -- marks are put at the numbers from `start` on: each slot has the last mark that was put at a number equal to its own
@@ -45,3 +45,8 @@ pub record IsRead (ring : ℕ → Tombstone) (n : ℕ) (base marks : List Tombst
 -- a page with a slot that one of the marks, put from a slot on, comes into
 abbrev pub IsTouched : (slots start count page : ℕ) → Type 0
 IsTouched slots start count page = (k : ℕ) × (k < count) × ((start + k) % slots / 256 ≡ page)
+
+-- how many pages that is, in a ring of so many: those up to the last mark's, at most all
+unfoldable pub touched : (start count pages : ℕ) → ℕ
+touched start zero pages = 0
+touched start (suc n) pages = min pages ((start % 256 + n) / 256 + 1)

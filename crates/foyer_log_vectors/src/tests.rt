@@ -1,5 +1,6 @@
 //! The log over memory, with and without faults.
 
+mod counts;
 mod disks;
 mod faults;
 mod images;

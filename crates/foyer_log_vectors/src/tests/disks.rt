@@ -134,6 +134,25 @@ pub fn appended<R: Wait + Clone + Drop>(
     Ok(log.slot())
 }
 
+// How many pages an append of so many marks writes, behind so many others that a fresh log has from slot 1 on.
+pub fn written<R: Wait + Clone + Drop + Files>(
+    rt: &R,
+    alloc: Global,
+    sizes: &[usize],
+    slot: u64,
+    count: u64,
+) -> Result<u64, Error> {
+    let disk = Disk::new(rt, alloc, sizes)?;
+    let mut found = Vec::new(alloc);
+    let mut log = disk.open(rt, 0, 0, &mut found)?;
+    let before = marks(alloc, 1, slot.saturating_sub(1))?;
+    log.append(&before)?;
+    let old = log.page_writes();
+    let behind = marks(alloc, slot, count)?;
+    log.append(&behind)?;
+    Ok(log.page_writes().wrapping_sub(old))
+}
+
 // The same where the n-th access fails: whether it was refused with Io, and the slot then.
 pub fn refused<R: Wait + Clone + Drop>(
     rt: &R,

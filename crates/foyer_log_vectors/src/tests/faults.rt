@@ -1,5 +1,5 @@
 //! Each access failed in turn, and how many there are.
-use super::disks::{Disk, appended, opened, refused, sequence_at};
+use super::disks::{Disk, appended, opened, refused, sequence_at, written};
 use foyer_device::error::{Error, ErrorKind};
 use std::alloc::Global;
 use std::rt::Files;
@@ -23,21 +23,40 @@ fn accesses<R: Wait + Clone + Drop + Files>(
     Err(Error::Parse)
 }
 
+// What the log counts are its writes: of one page it makes no other access.
 #[test]
 fn a_page_is_written_once(rt: HostRuntime) -> Result<(), Fail> {
-    assert!(rt; accesses(&rt, rt.alloc(), &[4096], 1, 0)? == 0);
-    assert!(rt; accesses(&rt, rt.alloc(), &[4096], 1, 1)? == 1);
-    assert!(rt; accesses(&rt, rt.alloc(), &[4096], 1, 256)? == 1);
-    assert!(rt; accesses(&rt, rt.alloc(), &[4096], 1, 1000)? == 1);
+    for (count, wanted) in [(0, 0), (1, 1), (256, 1), (1000, 1)] {
+        assert_eq!(rt;
+            accesses(&rt, rt.alloc(), &[4096], 1, count)?,
+            wanted,
+            "{count} marks"
+        );
+        assert_eq!(rt;
+            written(&rt, rt.alloc(), &[4096], 1, count)?,
+            wanted,
+            "{count} marks"
+        );
+    }
     Ok(())
 }
 
 #[test]
 fn each_page_is_read_and_written_once(rt: HostRuntime) -> Result<(), Fail> {
-    assert!(rt; accesses(&rt, rt.alloc(), &[8192], 2, 255)? == 2);
-    assert!(rt; accesses(&rt, rt.alloc(), &[8192], 2, 256)? == 4);
-    assert!(rt; accesses(&rt, rt.alloc(), &[8192], 2, 5000)? == 4);
+    for (count, wanted) in [(255, 1), (256, 2), (5000, 2)] {
+        assert_eq!(rt;
+            accesses(&rt, rt.alloc(), &[8192], 2, count)?,
+            wanted * 2,
+            "{count} marks"
+        );
+        assert_eq!(rt;
+            written(&rt, rt.alloc(), &[8192], 1, count)?,
+            wanted,
+            "{count} marks"
+        );
+    }
     assert!(rt; accesses(&rt, rt.alloc(), &[8192, 8192], 4, 3114)? == 8);
+    assert!(rt; written(&rt, rt.alloc(), &[8192, 8192], 1, 3114)? == 4);
     Ok(())
 }
 

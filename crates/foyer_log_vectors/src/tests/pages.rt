@@ -29,6 +29,7 @@ fn pages_run_through_the_partitions(rt: HostRuntime) -> Result<(), Fail> {
     }
     buffer.load(1)?;
     assert!(rt; buffer.as_slice().iter().all(|b| *b == 2));
+    assert_eq!(rt; buffer.writes(), 3);
     Ok(())
 }
 
@@ -85,6 +86,7 @@ fn a_failed_flush_keeps_its_page(rt: HostRuntime) -> Result<(), Fail> {
         assert!(rt; disk.page(&rt, 0)?.as_slice().iter().all(|b| *b == 0));
         assert!(rt; buffer.as_slice().iter().all(|b| *b == 5));
         buffer.flush()?;
+        assert_eq!(rt; buffer.writes(), 2);
         assert!(rt; disk.page(&rt, 1)?.as_slice().iter().all(|b| *b == 5));
     }
     Ok(())

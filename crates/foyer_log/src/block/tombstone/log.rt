@@ -1,9 +1,10 @@
 //! The log of marks.
-ghost use Rattle.std.specs.Prelude.{◌≡◌, ◌⊎◌, ℕ, ◌+◌, ◌*◌, ◌/◌, ◌%◌, ◌<◌, ◌≤◌, ◌^◌, ◌++◌, [], Ok, None, length, take, Err, IfOk, IfErr, OnOk, OnErr, IfSome};
+ghost use Rattle.std.specs.Prelude.{◌≡◌, ◌⊎◌, ℕ, ◌+◌, ◌*◌, ◌/◌, ◌%◌, ◌<◌, ◌≤◌, ◌^◌, ◌++◌, [], Ok, None, length, take, Err, IfOk, IfErr, OnOk, OnErr, IfSome, MatchResult};
 ghost use Rattle.foyer_device.specs.declared.error.Error.TheVariants as error;
 ghost use Rattle.foyer_io.specs.Disk.{IfKnown, Becomes};
 ghost use Rattle.foyer_log.specs.Pages.{AreApart, pages_of, places};
-ghost use Rattle.foyer_log.specs.Ring.{IsPut, IsPutAt, IsRead, IsTouched, GoesOnAt, marks_of};
+ghost use Rattle.foyer_log.specs.Ring.{IsPut, IsPutAt, IsRead, IsTouched, GoesOnAt, marks_of, touched};
+ghost use Rattle.foyer_log.specs.Writes.{HasWritten, HasWrittenAtMost};
 ghost use Rattle.foyer_log.specs.PageBytes.{HasPage, HasPages, CanHoldLog, HoldsPage, ChangesPages, IsLogFault, IsOpenFault, ring_on};
 
 use super::marks::{self, Newest, take_marks};
@@ -38,9 +39,11 @@ impl<E: IoEngine + Drop, P: Partition + Drop, A: Allocator> Model for TombstoneL
       places = l.buffer.places;
       page = l.buffer.page;
       slot = l.slot;
+      writes = l.buffer.writes;
     } };
 
     ghost invariant = { λ l. (l.pages ≡ pages_of l.buffer.places) × (0 < l.pages) × (l.pages < 2 ^ 55)
+        × (l.buffer.writes < 2 ^ 64)
         × IfSome l.buffer.page (λ n. IfKnown (E.disk l.buffer.engine) (λ d. HoldsPage d l.buffer.places n l.buffer.bytes)) };
 }
 
@@ -59,7 +62,9 @@ fn slot_behind(slot: u64, count: usize, slots: u64) -> u64
 
 // How many pages so many marks come into, put from the slot `start` on.
 fn touched_pages(start: u64, count: usize, pages: u64) -> u64
-    requires { (0 < pages) × (pages < 2 ^ 55) }
+    requires some { 0 < count }
+    requires few { (0 < pages) × (pages < 2 ^ 55) }
+    ensures exact { result ≡ touched start count pages }
     ensures few { result ≤ pages }
     ensures reach { (result ≡ pages) ⊎ (start % 256 + count ≤ 256 * result) }
     ensures each { (j : ℕ) → j < result → 256 * j < start % 256 + count }
@@ -87,6 +92,9 @@ fn put_page<E: IoEngine + Drop, P: Partition + Drop, A: Allocator>(
     ensures put { OnOk result (Becomes (E.disk buffer.old.engine) (E.disk buffer.new.engine) (λ d e. (j : ℕ) → j < 256
         → IsPutAt slots start marks.now (256 * page + j) (ring_on d buffer.old.places (256 * page + j)) (ring_on e buffer.old.places (256 * page + j)))) }
     ensures fresh { OnOk result (IfSome buffer.new.page (λ n. IfKnown (E.disk buffer.new.engine) (λ d. HoldsPage d buffer.old.places n buffer.new.bytes))) }
+    ensures once { MatchResult result
+        (λ _. HasWritten buffer.old.writes 1 buffer.new.writes)
+        (λ _. (buffer.new.writes ≡ buffer.old.writes) ⊎ HasWritten buffer.old.writes 1 buffer.new.writes) }
     ensures outside { IfKnown (E.disk buffer.old.engine) (λ d. result ≡ Err error.OutOfRange
         → ¬ HasPage d buffer.old.places page) }
     ensures counted { E.faults buffer.old.engine ≤ E.faults buffer.new.engine }
@@ -110,6 +118,7 @@ fn read_pages<E: IoEngine + Drop, P: Partition + Drop, A: Allocator>(
     ensures fresh { IfOk result (λ _. IfSome buffer.new.page (λ n. IfKnown (E.disk buffer.new.engine) (λ d. HoldsPage d buffer.old.places n buffer.new.bytes))) }
     ensures places { buffer.new.places ≡ buffer.old.places }
     ensures kept { E.disk buffer.new.engine ≡ E.disk buffer.old.engine }
+    ensures writes { buffer.new.writes ≡ buffer.old.writes }
     ensures before { take (length tombstones.old.items) tombstones.new.items ≡ tombstones.old.items }
     ensures counted { E.faults buffer.old.engine ≤ E.faults buffer.new.engine }
     ensures outside { IfKnown (E.disk buffer.old.engine) (λ d. result ≡ Err error.OutOfRange
@@ -149,6 +158,7 @@ impl<E: IoEngine + Drop, P: Partition + Drop, A: Allocator> TombstoneLog<E, P, A
             tombstones.new.items ≡ tombstones.old.items ++ marks_of (ring_on d l.places) (256 * pages_of l.places))) }
         ensures slot { IfOk result (λ l. IfKnown (E.disk l.engine) (λ d.
             GoesOnAt (ring_on d l.places) (256 * pages_of l.places) l.slot)) }
+        ensures writes { IfOk result (λ l. l.writes ≡ 0) }
         ensures unchanged { OnErr result (tombstones.new.items ≡ tombstones.old.items) }
         ensures empty { pages_of (places P.extent P.bytes partitions.items) ≡ 0
             → OnErr result ((result ≡ Err error.OutOfRange) ⊎ (result ≡ Err error.Memory)) }
@@ -184,6 +194,13 @@ impl<E: IoEngine + Drop, P: Partition + Drop, A: Allocator> TombstoneLog<E, P, A
         self.slot
     }
 
+    /// How many pages were written since it was opened, modulo 2^64. A write that failed counts too.
+    pub fn page_writes(&self) -> u64
+        ensures { result ≡ self.now.writes }
+    {
+        self.buffer.writes()
+    }
+
     /// Puts the marks at the numbers from the log's own on, and writes each page that they come into once; no marks
     /// write nothing. OutOfRange where a page isn't there, or Io: then the log's number is as before and no page is
     /// loaded, and any bytes may stand in the pages that the marks come into.
@@ -196,16 +213,21 @@ impl<E: IoEngine + Drop, P: Partition + Drop, A: Allocator> TombstoneLog<E, P, A
             → IsPut (256 * pages_of self.old.places) (ring_on d self.old.places) self.old.slot marks.now (ring_on e self.old.places))) }
         ensures written { Becomes (E.disk self.old.engine) (E.disk self.new.engine) (λ d e. ChangesPages d self.old.places
             (IsTouched (256 * pages_of self.old.places) self.old.slot (length marks.now)) e) }
+        ensures once { MatchResult result
+            (λ _. HasWritten self.old.writes
+            (touched self.old.slot (length marks.now) (pages_of self.old.places)) self.new.writes)
+            (λ _. HasWrittenAtMost self.old.writes
+            (touched self.old.slot (length marks.now) (pages_of self.old.places)) self.new.writes) }
         ensures outside { IfKnown (E.disk self.old.engine) (λ d. result ≡ Err error.OutOfRange
             → ¬ CanHoldLog d self.old.places) }
         ensures nothing { marks.now ≡ [] → (result ≡ Ok tt) × (self.new ≡ self.old) }
         ensures counted { E.faults self.old.engine ≤ E.faults self.new.engine }
         ensures refused { IfErr result (IsLogFault (E.faults self.old.engine) (E.faults self.new.engine)) }
     {
+        let slots = marks::SLOTS_PER_PAGE as u64 * self.pages;
         if marks.is_empty() {
             return Ok(());
         }
-        let slots = marks::SLOTS_PER_PAGE as u64 * self.pages;
         let start = self.slot % slots;
         let slot = slot_behind(self.slot, marks.len(), slots);
         match put_all(&mut self.buffer, self.pages, start, marks) {
@@ -231,12 +253,16 @@ fn put_all<E: IoEngine + Drop, P: Partition + Drop, A: Allocator>(
     requires some { 0 < length marks.now }
     requires few { (0 < pages) × (pages < 2 ^ 55) × (pages ≡ pages_of buffer.old.places) }
     requires within { start < 256 * pages }
+    requires counts { buffer.old.writes < 2 ^ 64 }
     requires fresh { IfSome buffer.old.page (λ n. IfKnown (E.disk buffer.old.engine) (λ d. HoldsPage d buffer.old.places n buffer.old.bytes)) }
     ensures places { buffer.new.places ≡ buffer.old.places }
     ensures written { Becomes (E.disk buffer.old.engine) (E.disk buffer.new.engine) (λ d e. ChangesPages d buffer.old.places (IsTouched (256 * pages) start (length marks.now)) e) }
     ensures put { OnOk result (Becomes (E.disk buffer.old.engine) (E.disk buffer.new.engine) (λ d e. AreApart buffer.old.places
         → IsPut (256 * pages) (ring_on d buffer.old.places) start marks.now (ring_on e buffer.old.places))) }
     ensures fresh { OnOk result (IfSome buffer.new.page (λ n. IfKnown (E.disk buffer.new.engine) (λ d. HoldsPage d buffer.old.places n buffer.new.bytes))) }
+    ensures once { MatchResult result
+        (λ _. HasWritten buffer.old.writes (touched start (length marks.now) pages) buffer.new.writes)
+        (λ _. HasWrittenAtMost buffer.old.writes (touched start (length marks.now) pages) buffer.new.writes) }
     ensures outside { IfKnown (E.disk buffer.old.engine) (λ d. result ≡ Err error.OutOfRange
         → ¬ HasPages d buffer.old.places pages) }
     ensures counted { E.faults buffer.old.engine ≤ E.faults buffer.new.engine }

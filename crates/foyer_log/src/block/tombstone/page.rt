@@ -10,6 +10,7 @@ ghost use Rattle.foyer_log.specs.Pages.{pages_of, places};
 ghost use Rattle.foyer_log.specs.Ring.{IsPutAt};
 ghost use Rattle.foyer_log.specs.Mark.{mark_at};
 ghost use Rattle.foyer_log.specs.PageBytes.{HasPage, HoldsPage, IsPageWritten, ChangesPages, IsOpenFault};
+ghost use Rattle.foyer_log.specs.Writes.{HasWritten};
 
 use super::marks::put_marks;
 use super::pages::{page_count, read_page, write_page};
@@ -33,6 +34,8 @@ pub struct PageBuffer<E: IoEngine + Drop, P: Partition + Drop, A: Allocator> {
     // The memory of a page while none is loaded, else no bytes; None only while an engine has it.
     spare: Option<Raw<A>>,
     page: Option<u64>,
+    // How many writes of pages its engine was asked for, modulo 2^64.
+    writes: u64,
 }
 
 impl<E: IoEngine + Drop, P: Partition + Drop, A: Allocator> Model for PageBuffer<E, P, A> {
@@ -46,6 +49,7 @@ impl<E: IoEngine + Drop, P: Partition + Drop, A: Allocator> Model for PageBuffer
       places = places P.extent P.bytes b.partitions.items;
       page = b.page;
       bytes = b.shown;
+      writes = b.writes;
     } };
 
     ghost invariant = { λ b. HasMemory b.page b.shown b.spare };
@@ -72,6 +76,7 @@ impl<E: IoEngine + Drop, P: Partition + Drop, A: Allocator + Clone> PageBuffer<E
           places = places P.extent P.bytes partitions.items;
           page = None;
           bytes = [];
+          writes = 0;
         }) }
         ensures memory { OnErr result (result ≡ Err error.Memory) }
     {
@@ -83,6 +88,7 @@ impl<E: IoEngine + Drop, P: Partition + Drop, A: Allocator + Clone> PageBuffer<E
             shown,
             spare: Some(spare),
             page: None,
+            writes: 0,
         })
     }
 
@@ -96,6 +102,7 @@ impl<E: IoEngine + Drop, P: Partition + Drop, A: Allocator + Clone> PageBuffer<E
         ensures loaded { IfOk result (λ b. b.page ≡ Some page) }
         ensures places { IfOk result (λ b. b.places ≡ places P.extent P.bytes partitions.items) }
         ensures kept { IfOk result (λ b. E.disk b.engine ≡ E.disk engine) }
+        ensures writes { IfOk result (λ b. b.writes ≡ 0) }
         ensures read { IfOk result (λ b. IfKnown (E.disk b.engine) (λ d. HoldsPage d b.places page b.bytes)) }
         ensures absent { pages_of (places P.extent P.bytes partitions.items) ≤ page
             → OnErr result ((result ≡ Err error.OutOfRange) ⊎ (result ≡ Err error.Memory)) }
@@ -114,6 +121,7 @@ impl<E: IoEngine + Drop, P: Partition + Drop, A: Allocator> PageBuffer<E, P, A> 
     pub fn update(&mut self) -> Result<()>
         ensures places { self.new.places ≡ self.old.places }
         ensures kept { E.disk self.new.engine ≡ E.disk self.old.engine }
+        ensures writes { self.new.writes ≡ self.old.writes }
         ensures loaded { OnOk result (self.new.page ≡ self.old.page) }
         ensures read { OnOk result (IfSome self.old.page (λ n.
             IfKnown (E.disk self.old.engine) (λ d. HoldsPage d self.old.places n self.new.bytes))) }
@@ -135,6 +143,7 @@ impl<E: IoEngine + Drop, P: Partition + Drop, A: Allocator> PageBuffer<E, P, A> 
     pub fn load(&mut self, page: u64) -> Result<()>
         ensures places { self.new.places ≡ self.old.places }
         ensures kept { E.disk self.new.engine ≡ E.disk self.old.engine }
+        ensures writes { self.new.writes ≡ self.old.writes }
         ensures loaded { OnOk result (self.new.page ≡ Some page) }
         ensures size { OnOk result (length self.new.bytes ≡ 4096) }
         ensures read { OnOk result (IfKnown (E.disk self.old.engine) (λ d. HoldsPage d self.old.places page self.new.bytes)) }
@@ -159,7 +168,7 @@ impl<E: IoEngine + Drop, P: Partition + Drop, A: Allocator> PageBuffer<E, P, A> 
     }
 
     /// Writes its bytes over its page; without a page it writes nothing. A refusal, OutOfRange or Io, leaves the page
-    /// loaded; after Io any bytes may stand in it on the disk.
+    /// loaded; after Io any bytes may stand in it on the disk. The write is counted, however it ends.
     pub fn flush(&mut self) -> Result<()>
         ensures same { (self.new.places ≡ self.old.places) × (self.new.page ≡ self.old.page)
             × (self.new.bytes ≡ self.old.bytes) }
@@ -167,6 +176,7 @@ impl<E: IoEngine + Drop, P: Partition + Drop, A: Allocator> PageBuffer<E, P, A> 
         ensures written { IfSome self.old.page (λ n. Becomes (E.disk self.old.engine) (E.disk self.new.engine) (λ d e. MatchResult result
             (λ _. IsPageWritten d self.old.places n self.old.bytes e)
             (λ _. ChangesPages d self.old.places (λ m. m ≡ n) e))) }
+        ensures writes { IfSome self.old.page (λ _. HasWritten self.old.writes 1 self.new.writes) }
         ensures hidden { E.disk self.old.engine ≡ None → E.disk self.new.engine ≡ None }
         ensures outside { IfKnown (E.disk self.old.engine) (λ d. result ≡ Err error.OutOfRange
             → IfSome self.old.page (λ n. ¬ HasPage d self.old.places n)) }
@@ -176,12 +186,20 @@ impl<E: IoEngine + Drop, P: Partition + Drop, A: Allocator> PageBuffer<E, P, A> 
         let Some(page) = self.page else {
             return Ok(());
         };
+        self.writes = self.writes.wrapping_add(1);
         write_page(
             &mut self.engine,
             &self.partitions,
             page,
             self.shown.as_slice(),
         )
+    }
+
+    /// How many pages it was asked to write since it was opened, modulo 2^64. A write that failed counts too.
+    pub fn writes(&self) -> u64
+        ensures { result ≡ self.now.writes }
+    {
+        self.writes
     }
 
     /// The bytes of its page; none where no page is loaded.
@@ -207,6 +225,7 @@ impl<E: IoEngine + Drop, P: Partition + Drop, A: Allocator> PageBuffer<E, P, A> 
             HoldsPage d self.old.places n self.old.bytes)) }
         ensures places { self.new.places ≡ self.old.places }
         ensures kept { E.disk self.new.engine ≡ E.disk self.old.engine }
+        ensures writes { self.new.writes ≡ self.old.writes }
         ensures loaded { OnOk result (self.new.page ≡ Some page) }
         ensures size { OnOk result (length self.new.bytes ≡ 4096) }
         ensures read { OnOk result (IfKnown (E.disk self.old.engine) (λ d.

@@ -3,7 +3,8 @@ use Rattle.std.proofs.Math.Nat.{mod-lt}
 use Rattle.std.proofs.lemmas.Result.{err_from_is_err_and}
 use Rattle.foyer_device.specs.declared.error.Error.TheVariants as error
 use Rattle.foyer_log.proofs.PageLemmas.{has_later}
-use Rattle.foyer_log.specs.Ring.{IsTouched}
+use Rattle.foyer_log.specs.Ring.{IsTouched, touched}
+use Rattle.foyer_log.proofs.WriteLemmas.{written_more, written_fault}
 use Rattle.foyer_log.proofs.StageLemmas.{stage_more, stage_fault, stage_end, touches, page_number}
 use Rattle.foyer_log.proofs.block.tombstone.log.put_all.Goals as goal
 
@@ -18,6 +19,7 @@ pages-preserved g c =
           (omega (arith, c.touched_pages-touched.ensures.few)) touched c.pages.invariant.stage
           (rw c.pages.invariant.places at c.put_page.ensures.written) (rw c.pages.invariant.places at c.in_ok-put_page.ensures.put);
       fresh = rw c.pages.invariant.places at c.in_ok-put_page.ensures.fresh;
+      once = written_more c.args.buffer.now.writes c.pages.j c.pages.buffer.writes c.put_page.new.buffer.writes c.pages.invariant.once c.in_ok-put_page.ensures.once;
       counted = omega (arith, c.put_page.ensures.counted, c.pages.invariant.counted);
     }
 
@@ -48,3 +50,16 @@ returns-in_err-put_page-clause-outside g c = λ d known refused has.
     let s = c.pages.invariant.stage d known in
     let page : page_number c.args.pages c.args.start c.pages.j < c.args.pages = mod-lt (c.args.start / 256 + c.pages.j) (omega arith) in
     rw c.pages.invariant.places at (c.put_page.ensures.outside s.0 s.1 failed) (has_later s.2.changes (has (page_number c.args.pages c.args.start c.pages.j) page))
+
+pub returns-clause-once : goal.returns-clause-once
+returns-clause-once g c =
+    let is : c.pages.j ≡ touched c.args.start (length c.args.marks.now) c.args.pages = omega (arith, c.touched_pages-touched.ensures.exact) in
+    rw (← is) c.pages.invariant.once
+
+pub returns-in_err-put_page-clause-once : goal.returns-in_err-put_page-clause-once
+returns-in_err-put_page-clause-once g c =
+    let exact : c.touched_pages-touched.result ≡ touched c.args.start (length c.args.marks.now) c.args.pages = c.touched_pages-touched.ensures.exact in
+    let p = err_from_is_err_and c.from_residual.result c.from_residual.ensures.1 in
+    rw p.1 (written_fault c.args.buffer.now.writes c.pages.j (touched c.args.start (length c.args.marks.now) c.args.pages)
+    c.pages.buffer.writes c.put_page.new.buffer.writes
+    (omega (arith, exact, c.pages-test.true)) c.pages.invariant.once c.in_err-put_page.ensures.once)

@@ -12,6 +12,7 @@ pages-preserved g c =
     record {
       places = c.load.ensures.places ∙ c.pages.invariant.places;
       kept = c.load.ensures.kept ∙ c.pages.invariant.kept;
+      writes = c.load.ensures.writes ∙ c.pages.invariant.writes;
       read = λ d known.
           let holds : HoldsPage d ps c.pages.page c.load.new.self.bytes = rw c.pages.invariant.places at (c.in_ok-load.ensures.read d (c.pages.invariant.kept ∙ known)) in
           let plus : 256 * (c.pages.page + 1) ≡ 256 * c.pages.page + 256 = omega arith in

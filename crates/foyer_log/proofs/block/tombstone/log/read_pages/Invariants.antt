@@ -9,6 +9,7 @@ abbrev pub invariant-pages : goal.invariant-pages
 invariant-pages g l = record {
   places : l.buffer.places ≡ l.fn.buffer.places;
   kept : g.E.IoEngine.disk l.buffer.engine ≡ g.E.IoEngine.disk l.fn.buffer.engine;
+  writes : l.buffer.writes ≡ l.fn.buffer.writes;
   read : IfKnown (g.E.IoEngine.disk l.fn.buffer.engine) (λ d.
       IsRead (ring_on d l.fn.buffer.places) (256 * l.page) l.fn.tombstones.items l.tombstones.items l.newest.sequence l.newest.slot);
   counted : g.E.IoEngine.faults l.fn.buffer.engine ≤ g.E.IoEngine.faults l.buffer.engine;
