@@ -53,10 +53,10 @@ Asks step.ReclaimIdle answer old =
     (sets : BlockSets) → Stands old.manager sets → answer ≡ (reclaim_count (length old.manager.blocks) sets.block_set == 0)
 Asks given answer old = ⊥
 
--- the ticket has the hash that was looked up, and its address
+-- the ticket has the hash that was looked up, and its address, and the caller doesn't throttle
 abbrev pub Looks : {K V P A : Type 0} → Step K V P A → Ticket → Core K V P A → Type 0
 Looks (step.LoadBegin hash throttled) ticket old =
-    (ticket.hash ≡ hash) × (address_at old.index hash ≡ Some ticket.address)
+    (ticket.hash ≡ hash) × (address_at old.index hash ≡ Some ticket.address) × (throttled ≡ false)
 Looks given ticket old = ⊥
 
 -- the piece that an enqueue handed in comes back

@@ -22,4 +22,5 @@ pub mod RunLemmas
 pub mod StepLemmas
 pub mod StoppedRuns
 pub mod WriteLemmas
+pub mod ThrottleLemmas
 pub mod WaitingLemmas

@@ -1,5 +1,5 @@
 //! A load and a block's writes, each with its accesses in their place.
-ghost use Rattle.std.specs.Prelude.{ℕ, List, ◌++◌, ◌≡◌, ◌∷◌, [], false, OnErr, IfOk, IfSome, IfNone};
+ghost use Rattle.std.specs.Prelude.{ℕ, List, ◌++◌, ◌≡◌, ◌∷◌, [], true, false, OnErr, IfOk, IfSome, IfNone};
 ghost use Rattle.foyer_model.specs.World.{World, WorldEvent};
 ghost use Rattle.foyer_rules.specs.Content.{Content, Meaning, meaning};
 ghost use Rattle.foyer_rules.specs.Sizes.{AreValid};
@@ -97,6 +97,7 @@ where
     ensures front { D.is_known disk.old → OnErr result (IsFront
         (meaning K.encoding V.encoding K.is_encodable V.is_encodable K.is_decodable V.is_decodable P.age)
         (load_of hash throttled) core.old core.new (D.byte_at disk.old) (D.byte_at disk.new)) }
+    ensures unread { throttled ≡ true → disk.new ≡ disk.old }
     ensures known { D.is_known disk.old → D.is_known disk.new }
     ensures same { D.byte_at disk.new ≡ D.byte_at disk.old }
 {

@@ -287,6 +287,7 @@ impl<A: Allocator + Clone, D: Disk + Drop, L: MarkLog + Drop> Engine<A, D, L> {
         ensures newest { D.is_known self.old.disk → IsNewestText key self.old.core (D.byte_at self.old.disk) result }
         ensures missed { D.is_known self.old.disk → throttled ≡ false
             → IsMissedText key self.old.core (D.byte_at self.old.disk) result }
+        ensures unread { throttled ≡ true → self.new.disk ≡ self.old.disk }
         ensures throttled { D.is_known self.old.disk
             → IsThrottledOnly throttled self.old.core (D.byte_at self.old.disk) result }
         ensures known { D.is_known self.old.disk → D.is_known self.new.disk }

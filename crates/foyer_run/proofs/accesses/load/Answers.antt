@@ -14,6 +14,7 @@ use Rattle.foyer_run.proofs.MissedLemmas.{load_missed, look_up_missed}
 use Rattle.foyer_run.proofs.NewestLemmas.{load_newest, look_up_newest}
 use Rattle.foyer_run.proofs.RunLemmas.{err_is}
 use Rattle.foyer_run.proofs.StepLemmas.{encodings_of}
+use Rattle.foyer_run.proofs.ThrottleLemmas.{no_read}
 use Rattle.foyer_run.proofs.accesses.load.Goals as goal
 
 pub returns-in_default : goal.returns-in_default
@@ -35,6 +36,7 @@ returns-in_default g c =
       newest = λ known. look_up_newest m h throttled answer c.args.core.now c.apply.new.self bytes (λ s sound v at. c.apply.ensures.meets s sound v.core at);
       missed = λ known not. look_up_missed m h throttled answer c.args.core.now c.apply.new.self bytes not (no_ticket answer c.in_default.not-Read) (λ s sound v at. c.apply.ensures.meets s sound v.core at);
       front = λ known. tt;
+      unread = λ throttles. refl;
       known = λ known. known;
       same = refl;
     }
@@ -128,3 +130,15 @@ returns-clause-drives g c = λ known.
     let m = meaning g.K.Code.encoding g.V.Code.encoding g.K.Code.is_encodable g.V.Code.is_encodable g.K.Code.is_decodable g.V.Code.is_decodable g.P.Properties.age in
     says_drive m (load_of c.args.hash c.args.throttled) c.apply_load-reply.result.0 c.args.core.now c.apply_load-reply.new.self (g.D.Disk.byte_at c.args.disk.now) (g.D.Disk.byte_at c.do_read.new.disk)
     (returns-clause-runs g c known)
+
+pub returns-in_err-clone-clause-unread : goal.returns-in_err-clone-clause-unread
+returns-in_err-clone-clause-unread g c = λ throttles.
+    absurd (no_read g.K.Code.is_decodable g.V.Code.is_decodable g.K.Code.encoding g.V.Code.encoding c.args.hash c.args.throttled c.apply.result c.in-Read.ticket c.args.core.now c.apply.new.self c.in-Read.is c.apply.ensures.issued throttles)
+
+pub returns-in_err-came-clause-unread : goal.returns-in_err-came-clause-unread
+returns-in_err-came-clause-unread g c = λ throttles.
+    absurd (no_read g.K.Code.is_decodable g.V.Code.is_decodable g.K.Code.encoding g.V.Code.encoding c.args.hash c.args.throttled c.apply.result c.in-Read.ticket c.args.core.now c.apply.new.self c.in-Read.is c.apply.ensures.issued throttles)
+
+pub returns-clause-unread : goal.returns-clause-unread
+returns-clause-unread g c = λ throttles.
+    absurd (no_read g.K.Code.is_decodable g.V.Code.is_decodable g.K.Code.encoding g.V.Code.encoding c.args.hash c.args.throttled c.apply.result c.in-Read.ticket c.args.core.now c.apply.new.self c.in-Read.is c.apply.ensures.issued throttles)
