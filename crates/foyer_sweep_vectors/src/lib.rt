@@ -1,4 +1,4 @@
-//! Tests of an engine beside a log of deletes of which each allocation, and each access of blocks and of the log, fails in
+//! Tests of an engine beside a log of deletes: each allocation, and each access of the blocks and of the log, fails in
 //! turn.
 #![tactic(auto)]
 
