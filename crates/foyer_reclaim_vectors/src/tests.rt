@@ -5,3 +5,4 @@ mod faults;
 mod random;
 mod rows;
 mod settled;
+mod steps;

@@ -214,7 +214,8 @@ fn holds<R: Files + AllocGlobal>(rt: &R, alloc: Global, seed: u64) -> Result<boo
 }
 
 fn check(rt: &(impl Abort + Files + AllocGlobal), from: u64) -> std::result::Result<(), Fail> {
-    for seed in from..from + SCRIPTS {
+    for at in 0..SCRIPTS {
+        let seed = from.wrapping_add(at);
         assert!(*rt; holds(rt, rt.alloc(), seed)?, "seed {seed}");
     }
     Ok(())
