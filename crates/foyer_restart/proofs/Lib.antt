@@ -16,7 +16,9 @@ pub mod Law
 pub mod Placings
 pub mod Total
 pub mod Witness
+pub mod TornMachine
 pub mod TornRun
+pub mod TornStop
 pub mod TornWitness
 pub mod Layouts
 pub mod Newest

@@ -20,7 +20,8 @@ use Rattle.foyer_restart.specs.Real.{IsSamePart, AreSameParts}
 use Rattle.foyer_restart.specs.Splits.{IsRealSplit}
 use Rattle.foyer_restart.specs.Torn.{small, older, newer, other, Place, alone, TornStop, ReachesTorn, FindsAfterTorn}
 use Rattle.foyer_restart.proofs.Placings.{real_restart_law_lem}
-use Rattle.foyer_restart.proofs.TornRun.{Machine, Item, StandsAlone, reached}
+use Rattle.foyer_restart.proofs.TornMachine.{Machine, Item, StandsAlone}
+use Rattle.foyer_restart.proofs.TornStop.{reached}
 
 -- what a part of one record is
 

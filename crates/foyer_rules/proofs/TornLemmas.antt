@@ -16,7 +16,8 @@ use Rattle.foyer_placing.specs.Splits.LaidOut.{part}
 use Rattle.foyer_placing.specs.Splits.Left.{done, block}
 use Rattle.foyer_recover.specs.Opening.{Opened, Opens}
 use Rattle.foyer_recover.specs.declared.block.recover.RecoverMode.TheVariants as recover_mode
-use Rattle.foyer_restart.proofs.TornRun.{Machine, Item, record_of, StandsAlone, found, reached_open}
+use Rattle.foyer_restart.proofs.TornMachine.{Machine, Item, record_of, StandsAlone}
+use Rattle.foyer_restart.proofs.TornStop.{found, reached_open}
 use Rattle.foyer_restart.specs.Restart.{no_fault}
 use Rattle.foyer_restart.specs.Torn.{IsTornStop, FindsNewer, Place, alone}
 use Rattle.foyer_rules.specs.Content.{Content}
