@@ -4,7 +4,7 @@ use Rattle.std.proofs.lemmas.Bool.{eq-eqb}
 use Rattle.std.specs.Prelude.{IfSome}
 use Rattle.std.specs.declared.vec.Vec.{Vec}
 use Rattle.foyer_block.specs.declared.indexer.HashedEntryAddress.{HashedEntryAddress}
-use Rattle.foyer_filter.specs.declared.any.BuiltInCondition.{BuiltInCondition}
+use Rattle.foyer_filter.specs.declared.verdict.StorageFilterResult.{StorageFilterResult}
 use Rattle.foyer_model.specs.InTurn.{InTurn}
 use Rattle.foyer_model.specs.Reclaim.{issued_at, reclaiming, Lists, Scanned, Rereads}
 use Rattle.foyer_model.specs.Refusal.{NeedsMemory}
@@ -91,14 +91,14 @@ module _ {K V P A : Type 0} (m : Meaning K V P) (s : Settings) (sound : AreValid
     pub follows : InTurn (machine m s sound) it (ReclaimRead b (Bytes bytes)) → FollowsUncounted (machine m s sound) (layout s) it (ReclaimRead b (Bytes bytes)) answer after
     pub reply : IsReply m (scan_reply {K = K} {V = V} {P = P} {A = A} b s.blob_index_size (awaited (reclaim_at new.reclaims b)) v) answer
 
-  pub reads_listed : (new : Core K V P A) (filter : Option (List BuiltInCondition)) (io : IoState) → SameBeside m s core it stands b new → new.manager ≡ core.manager → new.index ≡ core.index
+  pub reads_listed : {Q : Type 0} (new : Core K V P A) (may : Q → IoState → ℕ → ℕ → StorageFilterResult → Type 0) (filter : Option (List Q)) (io : IoState) → SameBeside m s core it stands b new → new.manager ≡ core.manager → new.index ≡ core.index
       → ChangesReclaim core.reclaims new.reclaims b (option_map (after_index bytes (verdict_list v)) (reclaim_at core.reclaims b))
-      → IfSome (reclaim_at core.reclaims b) (λ x. IsReread filter io (index_infos bytes x) (verdict_list v)) → HasRead new
-  reads_listed new filter io same manager index changed verdicts =
+      → IfSome (reclaim_at core.reclaims b) (λ x. IsReread may filter io (index_infos bytes x) (verdict_list v)) → HasRead new
+  reads_listed new may filter io same manager index changed verdicts =
       let r = reads.ours in
-      let judged : IsReread filter io (index_infos bytes r) (verdict_list v) =
-      subst (λ (k : Option Reclaiming). IfSome k (λ x. IsReread filter io (index_infos bytes x) (verdict_list v))) reads.mine verdicts in
-      let fits : FitsList (index_infos bytes r) (verdict_list v) = reread_fits filter io (index_infos bytes r) (verdict_list v) judged in
+      let judged : IsReread may filter io (index_infos bytes r) (verdict_list v) =
+      subst (λ (k : Option Reclaiming). IfSome k (λ x. IsReread may filter io (index_infos bytes x) (verdict_list v))) reads.mine verdicts in
+      let fits : FitsList (index_infos bytes r) (verdict_list v) = reread_fits may filter io (index_infos bytes r) (verdict_list v) judged in
       let changes : ChangesReclaim core.reclaims new.reclaims b (Some (after_index bytes (verdict_list v) r)) =
       subst (λ (k : Option Reclaiming). ChangesReclaim core.reclaims new.reclaims b (option_map (after_index bytes (verdict_list v)) k)) reads.mine changed in
       let l : IsListed m s sound it b at r reads.model reads.stands_as reads.unforgotten reads.none reads.offset bytes (verdict_list v) =

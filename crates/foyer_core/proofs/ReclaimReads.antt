@@ -5,7 +5,7 @@ use Rattle.std.specs.declared.vec.Vec.{Vec}
 use Rattle.foyer_blob.specs.declared.blob.BlobEntryIndex.{BlobEntryIndex}
 use Rattle.foyer_block.specs.declared.indexer.HashedEntryAddress.{HashedEntryAddress}
 use Rattle.foyer_buffer.specs.Listing.{behind, placed}
-use Rattle.foyer_filter.specs.declared.any.BuiltInCondition.{BuiltInCondition}
+use Rattle.foyer_filter.specs.declared.verdict.StorageFilterResult.{StorageFilterResult}
 use Rattle.foyer_format.specs.Page.{page_up}
 use Rattle.foyer_model.specs.Record.{Address}
 use Rattle.foyer_model.specs.Reclaim.{addresses, admitted, place_behind, stage_after, stage_behind, issued_at, reclaiming, Lists}
@@ -46,11 +46,11 @@ zip_count R [] (y ∷ ys) all = absurd all
 zip_count R (x ∷ xs) [] all = absurd all
 zip_count R (x ∷ xs) (y ∷ ys) all = ap (λ n. suc n) (zip_count R xs ys all.1)
 
-pub reread_fits : (filter : Option (List BuiltInCondition)) (io : IoState) (infos : Option (List EntryInfo)) (vs : Option (List Bool)) → IsReread filter io infos vs → FitsList infos vs
-reread_fits filter io None None are = tt
-reread_fits filter io None (Some vs) are = are
-reread_fits filter io (Some infos) None are = are
-reread_fits filter io (Some infos) (Some vs) are = zip_count _ infos vs are
+pub reread_fits : {Q : Type 0} (may : Q → IoState → ℕ → ℕ → StorageFilterResult → Type 0) (filter : Option (List Q)) (io : IoState) (infos : Option (List EntryInfo)) (vs : Option (List Bool)) → IsReread may filter io infos vs → FitsList infos vs
+reread_fits may filter io None None are = tt
+reread_fits may filter io None (Some vs) are = are
+reread_fits may filter io (Some infos) None are = are
+reread_fits may filter io (Some infos) (Some vs) are = zip_count _ infos vs are
 
 nothing_chosen : (vs : Option (List Bool)) → chosen_of vs [] ≡ []
 nothing_chosen None = refl

@@ -9,9 +9,7 @@ use Rattle.std.specs.declared.vec.Vec.{Vec}
 use Rattle.foyer_block.specs.Removal.{same_address}
 use Rattle.foyer_block.specs.declared.indexer.HashedEntryAddress.{HashedEntryAddress}
 use Rattle.foyer_buffer.specs.Position.{Sizes}
-use Rattle.foyer_filter.specs.BuiltIn.{MayAnswerBuiltIn}
 use Rattle.foyer_filter.specs.Verdict.{IsAdmit, AreAnswers, IsVerdict}
-use Rattle.foyer_filter.specs.declared.any.BuiltInCondition.{BuiltInCondition}
 use Rattle.foyer_filter.specs.declared.verdict.StorageFilterResult.{StorageFilterResult}
 use Rattle.foyer_model.specs.Record as model_record
 use Rattle.foyer_model.specs.Reclaim.{is_listed}
@@ -132,24 +130,24 @@ after_index bytes vs r = record {
   is_forgotten = r.is_forgotten;
 }
 
--- a verdict on an entry: whether an answer that the filter may give of its length admits it; without a filter none is admitted
-abbrev pub IsVerdictOn : Option (List BuiltInCondition) → IoState → EntryInfo → Bool → Type 0
-IsVerdictOn None io info verdict = verdict ≡ false
-IsVerdictOn (Some filter) io info verdict =
+-- a verdict on an entry: whether an answer that the filter may give of its hash and its length admits it; without a filter none is admitted
+abbrev pub IsVerdictOn : {Q : Type 0} → (Q → IoState → ℕ → ℕ → StorageFilterResult → Type 0) → Option (List Q) → IoState → EntryInfo → Bool → Type 0
+IsVerdictOn may None io info verdict = verdict ≡ false
+IsVerdictOn may (Some filter) io info verdict =
     (answer : StorageFilterResult) × (IsTrue verdict ↔ IsAdmit answer)
     × ((answers : List StorageFilterResult)
-    × AreAnswers (λ c a. MayAnswerBuiltIn c io (info.addr).len a) filter answers
+    × AreAnswers (λ c a. may c io info.hash (info.addr).len a) filter answers
     × IsVerdict answers answer)
 
 -- one on each of a list
-abbrev pub HasVerdicts : Option (List BuiltInCondition) → IoState → List EntryInfo → List Bool → Type 0
-HasVerdicts filter io infos vs = AllZip (IsVerdictOn filter io) infos vs
+abbrev pub HasVerdicts : {Q : Type 0} → (Q → IoState → ℕ → ℕ → StorageFilterResult → Type 0) → Option (List Q) → IoState → List EntryInfo → List Bool → Type 0
+HasVerdicts may filter io infos vs = AllZip (IsVerdictOn may filter io) infos vs
 
 -- of an index one on each of its entries, and none where the bytes are no index
-abbrev pub IsReread : Option (List BuiltInCondition) → IoState → Option (List EntryInfo) → Option (List Bool) → Type 0
-IsReread filter io None None = Unit {0}
-IsReread filter io (Some infos) (Some vs) = HasVerdicts filter io infos vs
-IsReread filter io infos vs = ⊥
+abbrev pub IsReread : {Q : Type 0} → (Q → IoState → ℕ → ℕ → StorageFilterResult → Type 0) → Option (List Q) → IoState → Option (List EntryInfo) → Option (List Bool) → Type 0
+IsReread may filter io None None = Unit {0}
+IsReread may filter io (Some infos) (Some vs) = HasVerdicts may filter io infos vs
+IsReread may filter io infos vs = ⊥
 
 -- the very entry
 abbrev pub is_entry : HashedEntryAddress → HashedEntryAddress → Bool

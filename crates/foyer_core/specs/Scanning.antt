@@ -2,7 +2,7 @@
 use Rattle.std.specs.Prelude.{◌≡◌, ℕ, Bool, List, Option, Some, None, Result, Ok, Err}
 use Rattle.std.specs.declared.vec.Vec.{Vec}
 use Rattle.foyer_device.specs.declared.error.Error.{Error}
-use Rattle.foyer_filter.specs.declared.any.BuiltInCondition.{BuiltInCondition}
+use Rattle.foyer_filter.specs.declared.verdict.StorageFilterResult.{StorageFilterResult}
 use Rattle.foyer_format.specs.Page.{page_up}
 use Rattle.foyer_statistics.specs.declared.state.IoState.{IoState}
 use Rattle.foyer_core.specs.Reclaiming.{IsReread, Reclaiming, index_infos, reclaim_at, verdict_list, wanted_of}
@@ -19,18 +19,24 @@ scan_reply block index_size (Some (wanted.Index place)) verdicts = reply.Scan bl
 scan_reply block index_size (Some (wanted.Record e)) verdicts = reply.Scan block (e.address).offset (page_up (e.address).len) verdicts
 
 -- the verdicts on what was read: of an index the filter's, one on each entry; of a record there are none
-abbrev pub AreOn : Option (List BuiltInCondition) → IoState → List ℕ → Reclaiming → Option Wanted → Option (List Bool) → Type 0
-AreOn filter io bytes r (Some (wanted.Index place)) vs = IsReread filter io (index_infos bytes r) vs
-AreOn filter io bytes r w vs = vs ≡ None
+abbrev pub AreOn : {Q : Type 0} → (Q → IoState → ℕ → ℕ → StorageFilterResult → Type 0) → Option (List Q) → IoState → List ℕ → Reclaiming → Option Wanted → Option (List Bool) → Type 0
+AreOn may filter io bytes r (Some (wanted.Index place)) vs = IsReread may filter io (index_infos bytes r) vs
+AreOn may filter io bytes r w vs = vs ≡ None
 
 -- and of a read that failed, or of a block that isn't reclaimed, there are none
-abbrev pub HasJudged : {A : Type 0} → Option (List BuiltInCondition) → IoState → Result (Vec ℕ A) Error → Option Reclaiming → Option (List Bool) → Type 0
-HasJudged filter io (Ok bytes) (Some r) vs = AreOn filter io bytes.items r (wanted_of r) vs
-HasJudged filter io (Ok bytes) None vs = vs ≡ None
-HasJudged filter io (Err e) o vs = vs ≡ None
+abbrev pub HasJudged : {A Q : Type 0} → (Q → IoState → ℕ → ℕ → StorageFilterResult → Type 0) → Option (List Q) → IoState → Result (Vec ℕ A) Error → Option Reclaiming → Option (List Bool) → Type 0
+HasJudged may filter io (Ok bytes) (Some r) vs = AreOn may filter io bytes.items r (wanted_of r) vs
+HasJudged may filter io (Ok bytes) None vs = vs ≡ None
+HasJudged may filter io (Err e) o vs = vs ≡ None
 
 -- what a reclaim's read is answered, unless it is handed back, has the verdicts of the filter that was lent
-abbrev pub IsJudged : {K V P A : Type 0} → Option (List BuiltInCondition) → IoState → (block : ℕ) → Result (Vec ℕ A) Error → Reply K V P A → Core K V P A → Type 0
-IsJudged filter io b came (reply.Scan c offset len verdicts) old = HasJudged filter io came (reclaim_at old.reclaims b) (verdict_list verdicts)
-IsJudged filter io b came (reply.Listed verdicts) old = HasJudged filter io came (reclaim_at old.reclaims b) (verdict_list verdicts)
-IsJudged filter io b came answer old = Unit {0}
+abbrev pub IsJudged : {K V P A Q : Type 0} → (Q → IoState → ℕ → ℕ → StorageFilterResult → Type 0) → Option (List Q) → IoState → (block : ℕ) → Result (Vec ℕ A) Error → Reply K V P A → Core K V P A → Type 0
+IsJudged may filter io b came (reply.Scan c offset len verdicts) old = HasJudged may filter io came (reclaim_at old.reclaims b) (verdict_list verdicts)
+IsJudged may filter io b came (reply.Listed verdicts) old = HasJudged may filter io came (reclaim_at old.reclaims b) (verdict_list verdicts)
+IsJudged may filter io b came answer old = Unit {0}
+
+-- no verdicts come with it
+abbrev pub HasNoVerdicts : {K V P A : Type 0} → Reply K V P A → Type 0
+HasNoVerdicts (reply.Scan c offset len verdicts) = verdicts ≡ None
+HasNoVerdicts (reply.Listed verdicts) = verdicts ≡ None
+HasNoVerdicts answer = Unit {0}

@@ -2,7 +2,6 @@
 ghost use Rattle.std.specs.Prelude.{◌≡◌, ℕ, ◌<◌, ◌-◌, ◌^◌, MatchBool, Result};
 ghost use Rattle.std.specs.declared.vec.Vec.{Vec};
 ghost use Rattle.foyer_device.specs.declared.error.Error.{Error};
-ghost use Rattle.foyer_sets.specs.BuiltIn.{built_in_answer, built_in_marks};
 ghost use Rattle.foyer_core.specs.Answered.{HandsBack, Describes, MayFail, IsPicked};
 ghost use Rattle.foyer_core.specs.Scanning.{IsJudged};
 ghost use Rattle.foyer_rules.specs.Content.{meaning};
@@ -15,7 +14,9 @@ use crate::reply::Reply;
 use crate::state::Core;
 use crate::step::Step;
 use foyer_device::error::ErrorKind;
+use foyer_filter::StorageFilterCondition;
 use foyer_format::serde::{Code, Properties};
+use foyer_sets::block::eviction::EvictionPicker;
 use std::alloc::Allocator;
 
 // Whether a step came back, out of turn or refused.
@@ -39,7 +40,11 @@ where
     #[tactic(auto, using(crate::proofs::Describing::issues_counted))]
     /// Applies one step, at any time. A step that is out of turn or refused changes nothing and is handed back, and
     /// isn't counted; after 2^64 - 1 steps each one is refused as `SequenceEnd`.
-    pub fn apply(&mut self, env: &mut Env, step: Step<K, V, P, A>) -> Reply<K, V, P, A>
+    pub fn apply<E: EvictionPicker, C: StorageFilterCondition>(
+        &mut self,
+        env: &mut Env<E, C>,
+        step: Step<K, V, P, A>,
+    ) -> Reply<K, V, P, A>
         ensures back { HandsBack step result self.old self.new }
         ensures issued { Describes K.is_decodable V.is_decodable K.encoding V.encoding
             step result self.old self.new }
@@ -47,9 +52,9 @@ where
             (meaning K.encoding V.encoding K.is_encodable V.is_encodable K.is_decodable V.is_decodable P.age)
             step result self.old self.new }
         ensures failed { result ≡ reply.Failed → MayFail step self.old }
-        ensures picks { step ≡ steps.ReclaimBegin → IsPicked built_in_answer built_in_marks env.old.pickers.items result self.old self.new }
+        ensures picks { step ≡ steps.ReclaimBegin → IsPicked E.answer E.marks env.old.pickers.items result self.old self.new }
         ensures judged { (block : ℕ) (came : Result (Vec ℕ A) Error) → step ≡ steps.ReclaimRead block came
-            → IsJudged env.old.reinsertion env.old.io block came result self.old }
+            → IsJudged C.may_answer env.old.reinsertion env.old.io block came result self.old }
         ensures lent { (env.new.reinsertion ≡ env.old.reinsertion) × (env.new.io ≡ env.old.io) }
     {
         if self.steps == u64::MAX {
@@ -65,7 +70,11 @@ where
     }
 
     #[tactic(auto, using(crate::proofs::Describing::issuing))]
-    fn dispatch(&mut self, env: &mut Env, step: Step<K, V, P, A>) -> Reply<K, V, P, A>
+    fn dispatch<E: EvictionPicker, C: StorageFilterCondition>(
+        &mut self,
+        env: &mut Env<E, C>,
+        step: Step<K, V, P, A>,
+    ) -> Reply<K, V, P, A>
         ensures back { HandsBack step result self.old self.new }
         ensures issued { Describes K.is_decodable V.is_decodable K.encoding V.encoding
             step result self.old self.new }
@@ -73,9 +82,9 @@ where
             (meaning K.encoding V.encoding K.is_encodable V.is_encodable K.is_decodable V.is_decodable P.age)
             step result self.old self.new }
         ensures failed { result ≡ reply.Failed → MayFail step self.old }
-        ensures picks { step ≡ steps.ReclaimBegin → IsPicked built_in_answer built_in_marks env.old.pickers.items result self.old self.new }
+        ensures picks { step ≡ steps.ReclaimBegin → IsPicked E.answer E.marks env.old.pickers.items result self.old self.new }
         ensures judged { (block : ℕ) (came : Result (Vec ℕ A) Error) → step ≡ steps.ReclaimRead block came
-            → IsJudged env.old.reinsertion env.old.io block came result self.old }
+            → IsJudged C.may_answer env.old.reinsertion env.old.io block came result self.old }
         ensures lent { (env.new.reinsertion ≡ env.old.reinsertion) × (env.new.io ≡ env.old.io) }
     {
         match step {

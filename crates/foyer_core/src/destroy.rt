@@ -14,8 +14,10 @@ use crate::step::Step;
 use foyer_block::manager::BlockId;
 use foyer_block::tombstone::Tombstone;
 use foyer_device::error::{Error, ErrorKind, Result};
+use foyer_filter::StorageFilterCondition;
 use foyer_flusher::clearing::{are_idle, clear_all};
 use foyer_flusher::flusher::{Submission, TombstoneInfo};
+use foyer_sets::block::eviction::EvictionPicker;
 use foyer_sets::block::ids::IdSet;
 use std::alloc::Allocator;
 use std::mem::replace;
@@ -124,7 +126,10 @@ impl<K, V, P, A: Allocator + Clone> Core<K, V, P, A> {
     }
 
     // The index is cleared, each block begins a new filling and belongs to no flusher, and the splitters are fresh.
-    pub(crate) fn destroy_clear(&mut self, env: &mut Env) -> Reply<K, V, P, A>
+    pub(crate) fn destroy_clear<E: EvictionPicker, C: StorageFilterCondition>(
+        &mut self,
+        env: &mut Env<E, C>,
+    ) -> Reply<K, V, P, A>
         ensures back { HandsBack step.DestroyClear result self.old self.new }
         ensures nothing { DescribesNothing result }
         ensures meets { (m : Meaning K V P) → RefinesUncounted m step.DestroyClear result self.old self.new }

@@ -6,7 +6,7 @@ ghost use Rattle.foyer_sets.specs.declared.block.picker.BuiltInPicker.TheVariant
 
 use foyer_block::manager::BlockId;
 use foyer_device::error::Result;
-use foyer_filter::{BuiltInCondition, StorageFilter};
+use foyer_filter::{BuiltInCondition, StorageFilter, StorageFilterCondition};
 use foyer_sets::block::eviction::{BuiltInPicker, EvictionPicker, FifoPicker, InvalidRatioPicker};
 use foyer_statistics::IoState;
 use rand_pcg::Pcg32;
@@ -16,15 +16,16 @@ use std::time::Duration;
 
 /// What callers lend the core at its opening and at each step: the pickers, which are asked in their order what is
 /// reclaimed next, the generator that chooses where none of them picks, and the filter of which records of a reclaimed block
-/// are written again.
+/// are written again. Pickers and conditions are those of this project, or of the caller's own types, boxed ones among them
+/// (`foyer_sets`'s `AnyPicker`, `foyer_filter`'s `AnyCondition`).
 #[derive(Drop)]
-pub struct Env {
-    pub(crate) pickers: Vec<BuiltInPicker>,
+pub struct Env<E: EvictionPicker = BuiltInPicker, C: StorageFilterCondition = BuiltInCondition> {
+    pub(crate) pickers: Vec<E>,
     // The ids that pickers learn of, or put on probation.
     pub(crate) own: Vec<BlockId>,
     pub(crate) generator: Pcg32,
     // What admits the records of a reclaimed block for reinsertion; without one none is.
-    pub(crate) reinsertion: Option<StorageFilter<BuiltInCondition, Global>>,
+    pub(crate) reinsertion: Option<StorageFilter<C, Global>>,
     // What the device did and has callers wait for, as the filter is shown it.
     pub(crate) io: IoState,
 }
@@ -41,52 +42,7 @@ fn no_io() -> IoState {
     }
 }
 
-impl Env {
-    /// These pickers, in this order, and a generator that begins with this seed; no record is written again. It doesn't
-    /// allocate.
-    pub fn new(alloc: Global, pickers: Vec<BuiltInPicker>, seed: u64) -> Env
-        ensures pickers { result.pickers ≡ pickers }
-        ensures reinsertion { result.reinsertion ≡ None }
-    {
-        Env {
-            pickers,
-            own: Vec::new(alloc),
-            generator: Pcg32::new(seed, seed),
-            reinsertion: None,
-            io: no_io(),
-        }
-    }
-
-    /// The filter that is asked of each listed entry of a reclaimed block, by its hash and its record's length in bytes: what
-    /// it admits is written again, and keeps its sequence.
-    pub fn with_reinsertion(self, filter: StorageFilter<BuiltInCondition, Global>) -> Env
-        ensures pickers { result.pickers ≡ self.pickers }
-        ensures reinsertion { result.reinsertion ≡ Some filter }
-    {
-        Env {
-            reinsertion: Some(filter),
-            ..self
-        }
-    }
-
-    /// This filter, or none, from now on; the one before comes back.
-    pub fn replace_reinsertion(
-        &mut self,
-        filter: Option<StorageFilter<BuiltInCondition, Global>>,
-    ) -> Option<StorageFilter<BuiltInCondition, Global>>
-        ensures before { result ≡ self.old.reinsertion }
-        ensures filter { self.new ≡ record self.old { reinsertion = filter } }
-    {
-        mem::replace(&mut self.reinsertion, filter)
-    }
-
-    /// What the device did and has callers wait for, as the filter is shown it from now on.
-    pub fn set_io(&mut self, io: IoState)
-        ensures { self.new ≡ record self.old { io = io } }
-    {
-        self.io = io;
-    }
-
+impl Env<BuiltInPicker, BuiltInCondition> {
     /// The pickers where none are given: by invalid bytes from 8/10 of a block on, then by age with a tenth of the
     /// blocks clean or on probation. `Memory` alone.
     pub fn with_default_pickers(alloc: Global, seed: u64) -> Result<Env>
@@ -99,6 +55,69 @@ impl Env {
         pickers.push(BuiltInPicker::InvalidRatio(InvalidRatioPicker::new(8, 10)))?;
         pickers.push(BuiltInPicker::Fifo(FifoPicker::default()))?;
         Ok(Env::new(alloc, pickers, seed))
+    }
+}
+
+impl<E: EvictionPicker> Env<E, BuiltInCondition> {
+    /// These pickers, in this order, and a generator that begins with this seed; no record is written again. It doesn't
+    /// allocate.
+    pub fn new(alloc: Global, pickers: Vec<E>, seed: u64) -> Env<E, BuiltInCondition>
+        ensures pickers { result.pickers ≡ pickers }
+        ensures reinsertion { result.reinsertion ≡ None }
+    {
+        Env {
+            pickers,
+            own: Vec::new(alloc),
+            generator: Pcg32::new(seed, seed),
+            reinsertion: None,
+            io: no_io(),
+        }
+    }
+}
+
+impl<E: EvictionPicker, C: StorageFilterCondition> Env<E, C> {
+    /// The filter that is asked of each listed entry of a reclaimed block, by its hash and its record's length in bytes: what
+    /// it admits is written again, and keeps its sequence.
+    pub fn with_reinsertion<F: StorageFilterCondition>(
+        self,
+        filter: StorageFilter<F, Global>,
+    ) -> Env<E, F>
+        ensures pickers { result.pickers ≡ self.pickers }
+        ensures reinsertion { result.reinsertion ≡ Some filter }
+        ensures io { result.io ≡ self.io }
+    {
+        let Env {
+            pickers,
+            own,
+            generator,
+            reinsertion: _,
+            io,
+        } = self;
+        Env {
+            pickers,
+            own,
+            generator,
+            reinsertion: Some(filter),
+            io,
+        }
+    }
+
+    /// This filter, or none, from now on; the one before comes back.
+    pub fn replace_reinsertion(
+        &mut self,
+        filter: Option<StorageFilter<C, Global>>,
+    ) -> Option<StorageFilter<C, Global>>
+        ensures before { result ≡ self.old.reinsertion }
+        ensures filter { self.new ≡ record self.old { reinsertion = filter } }
+    {
+        mem::replace(&mut self.reinsertion, filter)
+    }
+
+    /// What the device did and has callers wait for, as the filter is shown it from now on.
+    pub fn set_io(&mut self, io: IoState)
+        ensures { self.new ≡ record self.old { io = io } }
+    {
+        self.io = io;
     }
 
     // Its own list has the ids of so many blocks, in order.

@@ -15,9 +15,11 @@ use crate::reply::Reply;
 use crate::state::Core;
 use crate::step::Step;
 use foyer_device::error::{ErrorKind, Result};
+use foyer_filter::StorageFilterCondition;
 use foyer_flusher::batch::{Ended, Next, Wrote};
 use foyer_flusher::receive::Taken;
 use foyer_format::serde::Code;
+use foyer_sets::block::eviction::EvictionPicker;
 use std::alloc::Allocator;
 
 impl<K, V, P, A: Allocator> Core<K, V, P, A> {
@@ -96,7 +98,11 @@ impl<K, V, P, A: Allocator + Clone> Core<K, V, P, A> {
         }
     }
 
-    pub(crate) fn flush_block(&mut self, env: &mut Env, flusher: u32) -> Reply<K, V, P, A>
+    pub(crate) fn flush_block<E: EvictionPicker, C: StorageFilterCondition>(
+        &mut self,
+        env: &mut Env<E, C>,
+        flusher: u32,
+    ) -> Reply<K, V, P, A>
         ensures back { HandsBack (step.FlushBlock flusher) result self.old self.new }
         ensures nothing { DescribesNothing result }
         ensures meets { (m : Meaning K V P) → RefinesUncounted m (step.FlushBlock flusher) result self.old self.new }
@@ -116,9 +122,9 @@ impl<K, V, P, A: Allocator + Clone> Core<K, V, P, A> {
         }
     }
 
-    pub(crate) fn flush_wrote(
+    pub(crate) fn flush_wrote<E: EvictionPicker, C: StorageFilterCondition>(
         &mut self,
-        env: &mut Env,
+        env: &mut Env<E, C>,
         flusher: u32,
         outcome: Result<()>,
     ) -> Reply<K, V, P, A>

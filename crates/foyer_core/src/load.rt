@@ -16,8 +16,10 @@ use crate::state::Core;
 use crate::step::{Step, Ticket};
 use foyer_block::manager::BlockId;
 use foyer_device::error::{ErrorKind, Result};
+use foyer_filter::StorageFilterCondition;
 use foyer_format::block::serde::read_record;
 use foyer_format::serde::{Age, Code, Properties};
+use foyer_sets::block::eviction::EvictionPicker;
 use foyer_sets::block::manager::BlockState;
 use std::alloc::Allocator;
 
@@ -135,9 +137,9 @@ where
     #[tactic(auto, using(crate::proofs::Describing::issues_counted, crate::proofs::Describing::issues_pair))]
     /// Applies `LoadEnd` as `apply` does, and gives the buffer of the read back beside the reply, for the next read: as it
     /// came, with all that is in it. None where the read failed, or where the step that is handed back has the buffer.
-    pub fn apply_load(
+    pub fn apply_load<E: EvictionPicker, C: StorageFilterCondition>(
         &mut self,
-        _env: &mut Env,
+        _env: &mut Env<E, C>,
         ticket: Ticket,
         outcome: Result<Vec<u8, A>>,
     ) -> (Reply<K, V, P, A>, Option<Vec<u8, A>>)

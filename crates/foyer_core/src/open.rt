@@ -17,9 +17,11 @@ use foyer_block::manager::BlockId;
 use foyer_block::tombstone::Tombstone;
 use foyer_blockio::disk::Disk;
 use foyer_device::error::Result;
+use foyer_filter::StorageFilterCondition;
 use foyer_flusher::flusher::Flusher;
 pub use foyer_recover::block::recover::RecoverMode;
 use foyer_recover::block::recover::{RecoverRunner, Recovered};
+use foyer_sets::block::eviction::EvictionPicker;
 use foyer_sets::block::manager::{BlockManager, ManagerConfig};
 use std::alloc::Allocator;
 use std::collections::HashMap;
@@ -43,9 +45,9 @@ fn idle_flushers<K: Drop, V: Drop, P: Drop, A: Allocator + Clone>(
 
 // The manager of blocks that were never handed out: these are clean, in this order, all others are evictable, and the
 // pickers know them.
-fn place_blocks<A: Allocator + Clone>(
+fn place_blocks<A: Allocator + Clone, E: EvictionPicker, C: StorageFilterCondition>(
     alloc: &A,
-    env: &mut Env,
+    env: &mut Env<E, C>,
     settings: &Settings,
     clean: &[BlockId],
 ) -> Result<BlockManager<A>>
@@ -81,9 +83,9 @@ impl<K: Drop, V: Drop, P: Drop, A: Allocator + Clone> Core<K, V, P, A> {
     /// `Config` where the settings don't go together, before anything is read; `Recover` where a read failed in
     /// `Strict`; `SequenceEnd` where what was found, or a mark, has the last sequence; `Memory` at any time. No bytes
     /// refuse it.
-    pub fn open<D: Disk>(
+    pub fn open<D: Disk, E: EvictionPicker, C: StorageFilterCondition>(
         alloc: A,
-        env: &mut Env,
+        env: &mut Env<E, C>,
         settings: Settings,
         disk: &mut D,
         mode: RecoverMode,

@@ -1,11 +1,8 @@
 //! The steps of a reclaim.
-ghost use Rattle.std.specs.Prelude.{◌≡◌, ◌<◌, ◌%◌, ℕ, List, Option, Some, Ok, IfSome, vec_len};
-ghost use Rattle.foyer_filter.specs.declared.any.BuiltInCondition.{BuiltInCondition};
-ghost use Rattle.foyer_statistics.specs.declared.state.IoState.{IoState};
+ghost use Rattle.std.specs.Prelude.{◌≡◌, ◌<◌, ◌%◌, ℕ, Some, Ok, IfSome, vec_len};
 ghost use Rattle.foyer_format.specs.Page.{page_up};
 ghost use Rattle.foyer_core.specs.Reclaiming.{awaited, reclaim_at, requeue_count};
-ghost use Rattle.foyer_core.specs.Scanning.{IsJudged, scan_reply};
-ghost use Rattle.foyer_sets.specs.BuiltIn.{built_in_answer, built_in_marks};
+ghost use Rattle.foyer_core.specs.Scanning.{HasNoVerdicts, IsJudged, scan_reply};
 ghost use Rattle.foyer_core.specs.Answered.{HandsBack, DescribesNothing, Idling, IsPicked};
 ghost use Rattle.foyer_core.specs.Refines.{RefinesUncounted};
 ghost use Rattle.foyer_core.specs.declared.step.Step.TheVariants as step;
@@ -20,8 +17,10 @@ use crate::step::Step;
 use foyer_block::indexer::{EntryAddress, HashedEntryAddress};
 use foyer_block::manager::BlockId;
 use foyer_device::error::{ErrorKind, Result};
+use foyer_filter::StorageFilterCondition;
 use foyer_flusher::flusher::{Reinsertion, Submission};
 use foyer_format::block::buffer::PAGE;
+use foyer_sets::block::eviction::EvictionPicker;
 use foyer_sets::block::manager::ReclaimingBlock;
 use foyer_standing::manager::filling_of;
 use std::alloc::Allocator;
@@ -49,11 +48,14 @@ fn record_pages(address: &EntryAddress) -> usize
 
 impl<K, V, P, A: Allocator + Clone> Core<K, V, P, A> {
     // The pickers that are lent choose the block, or the generator does.
-    pub(crate) fn reclaim_begin(&mut self, env: &mut Env) -> Reply<K, V, P, A>
+    pub(crate) fn reclaim_begin<E: EvictionPicker, C: StorageFilterCondition>(
+        &mut self,
+        env: &mut Env<E, C>,
+    ) -> Reply<K, V, P, A>
         ensures back { HandsBack step.ReclaimBegin result self.old self.new }
         ensures nothing { DescribesNothing result }
         ensures meets { (m : Meaning K V P) → RefinesUncounted m step.ReclaimBegin result self.old self.new }
-        ensures picks { IsPicked built_in_answer built_in_marks env.old.pickers.items result self.old self.new }
+        ensures picks { IsPicked E.answer E.marks env.old.pickers.items result self.old self.new }
         ensures lent { (env.new.reinsertion ≡ env.old.reinsertion) × (env.new.io ≡ env.old.io) }
     {
         if !self.manager.may_reclaim() {
@@ -126,12 +128,17 @@ impl<K, V, P, A: Allocator + Clone> Core<K, V, P, A> {
     }
 
     // An index is listed, and the filter is asked of each of its entries.
-    fn read_index(&mut self, env: &Env, block: BlockId, bytes: Vec<u8, A>) -> Reply<K, V, P, A>
+    fn read_index<E: EvictionPicker, C: StorageFilterCondition>(
+        &mut self,
+        env: &Env<E, C>,
+        block: BlockId,
+        bytes: Vec<u8, A>,
+    ) -> Reply<K, V, P, A>
         requires { (place : ℕ) × (awaited (reclaim_at self.old.reclaims block) ≡ Some (Wanted.Index place)) }
         ensures back { HandsBack (step.ReclaimRead block (Ok bytes)) result self.old self.new }
         ensures nothing { DescribesNothing result }
         ensures meets { (m : Meaning K V P) → RefinesUncounted m (step.ReclaimRead block (Ok bytes)) result self.old self.new }
-        ensures judged { IsJudged env.now.reinsertion env.now.io block (Ok bytes) result self.old }
+        ensures judged { IsJudged C.may_answer env.now.reinsertion env.now.io block (Ok bytes) result self.old }
     {
         if bytes.len() != self.settings.blob_index_size {
             return Reply::NotNow(reclaim_read(block, Ok(bytes)));
@@ -160,7 +167,7 @@ impl<K, V, P, A: Allocator + Clone> Core<K, V, P, A> {
         ensures back { HandsBack (step.ReclaimRead block (Ok bytes)) result self.old self.new }
         ensures nothing { DescribesNothing result }
         ensures meets { (m : Meaning K V P) → RefinesUncounted m (step.ReclaimRead block (Ok bytes)) result self.old self.new }
-        ensures judged { (filter : Option (List BuiltInCondition)) (io : IoState) → IsJudged filter io block (Ok bytes) result self.old }
+        ensures unjudged { HasNoVerdicts result }
     {
         if bytes.len() != record_pages(&entry.address) {
             return Reply::NotNow(reclaim_read(block, Ok(bytes)));
@@ -186,16 +193,16 @@ impl<K, V, P, A: Allocator + Clone> Core<K, V, P, A> {
     }
 
     // A fault, and bytes that are no index, end the listing.
-    pub(crate) fn reclaim_read(
+    pub(crate) fn reclaim_read<E: EvictionPicker, C: StorageFilterCondition>(
         &mut self,
-        env: &Env,
+        env: &Env<E, C>,
         block: BlockId,
         outcome: Result<Vec<u8, A>>,
     ) -> Reply<K, V, P, A>
         ensures back { HandsBack (step.ReclaimRead block outcome) result self.old self.new }
         ensures nothing { DescribesNothing result }
         ensures meets { (m : Meaning K V P) → RefinesUncounted m (step.ReclaimRead block outcome) result self.old self.new }
-        ensures judged { IsJudged env.now.reinsertion env.now.io block outcome result self.old }
+        ensures judged { IsJudged C.may_answer env.now.reinsertion env.now.io block outcome result self.old }
     {
         let Some(wanted) = reclaimer::awaited(&self.reclaims, block) else {
             return Reply::NotNow(reclaim_read(block, outcome));

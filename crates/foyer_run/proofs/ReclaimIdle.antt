@@ -4,7 +4,7 @@ use Rattle.std.specs.Prelude.{Result, nat_le}
 use Rattle.std.specs.List.{AllZip}
 use Rattle.std.specs.declared.vec.Vec.{Vec}
 use Rattle.foyer_device.specs.declared.error.Error.{Error}
-use Rattle.foyer_filter.specs.declared.any.BuiltInCondition.{BuiltInCondition}
+use Rattle.foyer_filter.specs.declared.verdict.StorageFilterResult.{StorageFilterResult}
 use Rattle.foyer_scan.specs.declared.block.scanner.EntryInfo.{EntryInfo}
 use Rattle.foyer_statistics.specs.declared.state.IoState.{IoState}
 use Rattle.foyer_restart.specs.Restart.{AllRefused}
@@ -161,32 +161,32 @@ answered_verdicts (reply.Listed vs) = verdicts_of vs
 answered_verdicts answer = []
 
 -- verdicts without a filter
-none_judged : (io : IoState) (infos : List EntryInfo) (vs : List Bool) → AllZip (IsVerdictOn None io) infos vs → AllRefused vs
-none_judged io [] [] all = tt
-none_judged io (i ∷ is) (true ∷ vs) all = absurd (let clash : true ≡ false = all.0 in cc)
-none_judged io (i ∷ is) (false ∷ vs) all = none_judged io is vs all.1
-none_judged io [] (v ∷ vs) all = absurd all
-none_judged io (i ∷ is) [] all = absurd all
+none_judged : {Q : Type 0} (may : Q → IoState → ℕ → ℕ → StorageFilterResult → Type 0) (io : IoState) (infos : List EntryInfo) (vs : List Bool) → AllZip (IsVerdictOn may None io) infos vs → AllRefused vs
+none_judged may io [] [] all = tt
+none_judged may io (i ∷ is) (true ∷ vs) all = absurd (let clash : true ≡ false = all.0 in cc)
+none_judged may io (i ∷ is) (false ∷ vs) all = none_judged may io is vs all.1
+none_judged may io [] (v ∷ vs) all = absurd all
+none_judged may io (i ∷ is) [] all = absurd all
 
-none_reread : (io : IoState) (infos : Option (List EntryInfo)) (vs : List Bool) → IsReread None io infos (Some vs) → AllRefused vs
-none_reread io None vs reread = absurd reread
-none_reread io (Some infos) vs reread = none_judged io infos vs reread
+none_reread : {Q : Type 0} (may : Q → IoState → ℕ → ℕ → StorageFilterResult → Type 0) (io : IoState) (infos : Option (List EntryInfo)) (vs : List Bool) → IsReread may None io infos (Some vs) → AllRefused vs
+none_reread may io None vs reread = absurd reread
+none_reread may io (Some infos) vs reread = none_judged may io infos vs reread
 
-none_on : (io : IoState) (bytes : List ℕ) (r : Reclaiming) (w : Option Wanted) (vs : List Bool) → AreOn None io bytes r w (Some vs) → AllRefused vs
-none_on io bytes r (Some (wanted.Index place)) vs on = none_reread io (index_infos bytes r) vs on
-none_on io bytes r (Some (wanted.Record e)) vs on = absurd (let clash : Some vs ≡ None = on in cc)
-none_on io bytes r None vs on = absurd (let clash : Some vs ≡ None = on in cc)
+none_on : {Q : Type 0} (may : Q → IoState → ℕ → ℕ → StorageFilterResult → Type 0) (io : IoState) (bytes : List ℕ) (r : Reclaiming) (w : Option Wanted) (vs : List Bool) → AreOn may None io bytes r w (Some vs) → AllRefused vs
+none_on may io bytes r (Some (wanted.Index place)) vs on = none_reread may io (index_infos bytes r) vs on
+none_on may io bytes r (Some (wanted.Record e)) vs on = absurd (let clash : Some vs ≡ None = on in cc)
+none_on may io bytes r None vs on = absurd (let clash : Some vs ≡ None = on in cc)
 
-none_given : {A : Type 0} (io : IoState) (came : Result (Vec ℕ A) Error) (o : Option Reclaiming) (vs : Option (Vec Bool A)) → HasJudged None io came o (verdict_list vs) → AllRefused (verdicts_of vs)
-none_given io came o None has = tt
-none_given io (Ok bytes) (Some r) (Some v) has = none_on io bytes.items r (wanted_of r) v.items has
-none_given io (Ok bytes) None (Some v) has = absurd (let clash : Some v.items ≡ None = has in cc)
-none_given io (Err e) o (Some v) has = absurd (let clash : Some v.items ≡ None = has in cc)
+none_given : {A Q : Type 0} (may : Q → IoState → ℕ → ℕ → StorageFilterResult → Type 0) (io : IoState) (came : Result (Vec ℕ A) Error) (o : Option Reclaiming) (vs : Option (Vec Bool A)) → HasJudged may None io came o (verdict_list vs) → AllRefused (verdicts_of vs)
+none_given may io came o None has = tt
+none_given may io (Ok bytes) (Some r) (Some v) has = none_on may io bytes.items r (wanted_of r) v.items has
+none_given may io (Ok bytes) None (Some v) has = absurd (let clash : Some v.items ≡ None = has in cc)
+none_given may io (Err e) o (Some v) has = absurd (let clash : Some v.items ≡ None = has in cc)
 
-none_answered : {K V P A : Type 0} (io : IoState) (b : ℕ) (came : Result (Vec ℕ A) Error) (answer : Reply K V P A) (core : Core K V P A) → IsJudged None io b came answer core → AllRefused (answered_verdicts answer)
-none_answered io b came (reply.Scan c offset len vs) core judged = none_given io came (reclaim_at core.reclaims b) vs judged
-none_answered io b came (reply.Listed vs) core judged = none_given io came (reclaim_at core.reclaims b) vs judged
-none_answered io b came answer core judged = tt
+none_answered : {K V P A Q : Type 0} (may : Q → IoState → ℕ → ℕ → StorageFilterResult → Type 0) (io : IoState) (b : ℕ) (came : Result (Vec ℕ A) Error) (answer : Reply K V P A) (core : Core K V P A) → IsJudged may None io b came answer core → AllRefused (answered_verdicts answer)
+none_answered may io b came (reply.Scan c offset len vs) core judged = none_given may io came (reclaim_at core.reclaims b) vs judged
+none_answered may io b came (reply.Listed vs) core judged = none_given may io came (reclaim_at core.reclaims b) vs judged
+none_answered may io b came answer core judged = tt
 
 module _ {K V P A : Type 0} (m : Meaning K V P) where
   same_verdicts : (answer : Reply K V P A) (it : model_reply.Reply Content) → IsReply m answer it → given_verdicts it ≡ answered_verdicts answer
@@ -219,21 +219,21 @@ module _ {K V P A : Type 0} (m : Meaning K V P) where
   same_verdicts (reply.Destroyed first) it is = ap given_verdicts is.2
 
   -- a read that is judged by no filter
-  pub unread_kept : (filter : Option (List BuiltInCondition)) (io : IoState) (b : ℕ) (outcome : Result (Vec ℕ A) Error) (answer : Reply K V P A) (old new : Core K V P A)
-      → IsJudged filter io b outcome answer old → Refines m (step.ReclaimRead b outcome) answer old new → Leads m (Without filter (KeepsUnread b)) old new
-  unread_kept filter io b outcome answer old new judged refines = λ s sound it at.
+  pub unread_kept : {Q : Type 0} (may : Q → IoState → ℕ → ℕ → StorageFilterResult → Type 0) (filter : Option (List Q)) (io : IoState) (b : ℕ) (outcome : Result (Vec ℕ A) Error) (answer : Reply K V P A) (old new : Core K V P A)
+      → IsJudged may filter io b outcome answer old → Refines m (step.ReclaimRead b outcome) answer old new → Leads m (Without filter (KeepsUnread b)) old new
+  unread_kept may filter io b outcome answer old new judged refines = λ s sound it at.
       let met = refines s sound it at in (
         met.after,
         met.stands,
         λ none.
-            let refused : AllRefused (answered_verdicts answer) = none_answered io b outcome answer old (subst (λ f. IsJudged f io b outcome answer old) none judged) in
+            let refused : AllRefused (answered_verdicts answer) = none_answered may io b outcome answer old (subst (λ f. IsJudged may f io b outcome answer old) none judged) in
             read_unread (machine m s sound) (layout s) it met.after b (came_of outcome) met.it (subst AllRefused (sym (same_verdicts answer met.it met.reply)) refused) met.follows,
       )
 
-  pub unread_none : (filter : Option (List BuiltInCondition)) (b : ℕ) (core : Core K V P A) → Leads m (Without filter (KeepsUnread b)) core core
+  pub unread_none : {Q : Type 0} (filter : Option (List Q)) (b : ℕ) (core : Core K V P A) → Leads m (Without filter (KeepsUnread b)) core core
   unread_none filter b core = leads_none m (Without filter (KeepsUnread b)) core (λ it none unread. ((λ f idle. idle), unread))
 
-  pub unread_more : (filter other : Option (List BuiltInCondition)) (b : ℕ) (a c d : Core K V P A) → other ≡ filter
+  pub unread_more : {Q : Type 0} (filter other : Option (List Q)) (b : ℕ) (a c d : Core K V P A) → other ≡ filter
       → Leads m (Without filter (KeepsUnread b)) a c → Leads m (Without other (KeepsUnread b)) c d → Leads m (Without filter (KeepsUnread b)) a d
   unread_more filter other b a c d same one two =
       leads_more m (Without filter (KeepsUnread b)) (Without other (KeepsUnread b)) (Without filter (KeepsUnread b)) a c d
@@ -243,7 +243,7 @@ module _ {K V P A : Type 0} (m : Meaning K V P) where
       ((λ k idle. g.0 k (f.0 k idle)), g.1)) one two
 
   -- from the pick of a block on
-  pub unread_picked : (filter other : Option (List BuiltInCondition)) (b : ℕ) (answers : _) (probation : _) (old begun read : Core K V P A) → other ≡ filter
+  pub unread_picked : {Q : Type 0} (filter other : Option (List Q)) (b : ℕ) (answers : _) (probation : _) (old begun read : Core K V P A) → other ≡ filter
       → Refines m step.ReclaimBegin (reply.Picked b answers probation) old begun → Leads m (Without other (KeepsUnread b)) begun read → Leads m (Without filter KeepsIdle) old read
   unread_picked filter other b answers probation old begun read same begins led = λ s sound it at.
       let met = begins s sound it at in
@@ -257,12 +257,12 @@ module _ {K V P A : Type 0} (m : Meaning K V P) where
             (follows_idle rules (layout s) it met.after model_step.ReclaimBegin met.it tt met.follows f idle),
       )
 
-  pub idle_kept : (filter : Option (List BuiltInCondition)) (given : Step K V P A) (answer : Reply K V P A) (old new : Core K V P A) → IsOfReclaim (step_of m given) → Refines m given answer old new → Leads m (Without filter KeepsIdle) old new
+  pub idle_kept : {Q : Type 0} (filter : Option (List Q)) (given : Step K V P A) (answer : Reply K V P A) (old new : Core K V P A) → IsOfReclaim (step_of m given) → Refines m given answer old new → Leads m (Without filter KeepsIdle) old new
   idle_kept filter given answer old new is refines = λ s sound it at.
       let met = refines s sound it at in
       (met.after, met.stands, λ none. follows_idle (machine m s sound) (layout s) it met.after (step_of m given) met.it is met.follows)
 
-  pub idle_more : (filter : Option (List BuiltInCondition)) (a b c : Core K V P A) → Leads m (Without filter KeepsIdle) a b → Leads m (Without filter KeepsIdle) b c → Leads m (Without filter KeepsIdle) a c
+  pub idle_more : {Q : Type 0} (filter : Option (List Q)) (a b c : Core K V P A) → Leads m (Without filter KeepsIdle) a b → Leads m (Without filter KeepsIdle) b c → Leads m (Without filter KeepsIdle) a c
   idle_more filter a b c one two =
       leads_more m (Without filter KeepsIdle) (Without filter KeepsIdle) (Without filter KeepsIdle) a b c (λ x y z first next none f idle. next none f (first none f idle)) one two
 

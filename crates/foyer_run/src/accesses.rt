@@ -23,13 +23,15 @@ use foyer_core::apply::Env;
 use foyer_core::reply::Reply;
 use foyer_core::state::Core;
 use foyer_core::step::Step;
+use foyer_filter::StorageFilterCondition;
 use foyer_format::serde::{Code, Properties};
+use foyer_sets::block::eviction::EvictionPicker;
 use std::alloc::{AllocError, Allocator};
 
 /// Applies a step that brings no result of an access and issues no write: a run of the move that is this step.
-pub fn step<K, V, P, A>(
+pub fn step<K, V, P, A, E, C>(
     core: &mut Core<K, V, P, A>,
-    env: &mut Env,
+    env: &mut Env<E, C>,
     given: Step<K, V, P, A>,
 ) -> Reply<K, V, P, A>
 where
@@ -37,6 +39,8 @@ where
     V: Code<A> + Drop,
     P: Properties + Drop,
     A: Allocator + Clone,
+    E: EvictionPicker,
+    C: StorageFilterCondition,
     requires free { IsFree given }
     ensures runs { (x : Move K V P A) → asked x ≡ asks.Step given → (bytes : ℕ → ℕ → ℕ) → Says
         (meaning K.encoding V.encoding K.is_encodable V.is_encodable K.is_decodable V.is_decodable P.age)
@@ -68,9 +72,9 @@ fn put_back<A: Allocator>(spare: &mut Vec<u8, A>, buffer: Option<Vec<u8, A>>)
 /// steps are left. `Err` is a refused allocation: then nothing was read, and the load never ends. The read goes into the
 /// memory of `spare`, whatever it holds, and only a step that is handed back keeps that memory. Of a disk whose bytes
 /// aren't known nothing is claimed but that the load returns.
-pub fn load<K, V, P, A, D>(
+pub fn load<K, V, P, A, D, E, C>(
     core: &mut Core<K, V, P, A>,
-    env: &mut Env,
+    env: &mut Env<E, C>,
     disk: &mut D,
     spare: &mut Vec<u8, A>,
     hash: u64,
@@ -82,6 +86,8 @@ where
     P: Properties + Drop,
     A: Allocator + Clone,
     D: Disk,
+    E: EvictionPicker,
+    C: StorageFilterCondition,
     ensures runs { D.is_known disk.old → IfOk result (λ last. Says
         (meaning K.encoding V.encoding K.is_encodable V.is_encodable K.is_decodable V.is_decodable P.age)
         (load_of hash throttled) last core.old core.new (D.byte_at disk.old) (D.byte_at disk.new)) }
@@ -115,9 +121,9 @@ where
 /// which never asks for another write, `None` where the block has no write or none that ended it. After a write that failed, and after a report that didn't
 /// ask for the next, the block's others aren't done. Of a disk whose bytes aren't known it is only claimed that the other
 /// flushers keep what they have.
-pub fn write_block<K, V, P, A, D>(
+pub fn write_block<K, V, P, A, D, E, C>(
     core: &mut Core<K, V, P, A>,
-    env: &mut Env,
+    env: &mut Env<E, C>,
     disk: &mut D,
     flusher: u32,
 ) -> Option<Reply<K, V, P, A>>
@@ -127,6 +133,8 @@ where
     P: Properties + Drop,
     A: Allocator + Clone,
     D: Disk,
+    E: EvictionPicker,
+    C: StorageFilterCondition,
     ensures writes { D.is_known disk.old → Writes
         (meaning K.encoding V.encoding K.is_encodable V.is_encodable K.is_decodable V.is_decodable P.age)
         flusher result core.old core.new (D.byte_at disk.old) (D.byte_at disk.new) }

@@ -11,15 +11,17 @@ use foyer_core::apply::Env;
 use foyer_core::reply::Reply;
 use foyer_core::state::Core;
 use foyer_core::step::Step;
+use foyer_filter::StorageFilterCondition;
 use foyer_format::serde::{Code, Properties};
 use foyer_log::block::tombstone::MarkLog;
+use foyer_sets::block::eviction::EvictionPicker;
 use std::alloc::Allocator;
 
 /// Begins a flusher's batch, appends its marks to the log, and brings what came of it: what the begin was answered. Where
 /// no batch begins the log is left alone. Without a log of deletes in the core's settings what is brought is out of turn.
-pub fn begin_batch<K, V, P, A, L>(
+pub fn begin_batch<K, V, P, A, L, E, C>(
     core: &mut Core<K, V, P, A>,
-    env: &mut Env,
+    env: &mut Env<E, C>,
     log: &mut L,
     flusher: u32,
 ) -> Reply<K, V, P, A>
@@ -29,6 +31,8 @@ where
     P: Properties + Drop,
     A: Allocator + Clone,
     L: MarkLog,
+    E: EvictionPicker,
+    C: StorageFilterCondition,
     ensures begins { (bytes : ℕ → ℕ → ℕ) → DrivesBy (IsBatchBegun
         (meaning K.encoding V.encoding K.is_encodable V.is_encodable K.is_decodable V.is_decodable P.age)
         flusher L.appends log.old log.new result)

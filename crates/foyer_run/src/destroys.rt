@@ -11,13 +11,15 @@ use foyer_core::apply::Env;
 use foyer_core::reply::Reply;
 use foyer_core::state::Core;
 use foyer_core::step::Step;
+use foyer_filter::StorageFilterCondition;
 use foyer_format::serde::{Code, Properties};
+use foyer_sets::block::eviction::EvictionPicker;
 use std::alloc::Allocator;
 
 // Cleans a block for a destroy, and brings what came of it.
-fn clean<K, V, P, A, D>(
+fn clean<K, V, P, A, D, E, C>(
     core: &mut Core<K, V, P, A>,
-    env: &mut Env,
+    env: &mut Env<E, C>,
     disk: &mut D,
     block: BlockId,
 ) -> Reply<K, V, P, A>
@@ -27,6 +29,8 @@ where
     P: Properties + Drop,
     A: Allocator + Clone,
     D: Disk,
+    E: EvictionPicker,
+    C: StorageFilterCondition,
     ensures cleans { D.is_known disk.old → Cleans
         (meaning K.encoding V.encoding K.is_encodable V.is_encodable K.is_decodable V.is_decodable P.age)
         block result core.old core.new (D.byte_at disk.old) (D.byte_at disk.new) }
@@ -46,9 +50,9 @@ where
 /// what was answered last, `Destroyed` unless the limit of steps came before. `Err` where the index wasn't cleared, with
 /// the step that was out of turn or refused. A clean that fails ends no destroy. Of a disk whose bytes aren't known nothing is claimed
 /// but that the call returns.
-pub fn clear_blocks<K, V, P, A, D>(
+pub fn clear_blocks<K, V, P, A, D, E, C>(
     core: &mut Core<K, V, P, A>,
-    env: &mut Env,
+    env: &mut Env<E, C>,
     disk: &mut D,
 ) -> std::result::Result<Reply<K, V, P, A>, Reply<K, V, P, A>>
 where
@@ -57,6 +61,8 @@ where
     P: Properties + Drop,
     A: Allocator + Clone,
     D: Disk,
+    E: EvictionPicker,
+    C: StorageFilterCondition,
     ensures clears { D.is_known disk.old → IfOk result (λ last. DrivesBy (IsClearing
         (meaning K.encoding V.encoding K.is_encodable V.is_encodable K.is_decodable V.is_decodable P.age) core.old.settings.blocks last)
         (meaning K.encoding V.encoding K.is_encodable V.is_encodable K.is_decodable V.is_decodable P.age)

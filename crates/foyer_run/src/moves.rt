@@ -14,8 +14,10 @@ use foyer_core::reply::{Reply, Write};
 use foyer_core::state::Core;
 use foyer_core::step::{Step, Ticket};
 use foyer_device::error::Result;
+use foyer_filter::StorageFilterCondition;
 use foyer_format::serde::{Code, Properties};
 use foyer_policy::keeper::Piece;
+use foyer_sets::block::eviction::EvictionPicker;
 use std::alloc::{AllocError, Allocator};
 
 /// A step without its result: a run does the access that was issued, and brings what came of it.
@@ -242,9 +244,9 @@ fn set_due<T: Copy, A: Allocator>(list: &mut Vec<Option<T>, A>, i: usize, x: Opt
 }
 
 // Applies a step that brings no result, and issues no write.
-fn apply_step<K, V, P, A>(
+fn apply_step<K, V, P, A, E, C>(
     core: &mut Core<K, V, P, A>,
-    env: &mut Env,
+    env: &mut Env<E, C>,
     step: Step<K, V, P, A>,
     kept: &mut Kept<K, V, P, A>,
 )
@@ -253,6 +255,8 @@ where
     V: Code<A> + Drop,
     P: Properties + Drop,
     A: Allocator + Clone,
+    E: EvictionPicker,
+    C: StorageFilterCondition,
     requires free { IsFree step }
     requires tickets { vec_len kept.old.tickets < vec_capacity kept.old.tickets }
     requires replies { vec_len kept.old.replies < vec_capacity kept.old.replies }
@@ -267,9 +271,9 @@ where
 }
 
 // Asks for a block and its writes, and notes them.
-fn flush_block<K, V, P, A>(
+fn flush_block<K, V, P, A, E, C>(
     core: &mut Core<K, V, P, A>,
-    env: &mut Env,
+    env: &mut Env<E, C>,
     flusher: u32,
     kept: &mut Kept<K, V, P, A>,
 )
@@ -278,6 +282,8 @@ where
     V: Code<A> + Drop,
     P: Properties + Drop,
     A: Allocator + Clone,
+    E: EvictionPicker,
+    C: StorageFilterCondition,
     requires tickets { vec_len kept.old.tickets < vec_capacity kept.old.tickets }
     requires replies { vec_len kept.old.replies < vec_capacity kept.old.replies }
     ensures moved { (bytes : ℕ → ℕ → ℕ) → Moves
@@ -301,9 +307,9 @@ where
 }
 
 // Does the read of a ticket, if it is due, and brings what came of it.
-fn load_end<K, V, P, A, D>(
+fn load_end<K, V, P, A, D, E, C>(
     core: &mut Core<K, V, P, A>,
-    env: &mut Env,
+    env: &mut Env<E, C>,
     disk: &mut D,
     n: usize,
     kept: &mut Kept<K, V, P, A>,
@@ -314,6 +320,8 @@ where
     P: Properties + Drop,
     A: Allocator + Clone,
     D: Disk,
+    E: EvictionPicker,
+    C: StorageFilterCondition,
     requires tickets { vec_len kept.old.tickets < vec_capacity kept.old.tickets }
     requires replies { vec_len kept.old.replies < vec_capacity kept.old.replies }
     ensures moved { D.is_known disk.old → OnOk result (Moves
@@ -345,9 +353,9 @@ where
 
 // Does the write of a flusher that is due, if one is, and brings what came of it. After one that failed, and after a
 // step that came back, the block's others aren't done.
-fn flush_wrote<K, V, P, A, D>(
+fn flush_wrote<K, V, P, A, D, E, C>(
     core: &mut Core<K, V, P, A>,
-    env: &mut Env,
+    env: &mut Env<E, C>,
     disk: &mut D,
     flusher: u32,
     kept: &mut Kept<K, V, P, A>,
@@ -358,6 +366,8 @@ where
     P: Properties + Drop,
     A: Allocator + Clone,
     D: Disk,
+    E: EvictionPicker,
+    C: StorageFilterCondition,
     requires tickets { vec_len kept.old.tickets < vec_capacity kept.old.tickets }
     requires replies { vec_len kept.old.replies < vec_capacity kept.old.replies }
     ensures moved { D.is_known disk.old → Moves
@@ -397,9 +407,9 @@ where
 }
 
 // Makes one move. `Err` is a refused allocation: then nothing changed but room.
-fn make<K, V, P, A, D>(
+fn make<K, V, P, A, D, E, C>(
     core: &mut Core<K, V, P, A>,
-    env: &mut Env,
+    env: &mut Env<E, C>,
     disk: &mut D,
     x: Move<K, V, P, A>,
     kept: &mut Kept<K, V, P, A>,
@@ -410,6 +420,8 @@ where
     P: Properties + Drop,
     A: Allocator + Clone,
     D: Disk,
+    E: EvictionPicker,
+    C: StorageFilterCondition,
     ensures moved { D.is_known disk.old → OnOk result (Moves
         (meaning K.encoding V.encoding K.is_encodable V.is_encodable K.is_decodable V.is_decodable P.age)
         (asked x) kept.old kept.new core.old core.new (D.byte_at disk.old) (D.byte_at disk.new)) }
@@ -468,9 +480,9 @@ fn begin<K, V, P, A: Allocator + Clone>(
 /// whose access wasn't issued in this run, or is done, is passed over; so is a write behind one that failed, or behind one
 /// whose report came back, and what brings a reclaim's read or a clean: `reclaim_block` and `clear_blocks` do those. `Memory` where the result of an access, or the list of replies, couldn't be had: then some
 /// front of the moves was run, and the others are dropped.
-pub fn run<K, V, P, A, D>(
+pub fn run<K, V, P, A, D, E, C>(
     core: &mut Core<K, V, P, A>,
-    env: &mut Env,
+    env: &mut Env<E, C>,
     disk: &mut D,
     moves: Vec<Move<K, V, P, A>, A>,
 ) -> Result<Vec<Reply<K, V, P, A>, A>>
@@ -480,6 +492,8 @@ where
     P: Properties + Drop,
     A: Allocator + Clone,
     D: Disk,
+    E: EvictionPicker,
+    C: StorageFilterCondition,
     ensures replies { IfOk result (λ replies. vec_len replies ≤ vec_len moves) }
     ensures runs { D.is_known disk.old → IfOk result (λ replies. Runs
         (meaning K.encoding V.encoding K.is_encodable V.is_encodable K.is_decodable V.is_decodable P.age)

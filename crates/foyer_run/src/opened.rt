@@ -18,7 +18,9 @@ use foyer_core::reply::Reply;
 use foyer_core::settings::Settings;
 use foyer_core::state::Core;
 use foyer_device::error::Result;
+use foyer_filter::StorageFilterCondition;
 use foyer_format::serde::{Code, Properties};
+use foyer_sets::block::eviction::EvictionPicker;
 use std::alloc::{Allocator, Global};
 
 /// Opens a core with what a disk's blocks give in the mode, and with the marks of deletes, runs the moves over it with what
@@ -28,9 +30,9 @@ use std::alloc::{Allocator, Global};
 /// The replies are those of events of a world that began with what was found over the disk's bytes: what a load answers
 /// was newest of its hash at its look-up; what was newest is answered, or missed for a named cause; and what was put was
 /// found, or is what was enqueued.
-pub fn open_and_run<K, V, P, A, D>(
+pub fn open_and_run<K, V, P, A, D, E, C>(
     alloc: A,
-    env: &mut Env,
+    env: &mut Env<E, C>,
     settings: Settings,
     disk: &mut D,
     mode: RecoverMode,
@@ -43,6 +45,8 @@ where
     P: Properties + Drop,
     A: Allocator + Clone,
     D: Disk,
+    E: EvictionPicker,
+    C: StorageFilterCondition,
     ensures sound { IfOk result (λ _. AreValid settings) }
     ensures refused { IfErr result (λ e. (e ≡ Memory) ⊎ ((e ≡ Config) × (AreValid settings → ⊥))
         ⊎ ((e ≡ Recover) × (mode ≡ recover_mode.Strict)) ⊎ ((e ≡ SequenceEnd) × (mode ≡ recover_mode.None → marks.now ≢ []))) }

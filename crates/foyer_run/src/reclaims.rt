@@ -13,8 +13,10 @@ use foyer_core::reply::Reply;
 use foyer_core::state::Core;
 use foyer_core::step::Step;
 use foyer_device::error::{Error, Result};
+use foyer_filter::StorageFilterCondition;
 use foyer_format::block::buffer::PAGE;
 use foyer_format::serde::{Code, Properties};
+use foyer_sets::block::eviction::EvictionPicker;
 use std::alloc::Allocator;
 
 // What a reclaim reads of its block.
@@ -65,9 +67,9 @@ fn read_bytes<A: Allocator + Clone, D: Disk>(
 
 // Reads a part for the reclaim of a block and brings it, or a fault where memory is refused for it: what is to be read
 // next, if anything is.
-fn read_part<K, V, P, A, D>(
+fn read_part<K, V, P, A, D, E, C>(
     core: &mut Core<K, V, P, A>,
-    env: &mut Env,
+    env: &mut Env<E, C>,
     disk: &mut D,
     block: BlockId,
     part: Part,
@@ -78,6 +80,8 @@ where
     P: Properties + Drop,
     A: Allocator + Clone,
     D: Disk,
+    E: EvictionPicker,
+    C: StorageFilterCondition,
     ensures reads { D.is_known disk.old → Reads
         (meaning K.encoding V.encoding K.is_encodable V.is_encodable K.is_decodable V.is_decodable P.age)
         block (Some part) result core.old core.new (D.byte_at disk.old) }
@@ -110,9 +114,9 @@ where
 }
 
 // Reads for the reclaim of a block what it asks for, from this part on.
-fn read_block<K, V, P, A, D>(
+fn read_block<K, V, P, A, D, E, C>(
     core: &mut Core<K, V, P, A>,
-    env: &mut Env,
+    env: &mut Env<E, C>,
     disk: &mut D,
     block: BlockId,
     first: Part,
@@ -123,6 +127,8 @@ where
     P: Properties + Drop,
     A: Allocator + Clone,
     D: Disk,
+    E: EvictionPicker,
+    C: StorageFilterCondition,
     ensures reads { D.is_known disk.old → Reads
         (meaning K.encoding V.encoding K.is_encodable V.is_encodable K.is_decodable V.is_decodable P.age)
         block (Some first) None core.old core.new (D.byte_at disk.old) }
@@ -157,9 +163,9 @@ pub(crate) fn clean_block<D: Disk>(disk: &mut D, block: BlockId) -> Result<()>
 /// block may be written again, or the step that was out of turn or refused. A read or a clean that fails ends no reclaim.
 /// Of a disk whose bytes aren't known it is only claimed that, without a filter of reinsertions, idle flushers stay idle;
 /// with one, records are queued at flushers in turn.
-pub fn reclaim_block<K, V, P, A, D>(
+pub fn reclaim_block<K, V, P, A, D, E, C>(
     core: &mut Core<K, V, P, A>,
-    env: &mut Env,
+    env: &mut Env<E, C>,
     disk: &mut D,
 ) -> Reply<K, V, P, A>
 where
@@ -168,6 +174,8 @@ where
     P: Properties + Drop,
     A: Allocator + Clone,
     D: Disk,
+    E: EvictionPicker,
+    C: StorageFilterCondition,
     ensures reclaims { D.is_known disk.old → Reclaims
         (meaning K.encoding V.encoding K.is_encodable V.is_encodable K.is_decodable V.is_decodable P.age)
         result core.old core.new (D.byte_at disk.old) (D.byte_at disk.new) }

@@ -17,7 +17,9 @@ use foyer_core::reply::Reply;
 use foyer_core::settings::Settings;
 use foyer_core::state::Core;
 use foyer_device::error::{Error, Result};
+use foyer_filter::StorageFilterCondition;
 use foyer_format::serde::{Code, Properties};
+use foyer_sets::block::eviction::EvictionPicker;
 use std::alloc::Allocator;
 
 /// What a stopped run left, and the core that was opened on it.
@@ -32,9 +34,9 @@ pub struct Reopened<K, V, P, A: Allocator> {
 }
 
 // Opens a core over zeros, of which nothing is read, runs the moves over it, and lets the core go.
-fn run_over_zeros<K, V, P, A, D>(
+fn run_over_zeros<K, V, P, A, D, E, C>(
     alloc: A,
-    env: &mut Env,
+    env: &mut Env<E, C>,
     settings: Settings,
     disk: &mut D,
     moves: Vec<Move<K, V, P, A>, A>,
@@ -45,6 +47,8 @@ where
     P: Properties + Drop,
     A: Allocator + Clone,
     D: Disk,
+    E: EvictionPicker,
+    C: StorageFilterCondition,
     requires known { D.is_known disk.old }
     requires zeros { (b o : ℕ) → D.byte_at disk.old b o ≡ 0 }
     ensures sound { IfOk result (λ _. AreValid settings) }
@@ -59,13 +63,20 @@ where
 }
 
 // Opens a core on memory that a run left, whose blocks are all there.
-fn reopen<K: Drop, V: Drop, P: Drop, A: Allocator + Clone>(
+fn reopen<K, V, P, A, E, C>(
     alloc: A,
-    env: &mut Env,
+    env: &mut Env<E, C>,
     settings: Settings,
     disk: &mut MemoryDisk<A>,
     mode: RecoverMode,
 ) -> Result<Core<K, V, P, A>>
+where
+    K: Drop,
+    V: Drop,
+    P: Drop,
+    A: Allocator + Clone,
+    E: EvictionPicker,
+    C: StorageFilterCondition,
     ensures opened { IfOk result (IsOpenedFrom settings (⟦<MemoryDisk<A> as Disk>⟧.byte_at disk.old)
         (IsWithin settings.blocks settings.block_size) mode [] ((mode ≡ recover_mode.None) ⊎ Unit {0})) }
     ensures refused { IfErr result (λ e. (e ≡ Memory) ⊎ ((e ≡ Config) × (AreValid settings → ⊥))
@@ -87,10 +98,10 @@ fn reopen<K: Drop, V: Drop, P: Drop, A: Allocator + Clone>(
 /// Where the run's events went well, its bytes have no stray index, and blocks are read, the core has each address that the
 /// run's index had, or a newer record of its hash, unless its block was being written; each of them where no flush was under
 /// way; and what it has again was newest at the stop.
-pub fn run_and_reopen<K, V, P, A>(
+pub fn run_and_reopen<K, V, P, A, E, C>(
     alloc: A,
-    first: &mut Env,
-    second: &mut Env,
+    first: &mut Env<E, C>,
+    second: &mut Env<E, C>,
     settings: Settings,
     mode: RecoverMode,
     moves: Vec<Move<K, V, P, A>, A>,
@@ -100,6 +111,8 @@ where
     V: Code<A> + Drop,
     P: Properties + Drop,
     A: Allocator + Clone,
+    E: EvictionPicker,
+    C: StorageFilterCondition,
     ensures sound { IfOk result (λ _. AreValid settings) }
     ensures refused { IfErr result (λ e. (e ≡ Memory) ⊎ ((e ≡ Config) × (AreValid settings → ⊥))
         ⊎ ((e ≡ OutOfRange) × (2 ^ 64 ≤ settings.blocks * settings.block_size))

@@ -11,7 +11,7 @@ ghost use Rattle.foyer_core.specs.Reclaiming.{reclaiming, reclaim_at, ChangesRec
 use foyer_block::indexer::{HashedEntryAddress, Indexer};
 use foyer_block::manager::BlockId;
 use foyer_device::error::Result;
-use foyer_filter::{BuiltInCondition, StorageFilter};
+use foyer_filter::{StorageFilter, StorageFilterCondition};
 use foyer_scan::block::scanner::{BlockScanner, EntryInfo};
 use foyer_statistics::IoState;
 use std::alloc::{Allocator, Global};
@@ -84,12 +84,12 @@ fn list_all<A: Allocator>(listed: &mut Vec<HashedEntryAddress, A>, infos: &[Entr
 }
 
 // Whether the filter admits an entry of this hash and length. None is a filter that rejects all.
-fn is_admitted(
-    filter: &Option<StorageFilter<BuiltInCondition, Global>>,
+fn is_admitted<C: StorageFilterCondition>(
+    filter: &Option<StorageFilter<C, Global>>,
     io: &IoState,
     info: &EntryInfo,
 ) -> bool
-    ensures { IsVerdictOn filter.now io.now info.now result }
+    ensures { IsVerdictOn C.may_answer filter.now io.now info.now result }
 {
     match filter {
         Some(filter) => filter
@@ -100,13 +100,13 @@ fn is_admitted(
 }
 
 // The verdict on each entry.
-fn judge_all<A: Allocator>(
+fn judge_all<A: Allocator, C: StorageFilterCondition>(
     alloc: A,
-    filter: &Option<StorageFilter<BuiltInCondition, Global>>,
+    filter: &Option<StorageFilter<C, Global>>,
     io: &IoState,
     infos: &[EntryInfo],
 ) -> Result<Vec<bool, A>>
-    ensures verdicts { IfOk result (λ v. HasVerdicts filter.now io.now infos.now v.items) }
+    ensures verdicts { IfOk result (λ v. HasVerdicts C.may_answer filter.now io.now infos.now v.items) }
     ensures count { IfOk result (λ v. vec_len v ≡ length infos.now) }
     ensures refused { IsOkUnless result Memory }
 {
@@ -209,15 +209,15 @@ impl<A: Allocator + Clone> Reclaimer<A> {
     /// Takes the bytes of the index that is wanted, and gives the verdict on each of its entries: whether the filter admits
     /// one of its hash and length. `None` where they are no index, or one with an entry that doesn't fit: then all is listed.
     /// `Memory` alone, which changes nothing.
-    pub fn read(
+    pub fn read<C: StorageFilterCondition>(
         &mut self,
         alloc: &A,
         bytes: &[u8],
-        filter: &Option<StorageFilter<BuiltInCondition, Global>>,
+        filter: &Option<StorageFilter<C, Global>>,
         io: &IoState,
     ) -> Result<Option<Vec<bool, A>>>
         ensures read { IfOk result (λ v. reclaiming self.new ≡ after_index bytes.now (verdict_list v) (reclaiming self.old)) }
-        ensures verdicts { IfOk result (λ v. IsReread filter.now io.now (index_infos bytes.now (reclaiming self.old)) (verdict_list v)) }
+        ensures verdicts { IfOk result (λ v. IsReread C.may_answer filter.now io.now (index_infos bytes.now (reclaiming self.old)) (verdict_list v)) }
         ensures unchanged { OnErr result (reclaiming self.new ≡ reclaiming self.old) }
         ensures refused { IsOkUnless result Memory }
     {
@@ -322,16 +322,16 @@ pub(crate) fn begin<A: Allocator + Clone>(
 }
 
 // The reclaim of a block takes an index.
-pub(crate) fn read<A: Allocator + Clone>(
+pub(crate) fn read<A: Allocator + Clone, C: StorageFilterCondition>(
     reclaims: &mut Reclaims<A>,
     alloc: &A,
     block: BlockId,
     bytes: &[u8],
-    filter: &Option<StorageFilter<BuiltInCondition, Global>>,
+    filter: &Option<StorageFilter<C, Global>>,
     io: &IoState,
 ) -> Result<Option<Vec<bool, A>>>
     ensures read { IfOk result (λ v. ChangesReclaim reclaims.old reclaims.new block (option_map (after_index bytes.now (verdict_list v)) (reclaim_at reclaims.old block))) }
-    ensures verdicts { IfOk result (λ v. IfSome (reclaim_at reclaims.old block) (λ r. IsReread filter.now io.now (index_infos bytes.now r) (verdict_list v))) }
+    ensures verdicts { IfOk result (λ v. IfSome (reclaim_at reclaims.old block) (λ r. IsReread C.may_answer filter.now io.now (index_infos bytes.now r) (verdict_list v))) }
     ensures unchanged { OnErr result (KeepsReclaim reclaims.old reclaims.new) }
     ensures refused { IsOkUnless result Memory }
 {

@@ -26,9 +26,9 @@ returns-in-Refused-clause-leads g c =
     let b = c.args.block in
     let outcome = c.read_bytes-outcome.result in
     unread_more m c.args.env.now.reinsertion c.apply-brought.new.env.reinsertion b c.args.core.now c.apply-brought.new.self c.apply-reply.new.self c.apply-brought.ensures.lent.0
-    (unread_kept m c.args.env.now.reinsertion c.args.env.now.io b outcome c.apply-brought.result c.args.core.now c.apply-brought.new.self
+    (unread_kept m g.C.StorageFilterCondition.may_answer c.args.env.now.reinsertion c.args.env.now.io b outcome c.apply-brought.result c.args.core.now c.apply-brought.new.self
     (c.apply-brought.ensures.judged b outcome refl) c.apply-brought.ensures.meets)
-    (unread_kept m c.apply-brought.new.env.reinsertion c.apply-brought.new.env.io b (Err error.Memory) c.apply-reply.result c.apply-brought.new.self c.apply-reply.new.self
+    (unread_kept m g.C.StorageFilterCondition.may_answer c.apply-brought.new.env.reinsertion c.apply-brought.new.env.io b (Err error.Memory) c.apply-reply.result c.apply-brought.new.self c.apply-reply.new.self
     (c.apply-reply.ensures.judged b (Err error.Memory) refl) c.apply-reply.ensures.meets)
 
 pub returns : goal.returns
@@ -41,7 +41,7 @@ returns g c =
           (reads_once m c.args.block c.args.part outcome c.apply-brought.result c.args.core.now c.apply-brought.new.self bytes
           (part_come bytes c.args.block c.args.part outcome (c.read_bytes-outcome.ensures.read known) c.read_bytes-outcome.ensures.len)
           c.apply-brought.ensures.meets);
-      leads = unread_kept m c.args.env.now.reinsertion c.args.env.now.io c.args.block outcome c.apply-brought.result c.args.core.now c.apply-brought.new.self
+      leads = unread_kept m g.C.StorageFilterCondition.may_answer c.args.env.now.reinsertion c.args.env.now.io c.args.block outcome c.apply-brought.result c.args.core.now c.apply-brought.new.self
           (c.apply-brought.ensures.judged c.args.block outcome refl) c.apply-brought.ensures.meets;
       lent = c.apply-brought.ensures.lent;
       known = c.read_bytes-outcome.ensures.known;

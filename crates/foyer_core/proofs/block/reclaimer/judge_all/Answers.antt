@@ -16,6 +16,6 @@ each_info-preserved g c =
     record {
       room = omega arith;
       count = omega arith;
-      verdicts = subst (λ vs. AllZip (IsVerdictOn c.args.filter.now c.args.io.now) (take (i + 1) infos) vs) (sym c.push_reserved.ensures.items)
-          (zipped_more (IsVerdictOn c.args.filter.now c.args.io.now) infos i _ c.each_info.verdicts.items c.is_admitted.result c.each_info-test.true c.each_info.invariant.verdicts c.is_admitted.ensures);
+      verdicts = subst (λ vs. AllZip (IsVerdictOn g.C.StorageFilterCondition.may_answer c.args.filter.now c.args.io.now) (take (i + 1) infos) vs) (sym c.push_reserved.ensures.items)
+          (zipped_more (IsVerdictOn g.C.StorageFilterCondition.may_answer c.args.filter.now c.args.io.now) infos i _ c.each_info.verdicts.items c.is_admitted.result c.each_info-test.true c.each_info.invariant.verdicts c.is_admitted.ensures);
     }

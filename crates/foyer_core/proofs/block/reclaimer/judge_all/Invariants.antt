@@ -8,5 +8,5 @@ abbrev pub invariant-each_info : goal.invariant-each_info
 invariant-each_info g l = record {
   room : vec_len l.verdicts + length (drop l.info-index l.infos) ≤ vec_capacity l.verdicts;
   count : vec_len l.verdicts ≡ l.info-index;
-  verdicts : AllZip (IsVerdictOn l.filter l.io) (take l.info-index l.infos) l.verdicts.items;
+  verdicts : AllZip (IsVerdictOn g.C.StorageFilterCondition.may_answer l.filter l.io) (take l.info-index l.infos) l.verdicts.items;
 }

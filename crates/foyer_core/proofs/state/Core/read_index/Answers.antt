@@ -51,10 +51,10 @@ returns-in-Ok-clause-meets g c = λ m s sound it stands few.
     let size : core.settings.blob_index_size ≡ s.blob_index_size = ap (λ (k : Settings). k.blob_index_size) stands.sizes in
     let long : length c.args.bytes.items ≡ s.blob_index_size = omega (arith, size, c.len.ensures, c.if-len-self.false) in
     let came : c.deref.result.now ≡ c.args.bytes.items = c.deref.ensures.value in
-    let d = reads_listed m s sound core it stands b at c.args.bytes.items reads c.in-Ok.verdicts _ c.args.env.now.reinsertion c.args.env.now.io
+    let d = reads_listed m s sound core it stands b at c.args.bytes.items reads c.in-Ok.verdicts _ g.C.StorageFilterCondition.may_answer c.args.env.now.reinsertion c.args.env.now.io
     (record { settings = refl; next = refl; steps = refl; closed = refl; queued = refl; flushers = refl; destroy = refl }) refl refl
     (subst (λ x. ChangesReclaim core.reclaims c.read.new.reclaims b (option_map (after_index x (verdict_list c.in-Ok.verdicts)) (reclaim_at core.reclaims b))) came c.in-Ok.ensures.read)
-    (subst (λ x. IfSome (reclaim_at core.reclaims b) (λ k. IsReread c.args.env.now.reinsertion c.args.env.now.io (index_infos x k) (verdict_list c.in-Ok.verdicts))) came c.in-Ok.ensures.verdicts) in
+    (subst (λ x. IfSome (reclaim_at core.reclaims b) (λ k. IsReread g.C.StorageFilterCondition.may_answer c.args.env.now.reinsertion c.args.env.now.io (index_infos x k) (verdict_list c.in-Ok.verdicts))) came c.in-Ok.ensures.verdicts) in
     record {
       after = d.after;
       it = d.answer;
@@ -69,9 +69,10 @@ returns-in-Ok-clause-judged g c =
     let core = c.args.self.now in
     let b = c.args.block in
     let filter = c.args.env.now.reinsertion in
+    let may = g.C.StorageFilterCondition.may_answer in
     let io = c.args.env.now.io in
     let o = reclaim_at core.reclaims b in
-    subst (λ k. IsJudged filter io b (Ok c.args.bytes) k core) (sym c.next_read.ensures)
-    (judged_scan filter io core b b core.settings.blob_index_size (Ok c.args.bytes) (awaited (reclaim_at c.read.new.reclaims b)) c.in-Ok.verdicts
-    (index_judged filter io c.args.bytes o c.requires.0 (verdict_list c.in-Ok.verdicts) c.requires.1
-    (subst (λ x. IfSome o (λ k. IsReread filter io (index_infos x k) (verdict_list c.in-Ok.verdicts))) c.deref.ensures.value c.in-Ok.ensures.verdicts)))
+    subst (λ k. IsJudged may filter io b (Ok c.args.bytes) k core) (sym c.next_read.ensures)
+    (judged_scan may filter io core b b core.settings.blob_index_size (Ok c.args.bytes) (awaited (reclaim_at c.read.new.reclaims b)) c.in-Ok.verdicts
+    (index_judged may filter io c.args.bytes o c.requires.0 (verdict_list c.in-Ok.verdicts) c.requires.1
+    (subst (λ x. IfSome o (λ k. IsReread may filter io (index_infos x k) (verdict_list c.in-Ok.verdicts))) c.deref.ensures.value c.in-Ok.ensures.verdicts)))

@@ -12,9 +12,9 @@ use Rattle.foyer_model.specs.Reply as model_reply
 use Rattle.foyer_rules.specs.declared.settings.Settings.{Settings}
 use Rattle.foyer_core.specs.Reclaiming.{Reclaiming, ChangesReclaim, reclaim_at, after_record, awaited, requeue_count}
 use Rattle.foyer_core.specs.Replied.{IsReply}
-use Rattle.foyer_core.specs.Scanning.{IsJudged, scan_reply}
+use Rattle.foyer_core.specs.Scanning.{HasNoVerdicts, scan_reply}
 use Rattle.foyer_core.specs.declared.step.Step.TheVariants as step
-use Rattle.foyer_core.proofs.JudgedLemmas.{judged_scan, record_judged}
+use Rattle.foyer_core.proofs.JudgedLemmas.{scan_unjudged}
 use Rattle.foyer_core.proofs.FlusherLists.{same_seen}
 use Rattle.foyer_core.proofs.QueueLemmas.{queue_pushed_at}
 use Rattle.foyer_core.proofs.ReclaimCame.{follows_at}
@@ -138,11 +138,8 @@ returns-in-Ok-clause-meets g c = λ m s sound it stands few.
       turns = follows_at m s sound it b bytes its.stage [] (requeued_state m s sound it b o e bytes reads) (record_turn m s sound it b o e bytes reads long) (rereads m s sound it b o e bytes reads);
     }
 
-pub returns-in-Ok-clause-judged : goal.returns-in-Ok-clause-judged
-returns-in-Ok-clause-judged g c = λ filter io.
+pub returns-in-Ok-clause-unjudged : goal.returns-in-Ok-clause-unjudged
+returns-in-Ok-clause-unjudged g c =
     let core = c.args.self.now in
-    let b = c.args.block in
-    let o = reclaim_at core.reclaims b in
-    subst (λ k. IsJudged filter io b (Ok c.args.bytes) k core) (sym c.next_read.ensures)
-    (judged_scan filter io core b b core.settings.blob_index_size (Ok c.args.bytes) (awaited (reclaim_at c.requeue.new.reclaims b)) None
-    (record_judged filter io c.args.bytes o c.args.entry c.requires))
+    subst HasNoVerdicts (sym c.next_read.ensures)
+    (scan_unjudged _ _ _ _ c.args.block core.settings.blob_index_size (awaited (reclaim_at c.requeue.new.reclaims c.args.block)))

@@ -4,13 +4,11 @@ use Rattle.foyer_model.specs.Numbers.{put}
 use Rattle.foyer_model.specs.Reclaim as model_reclaim
 use Rattle.foyer_model.specs.Reply as model_reply
 use Rattle.foyer_model.specs.State as model_state
-use Rattle.foyer_sets.specs.BuiltIn.{built_in_answer, built_in_marks}
 use Rattle.foyer_sets.specs.Pickers.{Answer, answers_of, answers_given, marks_given, picker_info, pick_of}
 use Rattle.foyer_sets.specs.BlockSets.{BlockSets, Stands, MayReclaim}
 use Rattle.foyer_sets.specs.Managed.{is_evictable}
 use Rattle.foyer_sets.specs.ModelPicks.{MatchTheModel}
 use Rattle.foyer_sets.specs.Picks.{Picks, usable_in}
-use Rattle.foyer_sets.specs.declared.block.picker.BuiltInPicker.{BuiltInPicker}
 use Rattle.foyer_sets.proofs.ModelPickLemmas.{picks_match}
 use Rattle.foyer_standing.specs.Standing.{sets_of}
 use Rattle.foyer_core.specs.Reclaiming.{Reclaiming, ChangesReclaim, reclaim_at, reclaiming, first_reclaim}
@@ -60,7 +58,7 @@ pub returns-in-Ok-Some-clause-meets : goal.returns-in-Ok-Some-clause-meets
 returns-in-Ok-Some-clause-meets g c = λ m s sound it stands few.
     let core = c.args.self.now in
     let r = c.in-Ok-Some.reclaiming in
-    let says : List Answer = answers_of built_in_answer built_in_marks c.deref_mut.result.now (picker_info core.manager.blocks core.manager.evictable (usable_in core.manager)) in
+    let says : List Answer = answers_of g.E.EvictionPicker.answer g.E.EvictionPicker.marks c.deref_mut.result.now (picker_info core.manager.blocks core.manager.evictable (usable_in core.manager)) in
     let flag : is_evictable (slice_get core.manager.blocks r.block) ≡ true = rw c.in-Ok-Some.field-0-is at c.in-Ok-Some.ensures.there in
     let there = evictable_there core.manager (sets_of it) r.block stands.manager.sets flag in
     let match : MatchTheModel core.manager (sets_of it) says = picks_match core.manager (sets_of it) stands.manager.sets says in
@@ -98,7 +96,7 @@ pub returns-in-Ok-Some-clause-picks : goal.returns-in-Ok-Some-clause-picks
 returns-in-Ok-Some-clause-picks g c = λ sets st.
     let core = c.args.self.now in
     let r = c.in-Ok-Some.reclaiming in
-    let says : List Answer = answers_of built_in_answer built_in_marks c.deref_mut.result.now (picker_info core.manager.blocks core.manager.evictable (usable_in core.manager)) in
+    let says : List Answer = answers_of g.E.EvictionPicker.answer g.E.EvictionPicker.marks c.deref_mut.result.now (picker_info core.manager.blocks core.manager.evictable (usable_in core.manager)) in
     let flag : is_evictable (slice_get core.manager.blocks r.block) ≡ true = rw c.in-Ok-Some.field-0-is at c.in-Ok-Some.ensures.there in
     let there = evictable_there core.manager sets r.block st flag in
     let match : MatchTheModel core.manager sets says = picks_match core.manager sets st says in
@@ -107,8 +105,8 @@ returns-in-Ok-Some-clause-picks g c = λ sets st.
     let first : (d : ℕ) → pick_of core.manager.blocks says ≡ Some d → r.block ≡ d = rw c.in-Ok-Some.field-0-is at c.in-Ok-Some.ensures.first in
     let after : (k : BlockSets) → Stands core.manager k → Stands c.reclaim_begin.new.self (record k { block_set = put k.block_set r.block model_state.Reclaims; stats = model_reclaim.marked r.probation.items k.block_set k.stats }) =
     rw c.in-Ok-Some.field-0-is at c.in-Ok-Some.ensures.after in
-    subst (λ (pickers : List BuiltInPicker). MayReclaim (length core.manager.blocks) core.manager.reclaimers core.manager.clean_threshold sets
-    × Picks core.manager sets (answers_of built_in_answer built_in_marks pickers (picker_info core.manager.blocks core.manager.evictable (usable_in core.manager))) r.block r.answers.items r.probation.items c.reclaim_begin.new.self)
+    subst (λ (pickers : List g.row.E.Denot). MayReclaim (length core.manager.blocks) core.manager.reclaimers core.manager.clean_threshold sets
+    × Picks core.manager sets (answers_of g.E.EvictionPicker.answer g.E.EvictionPicker.marks pickers (picker_info core.manager.blocks core.manager.evictable (usable_in core.manager))) r.block r.answers.items r.probation.items c.reclaim_begin.new.self)
     c.deref_mut.ensures.value (
       (c.may_reclaim.ensures.may sets st).0 c.if-not-may_reclaim.false,
       record {
