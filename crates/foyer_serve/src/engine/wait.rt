@@ -1,0 +1,274 @@
+//! What a wait and a close flush, and the reclaims that they need.
+ghost use Rattle.std.specs.Prelude.{◌≡◌, true, IfOk};
+ghost use Rattle.foyer_run.specs.AtRest.{ComesToRest, IsAtRest, KeepsIdle, KeepsOthers, KeepsOthersIdle, Leads, LeavesAllIdle, LeavesIdle, TakesQueueIf, Without};
+ghost use Rattle.foyer_run.specs.Waiting.{Closes, Waits};
+ghost use Rattle.foyer_serve.specs.Texts.{IsOkOrFault, plain};
+
+use crate::engine::{Answer, Engine, MarkLog, answer_block, answer_step};
+use foyer_blockio::disk::Disk;
+use foyer_core::step::Step;
+use foyer_device::error::ErrorKind;
+use foyer_run::accesses::{step, write_block};
+use foyer_run::batches::begin_batch;
+use foyer_run::reclaims::reclaim_block;
+use std::alloc::Allocator;
+
+impl<A: Allocator + Clone, D: Disk + Drop, L: MarkLog + Drop> Engine<A, D, L> {
+    /// Flushes until no flusher has anything left to do, then reclaims blocks until enough are clean, as far as that goes,
+    /// and flushes the records that reclaims read back. The first reclaims of a call, as many as there are blocks, have
+    /// records written again where `env` has a filter; the others free their blocks, so that it ends. It puts, deletes and
+    /// loads nothing, and closes nothing. `Io`: a flusher's batch can't be ended, since a write of it was never reported.
+    /// `NoSpace`: no block can be reclaimed. `SequenceEnd`: the limit of steps is reached, or 2^64 - 1 turns weren't
+    /// enough. `Memory` where a reclaim or a flush is refused it.
+    pub fn wait(&mut self) -> Answer<A>
+        ensures answered { IsOkOrFault result }
+        ensures rest { result ≡ Answer.Ok → ComesToRest plain self.old.core self.new.core }
+        ensures waited { D.is_known self.old.disk → D.is_known self.new.disk × Waits plain self.old.core self.new.core
+            (D.byte_at self.old.disk) (D.byte_at self.new.disk) }
+    {
+        self.rereads = self.core.settings().blocks;
+        for _ in 0..u64::MAX {
+            match self.settle() {
+                Answer::Ok => {}
+                fault => return fault,
+            }
+            self.keep_clean();
+            if self.is_at_rest() {
+                return Answer::Ok;
+            }
+        }
+        Answer::Fault(ErrorKind::SequenceEnd)
+    }
+
+    // Flushes until no flusher has anything left to do.
+    pub(super) fn flush_queued(&mut self) -> Answer<A>
+        ensures answered { IsOkOrFault result }
+        ensures leads { result ≡ Answer.Ok → Leads plain LeavesAllIdle self.old.core self.new.core }
+        ensures waited { D.is_known self.old.disk → D.is_known self.new.disk × Waits plain self.old.core self.new.core
+            (D.byte_at self.old.disk) (D.byte_at self.new.disk) }
+    {
+        self.rereads = self.core.settings().blocks;
+        self.settle()
+    }
+
+    /// Takes no more puts, deletes and destroys, and flushes what is queued, as a wait does: nothing else.
+    pub fn close(&mut self) -> Answer<A>
+        ensures answered { IsOkOrFault result }
+        ensures rest { result ≡ Answer.Ok → ComesToRest plain self.old.core self.new.core }
+        ensures closed { D.is_known self.old.disk → D.is_known self.new.disk × Closes plain self.old.core self.new.core
+            (D.byte_at self.old.disk) (D.byte_at self.new.disk) }
+    {
+        let closed = step(&mut self.core, &mut self.env, Step::Close);
+        match answer_step(closed) {
+            Err(kind) => Answer::Fault(kind),
+            Ok(_) => self.flush_queued(),
+        }
+    }
+
+    // Whether no flusher has anything left to do.
+    fn is_at_rest(&self) -> bool
+        ensures { result ≡ true → IsAtRest plain self.now.core }
+    {
+        for flusher in 0..self.core.settings().flushers {
+            if !self.core.is_idle(flusher) {
+                return false;
+            }
+        }
+        true
+    }
+
+    // Flushes all flushers, and again where a reclaim had a record queued at one that was idle by then.
+    fn settle(&mut self) -> Answer<A>
+        ensures answered { IsOkOrFault result }
+        ensures leads { result ≡ Answer.Ok → Leads plain LeavesAllIdle self.old.core self.new.core }
+        ensures waited { D.is_known self.old.disk → D.is_known self.new.disk × Waits plain self.old.core self.new.core
+            (D.byte_at self.old.disk) (D.byte_at self.new.disk) }
+    {
+        for _ in 0..u64::MAX {
+            match self.flush_all() {
+                Answer::Ok => {}
+                fault => return fault,
+            }
+            if self.is_at_rest() {
+                return Answer::Ok;
+            }
+        }
+        Answer::Fault(ErrorKind::SequenceEnd)
+    }
+
+    // Flushes each flusher that isn't idle, one after the other.
+    fn flush_all(&mut self) -> Answer<A>
+        ensures answered { IsOkOrFault result }
+        ensures leads { result ≡ Answer.Ok
+            → Leads plain (Without self.old.env.reinsertion LeavesAllIdle) self.old.core self.new.core }
+        ensures waited { D.is_known self.old.disk → D.is_known self.new.disk × Waits plain self.old.core self.new.core
+            (D.byte_at self.old.disk) (D.byte_at self.new.disk) }
+        ensures lent { self.new.env.reinsertion ≡ self.old.env.reinsertion }
+    {
+        for flusher in 0..self.core.settings().flushers {
+            if self.core.is_idle(flusher) {
+                continue;
+            }
+            match self.flush(flusher) {
+                Ok(()) => {}
+                Err(kind) => return Answer::Fault(kind),
+            }
+        }
+        Answer::Ok
+    }
+
+    // Queues a wait at a flusher.
+    fn queue_wait(&mut self, flusher: u32) -> std::result::Result<(), ErrorKind>
+        ensures leads { Leads plain (KeepsOthers flusher) self.old.core self.new.core }
+        ensures waited { D.is_known self.old.disk → D.is_known self.new.disk × Waits plain self.old.core self.new.core
+            (D.byte_at self.old.disk) (D.byte_at self.new.disk) }
+        ensures lent { self.new.env.reinsertion ≡ self.old.env.reinsertion }
+    {
+        let id = self.next_wait;
+        let queued = step(&mut self.core, &mut self.env, Step::Wait { flusher, id });
+        answer_step(queued)?;
+        self.next_wait = id.wrapping_add(1);
+        Ok(())
+    }
+
+    // Queues a wait at a flusher, so that a batch begins even where all that is queued goes without a record, and flushes
+    // it.
+    fn flush(&mut self, flusher: u32) -> std::result::Result<(), ErrorKind>
+        ensures leads { IfOk result (λ _. Leads plain (LeavesIdle self.old.env.reinsertion flusher) self.old.core self.new.core) }
+        ensures waited { D.is_known self.old.disk → D.is_known self.new.disk × Waits plain self.old.core self.new.core
+            (D.byte_at self.old.disk) (D.byte_at self.new.disk) }
+        ensures lent { self.new.env.reinsertion ≡ self.old.env.reinsertion }
+    {
+        self.queue_wait(flusher)?;
+        self.flush_waiting(flusher)
+    }
+
+    // Flushes until nothing is queued or received at a flusher where a wait is queued, so that a batch is under way in
+    // each turn but the last: a burst is written in several batches, and each batch's marks are appended to the log. One
+    // that isn't ended by then has a write that was never reported.
+    fn flush_waiting(&mut self, flusher: u32) -> std::result::Result<(), ErrorKind>
+        ensures leads { IfOk result (λ _. Leads plain (LeavesIdle self.old.env.reinsertion flusher) self.old.core self.new.core) }
+        ensures waited { D.is_known self.old.disk → D.is_known self.new.disk × Waits plain self.old.core self.new.core
+            (D.byte_at self.old.disk) (D.byte_at self.new.disk) }
+        ensures lent { self.new.env.reinsertion ≡ self.old.env.reinsertion }
+    {
+        let mut has_ended = false;
+        for _ in 0..u64::MAX {
+            let is_empty = self.receive_all(flusher)?;
+            let begin = begin_batch(&mut self.core, &mut self.env, &mut self.log, flusher);
+            let has_begun = answer_step(begin)?;
+            if has_ended && is_empty && !has_begun {
+                return Ok(());
+            }
+            self.write_all(flusher)?;
+            let end = step(&mut self.core, &mut self.env, Step::FlushEnd { flusher });
+            if !answer_step(end)? {
+                return Err(ErrorKind::Io);
+            }
+            has_ended = true;
+        }
+        Err(ErrorKind::SequenceEnd)
+    }
+
+    // Takes what is queued until less than half of the buffer is left: true where nothing is queued any more. A piece
+    // that is handed back takes more than half of the buffer, or doesn't fit a block, and is dropped.
+    fn receive_all(&mut self, flusher: u32) -> std::result::Result<bool, ErrorKind>
+        ensures leads { IfOk result (λ is_empty. Leads plain (TakesQueueIf is_empty flusher) self.old.core self.new.core) }
+        ensures waited { D.is_known self.old.disk → D.is_known self.new.disk × Waits plain self.old.core self.new.core
+            (D.byte_at self.old.disk) (D.byte_at self.new.disk) }
+        ensures lent { self.new.env.reinsertion ≡ self.old.env.reinsertion }
+    {
+        for _ in 0..u64::MAX {
+            let received = step(&mut self.core, &mut self.env, Step::Receive { flusher });
+            if !answer_step(received)? {
+                return Ok(true);
+            }
+            if self.core.wants_flush(flusher) {
+                return Ok(false);
+            }
+        }
+        Err(ErrorKind::SequenceEnd)
+    }
+
+    // Writes the blocks of the batch.
+    fn write_all(&mut self, flusher: u32) -> std::result::Result<(), ErrorKind>
+        ensures leads { IfOk result (λ _. Leads plain (KeepsOthersIdle self.old.env.reinsertion flusher) self.old.core self.new.core) }
+        ensures waited { D.is_known self.old.disk → D.is_known self.new.disk × Waits plain self.old.core self.new.core
+            (D.byte_at self.old.disk) (D.byte_at self.new.disk) }
+        ensures lent { self.new.env.reinsertion ≡ self.old.env.reinsertion }
+    {
+        for _ in 0..u64::MAX {
+            if !self.write_next(flusher)? {
+                return Ok(());
+            }
+        }
+        Err(ErrorKind::SequenceEnd)
+    }
+
+    // Writes the next block of the batch, or reclaims one for it where none is clean: false where none is left to write.
+    fn write_next(&mut self, flusher: u32) -> std::result::Result<bool, ErrorKind>
+        ensures leads { Leads plain (KeepsOthersIdle self.old.env.reinsertion flusher) self.old.core self.new.core }
+        ensures waited { D.is_known self.old.disk → D.is_known self.new.disk × Waits plain self.old.core self.new.core
+            (D.byte_at self.old.disk) (D.byte_at self.new.disk) }
+        ensures lent { self.new.env.reinsertion ≡ self.old.env.reinsertion }
+    {
+        let wrote = write_block(&mut self.core, &mut self.env, &mut self.disk, flusher);
+        match answer_block(wrote) {
+            Err(ErrorKind::NoSpace) => self.make_room(),
+            other => other,
+        }
+    }
+
+    // Reclaims a block for a flusher that waits. `NoSpace` where none may be reclaimed.
+    fn make_room(&mut self) -> std::result::Result<bool, ErrorKind>
+        ensures leads { Leads plain (Without self.old.env.reinsertion KeepsIdle) self.old.core self.new.core }
+        ensures waited { D.is_known self.old.disk → D.is_known self.new.disk × Waits plain self.old.core self.new.core
+            (D.byte_at self.old.disk) (D.byte_at self.new.disk) }
+        ensures lent { self.new.env.reinsertion ≡ self.old.env.reinsertion }
+    {
+        match self.reclaim() {
+            Ok(false) => Err(ErrorKind::NoSpace),
+            other => other,
+        }
+    }
+
+    // Reclaims a block, where one may be: whether it was. Records of it are written again while the call has reclaims left
+    // for that.
+    fn reclaim(&mut self) -> std::result::Result<bool, ErrorKind>
+        ensures leads { Leads plain (Without self.old.env.reinsertion KeepsIdle) self.old.core self.new.core }
+        ensures waited { D.is_known self.old.disk → D.is_known self.new.disk × Waits plain self.old.core self.new.core
+            (D.byte_at self.old.disk) (D.byte_at self.new.disk) }
+        ensures lent { self.new.env.reinsertion ≡ self.old.env.reinsertion }
+    {
+        if self.rereads > 0 {
+            self.rereads -= 1;
+            return self.reclaim_block();
+        }
+        let filter = self.env.replace_reinsertion(None);
+        let reclaimed = self.reclaim_block();
+        let _ = self.env.replace_reinsertion(filter);
+        reclaimed
+    }
+
+    fn reclaim_block(&mut self) -> std::result::Result<bool, ErrorKind>
+        ensures leads { Leads plain (Without self.old.env.reinsertion KeepsIdle) self.old.core self.new.core }
+        ensures waited { D.is_known self.old.disk → D.is_known self.new.disk × Waits plain self.old.core self.new.core
+            (D.byte_at self.old.disk) (D.byte_at self.new.disk) }
+        ensures lent { self.new.env.reinsertion ≡ self.old.env.reinsertion }
+    {
+        answer_step(reclaim_block(&mut self.core, &mut self.env, &mut self.disk))
+    }
+
+    // Reclaims blocks until enough are clean, or one is refused.
+    fn keep_clean(&mut self)
+        ensures waited { D.is_known self.old.disk → D.is_known self.new.disk × Waits plain self.old.core self.new.core
+            (D.byte_at self.old.disk) (D.byte_at self.new.disk) }
+    {
+        for _ in 0..u64::MAX {
+            match self.reclaim() {
+                Ok(true) => {}
+                _ => return,
+            }
+        }
+    }
+}
