@@ -28,11 +28,11 @@ use Rattle.foyer_serve.specs.declared.engine.Engine.{Engine}
 use Rattle.foyer_serve.specs.declared.engine.NoProperties.{NoProperties}
 
 -- a wait's steps lead from one engine to another, where the disk of the one is known
-abbrev pub Waited : {A D L : Type 0} → (D → Type 0) → (D → ℕ → ℕ → ℕ) → Engine A D L → Engine A D L → Type 0
+abbrev pub Waited : {A D L E C : Type 0} → (D → Type 0) → (D → ℕ → ℕ → ℕ) → Engine A D L E C → Engine A D L E C → Type 0
 Waited is_known byte_at a b = is_known a.disk → is_known b.disk × Waits plain a.core b.core (byte_at a.disk) (byte_at b.disk)
 
 -- and a destroy's, of which one cleared the index where this holds
-abbrev pub Destroyed : {A D L : Type 0} → Type 0 → (D → Type 0) → (D → ℕ → ℕ → ℕ) → Engine A D L → Engine A D L → Type 0
+abbrev pub Destroyed : {A D L E C : Type 0} → Type 0 → (D → Type 0) → (D → ℕ → ℕ → ℕ) → Engine A D L E C → Engine A D L E C → Type 0
 Destroyed WasCleared is_known byte_at a b = is_known a.disk → is_known b.disk × Destroys WasCleared plain a.core b.core (byte_at a.disk) (byte_at b.disk)
 
 -- one destroy's steps behind another's
@@ -54,8 +54,8 @@ fault_not_ok answer.Miss is = absurd is
 fault_not_ok answer.Ok is = absurd is
 
 -- an engine that was opened over zeros
-pub zeroed : {A D L : Type 0} (s : Settings) (byte_at : D → ℕ → ℕ → ℕ) (surely : ℕ → ℕ → ℕ → Type 0) (seen : Type 0) → seen → (disk : D) → ((b o : ℕ) → byte_at disk b o ≡ 0)
-    → (opened : Result (Engine A D L) Error)
+pub zeroed : {A D L E C : Type 0} (s : Settings) (byte_at : D → ℕ → ℕ → ℕ) (surely : ℕ → ℕ → ℕ → Type 0) (seen : Type 0) → seen → (disk : D) → ((b o : ℕ) → byte_at disk b o ≡ 0)
+    → (opened : Result (Engine A D L E C) Error)
     → IfOk opened (λ engine. (sound : AreValid s) → IsBegun plain s sound (byte_at disk) surely recover_mode.None [] seen engine.core (byte_at engine.disk))
     → IfOk opened (λ engine. (sound : AreValid s) → IsBegunEmpty plain s sound (λ b o. 0) engine.core (byte_at engine.disk))
 zeroed s byte_at surely seen is_seen disk zeros (Ok engine) begins = λ sound.

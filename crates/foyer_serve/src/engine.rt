@@ -18,11 +18,12 @@ use foyer_core::settings::Settings;
 use foyer_core::state::Core;
 use foyer_core::step::Step;
 use foyer_device::error::{ErrorKind, Result};
-use foyer_filter::{BuiltInCondition, StorageFilter};
+use foyer_filter::{BuiltInCondition, StorageFilter, StorageFilterCondition};
 use foyer_format::serde::{Age, EntrySerializer, Properties};
 pub use foyer_log::block::tombstone::{MarkLog, NoLog};
 use foyer_policy::keeper::Piece;
 use foyer_run::accesses::{load, step};
+use foyer_sets::block::eviction::{BuiltInPicker, EvictionPicker};
 use foyer_statistics::IoState;
 use std::alloc::{Allocator, Global};
 
@@ -123,10 +124,16 @@ fn answer_block<A: Allocator>(last: Option<EngineReply<A>>) -> std::result::Resu
 /// A core with its disk, and with what the marks of its batches are appended to. What is said of a disk's bytes is said
 /// where they are known: those of memory are, those of a system's files aren't.
 #[derive(Drop)]
-pub struct Engine<A: Allocator, D: Disk + Drop, L: MarkLog + Drop> {
+pub struct Engine<
+    A: Allocator,
+    D: Disk + Drop,
+    L: MarkLog + Drop,
+    E: EvictionPicker = BuiltInPicker,
+    C: StorageFilterCondition = BuiltInCondition,
+> {
     alloc: A,
     core: Core<Key, String<A>, NoProperties, A>,
-    env: Env,
+    env: Env<E, C>,
     disk: D,
     log: L,
     // What a load reads into.
@@ -136,10 +143,20 @@ pub struct Engine<A: Allocator, D: Disk + Drop, L: MarkLog + Drop> {
     rereads: u32,
 }
 
-impl<A: Allocator + Clone> Engine<A, MemoryDisk<A>, NoLog> {
+impl<A: Allocator + Clone, E: EvictionPicker, C: StorageFilterCondition> Engine<
+    A,
+    MemoryDisk<A>,
+    NoLog,
+    E,
+    C,
+> {
     /// Opens an engine over zeroed memory that has every block, of which nothing is read; `env` has its pickers and its
     /// generator.
-    pub fn open(alloc: A, env: Env, settings: Settings) -> Result<Engine<A, MemoryDisk<A>, NoLog>>
+    pub fn open(
+        alloc: A,
+        env: Env<E, C>,
+        settings: Settings,
+    ) -> Result<Engine<A, MemoryDisk<A>, NoLog, E, C>>
         ensures sound { IfOk result (λ _. AreValid settings) }
         ensures begins { IfOk result (λ engine. (sound : AreValid settings) → IsBegunEmpty plain settings sound (λ b o. 0)
             engine.core (⟦<MemoryDisk<A> as Disk>⟧.byte_at engine.disk)) }
@@ -153,18 +170,24 @@ impl<A: Allocator + Clone> Engine<A, MemoryDisk<A>, NoLog> {
     }
 }
 
-impl<A: Allocator + Clone, D: Disk + Drop> Engine<A, D, NoLog> {
+impl<A: Allocator + Clone, D: Disk + Drop, E: EvictionPicker, C: StorageFilterCondition> Engine<
+    A,
+    D,
+    NoLog,
+    E,
+    C,
+> {
     /// Opens an engine with what the disk's blocks give in the mode, without a log of deletes, so that a delete is
     /// forgotten by the next opening; `env` has its pickers and its generator. `Config` where the settings don't go
     /// together; `Recover` where a read failed in `Strict`; `SequenceEnd` where what was found has the last sequence;
     /// `Memory` at any time.
     pub fn with_disk(
         alloc: A,
-        env: Env,
+        env: Env<E, C>,
         settings: Settings,
         disk: D,
         mode: RecoverMode,
-    ) -> Result<Engine<A, D, NoLog>>
+    ) -> Result<Engine<A, D, NoLog, E, C>>
         ensures sound { IfOk result (λ _. AreValid settings) }
         ensures begins { IfOk result (λ engine. (sound : AreValid settings) → IsBegun plain settings sound (D.byte_at disk)
             (D.surely_has disk) mode [] ((mode ≡ recover_mode.None) ⊎ D.is_known disk) engine.core (D.byte_at engine.disk)) }
@@ -178,7 +201,14 @@ impl<A: Allocator + Clone, D: Disk + Drop> Engine<A, D, NoLog> {
     }
 }
 
-impl<A: Allocator + Clone, D: Disk + Drop, L: MarkLog + Drop> Engine<A, D, L> {
+impl<A, D, L, E, C> Engine<A, D, L, E, C>
+where
+    A: Allocator + Clone,
+    D: Disk + Drop,
+    L: MarkLog + Drop,
+    E: EvictionPicker,
+    C: StorageFilterCondition,
+{
     /// Opens an engine with what the disk's blocks give in the mode and with the marks of deletes that its log has listed;
     /// `env` has its pickers and its generator. The marks of each batch are appended to the log before the batch ends; one
     /// whose append fails ends all the same, so that its deletes may be forgotten by the next opening. `Config` where the
@@ -186,13 +216,13 @@ impl<A: Allocator + Clone, D: Disk + Drop, L: MarkLog + Drop> Engine<A, D, L> {
     /// mark, has the last sequence; `Memory` at any time.
     pub fn with_log(
         alloc: A,
-        mut env: Env,
+        mut env: Env<E, C>,
         settings: Settings,
         mut disk: D,
         mode: RecoverMode,
         marks: &[Tombstone],
         log: L,
-    ) -> Result<Engine<A, D, L>>
+    ) -> Result<Engine<A, D, L, E, C>>
         ensures sound { IfOk result (λ _. AreValid settings) }
         ensures begins { IfOk result (λ engine. (sound : AreValid settings) → IsBegun plain settings sound (D.byte_at disk)
             (D.surely_has disk) mode (marks_of marks.now) ((mode ≡ recover_mode.None) ⊎ D.is_known disk) engine.core (D.byte_at engine.disk)) }
@@ -220,8 +250,8 @@ impl<A: Allocator + Clone, D: Disk + Drop, L: MarkLog + Drop> Engine<A, D, L> {
     /// filter. The one before comes back.
     pub fn set_reinsertion(
         &mut self,
-        filter: Option<StorageFilter<BuiltInCondition, Global>>,
-    ) -> Option<StorageFilter<BuiltInCondition, Global>>
+        filter: Option<StorageFilter<C, Global>>,
+    ) -> Option<StorageFilter<C, Global>>
         ensures before { result ≡ self.old.env.reinsertion }
         ensures set { self.new ≡ record self.old { env = record self.old.env { reinsertion = filter } } }
     {

@@ -10,8 +10,10 @@ use foyer_blockio::disk::Disk;
 use foyer_core::reply::Reply;
 use foyer_core::step::Step;
 use foyer_device::error::ErrorKind;
+use foyer_filter::StorageFilterCondition;
 use foyer_run::accesses::step;
 use foyer_run::destroys::clear_blocks;
+use foyer_sets::block::eviction::EvictionPicker;
 use std::alloc::Allocator;
 
 // Why the index wasn't cleared.
@@ -35,7 +37,14 @@ fn answer_cleaned<A: Allocator>(last: EngineReply<A>) -> Answer<A>
     }
 }
 
-impl<A: Allocator + Clone, D: Disk + Drop, L: MarkLog + Drop> Engine<A, D, L> {
+impl<A, D, L, E, C> Engine<A, D, L, E, C>
+where
+    A: Allocator + Clone,
+    D: Disk + Drop,
+    L: MarkLog + Drop,
+    E: EvictionPicker,
+    C: StorageFilterCondition,
+{
     /// Destroys all entries: flushes as a wait does, clears the index, and cleans each block, so that an opening finds
     /// nothing of it again. Where a destroy has begun and isn't over it goes on with that one. `Closed` after a close,
     /// `SequenceEnd` and `Memory` before it has begun; once it has, it tries again what is refused memory. Another fault

@@ -8,12 +8,21 @@ use crate::engine::{Answer, Engine, MarkLog, answer_block, answer_step};
 use foyer_blockio::disk::Disk;
 use foyer_core::step::Step;
 use foyer_device::error::ErrorKind;
+use foyer_filter::StorageFilterCondition;
 use foyer_run::accesses::{step, write_block};
 use foyer_run::batches::begin_batch;
 use foyer_run::reclaims::reclaim_block;
+use foyer_sets::block::eviction::EvictionPicker;
 use std::alloc::Allocator;
 
-impl<A: Allocator + Clone, D: Disk + Drop, L: MarkLog + Drop> Engine<A, D, L> {
+impl<A, D, L, E, C> Engine<A, D, L, E, C>
+where
+    A: Allocator + Clone,
+    D: Disk + Drop,
+    L: MarkLog + Drop,
+    E: EvictionPicker,
+    C: StorageFilterCondition,
+{
     /// Flushes until no flusher has anything left to do, then reclaims blocks until enough are clean, as far as that goes,
     /// and flushes the records that reclaims read back. The first reclaims of a call, as many as there are blocks, have
     /// records written again where `env` has a filter; the others free their blocks, so that it ends. It puts, deletes and

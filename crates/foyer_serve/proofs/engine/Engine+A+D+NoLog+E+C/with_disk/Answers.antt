@@ -1,6 +1,6 @@
 use Rattle.std.proofs.Common.{inl, inr, refl}
 use Rattle.foyer_run.proofs.OpenedRuns.{err_weakens}
-use Rattle.foyer_serve.proofs.engine.Engine+A+D+NoLog.with_disk.Goals as goal
+use Rattle.foyer_serve.proofs.engine.Engine+A+D+NoLog+E+C.with_disk.Goals as goal
 
 pub returns-clause-refused : goal.returns-clause-refused
 returns-clause-refused g c = err_weakens c.with_log.result _ _ (λ e is. elim is [
