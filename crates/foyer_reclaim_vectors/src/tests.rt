@@ -2,6 +2,7 @@
 
 mod asked;
 mod faults;
+mod own;
 mod random;
 mod rows;
 mod settled;

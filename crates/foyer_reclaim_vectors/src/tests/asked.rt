@@ -6,9 +6,10 @@ use foyer_core::open::RecoverMode;
 use foyer_core::settings::Settings;
 use foyer_device::error::{ErrorKind, Result};
 use foyer_disk::io::device::{DeviceBuilder, MemoryDeviceBuilder, MemoryPartition};
-use foyer_filter::{BuiltInCondition, EstimatedSize, StorageFilter};
+use foyer_filter::{BuiltInCondition, EstimatedSize, StorageFilter, StorageFilterCondition};
 use foyer_io::io::engine::{FaultIoEngine, MemoryIoEngine};
 use foyer_serve::engine::{Answer, Engine, NoLog};
+use foyer_sets::block::eviction::EvictionPicker;
 use std::alloc::{Allocator, Global};
 use std::ops::Bound;
 use std::rt::Files;
@@ -89,10 +90,13 @@ pub fn word_of<A: Allocator>(answer: &Answer<A>) -> &str {
 }
 
 /// What the engine answers to a line of a word, a key and a text.
-pub fn answer_of<A: Allocator + Clone, D: Disk + Drop>(
-    engine: &mut Engine<A, D, NoLog>,
-    line: &str,
-) -> Answer<A> {
+pub fn answer_of<A, D, E, C>(engine: &mut Engine<A, D, NoLog, E, C>, line: &str) -> Answer<A>
+where
+    A: Allocator + Clone,
+    D: Disk + Drop,
+    E: EvictionPicker,
+    C: StorageFilterCondition,
+{
     let mut words = line.split(' ');
     let word = words.next().unwrap_or("");
     let key = words.next().unwrap_or("").parse::<u64>().unwrap_or(0);
@@ -107,11 +111,17 @@ pub fn answer_of<A: Allocator + Clone, D: Disk + Drop>(
 }
 
 /// The words for what it answers to these lines, each behind a blank.
-pub fn answers_of<A: Allocator + Clone, D: Disk + Drop>(
+pub fn answers_of<A, D, E, C>(
     alloc: Global,
-    engine: &mut Engine<A, D, NoLog>,
+    engine: &mut Engine<A, D, NoLog, E, C>,
     lines: &str,
-) -> Result<String> {
+) -> Result<String>
+where
+    A: Allocator + Clone,
+    D: Disk + Drop,
+    E: EvictionPicker,
+    C: StorageFilterCondition,
+{
     let mut words = String::new(alloc);
     for line in lines.lines() {
         let answer = answer_of(engine, line);
