@@ -1,12 +1,14 @@
 -- Blocks whose partitions share no byte: what a read gives, and what a write leaves alone.
 use Rattle.std.proofs.Common.{◌≡◌, ◌≢◌, ℕ, zero, suc, ◌+◌, ◌<◌, ◌≤◌, inl, inr, Bool, true, false, nat_lt, if◌then◌else◌, List, [], ◌∷◌, ◌++◌, map, length, Option, Some, None, slice_get, min, replicate, refl, sym, ap, subst, ◌∙◌, arith}
-use Rattle.std.specs.Prelude.{Result, Ok, Err, OnOk, OnErr, MatchResult}
+use Rattle.std.specs.Prelude.{Result, Ok, Err, IfErr, OnOk, OnErr, MatchResult}
 use Rattle.std.proofs.lemmas.Bool.{cases_lt}
 use Rattle.std.proofs.lemmas.Bool.Decides.{nat_tests}
+use Rattle.foyer_device.specs.declared.error.Error.{Error}
+use Rattle.foyer_device.specs.declared.error.Error.TheVariants as error
 use Rattle.foyer_disk.specs.Extent.{Extent, AreApart, AreDisjoint, IsApartFromAll, place}
 use Rattle.foyer_io.specs.Disk as io
 use Rattle.foyer_blockio.specs.Disk.{IsRead, IsTorn}
-use Rattle.foyer_blockio.specs.Partitions.{AreWhole, byte_in}
+use Rattle.foyer_blockio.specs.Partitions.{AreWhole, byte_in, lies_in, is_missing, may_fail}
 
 -- behind others, they are still disjoint
 pub disjoint_behind : (xs ys : List Extent) → AreDisjoint (xs ++ ys) → AreDisjoint ys
@@ -127,3 +129,15 @@ went_ok Q (Err e) f q = tt
 pub went_wrong : {X E Q R : Type 0} (P : Type 0) (r : Result X E) → (Q → R) → MatchResult r (λ _. P) (λ _. Q) → OnErr r R
 went_wrong P (Ok x) f p = tt
 went_wrong P (Err e) f q = f q
+
+module _ {P : Type 0} (bytes : P → ℕ) (extent : P → Extent) (shown : Option io.Disk) where
+  -- why an engine failed an access of a range that the block has
+  pub why_failed : (at : Option P) (p : P) (o n old new : ℕ) (r : Result (Unit {0}) Error) → at ≡ Some p → o + n ≤ bytes p
+      → IfErr r (io.IsAccessFault old new)
+      → io.IfKnown shown (λ d. r ≡ Err error.OutOfRange → ¬ io.CanAccess d (extent p) (bytes p) o n)
+      → IfErr r (may_fail bytes extent shown at o n)
+  why_failed at p o n old new (Ok u) is within fault outside = tt
+  why_failed at p o n old new (Err e) is within fault outside = elim fault [
+    | inl out ↦ inr (out.0, subst (λ x. is_missing bytes extent shown x o n) (sym is) (λ d has. outside d has (ap Err out.0)))
+    | inr io ↦ inl (io.0, subst (λ x. lies_in bytes x o n) (sym is) within)
+  ]

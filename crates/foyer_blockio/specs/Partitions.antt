@@ -1,7 +1,9 @@
 -- Blocks that are partitions of a device: which bytes they have.
-use Rattle.std.specs.Prelude.{◌≡◌, ℕ, ◌+◌, ◌≤◌, List, Option, Some, None, slice_get, nat_lt, if◌then◌else◌}
+use Rattle.std.specs.Prelude.{◌≡◌, ℕ, ◌+◌, ◌≤◌, ◌⊎◌, List, Option, Some, None, slice_get, nat_lt, if◌then◌else◌}
 use Rattle.foyer_disk.specs.Extent.{Extent}
-use Rattle.foyer_io.specs.Disk.{Disk}
+use Rattle.foyer_device.specs.declared.error.Error.{Error}
+use Rattle.foyer_device.specs.declared.error.Error.TheVariants as error
+use Rattle.foyer_io.specs.Disk.{Disk, CanAccess, IfKnown}
 
 -- an engine that shows its disk
 abbrev pub Shows : Option Disk → Type 0
@@ -21,3 +23,13 @@ module _ {P : Type 0} (bytes : P → ℕ) (extent : P → Extent) where
 abbrev pub lies_in : {P : Type 0} → (P → ℕ) → Option P → ℕ → ℕ → Type 0
 lies_in bytes None o n = ⊥
 lies_in bytes (Some p) o n = o + n ≤ bytes p
+
+module _ {P : Type 0} (bytes : P → ℕ) (extent : P → Extent) where
+  -- a range that the partition doesn't have, or that isn't there on the disk that the engine shows
+  abbrev pub is_missing : Option Disk → Option P → ℕ → ℕ → Type 0
+  is_missing shown None o n = Unit {0}
+  is_missing shown (Some p) o n = IfKnown shown (λ d. ¬ CanAccess d (extent p) (bytes p) o n)
+
+  -- why an access of a range may fail: the device did, which was asked for no other, or the range isn't there
+  abbrev pub may_fail : Option Disk → Option P → ℕ → ℕ → Error → Type 0
+  may_fail shown p o n e = ((e ≡ error.Io) × lies_in bytes p o n) ⊎ ((e ≡ error.OutOfRange) × is_missing shown p o n)

@@ -21,8 +21,8 @@ pub trait Disk {
     // So many bytes from an offset of a block on are there at all; a disk that doesn't say has any.
     ghost may_have: { Self → ℕ → ℕ → ℕ → Type 0 } = { λ _ _ _ _. Unit {0} };
 
-    // What a fault of the disk may be; of one that doesn't say any error.
-    ghost may_answer: { Self → error → Type 0 } = { λ _ _. Unit {0} };
+    // What a fault may be of so many bytes from an offset of a block on; of a disk that doesn't say any error.
+    ghost may_answer: { Self → ℕ → ℕ → ℕ → error → Type 0 } = { λ _ _ _ _ _. Unit {0} };
 
     /// Fills the buffer with as many bytes as it has from `offset` of a block on, and gives it back. After an error it
     /// may hold anything.
@@ -40,7 +40,7 @@ pub trait Disk {
         ensures has { (b o n : ℕ) → surely_has self.old b o n → surely_has self.new b o n }
         ensures succeeds { surely_has self.old block offset (vec_len buffer) → IsOk result.1 }
         ensures within { OnOk result.1 (may_have self.old block offset (vec_len buffer)) }
-        ensures fault { IfErr result.1 (may_answer self.old) };
+        ensures fault { IfErr result.1 (may_answer self.old block offset (vec_len buffer)) };
 
     /// Writes the bytes over those from `offset` of a block on. After an error any bytes may stand in their range.
     fn write(&mut self, block: BlockId, offset: usize, bytes: &[u8]) -> Result<()>
@@ -52,5 +52,5 @@ pub trait Disk {
         ensures has { (b o n : ℕ) → surely_has self.old b o n → surely_has self.new b o n }
         ensures succeeds { surely_has self.old block offset (length bytes.now) → IsOk result }
         ensures within { OnOk result (may_have self.old block offset (length bytes.now)) }
-        ensures fault { IfErr result (may_answer self.old) };
+        ensures fault { IfErr result (may_answer self.old block offset (length bytes.now)) };
 }

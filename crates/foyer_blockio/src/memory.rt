@@ -63,7 +63,7 @@ impl<A: Allocator> Disk for MemoryDisk<A> {
 
     ghost may_have = { λ d. IsWithin d.blocks d.block_size };
 
-    ghost may_answer = { λ _ e. e ≡ Io };
+    ghost may_answer = { λ _ _ _ _ e. e ≡ Io };
 
     fn read<B: Allocator>(
         &mut self,

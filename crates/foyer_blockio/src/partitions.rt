@@ -1,8 +1,8 @@
 //! The blocks of a device: a partition for each, read and written by an engine.
-ghost use Rattle.std.specs.Prelude.{◌≡◌, ℕ, ◌+◌, ◌<◌, ◌≤◌, ◌⊎◌, ◌++◌, length, map, replicate, vec_len, slice_get, Some, IfOk, IfErr, IfSome, OnOk, OnErr};
+ghost use Rattle.std.specs.Prelude.{◌≡◌, ℕ, ◌+◌, ◌<◌, ◌≤◌, ◌⊎◌, ◌++◌, length, map, replicate, vec_len, slice_get, Some, IfOk, IfErr, IfSome, IfNone, OnOk, OnErr};
 ghost use Rattle.foyer_disk.specs.Extent.{AreDisjoint, IsPartitionSize};
 ghost use Rattle.foyer_blockio.specs.Disk.{IsRead, IsWritten, IsTorn};
-ghost use Rattle.foyer_blockio.specs.Partitions.{Shows, byte_in, lies_in, AreWhole};
+ghost use Rattle.foyer_blockio.specs.Partitions.{Shows, byte_in, lies_in, may_fail, AreWhole};
 ghost use Rattle.foyer_device.specs.declared.error.Error.TheVariants as error;
 
 use crate::disk::Disk;
@@ -50,6 +50,7 @@ impl<E: IoEngine + Drop, P: Partition + Copy, A: Allocator> Partitions<E, P, A> 
     fn find(&self, block: BlockId, offset: usize, len: usize) -> Option<P>
         ensures found { IfSome result (λ p. (slice_get self.now.blocks.items block ≡ Some p)
             × (offset + len ≤ P.bytes p)) }
+        ensures none { IfNone result (¬ lies_in P.bytes (slice_get self.now.blocks.items block) offset len) }
     {
         let partition = *self.blocks.get(block as usize)?;
         let size = partition.size();
@@ -94,6 +95,8 @@ pub fn open_in_memory<R: Files, A: Allocator + Clone>(
     size: usize,
 ) -> Result<Partitions<MemoryIoEngine<A>, MemoryPartition, A>>
     ensures known { IfOk result (λ d. ⟦<Partitions<MemoryIoEngine<A>, MemoryPartition, A> as Disk>⟧.is_known d) }
+    ensures count { IfOk result (λ d. vec_len d.blocks ≡ count) }
+    ensures sizes { IfOk result (λ d. map ⟦<MemoryPartition as Partition>⟧.bytes d.blocks.items ≡ replicate count size) }
     ensures zeros { IfOk result (λ d. (b o : ℕ) → ⟦<Partitions<MemoryIoEngine<A>, MemoryPartition, A> as Disk>⟧.byte_at d b o ≡ 0) }
 {
     let Some(capacity) = (count as usize).checked_mul(size) else {
@@ -117,7 +120,7 @@ impl<E: IoEngine + Drop, P: Partition + Copy, A: Allocator> Disk for Partitions<
 
     ghost may_have = { λ d b o n. lies_in P.bytes (slice_get d.blocks.items b) o n };
 
-    ghost may_answer = { λ _ e. (e ≡ error.Io) ⊎ (e ≡ error.OutOfRange) };
+    ghost may_answer = { λ d b o n e. may_fail P.bytes P.extent (E.disk d.engine) (slice_get d.blocks.items b) o n e };
 
     fn read<B: Allocator>(
         &mut self,

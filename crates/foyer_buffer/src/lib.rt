@@ -8,6 +8,7 @@ ghost use Rattle.foyer_format.specs.Page.{page_up};
 use foyer_format::block::buffer::whole_pages;
 use foyer_format::block::serde::Sequence;
 
+pub mod block;
 mod entries;
 mod laws;
 mod pages;

@@ -4,3 +4,4 @@ pub mod Extent
 pub mod Paths
 pub mod Region
 pub mod Slot
+pub mod Unlimited

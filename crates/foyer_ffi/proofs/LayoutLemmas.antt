@@ -10,7 +10,7 @@ use Rattle.foyer_buffer.specs.Entries.{Entry, Entries, FitsBuffer, with_entry, l
 use Rattle.foyer_format.specs.Page.{page_up}
 use Rattle.foyer_format.specs.Record.{record_bytes}
 use Rattle.foyer_buffer.proofs.EntriesLemmas.{size_none, size_cons}
-use Rattle.foyer_format.proofs.PushLemmas.{length-record_bytes}
+use Rattle.foyer_format.proofs.RecordBytes.{length-record_bytes}
 use Rattle.foyer_format.specs.declared.compress.Compression.{Compression}
 use Rattle.foyer_format.specs.declared.compress.Compression.TheVariants as compression
 use Rattle.foyer_ffi.specs.LaidOut.{AreRecords, record_len, greatest}

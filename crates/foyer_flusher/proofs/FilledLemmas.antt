@@ -2,7 +2,7 @@
 use Rattle.std.proofs.Common.{◌≡◌, ℕ, ◌+◌, ◌-◌, ◌<◌, ◌≤◌, List, [], ◌∷◌, All, length, take, slice_range, Result, Ok, Err, refl, sym, ap, subst, ◌∙◌, arith}
 use Rattle.std.specs.Prelude.{Bool, true, false, ◌++◌, IfOk, OnErr}
 use Rattle.std.specs.Bool.{OnTrue, OnFalse}
-use Rattle.foyer_format.proofs.PushLemmas.{length-record_bytes}
+use Rattle.foyer_format.proofs.RecordBytes.{length-record_bytes}
 use Rattle.foyer_format.specs.Record.{record_bytes}
 use Rattle.foyer_buffer.proofs.EntriesLemmas.{size_taken}
 use Rattle.foyer_buffer.proofs.HoldsLemmas.{finished_all}

@@ -8,7 +8,7 @@ use Rattle.foyer_format.specs.Page.{page_up}
 use Rattle.foyer_format.specs.Record.{record_bytes}
 use Rattle.foyer_format.specs.declared.compress.Compression.TheVariants as compression
 use Rattle.foyer_format.proofs.PageLaws.{page_up-holds}
-use Rattle.foyer_format.proofs.PushLemmas.{length-record_bytes}
+use Rattle.foyer_format.proofs.RecordBytes.{length-record_bytes}
 use Rattle.foyer_policy.specs.Record.{Record}
 use Rattle.foyer_model.specs.Receive.{Fits, TakesFront as TakesOne, bytes_taken, turned}
 use Rattle.foyer_model.specs.Record as model_record

@@ -2,6 +2,6 @@ pub mod CompressionLemmas
 pub mod HeaderLemmas
 pub mod OuterFault
 pub mod PageLaws
-pub mod PushLemmas
+pub mod RecordBytes
 pub mod RecordLemmas
 pub mod RefusalLemmas

@@ -1,7 +1,6 @@
 pub mod Compression
 pub mod Header
 pub mod Page
-pub mod Pushing
 pub mod Record
 pub mod Refusals
 pub mod Vectors

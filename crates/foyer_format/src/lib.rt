@@ -1,5 +1,4 @@
-//! The bytes of entries: records, and the buffer that they are written into. The codes of keys and values are
-//! `foyer_code`'s.
+//! The bytes of entries: headers and records. The codes of keys and values are `foyer_code`'s.
 #![tactic(auto)]
 
 pub mod block;

@@ -64,7 +64,7 @@ impl<A: Allocator> Disk for BlockFiles<A> {
 
     ghost surely_has = { λ _ _ _ _. ⊥ };
 
-    ghost may_answer = { λ _ e. (e ≡ error.Io) ⊎ (e ≡ error.Unsupported) };
+    ghost may_answer = { λ _ _ _ _ e. (e ≡ error.Io) ⊎ (e ≡ error.Unsupported) };
 
     fn read<B: Allocator>(
         &mut self,

@@ -11,7 +11,7 @@ use Rattle.foyer_buffer.proofs.BlockBytesLemmas.{read_whole}
 use Rattle.foyer_format.specs.Page.{page_up}
 use Rattle.foyer_format.specs.Record.{record_bytes}
 use Rattle.foyer_format.proofs.PageLaws.{page_up-holds, page_up-least}
-use Rattle.foyer_format.proofs.PushLemmas.{length-record_bytes}
+use Rattle.foyer_format.proofs.RecordBytes.{length-record_bytes}
 use Rattle.foyer_model.specs.Numbers.{put}
 use Rattle.foyer_model.specs.Record.{IndexEntry, Record, Given}
 use Rattle.foyer_model.specs.Position.{Position, Index, Write, Part, BlockLayout}

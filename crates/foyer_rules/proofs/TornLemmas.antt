@@ -6,7 +6,7 @@ use Rattle.foyer_format.specs.Header.{header_bytes}
 use Rattle.foyer_format.specs.Page.{page_up}
 use Rattle.foyer_format.specs.Record.{record_bytes, pair_of}
 use Rattle.foyer_format.proofs.PageLaws.{page_up-holds, page_up-least, even-page_up}
-use Rattle.foyer_format.proofs.PushLemmas.{length-record_bytes}
+use Rattle.foyer_format.proofs.RecordBytes.{length-record_bytes}
 use Rattle.foyer_model.specs.Record.{IndexEntry, Record, Address}
 use Rattle.foyer_model.specs.Position.{Position}
 use Rattle.foyer_model.specs.Rules.{Rules, first_position}

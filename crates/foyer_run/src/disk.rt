@@ -27,7 +27,7 @@ pub fn do_read<A: Allocator, D: Disk>(
     ensures succeeds { D.surely_has disk.old ticket.now.address.block ticket.now.address.offset (page_up ticket.now.address.len)
         → IfOk result IsOk }
     ensures within { IfOk result (λ outcome. OnOk outcome (D.may_have disk.old ticket.now.address.block ticket.now.address.offset (page_up ticket.now.address.len))) }
-    ensures fault { IfOk result (λ outcome. IfErr outcome (D.may_answer disk.old)) }
+    ensures fault { IfOk result (λ outcome. IfErr outcome (D.may_answer disk.old ticket.now.address.block ticket.now.address.offset (page_up ticket.now.address.len))) }
     ensures known { D.is_known disk.old → D.is_known disk.new }
     ensures same { D.byte_at disk.new ≡ D.byte_at disk.old }
 {
@@ -54,7 +54,7 @@ pub fn do_write<A: Allocator, D: Disk>(disk: &mut D, block: BlockId, write: &Wri
     ensures known { D.is_known disk.old → D.is_known disk.new }
     ensures succeeds { D.surely_has disk.old block write.now.offset (length (written_bytes write.now.bytes)) → IsOk result }
     ensures within { OnOk result (D.may_have disk.old block write.now.offset (length (written_bytes write.now.bytes))) }
-    ensures fault { IfErr result (D.may_answer disk.old) }
+    ensures fault { IfErr result (D.may_answer disk.old block write.now.offset (length (written_bytes write.now.bytes))) }
 {
     disk.write(block, write.offset, write.bytes.as_slice())
 }

@@ -1,3 +1,4 @@
+pub mod AnyPicks
 pub mod BlockSets
 pub mod BuiltIn
 pub mod Clearing

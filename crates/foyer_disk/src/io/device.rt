@@ -226,15 +226,25 @@ impl<D: Device> Device for &mut D {
 
 /// Builds a device.
 pub trait DeviceBuilder<A: Allocator>: Sized {
+    ghost use Rattle.foyer_throttle.specs.declared.throttle.Throttle.{Throttle};
+
     type Device: Device;
 
     // The capacity of what it builds, or none where its settings are wrong.
     ghost capacity: { Self → Option ℕ };
+
+    // The limits of what it builds, and the moment from which that counts, of the moment at which it is built: a part
+    // has those of its device.
+    ghost limits: { Self → Throttle };
+
+    ghost built_at: { Self → ℕ → ℕ } = { λ _ now. now };
 
     /// The device, whose statistics begin at the moment `now`, in nanoseconds. Config where the settings are wrong,
     /// Io where a file or a directory couldn't be made, Memory.
     fn build<R: Files>(self, rt: &R, alloc: A, now: u64) -> Result<Self::Device>
         ensures config { (result ≡ Err error.Config) ↔ (capacity self ≡ None) }
         ensures room { IfOk result (λ d. capacity self ≡ Some (Self.Device.room d)) }
-        ensures fresh { IfOk result (λ d. Self.Device.sizes d ≡ []) };
+        ensures fresh { IfOk result (λ d. Self.Device.sizes d ≡ []) }
+        ensures limits { IfOk result (λ d. Self.Device.limits d ≡ limits self) }
+        ensures moment { IfOk result (λ d. Self.Device.built_at d ≡ built_at self now) };
 }

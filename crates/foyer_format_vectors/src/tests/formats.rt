@@ -1,8 +1,9 @@
 //! Bytes that the formats fix.
+use foyer_buffer::block::buffer::Buffer;
+use foyer_buffer::block::serde::{EntryHeader, read_record};
 use foyer_checksum::Checksummer;
 use foyer_device::error::Error;
-use foyer_format::block::buffer::Buffer;
-use foyer_format::block::serde::{EntryHeader, read_record};
+use foyer_device::io::bytes::{IoB, IoSliceMut};
 use foyer_format::compress::Compression;
 use foyer_format::serde::{Code, EntryDeserializer, EntrySerializer, KvInfo, TrackedWriter};
 use std::alloc::Global;
@@ -55,43 +56,66 @@ fn a_text_has_its_bytes(rt: HostRuntime) -> Result<(), Fail> {
     Ok(())
 }
 
+// A buffer of two pages, none of whose records takes more bytes with its padding.
+fn two_pages(alloc: Global, greatest: usize) -> Result<Buffer<Global>, Error> {
+    if greatest > 65536 {
+        return Err(Error::OutOfRange);
+    }
+    Ok(Buffer::new(alloc, IoSliceMut::new(alloc, 8192)?, greatest))
+}
+
 // Puts the record of key 1, value `a`, hash 1 and sequence 1.
 fn push(
     alloc: Global,
     buffer: &mut Buffer<Global>,
-    room: usize,
     compression: Compression,
-) -> Result<Option<usize>, Error> {
-    if buffer.len() > 65536 || room > 65536 {
-        return Err(Error::OutOfRange);
-    }
+) -> Result<bool, Error> {
     let value = String::from_str(alloc, "a")?;
-    buffer.push(room, &1u64, &value, 1, compression, 1)
+    buffer.push(&1u64, &value, 1, compression, 1)
 }
 
 // It has 53 bytes, on one page.
 #[test]
 fn a_record_takes_whole_pages(rt: HostRuntime) -> Result<(), Fail> {
     let alloc = rt.alloc();
-    let mut buffer = Buffer::new(alloc);
-    buffer.reserve(4096)?;
+    let mut buffer = two_pages(alloc, 8192)?;
     assert!(rt; buffer.is_empty());
-    assert_eq!(rt;
-        push(alloc, &mut buffer, 8192, Compression::None)?,
-        Some(53)
-    );
-    assert_eq!(rt; buffer.len(), 4096);
-    assert_eq!(rt; push(alloc, &mut buffer, 8192, Compression::Zstd)?, None);
-    assert_eq!(rt; push(alloc, &mut buffer, 4095, Compression::None)?, None);
-    assert_eq!(rt; buffer.into_bytes().len(), 4096);
+    assert!(rt; push(alloc, &mut buffer, Compression::None)?);
+    assert!(rt; !buffer.is_empty());
+    assert_eq!(rt; buffer.written(), 4096);
+    assert!(rt; !push(alloc, &mut buffer, Compression::Zstd)?);
+    assert_eq!(rt; buffer.written(), 4096);
+    let (_, infos) = buffer.finish();
+    assert_eq!(rt; infos.len(), 1);
+    let info = infos.first().ok_or("no record")?;
+    assert_eq!(rt; info.offset, 0);
+    assert_eq!(rt; info.len, 53);
+    Ok(())
+}
+
+#[test]
+fn a_record_without_room_is_not_put(rt: HostRuntime) -> Result<(), Fail> {
+    let alloc = rt.alloc();
+    let mut buffer = two_pages(alloc, 4095)?;
+    assert!(rt; !push(alloc, &mut buffer, Compression::None)?);
+    assert!(rt; buffer.is_empty());
+    assert_eq!(rt; buffer.written(), 0);
+    // two records fill both pages
+    let mut buffer = two_pages(alloc, 4096)?;
+    assert!(rt; push(alloc, &mut buffer, Compression::None)?);
+    assert!(rt; push(alloc, &mut buffer, Compression::None)?);
+    assert!(rt; !push(alloc, &mut buffer, Compression::None)?);
+    assert_eq!(rt; buffer.written(), 8192);
     Ok(())
 }
 
 // So many bytes of that record's page.
 fn record(alloc: Global, len: usize) -> Result<Vec<u8>, Error> {
-    let mut buffer = Buffer::new(alloc);
-    push(alloc, &mut buffer, 8192, Compression::None)?;
-    let mut bytes = buffer.into_bytes();
+    let mut buffer = two_pages(alloc, 8192)?;
+    push(alloc, &mut buffer, Compression::None)?;
+    let (pages, _) = buffer.finish();
+    let mut bytes = Vec::new(alloc);
+    bytes.extend_from_slice(pages.as_slice())?;
     bytes.truncate(len);
     Ok(bytes)
 }

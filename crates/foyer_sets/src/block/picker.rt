@@ -1,5 +1,5 @@
 //! A picker of any kind, and one of those of this crate.
-ghost use Rattle.std.specs.Prelude.{◌≡◌, ℕ, List, [], Option};
+ghost use Rattle.std.specs.Prelude.{◌≡◌, ℕ, List, [], Option, length, OnOk, OnErr, IsOkUnless};
 ghost use Rattle.foyer_device.specs.declared.error.Error.TheVariants.{Memory};
 
 use crate::block::eviction::{EvictionInfo, EvictionPicker};
@@ -20,6 +20,7 @@ pub enum AnyPicker {
 impl EvictionPicker for AnyPicker {
     ghost use Rattle.foyer_sets.specs.Pickers.{Info, fifo_answer, fifo_marks, ratio_answer};
     ghost use Rattle.foyer_sets.specs.declared.block.picker.AnyPicker.TheVariants.{InvalidRatio, Fifo, Boxed};
+    ghost use Rattle.foyer_sets.specs.AnyPicks.{BeginsAs, IsWith, IsWithout};
 
     ghost answer = { λ p info. elim p as (λ _. Option ℕ) [
       | InvalidRatio q ↦ ratio_answer q.num q.den q.block_size info
@@ -33,7 +34,10 @@ impl EvictionPicker for AnyPicker {
       | Boxed q ↦ (EvictionPicker-box q).marks q.value info
     ] };
 
-    fn init(&mut self, alloc: Global, blocks: &[BlockId], block_size: usize) -> Result<()> {
+    fn init(&mut self, alloc: Global, blocks: &[BlockId], block_size: usize) -> Result<()>
+        ensures made { OnOk result (BeginsAs self.old (length blocks.now) block_size self.new) }
+        ensures refused { IsOkUnless result Memory }
+    {
         match self {
             AnyPicker::InvalidRatio(picker) => picker.init(alloc, blocks, block_size),
             AnyPicker::Fifo(picker) => picker.init(alloc, blocks, block_size),
@@ -49,7 +53,9 @@ impl EvictionPicker for AnyPicker {
         }
     }
 
-    fn on_block_evictable(&mut self, info: EvictionInfo<'_>, block: BlockId) {
+    fn on_block_evictable(&mut self, info: EvictionInfo<'_>, block: BlockId)
+        ensures { IsWith self.old block self.new }
+    {
         match self {
             AnyPicker::InvalidRatio(picker) => picker.on_block_evictable(info, block),
             AnyPicker::Fifo(picker) => picker.on_block_evictable(info, block),
@@ -57,7 +63,9 @@ impl EvictionPicker for AnyPicker {
         }
     }
 
-    fn on_block_evict(&mut self, info: EvictionInfo<'_>, block: BlockId) {
+    fn on_block_evict(&mut self, info: EvictionInfo<'_>, block: BlockId)
+        ensures { IsWithout self.old block self.new }
+    {
         match self {
             AnyPicker::InvalidRatio(picker) => picker.on_block_evict(info, block),
             AnyPicker::Fifo(picker) => picker.on_block_evict(info, block),
@@ -74,13 +82,17 @@ pub enum BuiltInPicker {
 }
 
 impl EvictionPicker for BuiltInPicker {
-    ghost use Rattle.foyer_sets.specs.BuiltIn.{built_in_answer, built_in_marks};
+    ghost use Rattle.foyer_sets.specs.BuiltIn.{built_in_answer, built_in_marks, built_in_with, built_in_without, begun_built_in};
 
     ghost answer = { built_in_answer };
 
     ghost marks = { built_in_marks };
 
-    fn init(&mut self, alloc: Global, blocks: &[BlockId], block_size: usize) -> Result<()> {
+    fn init(&mut self, alloc: Global, blocks: &[BlockId], block_size: usize) -> Result<()>
+        ensures made { OnOk result (self.new ≡ begun_built_in self.old (length blocks.now) block_size) }
+        ensures unchanged { OnErr result (self.new ≡ self.old) }
+        ensures refused { IsOkUnless result Memory }
+    {
         match self {
             BuiltInPicker::InvalidRatio(picker) => picker.init(alloc, blocks, block_size),
             BuiltInPicker::Fifo(picker) => picker.init(alloc, blocks, block_size),
@@ -94,14 +106,18 @@ impl EvictionPicker for BuiltInPicker {
         }
     }
 
-    fn on_block_evictable(&mut self, info: EvictionInfo<'_>, block: BlockId) {
+    fn on_block_evictable(&mut self, info: EvictionInfo<'_>, block: BlockId)
+        ensures { self.new ≡ built_in_with self.old block }
+    {
         match self {
             BuiltInPicker::InvalidRatio(picker) => picker.on_block_evictable(info, block),
             BuiltInPicker::Fifo(picker) => picker.on_block_evictable(info, block),
         }
     }
 
-    fn on_block_evict(&mut self, info: EvictionInfo<'_>, block: BlockId) {
+    fn on_block_evict(&mut self, info: EvictionInfo<'_>, block: BlockId)
+        ensures { self.new ≡ built_in_without self.old block }
+    {
         match self {
             BuiltInPicker::InvalidRatio(picker) => picker.on_block_evict(info, block),
             BuiltInPicker::Fifo(picker) => picker.on_block_evict(info, block),

@@ -4,6 +4,7 @@ ghost use Rattle.std.specs.List.{list_all, list_any};
 ghost use Rattle.foyer_disk.specs.Combined.{Combined, shift};
 ghost use Rattle.foyer_disk.specs.Capacity.{combined_capacity};
 ghost use Rattle.foyer_disk.specs.Extent.{IsPartitionSize};
+ghost use Rattle.foyer_disk.specs.Unlimited.{unlimited};
 ghost use Rattle.foyer_device.specs.declared.error.Error.TheVariants as error;
 
 use super::{Device, DeviceBuilder, MAX_PARTITIONS, Partition, PartitionId, RawFile, Throttle};
@@ -23,7 +24,8 @@ pub struct CombinedDeviceBuilder<D: Device, A: Allocator> {
 impl<D: Device, A: Allocator> CombinedDeviceBuilder<D, A> {
     /// No devices yet, and no limits.
     pub fn new(alloc: A) -> CombinedDeviceBuilder<D, A>
-        ensures { result.devices.items ≡ [] }
+        ensures none { result.devices.items ≡ [] }
+        ensures limits { result.throttle ≡ unlimited }
     {
         CombinedDeviceBuilder {
             devices: Vec::new(alloc),
@@ -35,6 +37,7 @@ impl<D: Device, A: Allocator> CombinedDeviceBuilder<D, A> {
     /// Memory.
     pub fn with_device(self, device: D) -> Result<CombinedDeviceBuilder<D, A>>
         ensures added { IfOk result (λ b. b.devices.items ≡ self.devices.items ++ device ∷ []) }
+        ensures limits { IfOk result (λ b. b.throttle ≡ self.throttle) }
         ensures memory { OnErr result (result ≡ Err error.Memory) }
     {
         let CombinedDeviceBuilder {
@@ -47,7 +50,8 @@ impl<D: Device, A: Allocator> CombinedDeviceBuilder<D, A> {
 
     /// The limits of its reads and writes.
     pub fn with_throttle(self, throttle: Throttle) -> CombinedDeviceBuilder<D, A>
-        ensures { result.devices.items ≡ self.devices.items }
+        ensures devices { result.devices.items ≡ self.devices.items }
+        ensures limits { result.throttle ≡ throttle }
     {
         let CombinedDeviceBuilder { devices, .. } = self;
         CombinedDeviceBuilder { devices, throttle }
@@ -102,6 +106,8 @@ impl<D: Device, A: Allocator + Clone> DeviceBuilder<A> for CombinedDeviceBuilder
 
     ghost capacity = { λ b. combined_capacity (sum_by D.room b.devices.items)
         (sum_by D.file_count b.devices.items) };
+
+    ghost limits = { λ b. b.throttle };
 
     /// Config where the devices have more files than there are numbers of files.
     fn build<R: Files>(self, _rt: &R, alloc: A, now: u64) -> Result<CombinedDevice<D, A>> {

@@ -4,6 +4,7 @@ ghost use Rattle.foyer_disk.specs.Region.{Region, lacks_space, has_all_numbers};
 ghost use Rattle.foyer_disk.specs.Extent.{laid_from};
 ghost use Rattle.foyer_disk.specs.Slot.{extent_of};
 ghost use Rattle.foyer_disk.specs.Capacity.{rounded};
+ghost use Rattle.foyer_disk.specs.Unlimited.{unlimited};
 
 use super::paths::{lay_file, one_path};
 use super::region::Region;
@@ -25,7 +26,8 @@ pub struct FileDeviceBuilder<'a> {
 impl<'a> FileDeviceBuilder<'a> {
     /// A device over the file at a path, which is made where it is missing. It has no capacity yet.
     pub fn new(path: &'a str) -> FileDeviceBuilder<'a>
-        ensures { result.capacity ≡ None }
+        ensures capacity { result.capacity ≡ None }
+        ensures limits { result.throttle ≡ unlimited }
     {
         FileDeviceBuilder {
             path,
@@ -36,7 +38,8 @@ impl<'a> FileDeviceBuilder<'a> {
 
     /// That many bytes, rounded down to whole pages.
     pub fn with_capacity(self, capacity: usize) -> FileDeviceBuilder<'a>
-        ensures { result.capacity ≡ Some capacity }
+        ensures capacity { result.capacity ≡ Some capacity }
+        ensures limits { result.throttle ≡ self.entry.throttle }
     {
         FileDeviceBuilder {
             capacity: Some(capacity),
@@ -46,7 +49,8 @@ impl<'a> FileDeviceBuilder<'a> {
 
     /// The limits of its reads and writes.
     pub fn with_throttle(self, throttle: Throttle) -> FileDeviceBuilder<'a>
-        ensures { result.capacity ≡ self.entry.capacity }
+        ensures capacity { result.capacity ≡ self.entry.capacity }
+        ensures limits { result.throttle ≡ throttle }
     {
         FileDeviceBuilder { throttle, ..self }
     }
@@ -56,6 +60,8 @@ impl<A: Allocator + Clone> DeviceBuilder<A> for FileDeviceBuilder<'_> {
     type Device = FileDevice<A>;
 
     ghost capacity = { λ b. rounded b.capacity };
+
+    ghost limits = { λ b. b.throttle };
 
     /// The file gets exactly the capacity's length: a shorter one is lengthened by zeros, a longer one cut.
     fn build<R: Files>(self, rt: &R, alloc: A, now: u64) -> Result<FileDevice<A>> {

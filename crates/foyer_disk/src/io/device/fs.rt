@@ -4,6 +4,7 @@ ghost use Rattle.foyer_disk.specs.Region.{lacks_space, has_all_numbers};
 ghost use Rattle.foyer_disk.specs.Extent.{IsPartitionSize, files_from};
 ghost use Rattle.foyer_disk.specs.Capacity.{rounded};
 ghost use Rattle.foyer_disk.specs.Paths.{partition_path};
+ghost use Rattle.foyer_disk.specs.Unlimited.{unlimited};
 ghost use Rattle.foyer_device.specs.declared.error.Error.TheVariants as error;
 
 use super::paths::lay_file;
@@ -27,7 +28,8 @@ impl<'a> FsDeviceBuilder<'a> {
     /// A device over the directory at a path, which is made with its parents where it is missing. It has no capacity
     /// yet.
     pub fn new(dir: &'a str) -> FsDeviceBuilder<'a>
-        ensures { result.capacity ≡ None }
+        ensures capacity { result.capacity ≡ None }
+        ensures limits { result.throttle ≡ unlimited }
     {
         FsDeviceBuilder {
             dir,
@@ -38,7 +40,8 @@ impl<'a> FsDeviceBuilder<'a> {
 
     /// That many bytes, rounded down to whole pages.
     pub fn with_capacity(self, capacity: usize) -> FsDeviceBuilder<'a>
-        ensures { result.capacity ≡ Some capacity }
+        ensures capacity { result.capacity ≡ Some capacity }
+        ensures limits { result.throttle ≡ self.entry.throttle }
     {
         FsDeviceBuilder {
             capacity: Some(capacity),
@@ -48,7 +51,8 @@ impl<'a> FsDeviceBuilder<'a> {
 
     /// The limits of its reads and writes.
     pub fn with_throttle(self, throttle: Throttle) -> FsDeviceBuilder<'a>
-        ensures { result.capacity ≡ self.entry.capacity }
+        ensures capacity { result.capacity ≡ self.entry.capacity }
+        ensures limits { result.throttle ≡ throttle }
     {
         FsDeviceBuilder { throttle, ..self }
     }
@@ -58,6 +62,8 @@ impl<A: Allocator + Clone> DeviceBuilder<A> for FsDeviceBuilder<'_> {
     type Device = FsDevice<A>;
 
     ghost capacity = { λ b. rounded b.capacity };
+
+    ghost limits = { λ b. b.throttle };
 
     fn build<R: Files>(self, rt: &R, alloc: A, now: u64) -> Result<FsDevice<A>> {
         let Some(capacity) = self.capacity else {

@@ -3,6 +3,7 @@ ghost use Rattle.std.specs.Prelude.{◌≡◌, ℕ, ◌/◌, ◌*◌, Some};
 ghost use Rattle.foyer_disk.specs.Region.{Region, lacks_space, has_all_numbers};
 ghost use Rattle.foyer_disk.specs.Extent.{laid_from};
 ghost use Rattle.foyer_disk.specs.Slot.{extent_of};
+ghost use Rattle.foyer_disk.specs.Unlimited.{unlimited};
 
 use super::paths::one_path;
 use super::region::Region;
@@ -22,7 +23,8 @@ pub struct MemoryDeviceBuilder {
 impl MemoryDeviceBuilder {
     /// A device of that many bytes, rounded down to whole pages.
     pub fn new(capacity: usize) -> MemoryDeviceBuilder
-        ensures { result.capacity ≡ capacity }
+        ensures capacity { result.capacity ≡ capacity }
+        ensures limits { result.throttle ≡ unlimited }
     {
         MemoryDeviceBuilder {
             capacity,
@@ -42,6 +44,8 @@ impl<A: Allocator> DeviceBuilder<A> for MemoryDeviceBuilder {
     type Device = MemoryDevice<A>;
 
     ghost capacity = { λ b. Some (b.capacity / 4096 * 4096) };
+
+    ghost limits = { λ b. b.throttle };
 
     fn build<R: Files>(self, _rt: &R, alloc: A, now: u64) -> Result<MemoryDevice<A>> {
         Ok(MemoryDevice {

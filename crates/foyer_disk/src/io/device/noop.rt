@@ -2,6 +2,7 @@
 ghost use Rattle.std.specs.Prelude.{◌≡◌, ℕ, Some, false, length};
 ghost use Rattle.foyer_disk.specs.Region.{has_all_numbers};
 ghost use Rattle.foyer_disk.specs.Extent.{empty_extents};
+ghost use Rattle.foyer_disk.specs.Unlimited.{unlimited};
 
 use super::paths::one_path;
 use super::sizes::Sizes;
@@ -30,6 +31,8 @@ impl<A: Allocator> DeviceBuilder<A> for NoopDeviceBuilder {
     type Device = NoopDevice<A>;
 
     ghost capacity = { λ b. Some b.capacity };
+
+    ghost limits = { λ _. unlimited };
 
     fn build<R: Files>(self, _rt: &R, alloc: A, now: u64) -> Result<NoopDevice<A>> {
         Ok(NoopDevice {

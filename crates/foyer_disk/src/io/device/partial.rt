@@ -44,6 +44,10 @@ impl<D: Device, A: Allocator> DeviceBuilder<A> for PartialDeviceBuilder<D> {
 
     ghost capacity = { λ b. part b.capacity (D.room b.device) };
 
+    ghost limits = { λ b. D.limits b.device };
+
+    ghost built_at = { λ b _. D.built_at b.device };
+
     fn build<R: Files>(self, _rt: &R, _alloc: A, _now: u64) -> Result<PartialDevice<D>> {
         let PartialDeviceBuilder { device, capacity } = self;
         let capacity = capacity.unwrap_or(device.capacity());

@@ -1,7 +1,8 @@
-use Rattle.std.proofs.Common.{length, subst}
-use Rattle.std.specs.Prelude.{IfSome, MatchResult}
-use Rattle.foyer_io.specs.Disk.{DidWrite, MayTear}
-use Rattle.foyer_blockio.proofs.PartitionLemmas.{others_stay, stands_in_block, went_ok, went_wrong}
+use Rattle.std.proofs.Common.{◌≡◌, length, slice_get, subst}
+use Rattle.std.specs.Prelude.{Err, IfSome, IfErr, MatchResult}
+use Rattle.foyer_device.specs.declared.error.Error.TheVariants as error
+use Rattle.foyer_io.specs.Disk.{CanAccess, DidWrite, IsAccessFault, MayTear}
+use Rattle.foyer_blockio.proofs.PartitionLemmas.{others_stay, stands_in_block, went_ok, went_wrong, why_failed}
 use Rattle.foyer_blockio.proofs.partitions.PartitionsDisk.write.Goals as goal
 
 pub returns-clause-wrote : goal.returns-clause-wrote
@@ -45,3 +46,19 @@ returns-clause-torn g c = λ known.
     others_stay bytes extent blocks before after d e c.args.block c.args.offset (length given) p (known.0).1 wrote.1 found.0 known.1 known.2 found.1 torn)
     (subst (λ h. IfSome h (λ r. MatchResult r.1 (λ _. DidWrite d (extent p) (bytes p) c.args.offset given e) (λ _. MayTear d (extent p) c.args.offset (length given) e)))
     c.into_inner-outcome.ensures wrote.2)
+
+pub returns-clause-fault : goal.returns-clause-fault
+returns-clause-fault g c =
+    let p = c.in-Some.partition in
+    let bytes = g.P.Partition.bytes in
+    let extent = g.P.Partition.extent in
+    let at = slice_get c.args.self.now.blocks.items c.args.block in
+    let shown = g.E.IoEngine.disk c.args.self.now.engine in
+    let before = g.E.IoEngine.faults c.args.self.now.engine in
+    let after = g.E.IoEngine.faults c.write-handle.new.self in
+    let n = length c.args.bytes.now in
+    let found = c.in-Some.ensures.found in
+    why_failed bytes extent shown at p c.args.offset n before after c.into_inner-outcome.result.1 found.0 found.1
+    (subst (λ h. IfSome h (λ r. IfErr r.1 (IsAccessFault before after))) c.into_inner-outcome.ensures c.write-handle.ensures.refused)
+    (λ d is. subst (λ h. IfSome h (λ r. r.1 ≡ Err error.OutOfRange → ¬ CanAccess d (extent p) (bytes p) c.args.offset n))
+    c.into_inner-outcome.ensures (c.write-handle.ensures.outside d is))
