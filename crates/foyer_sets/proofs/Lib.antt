@@ -12,3 +12,4 @@ pub mod StandsLemmas
 pub mod StatisticsLemmas
 pub mod WaitingLemmas
 pub mod WorstLemmas
+pub mod ShownLemmas

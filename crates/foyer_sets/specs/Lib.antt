@@ -10,4 +10,5 @@ pub mod ModelPicks
 pub mod Pickers
 pub mod Picks
 pub mod Queues
+pub mod Shown
 pub mod Statistics

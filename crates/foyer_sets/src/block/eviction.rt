@@ -3,6 +3,7 @@ ghost use Rattle.std.specs.Prelude.{◌≡◌, ◌≤◌, ◌<◌, ℕ, List, []
 ghost use Rattle.foyer_device.specs.declared.error.Error.TheVariants.{Memory};
 ghost use Rattle.foyer_model.specs.Ids.{is_id_in};
 ghost use Rattle.foyer_sets.specs.Managed.{is_evictable, is_writing_set, is_reclaiming_set};
+ghost use Rattle.foyer_sets.specs.Shown.{AreShown};
 ghost use Rattle.foyer_sets.specs.Pickers.{Info, picker_info, answers_of, is_pick, answers_given, marks_given, pick_of};
 
 pub use crate::block::fifo::FifoPicker;
@@ -34,6 +35,12 @@ pub trait EvictionPicker: Drop {
     // And what it puts on probation then.
     ghost marks: { Self → Info → List ℕ };
 
+    // How it may be once a block has become evictable, and once one is reclaimed, of how it was and of what it sees then; of
+    // one that doesn't say, anyhow.
+    ghost learns: { Self → Info → ℕ → Self → Type 0 } = { λ _ _ _ _. Unit {0} };
+
+    ghost forgets: { Self → Info → ℕ → Self → Type 0 } = { λ _ _ _ _. Unit {0} };
+
     /// Describes it the blocks, before all else.
     fn init(&mut self, alloc: Global, blocks: &[BlockId], block_size: usize) -> Result<()>
         ensures refused { IsOkUnless result Memory };
@@ -47,10 +54,12 @@ pub trait EvictionPicker: Drop {
         ensures marks { probation.new.items ≡ marks self.now (picker_info info.entry.blocks.now info.entry.evictable.now info.entry.clean) };
 
     /// A block has become evictable.
-    fn on_block_evictable(&mut self, info: EvictionInfo<'_>, id: BlockId);
+    fn on_block_evictable(&mut self, info: EvictionInfo<'_>, id: BlockId)
+        ensures learns { learns self.old (picker_info info.entry.blocks.now info.entry.evictable.now info.entry.clean) id self.new };
 
     /// A block is reclaimed.
-    fn on_block_evict(&mut self, info: EvictionInfo<'_>, id: BlockId);
+    fn on_block_evict(&mut self, info: EvictionInfo<'_>, id: BlockId)
+        ensures forgets { forgets self.old (picker_info info.entry.blocks.now info.entry.evictable.now info.entry.clean) id self.new };
 }
 
 impl BlockState {
@@ -126,6 +135,28 @@ pub(crate) fn consult<P: EvictionPicker, A: Allocator>(
         }
     }
     Ok(None)
+}
+
+// Each picker is shown that a block has become evictable.
+pub(crate) fn show_evictable<P: EvictionPicker>(
+    pickers: &mut [P],
+    info: EvictionInfo<'_>,
+    id: BlockId,
+)
+    ensures { AreShown P.learns (picker_info info.entry.blocks.now info.entry.evictable.now info.entry.clean) id pickers.old pickers.new }
+{
+    'each_picker: for picker in pickers.iter_mut() {
+        picker.on_block_evictable(info, id);
+    }
+}
+
+// Each picker is shown that a block is reclaimed.
+pub(crate) fn show_evict<P: EvictionPicker>(pickers: &mut [P], info: EvictionInfo<'_>, id: BlockId)
+    ensures { AreShown P.forgets (picker_info info.entry.blocks.now info.entry.evictable.now info.entry.clean) id pickers.old pickers.new }
+{
+    'each_picker: for picker in pickers.iter_mut() {
+        picker.on_block_evict(info, id);
+    }
 }
 
 fn nth(ids: &[BlockId], at: usize) -> BlockId

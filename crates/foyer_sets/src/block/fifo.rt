@@ -69,6 +69,10 @@ impl EvictionPicker for FifoPicker {
 
     ghost marks = { fifo_marks };
 
+    ghost learns = { λ p _ block q. q ≡ fifo_with p block };
+
+    ghost forgets = { λ p _ block q. q ≡ fifo_without p block };
+
     /// Makes room for all blocks, none of which is queued yet. `Memory` leaves it as it was.
     fn init(&mut self, alloc: Global, blocks: &[BlockId], _block_size: usize) -> Result<()>
         ensures made { OnOk result (self.new ≡ record self.old {
@@ -95,18 +99,14 @@ impl EvictionPicker for FifoPicker {
         queue.front()
     }
 
-    fn on_block_evictable(&mut self, _info: EvictionInfo<'_>, block: BlockId)
-        ensures { self.new ≡ fifo_with self.old block }
-    {
+    fn on_block_evictable(&mut self, _info: EvictionInfo<'_>, block: BlockId) {
         let Some(queue) = &mut self.queue else {
             return;
         };
         queue.push(block);
     }
 
-    fn on_block_evict(&mut self, _info: EvictionInfo<'_>, block: BlockId)
-        ensures { self.new ≡ fifo_without self.old block }
-    {
+    fn on_block_evict(&mut self, _info: EvictionInfo<'_>, block: BlockId) {
         let Some(queue) = &mut self.queue else {
             return;
         };

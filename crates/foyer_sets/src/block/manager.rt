@@ -1,5 +1,5 @@
 //! The blocks: which may be handed out, who waits for one, and which is reclaimed next.
-ghost use Rattle.std.specs.Prelude.{◌≡◌, ◌+◌, ◌<◌, ◌≤◌, ◌↔◌, ◌⊎◌, ◌==◌, ℕ, List, [], ◌∷◌, ◌++◌, ◌^◌, Option, Some, None, length, map, vec_len, vec_capacity, nat_lt, true, false, if◌then◌else◌, MatchOption, IfOk, IfSome, OnOk, OnErr, IsOkUnless, IsTrue, IsSome, slice_get};
+ghost use Rattle.std.specs.Prelude.{◌≡◌, ◌+◌, ◌<◌, ◌≤◌, ◌↔◌, ◌⊎◌, ◌==◌, ℕ, List, [], ◌∷◌, ◌++◌, ◌^◌, Option, Some, None, length, map, vec_len, vec_capacity, nat_lt, true, false, if◌then◌else◌, MatchOption, IfNone, IfOk, IfSome, OnOk, OnErr, IsOkUnless, IsTrue, IsSome, slice_get};
 ghost use Rattle.foyer_device.specs.declared.error.Error.TheVariants.{Memory};
 ghost use Rattle.foyer_model.specs.Flush.{first_usable};
 ghost use Rattle.foyer_model.specs.Ids.{is_id_in, with_id, without_id};
@@ -8,7 +8,9 @@ ghost use Rattle.foyer_model.specs.Numbers.{put, last_number};
 ghost use Rattle.foyer_sets.specs.Managed.{filling_in, is_writing, is_reclaiming, IsFirstUsable, IsTaken};
 ghost use Rattle.foyer_sets.specs.Picks.{with_mark_at, with_marks, allows};
 
-use crate::block::eviction::{EvictionInfo, EvictionPicker, choose, consult};
+use crate::block::eviction::{
+    EvictionInfo, EvictionPicker, choose, consult, show_evict, show_evictable,
+};
 use crate::block::ids::IdSet;
 pub use crate::block::states::{BlockSet, BlockState, BlockStatistics};
 pub use foyer_block::manager::BlockId;
@@ -271,6 +273,7 @@ impl<A: Allocator> BlockManager<A> {
     ghost use Rattle.foyer_model.specs.Reclaim as model_reclaim;
     ghost use Rattle.foyer_model.specs.State as model_state;
     ghost use Rattle.foyer_sets.specs.Picks.{usable_in};
+    ghost use Rattle.foyer_sets.specs.Shown.{AreShown};
     ghost use Rattle.foyer_sets.specs.Managed.{IsWritten, IsReclaimed, is_evictable};
     ghost use Rattle.foyer_sets.specs.BlockSets.{BlockSets, Stands, HasSameRules, HandsOut, HasFinished, after_writing, reclaim_count, MayReclaim};
 
@@ -345,13 +348,13 @@ impl<A: Allocator> BlockManager<A> {
         requires { IsWritten self.old block }
         ensures same { HasSameRules self.old self.new }
         ensures left { (s : BlockSets) → Stands self.old s → Stands self.new (after_writing s block) }
+        ensures shown { AreShown P.learns (picker_info self.new.blocks self.new.evictable (usable_in self.new)) block pickers.old pickers.new }
     {
         let state = &mut self.blocks[block as usize];
         state.block_set = BlockSet::Evictable;
         self.evictable.insert(block);
-        for picker in pickers.iter_mut() {
-            picker.on_block_evictable(info_of(&self.blocks, &self.evictable, self.usable), block);
-        }
+        let info = info_of(&self.blocks, &self.evictable, self.usable);
+        show_evictable(pickers, info, block);
     }
 
     /// Whether a reclaim may begin: where fewer blocks than the threshold may be handed out or a flusher waits, a reclaimer is
@@ -398,7 +401,10 @@ impl<A: Allocator> BlockManager<A> {
             (answers_of P.answer P.marks pickers.old (picker_info self.old.blocks self.old.evictable (usable_in self.old))) ≡ Some b → r.block ≡ b)) }
         ensures after { IfOk result (λ o. IfSome o (λ r. (s : BlockSets) → Stands self.old s
             → Stands self.new (record s { block_set = put s.block_set r.block model_state.Reclaims; stats = model_reclaim.marked r.probation.items s.block_set s.stats }))) }
-        ensures unchanged { OnErr result (self.new ≡ self.old) }
+        ensures shown { IfOk result (λ o. IfSome o (λ r.
+            AreShown P.forgets (picker_info self.new.blocks self.new.evictable (usable_in self.new)) r.block pickers.old pickers.new)) }
+        ensures unshown { IfOk result (λ o. IfNone o (pickers.new ≡ pickers.old)) }
+        ensures unchanged { OnErr result ((self.new ≡ self.old) × (pickers.new ≡ pickers.old)) }
         ensures refused { IsOkUnless result Memory }
     {
         if !self.may_reclaim() {
@@ -413,9 +419,8 @@ impl<A: Allocator> BlockManager<A> {
         self.blocks[block as usize].block_set = BlockSet::Reclaiming;
         self.evictable.remove(block);
         self.reclaiming += 1;
-        for picker in pickers.iter_mut() {
-            picker.on_block_evict(info_of(&self.blocks, &self.evictable, self.usable), block);
-        }
+        let left = info_of(&self.blocks, &self.evictable, self.usable);
+        show_evict(pickers, left, block);
         Ok(Some(ReclaimingBlock {
             block,
             answers,

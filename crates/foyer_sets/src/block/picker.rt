@@ -34,6 +34,10 @@ impl EvictionPicker for AnyPicker {
       | Boxed q ↦ (EvictionPicker-box q).marks q.value info
     ] };
 
+    ghost learns = { λ p _ block q. IsWith p block q };
+
+    ghost forgets = { λ p _ block q. IsWithout p block q };
+
     fn init(&mut self, alloc: Global, blocks: &[BlockId], block_size: usize) -> Result<()>
         ensures made { OnOk result (BeginsAs self.old (length blocks.now) block_size self.new) }
         ensures refused { IsOkUnless result Memory }
@@ -53,9 +57,7 @@ impl EvictionPicker for AnyPicker {
         }
     }
 
-    fn on_block_evictable(&mut self, info: EvictionInfo<'_>, block: BlockId)
-        ensures { IsWith self.old block self.new }
-    {
+    fn on_block_evictable(&mut self, info: EvictionInfo<'_>, block: BlockId) {
         match self {
             AnyPicker::InvalidRatio(picker) => picker.on_block_evictable(info, block),
             AnyPicker::Fifo(picker) => picker.on_block_evictable(info, block),
@@ -63,9 +65,7 @@ impl EvictionPicker for AnyPicker {
         }
     }
 
-    fn on_block_evict(&mut self, info: EvictionInfo<'_>, block: BlockId)
-        ensures { IsWithout self.old block self.new }
-    {
+    fn on_block_evict(&mut self, info: EvictionInfo<'_>, block: BlockId) {
         match self {
             AnyPicker::InvalidRatio(picker) => picker.on_block_evict(info, block),
             AnyPicker::Fifo(picker) => picker.on_block_evict(info, block),
@@ -88,6 +88,10 @@ impl EvictionPicker for BuiltInPicker {
 
     ghost marks = { built_in_marks };
 
+    ghost learns = { λ p _ block q. q ≡ built_in_with p block };
+
+    ghost forgets = { λ p _ block q. q ≡ built_in_without p block };
+
     fn init(&mut self, alloc: Global, blocks: &[BlockId], block_size: usize) -> Result<()>
         ensures made { OnOk result (self.new ≡ begun_built_in self.old (length blocks.now) block_size) }
         ensures unchanged { OnErr result (self.new ≡ self.old) }
@@ -106,18 +110,14 @@ impl EvictionPicker for BuiltInPicker {
         }
     }
 
-    fn on_block_evictable(&mut self, info: EvictionInfo<'_>, block: BlockId)
-        ensures { self.new ≡ built_in_with self.old block }
-    {
+    fn on_block_evictable(&mut self, info: EvictionInfo<'_>, block: BlockId) {
         match self {
             BuiltInPicker::InvalidRatio(picker) => picker.on_block_evictable(info, block),
             BuiltInPicker::Fifo(picker) => picker.on_block_evictable(info, block),
         }
     }
 
-    fn on_block_evict(&mut self, info: EvictionInfo<'_>, block: BlockId)
-        ensures { self.new ≡ built_in_without self.old block }
-    {
+    fn on_block_evict(&mut self, info: EvictionInfo<'_>, block: BlockId) {
         match self {
             BuiltInPicker::InvalidRatio(picker) => picker.on_block_evict(info, block),
             BuiltInPicker::Fifo(picker) => picker.on_block_evict(info, block),

@@ -1,8 +1,10 @@
-use Rattle.std.proofs.Common.{◌≡◌, ◌<◌, ℕ, Some, List, length, false, slice_get, slice_index_or, refl, sym, ap, subst, ◌∙◌, arith}
+use Rattle.std.proofs.Common.{◌≡◌, ◌<◌, ℕ, Some, List, length, false, slice_get, slice_set, slice_index_or, refl, sym, ap, subst, ◌∙◌, arith}
 use Rattle.std.proofs.lemmas.Option.{slice_get_read}
 use Rattle.foyer_model.specs.Ids.{is_id_in}
 use Rattle.foyer_sets.specs.Managed.{Managed, IsKept, IsWritten, is_clean_set, is_evictable, is_evictable_set, is_reclaiming, is_reclaiming_set, one_if}
 use Rattle.foyer_sets.specs.BlockSets.{BlockSets, Stands}
+use Rattle.foyer_sets.specs.Pickers.{Info, picker_info}
+use Rattle.foyer_sets.specs.Shown.{AreShown}
 use Rattle.foyer_sets.specs.declared.block.states.BlockState.{BlockState}
 use Rattle.foyer_sets.specs.declared.block.states.BlockSet.TheVariants.{Writing, Evictable}
 use Rattle.foyer_sets.proofs.BlockStateLemmas.{there_is, some_is, append_test}
@@ -43,3 +45,23 @@ returns-clause-left g c = λ s st.
     let before : BlockState = c.index_mut-state.result.now in
     let f : Found m.blocks.items c.args.block before = found c.args.self.now old c.args.block before c.self.view_is c.requires c.index_mut-state.ensures.value in
     stands_left old s c.args.block before c.insert.new.self.ids stood f.was
+
+-- what the pickers see is what the manager has then
+pub returns-clause-shown : goal.returns-clause-shown
+returns-clause-shown g c =
+    let m = c.self.inside in
+    let old : Managed = record { blocks = m.blocks.items; clean = m.clean.items; evictable = m.evictable.ids; waiting = m.waiting.items; ready = m.ready.items; reclaimers = m.reclaimers; clean_threshold = m.clean_threshold; is_cleaning = m.is_cleaning } in
+    let before : BlockState = c.index_mut-state.result.now in
+    let f : Found m.blocks.items c.args.block before = found c.args.self.now old c.args.block before c.self.view_is c.requires c.index_mut-state.ensures.value in
+    let now : BlockState = record before { block_set = Evictable } in
+    let flag : one_if (is_reclaiming (Some before)) ≡ 0 = ap (λ p. one_if (is_reclaiming_set p)) f.block_set in
+    let kept = kept_unclean c.self.invariant c.args.block before now f.was c.insert.new.self m.reclaiming (ap is_clean_set f.block_set) refl
+    (λ q. ap (is_id_in q) c.insert.ensures.ids ∙ append_test q c.args.block m.evictable.ids) c.insert.ensures.bound (omega arith) in
+    let blocks = c.info_of-info.result.blocks.now in
+    let evictable = c.info_of-info.result.evictable.now in
+    let clean = c.info_of-info.result.clean in
+    let n = m.usable in
+    subst (λ (i : Info). AreShown g.P.EvictionPicker.learns i c.args.block c.args.pickers.now c.show_evictable.new.pickers)
+    (ap (λ x. picker_info x evictable clean) c.info_of-info.ensures.0 ∙ ap (λ x. picker_info (slice_set m.blocks.items c.args.block now) x clean) c.info_of-info.ensures.1
+    ∙ ap (λ x. picker_info (slice_set m.blocks.items c.args.block now) c.insert.new.self.ids x) (c.info_of-info.ensures.2 ∙ kept.usable_is))
+    c.show_evictable.ensures

@@ -6,6 +6,7 @@ use Rattle.foyer_model.specs.Ids.{is_id_in}
 use Rattle.foyer_sets.specs.Managed.{Managed, IsKept, is_evictable, is_reclaiming, one_if, reclaim_count_in}
 use Rattle.foyer_sets.specs.Pickers.{Info, picker_info, answers_of, answers_given, marks_given, pick_of}
 use Rattle.foyer_sets.specs.Picks.{with_marks, usable_in}
+use Rattle.foyer_sets.specs.Shown.{AreShown}
 use Rattle.std.specs.VecDeque.{deque_capacity}
 use Rattle.foyer_sets.specs.BlockSets.{BlockSets, Stands, HasSameRules}
 use Rattle.foyer_sets.specs.declared.block.states.BlockState.{BlockState}
@@ -122,3 +123,22 @@ returns-clause-first g c = λ b picks.
     (saw c.args.self.now old c.info_of-info.result.blocks.now c.info_of-info.result.evictable.now c.info_of-info.result.clean c.self.view_is
     c.info_of-info.ensures.0 c.info_of-info.ensures.1 (c.info_of-info.ensures.2 ∙ (c.self.invariant).usable_is))
     ∙ picks) c.choose-block.ensures
+
+-- what the pickers see is what the manager has then
+pub returns-clause-shown : goal.returns-clause-shown
+returns-clause-shown g c =
+    let m = c.self.inside in
+    let is : is_id_in c.choose-block.result m.evictable.ids ≡ true = chosen_in m.blocks.items c.info_of-info.result.blocks.now m.evictable.ids c.as_slice.result.now (answers_of g.P.EvictionPicker.answer g.P.EvictionPicker.marks c.args.pickers.now (picker_info c.info_of-info.result.blocks.now c.info_of-info.result.evictable.now c.info_of-info.result.clean)) c.in_ok-first_pick.first_pick c.choose-block.result c.info_of-info.ensures.0 c.as_slice.ensures (c.self.invariant).evictable_is c.in_ok-first_pick.ensures.picked c.choose-block.ensures in
+    let before : BlockState = c.index_mut.result.now in
+    let f : Chosen c.mark.new.blocks.items c.choose-block.result before =
+    chosen m.blocks.items c.mark.new.blocks.items c.deref.result.now c.choose-block.result before c.mark.ensures (sym ((c.self.invariant).evictable_is c.choose-block.result) ∙ is) c.index_mut.ensures.value in
+    let kept = subst (λ bs. IsKept bs m.clean.items m.waiting.items m.ready.items m.evictable m.usable m.reclaiming (deque_capacity m.clean) (vec_capacity m.waiting)) (sym c.mark.ensures) (kept_marked c.deref.result.now c.self.invariant) in
+    let flag : one_if (is_reclaiming (Some before)) ≡ 0 = not_reclaiming before.block_set f.block_set in
+    let now : BlockState = record before { block_set = Reclaiming } in
+    let all = kept_unclean kept c.choose-block.result before (record before { block_set = Reclaiming }) f.was c.remove.new.self (m.reclaiming + 1) (not_clean before.block_set f.block_set) refl
+    c.remove.ensures.ids c.remove.ensures.bound (omega arith) in
+    let blocks = slice_set c.mark.new.blocks.items c.choose-block.result now in
+    subst (λ (i : Info). AreShown g.P.EvictionPicker.forgets i c.choose-block.result c.args.pickers.now c.show_evict.new.pickers)
+    (ap (λ x. picker_info x c.info_of-left.result.evictable.now c.info_of-left.result.clean) c.info_of-left.ensures.0 ∙ ap (λ x. picker_info blocks x c.info_of-left.result.clean) c.info_of-left.ensures.1
+    ∙ ap (λ x. picker_info blocks c.remove.new.self.ids x) (c.info_of-left.ensures.2 ∙ all.usable_is))
+    c.show_evict.ensures
