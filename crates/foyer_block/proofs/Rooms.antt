@@ -4,7 +4,7 @@ use Rattle.std.proofs.lemmas.Bool.{eqb-true}
 use Rattle.std.proofs.lemmas.List.{length-map}
 use Rattle.std.specs.HashMap.{spare}
 use Rattle.foyer_block.specs.declared.indexer.HashedEntryAddress.{HashedEntryAddress}
-use Rattle.foyer_block.specs.Index.{belonging, HasRoomAt, HasRoomFor, KeepsIndex}
+use Rattle.foyer_block.specs.Index.{IndexState, belonging, HasRoomAt, HasRoomFor, KeepsIndex}
 use Rattle.foyer_block.specs.Shards.{Shard, map_of, state_of, room, TakesOnePlace}
 
 pub room_is : (shards : List Shard) (i : ℕ) → slice_index (map spare shards) i ≡ room shards i
@@ -45,3 +45,7 @@ refused_keeps (Err e) old new hash same len succeeds takes = keeps_index old new
         full : (a b : ℕ) → (0 < a → ⊥) → a ≤ b
         full zero b is = omega arith
         full (suc a) b is = absurd (is (omega arith))
+
+-- an index keeps what it has itself
+pub kept_itself : (index : IndexState) → KeepsIndex index index
+kept_itself index = (refl, (refl, λ i. omega arith))

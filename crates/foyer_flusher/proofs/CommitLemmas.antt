@@ -1,5 +1,5 @@
 -- The index after a commit, as the model has it.
-use Rattle.std.proofs.Common.{◌≡◌, ℕ, suc, ◌+◌, ◌<◌, ◌≤◌, ◌%◌, ◌==◌, Bool, true, false, ◌&&◌, if◌then◌else◌, cond, List, [], ◌∷◌, map, length, slice_index, Option, Some, None, refl, sym, ap, subst, ◌∙◌, arith}
+use Rattle.std.proofs.Common.{◌≡◌, ℕ, ◌+◌, ◌<◌, ◌≤◌, ◌%◌, ◌==◌, Bool, true, false, if◌then◌else◌, cond, List, [], ◌∷◌, map, length, slice_index, Option, Some, None, refl, sym, ap, subst, ◌∙◌, arith}
 use Rattle.std.proofs.lemmas.Bool.{eqb-true}
 use Rattle.std.proofs.lemmas.List.Sums.{sum_by-cons}
 use Rattle.std.specs.Cmp.{nat_cmp_total, unsigned_tied}
@@ -7,7 +7,7 @@ use Rattle.std.specs.FinMap as finite
 use Rattle.foyer_block.specs.Committing.{committed_one, committed_all, put_count, PiecesHeld, is_put}
 use Rattle.foyer_block.specs.Index.{IndexMap, belonging, HasRoomFor}
 use Rattle.foyer_block.specs.Insertion.{inserted}
-use Rattle.foyer_block.specs.Removal.{has_address, same_address}
+use Rattle.foyer_block.specs.Removal.{has_address}
 use Rattle.foyer_block.specs.declared.indexer.EntryAddress.{EntryAddress}
 use Rattle.foyer_block.specs.declared.indexer.HashedEntryAddress.{HashedEntryAddress}
 use Rattle.foyer_block.specs.declared.indexer.Index.{Index}

@@ -1,9 +1,9 @@
-use Rattle.std.proofs.Common.{◌≡◌, ◌+◌, ◌<◌, ◌≤◌, List, ◌∷◌, Option, None, length, drop, get_or, if◌then◌else◌, sym, ap, subst, ◌∙◌, arith}
+use Rattle.std.proofs.Common.{◌≡◌, ◌+◌, ◌<◌, ◌≤◌, List, [], ◌∷◌, Option, None, length, drop, get_or, if◌then◌else◌, refl, sym, ap, subst, ◌∙◌, arith}
 use Rattle.foyer_block.specs.declared.indexer.EntryAddress.{EntryAddress}
 use Rattle.foyer_block.specs.declared.indexer.HashedEntryAddress.{HashedEntryAddress}
 use Rattle.foyer_block.specs.Committing.{is_put, committed_one, committed_all, put_count}
 use Rattle.foyer_block.specs.Shards.{map_of}
-use Rattle.foyer_block.proofs.Commits.{GoesIn, first_goes, rest_goes, from_here}
+use Rattle.foyer_block.proofs.Commits.{GoesIn, first_goes, rest_goes, from_here, none_from}
 use Rattle.foyer_block.proofs.shards.commit_all.Goals.{then-commit_one, else-commit_one}
 use Rattle.foyer_block.proofs.shards.commit_all.Goals as goal
 

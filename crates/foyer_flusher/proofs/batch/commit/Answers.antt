@@ -1,4 +1,4 @@
-use Rattle.std.proofs.Common.{◌≡◌, IsOk, map, sym, ap, subst, ◌∙◌}
+use Rattle.std.proofs.Common.{IsOk, sym, subst, ◌∙◌}
 use Rattle.foyer_block.specs.Index.{HasRoomFor}
 use Rattle.foyer_block.specs.Committing.{PiecesHeld}
 use Rattle.foyer_flusher.proofs.CommitLemmas.{held_settled, room_settled}

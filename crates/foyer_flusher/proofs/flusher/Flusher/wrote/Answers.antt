@@ -1,4 +1,4 @@
-use Rattle.std.proofs.Common.{◌≡◌, ◌≤◌, ◌-◌, Bool, true, false, Some, length, map, sym, ap, subst, ◌∙◌, refl, arith}
+use Rattle.std.proofs.Common.{◌≡◌, ◌≤◌, ◌-◌, Bool, true, false, Some, map, sym, ap, subst, ◌∙◌, refl}
 use Rattle.foyer_model.specs.Reply as model_reply
 use Rattle.foyer_model.specs.Step as model_step
 use Rattle.foyer_block.specs.Committing.{committed_all, put_count}
