@@ -7,9 +7,9 @@ use Rattle.foyer_block.specs.declared.indexer.HashedEntryAddress.{HashedEntryAdd
 use Rattle.std.specs.FinMap as map
 use Rattle.foyer_block.specs.declared.indexer.Index.{Index}
 use Rattle.foyer_block.specs.declared.indexer.Index.TheVariants.{Address}
-use Rattle.foyer_block.specs.Index.{IndexMap}
+use Rattle.foyer_block.specs.Index.{IndexMap, belonging}
 use Rattle.foyer_block.specs.Insertion.{entered, inserted, inserted_all, all_left_out, AllHeld}
-use Rattle.foyer_block.specs.Shards.{Shard, map_of, room, belonging, HasRoom, TakesOnePlace}
+use Rattle.foyer_block.specs.Shards.{Shard, map_of, room, HasRoom, TakesOnePlace}
 use Rattle.foyer_block.proofs.Indexed.{get-inserted}
 
 belonging-push : (n i : ℕ) (es : List HashedEntryAddress) (e : HashedEntryAddress) → belonging n i (es ++ e ∷ []) ≡ belonging n i es + cond (e.hash % n == i) 1 0

@@ -9,13 +9,12 @@ use Rattle.std.specs.FinMap.{get-insert}
 use Rattle.std.proofs.lemmas.List.Sums.{sum_by-cons}
 use Rattle.foyer_block.specs.declared.indexer.EntryAddress.{EntryAddress}
 use Rattle.foyer_block.specs.declared.indexer.HashedEntryAddress.{HashedEntryAddress}
-use Rattle.foyer_block.specs.declared.indexer.Index.{Index}
 use Rattle.foyer_block.specs.declared.indexer.Index.TheVariants.{Address}
-use Rattle.foyer_block.specs.Committing.{is_put, committed_one, committed_all, put_count, PiecesHeld}
-use Rattle.foyer_block.specs.Index.{IndexMap}
+use Rattle.foyer_block.specs.Committing.{is_put, committed_one, PiecesHeld}
+use Rattle.foyer_block.specs.Index.{IndexMap, belonging}
 use Rattle.foyer_block.specs.Insertion.{entered}
 use Rattle.foyer_block.specs.Removal.{has_address}
-use Rattle.foyer_block.specs.Shards.{Shard, map_of, room, belonging, HasRoom, TakesOnePlace}
+use Rattle.foyer_block.specs.Shards.{Shard, map_of, room, HasRoom, TakesOnePlace}
 use Rattle.foyer_block.proofs.Indexed.{get-inserted, has_address-is, has_address-itself}
 
 -- a replacement, by what it answers

@@ -291,3 +291,28 @@ room-reserved counts shards p new within enough before s lt = go (s == p) refl
         let ne : s ≢ p = eqb-false s p e in
         let same : room (slice_set shards p new) s ≡ room shards s = ap (λ o. unwrap_or (option_map spare o) 0) (slice_get-set_other shards p s new ne) in
         omega (arith, same, before s (omega (arith, ne)))
+
+-- a shard whose room doesn't fall, whatever its place
+pub room-place : (shards : List Shard) (p : ℕ) (old new : Shard) → p < length shards → old ≡ slice_index_or shards p old
+    → spare old ≤ spare new → (s : ℕ) → room shards s ≤ room (slice_set shards p new) s
+room-place shards p old new within is falls s = go (s == p) refl
+  where
+    go : (b : Bool) → (s == p) ≡ b → room shards s ≤ room (slice_set shards p new) s
+    go true e =
+        let same : p ≡ s = sym (eqb-true s p e) in
+        let was : room shards p ≡ spare old = ap (λ o. unwrap_or (option_map spare o) 0) (slice_get_at shards p old within is) in
+        let now : room (slice_set shards p new) p ≡ spare new = ap (λ o. unwrap_or (option_map spare o) 0) (slice_get-set_same shards p new within) in
+        subst (λ k. room shards k ≤ room (slice_set shards p new) k) same (omega (arith, was, now, falls))
+    go false e =
+        let ne : s ≢ p = eqb-false s p e in
+        let same : room (slice_set shards p new) s ≡ room shards s = ap (λ o. unwrap_or (option_map spare o) 0) (slice_get-set_other shards p s new ne) in
+        omega (arith, same)
+
+-- the room of the shard at a place is that shard's
+pub room-at : (shards : List Shard) (p : ℕ) (old : Shard) → p < length shards → old ≡ slice_index_or shards p old → room shards p ≡ spare old
+room-at shards p old within is = ap (λ o. unwrap_or (option_map spare o) 0) (slice_get_at shards p old within is)
+
+-- the room of each shard is at least what it was, and is so still after a call of one
+pub kept_on : (before shards : List Shard) (p : ℕ) (old new : Shard) → p < length shards → old ≡ slice_index_or shards p old → spare old ≤ spare new
+    → ((s : ℕ) → room before s ≤ room shards s) → (s : ℕ) → room before s ≤ room (slice_set shards p new) s
+kept_on before shards p old new within is falls kept s = omega (arith, kept s, room-place shards p old new within is falls s)

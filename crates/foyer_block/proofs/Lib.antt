@@ -4,3 +4,4 @@ pub mod Found
 pub mod Greatest
 pub mod Indexed
 pub mod Removals
+pub mod Rooms

@@ -1,10 +1,12 @@
--- What the index has for a hash, and the index as a map.
-use Rattle.std.specs.Prelude.{◌≡◌, ℕ, Option, Some, None, ◌⊎◌, option_and_then, refl}
+-- What the index has for a hash, and the index as a map with its room.
+use Rattle.std.specs.Prelude.{◌≡◌, ℕ, ◌<◌, ◌≤◌, ◌%◌, ◌==◌, Option, Some, None, ◌⊎◌, List, length, slice_index, option_and_then, refl}
 use Rattle.std.proofs.Common.{inl, inr}
 use Rattle.std.specs.Ordering.{nat_cmp}
-use Rattle.std.specs.Coded.{Coded, code_by, coded×, coded⊎, coded_ℕ}
+use Rattle.std.specs.Coded.{Coded, code_by, coded×, coded⊎, coded_ℕ, coded_list}
 use Rattle.std.specs.FinMap as map
+use Rattle.std.specs.List.{count_by}
 use Rattle.foyer_block.specs.declared.indexer.EntryAddress.{EntryAddress}
+use Rattle.foyer_block.specs.declared.indexer.HashedEntryAddress.{HashedEntryAddress}
 use Rattle.foyer_block.specs.declared.indexer.Index.{Index}
 use Rattle.foyer_block.specs.declared.indexer.Index.TheVariants.{Address, Tombstone}
 
@@ -56,3 +58,34 @@ index_map_code = map.code coded_ℕ index_code
 -- the address of a hash
 abbrev pub address_at : IndexMap → ℕ → Option EntryAddress
 address_at m hash = option_and_then address_of (map.get m hash)
+
+-- An index: what each hash has, and how many entries each of its shards takes without growing. A hash is in the shard of its
+-- number modulo the count of shards.
+pub record IndexState : Type 0 where
+  pub slots : IndexMap
+  pub rooms : List ℕ
+
+abbrev pub index_state_code : Coded IndexState
+index_state_code =
+    code_by (IndexMap × List ℕ) (coded× index_map_code (coded_list coded_ℕ)) (λ s. (s.slots, s.rooms))
+    (λ p. record { slots = p.0; rooms = p.1 }) (λ _. refl)
+
+-- how many of a batch belong in the i-th of n shards
+abbrev pub belonging : ℕ → ℕ → List HashedEntryAddress → ℕ
+belonging n i es = count_by (λ e. e.hash % n == i) es
+
+-- the shard of the hash takes one more without growing
+abbrev pub HasRoomAt : List ℕ → ℕ → Type 0
+HasRoomAt rooms hash = 0 < slice_index rooms (hash % length rooms)
+
+-- each shard takes what belongs there of a batch without growing
+abbrev pub HasRoomFor : List ℕ → List HashedEntryAddress → Type 0
+HasRoomFor rooms es = (i : ℕ) → i < length rooms → belonging (length rooms) i es ≤ slice_index rooms i
+
+-- no shard has less room than before
+abbrev pub KeepsRooms : List ℕ → List ℕ → Type 0
+KeepsRooms old new = (length new ≡ length old) × ((i : ℕ) → slice_index old i ≤ slice_index new i)
+
+-- what a refused insertion leaves: each hash has what it had, and no shard has less room
+abbrev pub KeepsIndex : IndexState → IndexState → Type 0
+KeepsIndex old new = (new.slots ≡ old.slots) × KeepsRooms old.rooms new.rooms

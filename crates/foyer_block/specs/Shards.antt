@@ -1,16 +1,15 @@
 -- The shards of the index, as the map that they are together.
 use Rattle.std.specs.Prelude.{◌≡◌, ℕ, suc, ◌+◌, ◌<◌, ◌≤◌, ◌%◌, ◌==◌, if◌then◌else◌, length, nat_eq}
 use Rattle.std.specs.Prelude.{Option, unwrap_or, option_and_then}
-use Rattle.std.specs.Prelude.{List, [], ◌∷◌, ◌++◌, filter, slice_get}
+use Rattle.std.specs.Prelude.{List, [], ◌∷◌, ◌++◌, filter, map, slice_get}
 use Rattle.std.specs.Option.{option_map}
 use Rattle.std.specs.declared.hash.FoldHasher.{FoldHasher}
 use Rattle.std.specs.declared.hash.BuildHasherDefault.{BuildHasherDefault}
 use Rattle.std.specs.HashMap.{HashMap, get, spare}
-use Rattle.std.specs.FinMap as map
-use Rattle.std.specs.List.{count_by}
+use Rattle.std.specs.FinMap as finite
 use Rattle.foyer_block.specs.declared.indexer.HashedEntryAddress.{HashedEntryAddress}
 use Rattle.foyer_block.specs.declared.indexer.Index.{Index}
-use Rattle.foyer_block.specs.Index.{IndexMap}
+use Rattle.foyer_block.specs.Index.{IndexMap, IndexState, belonging}
 
 -- one shard
 abbrev pub Shard : Type 0
@@ -37,7 +36,11 @@ entries_from n i (shard ∷ shards) =
 
 -- what the shards have together
 abbrev pub map_of : List Shard → IndexMap
-map_of shards = map.from_entries (entries_from (length shards) 0 shards)
+map_of shards = finite.from_entries (entries_from (length shards) 0 shards)
+
+-- the index that the shards are
+abbrev pub state_of : List Shard → IndexState
+state_of shards = record { slots = map_of shards; rooms = map spare shards }
 
 -- what a hash has in its shard
 abbrev pub found : List Shard → ℕ → Option Index
@@ -52,10 +55,6 @@ room shards i = unwrap_or (option_map spare (slice_get shards i)) 0
 abbrev pub TakesOnePlace : List Shard → List Shard → ℕ → Type 0
 TakesOnePlace old new hash =
     (i : ℕ) → room old i ≤ room new i + (if hash % length old == i then 1 else 0)
-
--- how many of a batch belong in the i-th of n shards
-abbrev pub belonging : ℕ → ℕ → List HashedEntryAddress → ℕ
-belonging n i es = count_by (λ e. e.hash % n == i) es
 
 -- each of n shards takes what belongs there of a batch without growing
 abbrev pub HasRoom : ℕ → List Shard → List HashedEntryAddress → Type 0

@@ -6,7 +6,7 @@ ghost use Rattle.std.specs.FinMap as map;
 ghost use Rattle.foyer_block.specs.Insertion.{displaced, inserted, inserted_all, all_left_out, AllHeld};
 ghost use Rattle.foyer_block.specs.Committing.{committed_all, put_count, PiecesHeld};
 ghost use Rattle.foyer_block.specs.Removal.{without_addresses, without_marks};
-ghost use Rattle.foyer_block.specs.Index.{address_at};
+ghost use Rattle.foyer_block.specs.Index.{address_at, HasRoomAt, HasRoomFor, KeepsIndex};
 ghost use Rattle.foyer_block.specs.Greatest.{IsAbsent, HoldsNewest};
 ghost use Rattle.foyer_block.specs.declared.indexer.HashedEntryAddress.{HashedEntryAddress};
 
@@ -47,8 +47,8 @@ pub enum Index {
     Tombstone(Sequence),
 }
 
-/// A map from hashes to what they have. Of all that is inserted for a hash the greatest sequence
-/// stays, the later among equals.
+/// A map from hashes to what they have, and the room of each of its shards. Of all that is inserted for a hash the greatest
+/// sequence stays, the later among equals.
 #[derive(Drop)]
 pub struct Indexer<A: Allocator> {
     shards: Vec<Shard<A>, A>,
@@ -58,14 +58,14 @@ pub struct Indexer<A: Allocator> {
 
 impl<A: Allocator> Model for Indexer<A> {
     ghost use Rattle.std.specs.Prelude.{◌≡◌, ◌<◌, length};
-    ghost use Rattle.foyer_block.specs.Index.{IndexMap, index_map_code};
-    ghost use Rattle.foyer_block.specs.Shards.{map_of};
+    ghost use Rattle.foyer_block.specs.Index.{IndexState, index_state_code};
+    ghost use Rattle.foyer_block.specs.Shards.{state_of};
 
-    ghost Value = { IndexMap };
+    ghost Value = { IndexState };
 
-    ghost coded = { index_map_code };
+    ghost coded = { index_state_code };
 
-    ghost view = { λ a. map_of a.shards.items };
+    ghost view = { λ a. state_of a.shards.items };
 
     ghost invariant = { λ a. (0 < length a.shards.items)
         × (length a.counts.items ≡ length a.shards.items) };
@@ -75,7 +75,8 @@ impl<A: Allocator + Clone> Indexer<A> {
     /// An index of so many shards that has nothing. Memory is the only refusal.
     pub fn new(alloc: A, shards: usize) -> Result<Indexer<A>>
         requires { 0 < shards }
-        ensures empty { IfOk result (λ indexer. indexer ≡ map.empty) }
+        ensures empty { IfOk result (λ indexer. indexer.slots ≡ map.empty) }
+        ensures shards { IfOk result (λ indexer. length indexer.rooms ≡ shards) }
         ensures refused { IsOkUnless result Error.Memory }
     {
         let counts = shards::zeros(alloc.clone()?, shards)?;
@@ -84,26 +85,27 @@ impl<A: Allocator + Clone> Indexer<A> {
     }
 
     /// Inserts a mark, and answers the address that doesn't stay. Memory is the only refusal, and comes only where the
-    /// hash has nothing yet.
+    /// hash has nothing yet and its shard has no room.
     pub fn insert_tombstone(
         &mut self,
         hash: u64,
         sequence: Sequence,
     ) -> Result<Option<EntryAddress>>
         ensures inserted { OnOk result
-            (self.new ≡ inserted self.old hash (Index.Tombstone sequence)) }
+            (self.new.slots ≡ inserted self.old.slots hash (Index.Tombstone sequence)) }
         ensures answer { IfOk result (λ answer.
-            answer ≡ displaced (map.get self.old hash) (Index.Tombstone sequence)) }
-        ensures err { OnErr result (self.new ≡ self.old) }
+            answer ≡ displaced (map.get self.old.slots hash) (Index.Tombstone sequence)) }
+        ensures err { OnErr result (KeepsIndex self.old self.new) }
         ensures refused { IsOkUnless result Error.Memory }
-        ensures held { IsSome (map.get self.old hash) → IsOk result }
+        ensures held { IsSome (map.get self.old.slots hash) → IsOk result }
+        ensures room { HasRoomAt self.old.rooms hash → IsOk result }
     {
         shards::enter(&mut self.shards, hash, Index::Tombstone(sequence))
     }
 
     /// The address of a hash. A mark has none.
     pub fn get(&self, hash: u64) -> Option<EntryAddress>
-        ensures { result ≡ address_at self.now hash }
+        ensures { result ≡ address_at self.now.slots hash }
     {
         match shards::find(&self.shards, hash) {
             Some(Index::Address(address)) => Some(*address),
@@ -113,17 +115,19 @@ impl<A: Allocator + Clone> Indexer<A> {
     }
 
     /// Inserts addresses in order, and answers those that don't stay, in that order and in the
-    /// batch's memory. Memory is the only refusal, and comes only where a hash of the batch has nothing yet.
+    /// batch's memory. Memory is the only refusal, and comes only where a hash of the batch has nothing yet and a shard
+    /// lacks room.
     pub fn insert_batch(
         &mut self,
         batch: Vec<HashedEntryAddress, A>,
     ) -> Result<Vec<HashedEntryAddress, A>>
-        ensures inserted { OnOk result (self.new ≡ inserted_all self.old batch.items) }
+        ensures inserted { OnOk result (self.new.slots ≡ inserted_all self.old.slots batch.items) }
         ensures answers { IfOk result
-            (λ answers. answers.items ≡ all_left_out self.old batch.items) }
-        ensures err { OnErr result (self.new ≡ self.old) }
+            (λ answers. answers.items ≡ all_left_out self.old.slots batch.items) }
+        ensures err { OnErr result (KeepsIndex self.old self.new) }
         ensures refused { IsOkUnless result Error.Memory }
-        ensures overwrites { AllHeld self.old batch.items → IsOk result }
+        ensures overwrites { AllHeld self.old.slots batch.items → IsOk result }
+        ensures room { HasRoomFor self.old.rooms batch.items → IsOk result }
     {
         let mut batch = batch;
         shards::count(&mut self.counts, &batch);
@@ -139,18 +143,20 @@ impl<A: Allocator + Clone> Indexer<A> {
 
     /// The records of a block enter the index, in order, and it says how many are puts. One without a source is inserted, and
     /// is a put; one with a source replaces that address where its hash has just it, and is a put then. Memory is the only
-    /// refusal, and comes only where a hash of a record without a source has nothing yet.
+    /// refusal, and comes only where a hash of a record without a source has nothing yet and a shard lacks room.
     pub fn commit_batch(
         &mut self,
         batch: &[HashedEntryAddress],
         sources: &[Option<EntryAddress>],
     ) -> Result<usize>
         requires { length sources.now ≡ length batch.now }
-        ensures committed { OnOk result (self.new ≡ committed_all self.old batch.now sources.now) }
-        ensures puts { IfOk result (λ n. n ≡ put_count self.old batch.now sources.now) }
-        ensures err { OnErr result (self.new ≡ self.old) }
+        ensures committed { OnOk result
+            (self.new.slots ≡ committed_all self.old.slots batch.now sources.now) }
+        ensures puts { IfOk result (λ n. n ≡ put_count self.old.slots batch.now sources.now) }
+        ensures err { OnErr result (KeepsIndex self.old self.new) }
         ensures refused { IsOkUnless result Error.Memory }
-        ensures overwrites { PiecesHeld self.old batch.now sources.now → IsOk result }
+        ensures overwrites { PiecesHeld self.old.slots batch.now sources.now → IsOk result }
+        ensures room { HasRoomFor self.old.rooms batch.now → IsOk result }
     {
         shards::count(&mut self.counts, batch);
         if let Err(refused) = shards::reserve(&mut self.shards, &self.counts) {
@@ -165,9 +171,11 @@ impl<A: Allocator + Clone> Indexer<A> {
     /// Says whether it did.
     pub fn replace(&mut self, hash: u64, old: &EntryAddress, new: EntryAddress) -> bool
         requires { old.now.sequence ≡ new.sequence }
-        ensures answer { IsTrue result ↔ (map.get self.old hash ≡ Some (Index.Address old.now)) }
-        ensures replaced { OnTrue result (self.new ≡ map.insert self.old hash (Index.Address new)) }
-        ensures unchanged { OnFalse result (self.new ≡ self.old) }
+        ensures answer { IsTrue result
+            ↔ (map.get self.old.slots hash ≡ Some (Index.Address old.now)) }
+        ensures replaced { OnTrue result
+            (self.new.slots ≡ map.insert self.old.slots hash (Index.Address new)) }
+        ensures unchanged { OnFalse result (self.new.slots ≡ self.old.slots) }
     {
         shards::replace(
             &mut self.shards,
@@ -180,30 +188,30 @@ impl<A: Allocator + Clone> Indexer<A> {
     /// Removes a hash where it has that very address. Says whether it did.
     pub fn remove(&mut self, hash: u64, address: &EntryAddress) -> bool
         ensures answer { IsTrue result
-            ↔ (map.get self.old hash ≡ Some (Index.Address address.now)) }
-        ensures removed { OnTrue result (self.new ≡ map.remove self.old hash) }
-        ensures unchanged { OnFalse result (self.new ≡ self.old) }
+            ↔ (map.get self.old.slots hash ≡ Some (Index.Address address.now)) }
+        ensures removed { OnTrue result (self.new.slots ≡ map.remove self.old.slots hash) }
+        ensures unchanged { OnFalse result (self.new.slots ≡ self.old.slots) }
     {
         shards::remove(&mut self.shards, hash, Index::Address(*address))
     }
 
     /// Removes each hash of the list that has that very address.
     pub fn remove_batch(&mut self, addresses: &[HashedEntryAddress])
-        ensures { self.new ≡ without_addresses self.old addresses.now }
+        ensures { self.new.slots ≡ without_addresses self.old.slots addresses.now }
     {
         shards::remove_addresses(&mut self.shards, addresses);
     }
 
     /// Removes each hash of the list that has a mark of that very sequence.
     pub fn remove_marks(&mut self, marks: &[Tombstone])
-        ensures { self.new ≡ without_marks self.old marks.now }
+        ensures { self.new.slots ≡ without_marks self.old.slots marks.now }
     {
         shards::remove_marks(&mut self.shards, marks);
     }
 
     /// Removes everything.
     pub fn clear(&mut self)
-        ensures { self.new ≡ map.empty }
+        ensures { self.new.slots ≡ map.empty }
     {
         shards::clear(&mut self.shards);
     }

@@ -1,17 +1,17 @@
 //! The shards of the index: a hash lies in the shard of its number modulo the count of shards.
-ghost use Rattle.std.specs.Prelude.{◌≡◌, ◌<◌, ◌≤◌, ◌+◌, ◌%◌, ◌↔◌, ◌⊎◌, None, length, take, slice_index};
+ghost use Rattle.std.specs.Prelude.{◌≡◌, ◌<◌, ◌≤◌, ◌+◌, ◌%◌, ◌↔◌, ◌⊎◌, ℕ, None, length, take, slice_index};
 ghost use Rattle.std.specs.Prelude.{EachIndex, IfOk, OnOk, OnErr, IsOk, IsSome, IsOkUnless, IsTrue, MatchOption, is_some, true};
 ghost use Rattle.std.specs.Bool.{OnTrue, OnFalse};
 ghost use Rattle.std.specs.Option.{option_copied};
 ghost use Rattle.std.specs.FinMap as map;
 ghost use Rattle.std.specs.HashMap.{spare};
-ghost use Rattle.foyer_block.specs.Index.{sequence_of, address_of};
+ghost use Rattle.foyer_block.specs.Index.{sequence_of, address_of, belonging};
 ghost use Rattle.foyer_block.specs.Insertion.{entered, displaced, inserted};
 ghost use Rattle.foyer_block.specs.Insertion.{inserted_all, all_left_out, AllHeld};
 ghost use Rattle.foyer_block.specs.Committing.{is_put, committed_one, committed_all, put_count, PiecesHeld};
 ghost use Rattle.foyer_block.specs.Removal.{without_addresses, without_marks};
 ghost use Rattle.foyer_block.specs.Shards.{held_at, map_of, ChangesAt, HoldsSame};
-ghost use Rattle.foyer_block.specs.Shards.{belonging, room, HasRoom, TakesOnePlace};
+ghost use Rattle.foyer_block.specs.Shards.{room, HasRoom, TakesOnePlace};
 
 use crate::indexer::{EntryAddress, HashedEntryAddress, Index, Sequence};
 use crate::tombstone::Tombstone;
@@ -232,7 +232,7 @@ pub(crate) fn count(counts: &mut [usize], batch: &[HashedEntryAddress])
     }
 }
 
-// Makes room in each shard for as many entries as its count says.
+// Makes room in each shard for as many entries as its count says. It succeeds where each has it already.
 pub(crate) fn reserve<A: Allocator + Clone>(
     shards: &mut Vec<Shard<A>, A>,
     counts: &[usize],
@@ -240,6 +240,8 @@ pub(crate) fn reserve<A: Allocator + Clone>(
     requires { length counts.now ≡ length shards.old.items }
     ensures room { OnOk result (EachIndex counts.now (λ i.
         slice_index counts.now i ≤ room shards.new.items i)) }
+    ensures fits { EachIndex counts.now (λ i. slice_index counts.now i ≤ room shards.old.items i) → IsOk result }
+    ensures kept { (i : ℕ) → room shards.old.items i ≤ room shards.new.items i }
     ensures unchanged { map_of shards.new.items ≡ map_of shards.old.items }
     ensures len { length shards.new.items ≡ length shards.old.items }
     ensures refused { IsOkUnless result Error.Memory }

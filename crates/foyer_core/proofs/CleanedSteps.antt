@@ -152,7 +152,7 @@ module _ {K V P A X : Type 0} (m : Meaning K V P) (s : Settings) (sound : AreVal
   does = subst (λ d. CleansOne (machine m s sound) it b (fault_of outcome) d (issued_after_clean rest its_fault) after_cleaned) (sym mine.model) (refl, refl)
 
   pub cleaned_stands : (new : Core K V P A) → new.settings ≡ core.settings → new.next ≡ core.next → new.steps ≡ core.steps
-      → new.closed ≡ core.closed → new.queued ≡ core.queued → new.index ≡ core.index → new.flushers.items ≡ core.flushers.items
+      → new.closed ≡ core.closed → new.queued ≡ core.queued → new.index.slots ≡ core.index.slots → new.flushers.items ≡ core.flushers.items
       → HasSameRules core.manager new.manager → Stands new.manager (sets_of after_cleaned) → ((q : ℕ) → reclaim_at new.reclaims q ≡ reclaim_at core.reclaims q)
       → IsDestroyAs s.blocks new.destroy after_cleaned.destroy → IsStateOf m s new after_cleaned
   cleaned_stands new settings next steps closed queued index flushers rules sets reclaims cleaning = record {

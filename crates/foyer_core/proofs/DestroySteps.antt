@@ -196,7 +196,7 @@ module _ {K V P A : Type 0} (m : Meaning K V P) (s : Settings) (sound : AreValid
 
   -- the core after that
   pub clears : (new : Core K V P A) (left : List ℕ) → MayClear it → new.settings ≡ core.settings → new.next ≡ core.next → new.steps ≡ core.steps
-      → new.closed ≡ core.closed → new.queued ≡ core.queued → new.index ≡ finite.empty
+      → new.closed ≡ core.closed → new.queued ≡ core.queued → new.index.slots ≡ finite.empty
       → map seen new.flushers.items ≡ map cleared (map seen core.flushers.items) → HasSameRules core.manager new.manager
       → Stands new.manager (sets.cleared (length core.manager.blocks) (sets_of it))
       → ((b : ℕ) → reclaim_at new.reclaims b ≡ reclaim_at core.reclaims b)

@@ -62,7 +62,7 @@ module _ {K V P A : Type 0} (m : Meaning K V P) (s : Settings) where
   -- a flusher of a core that stands for a state of the model
   pub stands_at : (core : Core K V P A) (it : model_state.State Content) (f : ℕ) (φ : Flusher K V P A) → IsStateOf m s core it
       → f < length core.flushers.items → φ ≡ slice_index_or core.flushers.items f φ
-      → StandsAt m s f it (seen φ) core.index core.manager
+      → StandsAt m s f it (seen φ) core.index.slots core.manager
   stands_at core it f φ stands lt is = record {
     flusher = flusher_at m s core.flushers.items it.flushers f φ stands.flushers lt is;
     index = stands.index;
@@ -76,7 +76,7 @@ module _ {K V P A : Type 0} (m : Meaning K V P) (s : Settings) where
   -- what it did and left, in the whole core
   pub core_stands : (sound : AreValid s) (old new : Core K V P A) (it : model_state.State Content) (f : ℕ) (ψ : Flusher K V P A) (given : model_step.Step Content) (answer : model_reply.Reply Content)
       → IsStateOf m s old it → f < length old.flushers.items
-      → (done : FlusherStep m s sound given f it answer (seen ψ) new.index new.manager)
+      → (done : FlusherStep m s sound given f it answer (seen ψ) new.index.slots new.manager)
       → new.flushers.items ≡ slice_set old.flushers.items f ψ
       → new.settings ≡ old.settings → new.next ≡ old.next → new.steps ≡ old.steps → new.closed ≡ old.closed → new.queued ≡ old.queued → KeepsReclaim old.reclaims new.reclaims → new.destroy ≡ old.destroy
       → IsStateOf m s new done.after

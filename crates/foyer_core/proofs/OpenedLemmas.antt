@@ -1,5 +1,5 @@
 -- An opened core stands for the state with what was found.
-use Rattle.std.proofs.Common.{◌≡◌, ℕ, zero, suc, ◌<◌, ◌≤◌, nat_lt, Bool, true, false, if◌then◌else◌, replicate, List, [], length, Option, Some, None, slice_get, refl, sym, ap, subst, ◌∙◌, arith}
+use Rattle.std.proofs.Common.{◌≡◌, ℕ, zero, suc, ◌<◌, ◌≤◌, nat_lt, Bool, true, false, if◌then◌else◌, replicate, List, length, Option, Some, None, slice_get, refl, sym, ap, subst, ◌∙◌, arith}
 use Rattle.std.specs.FinMap as finite
 use Rattle.foyer_block.specs.declared.indexer.Index.{Index}
 use Rattle.foyer_block.specs.declared.indexer.Index.TheVariants.{Address, Tombstone}
@@ -83,7 +83,7 @@ module _ {K V P A : Type 0} (m : Meaning K V P) (s : Settings) (sound : AreValid
   opened_stands marks o core opening opened = record {
     sizes = opened.sizes;
     index = record {
-      slot = λ hash. sym (opened.index hash) ∙ slot_held (finite.get core.index hash);
+      slot = λ hash. sym (opened.index hash) ∙ slot_held (finite.get core.index.slots hash);
       there = λ hash a is.
           (stands_at m.is_key m.is_value s sound marks o opening hash (address_of a)
           (sym (opened.index hash) ∙ ap held_slot is)).block;

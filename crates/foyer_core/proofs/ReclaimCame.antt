@@ -1,5 +1,5 @@
 -- The step that brings an index for a reclaim.
-use Rattle.std.proofs.Common.{◌≡◌, ℕ, Bool, false, if◌then◌else◌, List, [], ◌∷◌, Option, Some, None, option_map, map, length, refl, sym, ap, subst, ◌∙◌}
+use Rattle.std.proofs.Common.{◌≡◌, ℕ, Bool, false, if◌then◌else◌, List, [], ◌∷◌, Option, Some, None, option_map, length, refl, sym, ap, subst, ◌∙◌}
 use Rattle.std.proofs.lemmas.Bool.{eq-eqb}
 use Rattle.std.specs.Prelude.{IfSome}
 use Rattle.std.specs.declared.vec.Vec.{Vec}
@@ -15,7 +15,6 @@ use Rattle.foyer_rules.specs.Content.{Content, Meaning}
 use Rattle.foyer_rules.specs.CoreRules.{machine, layout}
 use Rattle.foyer_rules.specs.Sizes.{AreValid, sizes_in}
 use Rattle.foyer_rules.specs.declared.settings.Settings.{Settings}
-use Rattle.foyer_standing.specs.Addresses.{address_of, listed_of}
 use Rattle.foyer_standing.specs.Standing.{IsIndexedAs}
 use Rattle.foyer_statistics.specs.declared.state.IoState.{IoState}
 use Rattle.foyer_core.specs.Reclaiming.{Reclaiming, ChangesReclaim, IsReclaimAs, IsStageAs, IsAtRead, IsReread, reclaim_at, awaited, read_of, after_index, index_infos, verdict_list, verdicts_of}
@@ -91,7 +90,7 @@ module _ {K V P A : Type 0} (m : Meaning K V P) (s : Settings) (sound : AreValid
     pub follows : InTurn (machine m s sound) it (ReclaimRead b (Bytes bytes)) → FollowsUncounted (machine m s sound) (layout s) it (ReclaimRead b (Bytes bytes)) answer after
     pub reply : IsReply m (scan_reply {K = K} {V = V} {P = P} {A = A} b s.blob_index_size (awaited (reclaim_at new.reclaims b)) v) answer
 
-  pub reads_listed : {Q : Type 0} (new : Core K V P A) (may : Q → IoState → ℕ → ℕ → StorageFilterResult → Type 0) (filter : Option (List Q)) (io : IoState) → SameBeside m s core it stands b new → new.manager ≡ core.manager → new.index ≡ core.index
+  pub reads_listed : {Q : Type 0} (new : Core K V P A) (may : Q → IoState → ℕ → ℕ → StorageFilterResult → Type 0) (filter : Option (List Q)) (io : IoState) → SameBeside m s core it stands b new → new.manager ≡ core.manager → new.index.slots ≡ core.index.slots
       → ChangesReclaim core.reclaims new.reclaims b (option_map (after_index bytes (verdict_list v)) (reclaim_at core.reclaims b))
       → IfSome (reclaim_at core.reclaims b) (λ x. IsReread may filter io (index_infos bytes x) (verdict_list v)) → HasRead new
   reads_listed new may filter io same manager index changed verdicts =

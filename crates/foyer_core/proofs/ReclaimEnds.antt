@@ -143,7 +143,7 @@ module _ {K V P A : Type 0} (m : Meaning K V P) (s : Settings) (sound : AreValid
     pub does : Cleaned (machine m s sound) it b model_reply.Done after
     pub stand : IsStateOf m s new after
 
-  pub finished : (new : Core K V P A) (o : Option ℕ) → SameBeside m s core it stands b new → new.index ≡ core.index → HasSameRules core.manager new.manager
+  pub finished : (new : Core K V P A) (o : Option ℕ) → SameBeside m s core it stands b new → new.index.slots ≡ core.index.slots → HasSameRules core.manager new.manager
       → HasFinished (sets_of it) b o new.manager → ChangesReclaim core.reclaims new.reclaims b None → b < s.blocks → it.place b ≡ model_state.Reclaims → HasEnded new
   finished new None same index rules done changes there was = record {
     after = record (reclaimed (machine m s sound) it b) { place = put it.place b model_state.Clean; clean = it.clean ++ b ∷ [] };
@@ -212,7 +212,7 @@ module _ {K V P A : Type 0} (m : Meaning K V P) (s : Settings) (sound : AreValid
       fits : true ≡ nat_le (0 + s.blob_index_size) s.block_size
       fits = let lt : s.blob_index_size < s.block_size = sound.room in grind (arith, nat_tests)
 
-  pub picked : (new : Core K V P A) (probation : List ℕ) (n : ℕ) → SameBeside m s core it stands b new → new.index ≡ core.index → HasSameRules core.manager new.manager
+  pub picked : (new : Core K V P A) (probation : List ℕ) (n : ℕ) → SameBeside m s core it stands b new → new.index.slots ≡ core.index.slots → HasSameRules core.manager new.manager
       → Stands new.manager (record (sets_of it) { block_set = put it.place b model_state.Reclaims; stats = model_reclaim.marked probation it.place it.stats })
       → n ≡ filling_in new.manager.blocks b
       → ChangesReclaim core.reclaims new.reclaims b (Some (first_reclaim b n (record { block = core.settings.block_size; index = core.settings.blob_index_size })))

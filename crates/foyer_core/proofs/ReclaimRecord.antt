@@ -1,16 +1,12 @@
 -- The step that brings a record for a reclaim: it is queued for reinsertion.
-use Rattle.std.proofs.Common.{◌≡◌, ℕ, suc, ◌+◌, ◌*◌, ◌^◌, ◌<◌, ◌≤◌, ◌%◌, Bool, true, false, if◌then◌else◌, List, [], ◌∷◌, ◌++◌, Option, Some, None, option_map, map, take, length, refl, sym, ap, subst, ◌∙◌, arith}
+use Rattle.std.proofs.Common.{◌≡◌, ℕ, suc, ◌+◌, ◌*◌, ◌^◌, ◌<◌, ◌≤◌, ◌%◌, Bool, false, if◌then◌else◌, List, [], ◌∷◌, ◌++◌, Option, Some, None, option_map, map, take, length, refl, sym, ap, subst, ◌∙◌, arith}
 use Rattle.std.proofs.lemmas.Bool.{eq-eqb}
-use Rattle.std.specs.Prelude.{IfSome}
-use Rattle.std.specs.declared.vec.Vec.{Vec}
 use Rattle.foyer_block.specs.declared.indexer.HashedEntryAddress.{HashedEntryAddress}
 use Rattle.foyer_format.specs.Page.{page_up}
 use Rattle.foyer_model.specs.InTurn.{InTurn}
 use Rattle.foyer_model.specs.Numbers.{put}
 use Rattle.foyer_model.specs.Reclaim.{issued_at, stage_after, Scanned, Rereads}
-use Rattle.foyer_model.specs.Record as model_record
 use Rattle.foyer_model.specs.Refusal.{NeedsMemory}
-use Rattle.foyer_model.specs.Reply as model_reply
 use Rattle.foyer_model.specs.State as model_state
 use Rattle.foyer_model.specs.Step.{Bytes, ReclaimRead}
 use Rattle.foyer_rules.specs.Content.{Content, Meaning}
@@ -23,7 +19,7 @@ use Rattle.foyer_standing.specs.Addresses.{address_of, listed_of}
 use Rattle.foyer_standing.specs.Standing.{IsIndexedAs, IsManagedAs, sets_of}
 use Rattle.foyer_flusher.specs.Seen.{seen}
 use Rattle.foyer_core.specs.Destroying.{IsDestroyAs}
-use Rattle.foyer_core.specs.Reclaiming.{Reclaiming, ChangesReclaim, IsReclaimAs, IsStageAs, IsAtRead, reclaim_at, awaited, after_record, requeue_first, requeue_count, verdicts_of}
+use Rattle.foyer_core.specs.Reclaiming.{Reclaiming, ChangesReclaim, IsReclaimAs, IsStageAs, IsAtRead, reclaim_at, awaited, after_record, requeue_first}
 use Rattle.foyer_core.specs.Replied.{IsReply}
 use Rattle.foyer_core.specs.Scanning.{scan_reply}
 use Rattle.foyer_core.specs.StateOf.{IsStateOf, AreFlushersAs, IsSizedAs}
@@ -93,7 +89,7 @@ module _ {K V P A : Type 0} (m : Meaning K V P) (s : Settings) (sound : AreValid
     (b : ℕ) (e : HashedEntryAddress) (bytes : List ℕ) (reads : ReadsRecord m s sound b (it.place b) (it.filling b) (reclaim_at core.reclaims b) (it.reclaims b) e) where
   -- a core that has the same beside its flushers and its reclaims
   pub record SameButQueue (new : Core K V P A) : Type 0 where
-    pub index : new.index ≡ core.index
+    pub index : new.index.slots ≡ core.index.slots
     pub settings : new.settings ≡ core.settings
     pub next : new.next ≡ core.next
     pub steps : new.steps ≡ core.steps

@@ -133,7 +133,7 @@ module _ {K V P A : Type 0} (m : Meaning K V P) (s : Settings) (core : Core K V 
   pub beside : (new : Core K V P A) (slots : ℕ → Option model_record.Slot) (flushers : ℕ → model_state.Flusher Content) (place : ℕ → model_state.BlockSet)
       (clean waiting : List ℕ) (filling : ℕ → ℕ) (stats : ℕ → model_state.Stats) (reclaims : ℕ → Option model_state.Reclaim) → SameBeside new
       → AreFlushersAs m s (map seen core.flushers.items) flushers → size_of_all s.flushers flushers ≡ size_of_all s.flushers it.flushers
-      → IsIndexedAs s new.index slots
+      → IsIndexedAs s new.index.slots slots
       → IsManagedAs s new.manager (sets_of (record it { index = slots; flushers = flushers; place = place; clean = clean; waiting = waiting; filling = filling; stats = stats; reclaims = reclaims }))
       → ((f : ℕ) → HasItsBlocks s place waiting f (flushers f))
       → ((q : ℕ) → AreReclaimAs s q (place q) (filling q) (reclaim_at new.reclaims q) (reclaims q))
@@ -158,7 +158,7 @@ module _ {K V P A : Type 0} (m : Meaning K V P) (s : Settings) (core : Core K V 
   -- the index and a block's reclaim change, and nothing else
   pub reclaim_stands : (new : Core K V P A) (slots : ℕ → Option model_record.Slot) (ours : Option Reclaiming) (its : Option model_state.Reclaim)
       → SameBeside new → new.manager ≡ core.manager
-      → IsIndexedAs s new.index slots → ChangesReclaim core.reclaims new.reclaims b ours → AreReclaimAs s b (it.place b) (it.filling b) ours its
+      → IsIndexedAs s new.index.slots slots → ChangesReclaim core.reclaims new.reclaims b ours → AreReclaimAs s b (it.place b) (it.filling b) ours its
       → IsStateOf m s new (record it { index = slots; reclaims = put it.reclaims b its })
   reclaim_stands new slots ours its same manager indexed changes are =
       beside new slots it.flushers it.place it.clean it.waiting it.filling it.stats (put it.reclaims b its) same stands.flushers refl indexed

@@ -66,7 +66,7 @@ module _ {K V P A : Type 0} (m : Meaning K V P) (s : Settings) where
       → IsUnchanged old new → IsStateOf m s old it → IsStateOf m s new it
   unchanged_stands old new it same stands = record {
     sizes = same.settings ∙ stands.sizes;
-    index = subst (λ k. IsIndexedAs s k it.index) (sym same.index) stands.index;
+    index = subst (λ k. IsIndexedAs s k it.index) (sym (same.index).0) stands.index;
     next = stands.next ∙ sym same.next;
     steps = stands.steps ∙ sym same.steps;
     closed = stands.closed ∙ sym same.closed;

@@ -1,5 +1,6 @@
 -- Steps that are handed back.
 use Rattle.std.proofs.Common.{◌≡◌, ◌^◌, ◌<◌, ◌-◌, Some, refl, sym, subst, arith}
+use Rattle.foyer_block.proofs.Rooms.{kept_itself}
 use Rattle.foyer_device.specs.declared.error.ErrorKind.{ErrorKind}
 use Rattle.foyer_model.specs.Numbers.{last_number}
 use Rattle.foyer_model.specs.Refusal.{MayRefuse}
@@ -29,7 +30,7 @@ is_early m s core it stands few = let steps : it.steps ≡ core.steps = stands.s
 
 pub same : {K V P A : Type 0} (core : Core K V P A) → IsUnchanged core core
 same core = record {
-  index = refl;
+  index = kept_itself core.index;
   next = refl;
   steps = refl;
   closed = refl;

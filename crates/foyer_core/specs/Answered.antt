@@ -43,12 +43,12 @@ Queues given sequence old new = ⊥
 abbrev pub Deletes : {K V P A : Type 0} → Step K V P A → ℕ → Core K V P A → Core K V P A → Type 0
 Deletes (step.Delete hash) sequence old new =
     (old.closed ≡ false) × (sequence ≡ old.next) × (new.next ≡ sequence + 1)
-    × (new.index ≡ inserted old.index hash (index.Tombstone sequence))
+    × (new.index.slots ≡ inserted old.index.slots hash (index.Tombstone sequence))
 Deletes given sequence old new = ⊥
 
 -- whether the hash that was asked for is indexed, or whether no block is reclaimed
 abbrev pub Asks : {K V P A : Type 0} → Step K V P A → Bool → Core K V P A → Type 0
-Asks (step.MayContains hash) answer old = answer ≡ is_some (address_at old.index hash)
+Asks (step.MayContains hash) answer old = answer ≡ is_some (address_at old.index.slots hash)
 Asks step.ReclaimIdle answer old =
     (sets : BlockSets) → Stands old.manager sets → answer ≡ (reclaim_count (length old.manager.blocks) sets.block_set == 0)
 Asks given answer old = ⊥
@@ -56,7 +56,7 @@ Asks given answer old = ⊥
 -- the ticket has the hash that was looked up, and its address, and the caller doesn't throttle
 abbrev pub Looks : {K V P A : Type 0} → Step K V P A → Ticket → Core K V P A → Type 0
 Looks (step.LoadBegin hash throttled) ticket old =
-    (ticket.hash ≡ hash) × (address_at old.index hash ≡ Some ticket.address) × (throttled ≡ false)
+    (ticket.hash ≡ hash) × (address_at old.index.slots hash ≡ Some ticket.address) × (throttled ≡ false)
 Looks given ticket old = ⊥
 
 -- the piece that an enqueue handed in comes back

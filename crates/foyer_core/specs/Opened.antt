@@ -32,7 +32,7 @@ opened_sets blocks clean = record {
 -- the index, the next sequence and the clean blocks are those of an opening, and nothing is queued
 pub record IsOpened {K V P A : Type 0} (settings : Settings) (o : Opened) (core : Core K V P A) : Type 0 where
   pub sizes : core.settings ≡ settings
-  pub index : (hash : ℕ) → held_slot (index.get core.index hash) ≡ o.index hash
+  pub index : (hash : ℕ) → held_slot (index.get core.index.slots hash) ≡ o.index hash
   pub next : core.next ≡ o.next
   pub steps : core.steps ≡ 0
   pub closed : core.closed ≡ false

@@ -42,7 +42,7 @@ pub record IsReopened {K V P A : Type 0} (is_key is_value : List ℕ → Bool) (
 
 -- what the core's index has for a hash
 abbrev pub slot_at : {K V P A : Type 0} → Core K V P A → ℕ → Option Slot
-slot_at core hash = held_slot (finite.get core.index hash)
+slot_at core hash = held_slot (finite.get core.index.slots hash)
 
 -- the very address, in the filling with which a core begins
 abbrev pub HasAgain : {K V P A : Type 0} → Core K V P A → ℕ → Address → Type 0

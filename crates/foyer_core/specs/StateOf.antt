@@ -31,7 +31,7 @@ pub record IsSizedAs (s : Settings) (queued next : ℕ) (its : ℕ → model_sta
 -- a state of the model that the core stands for, where its sizes are these
 pub record IsStateOf {K V P A : Type 0} (m : Meaning K V P) (s : Settings) (core : Core K V P A) (it : model_state.State Content) : Type 0 where
   pub sizes : core.settings ≡ s
-  pub index : IsIndexedAs s core.index it.index
+  pub index : IsIndexedAs s core.index.slots it.index
   pub next : it.next ≡ core.next
   pub steps : it.steps ≡ core.steps
   pub closed : it.closed ≡ core.closed

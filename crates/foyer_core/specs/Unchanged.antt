@@ -1,12 +1,13 @@
 -- What a step that is handed back leaves: all as it was, but for room that was made.
 use Rattle.std.specs.Prelude.{◌≡◌, map}
+use Rattle.foyer_block.specs.Index.{KeepsIndex}
 use Rattle.foyer_flusher.specs.Seen.{seen}
 use Rattle.foyer_core.specs.Reclaiming.{KeepsReclaim}
 use Rattle.foyer_core.specs.declared.state.Core.{Core}
 
 -- the core is as it was
 pub record IsUnchanged {K V P A : Type 0} (old new : Core K V P A) : Type 0 where
-  pub index : new.index ≡ old.index
+  pub index : KeepsIndex old.index new.index
   pub next : new.next ≡ old.next
   pub steps : new.steps ≡ old.steps
   pub closed : new.closed ≡ old.closed

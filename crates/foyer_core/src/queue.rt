@@ -141,7 +141,7 @@ impl<K, V, P, A: Allocator + Clone> Core<K, V, P, A> {
     }
 
     pub(crate) fn may_contains(&self, hash: u64) -> Reply<K, V, P, A>
-        ensures issued { result ≡ reply.Answer (is_some (address_at self.now.index hash)) }
+        ensures issued { result ≡ reply.Answer (is_some (address_at self.now.index.slots hash)) }
         ensures meets { (m : Meaning K V P) → RefinesUncounted m (step.MayContains hash) result self.now self.now }
     {
         Reply::Answer(self.index.get(hash).is_some())

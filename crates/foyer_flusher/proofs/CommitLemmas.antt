@@ -1,12 +1,13 @@
 -- The index after a commit, as the model has it.
-use Rattle.std.proofs.Common.{◌≡◌, ℕ, suc, ◌+◌, ◌<◌, ◌==◌, Bool, true, false, ◌&&◌, if◌then◌else◌, cond, List, [], ◌∷◌, map, length, Option, Some, None, refl, sym, ap, subst, ◌∙◌, arith}
+use Rattle.std.proofs.Common.{◌≡◌, ℕ, ◌+◌, ◌<◌, ◌≤◌, ◌%◌, ◌==◌, Bool, true, false, if◌then◌else◌, cond, List, [], ◌∷◌, map, length, slice_index, Option, Some, None, refl, sym, ap, subst, ◌∙◌, arith}
 use Rattle.std.proofs.lemmas.Bool.{eqb-true}
+use Rattle.std.proofs.lemmas.List.Sums.{sum_by-cons}
 use Rattle.std.specs.Cmp.{nat_cmp_total, unsigned_tied}
 use Rattle.std.specs.FinMap as finite
 use Rattle.foyer_block.specs.Committing.{committed_one, committed_all, put_count, PiecesHeld, is_put}
-use Rattle.foyer_block.specs.Index.{IndexMap}
+use Rattle.foyer_block.specs.Index.{IndexMap, belonging, HasRoomFor}
 use Rattle.foyer_block.specs.Insertion.{inserted}
-use Rattle.foyer_block.specs.Removal.{has_address, same_address}
+use Rattle.foyer_block.specs.Removal.{has_address}
 use Rattle.foyer_block.specs.declared.indexer.EntryAddress.{EntryAddress}
 use Rattle.foyer_block.specs.declared.indexer.HashedEntryAddress.{HashedEntryAddress}
 use Rattle.foyer_block.specs.declared.indexer.Index.{Index}
@@ -163,3 +164,12 @@ held_settled slots block filling [] os held = tt
 held_settled slots block filling (e ∷ es) [] held = (held.0, held_settled slots block filling es [] held.1)
 held_settled slots block filling (e ∷ es) (None ∷ os) held = (held.0, held_settled slots block filling es os held.1)
 held_settled slots block filling (e ∷ es) (Some over ∷ os) held = held_settled slots block filling es os held
+
+belonging_settled : (n i block filling : ℕ) (es : List HashedEntryAddress) → belonging n i (map (settled block filling) es) ≡ belonging n i es
+belonging_settled n i block filling [] = refl
+belonging_settled n i block filling (e ∷ es) = sum_by-cons (λ e. if e.hash % n == i then 1 else 0) (settled block filling e) (map (settled block filling) es)
+    ∙ ap (λ k. (if e.hash % n == i then 1 else 0) + k) (belonging_settled n i block filling es) ∙ sym (sum_by-cons (λ e. if e.hash % n == i then 1 else 0) e es)
+
+-- and there is room for them where there was room for the records
+pub room_settled : (rooms : List ℕ) (block filling : ℕ) (es : List HashedEntryAddress) → HasRoomFor rooms es → HasRoomFor rooms (map (settled block filling) es)
+room_settled rooms block filling es room = λ i lt. subst (λ k. k ≤ slice_index rooms i) (sym (belonging_settled (length rooms) i block filling es)) (room i lt)

@@ -1,7 +1,7 @@
 //! A flusher's batch: block by block onto the disk, and into the index.
 ghost use Rattle.std.specs.Prelude.{◌≡◌, ◌≢◌, ◌↔◌, ◌<◌, ℕ, [], map, length, Option, None, Some, IsSome, IsSomeAnd, IsTrue, true, false};
 ghost use Rattle.std.specs.Prelude.{IfErr, IfOk, OnErr, MatchOption, vec_len};
-ghost use Rattle.foyer_block.specs.Index.{IndexMap};
+ghost use Rattle.foyer_block.specs.Index.{IndexMap, HasRoomFor};
 ghost use Rattle.foyer_block.specs.Committing.{committed_all, put_count, PiecesHeld};
 ghost use Rattle.foyer_device.specs.declared.error.Error.{Error as error};
 ghost use Rattle.foyer_model.specs.Flush.{released};
@@ -77,10 +77,11 @@ fn commit<A: Allocator + Clone>(
     index: &mut Indexer<A>,
 ) -> Option<usize>
     requires { length sources.now ≡ length records.items }
-    ensures committed { MatchOption result (index.new ≡ index.old)
-        (λ n. (n ≡ put_count index.old (map (settled block filling) records.items) sources.now)
-        × (index.new ≡ committed_all index.old (map (settled block filling) records.items) sources.now)) }
-    ensures overwrites { PiecesHeld index.old records.items sources.now → IsSome result }
+    ensures committed { MatchOption result (index.new.slots ≡ index.old.slots)
+        (λ n. (n ≡ put_count index.old.slots (map (settled block filling) records.items) sources.now)
+        × (index.new.slots ≡ committed_all index.old.slots (map (settled block filling) records.items) sources.now)) }
+    ensures overwrites { PiecesHeld index.old.slots records.items sources.now → IsSome result }
+    ensures room { HasRoomFor index.old.rooms records.items → IsSome result }
 {
     settle(&mut records, block, filling);
     index.commit_batch(&records, sources).ok()
@@ -219,9 +220,9 @@ impl<K, V, P, A: Allocator + Clone> Flusher<K, V, P, A> {
         requires { IsWriting self.old }
         ensures same { HasSameRules manager.old manager.new }
         ensures done { (m : Meaning K V P) (s : Settings) (sound : AreValid s) (f : ℕ) (it : State Content)
-            → StandsAt m s f it (seen self.old) index.old manager.old
+            → StandsAt m s f it (seen self.old) index.old.slots manager.old
             → FlusherStep m s sound (model_step.FlushWrote f is_done) f it (issued_wrote result)
-            (seen self.new) index.new manager.new }
+            (seen self.new) index.new.slots manager.new }
         ensures failed { is_done ≡ true → result ≡ wrote.Failed → MustGrowFor index.old self.old }
     {
         let Some(batch) = &mut self.batch else {
@@ -302,9 +303,9 @@ impl<K, V, P, A: Allocator + Clone> Flusher<K, V, P, A> {
         ensures ended { self.new.batch ≡ None }
         ensures same { HasSameRules manager.old manager.new }
         ensures done { (m : Meaning K V P) (s : Settings) (sound : AreValid s) (f : ℕ) (it : State Content)
-            → StandsAt m s f it (seen self.old) index.old manager.old
+            → StandsAt m s f it (seen self.old) index.old.slots manager.old
             → HasEnded m s sound f it result.pieces.items result.waits.items
-            (seen self.new) index.new manager.new }
+            (seen self.new) index.new.slots manager.new }
     {
         let Some(batch) = self.batch.take() else {
             unreachable!()

@@ -45,7 +45,7 @@ pub enum Taken<K, V, P, A: Allocator> {
 
 // Whether the index has a hash at the very address that a record of it was read from.
 fn holds<A: Allocator + Clone>(index: &Indexer<A>, reinsertion: &Reinsertion<A>) -> bool
-    ensures { IsTrue result ↔ (address_at index.now reinsertion.now.hash ≡ Some reinsertion.now.address) }
+    ensures { IsTrue result ↔ (address_at index.now.slots reinsertion.now.hash ≡ Some reinsertion.now.address) }
 {
     match index.get(reinsertion.hash) {
         Some(address) => address == reinsertion.address,
@@ -103,10 +103,10 @@ fn put_reinsertion<A: Allocator + Clone>(
     index: &Indexer<A>,
     reinsertion: &Reinsertion<A>,
 ) -> Result<()>
-    ensures put { OnOk result (PutsAgain index.now reinsertion.now filled.old sources.old.items filled.new sources.new.items) }
+    ensures put { OnOk result (PutsAgain index.now.slots reinsertion.now filled.old sources.old.items filled.new sources.new.items) }
     ensures filled_kept { OnErr result (filled.new ≡ filled.old) }
     ensures sources_kept { OnErr result (sources.new.items ≡ sources.old.items) }
-    ensures due { OnErr result (IsPutAgain index.now reinsertion.now filled.old) }
+    ensures due { OnErr result (IsPutAgain index.now.slots reinsertion.now filled.old) }
     ensures memory { IfErr result (λ e. e ≡ error.Memory) }
 {
     if !holds(index, reinsertion) {
@@ -173,7 +173,7 @@ impl<K, V, P, A: Allocator + Clone> Flusher<K, V, P, A> {
         ensures memory { IfErr result (λ e. e ≡ error.Memory) }
         ensures takes { (age_of : P → Option age) (s : Settings) (sound : AreValid s) (st : State Content) (f : ℕ)
             → IsFlusherAs (meaning K.encoding V.encoding K.is_encodable V.is_encodable K.is_decodable V.is_decodable age_of) s (seen self.old) (st.flushers f)
-            → IsIndexedAs s index.now st.index
+            → IsIndexedAs s index.now.slots st.index
             → TakesFront (meaning K.encoding V.encoding K.is_encodable V.is_encodable K.is_decodable V.is_decodable age_of) s sound st f result self.new }
     {
         match self.queue.pop_front() {

@@ -30,7 +30,7 @@ pub fn verdict_of<A: Allocator + Clone>(
     info: &EntryInfo,
     is_kept: bool,
 ) -> Verdict
-    ensures wins { (result ≡ Verdict.Wins) ↔ (address_at found.now info.now.hash ≡ Some info.now.addr) }
+    ensures wins { (result ≡ Verdict.Wins) ↔ (address_at found.now.slots info.now.hash ≡ Some info.now.addr) }
     ensures loses { result ≡ Verdict.Loses → is_kept ≡ true }
     ensures dropped { result ≡ Verdict.Dropped → is_kept ≡ false }
 {
@@ -54,7 +54,7 @@ pub fn winners<A: Allocator + Clone, D: Disk>(
     settings: &Settings,
 ) -> Result<Indexer<A>>
     ensures found { D.is_known disk.old → IfOk result (λ found. HoldsWinners (sizes_in settings.now) settings.now.blocks
-        (D.byte_at disk.old) (D.surely_has disk.old) found) }
+        (D.byte_at disk.old) (D.surely_has disk.old) found.slots) }
     ensures valid { IfOk result (λ _. AreValid settings.now) }
     ensures refused { IfErr result (MayRefuseWinners settings.now) }
     ensures known { D.is_known disk.old → D.is_known disk.new }

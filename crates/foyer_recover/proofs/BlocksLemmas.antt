@@ -70,7 +70,7 @@ pub cut_here : (s : Sizes) (bytes : ℕ → ℕ → ℕ) (surely : ℕ → ℕ �
 cut_here s bytes surely strict n b old kept_of is_cut lt is cut this = record { failed = this.failed; block = b; there = lt; strict = is; faults = this.faults; cut = this.cut cut }
 
 module _ {A : Type 0} where
-  pub none_holds : (read : BlocksRead A) (keeps : ℕ → List BlobEntryIndex) → read.index ≡ finite.empty → read.greatest ≡ 0 → read.clean.items ≡ [] → HoldsKept read 0 keeps
+  pub none_holds : (read : BlocksRead A) (keeps : ℕ → List BlobEntryIndex) → read.index.slots ≡ finite.empty → read.greatest ≡ 0 → read.clean.items ≡ [] → HoldsKept read 0 keeps
   none_holds read keeps empty least clean = record {
     index = λ h. ap (λ (m : IndexMap). finite.get m h) empty ∙ get-empty nat_cmp h;
     greatest = least;
@@ -78,7 +78,7 @@ module _ {A : Type 0} where
   }
 
   -- whatever room the list of clean blocks has
-  pub holds_still : (old new : BlocksRead A) (n : ℕ) (keeps : ℕ → List BlobEntryIndex) → new.index ≡ old.index → new.greatest ≡ old.greatest → new.clean.items ≡ old.clean.items
+  pub holds_still : (old new : BlocksRead A) (n : ℕ) (keeps : ℕ → List BlobEntryIndex) → new.index.slots ≡ old.index.slots → new.greatest ≡ old.greatest → new.clean.items ≡ old.clean.items
       → HoldsKept old n keeps → HoldsKept new n keeps
   holds_still old new n keeps index_is greatest_is clean_is holds = record {
     index = λ h. ap (λ (m : IndexMap). finite.get m h) index_is ∙ holds.index h;
@@ -87,7 +87,7 @@ module _ {A : Type 0} where
   }
 
   -- a block that keeps nothing is clean
-  pub taken_none : (old new : BlocksRead A) (n : ℕ) (keeps : ℕ → List BlobEntryIndex) → keeps n ≡ [] → new.index ≡ old.index → new.greatest ≡ old.greatest
+  pub taken_none : (old new : BlocksRead A) (n : ℕ) (keeps : ℕ → List BlobEntryIndex) → keeps n ≡ [] → new.index.slots ≡ old.index.slots → new.greatest ≡ old.greatest
       → new.clean.items ≡ old.clean.items ++ n ∷ [] → HoldsKept old n keeps → HoldsKept new (n + 1) keeps
   taken_none old new n keeps none index_is greatest_is clean_is holds = record {
     index = λ h. ap (λ (m : IndexMap). finite.get m h) index_is ∙ holds.index h ∙ ap (λ l. held_by (winner h l)) (sym stand);
@@ -100,10 +100,10 @@ module _ {A : Type 0} where
 
   -- what another keeps goes into the index
   pub taken_some : (old new : BlocksRead A) (n : ℕ) (keeps : ℕ → List BlobEntryIndex) → is_empty (keeps n) ≡ false
-      → new.index ≡ inserted_all old.index (hashed_entries n (keeps n)) → new.greatest ≡ greatest_in old.greatest (hashed_entries n (keeps n))
+      → new.index.slots ≡ inserted_all old.index.slots (hashed_entries n (keeps n)) → new.greatest ≡ greatest_in old.greatest (hashed_entries n (keeps n))
       → new.clean.items ≡ old.clean.items → HoldsKept old n keeps → HoldsKept new (n + 1) keeps
   taken_some old new n keeps some index_is greatest_is clean_is holds = record {
-    index = λ h. ap (λ (m : IndexMap). finite.get m h) index_is ∙ index_block old.index (all_stand 0 n keeps) n (keeps n) holds.index h
+    index = λ h. ap (λ (m : IndexMap). finite.get m h) index_is ∙ index_block old.index.slots (all_stand 0 n keeps) n (keeps n) holds.index h
         ∙ ap (λ l. held_by (winner h l)) (sym (more_stand n keeps));
     greatest = greatest_is ∙ ap (λ k. greatest_in k (hashed_entries n (keeps n))) holds.greatest ∙ greatest_block (all_stand 0 n keeps) n (keeps n) ∙ ap greatest (sym (more_stand n keeps));
     clean = clean_is ∙ holds.clean

@@ -75,12 +75,12 @@ marks_both (x ∷ xs) ys = ap (λ l. Marked x.hash x.sequence ∷ l) (marks_both
 
 module _ {A : Type 0} where
   pub marked_more : (first old new : BlocksRead A) (marks : List Mark) (i : ℕ) (d : Mark) → i < length marks
-      → new.greatest ≡ max old.greatest (get_or marks i d).sequence → IsWithoutOlder old.index new.index (get_or marks i d).hash (get_or marks i d).sequence
+      → new.greatest ≡ max old.greatest (get_or marks i d).sequence → IsWithoutOlder old.index.slots new.index.slots (get_or marks i d).hash (get_or marks i d).sequence
       → ((found : List Found) → HoldsFound first found → HoldsFound old (found ++ all_marked (marks_of (take i marks))))
       → (found : List Found) → HoldsFound first found → HoldsFound new (found ++ all_marked (marks_of (take (i + 1) marks)))
   marked_more first old new marks i d within greatest_is without before found holds =
       subst (HoldsFound new) all (record {
-        index = mark_push old.index new.index so_far mark.hash mark.sequence was.index without;
+        index = mark_push old.index.slots new.index.slots so_far mark.hash mark.sequence was.index without;
         greatest = greatest_is ∙ ap (λ n. max n mark.sequence) was.greatest ∙ sym (greatest_push so_far (Marked mark.hash mark.sequence));
       })
     where

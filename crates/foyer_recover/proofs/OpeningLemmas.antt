@@ -62,9 +62,9 @@ module _ {A : Type 0} (s : Sizes) (n : ℕ) (bytes : ℕ → ℕ → ℕ) (surel
   module _ (mode : RecoverMode) (marks : List (ℕ × ℕ)) (before after : BlocksRead A) (are : AreBlocksKept s n bytes surely mode before)
       (taken : (found : List Found) → HoldsFound before found → HoldsFound after (found ++ all_marked marks)) (clean : after.clean ≡ before.clean) where
     found : HoldsFound after (all_stand 0 n are.keeps ++ all_marked marks)
-    found = taken (all_stand 0 n are.keeps) (record { index = entries_addressed before.index n are.keeps are.holds.index; greatest = are.holds.greatest })
+    found = taken (all_stand 0 n are.keeps) (record { index = entries_addressed before.index.slots n are.keeps are.holds.index; greatest = are.holds.greatest })
 
-    pub opens : (r : Recovered A) → r.index ≡ after.index → r.next ≡ after.greatest + 1 → after.greatest + 1 < 2 ^ 64 → r.clean ≡ after.clean
+    pub opens : (r : Recovered A) → r.index.slots ≡ after.index.slots → r.next ≡ after.greatest + 1 → after.greatest + 1 < 2 ^ 64 → r.clean ≡ after.clean
         → IsRecovered s n bytes surely mode marks (opened_of r)
     opens r index_is next_is below clean_is = (
       are.failed,
@@ -86,7 +86,7 @@ module _ {A : Type 0} (s : Sizes) (n : ℕ) (bytes : ℕ → ℕ → ℕ) (surel
 -- whatever was read, it is some opening
 pub some_opening : {A : Type 0} (s : Sizes) (n : ℕ) (marks : List (ℕ × ℕ)) (before after : BlocksRead A) → AreSomeKept s n before
     → ((found : List Found) → HoldsFound before found → HoldsFound after (found ++ all_marked marks)) → after.clean ≡ before.clean
-    → (r : Recovered A) → r.index ≡ after.index → r.next ≡ after.greatest + 1 → after.greatest + 1 < 2 ^ 64 → r.clean ≡ after.clean
+    → (r : Recovered A) → r.index.slots ≡ after.index.slots → r.next ≡ after.greatest + 1 → after.greatest + 1 < 2 ^ 64 → r.clean ≡ after.clean
     → IsOpening s n marks (opened_of r)
 some_opening s n marks before after are taken clean r index_is next_is below clean_is = record {
   keeps = are.keeps;
@@ -98,7 +98,7 @@ some_opening s n marks before after are taken clean r index_is next_is below cle
 }
   where
     found : HoldsFound after (all_stand 0 n are.keeps ++ all_marked marks)
-    found = taken (all_stand 0 n are.keeps) (record { index = entries_addressed before.index n are.keeps (are.holds).index; greatest = (are.holds).greatest })
+    found = taken (all_stand 0 n are.keeps) (record { index = entries_addressed before.index.slots n are.keeps (are.holds).index; greatest = (are.holds).greatest })
 
 -- a block that is cut refuses a strict opening
 pub cut_short : (s : Sizes) (n : ℕ) (bytes : ℕ → ℕ → ℕ) (surely : ℕ → ℕ → ℕ → Type 0) (strict : Bool) → IsBlockCut s n bytes surely strict

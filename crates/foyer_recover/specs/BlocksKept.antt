@@ -44,12 +44,12 @@ IsWithoutOlder old new hash sequence =
 
 -- the index and the greatest sequence are those of what was found
 pub record HoldsFound {A : Type 0} (read : BlocksRead A) (found : List Found) : Type 0 where
-  pub index : (h : ℕ) → finite.get read.index h ≡ addressed_by (winner h found)
+  pub index : (h : ℕ) → finite.get read.index.slots h ≡ addressed_by (winner h found)
   pub greatest : read.greatest ≡ greatest found
 
 -- it holds what the first n blocks keep
 pub record HoldsKept {A : Type 0} (read : BlocksRead A) (n : ℕ) (keeps : ℕ → List BlobEntryIndex) : Type 0 where
-  pub index : (h : ℕ) → finite.get read.index h ≡ held_by (winner h (all_stand 0 n keeps))
+  pub index : (h : ℕ) → finite.get read.index.slots h ≡ held_by (winner h (all_stand 0 n keeps))
   pub greatest : read.greatest ≡ greatest (all_stand 0 n keeps)
   pub clean : read.clean.items ≡ clean_from 0 n keeps
 

@@ -34,7 +34,7 @@ held_slot (Some (Tombstone sequence)) = Some (model.Mark sequence)
 -- what a recovery gives, as what an opening gives
 abbrev pub opened_of : {A : Type 0} → Recovered A → Opened
 opened_of r = record {
-  index = λ h. held_slot (finite.get r.index h);
+  index = λ h. held_slot (finite.get r.index.slots h);
   next = r.next;
   clean = r.clean.items;
 }

@@ -266,7 +266,7 @@ impl<A: Allocator + Clone> Reclaimer<A> {
     /// What was listed leaves the index, each address only where its hash has that very one, and but for what was queued for
     /// reinsertion. It compares each listed entry with each queued one.
     pub fn forget(&mut self, index: &mut Indexer<A>)
-        ensures index { index.new ≡ without_addresses index.old (left_in self.old.lists.requeued.items self.old.lists.listed.items) }
+        ensures index { index.new.slots ≡ without_addresses index.old.slots (left_in self.old.lists.requeued.items self.old.lists.listed.items) }
         ensures forgotten { reclaiming self.new ≡ after_forget (reclaiming self.old) }
     {
         leave_out(&mut self.lists.listed, &self.lists.requeued);
@@ -381,7 +381,7 @@ pub(crate) fn forget<A: Allocator + Clone>(
     index: &mut Indexer<A>,
     block: BlockId,
 )
-    ensures index { IfSome (reclaim_at reclaims.old block) (λ r. index.new ≡ without_addresses index.old (left_in r.requeued r.listed)) }
+    ensures index { IfSome (reclaim_at reclaims.old block) (λ r. index.new.slots ≡ without_addresses index.old.slots (left_in r.requeued r.listed)) }
     ensures forgotten { ChangesReclaim reclaims.old reclaims.new block (option_map after_forget (reclaim_at reclaims.old block)) }
 {
     if let Some(reclaimer) = reclaims.get_mut(&block) {

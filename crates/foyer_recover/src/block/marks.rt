@@ -11,7 +11,7 @@ use std::alloc::Allocator;
 
 // Removes the address of the mark's hash, unless its sequence is above the mark's.
 fn remove_older<A: Allocator + Clone>(index: &mut Indexer<A>, mark: &Tombstone)
-    ensures { IsWithoutOlder index.old index.new mark.now.hash mark.now.sequence }
+    ensures { IsWithoutOlder index.old.slots index.new.slots mark.now.hash mark.now.sequence }
 {
     let Some(address) = index.get(mark.hash) else {
         return;

@@ -1,5 +1,5 @@
 use Rattle.std.proofs.Common.{◌≡◌, ◌<◌, ℕ, length, take, slice_index}
-use Rattle.foyer_block.specs.Shards.{belonging}
+use Rattle.foyer_block.specs.Index.{belonging}
 use Rattle.foyer_block.proofs.shards.count.Given as goal
 
 abbrev pub invariant-loop-count : goal.invariant-loop-count

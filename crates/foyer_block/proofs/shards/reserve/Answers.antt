@@ -1,5 +1,5 @@
 use Rattle.std.proofs.Common.{◌<◌, length, length-set, arith, ◌∙◌}
-use Rattle.foyer_block.proofs.Found.{map_of-place, room-reserved}
+use Rattle.foyer_block.proofs.Found.{map_of-place, room-reserved, kept_on}
 use Rattle.foyer_block.proofs.shards.reserve.Goals as goal
 
 pub returns-in_err-reserve-clause-unchanged : goal.returns-in_err-reserve-clause-unchanged
@@ -13,5 +13,11 @@ loop-place-preserved g c =
     record {
       len = length-set c.loop-place.shards.items c.loop-place.place c.reserve.new.self ∙ c.loop-place.invariant.len;
       same = map_of-place c.loop-place.shards.items c.loop-place.place c.index_mut.result.now c.reserve.new.self within c.index_mut.ensures.value c.reserve.ensures.entries.2 ∙ c.loop-place.invariant.same;
+      kept = kept_on c.args.shards.now.items c.loop-place.shards.items c.loop-place.place c.index_mut.result.now c.reserve.new.self within c.index_mut.ensures.value c.reserve.ensures.spare c.loop-place.invariant.kept;
       room = room-reserved c.args.counts.now c.loop-place.shards.items c.loop-place.place c.reserve.new.self within c.in_ok-reserve.ensures.ok c.loop-place.invariant.room;
     }
+
+pub returns-in_err-reserve-clause-kept : goal.returns-in_err-reserve-clause-kept
+returns-in_err-reserve-clause-kept g c =
+    let within : c.loop-place.place < length c.loop-place.shards.items = omega arith in
+    kept_on c.args.shards.now.items c.loop-place.shards.items c.loop-place.place c.index_mut.result.now c.reserve.new.self within c.index_mut.ensures.value c.reserve.ensures.spare c.loop-place.invariant.kept

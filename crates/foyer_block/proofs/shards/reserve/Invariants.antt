@@ -6,5 +6,6 @@ abbrev pub invariant-loop-place : goal.invariant-loop-place
 invariant-loop-place g l = record {
   len : length l.shards.items ≡ length l.fn.shards.items;
   same : map_of l.shards.items ≡ map_of l.fn.shards.items;
+  kept : (s : ℕ) → room l.fn.shards.items s ≤ room l.shards.items s;
   room : (s : ℕ) → s < l.place → slice_index l.counts s ≤ room l.shards.items s;
 }

@@ -1,4 +1,7 @@
-use Rattle.std.proofs.Common.{rules}
+use Rattle.std.proofs.Common.{OnErr, subst, sym, rules}
+use Rattle.foyer_block.specs.Index.{IndexState, KeepsIndex, HasRoomAt}
+use Rattle.foyer_block.specs.Shards.{state_of}
+use Rattle.foyer_block.proofs.Rooms.{refused_keeps, has_room_at}
 use Rattle.foyer_block.proofs.indexer.Indexer.insert_tombstone.Goals as goal
 
 pub returns-clause-inserted : goal.returns-clause-inserted
@@ -6,3 +9,11 @@ returns-clause-inserted g c = search rules depth 1
 
 pub returns-clause-answer : goal.returns-clause-answer
 returns-clause-answer g c = search rules depth 1
+
+pub returns-clause-err : goal.returns-clause-err
+returns-clause-err g c = subst (λ (s : IndexState). OnErr c.enter.result (KeepsIndex s (state_of c.enter.new.shards.items))) c.self.view_is
+    (refused_keeps c.enter.result c.self.inside.shards.items c.enter.new.shards.items c.args.hash c.enter.ensures.err c.enter.ensures.len c.enter.ensures.succeeds c.enter.ensures.room)
+
+pub returns-clause-room : goal.returns-clause-room
+returns-clause-room g c = λ some.
+    c.enter.ensures.succeeds (has_room_at c.self.inside.shards.items c.args.hash (subst (λ (s : IndexState). HasRoomAt s.rooms c.args.hash) (sym c.self.view_is) some))

@@ -1,5 +1,6 @@
 use Rattle.std.proofs.Common.{inr, ◌≡◌, ◌+◌, ◌*◌, ◌^◌, ◌<◌, ◌≤◌, ◌%◌, ◌++◌, ◌∷◌, [], length, vec_len, refl, ap, sym, subst, ◌∙◌, arith}
 use Rattle.std.specs.FinMap as finite
+use Rattle.foyer_block.proofs.Rooms.{kept_itself}
 use Rattle.foyer_block.specs.declared.indexer.Index.TheVariants as index
 use Rattle.foyer_device.specs.declared.error.ErrorKind.TheVariants as kind
 use Rattle.foyer_model.specs.Index.{inserted}
@@ -29,7 +30,7 @@ returns-then-is_err-clause-back g c =
     let found = c.index_mut.result.now in (
       refl,
       record {
-        index = refl;
+        index = kept_itself c.args.self.now.index;
         next = refl;
         steps = refl;
         closed = refl;
@@ -105,7 +106,7 @@ returns-after-pushed_out-clause-meets g c = λ m s sound it stands few.
       | in-None w ↦ ap invalid_of_all w.stats-is ∙ sym (ap bytes_of w.in-None.is)
     ] in
     let invalidated : invalid_of_all c.match-pushed_out.stats ≡ invalidated_by (machine m s sound) old.next (it.index c.args.hash) =
-    issued ∙ ap bytes_of c.in-Ok.ensures.answer ∙ pushed_out m s sound (finite.get old.index c.args.hash) old.next
+    issued ∙ ap bytes_of c.in-Ok.ensures.answer ∙ pushed_out m s sound (finite.get old.index.slots c.args.hash) old.next
     ∙ ap (invalidated_by (machine m s sound) old.next) (sym (stands.index.slot c.args.hash)) in
     let x = Remove c.args.hash old.next (invalidated_by (machine m s sound) old.next (it.index c.args.hash)) in
     let mark = Tombstone (record { tombstone = record { hash = c.args.hash; sequence = old.next }; stats = c.match-pushed_out.stats }) in
@@ -117,7 +118,7 @@ returns-after-pushed_out-clause-meets g c = λ m s sound it stands few.
       stands = record {
         sizes = stands.sizes;
         index = subst (λ k. IsIndexedAs s k (put it.index c.args.hash (inserted (it.index c.args.hash) (Mark old.next)))) (sym c.in-Ok.ensures.inserted)
-            (index_inserted s old.index it.index c.args.hash (index.Tombstone old.next) tt stands.index);
+            (index_inserted s old.index.slots it.index c.args.hash (index.Tombstone old.next) tt stands.index);
         next = refl;
         steps = stands.steps;
         closed = stands.closed;

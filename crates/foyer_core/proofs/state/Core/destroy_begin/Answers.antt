@@ -1,4 +1,5 @@
 use Rattle.std.proofs.Common.{inr, ◌≡◌, ◌+◌, ◌*◌, ◌^◌, ◌<◌, ◌≤◌, ◌%◌, ◌++◌, ◌∷◌, [], None, length, vec_len, refl, ap, sym, subst, ◌∙◌, arith}
+use Rattle.foyer_block.proofs.Rooms.{kept_itself}
 use Rattle.foyer_device.specs.declared.error.ErrorKind.TheVariants as kind
 use Rattle.foyer_model.specs.Flush.{is_cleaning}
 use Rattle.foyer_model.specs.Numbers.{put, last_number}
@@ -38,7 +39,7 @@ returns-then-is_err-clause-meets g c = λ m s sound it stands few.
     let found = c.index_mut.result.now in
     let absent : it.destroy ≡ model_state.NoDestroy = subst (λ d. IsDestroyAs s.blocks d it.destroy) c.in-Absent.is stands.destroy in
     refused m s sound step.DestroyBegin old _ it kind.Memory model_reply.Memory refl (record {
-      index = refl;
+      index = kept_itself c.args.self.now.index;
       next = refl;
       steps = refl;
       closed = refl;

@@ -1,4 +1,5 @@
 use Rattle.std.proofs.Common.{true, false, inr, ◌≡◌, ◌+◌, ◌*◌, ◌^◌, ◌<◌, ◌≤◌, ◌%◌, ◌++◌, ◌∷◌, [], min, length, vec_len, refl, ap, sym, subst, ◌∙◌, arith}
+use Rattle.foyer_block.proofs.Rooms.{kept_itself}
 use Rattle.foyer_device.specs.declared.error.ErrorKind.TheVariants as kind
 use Rattle.foyer_model.specs.Numbers.{put, last_number}
 use Rattle.foyer_model.specs.Queue.{IsIgnored}
@@ -24,7 +25,7 @@ returns-then-is_err-clause-back g c =
     let found = c.index_mut.result.now in (
       refl,
       record {
-        index = refl;
+        index = kept_itself c.args.self.now.index;
         next = refl;
         steps = refl;
         closed = refl;

@@ -1,5 +1,6 @@
 use Rattle.std.proofs.lemmas.Grind.{common_steps}
 use Rattle.std.proofs.Common.{true, false, ◌≡◌, ◌<◌, map, length, None, refl, ap, sym, ◌∙◌, arith}
+use Rattle.foyer_block.proofs.Rooms.{kept_itself}
 use Rattle.foyer_device.specs.declared.error.ErrorKind.TheVariants as kind
 use Rattle.foyer_model.specs.Receive.{HasReceived, turned}
 use Rattle.foyer_model.specs.Reply as model_reply
@@ -32,7 +33,7 @@ returns-then-not-may_begin-clause-meets g c = λ m s sound it stands few.
     let found = c.index_mut-found.result.now in
     let before : IsFlusherAs m s (seen found) (it.flushers f) = flusher_at m s old.flushers.items it.flushers f found stands.flushers within c.index_mut-found.ensures.value in
     not_now m s sound (step.FlushBegin f) old _ it (record {
-      index = refl;
+      index = kept_itself c.args.self.now.index;
       next = refl;
       steps = refl;
       closed = refl;
@@ -92,7 +93,7 @@ returns-in-Err-clause-meets g c = λ m s sound it stands few.
     let before : IsFlusherAs m s (seen found) (it.flushers f) = flusher_at m s old.flushers.items it.flushers f found stands.flushers within c.index_mut-found.ensures.value in
     let turn : ((it.flushers f).batch ≡ None) × HasReceived (it.flushers f) = may_begin m s found (it.flushers f) before (c.if-not-may_begin.ensures.0 refl) in
     refused m s sound (step.FlushBegin f) old _ it kind.Memory model_reply.Memory refl (record {
-      index = refl;
+      index = kept_itself c.args.self.now.index;
       next = refl;
       steps = refl;
       closed = refl;
@@ -116,7 +117,7 @@ returns-in-Err-clause-back g c =
     let found = c.index_mut-found.result.now in (
       refl,
       record {
-        index = refl;
+        index = kept_itself c.args.self.now.index;
         next = refl;
         steps = refl;
         closed = refl;

@@ -1,6 +1,7 @@
 use Rattle.std.proofs.lemmas.Grind.{common_steps}
 use Rattle.std.proofs.Common.{◌≡◌, ◌<◌, length, map, refl, subst, arith}
 use Rattle.std.proofs.lemmas.Bool.{false≢true}
+use Rattle.foyer_block.proofs.Rooms.{kept_itself}
 use Rattle.foyer_model.specs.Numbers.{last_number}
 use Rattle.foyer_model.specs.Reply as model_reply
 use Rattle.foyer_model.specs.Step as model_step
@@ -23,7 +24,7 @@ returns-then-not-has_block-clause-meets g c = λ m s sound it stands few.
     let at = stands_at m s core it f found stands within c.index_mut-found.ensures.value in
     not_now m s sound core _ it (step.FlushBlock f)
     (record {
-      index = refl;
+      index = kept_itself c.args.self.now.index;
       next = refl;
       steps = refl;
       closed = refl;
@@ -49,7 +50,7 @@ returns-in-Err-clause-meets g c = λ m s sound it stands few.
       after = it;
       it = model_reply.Refused model_reply.Memory (model_step.FlushBlock f);
       stands = unchanged_stands m s core _ it (record {
-        index = refl;
+        index = kept_itself c.args.self.now.index;
         next = refl;
         steps = refl;
         closed = refl;
@@ -67,7 +68,7 @@ returns-in-Err-clause-meets g c = λ m s sound it stands few.
           early,
           (
             (flusher_there m s core it f stands within, has_block m s found.own found.batch (it.flushers f).batch (at.flusher).batch (c.if-not-has_block.ensures.0 refl)),
-            would_answer m s sound it f found core.index core.manager at (c.if-not-has_block.ensures.0 refl),
+            would_answer m s sound it f found core.index.slots core.manager at (c.if-not-has_block.ensures.0 refl),
           ),
         ),
         refl,
@@ -81,7 +82,7 @@ returns-in-Ok-NoBlock-clause-meets g c = λ m s sound it stands few.
     let found = c.index_mut-found.result.now in
     let within : f < length core.flushers.items = omega (arith, c.len.ensures, c.if-flusher-len.false) in
     let at = stands_at m s core it f found stands within c.index_mut-found.ensures.value in
-    let done = subst (λ (n : Next g.row.A.Denot). FlusherStep m s sound (model_step.FlushBlock f) f it (issued_next n) (seen c.next.new.self) core.index c.next.new.manager) c.in-Ok-NoBlock.field-0-is (c.in-Ok-NoBlock.ensures.done m s sound it core.index at) in
+    let done = subst (λ (n : Next g.row.A.Denot). FlusherStep m s sound (model_step.FlushBlock f) f it (issued_next n) (seen c.next.new.self) core.index.slots c.next.new.manager) c.in-Ok-NoBlock.field-0-is (c.in-Ok-NoBlock.ensures.done m s sound it core.index.slots at) in
     record {
       after = done.after;
       it = model_reply.NoBlock;
@@ -97,7 +98,7 @@ returns-in-Ok-Block-clause-meets g c = λ m s sound it stands few.
     let found = c.index_mut-found.result.now in
     let within : f < length core.flushers.items = omega (arith, c.len.ensures, c.if-flusher-len.false) in
     let at = stands_at m s core it f found stands within c.index_mut-found.ensures.value in
-    let done = subst (λ (n : Next g.row.A.Denot). FlusherStep m s sound (model_step.FlushBlock f) f it (issued_next n) (seen c.next.new.self) core.index c.next.new.manager) c.in-Ok-Block.field-0-is (c.in-Ok-Block.ensures.done m s sound it core.index at) in
+    let done = subst (λ (n : Next g.row.A.Denot). FlusherStep m s sound (model_step.FlushBlock f) f it (issued_next n) (seen c.next.new.self) core.index.slots c.next.new.manager) c.in-Ok-Block.field-0-is (c.in-Ok-Block.ensures.done m s sound it core.index.slots at) in
     record {
       after = done.after;
       it = model_reply.Written c.in-Ok-Block.block (map write_of c.in-Ok-Block.writes.items);
@@ -117,7 +118,7 @@ returns-in-Err-clause-back g c =
     let found = c.index_mut-found.result.now in (
       refl,
       record {
-        index = refl;
+        index = kept_itself c.args.self.now.index;
         next = refl;
         steps = refl;
         closed = refl;

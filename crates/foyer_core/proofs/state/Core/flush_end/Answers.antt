@@ -1,6 +1,7 @@
 use Rattle.std.proofs.lemmas.Grind.{common_steps}
 use Rattle.std.proofs.Common.{◌<◌, length, refl, sym, subst, arith}
 use Rattle.std.proofs.lemmas.Bool.{false≢true}
+use Rattle.foyer_block.proofs.Rooms.{kept_itself}
 use Rattle.foyer_model.specs.InTurn.{IsWritten}
 use Rattle.foyer_model.specs.Reply as model_reply
 use Rattle.foyer_core.proofs.FlushTurns.{stands_at, flusher_there, core_stands, log_is, is_written, was_written, not_now}
@@ -17,7 +18,7 @@ returns-then-not-is_written-clause-meets g c = λ m s sound it stands few.
     let at = stands_at m s core it f found stands within c.index_mut-found.ensures.value in
     not_now m s sound core _ it (step.FlushEnd f)
     (record {
-      index = refl;
+      index = kept_itself c.args.self.now.index;
       next = refl;
       steps = refl;
       closed = refl;

@@ -1,6 +1,7 @@
 use Rattle.std.proofs.lemmas.Grind.{common_steps}
 use Rattle.std.proofs.Common.{◌≡◌, ◌<◌, Bool, length, refl, subst, ◌∙◌, arith}
 use Rattle.std.proofs.lemmas.Bool.{false≢true}
+use Rattle.foyer_block.proofs.Rooms.{kept_itself}
 use Rattle.foyer_model.specs.Reply as model_reply
 use Rattle.foyer_model.specs.Step as model_step
 use Rattle.foyer_core.specs.Asked.{went_well}
@@ -20,7 +21,7 @@ returns-then-not-is_writing-clause-meets g c = λ m s sound it stands few.
     let at = stands_at m s core it f found stands within c.index_mut-found.ensures.value in
     not_now m s sound core _ it (step.FlushWrote f c.args.outcome)
     (record {
-      index = refl;
+      index = kept_itself c.args.self.now.index;
       next = refl;
       steps = refl;
       closed = refl;
@@ -41,7 +42,7 @@ returns-in-Next-clause-meets g c = λ m s sound it stands few.
     let within : f < length core.flushers.items = omega (arith, c.len.ensures, c.if-flusher-len.false) in
     let at = stands_at m s core it f found stands within c.index_mut-found.ensures.value in
     let ok : c.is_ok.result ≡ went_well c.args.outcome = c.is_ok.ensures.value ∙ went_is c.args.outcome in
-    let done = subst (λ (b : Bool). FlusherStep m s sound (model_step.FlushWrote f b) f it model_reply.Next (seen c.wrote.new.self) c.wrote.new.index c.wrote.new.manager) ok (c.in-Next.ensures.done m s sound f it at) in
+    let done = subst (λ (b : Bool). FlusherStep m s sound (model_step.FlushWrote f b) f it model_reply.Next (seen c.wrote.new.self) c.wrote.new.index.slots c.wrote.new.manager) ok (c.in-Next.ensures.done m s sound f it at) in
     record {
       after = done.after;
       it = model_reply.Next;
@@ -58,7 +59,7 @@ returns-in-Committed-clause-meets g c = λ m s sound it stands few.
     let within : f < length core.flushers.items = omega (arith, c.len.ensures, c.if-flusher-len.false) in
     let at = stands_at m s core it f found stands within c.index_mut-found.ensures.value in
     let ok : c.is_ok.result ≡ went_well c.args.outcome = c.is_ok.ensures.value ∙ went_is c.args.outcome in
-    let done = subst (λ (b : Bool). FlusherStep m s sound (model_step.FlushWrote f b) f it (model_reply.Committed c.in-Committed.count) (seen c.wrote.new.self) c.wrote.new.index c.wrote.new.manager) ok (c.in-Committed.ensures.done m s sound f it at) in
+    let done = subst (λ (b : Bool). FlusherStep m s sound (model_step.FlushWrote f b) f it (model_reply.Committed c.in-Committed.count) (seen c.wrote.new.self) c.wrote.new.index.slots c.wrote.new.manager) ok (c.in-Committed.ensures.done m s sound f it at) in
     record {
       after = done.after;
       it = model_reply.Committed c.in-Committed.count;
@@ -75,7 +76,7 @@ returns-in-Failed-clause-meets g c = λ m s sound it stands few.
     let within : f < length core.flushers.items = omega (arith, c.len.ensures, c.if-flusher-len.false) in
     let at = stands_at m s core it f found stands within c.index_mut-found.ensures.value in
     let ok : c.is_ok.result ≡ went_well c.args.outcome = c.is_ok.ensures.value ∙ went_is c.args.outcome in
-    let done = subst (λ (b : Bool). FlusherStep m s sound (model_step.FlushWrote f b) f it model_reply.Failed (seen c.wrote.new.self) c.wrote.new.index c.wrote.new.manager) ok (c.in-Failed.ensures.done m s sound f it at) in
+    let done = subst (λ (b : Bool). FlusherStep m s sound (model_step.FlushWrote f b) f it model_reply.Failed (seen c.wrote.new.self) c.wrote.new.index.slots c.wrote.new.manager) ok (c.in-Failed.ensures.done m s sound f it at) in
     record {
       after = done.after;
       it = model_reply.Failed;

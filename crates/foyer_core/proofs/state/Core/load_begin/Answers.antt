@@ -18,7 +18,7 @@ pub returns-then-address-state-clause-meets : goal.returns-then-address-state-cl
 returns-then-address-state-clause-meets g c = λ m s sound it stands few.
     let old = c.args.self.now in
     let a = c.in-Some.address in
-    let held : finite.get old.index c.args.hash ≡ Some (Address a) = held_address (finite.get old.index c.args.hash) a (sym c.in-Some.ensures) in
+    let held : finite.get old.index.slots c.args.hash ≡ Some (Address a) = held_address (finite.get old.index.slots c.args.hash) a (sym c.in-Some.ensures) in
     let slot : it.index c.args.hash ≡ Some (Indexed (address_of a)) = stands.index.slot c.args.hash ∙ ap slot_of held in
     let found = c.in-Some-known.state in
     let at : slice_get old.manager.blocks a.block ≡ Some found = sym c.known.ensures ∙ c.in-Some-known.is in
@@ -28,8 +28,8 @@ returns-then-address-state-clause-meets g c = λ m s sound it stands few.
       it = model_reply.Miss;
       stands = record {
         sizes = stands.sizes;
-        index = subst (λ o. IsIndexedAs s c.remove.new.self (put it.index c.args.hash o)) (without_itself (address_of a) (it.index c.args.hash) slot)
-            (index_removed s old.index c.remove.new.self it.index c.args.hash a c.remove.result c.remove.ensures.answer c.remove.ensures.removed c.remove.ensures.unchanged stands.index);
+        index = subst (λ o. IsIndexedAs s c.remove.new.self.slots (put it.index c.args.hash o)) (without_itself (address_of a) (it.index c.args.hash) slot)
+            (index_removed s old.index.slots c.remove.new.self.slots it.index c.args.hash a c.remove.result c.remove.ensures.answer c.remove.ensures.removed c.remove.ensures.unchanged stands.index);
         next = stands.next;
         steps = stands.steps;
         closed = stands.closed;
@@ -52,7 +52,7 @@ pub returns-clause-meets : goal.returns-clause-meets
 returns-clause-meets g c = λ m s sound it stands few.
     let old = c.args.self.now in
     let a = c.in-Some.address in
-    let held : finite.get old.index c.args.hash ≡ Some (Address a) = held_address (finite.get old.index c.args.hash) a (sym c.in-Some.ensures) in
+    let held : finite.get old.index.slots c.args.hash ≡ Some (Address a) = held_address (finite.get old.index.slots c.args.hash) a (sym c.in-Some.ensures) in
     let slot : it.index c.args.hash ≡ Some (Indexed (address_of a)) = stands.index.slot c.args.hash ∙ ap slot_of held in
     let found = c.in-Some-known.state in
     let at : slice_get old.manager.blocks a.block ≡ Some found = sym c.known.ensures ∙ c.in-Some-known.is in

@@ -1,5 +1,6 @@
 use Rattle.std.proofs.Common.{◌≡◌, ◌<◌, Bool, true, length, refl, sym, subst, ◌∙◌, arith}
 use Rattle.std.proofs.lemmas.Bool.{false≢true}
+use Rattle.foyer_block.proofs.Rooms.{kept_itself}
 use Rattle.foyer_model.specs.Reply as model_reply
 use Rattle.foyer_model.specs.Step as model_step
 use Rattle.foyer_core.specs.Asked.{went_well}
@@ -19,7 +20,7 @@ returns-then-not-is_unlogged-clause-meets g c = λ m s sound it stands few.
     let at = stands_at m s core it f found stands within c.index_mut-found.ensures.value in
     not_now m s sound core _ it (step.LogWrote f c.args.outcome)
     (record {
-      index = refl;
+      index = kept_itself c.args.self.now.index;
       next = refl;
       steps = refl;
       closed = refl;
@@ -40,7 +41,7 @@ returns-clause-meets g c = λ m s sound it stands few.
     let within : f < length core.flushers.items = omega (arith, c.len.ensures, c.if-flusher-len.false) in
     let at = stands_at m s core it f found stands within c.index_mut-found.ensures.value in
     let ok : c.is_ok.result ≡ went_well c.args.outcome = c.is_ok.ensures.value ∙ went_is c.args.outcome in
-    let done = subst (λ (b : Bool). FlusherStep m s sound (model_step.LogWrote f b) f it model_reply.Done (seen c.log.new.self) core.index core.manager) ok (c.log.ensures m s sound f it core.index core.manager at) in
+    let done = subst (λ (b : Bool). FlusherStep m s sound (model_step.LogWrote f b) f it model_reply.Done (seen c.log.new.self) core.index.slots core.manager) ok (c.log.ensures m s sound f it core.index.slots core.manager at) in
     let has_log : s.tombstone_log ≡ true = sym (log_is m s core it stands) ∙ c.if-not-self.false in
     record {
       after = done.after;

@@ -1,9 +1,10 @@
-use Rattle.std.proofs.Common.{◌≡◌, Option, Ok, option_map, length, refl, sym, ap, subst, ◌∙◌, arith}
+use Rattle.std.proofs.Common.{◌≡◌, Ok, option_map, length, refl, sym, ap, subst, arith}
 use Rattle.std.specs.Prelude.{IfSome}
+use Rattle.foyer_block.proofs.Rooms.{kept_itself}
 use Rattle.foyer_device.specs.declared.error.ErrorKind.TheVariants as kind
 use Rattle.foyer_model.specs.Reply as model_reply
 use Rattle.foyer_rules.specs.declared.settings.Settings.{Settings}
-use Rattle.foyer_core.specs.Reclaiming.{Reclaiming, ChangesReclaim, IsReread, reclaim_at, after_index, awaited, index_infos, verdict_list}
+use Rattle.foyer_core.specs.Reclaiming.{ChangesReclaim, IsReread, reclaim_at, after_index, awaited, index_infos, verdict_list}
 use Rattle.foyer_core.specs.Replied.{IsReply}
 use Rattle.foyer_core.specs.Scanning.{IsJudged, scan_reply}
 use Rattle.foyer_core.specs.declared.step.Step.TheVariants as step
@@ -20,7 +21,7 @@ returns-then-len-self-clause-meets g c = λ m s sound it stands few.
     let at = c.requires.0 in
     let reads = reads_index m s sound b (it.place b) (it.filling b) (reclaim_at core.reclaims b) (it.reclaims b) at (stands.reclaims b) c.requires.1 in
     comes_back_late m s sound (step.ReclaimRead b (Ok c.args.bytes)) _ _ it c.reclaim_read.ensures
-    (not_now m s sound (step.ReclaimRead b (Ok c.args.bytes)) core _ it (record { index = refl; next = refl; steps = refl; closed = refl; queued = refl; settings = refl; flushers = refl; manager = refl; reclaims = λ q. refl; destroy = refl }) stands (
+    (not_now m s sound (step.ReclaimRead b (Ok c.args.bytes)) core _ it (record { index = kept_itself c.args.self.now.index; next = refl; steps = refl; closed = refl; queued = refl; settings = refl; flushers = refl; manager = refl; reclaims = λ q. refl; destroy = refl }) stands (
       is_early m s core it stands few,
       (λ draws. absurd draws),
       (λ turn.
@@ -39,7 +40,7 @@ returns-in-Err-clause-meets g c = λ m s sound it stands few.
     let long : length c.args.bytes.items ≡ s.blob_index_size = omega (arith, size, c.len.ensures, c.if-len-self.false) in
     comes_back m s sound (step.ReclaimRead b (Ok c.args.bytes)) _ kind.Memory _ it c.reclaim_read-in-Err.ensures
     (refused m s sound (step.ReclaimRead b (Ok c.args.bytes)) core _ it kind.Memory model_reply.Memory refl
-    (record { index = refl; next = refl; steps = refl; closed = refl; queued = refl; settings = refl; flushers = refl; manager = refl; reclaims = c.in-Err.ensures.unchanged; destroy = refl }) stands
+    (record { index = kept_itself c.args.self.now.index; next = refl; steps = refl; closed = refl; queued = refl; settings = refl; flushers = refl; manager = refl; reclaims = c.in-Err.ensures.unchanged; destroy = refl }) stands
     (is_early m s core it stands few, would_read m s sound it b (reclaim_at core.reclaims b) at c.args.bytes.items reads long))
 
 pub returns-in-Ok-clause-meets : goal.returns-in-Ok-clause-meets

@@ -1,5 +1,6 @@
-use Rattle.std.proofs.Common.{◌≡◌, ◌++◌, ◌∷◌, [], ◌<◌, ◌%◌, Option, Ok, None, option_map, take, map, length, vec_len, refl, sym, ap, subst, ◌∙◌, arith}
+use Rattle.std.proofs.Common.{◌≡◌, ◌++◌, ◌∷◌, [], ◌<◌, ◌%◌, Option, Ok, None, take, length, vec_len, refl, sym, ap, subst, ◌∙◌, arith}
 use Rattle.std.specs.Prelude.{IfSome}
+use Rattle.foyer_block.proofs.Rooms.{kept_itself}
 use Rattle.foyer_device.specs.declared.error.ErrorKind.TheVariants as kind
 use Rattle.foyer_flusher.specs.Seen.{seen}
 use Rattle.foyer_flusher.specs.declared.flusher.Submission.TheVariants.{Reinsertion}
@@ -10,7 +11,7 @@ use Rattle.foyer_rules.specs.CoreRules.{machine}
 use Rattle.foyer_standing.specs.Addresses.{address_of}
 use Rattle.foyer_model.specs.Reply as model_reply
 use Rattle.foyer_rules.specs.declared.settings.Settings.{Settings}
-use Rattle.foyer_core.specs.Reclaiming.{Reclaiming, ChangesReclaim, reclaim_at, after_record, awaited, requeue_count}
+use Rattle.foyer_core.specs.Reclaiming.{Reclaiming, reclaim_at, awaited, requeue_count}
 use Rattle.foyer_core.specs.Replied.{IsReply}
 use Rattle.foyer_core.specs.Scanning.{HasNoVerdicts, scan_reply}
 use Rattle.foyer_core.specs.declared.step.Step.TheVariants as step
@@ -29,7 +30,7 @@ returns-then-is_err-clause-back g c =
     let found = c.index_mut.result.now in (
       c.reclaim_read-then-is_err.ensures,
       record {
-        index = refl;
+        index = kept_itself c.args.self.now.index;
         next = refl;
         steps = refl;
         closed = refl;
@@ -48,7 +49,7 @@ returns-in-Err-clause-back g c =
     let found = c.index_mut.result.now in (
       c.reclaim_read-in-Err.ensures,
       record {
-        index = refl;
+        index = kept_itself c.args.self.now.index;
         next = refl;
         steps = refl;
         closed = refl;
@@ -69,7 +70,7 @@ returns-then-len-record_pages-clause-meets g c = λ m s sound it stands few.
     let e = c.args.entry in
     let reads = reads_record m s sound b (it.place b) (it.filling b) (reclaim_at core.reclaims b) (it.reclaims b) e (stands.reclaims b) c.requires in
     comes_back_late m s sound (step.ReclaimRead b (Ok c.args.bytes)) _ _ it c.reclaim_read.ensures
-    (not_now m s sound (step.ReclaimRead b (Ok c.args.bytes)) core _ it (record { index = refl; next = refl; steps = refl; closed = refl; queued = refl; settings = refl; flushers = refl; manager = refl; reclaims = λ q. refl; destroy = refl }) stands (
+    (not_now m s sound (step.ReclaimRead b (Ok c.args.bytes)) core _ it (record { index = kept_itself c.args.self.now.index; next = refl; steps = refl; closed = refl; queued = refl; settings = refl; flushers = refl; manager = refl; reclaims = λ q. refl; destroy = refl }) stands (
       is_early m s core it stands few,
       (λ draws. absurd draws),
       (λ turn.

@@ -1,4 +1,5 @@
 use Rattle.std.proofs.Common.{◌≡◌, ◌-◌, ◌<◌, length, [], None, Ok, refl, sym, subst, arith}
+use Rattle.foyer_block.proofs.Rooms.{kept_itself}
 use Rattle.foyer_device.specs.declared.error.ErrorKind.TheVariants as kind
 use Rattle.foyer_model.specs.Receive.{turned, TakesFront as TakesOne}
 use Rattle.foyer_model.specs.Reply as model_reply
@@ -21,7 +22,7 @@ returns-in-Err-clause-back g c =
     let found = c.index_mut-found.result.now in (
       refl,
       record {
-        index = refl;
+        index = kept_itself c.args.self.now.index;
         next = refl;
         steps = refl;
         closed = refl;
@@ -42,7 +43,7 @@ returns-then-flusher-len-clause-meets g c = λ age_of s sound it stands few.
     let f = c.args.flusher in
     let count : length old.flushers.items ≡ s.flushers = flushers_count m s old.flushers.items it.flushers stands.flushers in
     not_now m s sound (step.Receive f) old _ it (record {
-      index = refl;
+      index = kept_itself c.args.self.now.index;
       next = refl;
       steps = refl;
       closed = refl;

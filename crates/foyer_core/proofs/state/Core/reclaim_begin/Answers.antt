@@ -1,4 +1,5 @@
 use Rattle.std.proofs.Common.{◌≡◌, ◌<◌, ℕ, true, false, IsTrue, List, Option, Some, option_map, length, if◌then◌else◌, nat_eq, slice_get, refl, sym, ap, subst, ◌∙◌}
+use Rattle.foyer_block.proofs.Rooms.{kept_itself}
 use Rattle.foyer_device.specs.declared.error.ErrorKind.TheVariants as kind
 use Rattle.foyer_model.specs.Numbers.{put}
 use Rattle.foyer_model.specs.Reclaim as model_reclaim
@@ -21,7 +22,7 @@ use Rattle.foyer_core.proofs.state.Core.reclaim_begin.Goals as goal
 pub returns-then-not-may_reclaim-clause-meets : goal.returns-then-not-may_reclaim-clause-meets
 returns-then-not-may_reclaim-clause-meets g c = λ m s sound it stands few.
     let core = c.args.self.now in
-    not_now m s sound step.ReclaimBegin core _ it (record { index = refl; next = refl; steps = refl; closed = refl; queued = refl; settings = refl; flushers = refl; manager = refl; reclaims = λ b. refl; destroy = refl }) stands (
+    not_now m s sound step.ReclaimBegin core _ it (record { index = kept_itself c.args.self.now.index; next = refl; steps = refl; closed = refl; queued = refl; settings = refl; flushers = refl; manager = refl; reclaims = λ b. refl; destroy = refl }) stands (
       is_early m s core it stands few,
       (λ draws. absurd draws),
       (λ turn.
@@ -33,21 +34,21 @@ pub returns-in_default-clause-meets : goal.returns-in_default-clause-meets
 returns-in_default-clause-meets g c = λ m s sound it stands few.
     let core = c.args.self.now in
     refused m s sound step.ReclaimBegin core _ it kind.Memory model_reply.Memory refl
-    (record { index = refl; next = refl; steps = refl; closed = refl; queued = refl; settings = refl; flushers = refl; manager = refl; reclaims = λ b. ap (option_map reclaiming) (c.reserve.ensures.entries.2 b); destroy = refl }) stands
+    (record { index = kept_itself c.args.self.now.index; next = refl; steps = refl; closed = refl; queued = refl; settings = refl; flushers = refl; manager = refl; reclaims = λ b. ap (option_map reclaiming) (c.reserve.ensures.entries.2 b); destroy = refl }) stands
     (is_early m s core it stands few, would_begin m s sound core it stands ((c.may_reclaim.ensures.may (sets_of it) stands.manager.sets).0 c.if-not-may_reclaim.false))
 
 pub returns-then-is_err-clause-meets : goal.returns-then-is_err-clause-meets
 returns-then-is_err-clause-meets g c = λ m s sound it stands few.
     let core = c.args.self.now in
     refused m s sound step.ReclaimBegin core _ it kind.Memory model_reply.Memory refl
-    (record { index = refl; next = refl; steps = refl; closed = refl; queued = refl; settings = refl; flushers = refl; manager = refl; reclaims = λ b. ap (option_map reclaiming) (c.reserve.ensures.entries.2 b); destroy = refl }) stands
+    (record { index = kept_itself c.args.self.now.index; next = refl; steps = refl; closed = refl; queued = refl; settings = refl; flushers = refl; manager = refl; reclaims = λ b. ap (option_map reclaiming) (c.reserve.ensures.entries.2 b); destroy = refl }) stands
     (is_early m s core it stands few, would_begin m s sound core it stands ((c.may_reclaim.ensures.may (sets_of it) stands.manager.sets).0 c.if-not-may_reclaim.false))
 
 pub returns-in-Err-clause-meets : goal.returns-in-Err-clause-meets
 returns-in-Err-clause-meets g c = λ m s sound it stands few.
     let core = c.args.self.now in
     refused m s sound step.ReclaimBegin core _ it kind.Memory model_reply.Memory refl
-    (record { index = refl; next = refl; steps = refl; closed = refl; queued = refl; settings = refl; flushers = refl; manager = c.in-Err.ensures.unchanged; reclaims = λ b. ap (option_map reclaiming) (c.reserve.ensures.entries.2 b); destroy = refl }) stands
+    (record { index = kept_itself c.args.self.now.index; next = refl; steps = refl; closed = refl; queued = refl; settings = refl; flushers = refl; manager = c.in-Err.ensures.unchanged; reclaims = λ b. ap (option_map reclaiming) (c.reserve.ensures.entries.2 b); destroy = refl }) stands
     (is_early m s core it stands few, would_begin m s sound core it stands ((c.may_reclaim.ensures.may (sets_of it) stands.manager.sets).0 c.if-not-may_reclaim.false))
 
 pub returns-in-Ok-None-clause-meets : goal.returns-in-Ok-None-clause-meets

@@ -1,4 +1,4 @@
-use Rattle.std.proofs.Common.{◌≡◌, Option, Some, option_map, refl, sym, ap, subst, ◌∙◌}
+use Rattle.std.proofs.Common.{◌≡◌, Option, Some, option_map, refl, sym, subst, ◌∙◌}
 use Rattle.std.specs.Prelude.{IfSome}
 use Rattle.foyer_block.specs.Removal.{without_addresses}
 use Rattle.foyer_model.specs.Index.{forgotten}
@@ -22,11 +22,11 @@ returns-clause-meets g c = λ m s sound it stands few.
     let o = reclaim_at core.reclaims b in
     let at = forgets m s sound b (it.place b) (it.filling b) o (it.reclaims b) (stands.reclaims b) (sym c.may_forget.ensures ∙ c.if-not-may_forget.false) in
     let its : model_state.Reclaim = record at.model { stage = model_state.ToClean } in
-    let gone : c.forget.new.index ≡ without_addresses core.index (left_in (at.ours).requeued (at.ours).listed) =
-    subst (λ (k : Option Reclaiming). IfSome k (λ r. c.forget.new.index ≡ without_addresses core.index (left_in r.requeued r.listed))) at.mine c.forget.ensures.index in
-    let indexed : IsIndexedAs s c.forget.new.index (forgotten (not_among (at.model).requeued (at.model).listed) it.index) =
+    let gone : c.forget.new.index.slots ≡ without_addresses core.index.slots (left_in (at.ours).requeued (at.ours).listed) =
+    subst (λ (k : Option Reclaiming). IfSome k (λ r. c.forget.new.index.slots ≡ without_addresses core.index.slots (left_in r.requeued r.listed))) at.mine c.forget.ensures.index in
+    let indexed : IsIndexedAs s c.forget.new.index.slots (forgotten (not_among (at.model).requeued (at.model).listed) it.index) =
     subst (λ k. IsIndexedAs s k (forgotten (not_among (at.model).requeued (at.model).listed) it.index)) (sym gone)
-    (forgotten_is s core.index it.index (left_in (at.ours).requeued (at.ours).listed) (not_among (at.model).requeued (at.model).listed)
+    (forgotten_is s core.index.slots it.index (left_in (at.ours).requeued (at.ours).listed) (not_among (at.model).requeued (at.model).listed)
     (left_as (at.model).requeued (at.model).listed (at.ours).requeued (at.ours).listed
     ((at.stands_as).listed (unforgotten_at m s sound b (it.place b) (it.filling b) o (it.reclaims b) at)) (at.stands_as).requeued) stands.index) in
     let changes : ChangesReclaim core.reclaims c.forget.new.reclaims b (Some (after_forget at.ours)) =

@@ -1,4 +1,5 @@
 use Rattle.std.proofs.Common.{◌≡◌, ◌+◌, ◌<◌, ◌++◌, ◌∷◌, [], length, refl, ap, ◌∙◌, arith}
+use Rattle.foyer_block.proofs.Rooms.{kept_itself}
 use Rattle.foyer_model.specs.Numbers.{put, last_number}
 use Rattle.foyer_model.specs.Reply.{Memory, Done, Refused}
 use Rattle.foyer_model.specs.State.{Await}
@@ -16,7 +17,7 @@ returns-then-is_err-clause-back g c =
     let found = c.index_mut-found.result.now in (
       refl,
       record {
-        index = refl;
+        index = kept_itself c.args.self.now.index;
         next = refl;
         steps = refl;
         closed = refl;

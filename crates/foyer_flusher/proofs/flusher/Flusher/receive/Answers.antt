@@ -75,7 +75,7 @@ returns-in-Ok-put_reinsertion-clause-takes g c = λ age_of s sound st f stands i
     let rest = c.pop_front.new.self.items in
     let r = c.in-Some-Reinsertion.reinsertion in
     let is : φ.queue ≡ Reinsertion r ∷ rest = c.in-Some-Reinsertion.ensures.items ∙ ap (λ x. x ∷ rest) c.in-Some-Reinsertion.field-0-is in
-    again_kept m s sound st f φ stands c.args.index.now indexed r rest is _ c.put_reinsertion.new.filled c.put_reinsertion.new.sources.items c.in-Ok-put_reinsertion.ensures.put refl
+    again_kept m s sound st f φ stands c.args.index.now.slots indexed r rest is _ c.put_reinsertion.new.filled c.put_reinsertion.new.sources.items c.in-Ok-put_reinsertion.ensures.put refl
 
 pub returns-in-Err-put_reinsertion-clause-takes : goal.returns-in-Err-put_reinsertion-clause-takes
 returns-in-Err-put_reinsertion-clause-takes g c = λ age_of s sound st f stands indexed.
@@ -84,4 +84,4 @@ returns-in-Err-put_reinsertion-clause-takes g c = λ age_of s sound st f stands 
     let rest = c.pop_front.new.self.items in
     let r = c.in-Some-Reinsertion.reinsertion in
     let is : φ.queue ≡ Reinsertion r ∷ rest = c.in-Some-Reinsertion.ensures.items ∙ ap (λ x. x ∷ rest) c.in-Some-Reinsertion.field-0-is in
-    again_takes m s sound st f φ stands c.args.index.now indexed r rest is c.in-Err-put_reinsertion.ensures.due
+    again_takes m s sound st f φ stands c.args.index.now.slots indexed r rest is c.in-Err-put_reinsertion.ensures.due

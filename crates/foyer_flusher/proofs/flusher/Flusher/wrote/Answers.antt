@@ -1,4 +1,4 @@
-use Rattle.std.proofs.Common.{◌≡◌, ◌≤◌, ◌-◌, Bool, true, false, Some, length, map, sym, ap, subst, ◌∙◌, refl, arith}
+use Rattle.std.proofs.Common.{◌≡◌, ◌≤◌, ◌-◌, Bool, true, false, Some, map, sym, ap, subst, ◌∙◌, refl}
 use Rattle.foyer_model.specs.Reply as model_reply
 use Rattle.foyer_model.specs.Step as model_step
 use Rattle.foyer_block.specs.Committing.{committed_all, put_count}
@@ -16,8 +16,8 @@ returns-then-not-is_done-clause-done g c = λ m s sound f it stands.
     let w = c.in-Some-take_writing.writing in
     let writes : (c.in-Some.batch).writing ≡ Some w = sym c.take_writing.ensures.taken ∙ c.in-Some-take_writing.is in
     let few : c.args.is_done ≡ true → w.left ≤ 1 = (λ yes. let clash : true ≡ false = sym yes ∙ c.if-not-is_done.true in absurd cc) in
-    wrote_fails m s sound f it (seen self) c.args.index.now c.args.manager.now stands c.in-Some.batch c.in-Some.is w writes
-    c.args.is_done (seen c.fail.new.self) c.fail.new.manager c.take_writing.new.self c.fail.result c.args.index.now
+    wrote_fails m s sound f it (seen self) c.args.index.now.slots c.args.manager.now stands c.in-Some.batch c.in-Some.is w writes
+    c.args.is_done (seen c.fail.new.self) c.fail.new.manager c.take_writing.new.self c.fail.result c.args.index.now.slots
     c.take_writing.ensures.rest few (c.fail.ensures.left m s sound)
     c.fail.ensures.same
     (c.fail.ensures.released (sets_of it) f (stands.manager).sets (λ b own. (stands.has).own b ((stands.flusher).own ∙ own))) c.fail.ensures.failed refl
@@ -31,10 +31,10 @@ returns-then-left-gt1-clause-done g c = λ m s sound f it stands.
     let left : c.put_writing.new.self ≡ record c.in-Some.batch { writing = Some u } =
     c.put_writing.ensures.rest ∙ ap (λ (b : Batch g.row.K.Denot g.row.V.Denot g.row.P.Denot g.row.A.Denot). record b { writing = Some u }) c.take_writing.ensures.rest in
     subst (λ (ok : Bool). FlusherStep m s sound (model_step.FlushWrote f ok) f it model_reply.Next (record (seen self) { batch = Some c.put_writing.new.self })
-    c.args.index.now c.args.manager.now) (sym c.if-not-is_done.false)
+    c.args.index.now.slots c.args.manager.now) (sym c.if-not-is_done.false)
     (subst (λ b. FlusherStep m s sound (model_step.FlushWrote f true) f it model_reply.Next (record (seen self) { batch = Some b })
-    c.args.index.now c.args.manager.now) (sym left)
-    (wrote_next m s sound f it (seen self) c.args.index.now c.args.manager.now stands c.in-Some.batch c.in-Some.is w writes
+    c.args.index.now.slots c.args.manager.now) (sym left)
+    (wrote_next m s sound f it (seen self) c.args.index.now.slots c.args.manager.now stands c.in-Some.batch c.in-Some.is w writes
     u c.if-left-gt1.true refl refl refl refl))
 
 pub returns-in-Some-commit-clause-done : goal.returns-in-Some-commit-clause-done
@@ -43,14 +43,14 @@ returns-in-Some-commit-clause-done g c = λ m s sound f it stands.
     let w = c.in-Some-take_writing.writing in
     let writes : (c.in-Some.batch).writing ≡ Some w = sym c.take_writing.ensures.taken ∙ c.in-Some-take_writing.is in
     let sources : c.deref.result.now ≡ w.sources.items = c.deref.ensures.value in
-    let count = subst (λ os. c.in-Some-commit.count ≡ put_count c.args.index.now (map (settled w.block c.filling_of.result) w.records.items) os) sources c.in-Some-commit.ensures.committed.0 in
-    let index = subst (λ os. c.commit.new.index ≡ committed_all c.args.index.now (map (settled w.block c.filling_of.result) w.records.items) os) sources c.in-Some-commit.ensures.committed.1 in
+    let count = subst (λ os. c.in-Some-commit.count ≡ put_count c.args.index.now.slots (map (settled w.block c.filling_of.result) w.records.items) os) sources c.in-Some-commit.ensures.committed.0 in
+    let index = subst (λ os. c.commit.new.index.slots ≡ committed_all c.args.index.now.slots (map (settled w.block c.filling_of.result) w.records.items) os) sources c.in-Some-commit.ensures.committed.1 in
     subst (λ (ok : Bool). FlusherStep m s sound (model_step.FlushWrote f ok) f it (model_reply.Committed c.in-Some-commit.count) (record (seen self) { batch = Some c.take_writing.new.self })
-    c.commit.new.index c.args.manager.now) (sym c.if-not-is_done.false)
+    c.commit.new.index.slots c.args.manager.now) (sym c.if-not-is_done.false)
     (subst (λ b. FlusherStep m s sound (model_step.FlushWrote f true) f it (model_reply.Committed c.in-Some-commit.count) (record (seen self) { batch = Some b })
-    c.commit.new.index c.args.manager.now) (sym c.take_writing.ensures.rest)
-    (wrote_last m s sound f it (seen self) c.args.index.now c.args.manager.now stands c.in-Some.batch c.in-Some.is w writes
-    c.in-Some-commit.count c.filling_of.result c.commit.new.index c.if-left-gt1.false c.filling_of.ensures count index))
+    c.commit.new.index.slots c.args.manager.now) (sym c.take_writing.ensures.rest)
+    (wrote_last m s sound f it (seen self) c.args.index.now.slots c.args.manager.now stands c.in-Some.batch c.in-Some.is w writes
+    c.in-Some-commit.count c.filling_of.result c.commit.new.index.slots c.if-left-gt1.false c.filling_of.ensures count index))
 
 pub returns-clause-done : goal.returns-clause-done
 returns-clause-done g c = λ m s sound f it stands.
@@ -58,8 +58,8 @@ returns-clause-done g c = λ m s sound f it stands.
     let w = c.in-Some-take_writing.writing in
     let writes : (c.in-Some.batch).writing ≡ Some w = sym c.take_writing.ensures.taken ∙ c.in-Some-take_writing.is in
     let few : c.args.is_done ≡ true → w.left ≤ 1 = (λ yes. c.if-left-gt1.false) in
-    wrote_fails m s sound f it (seen self) c.args.index.now c.args.manager.now stands c.in-Some.batch c.in-Some.is w writes
-    c.args.is_done (seen c.fail-in-None.new.self) c.fail-in-None.new.manager c.take_writing.new.self c.fail-in-None.result c.commit.new.index
+    wrote_fails m s sound f it (seen self) c.args.index.now.slots c.args.manager.now stands c.in-Some.batch c.in-Some.is w writes
+    c.args.is_done (seen c.fail-in-None.new.self) c.fail-in-None.new.manager c.take_writing.new.self c.fail-in-None.result c.commit.new.index.slots
     c.take_writing.ensures.rest few (c.fail-in-None.ensures.left m s sound)
     c.fail-in-None.ensures.same
     (c.fail-in-None.ensures.released (sets_of it) f (stands.manager).sets (λ b own. (stands.has).own b ((stands.flusher).own ∙ own))) c.fail-in-None.ensures.failed c.in-None.ensures.committed

@@ -20,5 +20,5 @@ returns-clause-taken g c = λ keeps holds is.
     let some : vec_len batch ≢ 0 = eqb-false (vec_len batch) 0 (sym c.is_empty.ensures ∙ c.if-is_empty.false) in
     taken_some c.args.self.now _ c.args.block keeps
     (some_kept c.args.block (keeps c.args.block) (λ none. some (let zero : length batch.items ≡ 0 = ap (λ (l : List HashedEntryAddress). length l) (is ∙ none) in omega (arith, batch.ok.0, zero))))
-    (c.in_ok-again.ensures.inserted ∙ ap (inserted_all c.args.self.now.index) is)
+    (c.in_ok-again.ensures.inserted ∙ ap (inserted_all c.args.self.now.index.slots) is)
     (c.greatest_in-self.ensures ∙ ap (greatest_in c.args.self.now.greatest) (c.deref.ensures.value ∙ is)) refl holds
