@@ -1,9 +1,9 @@
 //! A device over a directory.
-ghost use Rattle.std.specs.Prelude.{◌≡◌, ◌⊎◌, ◌↔◌, ℕ, ◌<◌, ◌^◌, Option, Some, None, IfErr, IfOk, IsTrue, IsOk, OnOk, OnErr, length, string_bytes};
+ghost use Rattle.std.specs.Prelude.{◌≡◌, ◌⊎◌, ◌↔◌, ℕ, ◌<◌, ◌^◌, Option, Some, None, IfErr, IfOk, IsTrue, IsOk, Err, OnOk, OnErr, length, map, string_bytes, vec_len};
 ghost use Rattle.foyer_disk.specs.Region.{lacks_space, has_all_numbers};
 ghost use Rattle.foyer_disk.specs.Extent.{IsPartitionSize, files_from};
 ghost use Rattle.foyer_disk.specs.Capacity.{rounded};
-ghost use Rattle.foyer_disk.specs.Paths.{partition_path};
+ghost use Rattle.foyer_disk.specs.Paths.{partition_path, first_paths};
 ghost use Rattle.foyer_disk.specs.Unlimited.{unlimited};
 ghost use Rattle.foyer_device.specs.declared.error.Error.TheVariants as error;
 
@@ -106,7 +106,9 @@ pub fn partition_path<A: Allocator>(
 
 impl<A: Allocator> FsDevice<A> {
     // The path of a partition's file.
-    fn path<B: Allocator>(&self, alloc: B, id: u32) -> std::result::Result<String<B>, AllocError> {
+    fn path<B: Allocator>(&self, alloc: B, id: u32) -> std::result::Result<String<B>, AllocError>
+        ensures { IfOk result (λ path. string_bytes path ≡ partition_path (string_bytes self.now.dir) id) }
+    {
         partition_path(alloc, self.dir.as_str(), id)
     }
 
@@ -218,7 +220,12 @@ impl<A: Allocator> Device for FsDevice<A> {
         self.sizes.len()
     }
 
-    fn files<B: Allocator + Clone>(&self, alloc: B) -> Result<Vec<String<B>, B>> {
+    fn files<B: Allocator + Clone>(&self, alloc: B) -> Result<Vec<String<B>, B>>
+        ensures count { IfOk result (λ paths. vec_len paths ≡ length self.now.sizes) }
+        ensures paths { IfOk result (λ paths. map string_bytes paths.items
+            ≡ first_paths (string_bytes self.now.dir) (length self.now.sizes)) }
+        ensures memory { OnErr result (result ≡ Err error.Memory) }
+    {
         let mut paths = Vec::new(alloc.clone()?);
         for id in 0..self.sizes.len() as u64 {
             let path = self.path(alloc.clone()?, id as u32)?;
