@@ -348,6 +348,7 @@ impl<A: Allocator> BlockManager<A> {
         requires { IsWritten self.old block }
         ensures same { HasSameRules self.old self.new }
         ensures left { (s : BlockSets) → Stands self.old s → Stands self.new (after_writing s block) }
+        ensures others { (q : ℕ) → (q ≡ block → ⊥) → slice_get self.new.blocks q ≡ slice_get self.old.blocks q }
         ensures shown { AreShown P.learns (picker_info self.new.blocks self.new.evictable (usable_in self.new)) block pickers.old pickers.new }
     {
         let state = &mut self.blocks[block as usize];

@@ -1,5 +1,5 @@
 //! What a destroy does to the sets.
-ghost use Rattle.std.specs.Prelude.{◌≡◌, ◌<◌, ◌^◌, ℕ, Bool, Option, None, length, map, false};
+ghost use Rattle.std.specs.Prelude.{◌≡◌, ◌<◌, ◌^◌, ℕ, Bool, Option, None, length, map, slice_get, false};
 ghost use Rattle.std.specs.VecDeque.{deque_capacity};
 ghost use Rattle.foyer_model.specs.Flush.{usable_count};
 ghost use Rattle.foyer_model.specs.Numbers.{plus};
@@ -56,6 +56,7 @@ impl<A: Allocator> BlockManager<A> {
     ghost use Rattle.foyer_model.specs.Numbers.{put};
     ghost use Rattle.foyer_sets.specs.BlockSets.{BlockSets, Stands, HasSameRules};
     ghost use Rattle.foyer_sets.specs.Clearing.{cleared};
+    ghost use Rattle.foyer_sets.specs.Shown.{AreShownAll, written_at, written_below};
 
     // A block is taken from its flusher, if one has it.
     fn vacate<P: EvictionPicker>(&mut self, pickers: &mut [P], block: BlockId)
@@ -63,6 +64,8 @@ impl<A: Allocator> BlockManager<A> {
         ensures same { HasSameRules self.old self.new }
         ensures vacated { (s : BlockSets) → Stands self.old s
             → Stands self.new (record s { block_set = put s.block_set block (vacated (s.block_set block)) }) }
+        ensures others { (q : ℕ) → (q ≡ block → ⊥) → slice_get self.new.blocks q ≡ slice_get self.old.blocks q }
+        ensures shown { AreShownAll P.learns (written_at self.old.blocks block) pickers.old pickers.new }
     {
         if !self.is_written(block) {
             return;
@@ -73,6 +76,7 @@ impl<A: Allocator> BlockManager<A> {
     fn vacate_all<P: EvictionPicker>(&mut self, pickers: &mut [P])
         ensures same { HasSameRules self.old self.new }
         ensures vacated { (s : BlockSets) → Stands self.old s → Stands self.new (record s { block_set = λ b. vacated (s.block_set b) }) }
+        ensures shown { AreShownAll P.learns (written_below self.old.blocks (length self.old.blocks)) pickers.old pickers.new }
     {
         let count = self.blocks();
         'each_block: for index in 0..count {
@@ -85,6 +89,7 @@ impl<A: Allocator> BlockManager<A> {
     pub fn clear<P: EvictionPicker>(&mut self, pickers: &mut [P])
         ensures same { HasSameRules self.old self.new }
         ensures cleared { (s : BlockSets) → Stands self.old s → Stands self.new (cleared (length self.old.blocks) s) }
+        ensures shown { AreShownAll P.learns (written_below self.old.blocks (length self.old.blocks)) pickers.old pickers.new }
     {
         self.vacate_all(pickers);
         refill(&mut self.blocks);

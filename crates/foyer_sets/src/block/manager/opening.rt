@@ -2,8 +2,9 @@
 ghost use Rattle.std.specs.Prelude.{◌≡◌, ◌<◌, ◌↔◌, ◌⊎◌, ◌^◌, ℕ, ◌++◌, ◌∷◌, [], length, true, false, IfOk, IfErr, OnOk, OnErr, IsOkUnless, IsTrue, slice_get};
 ghost use Rattle.foyer_device.specs.declared.error.Error.TheVariants.{Memory, Config};
 ghost use Rattle.foyer_sets.specs.Initial.{CanBeClean};
+ghost use Rattle.foyer_sets.specs.Shown.{AreShownAll, evictable_below};
 
-use crate::block::eviction::{EvictionPicker, is_pick};
+use crate::block::eviction::{EvictionPicker, is_pick, show_evictable};
 use crate::block::ids::IdSet;
 use crate::block::manager::{
     BlockId, BlockManager, BlockSet, BlockState, NO_STATISTICS, info_of, one_more,
@@ -49,21 +50,19 @@ where
     Ok(true)
 }
 
-// The pickers learn of all evictable blocks, in the order of their ids.
-fn tell_evictable<P: EvictionPicker, A: Allocator>(
+// The pickers are shown all evictable blocks, in the order of their ids.
+fn show_all_evictable<P: EvictionPicker, A: Allocator>(
     pickers: &mut [P],
     blocks: &Vec<BlockState, A>,
     evictable: &IdSet<A>,
     usable: usize,
 )
     requires { length blocks.now.items < 2 ^ 32 }
+    ensures { AreShownAll P.learns (evictable_below blocks.now.items (length blocks.now.items)) pickers.old pickers.new }
 {
     'each_block: for index in 0..blocks.len() {
-        let id = index as u32;
         if blocks[index].is_evictable() {
-            'each_picker: for picker in pickers.iter_mut() {
-                picker.on_block_evictable(info_of(blocks, evictable, usable), id);
-            }
+            show_evictable(pickers, info_of(blocks, evictable, usable), index as u32);
         }
     }
 }
@@ -142,13 +141,14 @@ impl<A: Allocator> BlockManager<A> {
         ensures clean { OnOk result ((s : BlockSets) → Stands self.old s → Stands self.new (with_clean s clean.now)) }
         ensures accepted { OnOk result (CanBeClean self.old.blocks clean.now) }
         ensures refused { IfErr result (λ e. (e ≡ Memory) ⊎ ((e ≡ Config) × (CanBeClean self.old.blocks clean.now → ⊥))) }
-        ensures unchanged { OnErr result (self.new ≡ self.old) }
+        ensures shown { OnOk result (AreShownAll P.learns (evictable_below self.new.blocks (length self.new.blocks)) pickers.old pickers.new) }
+        ensures unchanged { OnErr result ((self.new ≡ self.old) × (pickers.new ≡ pickers.old)) }
     {
         if !can_be_clean(alloc, &self.blocks, clean)? {
             return Err(Error::Config);
         }
         self.make_all_clean(clean);
-        tell_evictable(pickers, &self.blocks, &self.evictable, self.usable);
+        show_all_evictable(pickers, &self.blocks, &self.evictable, self.usable);
         Ok(())
     }
 }

@@ -7,7 +7,7 @@ use Rattle.foyer_sets.specs.Pickers.{Info, picker_info}
 use Rattle.foyer_sets.specs.Shown.{AreShown}
 use Rattle.foyer_sets.specs.declared.block.states.BlockState.{BlockState}
 use Rattle.foyer_sets.specs.declared.block.states.BlockSet.TheVariants.{Writing, Evictable}
-use Rattle.foyer_sets.proofs.BlockStateLemmas.{there_is, some_is, append_test}
+use Rattle.foyer_sets.proofs.BlockStateLemmas.{set_there, there_is, some_is, append_test}
 use Rattle.foyer_sets.proofs.ManagedLemmas.{kept_unclean}
 use Rattle.foyer_sets.proofs.StandsLemmas.{stands_left}
 use Rattle.foyer_sets.proofs.block.manager.BlockManager.on_writing_finish.Goals as goal
@@ -65,3 +65,9 @@ returns-clause-shown g c =
     (ap (λ x. picker_info x evictable clean) c.info_of-info.ensures.0 ∙ ap (λ x. picker_info (slice_set m.blocks.items c.args.block now) x clean) c.info_of-info.ensures.1
     ∙ ap (λ x. picker_info (slice_set m.blocks.items c.args.block now) c.insert.new.self.ids x) (c.info_of-info.ensures.2 ∙ kept.usable_is))
     c.show_evictable.ensures
+
+pub returns-clause-others : goal.returns-clause-others
+returns-clause-others g c = λ q ne.
+    let m = c.self.inside in
+    let old : Managed = record { blocks = m.blocks.items; clean = m.clean.items; evictable = m.evictable.ids; waiting = m.waiting.items; ready = m.ready.items; reclaimers = m.reclaimers; clean_threshold = m.clean_threshold; is_cleaning = m.is_cleaning } in
+    set_there m.blocks.items c.args.block q (record (c.index_mut-state.result.now) { block_set = Evictable }) ne ∙ ap (λ (w : Managed). slice_get w.blocks q) c.self.view_is
