@@ -115,13 +115,13 @@ where
     if !is_clean_due(kept.cleans.as_slice(), block as usize) {
         return;
     }
-    let cleaned = clean_block(disk, block);
+    let outcome = clean_block(disk, block);
     set_due(&mut kept.cleans, block as usize, false);
     let reply = core.apply(
         env,
         Step::DestroyCleaned {
             block,
-            result: cleaned,
+            result: outcome,
         },
     );
     note_ticket(&mut kept.tickets, &reply);

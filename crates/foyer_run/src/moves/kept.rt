@@ -67,7 +67,7 @@ pub(crate) fn is_clean_due(cleans: &[bool], i: usize) -> bool
     ensures { result ≡ is_set (slice_get cleans.now i) }
 {
     match cleans.get(i) {
-        Some(x) => *x,
+        Some(is_due) => *is_due,
         None => false,
     }
 }
