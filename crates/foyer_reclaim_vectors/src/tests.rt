@@ -2,6 +2,7 @@
 
 mod asked;
 mod faults;
+mod moves;
 mod own;
 mod random;
 mod rows;

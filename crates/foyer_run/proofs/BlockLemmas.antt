@@ -1,5 +1,5 @@
 -- A step of a run that asks for a block.
-use Rattle.std.proofs.Common.{◌≡◌, ℕ, ◌+◌, ◌<◌, List, [], ◌∷◌, ◌++◌, ◌⊎◌, inl, inr, map, length, Option, Some, None, slice_get, slice_set, refl, sym, ap, subst, ◌∙◌, arith}
+use Rattle.std.proofs.Common.{◌≡◌, ℕ, ◌+◌, ◌<◌, Bool, List, [], ◌∷◌, ◌++◌, ◌⊎◌, inl, inr, map, length, Option, Some, None, slice_get, slice_set, refl, sym, ap, subst, ◌∙◌, arith}
 use Rattle.std.specs.declared.vec.Vec.{Vec}
 use Rattle.foyer_model.specs.Access.{BlockWrites, block_writes_after, writes_of, loads_after, issued_after}
 use Rattle.foyer_model.specs.Reply as model_reply
@@ -24,7 +24,9 @@ use Rattle.foyer_core.specs.declared.step.Ticket.{Ticket}
 use Rattle.foyer_standing.proofs.ListLemmas.{set_here, set_there, set_count}
 use Rattle.foyer_run.specs.Running.{IsDue, IsMoved, IsRunning, at, block_in, ticket_in, with_ticket}
 use Rattle.foyer_run.specs.declared.moves.Asked.TheVariants as asks
-use Rattle.foyer_run.specs.declared.moves.Issued.{Issued}
+use Rattle.foyer_run.specs.declared.moves.kept.Issued.{Issued}
+use Rattle.foyer_run.specs.declared.reclaims.Part.{Part}
+use Rattle.foyer_run.proofs.DueBlocks.{cleans_beside, scans_beside}
 use Rattle.foyer_run.proofs.DueLemmas.{block_writes_untold, due_of}
 use Rattle.foyer_run.proofs.ListLemmas.{get_here}
 use Rattle.foyer_run.proofs.ReplyLemmas.{no_write, writes_are}
@@ -66,12 +68,12 @@ module _ {K V P A : Type 0} (m : Meaning K V P) (s : Settings) (sound : AreValid
       ((block_in answer ≡ None) × (new ≡ old))
       ⊎ ((b : ℕ) × (block_in answer ≡ Some b) × (new ≡ slice_set old f (Some (first_issued b n))))
 
-  pub block_moves : (first : ℕ) (block_writes : ℕ → BlockWrites) (f : ℕ) (answer : Reply K V P A) (tickets tickets' : List (Option Ticket)) (issued issued' : List (Option Issued)) (said said' : List (Reply K V P A))
-      (old new : Core K V P A) (bytes : ℕ → ℕ → ℕ) (w : World Content) → IsRunning m s first block_writes tickets issued said old bytes w
+  pub block_moves : (from : World Content) (f : ℕ) (answer : Reply K V P A) (tickets tickets' : List (Option Ticket)) (issued issued' : List (Option Issued)) (scans : List (Option Part)) (cleans : List Bool) (said said' : List (Reply K V P A))
+      (old new : Core K V P A) (bytes : ℕ → ℕ → ℕ) (w : World Content) → IsRunning m s from tickets issued scans cleans said old bytes w
       → IsRefined m s sound (step.FlushBlock f) answer new w.core → tickets' ≡ with_ticket (ticket_in answer) tickets → said' ≡ said ++ answer ∷ []
       → IsNoted f answer (length said) issued issued'
-      → IsMoved m s sound first block_writes (asks.FlushBlock f) said tickets' issued' said' new bytes w
-  block_moves first block_writes f answer tickets tickets' issued issued' said said' old new bytes w running met ts ss noted = record {
+      → IsMoved m s sound from (asks.FlushBlock f) said tickets' issued' scans cleans said' new bytes w
+  block_moves from f answer tickets tickets' issued issued' scans cleans said said' old new bytes w running met ts ss noted = record {
     events = Applies (model_step.FlushBlock f) met.it met.after ∷ [];
     answers = answer ∷ [];
     happened = ((tt, met.follows), tt);
@@ -80,25 +82,28 @@ module _ {K V P A : Type 0} (m : Meaning K V P) (s : Settings) (sound : AreValid
     running = record {
       stands = met.stands;
       same = running.same;
-      count = gone.0 ∙ ap (λ xs. first + length xs) (sym ts);
-      loads = subst (λ xs. AreUnread first xs (loads_after met.it w.history w.kept w.issued w.loads)) (sym ts) gone.1;
+      count = gone.0 ∙ ap (λ xs. from.issued + length xs) (sym ts);
+      loads = subst (λ xs. AreUnread from.issued xs (loads_after met.it w.history w.kept w.issued w.loads)) (sym ts) gone.1;
       flushers = (flushes noted).0;
       writes = (flushes noted).1;
+      blocks = running.blocks;
+      due_scans = scans_beside from.scans scans met.it (model_step.FlushBlock f) tt (machine m s sound).index_size w.scans running.due_scans;
+      due_cleans = cleans_beside from.clean_states cleans met.it (model_step.FlushBlock f) tt w.clean_states running.due_cleans;
     };
   }
     where
-      gone : (issued_after met.it w.issued ≡ first + length (with_ticket (ticket_in answer) tickets)) × AreUnread first (with_ticket (ticket_in answer) tickets) (loads_after met.it w.history w.kept w.issued w.loads)
-      gone = unread_goes m first w.issued tickets w.loads w.history w.kept answer met.it met.reply running.count running.loads
+      gone : (issued_after met.it w.issued ≡ from.issued + length (with_ticket (ticket_in answer) tickets)) × AreUnread from.issued (with_ticket (ticket_in answer) tickets) (loads_after met.it w.history w.kept w.issued w.loads)
+      gone = unread_goes m from.issued w.issued tickets w.loads w.history w.kept answer met.it met.reply running.count running.loads
 
       flushes : IsNoted f answer (length said) issued issued'
-          → (length issued' ≡ s.flushers) × ((g : ℕ) → IsDue (block_writes g) said' (at (slice_get issued' g)) (block_writes_after met.it (model_step.FlushBlock f) w.block_writes g))
+          → (length issued' ≡ s.flushers) × ((g : ℕ) → IsDue (from.block_writes g) said' (at (slice_get issued' g)) (block_writes_after met.it (model_step.FlushBlock f) w.block_writes g))
       flushes (inl none) =
           let same : block_writes_after met.it (model_step.FlushBlock f) w.block_writes ≡ w.block_writes = block_writes_untold met.it f w.block_writes (no_write m answer met.it none.0 met.reply) in (
             ap length none.1 ∙ running.flushers,
-            λ g. subst (λ xs. IsDue (block_writes g) xs (at (slice_get issued' g)) (block_writes_after met.it (model_step.FlushBlock f) w.block_writes g)) (sym ss)
-                (subst (λ ys. IsDue (block_writes g) (said ++ answer ∷ []) (at (slice_get ys g)) (block_writes_after met.it (model_step.FlushBlock f) w.block_writes g)) (sym none.1)
-                (due_more (block_writes g) said (answer ∷ []) (at (slice_get issued g)) _
-                (subst (λ all. IsDue (block_writes g) said (at (slice_get issued g)) (all g)) (sym same) (running.writes g)))),
+            λ g. subst (λ xs. IsDue (from.block_writes g) xs (at (slice_get issued' g)) (block_writes_after met.it (model_step.FlushBlock f) w.block_writes g)) (sym ss)
+                (subst (λ ys. IsDue (from.block_writes g) (said ++ answer ∷ []) (at (slice_get ys g)) (block_writes_after met.it (model_step.FlushBlock f) w.block_writes g)) (sym none.1)
+                (due_more (from.block_writes g) said (answer ∷ []) (at (slice_get issued g)) _
+                (subst (λ all. IsDue (from.block_writes g) said (at (slice_get issued g)) (all g)) (sym same) (running.writes g)))),
           )
       flushes (inr (b, is, noted_as)) =
           let written = writes_are answer b is in
@@ -108,10 +113,10 @@ module _ {K V P A : Type 0} (m : Meaning K V P) (s : Settings) (sound : AreValid
           let there : f < s.flushers = (follows.1).0 in
           let within : f < length issued = (let e : length issued ≡ s.flushers = running.flushers in omega arith) in (
             ap length noted_as ∙ set_count issued f (Some (first_issued b (length said))) ∙ running.flushers,
-            λ g. subst (λ xs. IsDue (block_writes g) xs (at (slice_get issued' g)) (block_writes_after met.it (model_step.FlushBlock f) w.block_writes g)) (sym (ss ∙ ap (λ r. said ++ r ∷ []) written.1))
-                (subst (λ ys. IsDue (block_writes g) (said ++ reply.Write b written.0 ∷ []) (at (slice_get ys g)) (block_writes_after met.it (model_step.FlushBlock f) w.block_writes g)) (sym noted_as)
-                (subst (λ r. IsDue (block_writes g) (said ++ reply.Write b written.0 ∷ []) (at (slice_get (slice_set issued f (Some (first_issued b (length said)))) g)) (block_writes_after r (model_step.FlushBlock f) w.block_writes g)) (sym it_is)
-                (issued_due f b block_writes w.block_writes issued said written.0 within running.writes g))),
+            λ g. subst (λ xs. IsDue (from.block_writes g) xs (at (slice_get issued' g)) (block_writes_after met.it (model_step.FlushBlock f) w.block_writes g)) (sym (ss ∙ ap (λ r. said ++ r ∷ []) written.1))
+                (subst (λ ys. IsDue (from.block_writes g) (said ++ reply.Write b written.0 ∷ []) (at (slice_get ys g)) (block_writes_after met.it (model_step.FlushBlock f) w.block_writes g)) (sym noted_as)
+                (subst (λ r. IsDue (from.block_writes g) (said ++ reply.Write b written.0 ∷ []) (at (slice_get (slice_set issued f (Some (first_issued b (length said)))) g)) (block_writes_after r (model_step.FlushBlock f) w.block_writes g)) (sym it_is)
+                (issued_due f b from.block_writes w.block_writes issued said written.0 within running.writes g))),
           )
 
   -- a flusher that is issued writes is there

@@ -1,6 +1,6 @@
 -- The clear of a destroy, and its cleans, are events of the world.
-use Rattle.std.proofs.Common.{◌≡◌, ◌≢◌, ℕ, zero, suc, ◌+◌, ◌<◌, ◌≤◌, ◌==◌, Bool, true, false, if◌then◌else◌, List, [], ◌∷◌, ◌++◌, inl, inr, Option, Some, None, Result, Ok, Err, refl, sym, ap, subst, ◌∙◌, arith}
-use Rattle.std.proofs.lemmas.Bool.{eqb-true, eqb-false}
+use Rattle.std.proofs.Common.{◌≡◌, ℕ, zero, suc, ◌+◌, ◌<◌, ◌≤◌, ◌==◌, Bool, true, false, if◌then◌else◌, List, [], ◌∷◌, ◌++◌, inr, Option, Result, Ok, Err, refl, sym, ap, subst, ◌∙◌, arith}
+use Rattle.std.proofs.lemmas.Bool.{eqb-true}
 use Rattle.std.proofs.lemmas.Bool.Decides.{nat_tests}
 use Rattle.foyer_device.specs.declared.error.Error.{Error}
 use Rattle.foyer_device.specs.declared.error.Error.TheVariants as error
@@ -8,9 +8,7 @@ use Rattle.foyer_model.specs.Access.{CleanState, CleanIssued, CleanInFlight, Cle
 use Rattle.foyer_model.specs.Follows.{Follows}
 use Rattle.foyer_model.specs.Ids.{ids, is_id_in}
 use Rattle.foyer_model.specs.Kind.{Kind}
-use Rattle.foyer_model.specs.Numbers.{put}
 use Rattle.foyer_model.specs.Reply as model_reply
-use Rattle.foyer_model.specs.Rules.{Rules}
 use Rattle.foyer_model.specs.State.{State}
 use Rattle.foyer_model.specs.Step as model_step
 use Rattle.foyer_model.specs.World.{is_none, World, WorldEvent, Applies, CleanBegins, CleanEnds, after, after_all}
@@ -18,7 +16,6 @@ use Rattle.foyer_model.proofs.Basics.{put_same, put_other}
 use Rattle.foyer_model.proofs.Ids.{in_front, in_last}
 use Rattle.foyer_rules.specs.Content.{Content, Meaning}
 use Rattle.foyer_rules.specs.CoreRules.{layout, machine, IsEncoded}
-use Rattle.foyer_rules.specs.Sizes.{AreValid}
 use Rattle.foyer_rules.specs.declared.settings.Settings.{Settings}
 use Rattle.foyer_core.specs.Asked.{fault_of, went_well}
 use Rattle.foyer_core.specs.Refines.{IsRefined, Refines}
@@ -27,15 +24,14 @@ use Rattle.foyer_core.specs.declared.reply.Reply.{Reply}
 use Rattle.foyer_core.specs.declared.reply.Reply.TheVariants as reply
 use Rattle.foyer_core.specs.declared.state.Core.{Core}
 use Rattle.foyer_core.specs.declared.step.Step.TheVariants as step
-use Rattle.foyer_run.specs.Destroys.{AreCleansUpTo, AwaitCleans, Cleans, ClearsUpTo, IsClearing, IsUncleared}
-use Rattle.foyer_run.specs.Driven.{IsDriven}
+use Rattle.foyer_run.specs.Destroys.{AreCleansUpTo, Cleans, ClearsUpTo, IsClearing, IsUncleared}
 use Rattle.foyer_run.specs.Waiting.{DrivesBy}
 use Rattle.foyer_run.proofs.ListLemmas.{append_twice}
 use Rattle.foyer_run.proofs.ReclaimRuns.{IsCleanDone, clean_same, done_torn}
 use Rattle.foyer_run.proofs.RunLemmas.{after_more, happen_more}
 
 -- what went well has no fault
-went_fault : {X : Type 0} (r : Result X Error) → went_well r ≡ is_none (fault_of r)
+pub went_fault : {X : Type 0} (r : Result X Error) → went_well r ≡ is_none (fault_of r)
 went_fault (Ok x) = refl
 went_fault (Err error.Io) = refl
 went_fault (Err error.Memory) = refl
@@ -61,7 +57,7 @@ in_ids (suc n) b lt = go (b == n) refl (λ less. in_ids n b less)
     go false e below = in_front b (ids n) (n ∷ []) (below (grind (arith, nat_tests)))
 
 -- the other cleans are as they were
-cleans_other : {C : Type 0} (it : model_reply.Reply C) (b q : ℕ) (fault : Option Kind) (cleans : ℕ → CleanState) → (q ≡ b → ⊥)
+pub cleans_other : {C : Type 0} (it : model_reply.Reply C) (b q : ℕ) (fault : Option Kind) (cleans : ℕ → CleanState) → (q ≡ b → ⊥)
     → cleans_after it (model_step.DestroyCleaned b fault) cleans q ≡ cleans q
 cleans_other model_reply.Done b q fault cleans ne = put_other cleans b _ q ne
 cleans_other (model_reply.Destroyed first) b q fault cleans ne = put_other cleans b _ q ne

@@ -1,9 +1,11 @@
 pub mod AccessLemmas
 pub mod BatchRuns
 pub mod BlockLemmas
+pub mod CleanLemmas
 pub mod DestroyLemmas
 pub mod DestroyRuns
 pub mod DriveLemmas
+pub mod DueBlocks
 pub mod DueLemmas
 pub mod FlusherSteps
 pub mod IdleLemmas
@@ -19,6 +21,7 @@ pub mod ReclaimRuns
 pub mod ReplyLemmas
 pub mod RestLemmas
 pub mod RunLemmas
+pub mod ScanLemmas
 pub mod StepLemmas
 pub mod StoppedRuns
 pub mod WriteLemmas

@@ -1,5 +1,5 @@
 -- Places of lists.
-use Rattle.std.proofs.Common.{◌≡◌, ℕ, ◌^◌, Bor, true, false, nat_lt, sym, zero, suc, ◌+◌, ◌<◌, ◌≤◌, List, [], ◌∷◌, ◌++◌, ◌⊎◌, inl, inr, drop, length, Option, Some, None, slice_get, refl, ap, ◌∙◌, arith}
+use Rattle.std.proofs.Common.{◌≡◌, ℕ, ◌^◌, Bor, true, false, nat_lt, sym, zero, suc, ◌+◌, ◌<◌, ◌≤◌, List, [], ◌∷◌, ◌++◌, ◌⊎◌, inl, inr, drop, length, replicate, Option, Some, None, slice_get, refl, ap, ◌∙◌, arith}
 use Rattle.std.proofs.lemmas.Bool.Decides.{nat_tests}
 use Rattle.std.proofs.lemmas.Option.{slice_get_past}
 use Rattle.std.specs.Prelude.{IfSome, MatchOption, is_some, slice_index_or}
@@ -79,3 +79,9 @@ module _ {X : Type 0} where
   pub empty_is : (xs : List X) → length xs ≡ 0 → xs ≡ []
   empty_is [] e = refl
   empty_is (x ∷ xs) e = absurd (omega arith)
+
+  -- a list whose places have the same
+  pub all_same : (xs : List X) (x : X) → ((i : ℕ) → i < length xs → slice_get xs i ≡ Some x) → xs ≡ replicate (length xs) x
+  all_same [] x are = refl
+  all_same (y ∷ xs) x are =
+      ap (λ z. z ∷ xs) (some_is (are 0 (omega arith))) ∙ ap (λ zs. x ∷ zs) (all_same xs x (λ i lt. are (suc i) (omega (arith, lt))))

@@ -6,7 +6,7 @@ use Rattle.std.specs.Prelude.{IfOk, vec_len}
 use Rattle.std.specs.declared.vec.Vec.{Vec}
 use Rattle.foyer_device.specs.declared.error.Error.{Error}
 use Rattle.foyer_format.specs.Page.{page_up}
-use Rattle.foyer_model.specs.Access.{Load, ReadState, BlockWrites, ReadIssued, Reading, ReadDone, at_load, begun, came, loads_after, issued_after, block_writes_after, IsRead as IsReadFrom}
+use Rattle.foyer_model.specs.Access.{Load, ReadState, ReadIssued, Reading, ReadDone, at_load, begun, came, loads_after, issued_after, block_writes_after, IsRead as IsReadFrom}
 use Rattle.foyer_model.specs.Event as model_event
 use Rattle.foyer_model.specs.Rules.{Rules}
 use Rattle.foyer_model.specs.Step as model_step
@@ -27,7 +27,9 @@ use Rattle.foyer_blockio.specs.Disk.{IsRead}
 use Rattle.foyer_run.specs.Due.{unread}
 use Rattle.foyer_run.specs.Running.{IsDue, IsMoved, IsRunning, at, issued_of, ticket_in, with_ticket}
 use Rattle.foyer_run.specs.declared.moves.Asked.TheVariants as asks
-use Rattle.foyer_run.specs.declared.moves.Issued.{Issued}
+use Rattle.foyer_run.specs.declared.moves.kept.Issued.{Issued}
+use Rattle.foyer_run.specs.declared.reclaims.Part.{Part}
+use Rattle.foyer_run.proofs.DueBlocks.{cleans_beside, scans_beside}
 use Rattle.foyer_run.proofs.DueLemmas.{unread_is, block_writes_stay}
 use Rattle.foyer_run.proofs.ListLemmas.{append_none, past_end, at_is}
 use Rattle.foyer_run.proofs.StepLemmas.{AreUnread, due_more, unread_goes}
@@ -49,10 +51,10 @@ module _ {K V P : Type 0} (m : Meaning K V P) (s : Settings) (sound : AreValid s
   rules = machine m s sound
 
   -- a move whose read isn't due is passed over
-  pub load_passes : {A : Type 0} (first : ℕ) (block_writes : ℕ → BlockWrites) (n : ℕ) (tickets : List (Option Ticket)) (issued : List (Option Issued)) (said : List (Reply K V P A))
-      (core : Core K V P A) (bytes : ℕ → ℕ → ℕ) (w : World Content) → IsRunning m s first block_writes tickets issued said core bytes w → at (slice_get tickets n) ≡ None
-      → IsMoved m s sound first block_writes (asks.LoadEnd n) said tickets issued said core bytes w
-  load_passes first block_writes n tickets issued said core bytes w running none = record {
+  pub load_passes : {A : Type 0} (from : World Content) (n : ℕ) (tickets : List (Option Ticket)) (issued : List (Option Issued)) (scans : List (Option Part)) (cleans : List Bool) (said : List (Reply K V P A))
+      (core : Core K V P A) (bytes : ℕ → ℕ → ℕ) (w : World Content) → IsRunning m s from tickets issued scans cleans said core bytes w → at (slice_get tickets n) ≡ None
+      → IsMoved m s sound from (asks.LoadEnd n) said tickets issued scans cleans said core bytes w
+  load_passes from n tickets issued scans cleans said core bytes w running none = record {
     events = [];
     answers = [];
     happened = tt;
@@ -61,10 +63,10 @@ module _ {K V P : Type 0} (m : Meaning K V P) (s : Settings) (sound : AreValid s
     running = running;
   }
     where
-      go : (x : Option (Option Ticket)) → slice_get tickets n ≡ x → at x ≡ None → (unread (w.loads (first + n)) ≡ None) ⊎ (w.issued ≤ first + n)
+      go : (x : Option (Option Ticket)) → slice_get tickets n ≡ x → at x ≡ None → (unread (w.loads (from.issued + n)) ≡ None) ⊎ (w.issued ≤ from.issued + n)
       go (Some None) is e = inl (running.loads n None is)
       go (Some (Some t)) is e = absurd (let f : Some t ≡ None = e in cc)
-      go None is e = inr (let past : length tickets ≤ n = past_end tickets n is in let count : w.issued ≡ first + length tickets = running.count in omega arith)
+      go None is e = inr (let past : length tickets ≤ n = past_end tickets n is in let count : w.issued ≡ from.issued + length tickets = running.count in omega arith)
 
   -- the world when the read has begun, and when it has ended
   abbrev pub begins : World Content → ℕ → World Content
@@ -97,13 +99,13 @@ module _ {K V P : Type 0} (m : Meaning K V P) (s : Settings) (sound : AreValid s
       (is.1, λ i lt free. is.0 i lt ∙ sym (same ticket.address.block (ticket.address.offset + i)))
   gives w bytes ticket (Err e) seen same is = tt
 
-  pub load_moves : {A : Type 0} (first : ℕ) (block_writes : ℕ → BlockWrites) (n : ℕ) (ticket : Ticket) (outcome : Result (Vec ℕ A) Error) (answer : Reply K V P A) (tickets tickets' : List (Option Ticket)) (issued : List (Option Issued)) (said said' : List (Reply K V P A))
-      (old new : Core K V P A) (bytes : ℕ → ℕ → ℕ) (w : World Content) → IsRunning m s first block_writes tickets issued said old bytes w
+  pub load_moves : {A : Type 0} (from : World Content) (n : ℕ) (ticket : Ticket) (outcome : Result (Vec ℕ A) Error) (answer : Reply K V P A) (tickets tickets' : List (Option Ticket)) (issued : List (Option Issued)) (scans : List (Option Part)) (cleans : List Bool) (said said' : List (Reply K V P A))
+      (old new : Core K V P A) (bytes : ℕ → ℕ → ℕ) (w : World Content) → IsRunning m s from tickets issued scans cleans said old bytes w
       → at (slice_get tickets n) ≡ Some ticket → IsCome bytes ticket outcome
       → IsRefined m s sound (step.LoadEnd ticket outcome) answer new w.core
       → tickets' ≡ with_ticket (ticket_in answer) (slice_set tickets n None) → said' ≡ said ++ answer ∷ []
-      → IsMoved m s sound first block_writes (asks.LoadEnd n) said tickets' issued said' new bytes w
-  load_moves first block_writes n ticket outcome answer tickets tickets' issued said said' old new bytes w running is_due come met ts ss = record {
+      → IsMoved m s sound from (asks.LoadEnd n) said tickets' issued scans cleans said' new bytes w
+  load_moves from n ticket outcome answer tickets tickets' issued scans cleans said said' old new bytes w running is_due come met ts ss = record {
     events = ReadBegins k ∷ ReadEnds k result ∷ Applies (model_step.LoadEnd t result) met.it met.after ∷ [];
     answers = answer ∷ [];
     happened = (
@@ -118,17 +120,20 @@ module _ {K V P : Type 0} (m : Meaning K V P) (s : Settings) (sound : AreValid s
     running = record {
       stands = met.stands;
       same = running.same;
-      count = gone.0 ∙ ap (λ xs. first + length xs) (sym ts);
-      loads = subst (λ xs. AreUnread first xs (loads_after met.it w.history w.kept w.issued w2.loads)) (sym ts) gone.1;
+      count = gone.0 ∙ ap (λ xs. from.issued + length xs) (sym ts);
+      loads = subst (λ xs. AreUnread from.issued xs (loads_after met.it w.history w.kept w.issued w2.loads)) (sym ts) gone.1;
       flushers = running.flushers;
-      writes = λ f. subst (λ xs. IsDue (block_writes f) xs (at (slice_get issued f)) (block_writes_after met.it (model_step.LoadEnd t result) w.block_writes f)) (sym ss)
-          (due_more (block_writes f) said (answer ∷ []) (at (slice_get issued f)) _
-          (subst (λ all. IsDue (block_writes f) said (at (slice_get issued f)) (all f)) (sym (block_writes_stay met.it (model_step.LoadEnd t result) w.block_writes tt)) (running.writes f)));
+      writes = λ f. subst (λ xs. IsDue (from.block_writes f) xs (at (slice_get issued f)) (block_writes_after met.it (model_step.LoadEnd t result) w.block_writes f)) (sym ss)
+          (due_more (from.block_writes f) said (answer ∷ []) (at (slice_get issued f)) _
+          (subst (λ all. IsDue (from.block_writes f) said (at (slice_get issued f)) (all f)) (sym (block_writes_stay met.it (model_step.LoadEnd t result) w.block_writes tt)) (running.writes f)));
+      blocks = running.blocks;
+      due_scans = scans_beside from.scans scans met.it (model_step.LoadEnd t result) tt rules.index_size w.scans running.due_scans;
+      due_cleans = cleans_beside from.clean_states cleans met.it (model_step.LoadEnd t result) tt w.clean_states running.due_cleans;
     };
   }
     where
       k : ℕ
-      k = first + n
+      k = from.issued + n
 
       t : model_step.Ticket
       t = ticket_of ticket
@@ -160,19 +165,19 @@ module _ {K V P : Type 0} (m : Meaning K V P) (s : Settings) (sound : AreValid s
       within : n < length tickets
       within = slice_get_within tickets n (Some ticket) listed
 
-      left : AreUnread first (slice_set tickets n None) w2.loads
+      left : AreUnread from.issued (slice_set tickets n None) w2.loads
       left j x here = go (j == n) refl
         where
-          go : (e : Bool) → (j == n) ≡ e → unread (w2.loads (first + j)) ≡ issued_of x
+          go : (e : Bool) → (j == n) ≡ e → unread (w2.loads (from.issued + j)) ≡ issued_of x
           go true e =
               let same : j ≡ n = grind (arith, nat_tests) in
               let none : None ≡ x = some_is (sym (set_here tickets n None within) ∙ ap (slice_get (slice_set tickets n None)) (sym same) ∙ here) in
-              ap (λ i. unread (w2.loads (first + i))) same ∙ ap unread (ended w k result t p kept is) ∙ ap issued_of none
+              ap (λ i. unread (w2.loads (from.issued + i))) same ∙ ap unread (ended w k result t p kept is) ∙ ap issued_of none
           go false e =
               let ne : j ≡ n → ⊥ = λ same. grind (arith, nat_tests) in
-              ap unread (elsewhere w k (first + j) result (λ same. ne (omega arith)))
+              ap unread (elsewhere w k (from.issued + j) result (λ same. ne (omega arith)))
               ∙ running.loads j x (sym (set_there tickets n j None ne) ∙ here)
 
-      gone : (issued_after met.it w.issued ≡ first + length (with_ticket (ticket_in answer) (slice_set tickets n None))) × AreUnread first (with_ticket (ticket_in answer) (slice_set tickets n None)) (loads_after met.it w.history w.kept w.issued w2.loads)
-      gone = unread_goes m first w.issued (slice_set tickets n None) w2.loads w.history w.kept answer met.it met.reply
-          (running.count ∙ ap (λ c. first + c) (sym (set_count tickets n None))) left
+      gone : (issued_after met.it w.issued ≡ from.issued + length (with_ticket (ticket_in answer) (slice_set tickets n None))) × AreUnread from.issued (with_ticket (ticket_in answer) (slice_set tickets n None)) (loads_after met.it w.history w.kept w.issued w2.loads)
+      gone = unread_goes m from.issued w.issued (slice_set tickets n None) w2.loads w.history w.kept answer met.it met.reply
+          (running.count ∙ ap (λ c. from.issued + c) (sym (set_count tickets n None))) left

@@ -1,6 +1,5 @@
 -- A reclaim's steps and accesses are events of the world.
-use Rattle.std.proofs.Common.{◌≡◌, ℕ, zero, suc, ◌+◌, ◌<◌, ◌≤◌, ◌==◌, Bool, true, false, if◌then◌else◌, List, [], ◌∷◌, ◌++◌, inl, inr, length, replicate, slice_index, Option, Some, None, Result, Ok, Err, refl, sym, ap, subst, ◌∙◌, arith}
-use Rattle.std.proofs.lemmas.Bool.{eqb-true, eqb-false}
+use Rattle.std.proofs.Common.{◌≡◌, ℕ, zero, suc, ◌+◌, ◌<◌, ◌≤◌, Bool, true, false, if◌then◌else◌, List, [], ◌∷◌, ◌++◌, inl, inr, length, replicate, slice_index, Option, Some, None, Result, Ok, Err, refl, sym, ap, subst, ◌∙◌, arith}
 use Rattle.std.proofs.lemmas.Bool.Decides.{nat_tests}
 use Rattle.std.proofs.lemmas.List.{length-replicate}
 use Rattle.std.specs.Prelude.{IfOk, OnOk, OnErr, nat_lt, vec_len}
@@ -28,7 +27,7 @@ use Rattle.foyer_core.specs.declared.reply.Reply.TheVariants as reply
 use Rattle.foyer_core.specs.declared.state.Core.{Core}
 use Rattle.foyer_core.specs.declared.step.Step.TheVariants as step
 use Rattle.foyer_run.specs.Driven.{IsDriven}
-use Rattle.foyer_run.specs.Reclaims.{AreReclaiming, EndsBy, GoesOn, IsAwaited, IsCleaned, IsReclaim, IsReclaiming, Reads, Reclaims, part_in}
+use Rattle.foyer_run.specs.Reclaims.{AreReclaiming, EndsBy, GoesOn, IsAwaited, IsCleaned, IsReclaim, Reads, Reclaims, part_in}
 use Rattle.foyer_run.specs.Waiting.{AllSteps, IsWaiting, Waits}
 use Rattle.foyer_run.specs.declared.reclaims.Part.{Part}
 use Rattle.foyer_run.proofs.ListLemmas.{append_twice}
@@ -92,7 +91,7 @@ clean_same bytes old new b ok is same c o =
         go2 true e = let lt : o < page = grind (arith, nat_tests) in sym (done.0 o lt)
         go2 false e = let le : page ≤ o = grind (arith, nat_tests) in same b o ∙ sym (done.1 b o (inr (inr le)))
 
-abbrev scan_of : Part → ReadState → Scan
+abbrev pub scan_of : Part → ReadState → Scan
 scan_of part read_state = record { offset = part.offset; len = part.len; read_state = read_state }
 
 are_join : {C : Type 0} (b : ℕ) (one two : List (WorldEvent C)) → AreReclaiming b one → AreReclaiming b two → AreReclaiming b (one ++ two)
@@ -119,7 +118,7 @@ waiting_on : {C : Type 0} (it : model_reply.Reply C) (events : List (WorldEvent 
 waiting_on (model_reply.Picked b answers probation) events on = waiting_all b events on
 waiting_on it events on = subst (AllSteps IsWaiting) (sym on) tt
 
-brought : (r : model_step.ReadResult) → IsBrought (ReadDone r) r
+pub brought : (r : model_step.ReadResult) → IsBrought (ReadDone r) r
 brought (model_step.Bytes bs) = refl
 brought model_step.Fault = (model_step.Fault, refl)
 
@@ -128,21 +127,21 @@ module _ {K V P : Type 0} (m : Meaning K V P) (s : Settings) (sound : AreValid s
   rules = machine m s sound
 
   -- the world when the read has begun, and when it has ended
-  abbrev begins : World Content → ℕ → World Content
+  abbrev pub begins : World Content → ℕ → World Content
   begins w b = after rules w (ScanBegins b)
 
-  abbrev ends : World Content → ℕ → model_step.ReadResult → World Content
+  abbrev pub ends : World Content → ℕ → model_step.ReadResult → World Content
   ends w b r = after rules (begins w b) (ScanEnds b r)
 
-  began : (w : World Content) (b : ℕ) (part : Part) → IsAwaited b (Some part) w → (begins w b).scans b ≡ Some (scan_of part (Reading (covers rules w b)))
+  pub began : (w : World Content) (b : ℕ) (part : Part) → IsAwaited b (Some part) w → (begins w b).scans b ≡ Some (scan_of part (Reading (covers rules w b)))
   began w b part is = put_same w.scans b (at_scan (begun (covers rules w)) b (w.scans b)) ∙ ap (at_scan (begun (covers rules w)) b) is
 
-  ended : (w : World Content) (b : ℕ) (part : Part) (r : model_step.ReadResult) → IsAwaited b (Some part) w → (ends w b r).scans b ≡ Some (scan_of part (ReadDone r))
+  pub ended : (w : World Content) (b : ℕ) (part : Part) (r : model_step.ReadResult) → IsAwaited b (Some part) w → (ends w b r).scans b ≡ Some (scan_of part (ReadDone r))
   ended w b part r is = put_same (begins w b).scans b (at_scan (λ _. came r) b ((begins w b).scans b)) ∙ ap (at_scan (λ _. came r) b) (began w b part is)
 
 module _ {K V P A : Type 0} (m : Meaning K V P) where
   module _ (s : Settings) (sound : AreValid s) where
-    gives : (w : World Content) (bytes : ℕ → ℕ → ℕ) (b : ℕ) (part : Part) (outcome : Result (Vec ℕ A) Error) (seen : ℕ → Bool) → ((c o : ℕ) → w.bytes c o ≡ bytes c o) → IsPartCome bytes b part outcome
+    pub gives : (w : World Content) (bytes : ℕ → ℕ → ℕ) (b : ℕ) (part : Part) (outcome : Result (Vec ℕ A) Error) (seen : ℕ → Bool) → ((c o : ℕ) → w.bytes c o ≡ bytes c o) → IsPartCome bytes b part outcome
         → IsReadFrom (w.bytes b) part.offset part.len (Reading seen) (came_of outcome)
     gives w bytes b part (Ok got) seen same is = (is.1, λ i lt free. is.0 i lt ∙ sym (same b (part.offset + i)))
     gives w bytes b part (Err e) seen same is = tt

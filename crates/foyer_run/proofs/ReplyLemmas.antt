@@ -1,9 +1,8 @@
 -- Replies that issue accesses, in the core and in the model.
-use Rattle.std.proofs.Common.{◌≡◌, ℕ, Some, None, refl, sym, ap, ◌∙◌, inl, inr, subst}
+use Rattle.std.proofs.Common.{◌≡◌, ℕ, Some, None, refl, sym, ap, ◌∙◌}
 use Rattle.foyer_model.specs.Reply as model_reply
 use Rattle.foyer_core.specs.Asked.{ticket_of}
 use Rattle.foyer_rules.specs.Content.{Content, Meaning}
-use Rattle.foyer_core.specs.declared.step.Step.{Step}
 use Rattle.foyer_core.specs.Refines.{IsHandedBack}
 use Rattle.foyer_core.specs.Replied.{IsReply}
 use Rattle.foyer_core.specs.declared.reply.Reply.{Reply}
@@ -16,27 +15,39 @@ use Rattle.foyer_core.proofs.RefinesLemmas.{IsOrdinary}
 use Rattle.foyer_run.proofs.DueLemmas.{IssuesNoRead, IssuesNoWrite, EndsWrites}
 
 -- which access a reply is about
-data Sort : Type 0 where
+pub data Sort : Type 0 where
   Reads : Sort
   Writes : Sort
   GoesOn : Sort
   Back : Sort
+  Picks : Sort
+  Scans : Sort
+  Cleans : Sort
+  Clears : Sort
   Other : Sort
 
-abbrev sort : model_reply.Reply Content → Sort
+abbrev pub sort : model_reply.Reply Content → Sort
 sort (model_reply.Read t) = Reads
 sort (model_reply.Written b ws) = Writes
 sort model_reply.Next = GoesOn
 sort (model_reply.NotNow back) = Back
 sort (model_reply.Refused kind back) = Back
+sort (model_reply.Picked b answers probation) = Picks
+sort (model_reply.Scans b offset len verdicts) = Scans
+sort (model_reply.Cleans b) = Cleans
+sort (model_reply.Cleared bs) = Clears
 sort it = Other
 
-abbrev sort_of : {K V P A : Type 0} → Reply K V P A → Sort
+abbrev pub sort_of : {K V P A : Type 0} → Reply K V P A → Sort
 sort_of (reply.Read t) = Reads
 sort_of (reply.Write b ws) = Writes
 sort_of reply.Next = GoesOn
 sort_of (reply.NotNow back) = Back
 sort_of (reply.Refused why back) = Back
+sort_of (reply.Picked b answers probation) = Picks
+sort_of (reply.Scan b offset len verdicts) = Scans
+sort_of (reply.Clean b) = Cleans
+sort_of reply.Cleared = Clears
 sort_of answer = Other
 
 reads_none : (it : model_reply.Reply Content) → (sort it ≡ Reads → ⊥) → IssuesNoRead it
@@ -57,7 +68,7 @@ counts (model_reply.Refused kind back) ne = absurd (ne refl)
 counts it ne = tt
 
 module _ {K V P A : Type 0} (m : Meaning K V P) where
-  sorted : (answer : Reply K V P A) (it : model_reply.Reply Content) → IsReply m answer it → sort it ≡ sort_of answer
+  pub sorted : (answer : Reply K V P A) (it : model_reply.Reply Content) → IsReply m answer it → sort it ≡ sort_of answer
   sorted (reply.NotNow back) it is = ap sort is
   sorted (reply.Refused why back) it is = ap sort is.2
   sorted (reply.Ignored piece) it is = ap sort is
@@ -92,6 +103,10 @@ module _ {K V P A : Type 0} (m : Meaning K V P) where
   not_read reply.Next none e = let f : GoesOn ≡ Reads = e in cc
   not_read (reply.NotNow back) none e = let f : Back ≡ Reads = e in cc
   not_read (reply.Refused why back) none e = let f : Back ≡ Reads = e in cc
+  not_read (reply.Picked b answers probation) none e = let f : Picks ≡ Reads = e in cc
+  not_read (reply.Scan b offset len verdicts) none e = let f : Scans ≡ Reads = e in cc
+  not_read (reply.Clean b) none e = let f : Cleans ≡ Reads = e in cc
+  not_read reply.Cleared none e = let f : Clears ≡ Reads = e in cc
   not_read answer none e = let f : Other ≡ Reads = e in cc
 
   not_write : (answer : Reply K V P A) → block_in answer ≡ None → sort_of answer ≡ Writes → ⊥
@@ -100,6 +115,10 @@ module _ {K V P A : Type 0} (m : Meaning K V P) where
   not_write reply.Next none e = let f : GoesOn ≡ Writes = e in cc
   not_write (reply.NotNow back) none e = let f : Back ≡ Writes = e in cc
   not_write (reply.Refused why back) none e = let f : Back ≡ Writes = e in cc
+  not_write (reply.Picked b answers probation) none e = let f : Picks ≡ Writes = e in cc
+  not_write (reply.Scan b offset len verdicts) none e = let f : Scans ≡ Writes = e in cc
+  not_write (reply.Clean b) none e = let f : Cleans ≡ Writes = e in cc
+  not_write reply.Cleared none e = let f : Clears ≡ Writes = e in cc
   not_write answer none e = let f : Other ≡ Writes = e in cc
 
   not_next : (answer : Reply K V P A) → (answer ≡ reply.Next → ⊥) → sort_of answer ≡ GoesOn → ⊥
@@ -108,6 +127,10 @@ module _ {K V P A : Type 0} (m : Meaning K V P) where
   not_next reply.Next none e = none refl
   not_next (reply.NotNow back) none e = let f : Back ≡ GoesOn = e in cc
   not_next (reply.Refused why back) none e = let f : Back ≡ GoesOn = e in cc
+  not_next (reply.Picked b answers probation) none e = let f : Picks ≡ GoesOn = e in cc
+  not_next (reply.Scan b offset len verdicts) none e = let f : Scans ≡ GoesOn = e in cc
+  not_next (reply.Clean b) none e = let f : Cleans ≡ GoesOn = e in cc
+  not_next reply.Cleared none e = let f : Clears ≡ GoesOn = e in cc
   not_next answer none e = let f : Other ≡ GoesOn = e in cc
 
   not_back : (answer : Reply K V P A) → (IsHandedBack answer → ⊥) → sort_of answer ≡ Back → ⊥
@@ -116,6 +139,10 @@ module _ {K V P A : Type 0} (m : Meaning K V P) where
   not_back (reply.Read t) none e = let f : Reads ≡ Back = e in cc
   not_back (reply.Write b ws) none e = let f : Writes ≡ Back = e in cc
   not_back reply.Next none e = let f : GoesOn ≡ Back = e in cc
+  not_back (reply.Picked b answers probation) none e = let f : Picks ≡ Back = e in cc
+  not_back (reply.Scan b offset len verdicts) none e = let f : Scans ≡ Back = e in cc
+  not_back (reply.Clean b) none e = let f : Cleans ≡ Back = e in cc
+  not_back reply.Cleared none e = let f : Clears ≡ Back = e in cc
   not_back answer none e = let f : Other ≡ Back = e in cc
 
   -- what doesn't come back counts

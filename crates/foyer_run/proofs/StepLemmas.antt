@@ -1,7 +1,7 @@
 -- A step of a run, without an access before it.
 use Rattle.std.proofs.Common.{◌≡◌, ℕ, ◌+◌, ◌<◌, Bool, true, false, ◌&&◌, List, [], ◌∷◌, ◌++◌, ◌⊎◌, inl, inr, length, Option, Some, None, slice_get, refl, sym, ap, subst, ◌∙◌, arith}
 use Rattle.foyer_format.specs.declared.serde.ages.Age.{Age}
-use Rattle.foyer_model.specs.Access.{Load, BlockWrites, loads_after, issued_after, block_writes_after}
+use Rattle.foyer_model.specs.Access.{Load, BlockWrites, loads_after, issued_after, block_writes_after, scans_after, cleans_after}
 use Rattle.foyer_model.specs.Event as model_event
 use Rattle.foyer_model.specs.Reply as model_reply
 use Rattle.foyer_model.specs.World.{World, Applies, IsFed}
@@ -10,12 +10,11 @@ use Rattle.foyer_core.specs.Answered.{HandsBack}
 use Rattle.foyer_core.specs.Asked.{step_of, ticket_of}
 use Rattle.foyer_rules.specs.Content.{Content, Meaning, content, meaning}
 use Rattle.foyer_rules.specs.CoreRules.{layout}
-use Rattle.foyer_core.specs.Refines.{IsHandedBack, IsRefined}
+use Rattle.foyer_core.specs.Refines.{IsRefined}
 use Rattle.foyer_rules.specs.CoreRules.{machine}
 use Rattle.foyer_rules.specs.CoreRules.{IsEncoded}
 use Rattle.foyer_core.specs.Replied.{IsReply}
 use Rattle.foyer_rules.specs.Sizes.{AreValid}
-use Rattle.foyer_core.specs.Unchanged.{IsUnchanged}
 use Rattle.foyer_core.specs.declared.reply.Reply.{Reply}
 use Rattle.foyer_core.specs.declared.reply.Reply.TheVariants as reply
 use Rattle.foyer_rules.specs.declared.settings.Settings.{Settings}
@@ -23,11 +22,12 @@ use Rattle.foyer_core.specs.declared.state.Core.{Core}
 use Rattle.foyer_core.specs.declared.step.Step.{Step}
 use Rattle.foyer_core.specs.declared.step.Step.TheVariants as step
 use Rattle.foyer_core.specs.declared.step.Ticket.{Ticket}
-use Rattle.foyer_core.proofs.StateLemmas.{unchanged_stands}
 use Rattle.foyer_run.specs.Due.{unread}
-use Rattle.foyer_run.specs.Running.{IsDue, IsFree, IsMoved, IsRunning, at, issued_of, ticket_in, with_ticket}
+use Rattle.foyer_run.specs.Running.{IsDue, IsFree, IsMoved, IsRunning, at, cleans_noted, issued_of, issuing_in, scans_noted, ticket_in, with_ticket}
 use Rattle.foyer_run.specs.declared.moves.Asked.TheVariants as asks
-use Rattle.foyer_run.specs.declared.moves.Issued.{Issued}
+use Rattle.foyer_run.specs.declared.moves.kept.Issued.{Issued}
+use Rattle.foyer_run.specs.declared.reclaims.Part.{Part}
+use Rattle.foyer_run.proofs.DueBlocks.{AreCleansDue, AreScansDue, cleans_go, scans_go}
 use Rattle.foyer_run.proofs.DueLemmas.{loads_stay, issued_stays, block_writes_stay, IsBeside}
 use Rattle.foyer_run.proofs.ListLemmas.{get_left, get_pushed, pushed_count}
 use Rattle.foyer_run.proofs.ReplyLemmas.{no_read, reads}
@@ -109,13 +109,16 @@ module _ {K V P A : Type 0} (m : Meaning K V P) where
     fed w given free = tt
 
     -- a step that brings no result and issues no write
-    pub step_moves : (first : ℕ) (block_writes : ℕ → BlockWrites) (given : Step K V P A) (answer : Reply K V P A) (tickets tickets' : List (Option Ticket)) (issued : List (Option Issued)) (said said' : List (Reply K V P A))
-        (old new : Core K V P A) (bytes : ℕ → ℕ → ℕ) (w : World Content) → IsRunning m s first block_writes tickets issued said old bytes w → IsFree given
+    pub step_moves : (from : World Content) (given : Step K V P A) (answer : Reply K V P A) (tickets tickets' : List (Option Ticket)) (issued : List (Option Issued)) (scans scans' : List (Option Part)) (cleans cleans' : List Bool) (said said' : List (Reply K V P A))
+        (old new : Core K V P A) (bytes : ℕ → ℕ → ℕ) (w : World Content) → IsRunning m s from tickets issued scans cleans said old bytes w → IsFree given
         → HandsBack given answer old new → IsRefined m s sound given answer new w.core
-        → tickets' ≡ with_ticket (ticket_in answer) tickets → said' ≡ said ++ answer ∷ []
-        → IsMoved m s sound first block_writes (asks.Step given) said tickets' issued said' new bytes w
-    step_moves first block_writes given answer tickets tickets' issued said said' old new bytes w running free back met ts ss =
-        let reads = unread_goes first w.issued tickets w.loads w.history w.kept answer met.it met.reply running.count running.loads in
+        → tickets' ≡ with_ticket (ticket_in answer) tickets
+        → scans' ≡ scans_noted (issuing_in given) s.blob_index_size answer scans → cleans' ≡ cleans_noted (issuing_in given) answer cleans → said' ≡ said ++ answer ∷ []
+        → IsMoved m s sound from (asks.Step given) said tickets' issued scans' cleans' said' new bytes w
+    step_moves from given answer tickets tickets' issued scans scans' cleans cleans' said said' old new bytes w running free back met ts sc cl ss =
+        let reads = unread_goes from.issued w.issued tickets w.loads w.history w.kept answer met.it met.reply running.count running.loads in
+        let scanned = scans_go m s sound from given answer scans new w free met running.blocks.0 running.due_scans in
+        let cleaned = cleans_go m s sound from given answer cleans new w free met running.blocks.1 running.due_cleans in
         record {
           events = Applies (step_of m given) met.it met.after ∷ [];
           answers = answer ∷ [];
@@ -125,11 +128,14 @@ module _ {K V P A : Type 0} (m : Meaning K V P) where
           running = record {
             stands = met.stands;
             same = running.same;
-            count = reads.0 ∙ ap (λ xs. first + length xs) (sym ts);
-            loads = subst (λ xs. AreUnread first xs (loads_after met.it w.history w.kept w.issued w.loads)) (sym ts) reads.1;
+            count = reads.0 ∙ ap (λ xs. from.issued + length xs) (sym ts);
+            loads = subst (λ xs. AreUnread from.issued xs (loads_after met.it w.history w.kept w.issued w.loads)) (sym ts) reads.1;
             flushers = running.flushers;
-            writes = λ f. subst (λ xs. IsDue (block_writes f) xs (at (slice_get issued f)) (block_writes_after met.it (step_of m given) w.block_writes f)) (sym ss)
-                (due_more (block_writes f) said (answer ∷ []) (at (slice_get issued f)) _
-                (subst (λ all. IsDue (block_writes f) said (at (slice_get issued f)) (all f)) (sym (block_writes_stay met.it (step_of m given) w.block_writes (free_beside given free))) (running.writes f)));
+            writes = λ f. subst (λ xs. IsDue (from.block_writes f) xs (at (slice_get issued f)) (block_writes_after met.it (step_of m given) w.block_writes f)) (sym ss)
+                (due_more (from.block_writes f) said (answer ∷ []) (at (slice_get issued f)) _
+                (subst (λ all. IsDue (from.block_writes f) said (at (slice_get issued f)) (all f)) (sym (block_writes_stay met.it (step_of m given) w.block_writes (free_beside given free))) (running.writes f)));
+            blocks = (ap length sc ∙ scanned.0, ap length cl ∙ cleaned.0);
+            due_scans = subst (λ xs. AreScansDue from.scans xs (scans_after (machine m s sound).index_size met.it (step_of m given) w.scans)) (sym sc) scanned.1;
+            due_cleans = subst (λ xs. AreCleansDue from.clean_states xs (cleans_after met.it (step_of m given) w.clean_states)) (sym cl) cleaned.1;
           };
         }

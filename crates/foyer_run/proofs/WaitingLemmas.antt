@@ -2,7 +2,7 @@
 use Rattle.std.proofs.Common.{◌≡◌, ℕ, zero, suc, Bool, List, [], ◌∷◌, ◌++◌, length, replicate, Option, Some, None, inl, inr, sym, ap, subst, ◌∙◌}
 use Rattle.foyer_model.specs.Step as model_step
 use Rattle.foyer_model.specs.World.{World, WorldEvent, Applies, after_all}
-use Rattle.foyer_model.specs.Access.{BlockWrites}
+use Rattle.foyer_model.specs.Kind.{Kind}
 use Rattle.foyer_core.specs.Asked.{step_of}
 use Rattle.foyer_rules.specs.Content.{Content, Meaning}
 use Rattle.foyer_rules.specs.CoreRules.{layout, IsEncoded}
@@ -42,7 +42,9 @@ module _ {K V P A : Type 0} (m : Meaning K V P) where
   MakesOnly Is (asks.FlushBlock f) = Is (model_step.FlushBlock f)
   MakesOnly Is (asks.LoadEnd n) = (t : model_step.Ticket) (came : model_step.ReadResult) → Is (model_step.LoadEnd t came)
   MakesOnly Is (asks.FlushWrote f) = (is_ok : Bool) → Is (model_step.FlushWrote f is_ok)
-  MakesOnly Is asks.Nothing = Unit {0}
+  MakesOnly Is (asks.ReclaimRead b) = (came : model_step.ReadResult) → Is (model_step.ReclaimRead b came)
+  MakesOnly Is (asks.ReclaimCleaned b) = (is_ok : Bool) → Is (model_step.ReclaimCleaned b is_ok)
+  MakesOnly Is (asks.DestroyCleaned b) = (fault : Option Kind) → Is (model_step.DestroyCleaned b fault)
 
   abbrev AllMake : (model_step.Step Content → Type 0) → List (Move K V P A) → Type 0
   AllMake Is [] = Unit {0}
@@ -51,30 +53,35 @@ module _ {K V P A : Type 0} (m : Meaning K V P) where
   stepped_only : (Is : model_step.Step Content → Type 0) (given : Step K V P A) (events : List (WorldEvent Content)) (said : List (Reply K V P A)) → IsApplied m [] (step_of m given) events said → Is (step_of m given) → AllSteps Is events
   stepped_only Is given events said applied is = subst (AllSteps Is) (sym applied.is) (is, tt)
 
-  makes_only : (Is : model_step.Step Content → Type 0) (first : ℕ) (block_writes : ℕ → BlockWrites) (w : World Content) (x : Asked K V P A) (events : List (WorldEvent Content)) (said : List (Reply K V P A))
-      → Makes m first block_writes w x events said → MakesOnly Is x → AllSteps Is events
-  makes_only Is first block_writes w (asks.Step given) events said made is = stepped_only Is given events said made is
-  makes_only Is first block_writes w (asks.FlushBlock f) events said made is = stepped_only Is (step.FlushBlock f) events said made is
-  makes_only Is first block_writes w (asks.LoadEnd n) events said (inl passed) is = subst (AllSteps Is) (sym (passed.0).0) tt
-  makes_only Is first block_writes w (asks.LoadEnd n) events said (inr (t, came, due, applied)) is = subst (AllSteps Is) (sym applied.is) (is t came, tt)
-  makes_only Is first block_writes w (asks.FlushWrote f) events said (inl passed) is = subst (AllSteps Is) (sym (passed.0).0) tt
-  makes_only Is first block_writes w (asks.FlushWrote f) events said (inr (is_ok, torn, due, applied)) is = subst (AllSteps Is) (sym applied.is) (is is_ok, tt)
-  makes_only Is first block_writes w asks.Nothing events said made is = subst (AllSteps Is) (sym made.0) tt
+  makes_only : (Is : model_step.Step Content → Type 0) (from : World Content) (w : World Content) (x : Asked K V P A) (events : List (WorldEvent Content)) (said : List (Reply K V P A))
+      → Makes m from w x events said → MakesOnly Is x → AllSteps Is events
+  makes_only Is from w (asks.Step given) events said made is = stepped_only Is given events said made is
+  makes_only Is from w (asks.FlushBlock f) events said made is = stepped_only Is (step.FlushBlock f) events said made is
+  makes_only Is from w (asks.LoadEnd n) events said (inl passed) is = subst (AllSteps Is) (sym (passed.0).0) tt
+  makes_only Is from w (asks.LoadEnd n) events said (inr (t, came, due, applied)) is = subst (AllSteps Is) (sym applied.is) (is t came, tt)
+  makes_only Is from w (asks.FlushWrote f) events said (inl passed) is = subst (AllSteps Is) (sym (passed.0).0) tt
+  makes_only Is from w (asks.FlushWrote f) events said (inr (is_ok, torn, due, applied)) is = subst (AllSteps Is) (sym applied.is) (is is_ok, tt)
+  makes_only Is from w (asks.ReclaimRead b) events said (inl passed) is = subst (AllSteps Is) (sym (passed.0).0) tt
+  makes_only Is from w (asks.ReclaimRead b) events said (inr (came, due, applied)) is = subst (AllSteps Is) (sym applied.is) (is came, tt)
+  makes_only Is from w (asks.ReclaimCleaned b) events said (inl passed) is = subst (AllSteps Is) (sym (passed.0).0) tt
+  makes_only Is from w (asks.ReclaimCleaned b) events said (inr (is_ok, torn, due, applied)) is = subst (AllSteps Is) (sym applied.is) (is is_ok, tt)
+  makes_only Is from w (asks.DestroyCleaned b) events said (inl passed) is = subst (AllSteps Is) (sym (passed.0).0) tt
+  makes_only Is from w (asks.DestroyCleaned b) events said (inr (fault, torn, due, applied)) is = subst (AllSteps Is) (sym applied.is) (is fault, tt)
 
-  made_only : (s : Settings) (sound : AreValid s) (Is : model_step.Step Content → Type 0) (first : ℕ) (block_writes : ℕ → BlockWrites) (moves : List (Move K V P A)) (w : World Content) (events : List (WorldEvent Content)) (said : List (Reply K V P A))
-      → AreMade m s sound first block_writes w moves events said → AllMake Is moves → AllSteps Is events
-  made_only s sound Is first block_writes [] w events said made all = subst (AllSteps Is) (sym made.0) tt
-  made_only s sound Is first block_writes (x ∷ xs) w events said made all =
+  made_only : (s : Settings) (sound : AreValid s) (Is : model_step.Step Content → Type 0) (from : World Content) (moves : List (Move K V P A)) (w : World Content) (events : List (WorldEvent Content)) (said : List (Reply K V P A))
+      → AreMade m s sound from w moves events said → AllMake Is moves → AllSteps Is events
+  made_only s sound Is from [] w events said made all = subst (AllSteps Is) (sym made.0) tt
+  made_only s sound Is from (x ∷ xs) w events said made all =
       subst (AllSteps Is) (sym made.is) (all_join Is made.now made.later
-      (makes_only Is first block_writes w (asked x) made.now made.answers made.made all.0)
-      (made_only s sound Is first block_writes xs (after_all (machine m s sound) w made.now) made.later made.others made.more all.1))
+      (makes_only Is from w (asked x) made.now made.answers made.made all.0)
+      (made_only s sound Is from xs (after_all (machine m s sound) w made.now) made.later made.others made.more all.1))
 
   -- a run of such moves
   runs_by : (Is : model_step.Step Content → Type 0) (moves : List (Move K V P A)) (said : List (Reply K V P A)) (a b : Core K V P A) (x y : ℕ → ℕ → ℕ)
       → AllMake Is moves → Runs m moves said a b x y → DrivesBy (AllSteps Is) m a b x y
   runs_by Is moves said a b x y all runs s sound w stands same =
       let run = runs s sound w stands same in
-      (record { events = run.events; happened = run.happened; stands = run.stands; same = run.same }, made_only s sound Is w.issued w.block_writes moves w run.events said run.made all)
+      (record { events = run.events; happened = run.happened; stands = run.stands; same = run.same }, made_only s sound Is w moves w run.events said run.made all)
 
   -- nothing happens
   pub waits_none : (core : Core K V P A) (bytes : ℕ → ℕ → ℕ) → Waits m core core bytes bytes

@@ -31,7 +31,9 @@ use Rattle.foyer_blockio.specs.Disk.{IsTorn, IsWritten}
 use Rattle.foyer_run.specs.Due.{due}
 use Rattle.foyer_run.specs.Running.{IsDue, IsMoved, IsRunning, IsIssued, at, next_of, ticket_in, with_ticket, write_at}
 use Rattle.foyer_run.specs.declared.moves.Asked.TheVariants as asks
-use Rattle.foyer_run.specs.declared.moves.Issued.{Issued}
+use Rattle.foyer_run.specs.declared.moves.kept.Issued.{Issued}
+use Rattle.foyer_run.specs.declared.reclaims.Part.{Part}
+use Rattle.foyer_run.proofs.DueBlocks.{cleans_beside, scans_beside, scans_torn}
 use Rattle.foyer_run.proofs.DueLemmas.{due_is, due_next, due_ended, due_failed, block_writes_elsewhere, unread_torn}
 use Rattle.foyer_run.proofs.ListLemmas.{append_none, at_is, drop_at, drop_past, get_left}
 use Rattle.foyer_run.proofs.ReplyLemmas.{no_next}
@@ -117,11 +119,11 @@ module _ {K V P : Type 0} (m : Meaning K V P) (s : Settings) (sound : AreValid s
   rules = machine m s sound
 
   -- a move whose write isn't due is passed over
-  pub write_passes : {A : Type 0} (first : ℕ) (block_writes : ℕ → BlockWrites) (f : ℕ) (tickets : List (Option Ticket)) (issued : List (Option Issued)) (said : List (Reply K V P A))
-      (core : Core K V P A) (bytes : ℕ → ℕ → ℕ) (w : World Content) → IsRunning m s first block_writes tickets issued said core bytes w
-      → (due (w.block_writes f) ≡ None) ⊎ (w.block_writes f ≡ block_writes f)
-      → IsMoved m s sound first block_writes (asks.FlushWrote f) said tickets issued said core bytes w
-  write_passes first block_writes f tickets issued said core bytes w running none = record {
+  pub write_passes : {A : Type 0} (from : World Content) (f : ℕ) (tickets : List (Option Ticket)) (issued : List (Option Issued)) (scans : List (Option Part)) (cleans : List Bool) (said : List (Reply K V P A))
+      (core : Core K V P A) (bytes : ℕ → ℕ → ℕ) (w : World Content) → IsRunning m s from tickets issued scans cleans said core bytes w
+      → (due (w.block_writes f) ≡ None) ⊎ (w.block_writes f ≡ from.block_writes f)
+      → IsMoved m s sound from (asks.FlushWrote f) said tickets issued scans cleans said core bytes w
+  write_passes from f tickets issued scans cleans said core bytes w running none = record {
     events = [];
     answers = [];
     happened = tt;
@@ -155,15 +157,15 @@ module _ {K V P : Type 0} (m : Meaning K V P) (s : Settings) (sound : AreValid s
       ((ok ≡ true) × (answer ≡ reply.Next) × (new ≡ slice_set (slice_set old f None) f (Some (next_issued x))))
       ⊎ (((ok ≡ false) ⊎ (answer ≡ reply.Next → ⊥)) × (new ≡ slice_set old f None))
 
-  pub write_moves : {A : Type 0} (first : ℕ) (block_writes : ℕ → BlockWrites) (f : ℕ) (x : Issued) (write : Write A) (outcome : _) (answer : Reply K V P A)
-      (tickets tickets' : List (Option Ticket)) (issued issued' : List (Option Issued)) (said said' : List (Reply K V P A)) (old new : Core K V P A) (bytes bytes' : ℕ → ℕ → ℕ) (w : World Content)
-      → IsRunning m s first block_writes tickets issued said old bytes w
+  pub write_moves : {A : Type 0} (from : World Content) (f : ℕ) (x : Issued) (write : Write A) (outcome : _) (answer : Reply K V P A)
+      (tickets tickets' : List (Option Ticket)) (issued issued' : List (Option Issued)) (scans : List (Option Part)) (cleans : List Bool) (said said' : List (Reply K V P A)) (old new : Core K V P A) (bytes bytes' : ℕ → ℕ → ℕ) (w : World Content)
+      → IsRunning m s from tickets issued scans cleans said old bytes w
       → at (slice_get issued f) ≡ Some x → write_at (slice_get said x.reply) x.next ≡ Some write
       → IsDone bytes bytes' x.block write (went_well outcome)
       → IsRefined m s sound (step.FlushWrote f outcome) answer new w.core
       → tickets' ≡ with_ticket (ticket_in answer) tickets → said' ≡ said ++ answer ∷ [] → IsNotedOn f x (went_well outcome) answer issued issued'
-      → IsMoved m s sound first block_writes (asks.FlushWrote f) said tickets' issued' said' new bytes' w
-  write_moves first block_writes f x write outcome answer tickets tickets' issued issued' said said' old new bytes bytes' w running is_due is_next done met ts ss noted_on = record {
+      → IsMoved m s sound from (asks.FlushWrote f) said tickets' issued' scans cleans said' new bytes' w
+  write_moves from f x write outcome answer tickets tickets' issued issued' scans cleans said said' old new bytes bytes' w running is_due is_next done met ts ss noted_on = record {
     events = WriteBegins f ∷ WriteEnds f ok torn ∷ Applies (model_step.FlushWrote f ok) met.it met.after ∷ [];
     answers = answer ∷ [];
     happened = (
@@ -180,10 +182,13 @@ module _ {K V P : Type 0} (m : Meaning K V P) (s : Settings) (sound : AreValid s
     running = record {
       stands = met.stands;
       same = λ b o. subst (λ pending. bytes_ended ok torn pending w.bytes b o ≡ bytes' b o) (sym under) (bytes_are ok w.bytes bytes bytes' x.block write rest running.same done b o);
-      count = gone.0 ∙ ap (λ xs. first + length xs) (sym ts);
-      loads = subst (λ xs. AreUnread first xs (loads_after met.it w.history w.kept w.issued w1.loads)) (sym ts) gone.1;
+      count = gone.0 ∙ ap (λ xs. from.issued + length xs) (sym ts);
+      loads = subst (λ xs. AreUnread from.issued xs (loads_after met.it w.history w.kept w.issued w1.loads)) (sym ts) gone.1;
       flushers = counted noted_on ∙ running.flushers;
       writes = λ g. flushes g (g == f) refl;
+      blocks = running.blocks;
+      due_scans = scans_beside from.scans scans met.it (model_step.FlushWrote f ok) tt rules.index_size w1.scans (scans_torn from.scans scans (will_cover (w.block_writes f)) w.scans running.due_scans);
+      due_cleans = cleans_beside from.clean_states cleans met.it (model_step.FlushWrote f ok) tt w.clean_states running.due_cleans;
     };
   }
     where
@@ -194,7 +199,7 @@ module _ {K V P : Type 0} (m : Meaning K V P) (s : Settings) (sound : AreValid s
       torn = torn_of ok (w.bytes x.block) (bytes' x.block)
 
       noted_at : IsIssued said x (w.block_writes f)
-      noted_at = noted (block_writes f) said (at (slice_get issued f)) x (w.block_writes f) (running.writes f) is_due
+      noted_at = noted (from.block_writes f) said (at (slice_get issued f)) x (w.block_writes f) (running.writes f) is_due
 
       rest : List model_position.Write
       rest = map write_of (drop (x.next + 1) noted_at.writes.items)
@@ -224,11 +229,11 @@ module _ {K V P : Type 0} (m : Meaning K V P) (s : Settings) (sound : AreValid s
       elsewhere : (g : ℕ) → (g ≡ f → ⊥) → w2.block_writes g ≡ w.block_writes g
       elsewhere g ne = put_other w1.block_writes f (writes_ended ok (w1.block_writes f)) g ne ∙ put_other w.block_writes f (writes_begun (w.block_writes f)) g ne
 
-      left : AreUnread first tickets w1.loads
-      left n t here = unread_torn (will_cover (w.block_writes f)) (w.loads (first + n)) ∙ running.loads n t here
+      left : AreUnread from.issued tickets w1.loads
+      left n t here = unread_torn (will_cover (w.block_writes f)) (w.loads (from.issued + n)) ∙ running.loads n t here
 
-      gone : (issued_after met.it w.issued ≡ first + length (with_ticket (ticket_in answer) tickets)) × AreUnread first (with_ticket (ticket_in answer) tickets) (loads_after met.it w.history w.kept w.issued w1.loads)
-      gone = unread_goes m first w.issued tickets w1.loads w.history w.kept answer met.it met.reply running.count left
+      gone : (issued_after met.it w.issued ≡ from.issued + length (with_ticket (ticket_in answer) tickets)) × AreUnread from.issued (with_ticket (ticket_in answer) tickets) (loads_after met.it w.history w.kept w.issued w1.loads)
+      gone = unread_goes m from.issued w.issued tickets w1.loads w.history w.kept answer met.it met.reply running.count left
 
       within : f < length issued
       within = slice_get_within issued f (Some x) (at_is (slice_get issued f) x is_due)
@@ -251,10 +256,10 @@ module _ {K V P : Type 0} (m : Meaning K V P) (s : Settings) (sound : AreValid s
           subst (λ (b : Bool). due (block_writes_after met.it (model_step.FlushWrote f b) w2.block_writes f) ≡ None) (sym failed)
           (due_failed met.it f w2.block_writes x.block (ended ∙ ap (λ (b : Bool). IssuesWrites x.block (b ∷ []) (if b then rest else [])) failed))
 
-      here : IsNotedOn f x ok answer issued issued' → IsDue (block_writes f) said' (at (slice_get issued' f)) (block_writes' f)
+      here : IsNotedOn f x ok answer issued issued' → IsDue (from.block_writes f) said' (at (slice_get issued' f)) (block_writes' f)
       here (inl (well, next, is)) =
           let length_is : length (slice_set issued f None) ≡ length issued = set_count issued f None in
-          subst (λ o. IsDue (block_writes f) said' (at o) (block_writes' f))
+          subst (λ o. IsDue (from.block_writes f) said' (at o) (block_writes' f))
           (sym (ap (λ xs. slice_get xs f) is ∙ set_here (slice_set issued f None) f (Some (next_issued x)) (let lt : f < length issued = within in omega arith)))
           (record {
             block = noted_at.block;
@@ -264,15 +269,15 @@ module _ {K V P : Type 0} (m : Meaning K V P) (s : Settings) (sound : AreValid s
                 (due_next Content f ok w2.block_writes x.block rest (ended ∙ ap (λ (b : Bool). IssuesWrites x.block (ok ∷ []) (if b then rest else [])) well));
           })
       here (inr (why, is)) =
-          subst (λ o. IsDue (block_writes f) said' (at o) (block_writes' f)) (sym (ap (λ xs. slice_get xs f) is ∙ set_here issued f None within)) (inr (over_at why))
+          subst (λ o. IsDue (from.block_writes f) said' (at o) (block_writes' f)) (sym (ap (λ xs. slice_get xs f) is ∙ set_here issued f None within)) (inr (over_at why))
 
-      flushes : (g : ℕ) (e : Bool) → (g == f) ≡ e → IsDue (block_writes g) said' (at (slice_get issued' g)) (block_writes' g)
+      flushes : (g : ℕ) (e : Bool) → (g == f) ≡ e → IsDue (from.block_writes g) said' (at (slice_get issued' g)) (block_writes' g)
       flushes g true e =
           let same : g ≡ f = grind (arith, nat_tests) in
-          subst (λ i. IsDue (block_writes i) said' (at (slice_get issued' i)) (block_writes' i)) (sym same) (here noted_on)
+          subst (λ i. IsDue (from.block_writes i) said' (at (slice_get issued' i)) (block_writes' i)) (sym same) (here noted_on)
       flushes g false e =
           let ne : g ≡ f → ⊥ = λ same. grind (arith, nat_tests) in
-          subst (λ xs. IsDue (block_writes g) xs (at (slice_get issued' g)) (block_writes' g)) (sym ss)
-          (subst (λ o. IsDue (block_writes g) (said ++ answer ∷ []) (at o) (block_writes' g)) (sym (away g ne noted_on))
-          (due_more (block_writes g) said (answer ∷ []) (at (slice_get issued g)) (block_writes' g)
-          (subst (λ pending. IsDue (block_writes g) said (at (slice_get issued g)) pending) (sym (block_writes_elsewhere met.it f g ok w2.block_writes ne ∙ elsewhere g ne)) (running.writes g))))
+          subst (λ xs. IsDue (from.block_writes g) xs (at (slice_get issued' g)) (block_writes' g)) (sym ss)
+          (subst (λ o. IsDue (from.block_writes g) (said ++ answer ∷ []) (at o) (block_writes' g)) (sym (away g ne noted_on))
+          (due_more (from.block_writes g) said (answer ∷ []) (at (slice_get issued g)) (block_writes' g)
+          (subst (λ pending. IsDue (from.block_writes g) said (at (slice_get issued g)) pending) (sym (block_writes_elsewhere met.it f g ok w2.block_writes ne ∙ elsewhere g ne)) (running.writes g))))

@@ -1,6 +1,6 @@
 -- The accesses of a world that were issued and haven't begun.
-use Rattle.std.specs.Prelude.{ℕ, List, [], ◌∷◌, Option, Some, None}
-use Rattle.foyer_model.specs.Access.{Load, ReadState, ReadIssued, BlockWrites, Issued}
+use Rattle.std.specs.Prelude.{◌≡◌, ℕ, List, [], ◌∷◌, Option, Some, None}
+use Rattle.foyer_model.specs.Access.{Load, ReadState, ReadIssued, Scan, BlockWrites, Issued}
 use Rattle.foyer_model.specs.Position.{Write}
 use Rattle.foyer_model.specs.Step.{Ticket}
 
@@ -17,3 +17,8 @@ unread (Some l) = unread_in l.read_state l.ticket
 abbrev pub due : BlockWrites → Option (ℕ × List Write)
 due (Issued b [] (w ∷ ws)) = Some (b, w ∷ ws)
 due pending = None
+
+-- the read that a reclaim issued hasn't begun
+abbrev pub IsUnscanned : Option Scan → Type 0
+IsUnscanned None = ⊥
+IsUnscanned (Some scan) = scan.read_state ≡ ReadIssued

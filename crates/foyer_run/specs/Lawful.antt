@@ -80,7 +80,7 @@ pub record IsLawful {K V P A : Type 0} (m : Meaning K V P) (s : Settings) (sound
   pub opened : IsOpenedWorld (machine m s sound) first
   pub events : List (WorldEvent Content)
   pub happened : MayAllHappen (machine m s sound) (layout s) (IsEncoded m.is_key m.is_value) first events
-  pub made : AreMade m s sound first.issued first.block_writes first moves events said
+  pub made : AreMade m s sound first first moves events said
   pub answers : AnswersAreNewest (machine m s sound) first events
   pub entries : EntriesAreNewest (machine m s sound) first events
   pub misses : NewestAreAnswered (machine m s sound) first events

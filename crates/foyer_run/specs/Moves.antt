@@ -1,10 +1,11 @@
 -- What moves make: the events of the world that they name, and the replies of these.
-use Rattle.std.specs.Prelude.{◌≡◌, ℕ, ◌+◌, ◌≤◌, ◌⊎◌, Bool, List, [], ◌∷◌, ◌++◌, Some, None}
-use Rattle.foyer_model.specs.Access.{BlockWrites}
+use Rattle.std.specs.Prelude.{◌≡◌, ◌≢◌, ℕ, ◌+◌, ◌≤◌, ◌⊎◌, Bool, List, [], ◌∷◌, ◌++◌, Option, Some, None}
+use Rattle.foyer_model.specs.Access.{CleanIssued}
+use Rattle.foyer_model.specs.Kind.{Kind}
 use Rattle.foyer_model.specs.Reply as model_reply
 use Rattle.foyer_model.specs.State.{State}
 use Rattle.foyer_model.specs.Step as model_step
-use Rattle.foyer_model.specs.World.{World, WorldEvent, Applies, ReadBegins, ReadEnds, WriteBegins, WriteEnds, after_all}
+use Rattle.foyer_model.specs.World.{World, WorldEvent, Applies, ReadBegins, ReadEnds, ScanBegins, ScanEnds, WriteBegins, WriteEnds, CleanBegins, CleanEnds, is_none, after_all}
 use Rattle.foyer_core.specs.Asked.{step_of}
 use Rattle.foyer_rules.specs.Content.{Content, Meaning}
 use Rattle.foyer_rules.specs.CoreRules.{machine}
@@ -12,9 +13,8 @@ use Rattle.foyer_core.specs.Replied.{IsReply}
 use Rattle.foyer_rules.specs.Sizes.{AreValid}
 use Rattle.foyer_core.specs.declared.reply.Reply.{Reply}
 use Rattle.foyer_rules.specs.declared.settings.Settings.{Settings}
-use Rattle.foyer_core.specs.declared.step.Step.{Step}
 use Rattle.foyer_core.specs.declared.step.Step.TheVariants as step
-use Rattle.foyer_run.specs.Due.{unread, due}
+use Rattle.foyer_run.specs.Due.{unread, due, IsUnscanned}
 use Rattle.foyer_run.specs.declared.moves.Asked.{Asked}
 use Rattle.foyer_run.specs.declared.moves.Asked.TheVariants as asks
 use Rattle.foyer_run.specs.declared.moves.Move.{Move}
@@ -35,13 +35,13 @@ asked (move.FlushWrote flusher) = asks.FlushWrote flusher
 asked (move.LogWrote flusher outcome) = asks.Step (step.LogWrote flusher outcome)
 asked (move.FlushEnd flusher) = asks.Step (step.FlushEnd flusher)
 asked move.ReclaimBegin = asks.Step step.ReclaimBegin
-asked (move.ReclaimRead block) = asks.Nothing
+asked (move.ReclaimRead block) = asks.ReclaimRead block
 asked (move.ReclaimForget block) = asks.Step (step.ReclaimForget block)
-asked (move.ReclaimCleaned block) = asks.Nothing
+asked (move.ReclaimCleaned block) = asks.ReclaimCleaned block
 asked move.ReclaimIdle = asks.Step step.ReclaimIdle
 asked move.DestroyBegin = asks.Step step.DestroyBegin
 asked move.DestroyClear = asks.Step step.DestroyClear
-asked (move.DestroyCleaned block) = asks.Nothing
+asked (move.DestroyCleaned block) = asks.DestroyCleaned block
 asked move.Close = asks.Step step.Close
 
 module _ {K V P A : Type 0} (m : Meaning K V P) where
@@ -58,23 +58,34 @@ module _ {K V P A : Type 0} (m : Meaning K V P) where
   abbrev pub IsPassed : List (WorldEvent Content) → List (Reply K V P A) → Type 0
   IsPassed events said = (events ≡ []) × (said ≡ [])
 
-  -- What a move makes in a world, in a run whose first ticket has this number, and that began with these writes of flushers. A load
-  -- ends where its read was issued and hasn't begun, with that read before it. A write is reported where one is due, with
-  -- that write before it: it is passed over only where none is due, or none was issued in this run.
-  abbrev pub Makes : (first : ℕ) → (ℕ → BlockWrites) → World Content → Asked K V P A → List (WorldEvent Content) → List (Reply K V P A) → Type 0
-  Makes first block_writes w (asks.Step given) events said = IsApplied [] (step_of m given) events said
-  Makes first block_writes w (asks.FlushBlock f) events said = IsApplied [] (model_step.FlushBlock f) events said
-  Makes first block_writes w (asks.LoadEnd n) events said =
-      (IsPassed events said × ((unread (w.loads (first + n)) ≡ None) ⊎ (w.issued ≤ first + n)))
-      ⊎ ((t : model_step.Ticket) × (came : model_step.ReadResult) × (unread (w.loads (first + n)) ≡ Some t)
-      × IsApplied (ReadBegins (first + n) ∷ ReadEnds (first + n) came ∷ []) (model_step.LoadEnd t came) events said)
-  Makes first block_writes w (asks.FlushWrote f) events said =
-      (IsPassed events said × ((due (w.block_writes f) ≡ None) ⊎ (w.block_writes f ≡ block_writes f)))
+  -- What a move makes in a world, in a run that began in another. A load ends where its read was issued and hasn't begun,
+  -- with that read before it. A write is reported where one is due, with that write before it: it is passed over only where
+  -- none is due, or none was issued in this run. So is what a reclaim read, where it is due, and the clean of a block.
+  abbrev pub Makes : (from : World Content) → World Content → Asked K V P A → List (WorldEvent Content) → List (Reply K V P A) → Type 0
+  Makes from w (asks.Step given) events said = IsApplied [] (step_of m given) events said
+  Makes from w (asks.FlushBlock f) events said = IsApplied [] (model_step.FlushBlock f) events said
+  Makes from w (asks.LoadEnd n) events said =
+      (IsPassed events said × ((unread (w.loads (from.issued + n)) ≡ None) ⊎ (w.issued ≤ from.issued + n)))
+      ⊎ ((t : model_step.Ticket) × (came : model_step.ReadResult) × (unread (w.loads (from.issued + n)) ≡ Some t)
+      × IsApplied (ReadBegins (from.issued + n) ∷ ReadEnds (from.issued + n) came ∷ []) (model_step.LoadEnd t came) events said)
+  Makes from w (asks.FlushWrote f) events said =
+      (IsPassed events said × ((due (w.block_writes f) ≡ None) ⊎ (w.block_writes f ≡ from.block_writes f)))
       ⊎ ((ok : Bool) × (torn : ℕ → ℕ) × (due (w.block_writes f) ≡ None → ⊥)
       × IsApplied (WriteBegins f ∷ WriteEnds f ok torn ∷ []) (model_step.FlushWrote f ok) events said)
-  Makes first block_writes w asks.Nothing events said = IsPassed events said
+  Makes from w (asks.ReclaimRead b) events said =
+      (IsPassed events said × ((IsUnscanned (w.scans b) → ⊥) ⊎ (w.scans b ≡ from.scans b)))
+      ⊎ ((came : model_step.ReadResult) × IsUnscanned (w.scans b)
+      × IsApplied (ScanBegins b ∷ ScanEnds b came ∷ []) (model_step.ReclaimRead b came) events said)
+  Makes from w (asks.ReclaimCleaned b) events said =
+      (IsPassed events said × ((w.clean_states b ≢ CleanIssued) ⊎ (w.clean_states b ≡ from.clean_states b)))
+      ⊎ ((ok : Bool) × (torn : ℕ → ℕ) × (w.clean_states b ≡ CleanIssued)
+      × IsApplied (CleanBegins b ∷ CleanEnds b ok torn ∷ []) (model_step.ReclaimCleaned b ok) events said)
+  Makes from w (asks.DestroyCleaned b) events said =
+      (IsPassed events said × ((w.clean_states b ≢ CleanIssued) ⊎ (w.clean_states b ≡ from.clean_states b)))
+      ⊎ ((fault : Option Kind) × (torn : ℕ → ℕ) × (w.clean_states b ≡ CleanIssued)
+      × IsApplied (CleanBegins b ∷ CleanEnds b (is_none fault) torn ∷ []) (model_step.DestroyCleaned b fault) events said)
 
-module _ {K V P A : Type 0} (m : Meaning K V P) (s : Settings) (sound : AreValid s) (first : ℕ) (block_writes : ℕ → BlockWrites) where
+module _ {K V P A : Type 0} (m : Meaning K V P) (s : Settings) (sound : AreValid s) (from : World Content) where
   -- what the first move makes, and what those after it make
   pub record IsMadeFirst (w : World Content) (x : Move K V P A) (rest : World Content → List (WorldEvent Content) → List (Reply K V P A) → Type 0) (events : List (WorldEvent Content)) (said : List (Reply K V P A)) : Type 0 where
     pub now : List (WorldEvent Content)
@@ -83,7 +94,7 @@ module _ {K V P A : Type 0} (m : Meaning K V P) (s : Settings) (sound : AreValid
     pub others : List (Reply K V P A)
     pub is : events ≡ now ++ later
     pub said_is : said ≡ answers ++ others
-    pub made : Makes m first block_writes w (asked x) now answers
+    pub made : Makes m from w (asked x) now answers
     pub more : rest (after_all (machine m s sound) w now) later others
 
   -- what moves make, one after the other

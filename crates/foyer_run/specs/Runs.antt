@@ -18,7 +18,7 @@ use Rattle.foyer_run.specs.declared.moves.Move.{Move}
 pub record IsRun {K V P A : Type 0} (m : Meaning K V P) (s : Settings) (sound : AreValid s) (w : World Content) (moves : List (Move K V P A)) (said : List (Reply K V P A)) (core : Core K V P A) (bytes : ℕ → ℕ → ℕ) : Type 0 where
   pub events : List (WorldEvent Content)
   pub happened : MayAllHappen (machine m s sound) (layout s) (IsEncoded m.is_key m.is_value) w events
-  pub made : AreMade m s sound w.issued w.block_writes w moves events said
+  pub made : AreMade m s sound w w moves events said
   pub stands : IsStateOf m s core (after_all (machine m s sound) w events).core
   pub same : (b o : ℕ) → (after_all (machine m s sound) w events).bytes b o ≡ bytes b o
 

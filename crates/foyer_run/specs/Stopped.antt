@@ -35,7 +35,7 @@ module _ {K V P : Type 0} (m : Meaning K V P) (s : Settings) (sound : AreValid s
     pub empty : (h : ℕ) → found.index h ≡ None
     pub events : List (WorldEvent Content)
     pub happened : MayAllHappen (machine m s sound) (layout s) (IsEncoded m.is_key m.is_value) (zeroed_world found) events
-    pub made : AreMade m s sound (zeroed_world found).issued (zeroed_world found).block_writes (zeroed_world found) moves events said
+    pub made : AreMade m s sound (zeroed_world found) (zeroed_world found) moves events said
     pub same : (b o : ℕ) → (after_all (machine m s sound) (zeroed_world found) events).bytes b o ≡ bytes b o
 
   -- Of a run that was stopped in this world, and of a core with this opening over the bytes that it left: each address that

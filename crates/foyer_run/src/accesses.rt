@@ -17,7 +17,7 @@ ghost use Rattle.foyer_run.specs.Running.{IsFree};
 ghost use Rattle.foyer_run.specs.Runs.{IsFront};
 
 use crate::disk::{do_read, do_write};
-use crate::moves::wants_next_write;
+use crate::moves::writes::wants_next_write;
 use foyer_blockio::disk::Disk;
 use foyer_core::apply::Env;
 use foyer_core::reply::Reply;

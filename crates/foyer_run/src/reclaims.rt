@@ -21,13 +21,13 @@ use std::alloc::Allocator;
 
 // What a reclaim reads of its block.
 #[derive(Clone, Copy, Debug)]
-struct Part {
-    offset: usize,
-    len: usize,
+pub(crate) struct Part {
+    pub(crate) offset: usize,
+    pub(crate) len: usize,
 }
 
 // What a reply has a reclaim read next.
-fn next_part<K, V, P, A: Allocator>(reply: &Reply<K, V, P, A>) -> Option<Part>
+pub(crate) fn next_part<K, V, P, A: Allocator>(reply: &Reply<K, V, P, A>) -> Option<Part>
     ensures { result ≡ part_in reply.now }
 {
     match reply {
@@ -45,7 +45,7 @@ fn next_part<K, V, P, A: Allocator>(reply: &Reply<K, V, P, A>) -> Option<Part>
 }
 
 // Reads a part of a block. Memory that is refused for it is a fault too.
-fn read_bytes<A: Allocator + Clone, D: Disk>(
+pub(crate) fn read_bytes<A: Allocator + Clone, D: Disk>(
     alloc: &A,
     disk: &mut D,
     block: BlockId,

@@ -1,4 +1,4 @@
-use Rattle.std.proofs.Common.{◌≡◌, ◌+◌, ◌++◌, ◌∷◌, [], None, arith, length, replicate, sym, ap, subst, ◌∙◌}
+use Rattle.std.proofs.Common.{◌≡◌, ◌+◌, ◌++◌, ◌∷◌, [], None, false, arith, length, replicate, sym, ap, subst, ◌∙◌}
 use Rattle.foyer_model.specs.World.{after_all}
 use Rattle.foyer_rules.specs.Content.{meaning}
 use Rattle.foyer_rules.specs.CoreRules.{machine}
@@ -22,8 +22,9 @@ loop-x-init g c =
       rest = sym c.into_iter-x-iterator.ensures.into_iter_gives.0;
       known = λ known. known;
       going = λ known s sound w stands same.
-          going_begun m s sound w kept.tickets.items kept.issued.items kept.replies.items c.args.core.now (g.D.Disk.byte_at c.args.disk.now) stands same
-          c.in_ok-kept.ensures.tickets (c.in_ok-kept.ensures.issued ∙ ap (λ z. replicate z.flushers None) (c.settings-flushers.ensures ∙ stands.sizes)) c.in_ok-kept.ensures.replies;
+          going_begun m s sound w kept.tickets.items kept.issued.items kept.scans.items kept.cleans.items kept.replies.items c.args.core.now (g.D.Disk.byte_at c.args.disk.now) stands same
+          c.in_ok-kept.ensures.tickets (c.in_ok-kept.ensures.issued ∙ ap (λ z. replicate z.flushers None) (c.settings.ensures ∙ stands.sizes)) (c.in_ok-kept.ensures.scans ∙ ap (λ z. replicate z.blocks None) (c.settings.ensures ∙ stands.sizes))
+          (c.in_ok-kept.ensures.cleans ∙ ap (λ z. replicate z.blocks false) (c.settings.ensures ∙ stands.sizes)) c.in_ok-kept.ensures.replies;
     }
 
 pub loop-x-preserved : goal.loop-x-preserved
@@ -38,9 +39,9 @@ loop-x-preserved g c =
       known = λ known. c.in_ok-make.ensures.known (c.loop-x.invariant.known known);
       going = λ known s sound w stands same.
           let going = c.loop-x.invariant.going known s sound w stands same in
-          going_on m s sound w yielded x c.loop-x.kept.tickets.items c.make.new.kept.tickets.items c.loop-x.kept.issued.items c.make.new.kept.issued.items c.loop-x.kept.replies.items c.make.new.kept.replies.items
+          going_on m s sound w yielded x c.loop-x.kept.tickets.items c.make.new.kept.tickets.items c.loop-x.kept.issued.items c.make.new.kept.issued.items c.loop-x.kept.scans.items c.make.new.kept.scans.items c.loop-x.kept.cleans.items c.make.new.kept.cleans.items c.loop-x.kept.replies.items c.make.new.kept.replies.items
           c.loop-x.core c.make.new.core (g.D.Disk.byte_at c.loop-x.disk) (g.D.Disk.byte_at c.make.new.disk) going
-          (c.in_ok-make.ensures.moved (c.loop-x.invariant.known known) s sound w.issued w.block_writes (after_all (machine m s sound) w going.events) going.running);
+          (c.in_ok-make.ensures.moved (c.loop-x.invariant.known known) s sound w (after_all (machine m s sound) w going.events) going.running);
     }
 
 pub returns-in_err-make-clause-front : goal.returns-in_err-make-clause-front
@@ -51,7 +52,7 @@ returns-in_err-make-clause-front g c = λ known.
     err_is c.from_residual-in_err-make.result
     (subst (λ core. IsFront m c.args.moves.items old core bytes (g.D.Disk.byte_at c.make.new.disk)) (sym c.in_err-make.ensures.stays)
     (subst (λ new. IsFront m c.args.moves.items old c.loop-x.core bytes new) (sym c.in_err-make.ensures.same)
-    (front_of m c.args.moves.items c.loop-x.yielded c.loop-x.x-iterator.rest.items c.loop-x.kept.tickets.items c.loop-x.kept.issued.items c.loop-x.kept.replies.items old c.loop-x.core bytes (g.D.Disk.byte_at c.loop-x.disk)
+    (front_of m c.args.moves.items c.loop-x.yielded c.loop-x.x-iterator.rest.items c.loop-x.kept.tickets.items c.loop-x.kept.issued.items c.loop-x.kept.scans.items c.loop-x.kept.cleans.items c.loop-x.kept.replies.items old c.loop-x.core bytes (g.D.Disk.byte_at c.loop-x.disk)
     c.loop-x.invariant.rest (c.loop-x.invariant.going known))))
 
 pub returns-clause-runs : goal.returns-clause-runs
@@ -62,5 +63,5 @@ returns-clause-runs g c = λ known s sound w stands same.
     let all : c.args.moves.items ≡ c.loop-x.yielded =
     c.loop-x.invariant.rest ∙ ap (λ xs. c.loop-x.yielded ++ xs) (empty_is left.items none) ∙ append_none c.loop-x.yielded in
     subst (λ ms. IsRun m s sound w ms c.loop-x.kept.replies.items c.loop-x.core (g.D.Disk.byte_at c.loop-x.disk)) (sym all)
-    (gone m s sound w c.loop-x.yielded c.loop-x.kept.tickets.items c.loop-x.kept.issued.items c.loop-x.kept.replies.items c.loop-x.core (g.D.Disk.byte_at c.loop-x.disk)
+    (gone m s sound w c.loop-x.yielded c.loop-x.kept.tickets.items c.loop-x.kept.issued.items c.loop-x.kept.scans.items c.loop-x.kept.cleans.items c.loop-x.kept.replies.items c.loop-x.core (g.D.Disk.byte_at c.loop-x.disk)
     (c.loop-x.invariant.going known s sound w stands same))

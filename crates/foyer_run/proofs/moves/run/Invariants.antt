@@ -16,5 +16,5 @@ invariant-loop-x g l = record {
       → IsStateOf (meaning g.K.Code.encoding g.V.Code.encoding g.K.Code.is_encodable g.V.Code.is_encodable g.K.Code.is_decodable g.V.Code.is_decodable g.P.Properties.age) s l.fn.core w.core
       → ((b o : ℕ) → w.bytes b o ≡ g.D.Disk.byte_at l.fn.disk b o)
       → IsGoing (meaning g.K.Code.encoding g.V.Code.encoding g.K.Code.is_encodable g.V.Code.is_encodable g.K.Code.is_decodable g.V.Code.is_decodable g.P.Properties.age) s sound w
-      l.yielded l.kept.tickets.items l.kept.issued.items l.kept.replies.items l.core (g.D.Disk.byte_at l.disk);
+      l.yielded l.kept.tickets.items l.kept.issued.items l.kept.scans.items l.kept.cleans.items l.kept.replies.items l.core (g.D.Disk.byte_at l.disk);
 }

@@ -4,22 +4,22 @@ use Rattle.foyer_rules.specs.Content.{meaning}
 use Rattle.foyer_core.proofs.FlushTurns.{went_is}
 use Rattle.foyer_run.specs.Running.{at, write_at}
 use Rattle.foyer_run.proofs.WriteLemmas.{done_is, next_issued, none_left, none_noted, noted, write_moves, write_passes}
-use Rattle.foyer_run.proofs.moves.flush_wrote.Goals as goal
+use Rattle.foyer_run.proofs.moves.writes.flush_wrote.Goals as goal
 
 pub returns-in_default-clause-moved : goal.returns-in_default-clause-moved
-returns-in_default-clause-moved g c = λ known s sound first block_writes w running.
+returns-in_default-clause-moved g c = λ known s sound from w running.
     let m = meaning g.K.Code.encoding g.V.Code.encoding g.K.Code.is_encodable g.V.Code.is_encodable g.K.Code.is_decodable g.V.Code.is_decodable g.P.Properties.age in
     let f = c.args.flusher in
     let tickets = c.args.kept.now.tickets.items in
     let issued = c.args.kept.now.issued.items in
     let said = c.args.kept.now.replies.items in
     let bytes = g.D.Disk.byte_at c.args.disk.now in
-    write_passes m s sound first block_writes f tickets issued said c.args.core.now bytes w running
-    (none_noted m s sound (block_writes f) said (at (slice_get issued f)) (w.block_writes f) (running.writes f)
+    write_passes m s sound from f tickets issued c.args.kept.now.scans.items c.args.kept.now.cleans.items said c.args.core.now bytes w running
+    (none_noted m s sound (from.block_writes f) said (at (slice_get issued f)) (w.block_writes f) (running.writes f)
     (ap (λ xs. at (slice_get xs f)) (sym c.as_slice.ensures.value) ∙ sym c.get_due.ensures ∙ c.in_default.is))
 
 pub returns-in_default-next_write-clause-moved : goal.returns-in_default-next_write-clause-moved
-returns-in_default-next_write-clause-moved g c = λ known s sound first block_writes w running.
+returns-in_default-next_write-clause-moved g c = λ known s sound from w running.
     let m = meaning g.K.Code.encoding g.V.Code.encoding g.K.Code.is_encodable g.V.Code.is_encodable g.K.Code.is_decodable g.V.Code.is_decodable g.P.Properties.age in
     let f = c.args.flusher in
     let tickets = c.args.kept.now.tickets.items in
@@ -27,14 +27,14 @@ returns-in_default-next_write-clause-moved g c = λ known s sound first block_wr
     let said = c.args.kept.now.replies.items in
     let bytes = g.D.Disk.byte_at c.args.disk.now in
     let x = c.in-Some.issued in
-    write_passes m s sound first block_writes f tickets issued said c.args.core.now bytes w running
+    write_passes m s sound from f tickets issued c.args.kept.now.scans.items c.args.kept.now.cleans.items said c.args.core.now bytes w running
     (inl (none_left m s sound said x (w.block_writes f)
-    (noted m s sound (block_writes f) said (at (slice_get issued f)) x (w.block_writes f) (running.writes f)
+    (noted m s sound (from.block_writes f) said (at (slice_get issued f)) x (w.block_writes f) (running.writes f)
     (ap (λ xs. at (slice_get xs f)) (sym c.as_slice.ensures.value) ∙ sym c.get_due.ensures ∙ c.in-Some.is))
     (ap (λ xs. write_at (slice_get xs x.reply) x.next) (sym c.as_slice-2.ensures.value) ∙ c.in_default-next_write.ensures.write)))
 
 pub returns-then-wants_next_write-clause-moved : goal.returns-then-wants_next_write-clause-moved
-returns-then-wants_next_write-clause-moved g c = λ known s sound first block_writes w running.
+returns-then-wants_next_write-clause-moved g c = λ known s sound from w running.
     let m = meaning g.K.Code.encoding g.V.Code.encoding g.K.Code.is_encodable g.V.Code.is_encodable g.K.Code.is_decodable g.V.Code.is_decodable g.P.Properties.age in
     let f = c.args.flusher in
     let tickets = c.args.kept.now.tickets.items in
@@ -45,7 +45,7 @@ returns-then-wants_next_write-clause-moved g c = λ known s sound first block_wr
     let x = c.in-Some.issued in
     let write = c.in-Some-next_write.write.now in
     let ok = c.is_ok-went_well.ensures.value ∙ went_is outcome in
-    write_moves m s sound first block_writes f x write outcome c.apply-reply.result tickets c.note_ticket.new.tickets.items issued c.set_due-then-wants_next_write.new.list.items said c.push_reserved.new.self.items
+    write_moves m s sound from f x write outcome c.apply-reply.result tickets c.note_ticket.new.tickets.items issued c.set_due-then-wants_next_write.new.list.items c.args.kept.now.scans.items c.args.kept.now.cleans.items said c.push_reserved.new.self.items
     c.args.core.now c.apply-reply.new.self bytes (g.D.Disk.byte_at c.do_write-wrote.new.disk) w running
     (ap (λ xs. at (slice_get xs f)) (sym c.as_slice.ensures.value) ∙ sym c.get_due.ensures ∙ c.in-Some.is)
     (ap (λ xs. write_at (slice_get xs x.reply) x.next) (sym c.as_slice-2.ensures.value) ∙ c.in-Some-next_write.ensures.write)
@@ -58,7 +58,7 @@ returns-then-wants_next_write-clause-moved g c = λ known s sound first block_wr
     ))
 
 pub returns-clause-moved : goal.returns-clause-moved
-returns-clause-moved g c = λ known s sound first block_writes w running.
+returns-clause-moved g c = λ known s sound from w running.
     let m = meaning g.K.Code.encoding g.V.Code.encoding g.K.Code.is_encodable g.V.Code.is_encodable g.K.Code.is_decodable g.V.Code.is_decodable g.P.Properties.age in
     let f = c.args.flusher in
     let tickets = c.args.kept.now.tickets.items in
@@ -69,7 +69,7 @@ returns-clause-moved g c = λ known s sound first block_writes w running.
     let x = c.in-Some.issued in
     let write = c.in-Some-next_write.write.now in
     let ok = c.is_ok-went_well.ensures.value ∙ went_is outcome in
-    write_moves m s sound first block_writes f x write outcome c.apply-reply.result tickets c.note_ticket.new.tickets.items issued c.set_due.new.list.items said c.push_reserved-2.new.self.items
+    write_moves m s sound from f x write outcome c.apply-reply.result tickets c.note_ticket.new.tickets.items issued c.set_due.new.list.items c.args.kept.now.scans.items c.args.kept.now.cleans.items said c.push_reserved-2.new.self.items
     c.args.core.now c.apply-reply.new.self bytes (g.D.Disk.byte_at c.do_write-wrote.new.disk) w running
     (ap (λ xs. at (slice_get xs f)) (sym c.as_slice.ensures.value) ∙ sym c.get_due.ensures ∙ c.in-Some.is)
     (ap (λ xs. write_at (slice_get xs x.reply) x.next) (sym c.as_slice-2.ensures.value) ∙ c.in-Some-next_write.ensures.write)

@@ -3,7 +3,7 @@ use Rattle.std.specs.Prelude.{MatchOption, Some, None, length, slice_get}
 use Rattle.foyer_run.specs.Running.{write_at}
 use Rattle.foyer_run.proofs.ListLemmas.{found_at, has_room, looked}
 use Rattle.foyer_run.proofs.WriteLemmas.{none_at_all}
-use Rattle.foyer_run.proofs.moves.next_write.Goals as goal
+use Rattle.foyer_run.proofs.moves.writes.next_write.Goals as goal
 
 pub returns-in-Write-clause-write : goal.returns-in-Write-clause-write
 returns-in-Write-clause-write g c =
