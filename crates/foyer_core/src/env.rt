@@ -65,9 +65,10 @@ impl<E: EvictionPicker> Env<E, BuiltInCondition> {
         ensures pickers { result.pickers ≡ pickers }
         ensures reinsertion { result.reinsertion ≡ None }
     {
+        let own = Vec::new(alloc);
         Env {
             pickers,
-            own: Vec::new(alloc),
+            own,
             generator: Pcg32::new(seed, seed),
             reinsertion: None,
             io: no_io(),
