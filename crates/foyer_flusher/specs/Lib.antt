@@ -10,5 +10,6 @@ pub mod Flushing
 pub mod Idle
 pub mod Issued
 pub mod Issuing
+pub mod Leaving
 pub mod Seen
 pub mod Taking

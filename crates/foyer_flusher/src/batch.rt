@@ -1,6 +1,6 @@
 //! A flusher's batch: block by block onto the disk, and into the index.
 ghost use Rattle.std.specs.Prelude.{◌≡◌, ◌≢◌, ◌↔◌, ◌<◌, ℕ, [], map, length, Option, None, Some, IsSome, IsSomeAnd, IsTrue, true, false};
-ghost use Rattle.std.specs.Prelude.{IfErr, IfOk, OnErr, MatchOption, vec_len};
+ghost use Rattle.std.specs.Prelude.{IfErr, IfOk, OnErr, OnOk, MatchOption, vec_len};
 ghost use Rattle.foyer_block.specs.Index.{IndexMap, HasRoomFor};
 ghost use Rattle.foyer_block.specs.Committing.{committed_all, put_count, PiecesHeld};
 ghost use Rattle.foyer_device.specs.declared.error.Error.{Error as error};
@@ -12,6 +12,8 @@ ghost use Rattle.foyer_rules.specs.Content.{Content, Meaning};
 ghost use Rattle.foyer_rules.specs.Sizes.{AreValid};
 ghost use Rattle.foyer_rules.specs.declared.settings.Settings.{Settings};
 ghost use Rattle.foyer_sets.specs.BlockSets.{BlockSets, Stands, HasSameRules};
+ghost use Rattle.foyer_flusher.specs.Leaving.{left_after, left_by};
+ghost use Rattle.foyer_sets.specs.Shown.{AreShownAll, written_of};
 ghost use Rattle.foyer_flusher.specs.Failing.{MustGrowFor};
 ghost use Rattle.foyer_flusher.specs.FlushInTurn.{MayBegin, HasBlock, IsWriting, IsWritten};
 ghost use Rattle.foyer_flusher.specs.FlusherSteps.{StandsAt, FlusherStep, issued_next, issued_wrote, HasEnded, settled, failed_batch};
@@ -172,6 +174,9 @@ impl<K, V, P, A: Allocator + Clone> Flusher<K, V, P, A> {
         requires there { number < length manager.old.ready }
         ensures refused { OnErr result (seen self.new ≡ seen self.old) }
         ensures manager_kept { OnErr result (manager.new ≡ manager.old) }
+        ensures unshown { OnErr result (pickers.new ≡ pickers.old) }
+        ensures shown { OnOk result (AreShownAll E.learns
+            (written_of manager.old.blocks (left_by self.old.batch self.old.own)) pickers.old pickers.new) }
         ensures memory { IfErr result (λ e. e ≡ error.Memory) }
         ensures same { HasSameRules manager.old manager.new }
         ensures done { IfOk result (λ next. (m : Meaning K V P) (s : Settings) (sound : AreValid s)
@@ -224,6 +229,7 @@ impl<K, V, P, A: Allocator + Clone> Flusher<K, V, P, A> {
             → FlusherStep m s sound (model_step.FlushWrote f is_done) f it (issued_wrote result)
             (seen self.new) index.new.slots manager.new }
         ensures failed { is_done ≡ true → result ≡ wrote.Failed → MustGrowFor index.old self.old }
+        ensures shown { AreShownAll E.learns (written_of manager.old.blocks (left_after result self.old.own)) pickers.old pickers.new }
     {
         let Some(batch) = &mut self.batch else {
             unreachable!()
@@ -259,6 +265,7 @@ impl<K, V, P, A: Allocator + Clone> Flusher<K, V, P, A> {
     fn fail<E: EvictionPicker>(&mut self, manager: &mut BlockManager<A>, pickers: &mut [E]) -> Wrote
         requires { IsSomeAnd self.old.batch (λ batch. batch.writing ≡ None) }
         ensures failed { result ≡ wrote.Failed }
+        ensures shown { AreShownAll E.learns (written_of manager.old.blocks self.old.own) pickers.old pickers.new }
         ensures left { (m : Meaning K V P) (s : Settings) (sound : AreValid s) (it : model_state.Flusher Content)
             (batch : model_state.Batch Content)
             → IsFlusherAs m s (seen self.old) it → it.batch ≡ Some batch

@@ -4,6 +4,7 @@ ghost use Rattle.foyer_model.specs.Flush.{released, all_invalidated};
 ghost use Rattle.foyer_model.specs.State as model_state;
 ghost use Rattle.foyer_sets.specs.BlockSets.{BlockSets, Stands, HasSameRules};
 ghost use Rattle.foyer_sets.specs.Managed.{filling_in};
+ghost use Rattle.foyer_sets.specs.Shown.{AreShownAll, written_of};
 ghost use Rattle.foyer_standing.specs.Addresses.{invalid_of};
 
 use crate::blocks::InvalidStats;
@@ -22,7 +23,7 @@ pub fn filling_of<A: Allocator>(manager: &BlockManager<A>, block: BlockId) -> u6
     }
 }
 
-// A flusher leaves its block, which may be reclaimed from now on.
+// A flusher leaves its block, which may be reclaimed from now on; the pickers are shown it.
 pub fn release<P: EvictionPicker, A: Allocator>(
     own: &mut Option<BlockId>,
     manager: &mut BlockManager<A>,
@@ -33,6 +34,7 @@ pub fn release<P: EvictionPicker, A: Allocator>(
     ensures released { (s : BlockSets) (f : ℕ) → Stands manager.old s
         → ((b : ℕ) → own.old ≡ Some b → s.block_set b ≡ model_state.Writes f)
         → Stands manager.new (record s { block_set = released own.old s.block_set }) }
+    ensures shown { AreShownAll P.learns (written_of manager.old.blocks own.old) pickers.old pickers.new }
 {
     let Some(block) = own.take() else {
         return;

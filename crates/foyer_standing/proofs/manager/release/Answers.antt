@@ -2,6 +2,9 @@ use Rattle.std.proofs.Common.{◌≡◌, ℕ, Option, Some, true, false, IsTrue,
 use Rattle.foyer_model.specs.Flush.{released}
 use Rattle.foyer_model.specs.State as model_state
 use Rattle.foyer_sets.specs.BlockSets.{Stands}
+use Rattle.foyer_sets.specs.Shown.{AreShownAll, written_of}
+use Rattle.foyer_sets.proofs.ClearingLemmas.{written_as}
+use Rattle.foyer_sets.proofs.ShownLemmas.{not_writing, shown_none, shown_one}
 use Rattle.foyer_standing.proofs.SetsLemmas.{written_in, unknown_set}
 use Rattle.foyer_standing.proofs.manager.release.Goals as goal
 
@@ -20,3 +23,17 @@ returns-clause-released g c = λ s f st owned.
     let own : c.args.own.now ≡ Some c.in-Some.block = cc in
     subst (λ (o : Option ℕ). Stands c.on_writing_finish.new.self (record s { block_set = released o s.block_set })) (sym own)
     (c.on_writing_finish.ensures.left s st)
+
+pub returns-then-not-is_written-clause-shown : goal.returns-then-not-is_written-clause-shown
+returns-then-not-is_written-clause-shown g c =
+    let own : c.args.own.now ≡ Some c.in-Some.block = cc in
+    subst (λ (o : Option ℕ). AreShownAll g.P.EvictionPicker.learns (written_of (c.args.manager.now).blocks o) c.args.pickers.now c.args.pickers.now) (sym own)
+    (shown_none g.P.EvictionPicker.learns (c.args.manager.now).blocks c.in-Some.block c.args.pickers.now
+    (not_writing c.args.manager.now c.in-Some.block c.is_written.result c.is_written.ensures.1 c.if-not-is_written.true))
+
+pub returns-clause-shown : goal.returns-clause-shown
+returns-clause-shown g c =
+    let own : c.args.own.now ≡ Some c.in-Some.block = cc in
+    subst (λ (o : Option ℕ). AreShownAll g.P.EvictionPicker.learns (written_of (c.args.manager.now).blocks o) c.args.pickers.now c.on_writing_finish.new.pickers) (sym own)
+    (shown_one g.P.EvictionPicker.learns (c.args.manager.now).blocks c.in-Some.block _ c.args.pickers.now c.on_writing_finish.new.pickers
+    ((written_as c.args.manager.now c.in-Some.block).1 (c.is_written.ensures.0 c.if-not-is_written.false)) c.on_writing_finish.ensures.shown)
