@@ -24,3 +24,4 @@ pub mod ReopenedLemmas
 pub mod StateLemmas
 pub mod StillLemmas
 pub mod TurnLemmas
+pub mod ShowingLemmas

@@ -7,5 +7,6 @@ pub mod Refines
 pub mod Reopened
 pub mod Replied
 pub mod Scanning
+pub mod Showing
 pub mod StateOf
 pub mod Unchanged

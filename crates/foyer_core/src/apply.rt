@@ -4,6 +4,7 @@ ghost use Rattle.std.specs.declared.vec.Vec.{Vec};
 ghost use Rattle.foyer_device.specs.declared.error.Error.{Error};
 ghost use Rattle.foyer_core.specs.Answered.{HandsBack, Describes, MayFail, IsPicked};
 ghost use Rattle.foyer_core.specs.Scanning.{IsJudged};
+ghost use Rattle.foyer_core.specs.Showing.{IsShown};
 ghost use Rattle.foyer_rules.specs.Content.{meaning};
 ghost use Rattle.foyer_core.specs.Refines.{IsHandedBack, RefinesUncounted, Refines};
 ghost use Rattle.foyer_core.specs.declared.reply.Reply.TheVariants as reply;
@@ -55,6 +56,7 @@ where
         ensures picks { step ≡ steps.ReclaimBegin → IsPicked E.answer E.marks env.old.pickers.items result self.old self.new }
         ensures judged { (block : ℕ) (came : Result (Vec ℕ A) Error) → step ≡ steps.ReclaimRead block came
             → IsJudged C.may_answer env.old.reinsertion env.old.io block came result self.old }
+        ensures shown { IsShown E.learns E.forgets step result self.old self.new.manager env.old.pickers.items env.new.pickers.items }
         ensures lent { (env.new.reinsertion ≡ env.old.reinsertion) × (env.new.io ≡ env.old.io) }
     {
         if self.steps == u64::MAX {
@@ -85,6 +87,7 @@ where
         ensures picks { step ≡ steps.ReclaimBegin → IsPicked E.answer E.marks env.old.pickers.items result self.old self.new }
         ensures judged { (block : ℕ) (came : Result (Vec ℕ A) Error) → step ≡ steps.ReclaimRead block came
             → IsJudged C.may_answer env.old.reinsertion env.old.io block came result self.old }
+        ensures shown { IsShown E.learns E.forgets step result self.old self.new.manager env.old.pickers.items env.new.pickers.items }
         ensures lent { (env.new.reinsertion ≡ env.old.reinsertion) × (env.new.io ≡ env.old.io) }
     {
         match step {

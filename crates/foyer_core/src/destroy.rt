@@ -6,6 +6,7 @@ ghost use Rattle.foyer_core.specs.Destroying.{awaits, fault_kind, first_of, HasC
 ghost use Rattle.foyer_core.specs.Refines.{RefinesUncounted};
 ghost use Rattle.foyer_core.specs.declared.step.Step.TheVariants as step;
 ghost use Rattle.foyer_rules.specs.Content.{Meaning};
+ghost use Rattle.foyer_core.specs.Showing.{IsShown};
 
 use crate::env::Env;
 use crate::reply::Reply;
@@ -133,6 +134,7 @@ impl<K, V, P, A: Allocator + Clone> Core<K, V, P, A> {
         ensures back { HandsBack step.DestroyClear result self.old self.new }
         ensures nothing { DescribesNothing result }
         ensures meets { (m : Meaning K V P) → RefinesUncounted m step.DestroyClear result self.old self.new }
+        ensures shown { IsShown E.learns E.forgets step.DestroyClear result self.old self.new.manager env.old.pickers.items env.new.pickers.items }
         ensures lent { (env.new.reinsertion ≡ env.old.reinsertion) × (env.new.io ≡ env.old.io) }
     {
         let Destroy::Begun = &self.destroy else {

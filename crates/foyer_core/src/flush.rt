@@ -9,6 +9,7 @@ ghost use Rattle.foyer_rules.specs.Content.{Meaning, meaning};
 ghost use Rattle.foyer_core.specs.Refines.{RefinesUncounted};
 ghost use Rattle.foyer_core.specs.declared.reply.Reply.TheVariants as reply;
 ghost use Rattle.foyer_core.specs.declared.step.Step.TheVariants as step;
+ghost use Rattle.foyer_core.specs.Showing.{IsShown};
 
 use crate::env::Env;
 use crate::reply::Reply;
@@ -106,6 +107,7 @@ impl<K, V, P, A: Allocator + Clone> Core<K, V, P, A> {
         ensures back { HandsBack (step.FlushBlock flusher) result self.old self.new }
         ensures nothing { DescribesNothing result }
         ensures meets { (m : Meaning K V P) → RefinesUncounted m (step.FlushBlock flusher) result self.old self.new }
+        ensures shown { IsShown E.learns E.forgets (step.FlushBlock flusher) result self.old self.new.manager env.old.pickers.items env.new.pickers.items }
         ensures lent { (env.new.reinsertion ≡ env.old.reinsertion) × (env.new.io ≡ env.old.io) }
     {
         if flusher as usize >= self.flushers.len() {
@@ -131,6 +133,7 @@ impl<K, V, P, A: Allocator + Clone> Core<K, V, P, A> {
         ensures back { HandsBack (step.FlushWrote flusher outcome) result self.old self.new }
         ensures nothing { DescribesNothing result }
         ensures meets { (m : Meaning K V P) → RefinesUncounted m (step.FlushWrote flusher outcome) result self.old self.new }
+        ensures shown { IsShown E.learns E.forgets (step.FlushWrote flusher outcome) result self.old self.new.manager env.old.pickers.items env.new.pickers.items }
         ensures lent { (env.new.reinsertion ≡ env.old.reinsertion) × (env.new.io ≡ env.old.io) }
         ensures failed { result ≡ reply.Failed → MayFail (step.FlushWrote flusher outcome) self.old }
     {

@@ -150,6 +150,7 @@ where
             (meaning K.encoding V.encoding K.is_encodable V.is_encodable K.is_decodable V.is_decodable P.age)
             (step.LoadEnd ticket outcome) result.0 self.old self.new }
         ensures spare { result.1 ≡ spare_of outcome result.0 }
+        ensures lent { _env.new ≡ _env.old }
     {
         if self.steps == u64::MAX {
             let given = load_end(ticket, outcome);

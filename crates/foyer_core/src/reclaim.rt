@@ -7,6 +7,7 @@ ghost use Rattle.foyer_core.specs.Answered.{HandsBack, DescribesNothing, Idling,
 ghost use Rattle.foyer_core.specs.Refines.{RefinesUncounted};
 ghost use Rattle.foyer_core.specs.declared.step.Step.TheVariants as step;
 ghost use Rattle.foyer_rules.specs.Content.{Meaning};
+ghost use Rattle.foyer_core.specs.Showing.{IsShown};
 
 use crate::block::reclaimer;
 use crate::block::reclaimer::{Lists, Reclaimer, Wanted};
@@ -56,6 +57,7 @@ impl<K, V, P, A: Allocator + Clone> Core<K, V, P, A> {
         ensures nothing { DescribesNothing result }
         ensures meets { (m : Meaning K V P) → RefinesUncounted m step.ReclaimBegin result self.old self.new }
         ensures picks { IsPicked E.answer E.marks env.old.pickers.items result self.old self.new }
+        ensures shown { IsShown E.learns E.forgets step.ReclaimBegin result self.old self.new.manager env.old.pickers.items env.new.pickers.items }
         ensures lent { (env.new.reinsertion ≡ env.old.reinsertion) × (env.new.io ≡ env.old.io) }
     {
         if !self.manager.may_reclaim() {

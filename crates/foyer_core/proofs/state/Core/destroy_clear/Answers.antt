@@ -1,4 +1,4 @@
-use Rattle.std.proofs.Common.{◌≡◌, length, map, [], None, refl, sym, ap, ◌∙◌}
+use Rattle.std.proofs.Common.{◌≡◌, length, map, [], None, refl, sym, ap, ◌∙◌, arith}
 use Rattle.std.proofs.lemmas.Bool.{false≢true}
 use Rattle.foyer_device.specs.declared.error.ErrorKind.TheVariants as kind
 use Rattle.foyer_model.specs.Ids.{ids}
@@ -9,6 +9,8 @@ use Rattle.foyer_flusher.specs.Cleared.{are_still, cleared}
 use Rattle.foyer_flusher.specs.Seen.{seen}
 use Rattle.foyer_core.specs.declared.step.Step.TheVariants as step
 use Rattle.foyer_core.proofs.DestroySteps.{may_clear, must_be_still, must_run_none, after_clear, clears, lent_all, all_left}
+use Rattle.foyer_sets.specs.Shown.{written_below}
+use Rattle.foyer_core.proofs.ShowingLemmas.{all_back}
 use Rattle.foyer_core.proofs.FlushTurns.{not_now}
 use Rattle.foyer_core.proofs.TurnLemmas.{is_early, same, refused}
 use Rattle.foyer_core.proofs.state.Core.destroy_clear.Goals as goal
@@ -47,3 +49,9 @@ returns-clause-meets g c = λ m s sound it stands few.
       reply = (ids s.blocks, refl);
       turns = (may, (refl, refl));
     }
+
+pub returns-clause-shown : goal.returns-clause-shown
+returns-clause-shown g c =
+    let blocks = c.args.self.now.manager.blocks in
+    all_back g.E.EvictionPicker.learns (written_below blocks (length blocks)) c.args.env.now.pickers.len c.args.env.now.pickers.items c.deref_mut.result.now c.clear-2.new.pickers
+    c.deref_mut.ensures.value (omega (arith, c.args.env.now.pickers.ok.0)) c.clear-2.ensures.shown

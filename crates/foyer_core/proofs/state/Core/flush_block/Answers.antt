@@ -1,5 +1,5 @@
 use Rattle.std.proofs.lemmas.Grind.{common_steps}
-use Rattle.std.proofs.Common.{◌≡◌, ◌<◌, length, map, refl, subst, arith}
+use Rattle.std.proofs.Common.{◌≡◌, ◌<◌, length, map, refl, sym, subst, arith}
 use Rattle.std.proofs.lemmas.Bool.{false≢true}
 use Rattle.foyer_block.proofs.Rooms.{kept_itself}
 use Rattle.foyer_model.specs.Numbers.{last_number}
@@ -8,6 +8,10 @@ use Rattle.foyer_model.specs.Step as model_step
 use Rattle.foyer_flusher.specs.FlusherSteps.{FlusherStep, issued_next}
 use Rattle.foyer_flusher.specs.Issuing.{write_of}
 use Rattle.foyer_flusher.specs.Seen.{seen}
+use Rattle.foyer_flusher.specs.Leaving.{left_by}
+use Rattle.foyer_sets.specs.Shown.{AreShownAll, written_of}
+use Rattle.foyer_core.specs.Showing.{left_at}
+use Rattle.foyer_core.proofs.ShowingLemmas.{all_back, left_read}
 use Rattle.foyer_core.proofs.FlushTurns.{stands_at, flusher_there, core_stands, has_block, wants_block, not_now, would_answer}
 use Rattle.foyer_core.proofs.FlusherLists.{same_seen}
 use Rattle.foyer_core.proofs.StateLemmas.{unchanged_stands}
@@ -130,3 +134,23 @@ returns-in-Err-clause-back g c =
         destroy = refl;
       },
     )
+
+pub returns-in-Ok-NoBlock-clause-shown : goal.returns-in-Ok-NoBlock-clause-shown
+returns-in-Ok-NoBlock-clause-shown g c =
+    let core = c.args.self.now in
+    let f = c.args.flusher in
+    let found = c.index_mut-found.result.now in
+    let within : f < length core.flushers.items = omega (arith, c.len.ensures, c.if-flusher-len.false) in
+    let at : left_at core f ≡ left_by found.batch found.own = left_read core f found within c.index_mut-found.ensures.value in
+    all_back g.E.EvictionPicker.learns (written_of core.manager.blocks (left_at core f)) c.args.env.now.pickers.len c.args.env.now.pickers.items c.deref_mut.result.now c.next.new.pickers
+    c.deref_mut.ensures.value (omega (arith, c.args.env.now.pickers.ok.0)) (subst (λ o. AreShownAll g.E.EvictionPicker.learns (written_of core.manager.blocks o) c.deref_mut.result.now c.next.new.pickers) (sym at) c.in-Ok-NoBlock.ensures.shown)
+
+pub returns-in-Ok-Block-clause-shown : goal.returns-in-Ok-Block-clause-shown
+returns-in-Ok-Block-clause-shown g c =
+    let core = c.args.self.now in
+    let f = c.args.flusher in
+    let found = c.index_mut-found.result.now in
+    let within : f < length core.flushers.items = omega (arith, c.len.ensures, c.if-flusher-len.false) in
+    let at : left_at core f ≡ left_by found.batch found.own = left_read core f found within c.index_mut-found.ensures.value in
+    all_back g.E.EvictionPicker.learns (written_of core.manager.blocks (left_at core f)) c.args.env.now.pickers.len c.args.env.now.pickers.items c.deref_mut.result.now c.next.new.pickers
+    c.deref_mut.ensures.value (omega (arith, c.args.env.now.pickers.ok.0)) (subst (λ o. AreShownAll g.E.EvictionPicker.learns (written_of core.manager.blocks o) c.deref_mut.result.now c.next.new.pickers) (sym at) c.in-Ok-Block.ensures.shown)

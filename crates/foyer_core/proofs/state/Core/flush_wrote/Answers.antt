@@ -1,5 +1,5 @@
 use Rattle.std.proofs.lemmas.Grind.{common_steps}
-use Rattle.std.proofs.Common.{◌≡◌, ◌<◌, Bool, length, refl, subst, ◌∙◌, arith}
+use Rattle.std.proofs.Common.{◌≡◌, ◌<◌, Bool, length, refl, sym, subst, ◌∙◌, arith}
 use Rattle.std.proofs.lemmas.Bool.{false≢true}
 use Rattle.foyer_block.proofs.Rooms.{kept_itself}
 use Rattle.foyer_model.specs.Reply as model_reply
@@ -7,6 +7,11 @@ use Rattle.foyer_model.specs.Step as model_step
 use Rattle.foyer_core.specs.Asked.{went_well}
 use Rattle.foyer_flusher.specs.FlusherSteps.{FlusherStep}
 use Rattle.foyer_flusher.specs.Seen.{seen}
+use Rattle.std.specs.Prelude.{IsSomeAnd}
+use Rattle.foyer_flusher.specs.Failing.{MustGrowFor}
+use Rattle.foyer_sets.specs.Shown.{AreShownAll, written_of}
+use Rattle.foyer_core.specs.Showing.{own_at}
+use Rattle.foyer_core.proofs.ShowingLemmas.{all_back, flusher_read, own_read}
 use Rattle.foyer_core.proofs.FlushTurns.{stands_at, flusher_there, core_stands, is_writing, must_write, not_now, went_is}
 use Rattle.foyer_core.proofs.FlusherLists.{same_seen}
 use Rattle.foyer_core.specs.declared.step.Step.TheVariants as step
@@ -90,3 +95,23 @@ returns-then-flusher-len-clause-meets g c = grind (arith, common_steps)
 
 pub returns-then-not-is_writing-clause-back : goal.returns-then-not-is_writing-clause-back
 returns-then-not-is_writing-clause-back g c = grind (arith, common_steps)
+
+pub returns-in-Failed-clause-shown : goal.returns-in-Failed-clause-shown
+returns-in-Failed-clause-shown g c =
+    let core = c.args.self.now in
+    let f = c.args.flusher in
+    let found = c.index_mut-found.result.now in
+    let within : f < length core.flushers.items = omega (arith, c.len.ensures, c.if-flusher-len.false) in
+    let at : own_at core f ≡ found.own = own_read core f found within c.index_mut-found.ensures.value in
+    all_back g.E.EvictionPicker.learns (written_of core.manager.blocks (own_at core f)) c.args.env.now.pickers.len c.args.env.now.pickers.items c.deref_mut.result.now c.wrote.new.pickers
+    c.deref_mut.ensures.value (omega (arith, c.args.env.now.pickers.ok.0)) (subst (λ o. AreShownAll g.E.EvictionPicker.learns (written_of core.manager.blocks o) c.deref_mut.result.now c.wrote.new.pickers) (sym at)
+    c.in-Failed.ensures.shown)
+
+pub returns-in-Failed-clause-failed : goal.returns-in-Failed-clause-failed
+returns-in-Failed-clause-failed g c = λ answered went.
+    let core = c.args.self.now in
+    let f = c.args.flusher in
+    let found = c.index_mut-found.result.now in
+    let within : f < length core.flushers.items = omega (arith, c.len.ensures, c.if-flusher-len.false) in
+    subst (λ o. IsSomeAnd o (MustGrowFor core.index)) (sym (flusher_read core f found within c.index_mut-found.ensures.value))
+    (c.in-Failed.ensures.failed (c.is_ok.ensures.value ∙ went_is c.args.outcome ∙ went) refl)

@@ -1,4 +1,4 @@
-use Rattle.std.proofs.Common.{◌≡◌, ◌<◌, ℕ, true, false, IsTrue, List, Option, Some, option_map, length, if◌then◌else◌, nat_eq, slice_get, refl, sym, ap, subst, ◌∙◌}
+use Rattle.std.proofs.Common.{◌≡◌, ◌<◌, ℕ, true, false, IsTrue, List, [], Option, Some, option_map, length, if◌then◌else◌, nat_eq, slice_get, refl, sym, ap, subst, ◌∙◌, arith}
 use Rattle.foyer_block.proofs.Rooms.{kept_itself}
 use Rattle.foyer_device.specs.declared.error.ErrorKind.TheVariants as kind
 use Rattle.foyer_model.specs.Numbers.{put}
@@ -16,6 +16,7 @@ use Rattle.foyer_core.specs.Reclaiming.{Reclaiming, ChangesReclaim, reclaim_at, 
 use Rattle.foyer_core.specs.declared.step.Step.TheVariants as step
 use Rattle.foyer_core.proofs.ReclaimEnds.{picked, after_pick, asked_by_all}
 use Rattle.foyer_core.proofs.ReclaimSteps.{may_begin, must_begin, would_begin, evictable_there}
+use Rattle.foyer_core.proofs.ShowingLemmas.{all_back, one_back}
 use Rattle.foyer_core.proofs.TurnLemmas.{is_early, refused, not_now}
 use Rattle.foyer_core.proofs.state.Core.reclaim_begin.Goals as goal
 
@@ -48,7 +49,7 @@ pub returns-in-Err-clause-meets : goal.returns-in-Err-clause-meets
 returns-in-Err-clause-meets g c = λ m s sound it stands few.
     let core = c.args.self.now in
     refused m s sound step.ReclaimBegin core _ it kind.Memory model_reply.Memory refl
-    (record { index = kept_itself c.args.self.now.index; next = refl; steps = refl; closed = refl; queued = refl; settings = refl; flushers = refl; manager = c.in-Err.ensures.unchanged; reclaims = λ b. ap (option_map reclaiming) (c.reserve.ensures.entries.2 b); destroy = refl }) stands
+    (record { index = kept_itself c.args.self.now.index; next = refl; steps = refl; closed = refl; queued = refl; settings = refl; flushers = refl; manager = c.in-Err.ensures.unchanged.0; reclaims = λ b. ap (option_map reclaiming) (c.reserve.ensures.entries.2 b); destroy = refl }) stands
     (is_early m s core it stands few, would_begin m s sound core it stands ((c.may_reclaim.ensures.may (sets_of it) stands.manager.sets).0 c.if-not-may_reclaim.false))
 
 pub returns-in-Ok-None-clause-meets : goal.returns-in-Ok-None-clause-meets
@@ -120,3 +121,14 @@ returns-in-Ok-Some-clause-picks g c = λ sets st.
         after = after sets st;
       },
     )
+
+pub returns-in-Err-clause-shown : goal.returns-in-Err-clause-shown
+returns-in-Err-clause-shown g c =
+    all_back g.E.EvictionPicker.learns [] c.args.env.now.pickers.len c.args.env.now.pickers.items c.deref_mut.result.now c.reclaim_begin.new.pickers
+    c.deref_mut.ensures.value (omega (arith, c.args.env.now.pickers.ok.0)) c.in-Err.ensures.unchanged.1
+
+pub returns-in-Ok-Some-clause-shown : goal.returns-in-Ok-Some-clause-shown
+returns-in-Ok-Some-clause-shown g c =
+    let after = c.reclaim_begin.new.self in
+    one_back g.E.EvictionPicker.forgets (picker_info after.blocks after.evictable (usable_in after)) (c.in-Ok-Some.reclaiming).block c.args.env.now.pickers.len c.args.env.now.pickers.items c.deref_mut.result.now c.reclaim_begin.new.pickers
+    c.deref_mut.ensures.value (omega (arith, c.args.env.now.pickers.ok.0)) (rw c.in-Ok-Some.field-0-is at c.in-Ok-Some.ensures.shown)
