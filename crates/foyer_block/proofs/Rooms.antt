@@ -1,11 +1,11 @@
 -- The rooms of an index are those of its shards.
-use Rattle.std.proofs.Common.{◌≡◌, ℕ, zero, suc, ◌+◌, ◌<◌, ◌≤◌, ◌%◌, ◌==◌, Bool, true, false, Result, Ok, Err, IsOk, OnErr, List, [], ◌∷◌, map, length, slice_index, if◌then◌else◌, refl, sym, subst, ◌∙◌, arith}
+use Rattle.std.proofs.Common.{◌≡◌, ℕ, zero, suc, ◌+◌, ◌<◌, ◌≤◌, ◌%◌, ◌==◌, Bool, true, false, Result, Ok, Err, IsOk, OnErr, List, [], ◌∷◌, ◌++◌, map, length, take, drop, slice_index, if◌then◌else◌, refl, sym, ap, subst, ◌∙◌, arith}
 use Rattle.std.proofs.lemmas.Bool.{eqb-true}
 use Rattle.std.proofs.lemmas.List.{length-map}
 use Rattle.std.specs.HashMap.{spare}
 use Rattle.foyer_block.specs.declared.indexer.HashedEntryAddress.{HashedEntryAddress}
 use Rattle.foyer_block.specs.Index.{IndexState, belonging, HasRoomAt, HasRoomFor, KeepsIndex}
-use Rattle.foyer_block.specs.Shards.{Shard, map_of, state_of, room, TakesOnePlace}
+use Rattle.foyer_block.specs.Shards.{Shard, map_of, state_of, room, HasRoom, TakesOnePlace}
 
 pub room_is : (shards : List Shard) (i : ℕ) → slice_index (map spare shards) i ≡ room shards i
 room_is [] i = refl
@@ -49,3 +49,31 @@ refused_keeps (Err e) old new hash same len succeeds takes = keeps_index old new
 -- an index keeps what it has itself
 pub kept_itself : (index : IndexState) → KeepsIndex index index
 kept_itself index = (refl, (refl, λ i. omega arith))
+
+-- what is written back of a list's slice
+pub written_back : {X : Type 0} (n : ℕ) (xs ys : List X) → length xs ≡ n → take n (xs ++ drop (length xs) ys) ≡ xs
+written_back {X} n xs ys len = subst (λ k. take k (xs ++ drop (length xs) ys) ≡ xs) len (take_left xs (drop (length xs) ys))
+  where
+    take_left : (xs ys : List X) → take (length xs) (xs ++ ys) ≡ xs
+    take_left [] ys = refl
+    take_left (x ∷ xs) ys = ap (λ l. x ∷ l) (take_left xs ys)
+
+-- a reservation for a batch's counts that is refused came where a shard had no room
+pub refused_without_room : {T E : Type 0} (r : Result T E) (e : E) (state : IndexState) (shards : List Shard) (counts read : List ℕ) (n : ℕ) (es : List HashedEntryAddress)
+    → state_of shards ≡ state → n ≡ length shards → length counts ≡ length shards → ((i : ℕ) → i < length counts → slice_index counts i ≡ belonging n i es) → read ≡ counts
+    → (((i : ℕ) → i < length read → slice_index read i ≤ room shards i) → IsOk r) → r ≡ Err e → HasRoomFor state.rooms es → ⊥
+refused_without_room r e state shards counts read n es view len counted is same fits err some =
+    let here : HasRoomFor (state_of shards).rooms es = subst (λ (s : IndexState). HasRoomFor s.rooms es) (sym view) some in
+    let enough : (i : ℕ) → i < length read → slice_index read i ≤ room shards i =
+    subst (λ (k : List ℕ). (i : ℕ) → i < length k → slice_index k i ≤ room shards i) (sym same) (has_room_for shards counts n es len counted is here) in
+    let ok = subst IsOk err (fits enough) in cc
+
+-- one that succeeds makes the room
+pub room_made : (shards : List Shard) (counts read : List ℕ) (n k : ℕ) (es : List HashedEntryAddress) → n ≡ k → length counts ≡ k
+    → ((i : ℕ) → i < length counts → slice_index counts i ≡ belonging n i es) → read ≡ counts
+    → ((i : ℕ) → i < length read → slice_index read i ≤ room shards i) → HasRoom k shards es
+room_made shards counts read n k es len counted is same made = λ i lt.
+    let there : i < length counts = omega (arith, counted, lt) in
+    let all : (i : ℕ) → i < length counts → slice_index counts i ≤ room shards i = subst (λ (l : List ℕ). (i : ℕ) → i < length l → slice_index l i ≤ room shards i) same made in
+    let belongs : slice_index counts i ≡ belonging k i es = is i there ∙ ap (λ m. belonging m i es) len in
+    subst (λ m. m ≤ room shards i) belongs (all i there)

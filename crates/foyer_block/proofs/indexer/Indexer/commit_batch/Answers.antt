@@ -1,18 +1,25 @@
-use Rattle.std.proofs.Common.{◌≡◌, ◌≤◌, ℕ, true, List, IsOk, EachIndex, slice_index, ap, inl, inr, length, sym, subst, ◌∙◌, arith}
-use Rattle.std.proofs.lemmas.Grind.{common_steps}
-use Rattle.foyer_block.specs.Index.{IndexState, HasRoomFor, KeepsIndex}
+use Rattle.std.proofs.Common.{◌≡◌, ℕ, true, List, ap, inl, inr, length, sym, subst, ◌∙◌}
+use Rattle.foyer_block.specs.Index.{IndexState, KeepsIndex}
 use Rattle.foyer_block.specs.Committing.{PiecesHeld}
-use Rattle.foyer_block.specs.Shards.{map_of, state_of, room as shard_room}
-use Rattle.foyer_block.proofs.Rooms.{keeps_index, has_room_for}
+use Rattle.foyer_block.specs.Shards.{map_of, state_of}
+use Rattle.foyer_block.proofs.Rooms.{keeps_index, written_back, room_made, refused_without_room}
 use Rattle.foyer_block.proofs.indexer.Indexer.commit_batch.Goals.{in-Err+else-not-holds_pieces, in_default}
 use Rattle.foyer_block.proofs.indexer.Indexer.commit_batch.Goals as goal
 
 pub commit_all-requires-clause-room : goal.commit_all-requires-clause-room
-commit_all-requires-clause-room g c = elim c.match-reserve.branch [
-  | in-Err+else-not-holds_pieces w ↦
-      inr (subst (λ shards. PiecesHeld (map_of shards) c.args.batch.now c.args.sources.now) w.deref-in-Err.ensures.value (w.holds_pieces.ensures.0 w.if-not-holds_pieces.false))
-  | in_default w ↦ inl (grind (arith, common_steps, w.in_default.is))
-]
+commit_all-requires-clause-room g c =
+    let counted : length c.deref_mut.result.now ≡ length c.self.inside.shards.items = ap (λ (l : List ℕ). length l) c.deref_mut.ensures.value ∙ c.self.invariant.1 in
+    let counts : length c.count.new.counts ≡ length c.deref_mut.result.now = c.count.auto.counts in
+    let same : c.deref.result.now ≡ c.count.new.counts =
+    c.deref.ensures.value ∙ written_back c.self.inside.counts.len c.count.new.counts c.self.inside.counts.items
+    (counts ∙ ap (λ (l : List ℕ). length l) c.deref_mut.ensures.value ∙ sym c.self.inside.counts.ok.0) in
+    elim c.match-reserve.branch [
+      | in-Err+else-not-holds_pieces w ↦
+          inr (subst (λ shards. PiecesHeld (map_of shards) c.args.batch.now c.args.sources.now) w.deref-in-Err.ensures.value (w.holds_pieces.ensures.0 w.if-not-holds_pieces.false))
+      | in_default w ↦
+          inl (room_made c.reserve.new.shards.items c.count.new.counts c.deref.result.now (length c.deref_mut.result.now) (length c.reserve.new.shards.items) c.args.batch.now
+          (counted ∙ sym c.reserve.ensures.len) (counts ∙ counted ∙ sym c.reserve.ensures.len) c.count.ensures same w.in_default.ensures.room)
+    ]
 
 pub returns-then-not-holds_pieces-clause-err : goal.returns-then-not-holds_pieces-clause-err
 returns-then-not-holds_pieces-clause-err g c = subst (λ (s : IndexState). KeepsIndex s (state_of c.reserve.new.shards.items)) c.self.view_is
@@ -26,11 +33,10 @@ returns-then-not-holds_pieces-clause-overwrites g c = λ held.
 
 pub returns-then-not-holds_pieces-clause-room : goal.returns-then-not-holds_pieces-clause-room
 returns-then-not-holds_pieces-clause-room g c = λ some.
-    let shards = c.self.inside.shards.items in
-    let same : c.deref.result.now ≡ c.count.new.counts = grind (arith, common_steps) in
-    let len : length c.count.new.counts ≡ length shards = grind (arith, common_steps) in
-    let counted : length c.deref_mut.result.now ≡ length shards = grind (arith, common_steps) in
-    let room : HasRoomFor (state_of shards).rooms c.args.batch.now = subst (λ (s : IndexState). HasRoomFor s.rooms c.args.batch.now) (sym c.self.view_is) some in
-    let ok = c.reserve.ensures.fits (subst (λ (counts : List ℕ). EachIndex counts (λ i. slice_index counts i ≤ shard_room shards i)) (sym same)
-    (has_room_for shards c.count.new.counts (length c.deref_mut.result.now) c.args.batch.now counted len c.count.ensures room)) in
-    subst IsOk c.in-Err.is ok
+    let counted : length c.deref_mut.result.now ≡ length c.self.inside.shards.items = ap (λ (l : List ℕ). length l) c.deref_mut.ensures.value ∙ c.self.invariant.1 in
+    let counts : length c.count.new.counts ≡ length c.deref_mut.result.now = c.count.auto.counts in
+    let same : c.deref.result.now ≡ c.count.new.counts =
+    c.deref.ensures.value ∙ written_back c.self.inside.counts.len c.count.new.counts c.self.inside.counts.items
+    (counts ∙ ap (λ (l : List ℕ). length l) c.deref_mut.ensures.value ∙ sym c.self.inside.counts.ok.0) in
+    absurd (refused_without_room c.reserve.result c.in-Err.refused c.args.self.now c.self.inside.shards.items c.count.new.counts c.deref.result.now (length c.deref_mut.result.now)
+    c.args.batch.now c.self.view_is counted (counts ∙ counted) c.count.ensures same c.reserve.ensures.fits c.in-Err.is some)

@@ -1,14 +1,19 @@
-use Rattle.std.proofs.Common.{OnErr, subst, sym, rules}
+use Rattle.std.proofs.Common.{◌≡◌, IfOk, OnOk, OnErr, subst, sym}
+use Rattle.std.specs.FinMap as map
+use Rattle.foyer_block.specs.declared.indexer.Index.TheVariants.{Tombstone}
+use Rattle.foyer_block.specs.Insertion.{displaced, inserted}
 use Rattle.foyer_block.specs.Index.{IndexState, KeepsIndex, HasRoomAt}
-use Rattle.foyer_block.specs.Shards.{state_of}
+use Rattle.foyer_block.specs.Shards.{map_of, state_of}
 use Rattle.foyer_block.proofs.Rooms.{refused_keeps, has_room_at}
 use Rattle.foyer_block.proofs.indexer.Indexer.insert_tombstone.Goals as goal
 
 pub returns-clause-inserted : goal.returns-clause-inserted
-returns-clause-inserted g c = search rules depth 1
+returns-clause-inserted g c = subst (λ (s : IndexState). OnOk c.enter.result (map_of c.enter.new.shards.items ≡ inserted s.slots c.args.hash (Tombstone c.args.sequence))) c.self.view_is
+    c.enter.ensures.inserted
 
 pub returns-clause-answer : goal.returns-clause-answer
-returns-clause-answer g c = search rules depth 1
+returns-clause-answer g c = subst (λ (s : IndexState). IfOk c.enter.result (λ answer. answer ≡ displaced (map.get s.slots c.args.hash) (Tombstone c.args.sequence))) c.self.view_is
+    c.enter.ensures.answer
 
 pub returns-clause-err : goal.returns-clause-err
 returns-clause-err g c = subst (λ (s : IndexState). OnErr c.enter.result (KeepsIndex s (state_of c.enter.new.shards.items))) c.self.view_is
