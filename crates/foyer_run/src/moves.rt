@@ -77,18 +77,21 @@ pub enum Move<K, V, P, A: Allocator> {
         flusher: u32,
     },
     ReclaimBegin,
+    /// Reads the index or the record that the reclaim of this block is to read next.
     ReclaimRead {
         block: BlockId,
     },
     ReclaimForget {
         block: BlockId,
     },
+    /// Cleans this block for its reclaim.
     ReclaimCleaned {
         block: BlockId,
     },
     ReclaimIdle,
     DestroyBegin,
     DestroyClear,
+    /// Cleans this block for a destroy.
     DestroyCleaned {
         block: BlockId,
     },

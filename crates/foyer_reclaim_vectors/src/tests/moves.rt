@@ -46,11 +46,11 @@ fn plain_move<A: Allocator>(word: &str, number: u64) -> TextMove<A> {
         "reclaim" => Move::ReclaimBegin,
         "read" => Move::ReclaimRead { block },
         "forget" => Move::ReclaimForget { block },
-        "cleaned" => Move::ReclaimCleaned { block },
+        "reclaimed" => Move::ReclaimCleaned { block },
         "idle" => Move::ReclaimIdle,
         "destroy" => Move::DestroyBegin,
         "clear" => Move::DestroyClear,
-        "wiped" => Move::DestroyCleaned { block },
+        "cleaned" => Move::DestroyCleaned { block },
         _ => Move::Close,
     }
 }
@@ -172,7 +172,7 @@ const FIRST_ANSWERS: &str =
 
 // A read, a forget and a clean that aren't due are passed over or handed back; what is due is done once.
 const RECLAIM: &str =
-    "read 0, cleaned 0, reclaim, read 1, forget 0, read 0, read 0, read 0, cleaned 0, forget 0, wiped 1, cleaned 0, cleaned 0, idle, receive, begin, block, wrote, wrote, end, look 1, load 0, look 2, look 4, load 1";
+    "read 0, reclaimed 0, reclaim, read 1, forget 0, read 0, read 0, read 0, reclaimed 0, forget 0, cleaned 1, reclaimed 0, reclaimed 0, idle, receive, begin, block, wrote, wrote, end, look 1, load 0, look 2, look 4, load 1";
 
 const RECLAIM_ANSWERS: &str =
     "picked 0, not now, scan 0 4096 4096, listed, clean 0, done, true, -, -, write 1, next, committed 1, -, at 8192, 1 is a long text, miss, at 4096, 4 is d";
@@ -205,7 +205,7 @@ fn a_fault_of_a_read_ends_the_listing_and_one_of_a_clean_is_brought(
         ),
     ] {
         let script = format!(in rt.alloc();
-            "{FIRST}, reclaim, read 0, read 0, forget 0, cleaned 0, ask 2"
+            "{FIRST}, reclaim, read 0, read 0, forget 0, reclaimed 0, ask 2"
         )?;
         let words = answers_of(
             &rt,
@@ -225,7 +225,7 @@ fn two_reclaims_read_and_clean_their_own_blocks(rt: HostRuntime) -> std::result:
     let second =
         "put 4 d, put 5 another long text, put 6 f, receive, receive, receive, begin, block, block, wrote, wrote, end, put 7 g, receive, begin, block, block, wrote, wrote, end";
     let reclaims =
-        "reclaim, reclaim, reclaim, read 1, read 0, read 1, read 0, forget 1, cleaned 0, forget 0, cleaned 0, cleaned 1, idle";
+        "reclaim, reclaim, reclaim, read 1, read 0, read 1, read 0, forget 1, reclaimed 0, forget 0, reclaimed 0, reclaimed 1, idle";
     let flush =
         "receive, receive, begin, block, wrote, wrote, end, look 1, look 5, load 1, load 0, ask 4, ask 6, look 7, load 2";
     let (first, _) = FIRST.split_once(", put 4").unwrap_or(("", ""));
@@ -247,7 +247,10 @@ fn a_run_passes_over_what_another_issued(rt: HostRuntime) -> std::result::Result
         &rt,
         sizes(2, 1),
         NO_FAULT,
-        &[first.as_str(), "read 0, cleaned 0, wiped 0, forget 0, idle"],
+        &[
+            first.as_str(),
+            "read 0, reclaimed 0, cleaned 0, forget 0, idle",
+        ],
     )?;
     let wanted = format!(in rt.alloc(); "{FIRST_ANSWERS}, picked 0, not now, false, false, false")?;
     assert_eq!(rt; words.as_str(), wanted.as_str());
@@ -259,7 +262,7 @@ fn a_run_passes_over_what_another_issued(rt: HostRuntime) -> std::result::Result
 #[test]
 fn a_run_destroys(rt: HostRuntime) -> std::result::Result<(), Fail> {
     let destroy =
-        "destroy, wiped 0, receive, begin, block, end, clear, wiped 1, wiped 1, cleaned 1, clear, wiped 2, wiped 0, wiped 0, ask 1, ask 4, clear";
+        "destroy, cleaned 0, receive, begin, block, end, clear, cleaned 1, cleaned 1, reclaimed 1, clear, cleaned 2, cleaned 0, cleaned 0, ask 1, ask 4, clear";
     for (access, wanted) in [
         (0, "destroyed None, false, false, not now, true, true"),
         (5, "destroyed Some(Io), false, false, not now, true, false"),
