@@ -257,7 +257,7 @@ fn a_run_passes_over_what_another_issued(rt: HostRuntime) -> std::result::Result
     Ok(())
 }
 
-// Each clean comes once, whichever comes first, and the first fault is told: the accesses are two writes of each block, then
+// Each clean comes once, whichever comes first, and the first fault is answered: the accesses are two writes of each block, then
 // the cleans.
 #[test]
 fn a_run_destroys(rt: HostRuntime) -> std::result::Result<(), Fail> {
