@@ -59,7 +59,7 @@ module _ {K V P A : Type 0} (m : Meaning K V P) where
   -- a destroy that ended without a failed clean, as the model's reply
   ended_well : (last : Reply K V P A) (it : model_reply.Reply Content) → last ≡ reply.Destroyed None → IsReply m last it → it ≡ model_reply.Destroyed None
   ended_well last it is replied =
-      let r : IsReply m (reply.Destroyed None) it = subst (λ l. IsReply m l it) is replied in r.2 ∙ ap model_reply.Destroyed r.1
+      let r = subst (λ (l : Reply K V P A). IsReply m l it) is replied in r.2 ∙ ap model_reply.Destroyed r.1
 
   pub destroys_none : (core : Core K V P A) (bytes : ℕ → ℕ → ℕ) → Destroys ⊥ m core core bytes bytes
   destroys_none core bytes s sound w stands same = (record { events = []; happened = tt; stands = stands; same = same }, (tt, λ c. absurd c))
