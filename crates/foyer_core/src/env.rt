@@ -1,6 +1,7 @@
 //! What a core's callers lend it.
 ghost use Rattle.std.specs.Prelude.{◌≡◌, [], ◌∷◌, None, Some, OnOk, IfOk, IsOkUnless};
 ghost use Rattle.foyer_device.specs.declared.error.Error.TheVariants.{Memory};
+ghost use Rattle.foyer_core.specs.Lent.{IsNoIo, generator_of};
 ghost use Rattle.foyer_model.specs.Ids.{ids};
 ghost use Rattle.foyer_sets.specs.declared.block.picker.BuiltInPicker.TheVariants as picker;
 
@@ -31,7 +32,9 @@ pub struct Env<E: EvictionPicker = BuiltInPicker, C: StorageFilterCondition = Bu
 }
 
 // Nothing was done, and nothing is to be waited for.
-fn no_io() -> IoState {
+fn no_io() -> IoState
+    ensures { IsNoIo result }
+{
     IoState {
         disk_write_bytes: 0,
         disk_read_bytes: 0,
@@ -49,6 +52,9 @@ impl Env<BuiltInPicker, BuiltInCondition> {
         ensures pickers { IfOk result (λ env. env.pickers.items
             ≡ picker.InvalidRatio (record { num = 8; den = 10; block_size = 0 })
             ∷ picker.Fifo (record { num = 1; den = 10; queue = []; room = 0; probations = 0 }) ∷ []) }
+        ensures generator { IfOk result (λ env. env.generator ≡ generator_of seed) }
+        ensures reinsertion { IfOk result (λ env. env.reinsertion ≡ None) }
+        ensures io { IfOk result (λ env. IsNoIo env.io) }
         ensures refused { IsOkUnless result Memory }
     {
         let mut pickers = Vec::new(alloc);
@@ -63,7 +69,9 @@ impl<E: EvictionPicker> Env<E, BuiltInCondition> {
     /// allocate.
     pub fn new(alloc: Global, pickers: Vec<E>, seed: u64) -> Env<E, BuiltInCondition>
         ensures pickers { result.pickers ≡ pickers }
+        ensures generator { result.generator ≡ generator_of seed }
         ensures reinsertion { result.reinsertion ≡ None }
+        ensures io { IsNoIo result.io }
     {
         let own = Vec::new(alloc);
         Env {
@@ -84,6 +92,7 @@ impl<E: EvictionPicker, C: StorageFilterCondition> Env<E, C> {
         filter: StorageFilter<F, Global>,
     ) -> Env<E, F>
         ensures pickers { result.pickers ≡ self.pickers }
+        ensures generator { result.generator ≡ self.generator }
         ensures reinsertion { result.reinsertion ≡ Some filter }
         ensures io { result.io ≡ self.io }
     {

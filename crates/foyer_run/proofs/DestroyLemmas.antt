@@ -1,14 +1,17 @@
 -- What a destroy does, one after the other.
-use Rattle.std.proofs.Common.{◌≡◌, ℕ, zero, suc, List, [], ◌∷◌, ◌++◌, refl, sym, ap, subst, ◌∙◌}
+use Rattle.std.proofs.Common.{◌≡◌, ℕ, zero, suc, List, [], ◌∷◌, ◌++◌, None, refl, sym, ap, subst, ◌∙◌}
+use Rattle.foyer_model.specs.Reply as model_reply
 use Rattle.foyer_model.specs.Step as model_step
 use Rattle.foyer_model.specs.World.{WorldEvent, Applies, CleanBegins, CleanEnds, after_all}
 use Rattle.foyer_rules.specs.Content.{Content, Meaning}
 use Rattle.foyer_rules.specs.CoreRules.{layout, machine, IsEncoded}
+use Rattle.foyer_core.specs.Replied.{IsReply}
 use Rattle.foyer_core.specs.StateOf.{IsStateOf}
 use Rattle.foyer_core.specs.declared.reply.Reply.{Reply}
+use Rattle.foyer_core.specs.declared.reply.Reply.TheVariants as reply
 use Rattle.foyer_core.specs.declared.state.Core.{Core}
 use Rattle.foyer_run.specs.Accesses.{Says}
-use Rattle.foyer_run.specs.Destroys.{AreCleansUpTo, Destroys, HasCleared, IsClearing, IsDestroying, IsUncleared}
+use Rattle.foyer_run.specs.Destroys.{AreCleansUpTo, Destroys, HasCleared, HasDestroyed, IsClearing, IsDestroying, IsUncleared}
 use Rattle.foyer_run.specs.Waiting.{AllSteps, DrivesBy, IsWaiting, Waits}
 use Rattle.foyer_run.specs.declared.moves.Move.TheVariants as move
 use Rattle.foyer_run.proofs.ListLemmas.{append_twice}
@@ -43,7 +46,21 @@ cleared_behind one two has = record {
   is = ap (λ es. one ++ es) has.is ∙ sym (append_twice one has.before _);
 }
 
+destroyed_behind : {C : Type 0} (one two : List (WorldEvent C)) → HasDestroyed two → HasDestroyed (one ++ two)
+destroyed_behind one two has = record {
+  cleared = cleared_behind one two has.cleared;
+  before = one ++ has.before;
+  given = has.given;
+  after = has.after;
+  is = ap (λ es. one ++ es) has.is ∙ sym (append_twice one has.before _);
+}
+
 module _ {K V P A : Type 0} (m : Meaning K V P) where
+  -- a destroy that ended without a failed clean, as the model's reply
+  ended_well : (last : Reply K V P A) (it : model_reply.Reply Content) → last ≡ reply.Destroyed None → IsReply m last it → it ≡ model_reply.Destroyed None
+  ended_well last it is replied =
+      let r = subst (λ (l : Reply K V P A). IsReply m l it) is replied in r.2 ∙ ap model_reply.Destroyed r.1
+
   pub destroys_none : (core : Core K V P A) (bytes : ℕ → ℕ → ℕ) → Destroys ⊥ m core core bytes bytes
   destroys_none core bytes s sound w stands same = (record { events = []; happened = tt; stands = stands; same = same }, (tt, λ c. absurd c))
 
@@ -55,14 +72,21 @@ module _ {K V P A : Type 0} (m : Meaning K V P) where
   destroys_begun last a b bytes says s sound w stands same =
       let one = said_by m IsDestroying move.DestroyBegin last a b bytes tt says s sound w stands same in (one.0, (one.1, λ c. absurd c))
 
-  pub destroys_cleared : (Was : Type 0) (n : ℕ) (last : Reply K V P A) (a b : Core K V P A) (x y : ℕ → ℕ → ℕ) → DrivesBy (IsClearing m n last) m a b x y → Destroys Was m a b x y
-  destroys_cleared Was n last a b x y clears s sound w stands same =
+  pub destroys_cleared : (Was : Type 0) (n : ℕ) (last : Reply K V P A) (a b : Core K V P A) (x y : ℕ → ℕ → ℕ) → (Was → last ≡ reply.Destroyed None) → DrivesBy (IsClearing m n last) m a b x y → Destroys Was m a b x y
+  destroys_cleared Was n last a b x y ended clears s sound w stands same =
       let one = clears s sound w stands same in
       let done = one.1 in (
         one.0,
         (
           subst (AllSteps IsDestroying) (sym done.is) (tt, cleans_destroy n done.rest done.cleans),
-          λ was. record { before = []; blocks = done.blocks; after = done.after; rest = done.rest; is = done.is },
+          λ was. record {
+            cleared = record { before = []; blocks = done.blocks; after = done.after; rest = done.rest; is = done.is };
+            before = (done.ends).before;
+            given = (done.ends).given;
+            after = (done.ends).after;
+            is = (done.ends).is
+                ∙ ap (λ i. (done.ends).before ++ Applies (done.ends).given i (done.ends).after ∷ []) (ended_well last (done.ends).it (ended was) (done.ends).reply);
+          },
         ),
       )
 
@@ -89,6 +113,6 @@ module _ {K V P A : Type 0} (m : Meaning K V P) where
         },
         (
           all_join IsDestroying (one.0).events (two.0).events (one.1).0 (two.1).0,
-          λ is. cleared_behind (one.0).events (two.0).events ((two.1).1 is),
+          λ is. destroyed_behind (one.0).events (two.0).events ((two.1).1 is),
         ),
       )

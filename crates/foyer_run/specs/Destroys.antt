@@ -1,5 +1,5 @@
 -- A destroy's clear, with the cleans of all blocks in their place.
-use Rattle.std.specs.Prelude.{◌≡◌, ◌≢◌, ℕ, zero, suc, ◌<◌, ◌≤◌, Bool, List, [], ◌∷◌, ◌++◌, Option}
+use Rattle.std.specs.Prelude.{◌≡◌, ◌≢◌, ℕ, zero, suc, ◌<◌, ◌≤◌, Bool, List, [], ◌∷◌, ◌++◌, Option, None}
 use Rattle.foyer_model.specs.Access.{CleanIssued}
 use Rattle.foyer_model.specs.Kind.{Kind}
 use Rattle.foyer_model.specs.Reply as model_reply
@@ -49,13 +49,21 @@ pub record HasCleared {C : Type 0} (events : List (WorldEvent C)) : Type 0 where
   pub rest : List (WorldEvent C)
   pub is : events ≡ before ++ Applies model_step.DestroyClear (model_reply.Cleared blocks) after ∷ rest
 
+-- one of these events cleared the index, and the last one is a step that ended the destroy, of whose cleans none failed
+pub record HasDestroyed {C : Type 0} (events : List (WorldEvent C)) : Type 0 where
+  pub cleared : HasCleared events
+  pub before : List (WorldEvent C)
+  pub given : model_step.Step C
+  pub after : State C
+  pub is : events ≡ before ++ Applies given (model_reply.Destroyed None) after ∷ []
+
 -- in this world the cleans of the blocks from i on, up to n, are issued and haven't begun
 abbrev pub AwaitCleans : {C : Type 0} → (i n : ℕ) → World C → Type 0
 AwaitCleans i n w = (b : ℕ) → i ≤ b → b < n → w.clean_states b ≡ CleanIssued
 
--- From each world whose core and bytes are those before, by such steps, of which one cleared the index where this holds.
-abbrev pub Destroys : {K V P A : Type 0} → (WasCleared : Type 0) → Meaning K V P → Core K V P A → Core K V P A → (old_bytes new_bytes : ℕ → ℕ → ℕ) → Type 0
-Destroys WasCleared m old new old_bytes new_bytes = DrivesBy (λ events. AllSteps IsDestroying events × (WasCleared → HasCleared events)) m old new old_bytes new_bytes
+-- From each world whose core and bytes are those before, by such steps, which destroyed all where this holds.
+abbrev pub Destroys : {K V P A : Type 0} → (IsDone : Type 0) → Meaning K V P → Core K V P A → Core K V P A → (old_bytes new_bytes : ℕ → ℕ → ℕ) → Type 0
+Destroys IsDone m old new old_bytes new_bytes = DrivesBy (λ events. AllSteps IsDestroying events × (IsDone → HasDestroyed events)) m old new old_bytes new_bytes
 
 module _ {K V P A : Type 0} (m : Meaning K V P) where
   -- the index was cleared, then come the cleans of so many blocks, and the last step was answered so

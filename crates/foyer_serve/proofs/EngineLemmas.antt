@@ -1,5 +1,5 @@
 -- An engine that is driven.
-use Rattle.std.proofs.Common.{◌≡◌, ℕ, [], Bool, true, false, Option, None, Ok, Err, inl, sym, ap, ◌∙◌}
+use Rattle.std.proofs.Common.{◌≡◌, ℕ, [], Bool, true, false, Option, None, Some, Ok, Err, inl, refl, sym, ap, ◌∙◌}
 use Rattle.std.specs.Prelude.{IfOk, Result}
 use Rattle.std.specs.declared.string.String.{String}
 use Rattle.foyer_rules.specs.Content.{Content}
@@ -11,6 +11,7 @@ use Rattle.foyer_run.specs.AtRest.{ComesToRest, IsAtRest, IsFlusherIdle, KeepsId
 use Rattle.foyer_run.specs.Destroys.{Destroys}
 use Rattle.foyer_run.specs.Waiting.{Waits}
 use Rattle.foyer_device.specs.declared.error.Error.{Error}
+use Rattle.foyer_device.specs.declared.error.ErrorKind.TheVariants as kind
 use Rattle.foyer_rules.specs.Sizes.{AreValid}
 use Rattle.foyer_rules.specs.declared.settings.Settings.{Settings}
 use Rattle.foyer_model.specs.Record.{Outcome}
@@ -21,7 +22,7 @@ use Rattle.foyer_run.specs.Newest.{IsMissedOnly, IsNewest, IsPutOrFault}
 use Rattle.foyer_run.proofs.DestroyLemmas.{destroys_more}
 use Rattle.foyer_run.proofs.OpenedRuns.{begun_empty}
 use Rattle.foyer_run.proofs.RestLemmas.{IsAny, SaysNothing, keeps_idle, leads_more}
-use Rattle.foyer_serve.specs.Texts.{IsFault, IsMissedText, IsNewestText, IsTextOrFault, done_as, got, plain}
+use Rattle.foyer_serve.specs.Texts.{IsFault, IsMissedText, IsNewestText, IsTextOrFault, destroyed_as, done_as, got, plain}
 use Rattle.foyer_serve.specs.declared.engine.Answer.{Answer}
 use Rattle.foyer_serve.specs.declared.engine.Answer.TheVariants as answer
 use Rattle.foyer_serve.specs.declared.engine.Engine.{Engine}
@@ -31,9 +32,9 @@ use Rattle.foyer_serve.specs.declared.engine.NoProperties.{NoProperties}
 abbrev pub Waited : {A D L E C : Type 0} → (D → Type 0) → (D → ℕ → ℕ → ℕ) → Engine A D L E C → Engine A D L E C → Type 0
 Waited is_known byte_at a b = is_known a.disk → is_known b.disk × Waits plain a.core b.core (byte_at a.disk) (byte_at b.disk)
 
--- and a destroy's, of which one cleared the index where this holds
+-- and a destroy's, which destroyed all where this holds
 abbrev pub Destroyed : {A D L E C : Type 0} → Type 0 → (D → Type 0) → (D → ℕ → ℕ → ℕ) → Engine A D L E C → Engine A D L E C → Type 0
-Destroyed WasCleared is_known byte_at a b = is_known a.disk → is_known b.disk × Destroys WasCleared plain a.core b.core (byte_at a.disk) (byte_at b.disk)
+Destroyed IsDone is_known byte_at a b = is_known a.disk → is_known b.disk × Destroys IsDone plain a.core b.core (byte_at a.disk) (byte_at b.disk)
 
 -- one destroy's steps behind another's
 pub known_destroys : {A Known After Last : Type 0} (Was Is : Type 0) (a b c : Core ℕ (String A) NoProperties A) (x y z : ℕ → ℕ → ℕ)
@@ -52,6 +53,13 @@ fault_not_ok (answer.Entry text) is = absurd is
 fault_not_ok answer.Throttled is = absurd is
 fault_not_ok answer.Miss is = absurd is
 fault_not_ok answer.Ok is = absurd is
+
+-- what is answered as a success is the end of a destroy without a failed clean
+pub destroyed_ok : {A : Type 0} (last : Reply ℕ (String A) NoProperties A) (said : Answer A) → said ≡ destroyed_as last → said ≡ answer.Ok → last ≡ reply.Destroyed None
+destroyed_ok (reply.Destroyed None) said says ok = refl
+destroyed_ok (reply.Destroyed (Some kind)) said says ok = absurd (let e : answer.Fault kind ≡ answer.Ok = sym says ∙ ok in cc)
+destroyed_ok (reply.Refused kind back) said says ok = absurd (let e : answer.Fault kind ≡ answer.Ok = sym says ∙ ok in cc)
+destroyed_ok last said says ok = absurd (let e : answer.Fault kind.Io ≡ answer.Ok = sym says ∙ ok in cc)
 
 -- an engine that was opened over zeros
 pub zeroed : {A D L E C : Type 0} (s : Settings) (byte_at : D → ℕ → ℕ → ℕ) (surely : ℕ → ℕ → ℕ → Type 0) (seen : Type 0) → seen → (disk : D) → ((b o : ℕ) → byte_at disk b o ≡ 0)

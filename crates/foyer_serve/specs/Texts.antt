@@ -118,6 +118,17 @@ wrote_as None = Ok true
 wrote_as (Some reply.NoBlock) = Err kind.NoSpace
 wrote_as (Some said) = done_as said
 
+-- what a destroy's step that came back, or didn't end it, is answered as
+abbrev pub kept_as : {A : Type 0} → Reply ℕ (String A) NoProperties A → Answer A
+kept_as (reply.Refused kind back) = answer.Fault kind
+kept_as said = answer.Fault kind.Io
+
+-- what the last reply of a destroy is answered as: a clean that failed isn't passed over
+abbrev pub destroyed_as : {A : Type 0} → Reply ℕ (String A) NoProperties A → Answer A
+destroyed_as (reply.Destroyed None) = answer.Ok
+destroyed_as (reply.Destroyed (Some kind)) = answer.Fault kind
+destroyed_as said = kept_as said
+
 -- what is answered is a fault
 abbrev pub IsFault : {A : Type 0} → Answer A → Type 0
 IsFault (answer.Fault kind) = Unit {0}

@@ -1,7 +1,11 @@
 //! An engine over the files of a directory.
-ghost use Rattle.std.specs.Prelude.{◌≡◌, ◌-◌, ◌/◌, ◌≤◌, true, false, IfOk};
+ghost use Rattle.std.specs.Prelude.{◌≡◌, ◌⊎◌, ◌-◌, ◌/◌, ◌<◌, ◌≤◌, true, false, IfOk};
 ghost use Rattle.foyer_log.specs.Pages.{log_pages};
+ghost use Rattle.foyer_recover.specs.Recovery.{marks_of};
 ghost use Rattle.foyer_recover.specs.declared.block.recover.RecoverMode.TheVariants as recover_mode;
+ghost use Rattle.foyer_rules.specs.Sizes.{AreValid};
+ghost use Rattle.foyer_run.specs.Begun.{IsBegun};
+ghost use Rattle.foyer_serve.specs.Texts.{plain};
 
 use crate::answer::name_of;
 use crate::engine::Engine;
@@ -54,6 +58,7 @@ pub fn blocks_in(capacity: usize, block_size: usize, tombstone_log: bool) -> usi
     ensures bare { tombstone_log ≡ false → 4096 ≤ block_size → result ≡ capacity / 4096 / (block_size / 4096) }
     ensures logged { tombstone_log ≡ true → 4096 ≤ block_size
         → result ≡ (capacity / 4096 - log_pages capacity) / (block_size / 4096) }
+    ensures none { block_size < 4096 → result ≡ 0 }
 {
     let block_pages = block_size / PAGE;
     if block_pages == 0 {
@@ -226,6 +231,10 @@ where
     A: Allocator + Clone,
     B: Allocator,
     D: Disk + Drop,
+    ensures begins { IfOk result (λ engine. (sound : AreValid settings) → IsBegun plain settings sound (D.byte_at disk)
+        (D.surely_has disk) mode (marks_of deletes.marks.items) ((mode ≡ recover_mode.None) ⊎ D.is_known disk)
+        engine.core (D.byte_at engine.disk)) }
+    ensures log { IfOk result (λ engine. engine.log ≡ deletes.log) }
     ensures unread { IfOk result (λ engine. mode ≡ recover_mode.None → engine.disk ≡ disk) }
 {
     match open_core(rt, alloc, settings, disk, deletes, mode) {
@@ -247,6 +256,10 @@ where
     A: Allocator + Clone,
     B: Allocator,
     D: Disk + Drop,
+    ensures begins { IfOk result (λ engine. (sound : AreValid settings) → IsBegun plain settings sound (D.byte_at disk)
+        (D.surely_has disk) mode (marks_of deletes.marks.items) ((mode ≡ recover_mode.None) ⊎ D.is_known disk)
+        engine.core (D.byte_at engine.disk)) }
+    ensures log { IfOk result (λ engine. engine.log ≡ deletes.log) }
     ensures unread { IfOk result (λ engine. mode ≡ recover_mode.None → engine.disk ≡ disk) }
 {
     let env = Env::with_default_pickers(rt.alloc(), GENERATOR_SEED)?;

@@ -3,7 +3,7 @@ ghost use Rattle.std.specs.Prelude.{◌≡◌};
 ghost use Rattle.foyer_run.specs.AtRest.{Leads, LeavesAllIdle};
 ghost use Rattle.foyer_run.specs.Destroys.{Destroys};
 ghost use Rattle.foyer_run.specs.Waiting.{Waits};
-ghost use Rattle.foyer_serve.specs.Texts.{IsFault, IsOkOrFault, plain};
+ghost use Rattle.foyer_serve.specs.Texts.{IsFault, IsOkOrFault, destroyed_as, kept_as, plain};
 
 use crate::engine::{Answer, Engine, EngineReply, MarkLog, answer_step};
 use foyer_blockio::disk::Disk;
@@ -18,7 +18,8 @@ use std::alloc::Allocator;
 
 // Why the index wasn't cleared.
 fn answer_kept<A: Allocator>(back: EngineReply<A>) -> Answer<A>
-    ensures { IsFault result }
+    ensures fault { IsFault result }
+    ensures says { result ≡ kept_as back }
 {
     match back {
         Reply::Refused(kind, _) => Answer::Fault(kind),
@@ -28,7 +29,8 @@ fn answer_kept<A: Allocator>(back: EngineReply<A>) -> Answer<A>
 
 // What came of the cleans: the first fault, if one failed.
 fn answer_cleaned<A: Allocator>(last: EngineReply<A>) -> Answer<A>
-    ensures { IsOkOrFault result }
+    ensures answered { IsOkOrFault result }
+    ensures says { result ≡ destroyed_as last }
 {
     match last {
         Reply::Destroyed(None) => Answer::Ok,

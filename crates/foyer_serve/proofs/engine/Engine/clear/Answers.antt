@@ -3,7 +3,7 @@ use Rattle.foyer_device.specs.declared.error.ErrorKind.TheVariants as kind
 use Rattle.foyer_run.proofs.DestroyLemmas.{destroys_cleared, destroys_if, destroys_kept, destroys_none}
 use Rattle.foyer_serve.specs.Texts.{plain}
 use Rattle.foyer_serve.specs.declared.engine.Answer.TheVariants as answer
-use Rattle.foyer_serve.proofs.EngineLemmas.{fault_not_ok, known_destroys}
+use Rattle.foyer_serve.proofs.EngineLemmas.{destroyed_ok, fault_not_ok, known_destroys}
 use Rattle.foyer_serve.proofs.engine.Engine.clear.Goals as goal
 
 pub loop-init : goal.loop-init
@@ -14,7 +14,7 @@ returns-in-Err-clause-destroyed g c =
     known_destroys ⊥ (c.answer_kept.result ≡ answer.Ok) c.args.self.now.core c.loop.self.core c.clear_blocks.new.core (g.D.Disk.byte_at c.args.self.now.disk) (g.D.Disk.byte_at c.loop.self.disk) (g.D.Disk.byte_at c.clear_blocks.new.disk) c.loop.invariant
     (λ known. (
       c.clear_blocks.ensures.known known,
-      destroys_if plain ⊥ (c.answer_kept.result ≡ answer.Ok) c.loop.self.core c.clear_blocks.new.core (g.D.Disk.byte_at c.loop.self.disk) (g.D.Disk.byte_at c.clear_blocks.new.disk) (fault_not_ok c.answer_kept.result c.answer_kept.ensures)
+      destroys_if plain ⊥ (c.answer_kept.result ≡ answer.Ok) c.loop.self.core c.clear_blocks.new.core (g.D.Disk.byte_at c.loop.self.disk) (g.D.Disk.byte_at c.clear_blocks.new.disk) (fault_not_ok c.answer_kept.result c.answer_kept.ensures.fault)
           (destroys_kept plain c.in-Err.back c.loop.self.core c.clear_blocks.new.core (g.D.Disk.byte_at c.loop.self.disk) (g.D.Disk.byte_at c.clear_blocks.new.disk) c.in-Err.ensures.kept),
     ))
 
@@ -23,7 +23,8 @@ returns-in-Ok-clause-destroyed g c =
     known_destroys ⊥ (c.answer_cleaned.result ≡ answer.Ok) c.args.self.now.core c.loop.self.core c.clear_blocks.new.core (g.D.Disk.byte_at c.args.self.now.disk) (g.D.Disk.byte_at c.loop.self.disk) (g.D.Disk.byte_at c.clear_blocks.new.disk) c.loop.invariant
     (λ known. (
       c.clear_blocks.ensures.known known,
-      destroys_cleared plain (c.answer_cleaned.result ≡ answer.Ok) c.loop.self.core.settings.blocks c.in-Ok.last c.loop.self.core c.clear_blocks.new.core (g.D.Disk.byte_at c.loop.self.disk) (g.D.Disk.byte_at c.clear_blocks.new.disk) (c.in-Ok.ensures.clears known),
+      destroys_cleared plain (c.answer_cleaned.result ≡ answer.Ok) c.loop.self.core.settings.blocks c.in-Ok.last c.loop.self.core c.clear_blocks.new.core (g.D.Disk.byte_at c.loop.self.disk) (g.D.Disk.byte_at c.clear_blocks.new.disk)
+          (destroyed_ok c.in-Ok.last c.answer_cleaned.result c.answer_cleaned.ensures.says) (c.in-Ok.ensures.clears known),
     ))
 
 pub loop-preserved : goal.loop-preserved
