@@ -19,7 +19,9 @@ use foyer_policy::keeper::Piece;
 use foyer_run::accesses::{step, write_block};
 use foyer_run::batches::begin_batch;
 use foyer_serve::engine::{Engine, NoProperties};
-use foyer_sets::block::eviction::{AnyPicker, EvictionInfo, EvictionPicker, FifoPicker};
+use foyer_sets::block::eviction::{
+    AnyPicker, BuiltInPicker, EvictionInfo, EvictionPicker, FifoPicker,
+};
 use foyer_statistics::IoState;
 use std::alloc::Global;
 use std::test::Fail;
@@ -104,9 +106,13 @@ fn without_it_the_oldest_goes(rt: HostRuntime) -> std::result::Result<(), Fail> 
 #[test]
 fn a_boxed_condition_is_asked_of_each_hash(rt: HostRuntime) -> std::result::Result<(), Fail> {
     let alloc = rt.alloc();
-    let own = Box::new(alloc, Only(2))?;
-    let filter = StorageFilter::new(alloc).with_condition(AnyCondition::Boxed(own))?;
-    let env = Env::with_default_pickers(alloc, 0)?.with_reinsertion(filter);
+    let own: Box<dyn StorageFilterCondition + Send> = Box::new(alloc, Only(2))?;
+    let filter: StorageFilter<AnyCondition, Global> = StorageFilter::new(alloc).with_condition(
+        AnyCondition::Boxed(own),
+    )?;
+    let env: Env<BuiltInPicker, AnyCondition> = Env::with_default_pickers(
+        alloc, 0,
+    )?.with_reinsertion(filter);
     let disk = blocks(&rt, 1, NO_FAULT)?;
     let mut engine = Engine::with_disk(alloc, env, sizes(1, 1), disk, RecoverMode::None)?;
     let lines = "put 1 a\nput 2 b\nput 3 c\nwait\nput 4 d\nwait\nget 1\nget 2\nget 3\nget 4\n";
