@@ -11,9 +11,7 @@ use foyer_core::reply::Reply;
 use foyer_core::state::Core;
 use foyer_core::step::Step;
 use foyer_device::error::{Error, Result};
-use foyer_filter::{
-    AnyCondition, BuiltInCondition, StorageFilter, StorageFilterCondition, StorageFilterResult,
-};
+use foyer_filter::{BuiltInCondition, StorageFilter, StorageFilterCondition, StorageFilterResult};
 use foyer_log::block::tombstone::NoLog;
 use foyer_policy::keeper::Piece;
 use foyer_run::accesses::{step, write_block};
@@ -104,15 +102,12 @@ fn without_it_the_oldest_goes(rt: HostRuntime) -> std::result::Result<(), Fail> 
 
 // The record of the one hash is written again, the two beside it go.
 #[test]
-fn a_boxed_condition_is_asked_of_each_hash(rt: HostRuntime) -> std::result::Result<(), Fail> {
+fn a_condition_of_an_own_type_is_asked_of_each_hash(
+    rt: HostRuntime,
+) -> std::result::Result<(), Fail> {
     let alloc = rt.alloc();
-    let own: Box<dyn StorageFilterCondition + Send> = Box::new(alloc, Only(2))?;
-    let filter: StorageFilter<AnyCondition, Global> = StorageFilter::new(alloc).with_condition(
-        AnyCondition::Boxed(own),
-    )?;
-    let env: Env<BuiltInPicker, AnyCondition> = Env::with_default_pickers(
-        alloc, 0,
-    )?.with_reinsertion(filter);
+    let filter = StorageFilter::new(alloc).with_condition(Only(2))?;
+    let env = Env::with_default_pickers(alloc, 0)?.with_reinsertion(filter);
     let disk = blocks(&rt, 1, NO_FAULT)?;
     let mut engine = Engine::with_disk(alloc, env, sizes(1, 1), disk, RecoverMode::None)?;
     let lines = "put 1 a\nput 2 b\nput 3 c\nwait\nput 4 d\nwait\nget 1\nget 2\nget 3\nget 4\n";
