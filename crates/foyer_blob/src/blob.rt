@@ -3,7 +3,7 @@ ghost use Rattle.std.specs.Prelude.{◌≡◌, ◌+◌, ◌-◌, ◌*◌, ◌<�
 ghost use Rattle.foyer_checksum.specs.Xxh64.{xxh64};
 ghost use Rattle.foyer_device.specs.declared.error.Error.{Error as error};
 ghost use Rattle.foyer_format.specs.Header.{number_at};
-ghost use Rattle.foyer_format.specs.Page.{page_up};
+ghost use Rattle.foyer_layout.specs.Page.{page_up};
 ghost use Rattle.foyer_blob.specs.Blob.{entry_bytes, entry_of, entries_in, capacity_of, IsSealed, FitsEntry};
 ghost use Rattle.foyer_blob.specs.OpenIndex.{entries_of, room_of};
 ghost use Rattle.foyer_blob.specs.declared.blob.BlobEntryIndex.{BlobEntryIndex};
@@ -85,7 +85,7 @@ impl BlobEntryIndex {
     }
 
     /// The bytes that the record takes with its padding.
-    #[tactic(auto, using(foyer_format::proofs::PageLaws::pages))]
+    #[tactic(auto, using(foyer_layout::proofs::PageLaws::pages))]
     pub fn aligned(&self) -> usize
         ensures { result ≡ page_up self.now.len }
     {
@@ -204,7 +204,7 @@ impl<A: Allocator> BlobIndex<A> {
 }
 
 // The same bytes in memory of their own.
-#[tactic(auto, using(foyer_format::proofs::PageLaws::pages))]
+#[tactic(auto, using(foyer_layout::proofs::PageLaws::pages))]
 fn copy_of<A: Allocator>(alloc: A, bytes: &IoSliceMut<A>) -> Result<IoSliceMut<A>>
     requires { length bytes.now ≤ 2 ^ 32 }
     ensures same { IfOk result (λ b. b ≡ bytes.now) }

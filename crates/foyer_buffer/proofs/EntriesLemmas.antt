@@ -2,11 +2,11 @@
 use Rattle.std.proofs.Common.{◌≡◌, ℕ, ◌+◌, ◌-◌, ◌%◌, ◌≤◌, List, [], ◌∷◌, ◌++◌, take, drop, length, refl, sym, ap, ◌∙◌, arith, Result, Ok, Err, OnErr}
 use Rattle.std.specs.Prelude.{IsTrue, true, false}
 use Rattle.std.proofs.lemmas.List.{length-drop, length-take-le, drop-take, take-take}
-use Rattle.foyer_format.specs.Page.{page_up}
+use Rattle.foyer_layout.specs.Page.{page_up}
 use Rattle.foyer_buffer.specs.Position.{taken}
 use Rattle.foyer_buffer.specs.Entries.{Entry, Entries, entries_at, IsPacked, EachTakes, size_of, left_of}
 use Rattle.foyer_buffer.specs.declared.BufferEntryInfo.{BufferEntryInfo}
-use Rattle.foyer_format.proofs.PageLaws.{page_up-holds, even-page_up}
+use Rattle.foyer_layout.proofs.PageLaws.{page_up-holds, even-page_up}
 use Rattle.foyer_buffer.proofs.SplitLemmas.{taken_none, taken_cons, taken-append, taken_one}
 
 pub size_none : size_of [] ≡ 0

@@ -2,24 +2,26 @@
 use Rattle.std.proofs.Common.{◌≡◌, ℕ, ◌+◌, ◌<◌, ◌≤◌, List, ◌++◌, length, take, drop, ◌⊎◌, inl, inr, refl, sym, ap, subst, ◌∙◌, arith}
 use Rattle.std.proofs.lemmas.List.{length-take-le, length-drop}
 use Rattle.foyer_device.specs.Section.{Section, bytes_of}
-use Rattle.foyer_buffer.specs.BlockBytes.{laid, all_laid, IsBeside, Each}
-use Rattle.foyer_buffer.specs.Position.{Sizes, Position, end_of, next_blob, taken, entries_from, with_records}
+use Rattle.foyer_layout.specs.BlockBytes.{laid, all_laid, IsBeside, Data}
+use Rattle.foyer_layout.specs.Each.{Each}
+use Rattle.foyer_layout.specs.Position.{Sizes, tail_of, next_blob, MayWrite}
+use Rattle.foyer_buffer.specs.Position.{Position, taken, entries_from, with_records}
 use Rattle.foyer_buffer.specs.Layout.{IsPart}
-use Rattle.foyer_buffer.specs.Fills.{MayWrite, data_write, index_write, writes_of, records_in, data_end, ComesBehind, Fills, IsLaid}
+use Rattle.foyer_buffer.specs.Fills.{data_write, index_write, writes_of, records_in, data_end, ComesBehind, Fills, IsLaid}
 use Rattle.foyer_buffer.specs.Stored.{Stored, stored_at, AllStand, AllOutside, AreRecords}
 use Rattle.foyer_buffer.specs.Fills.Fills.{stays, part, blob}
 use Rattle.foyer_buffer.specs.declared.BufferEntryInfo.{BufferEntryInfo}
 use Rattle.foyer_buffer.specs.declared.split.BlobPart.{BlobPart}
 use Rattle.foyer_buffer.proofs.SplitLemmas.{taken-append}
-use Rattle.foyer_buffer.proofs.BlockBytesLemmas.{beside_or, laid_beside, laid_outside, stand_same, outside_less, within_more, stand_join, outside_join}
-use Rattle.foyer_buffer.proofs.StoredLemmas.{part_bytes, stored_stand, stored_outside, stored_records, records-append}
+use Rattle.foyer_layout.proofs.BlockBytesLaws.{beside_or, laid_beside, laid_outside, within_more}
+use Rattle.foyer_buffer.proofs.StoredLemmas.{stand_same, outside_less, stand_join, outside_join, part_bytes, stored_stand, stored_outside, stored_records, records-append}
 
 -- the later filling's writes fall where the former's might
-pub blob_less : (s : Sizes) (f : Position) (o : ℕ) → MayWrite s (next_blob s f) o → MayWrite s f o
+pub blob_less : (s : Sizes) (f : Position) (o : ℕ) → MayWrite s.index (next_blob s f) o → MayWrite s.index f o
 blob_less s f o (inl l) = inl (omega arith)
 blob_less s f o (inr (l, m)) = inl (omega arith)
 
-pub records_less : (s : Sizes) (f : Position) (now : List BufferEntryInfo) (o : ℕ) → MayWrite s (with_records f now) o → MayWrite s f o
+pub records_less : (s : Sizes) (f : Position) (now : List BufferEntryInfo) (o : ℕ) → MayWrite s.index (with_records f now) o → MayWrite s.index f o
 records_less s f now o (inl l) = inl (omega arith)
 records_less s f now o (inr l) = inr l
 
@@ -39,7 +41,7 @@ module _ {A : Type 0} where
 
   -- parts behind a filling come behind a part that it has already
   comes_behind : (s : Sizes) (w : Section) (start : ℕ) (p : BlobPart A) (f : Position) (infos : List BufferEntryInfo) (parts : List (BlobPart A)) (g : Position)
-      → s.index ≤ f.at → data_end p ≤ end_of f → (f.blob ≡ p.blob_block_offset) ⊎ (data_end p ≤ f.blob) → Fills s w start f infos parts g → Each (ComesBehind p) parts
+      → s.index ≤ f.at → data_end p ≤ tail_of f → (f.blob ≡ p.blob_block_offset) ⊎ (data_end p ≤ f.blob) → Fills s w start f infos parts g → Each (ComesBehind p) parts
   comes_behind s w start p f infos parts g past ends_at index (stays) = tt
   comes_behind s w start p f infos parts g past ends_at index (blob full fills) =
       comes_behind s w start p (next_blob s f) infos parts g (omega arith) (omega arith) (inr ends_at) fills
@@ -59,7 +61,7 @@ module _ {A : Type 0} where
       let later : IsLaid s w start (next_blob s f) infos parts g = fills_laid s w start (next_blob s f) infos parts g (omega arith) room fills in
       record {
         order = later.order;
-        within = within_more (MayWrite s (next_blob s f)) (MayWrite s f) (writes_of parts) (blob_less s f) later.within;
+        within = within_more (MayWrite s.index (next_blob s f)) (MayWrite s.index f) (writes_of parts) (blob_less s f) later.within;
         shrinks = λ o may. blob_less s f o (later.shrinks o may);
         past = later.past;
         records = later.records;
@@ -79,19 +81,19 @@ module _ {A : Type 0} where
           in_data,
           (
             λ o inside. inr (in_present o inside),
-            within_more (MayWrite s (with_records f now)) (MayWrite s f) (writes_of more) (records_less s f now) later.within,
+            within_more (MayWrite s.index (with_records f now)) (MayWrite s.index f) (writes_of more) (records_less s f now) later.within,
           ),
         );
         shrinks = λ o may. records_less s f now o (later.shrinks o may);
         past = later.past;
         records = records-append (bytes_of w) start now rest own (records_in more) known later.records;
         stand = λ B. stand_join (all_laid (writes_of more) (laid (index_write p) (laid (data_write p) B))) own (records_in more)
-            (stand_same (MayWrite s (with_records f now)) (laid (data_write p) B) (all_laid (writes_of more) (laid (index_write p) (laid (data_write p) B))) own
-            outside (λ o out. laid_outside (MayWrite s (with_records f now)) (writes_of more) (laid (index_write p) (laid (data_write p) B)) o later.within out
+            (stand_same (MayWrite s.index (with_records f now)) (laid (data_write p) B) (all_laid (writes_of more) (laid (index_write p) (laid (data_write p) B))) own
+            outside (λ o out. laid_outside (MayWrite s.index (with_records f now)) (writes_of more) (laid (index_write p) (laid (data_write p) B)) o later.within out
             ∙ laid_beside (index_write p) (laid (data_write p) B) o (beside_index o out))
             (standing B))
             (later.stand (laid (index_write p) (laid (data_write p) B)));
-        outside = outside_join (MayWrite s g) own (records_in more) (outside_less (MayWrite s (with_records f now)) (MayWrite s g) own later.shrinks outside) later.outside;
+        outside = outside_join (MayWrite s.index g) own (records_in more) (outside_less (MayWrite s.index (with_records f now)) (MayWrite s.index g) own later.shrinks outside) later.outside;
       }
     where
       all_taken : taken (now ++ rest) ≡ taken now + taken rest
@@ -112,7 +114,7 @@ module _ {A : Type 0} where
       are : own ≡ stored_at f.blob f.at (bytes_of p.part_data) (entries_from f.at now)
       are = part_records s w start f now p is
 
-      in_data : (o : ℕ) → (IsBeside (data_write p) o → ⊥) → MayWrite s f o
+      in_data : (o : ℕ) → (IsBeside (data_write p) o → ⊥) → MayWrite s.index f o
       in_data o inside =
           let low : o < p.blob_block_offset + p.part_blob_offset → ⊥ = λ l. inside (inl l) in
           inl (omega (arith, is.blob, is.at, low))
@@ -123,18 +125,18 @@ module _ {A : Type 0} where
           let high : p.blob_block_offset + length p.index ≤ o → ⊥ = λ l. inside (inr l) in
           (omega (arith, is.blob, low), omega (arith, is.blob, is.size, high))
 
-      beside_index : (o : ℕ) → (MayWrite s (with_records f now) o → ⊥) → IsBeside (index_write p) o
+      beside_index : (o : ℕ) → (MayWrite s.index (with_records f now) o → ⊥) → IsBeside (index_write p) o
       beside_index o out = elim (beside_or (index_write p) o) [ inl outside ↦ outside | inr inside ↦ absurd (out (inr (in_present o inside))) ]
 
       standing : (B : ℕ → ℕ) → AllStand (laid (data_write p) B) own
       standing B = subst (AllStand (laid (data_write p) B)) (sym are)
-          (subst (λ n. AllStand (laid (record { offset = n; bytes = bytes_of p.part_data }) B) (stored_at f.blob f.at (bytes_of p.part_data) (entries_from f.at now)))
+          (subst (λ n. AllStand (laid (record { role = Data; offset = n; bytes = bytes_of p.part_data }) B) (stored_at f.blob f.at (bytes_of p.part_data) (entries_from f.at now)))
           (omega (arith, is.blob, is.at))
           (stored_stand now (bytes_of p.part_data) f.blob f.at f.at 0 B (omega arith) (omega (arith, size))))
 
-      outside : AllOutside (MayWrite s (with_records f now)) own
-      outside = subst (AllOutside (MayWrite s (with_records f now))) (sym are)
-          (stored_outside now (bytes_of p.part_data) f.blob f.at f.at 0 (MayWrite s (with_records f now)) (omega arith) (omega (arith, size))
+      outside : AllOutside (MayWrite s.index (with_records f now)) own
+      outside = subst (AllOutside (MayWrite s.index (with_records f now))) (sym are)
+          (stored_outside now (bytes_of p.part_data) f.blob f.at f.at 0 (MayWrite s.index (with_records f now)) (omega arith) (omega (arith, size))
           (λ o l m may. elim may [ inl far ↦ omega (arith, l, m, far) | inr close ↦ omega (arith, l, m, close.1, past) ]))
 
       known : AreRecords (bytes_of w) start now own

@@ -3,12 +3,15 @@ use Rattle.std.proofs.Common.{◌≡◌, ℕ, ◌+◌, ◌%◌, ◌<◌, ◌≤�
 use Rattle.std.specs.Prelude.{map, All, drop}
 use Rattle.std.proofs.lemmas.List.{append-nil, map-append, length-take}
 use Rattle.std.proofs.lemmas.List.Elements.{All-nil, All-cons}
+use Rattle.foyer_layout.proofs.EachLaws.{each_join}
 use Rattle.foyer_buffer.specs.Entries.{Entries, IsFinished, EachTakes, entries_at}
 use Rattle.foyer_device.specs.Section.{Section, bytes_of}
-use Rattle.foyer_format.specs.Page.{page_up}
+use Rattle.foyer_layout.specs.Page.{page_up}
 use Rattle.foyer_blob.specs.Blob.{IsSealed}
-use Rattle.foyer_buffer.specs.BlockBytes.{read, laid, all_laid, Each}
-use Rattle.foyer_buffer.specs.Position.{Sizes, Position, FitsBlock, end_of, fresh, next_blob, taken, entries_from, with_records}
+use Rattle.foyer_layout.specs.BlockBytes.{read, laid, all_laid}
+use Rattle.foyer_layout.specs.Each.{Each}
+use Rattle.foyer_layout.specs.Position.{Sizes, tail_of, fresh, next_blob}
+use Rattle.foyer_buffer.specs.Position.{Position, FitsBlock, taken, entries_from, with_records}
 use Rattle.foyer_buffer.specs.Listing.{Fits, IsIndex, behind, placed, Chain, Lists}
 use Rattle.foyer_buffer.specs.Layout.{IsPart}
 use Rattle.foyer_buffer.specs.Fills.{AreSizes, data_write, index_write, writes_of, records_in, Fills}
@@ -19,11 +22,11 @@ use Rattle.foyer_buffer.specs.Holding.Leads.{here, over}
 use Rattle.foyer_buffer.specs.declared.BufferEntryInfo.{BufferEntryInfo}
 use Rattle.foyer_blob.specs.declared.blob.BlobEntryIndex.{BlobEntryIndex}
 use Rattle.foyer_buffer.specs.declared.split.BlobPart.{BlobPart}
-use Rattle.foyer_format.proofs.PageLaws.{even-page_up}
+use Rattle.foyer_layout.proofs.PageLaws.{even-page_up}
 use Rattle.foyer_buffer.proofs.SplitLemmas.{taken_cons, taken_none, taken-append, entries_cons, entries_none}
 use Rattle.foyer_buffer.proofs.EntriesLemmas.{even-taken}
 use Rattle.foyer_buffer.proofs.ListingLemmas.{chain_step}
-use Rattle.foyer_buffer.proofs.BlockBytesLemmas.{read_same, laid_beside, read_whole}
+use Rattle.foyer_layout.proofs.BlockBytesLaws.{read_same, laid_beside, read_whole}
 use Rattle.foyer_buffer.proofs.StoredLemmas.{stored_entries}
 use Rattle.foyer_buffer.proofs.FillsLemmas.{part_is, part_records}
 
@@ -36,10 +39,6 @@ behind-append : (s : Sizes) (p : ℕ) (xs : List BlobEntryIndex) (y : BlobEntryI
 behind-append s p [] y ys = refl
 behind-append s p (x ∷ []) y ys = refl
 behind-append s p (x ∷ w ∷ xs) y ys = behind-append s p (w ∷ xs) y ys
-
-each_join : {X : Type 0} (P : X → Type 0) (xs ys : List X) → Each P xs → Each P ys → Each P (xs ++ ys)
-each_join P [] ys h k = k
-each_join P (x ∷ xs) ys h k = (h.0, each_join P xs ys h.1 k)
 
 -- the next place lies behind the index
 behind_past : (s : Sizes) (p : ℕ) (e : BlobEntryIndex) (es : List BlobEntryIndex) → Each (Fits s p) (e ∷ es) → p + s.index ≤ behind s p (e ∷ es)
@@ -134,7 +133,7 @@ holds_blob s B f es sizes some h = record {
         subst (λ k. Leads s B 0 k (behind s f.blob f.listed)) (sym (h.all ∙ ap (λ k. h.before ++ placed f.blob k) e))
         (subst (λ k. Leads s B 0 (h.before ++ placed f.blob (l ∷ ls)) (behind s f.blob k)) (sym e) (leads_more s B 0 f.blob h.before l ls h.front is))
 
-    leads : Leads s B 0 es (end_of f)
+    leads : Leads s B 0 es (tail_of f)
     leads = subst (λ q. Leads s B 0 es q) (h.end some) (go f.listed refl)
 
 -- no record is empty
@@ -201,7 +200,7 @@ module _ {A : Type 0} (s : Sizes) (w : Section) (sizes : AreSizes s) where
       past : s.index ≤ f.at
       past = h.past
 
-      within : end_of f + taken now ≤ s.block
+      within : tail_of f + taken now ≤ s.block
       within = is.within
 
       own : List Stored

@@ -1,4 +1,3 @@
-pub mod BlockBytesLemmas
 pub mod EntriesLemmas
 pub mod FillsLemmas
 pub mod HoldsLemmas

@@ -1,8 +1,8 @@
 -- The chain of a block.
 use Rattle.std.proofs.Common.{◌≡◌, ℕ, Bool, List, [], ◌++◌, length, refl, sym, ap, subst, ◌∙◌}
 use Rattle.foyer_blob.specs.Blob.{IsSealed, entries_in}
-use Rattle.foyer_buffer.specs.BlockBytes.{read}
-use Rattle.foyer_buffer.specs.Position.{Sizes}
+use Rattle.foyer_layout.specs.BlockBytes.{read}
+use Rattle.foyer_layout.specs.Position.{Sizes}
 use Rattle.foyer_buffer.specs.Listing.{IsIndex, behind, placed, Chain, Lists}
 use Rattle.foyer_buffer.specs.Listing.Chain.{ends, goes}
 use Rattle.foyer_blob.specs.declared.blob.BlobEntryIndex.{BlobEntryIndex}

@@ -1,7 +1,8 @@
 -- A placing is one block after the other.
 use Rattle.std.proofs.Common.{◌≡◌, ℕ, ◌+◌, List, [], ◌∷◌, ◌++◌, length, subst, arith, append_assoc}
 use Rattle.foyer_device.specs.Section.{Section}
-use Rattle.foyer_buffer.specs.Position.{Sizes, Position, fresh, next_blob, taken, with_records}
+use Rattle.foyer_layout.specs.Position.{Sizes, fresh, next_blob}
+use Rattle.foyer_buffer.specs.Position.{Position, taken, with_records}
 use Rattle.foyer_blob.specs.Blob.{capacity_of}
 use Rattle.foyer_buffer.specs.Layout.{IsPart, LaidOut, Left, Places}
 use Rattle.foyer_buffer.specs.Layout.LaidOut.{part, none}

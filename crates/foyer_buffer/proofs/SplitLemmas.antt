@@ -3,10 +3,11 @@ use Rattle.std.proofs.Common.{◌≡◌, ℕ, suc, ◌+◌, ◌<◌, ◌≤◌, 
 use Rattle.std.specs.Prelude.{map}
 use Rattle.std.proofs.lemmas.List.{append-nil, append_assoc, map-append}
 use Rattle.foyer_device.specs.Section.{Section, part_of}
-use Rattle.foyer_format.specs.Page.{page_up}
+use Rattle.foyer_layout.specs.Page.{page_up}
 use Rattle.foyer_blob.specs.Blob.{capacity_of, IsSealed}
 use Rattle.foyer_blob.specs.OpenIndex.{OpenIndex, entries_of}
-use Rattle.foyer_buffer.specs.Position.{Position, end_of, fresh, next_blob, taken, entries_from, with_records}
+use Rattle.foyer_layout.specs.Position.{tail_of, fresh, next_blob}
+use Rattle.foyer_buffer.specs.Position.{Position, taken, entries_from, with_records}
 use Rattle.foyer_buffer.specs.Layout.{IsPart, LaidOut, Left, Places, parts_of}
 use Rattle.foyer_buffer.specs.Layout.LaidOut.{part, none}
 use Rattle.foyer_buffer.specs.Layout.Left.{done, blob, block}
@@ -154,7 +155,7 @@ module _ {A : Type 0} where
       → x.index.count ≡ 0 → x.size ≡ 0 → x.indices ≡ w.indices
       → Closed s f0 all w (i ∷ rest) → Going s f0 all x (i ∷ rest)
   begins_block s f0 all rest i b w x room over block_is parts_are blocks_are bs is start blobs ats count size indices_are o =
-      let is_over : w.block_size < end_of o.f + page_up i.len = omega (arith, o.at, o.blob) in
+      let is_over : w.block_size < tail_of o.f + page_up i.len = omega (arith, o.at, o.blob) in
       let is_open : length o.f.listed < capacity_of w.index_size = omega (arith, ap length o.listed, length-entries_in w.index.bytes w.index.count) in
       let indices : x.indices.items ≡ w.indices.items = ap (λ v. v.items) indices_are in
       record {

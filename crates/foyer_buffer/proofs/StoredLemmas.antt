@@ -3,16 +3,38 @@ use Rattle.std.proofs.Common.{◌≡◌, ℕ, ◌+◌, ◌-◌, ◌<◌, ◌≤�
 use Rattle.std.specs.Prelude.{map, zero, suc}
 use Rattle.std.proofs.lemmas.List.{length-take, length-take-le, length-drop, take-append-drop, drop-take, drop-drop, take-take}
 use Rattle.foyer_device.specs.Section.{Section, bytes_of, part_of}
-use Rattle.foyer_format.specs.Page.{page_up}
-use Rattle.foyer_buffer.specs.BlockBytes.{laid, read}
+use Rattle.foyer_layout.specs.Page.{page_up}
+use Rattle.foyer_layout.specs.BlockBytes.{laid, read, Data}
 use Rattle.foyer_buffer.specs.Position.{taken, entries_from}
 use Rattle.foyer_buffer.specs.Listing.{placed}
 use Rattle.foyer_buffer.specs.Entries.{IsPacked, entries_at}
 use Rattle.foyer_buffer.specs.Stored.{Stored, entry_of, stored_at, AllStand, AllOutside, AreRecords, content_of}
 use Rattle.foyer_buffer.specs.declared.BufferEntryInfo.{BufferEntryInfo}
-use Rattle.foyer_format.proofs.PageLaws.{page_up-holds}
+use Rattle.foyer_layout.proofs.PageLaws.{page_up-holds}
 use Rattle.foyer_buffer.proofs.SplitLemmas.{taken_cons, taken_none, entries_cons, entries_none}
-use Rattle.foyer_buffer.proofs.BlockBytesLemmas.{read_part}
+use Rattle.foyer_layout.proofs.BlockBytesLaws.{read_part, read_same}
+
+-- records that stand, after other writes
+
+pub stand_same : (P : ℕ → Type 0) (g k : ℕ → ℕ) (rs : List Stored)
+    → AllOutside P rs → ((o : ℕ) → (P o → ⊥) → k o ≡ g o) → AllStand g rs → AllStand k rs
+stand_same P g k [] out same stand = tt
+stand_same P g k (r ∷ rs) out same stand = (
+  read_same k g r.offset (length r.bytes) (λ i l m. let a : length r.bytes ≤ page_up (length r.bytes) = page_up-holds (length r.bytes) in same i (out.0 i l (omega arith))) ∙ stand.0,
+  stand_same P g k rs out.1 same stand.1,
+)
+
+pub outside_less : (P Q : ℕ → Type 0) (rs : List Stored) → ((o : ℕ) → Q o → P o) → AllOutside P rs → AllOutside Q rs
+outside_less P Q [] less out = tt
+outside_less P Q (r ∷ rs) less out = (λ o l m q. out.0 o l m (less o q), outside_less P Q rs less out.1)
+
+pub stand_join : (g : ℕ → ℕ) (ps qs : List Stored) → AllStand g ps → AllStand g qs → AllStand g (ps ++ qs)
+stand_join g [] qs a b = b
+stand_join g (p ∷ ps) qs a b = (a.0, stand_join g ps qs a.1 b)
+
+pub outside_join : (P : ℕ → Type 0) (ps qs : List Stored) → AllOutside P ps → AllOutside P qs → AllOutside P (ps ++ qs)
+outside_join P [] qs a b = b
+outside_join P (p ∷ ps) qs a b = (a.0, outside_join P ps qs a.1 b)
 
 -- a front of a range's bytes
 cut_short : (xs : List ℕ) (i n m : ℕ) → n ≤ m → take n (drop i (take (i + m) xs)) ≡ take n (drop i xs)
@@ -55,7 +77,7 @@ first_len D k i is within =
 
 -- a slice of a write is read back
 read_slice : (at k n : ℕ) (D : List ℕ) (g : ℕ → ℕ) → k + n ≤ length D
-    → read (laid (record { offset = at; bytes = D }) g) (at + k) n ≡ take n (drop k D)
+    → read (laid (record { role = Data; offset = at; bytes = D }) g) (at + k) n ≡ take n (drop k D)
 read_slice at k n D g within =
     let pre : List ℕ = take k D in
     let bs : List ℕ = take n (drop k D) in
@@ -63,24 +85,24 @@ read_slice at k n D g within =
     let whole : pre ++ (bs ++ post) ≡ D = ap (λ t. pre ++ t) (take-append-drop n (drop k D)) ∙ take-append-drop k D in
     let front : length pre ≡ k = length-take-le k D (omega arith) in
     let len : length bs ≡ n = length-take-le n (drop k D) (omega (arith, length-drop k D)) in
-    subst (λ d. read (laid (record { offset = at; bytes = d }) g) (at + k) n ≡ bs) whole
-    (subst (λ j. read (laid (record { offset = at; bytes = pre ++ (bs ++ post) }) g) (at + j) n ≡ bs) front
-    (subst (λ j. read (laid (record { offset = at; bytes = pre ++ (bs ++ post) }) g) (at + length pre) j ≡ bs) len (read_part at pre bs post g)))
+    subst (λ d. read (laid (record { role = Data; offset = at; bytes = d }) g) (at + k) n ≡ bs) whole
+    (subst (λ j. read (laid (record { role = Data; offset = at; bytes = pre ++ (bs ++ post) }) g) (at + j) n ≡ bs) front
+    (subst (λ j. read (laid (record { role = Data; offset = at; bytes = pre ++ (bs ++ post) }) g) (at + length pre) j ≡ bs) len (read_part Data at pre bs post g)))
 
 -- the records of a part stand once its data are written
 pub stored_stand : (now : List BufferEntryInfo) (D : List ℕ) (blob at0 at k : ℕ) (g : ℕ → ℕ) → at ≡ at0 + k → k + taken now ≤ length D
-    → AllStand (laid (record { offset = blob + at0; bytes = D }) g) (stored_at blob at0 D (entries_from at now))
+    → AllStand (laid (record { role = Data; offset = blob + at0; bytes = D }) g) (stored_at blob at0 D (entries_from at now))
 stored_stand [] D blob at0 at k g is within = subst (AllStand _) (sym (stored_none blob at0 at D)) tt
 stored_stand (i ∷ is) D blob at0 at k g there within =
     let cons = taken_cons i is in
     let shift : at - at0 ≡ k = omega arith in
     let len : length (take i.len (drop (at - at0) D)) ≡ i.len = first_len D (at - at0) i is (omega arith) in
     let place : blob + at0 + k ≡ blob + at = omega arith in
-    let one : read (laid (record { offset = blob + at0; bytes = D }) g) (blob + at) i.len ≡ take i.len (drop (at - at0) D) =
-    subst (λ o. read (laid (record { offset = blob + at0; bytes = D }) g) o i.len ≡ take i.len (drop (at - at0) D)) place
+    let one : read (laid (record { role = Data; offset = blob + at0; bytes = D }) g) (blob + at) i.len ≡ take i.len (drop (at - at0) D) =
+    subst (λ o. read (laid (record { role = Data; offset = blob + at0; bytes = D }) g) o i.len ≡ take i.len (drop (at - at0) D)) place
     (read_slice (blob + at0) k i.len D g (omega (arith, page_up-holds i.len)) ∙ ap (λ j. take i.len (drop j D)) (sym shift)) in
     subst (AllStand _) (sym (stored_cons blob at0 at D i is)) (
-      ap (read (laid (record { offset = blob + at0; bytes = D }) g) (blob + at)) len ∙ one,
+      ap (read (laid (record { role = Data; offset = blob + at0; bytes = D }) g) (blob + at)) len ∙ one,
       stored_stand is D blob at0 (at + page_up i.len) (k + page_up i.len) g (omega arith) (omega arith),
     )
 

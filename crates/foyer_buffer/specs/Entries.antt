@@ -1,6 +1,6 @@
 -- What a buffer holds: entries one behind another, each padded to whole pages.
 use Rattle.std.specs.Prelude.{◌≡◌, ℕ, ◌+◌, ◌-◌, ◌≤◌, List, [], ◌∷◌, ◌++◌, length, take, drop}
-use Rattle.foyer_format.specs.Page.{page_up}
+use Rattle.foyer_layout.specs.Page.{page_up}
 use Rattle.foyer_buffer.specs.Position.{taken}
 use Rattle.foyer_buffer.specs.declared.BufferEntryInfo.{BufferEntryInfo}
 use Rattle.foyer_format.specs.declared.compress.Compression.{Compression}

@@ -2,8 +2,10 @@
 use Rattle.std.specs.Prelude.{◌≡◌, ℕ, ◌+◌, ◌<◌, ◌≤◌, ◌%◌, List, [], ◌∷◌, ◌++◌, length, ◌⊎◌}
 use Rattle.foyer_device.specs.Section.{Section, bytes_of}
 use Rattle.foyer_blob.specs.Blob.{capacity_of}
-use Rattle.foyer_buffer.specs.BlockBytes.{Write, all_laid, AllWithin, Each}
-use Rattle.foyer_buffer.specs.Position.{Sizes, Position, end_of, fresh, next_blob, taken, with_records}
+use Rattle.foyer_layout.specs.BlockBytes.{Write, all_laid, AllWithin, Data, Index}
+use Rattle.foyer_layout.specs.Each.{Each}
+use Rattle.foyer_layout.specs.Position.{Sizes, tail_of, fresh, next_blob, MayWrite}
+use Rattle.foyer_buffer.specs.Position.{Position, taken, with_records}
 use Rattle.foyer_buffer.specs.Layout.{IsPart}
 use Rattle.foyer_buffer.specs.Stored.{Stored, stored_at, AllStand, AllOutside, AreRecords}
 use Rattle.foyer_buffer.specs.declared.BufferEntryInfo.{BufferEntryInfo}
@@ -15,19 +17,15 @@ pub record AreSizes (s : Sizes) : Type 0 where
   pub some : 0 < s.index
   pub order : s.index < s.block
 
--- where later writes of a filling may fall: behind its data, or into the index of its present blob
-abbrev pub MayWrite : Sizes → Position → ℕ → Type 0
-MayWrite s f o = (end_of f ≤ o) ⊎ ((f.blob ≤ o) × (o < f.blob + s.index))
-
 module _ {A : Type 0} where
   -- the data of a part
   abbrev pub data_write : BlobPart A → Write
   data_write p =
-      record { offset = p.blob_block_offset + p.part_blob_offset; bytes = bytes_of p.part_data }
+      record { role = Data; offset = p.blob_block_offset + p.part_blob_offset; bytes = bytes_of p.part_data }
 
   -- the index of a part, at its blob's start
   abbrev pub index_write : BlobPart A → Write
-  index_write p = record { offset = p.blob_block_offset; bytes = p.index }
+  index_write p = record { role = Index; offset = p.blob_block_offset; bytes = p.index }
 
   -- the writes of these parts: of each its data, and then its index
   abbrev pub writes_of : List (BlobPart A) → List Write
@@ -92,9 +90,9 @@ module _ {A : Type 0} where
   pub record IsLaid (s : Sizes) (whole : Section) (start : ℕ) (f : Position)
       (infos : List BufferEntryInfo) (parts : List (BlobPart A)) (g : Position) : Type 0 where
     pub order : InOrder s parts
-    pub within : AllWithin (MayWrite s f) (writes_of parts)
-    pub shrinks : (o : ℕ) → MayWrite s g o → MayWrite s f o
+    pub within : AllWithin (MayWrite s.index f) (writes_of parts)
+    pub shrinks : (o : ℕ) → MayWrite s.index g o → MayWrite s.index f o
     pub past : s.index ≤ g.at
     pub records : AreRecords (bytes_of whole) start infos (records_in parts)
     pub stand : (B : ℕ → ℕ) → AllStand (all_laid (writes_of parts) B) (records_in parts)
-    pub outside : AllOutside (MayWrite s g) (records_in parts)
+    pub outside : AllOutside (MayWrite s.index g) (records_in parts)

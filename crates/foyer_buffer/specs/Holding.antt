@@ -1,8 +1,10 @@
 -- What a filling of a block has put, as the front of what the block lists.
 use Rattle.std.specs.Prelude.{◌≡◌, ℕ, ◌+◌, ◌%◌, ◌<◌, ◌≤◌, false, Bool, List, [], ◌∷◌, ◌++◌, length}
 use Rattle.foyer_blob.specs.Blob.{IsSealed}
-use Rattle.foyer_buffer.specs.BlockBytes.{read, Each}
-use Rattle.foyer_buffer.specs.Position.{Sizes, Position, end_of}
+use Rattle.foyer_layout.specs.BlockBytes.{read}
+use Rattle.foyer_layout.specs.Each.{Each}
+use Rattle.foyer_layout.specs.Position.{Sizes, tail_of}
+use Rattle.foyer_buffer.specs.Position.{Position}
 use Rattle.foyer_buffer.specs.Listing.{Fits, IsIndex, behind, placed}
 use Rattle.foyer_blob.specs.declared.blob.BlobEntryIndex.{BlobEntryIndex}
 
@@ -26,5 +28,5 @@ pub record Holds (s : Sizes) (B : ℕ → ℕ) (f : Position) (es : List BlobEnt
   pub fits : Each (Fits s f.blob) f.listed
   pub room : 0 < length f.listed → f.blob + s.index ≤ s.block
   pub sealed : 0 < length f.listed → IsSealed (read B f.blob s.index) f.listed
-  pub end : 0 < length f.listed → behind s f.blob f.listed ≡ end_of f
+  pub end : 0 < length f.listed → behind s f.blob f.listed ≡ tail_of f
   pub all : es ≡ before ++ placed f.blob f.listed

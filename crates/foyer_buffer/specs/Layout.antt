@@ -1,9 +1,10 @@
 -- How the records of a batch are placed into blocks, blobs and parts.
 use Rattle.std.specs.Prelude.{◌≡◌, ℕ, ◌+◌, ◌<◌, ◌≤◌, List, [], ◌∷◌, ◌++◌, length, map}
-use Rattle.foyer_format.specs.Page.{page_up}
+use Rattle.foyer_layout.specs.Page.{page_up}
 use Rattle.foyer_device.specs.Section.{Section, part_of}
 use Rattle.foyer_blob.specs.Blob.{IsSealed, capacity_of}
-use Rattle.foyer_buffer.specs.Position.{Sizes, Position, end_of, fresh, next_blob, taken, entries_from, with_records}
+use Rattle.foyer_layout.specs.Position.{Sizes, tail_of, fresh, next_blob}
+use Rattle.foyer_buffer.specs.Position.{Position, taken, entries_from, with_records}
 use Rattle.foyer_buffer.specs.declared.BufferEntryInfo.{BufferEntryInfo}
 use Rattle.foyer_buffer.specs.declared.split.BlobPart.{BlobPart}
 use Rattle.foyer_buffer.specs.declared.split.Block.{Block}
@@ -25,7 +26,7 @@ pub record IsPart {A : Type 0} (s : Sizes) (whole : Section) (start : ℕ) (f : 
   pub indices : p.indices.items ≡ entries_from f.at now
   pub index : IsSealed p.index (with_records f now).listed
   pub size : length p.index ≡ s.index
-  pub within : end_of f + taken now ≤ s.block
+  pub within : tail_of f + taken now ≤ s.block
 
 -- LaidOut: from a filling of a block on, and from byte start of the batch on, the records are placed
 -- into these parts of the block and into these further blocks, and a filling is left.
@@ -58,7 +59,7 @@ mutual
     -- a block is left where the next record doesn't fit in it
     block : {start : ℕ} {f g : Position} {i : BufferEntryInfo} {infos : List BufferEntryInfo}
         {parts : List (BlobPart A)} {blocks : List (List (BlobPart A))}
-        → length f.listed < capacity_of s.index → s.block < end_of f + page_up i.len
+        → length f.listed < capacity_of s.index → s.block < tail_of f + page_up i.len
         → LaidOut s whole start (fresh s) (i ∷ infos) parts blocks g
         → Left s whole start f (i ∷ infos) [] (parts ∷ blocks) g
 

@@ -1,9 +1,11 @@
 -- What holds of every placing, in the order in which a reader needs it.
 use Rattle.std.specs.Prelude.{◌≡◌, ℕ, ◌+◌, ◌<◌, ◌≤◌, Bool, List, [], ◌++◌, length, map, All}
 use Rattle.foyer_device.specs.Section.{Section, bytes_of}
-use Rattle.foyer_buffer.specs.BlockBytes.{all_laid, Each}
+use Rattle.foyer_layout.specs.BlockBytes.{all_laid}
+use Rattle.foyer_layout.specs.Each.{Each}
 use Rattle.foyer_buffer.specs.Entries.{Entries, IsFinished, IsPacked, entries_at}
-use Rattle.foyer_buffer.specs.Position.{Sizes, Position, FitsBlock, fresh, taken}
+use Rattle.foyer_layout.specs.Position.{Sizes, fresh}
+use Rattle.foyer_buffer.specs.Position.{Position, FitsBlock, taken}
 use Rattle.foyer_buffer.specs.Fills.{AreSizes, writes_of, records_in, Fills, Blocks, IsLaid}
 use Rattle.foyer_buffer.specs.Stored.{Stored, AreRecords, content_of, entry_of}
 use Rattle.foyer_buffer.specs.Holding.{all_read, Holds}

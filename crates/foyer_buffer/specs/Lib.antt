@@ -1,5 +1,4 @@
 pub mod BlobVectors
-pub mod BlockBytes
 pub mod Entries
 pub mod Position
 pub mod Fills

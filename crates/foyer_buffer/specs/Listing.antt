@@ -1,9 +1,10 @@
 -- What a block lists: the entries of its chain of indices.
 use Rattle.std.specs.Prelude.{◌≡◌, ℕ, ◌+◌, ◌%◌, ◌<◌, ◌≤◌, nat_le, if◌then◌else◌, Bool, false, List, [], ◌∷◌, ◌++◌}
-use Rattle.foyer_format.specs.Page.{page_up}
+use Rattle.foyer_layout.specs.Page.{page_up}
 use Rattle.foyer_blob.specs.Blob.{IsSealed}
-use Rattle.foyer_buffer.specs.BlockBytes.{read, Each}
-use Rattle.foyer_buffer.specs.Position.{Sizes}
+use Rattle.foyer_layout.specs.BlockBytes.{read}
+use Rattle.foyer_layout.specs.Each.{Each}
+use Rattle.foyer_layout.specs.Position.{Sizes}
 use Rattle.foyer_blob.specs.declared.blob.BlobEntryIndex.{BlobEntryIndex}
 
 -- the entry of an index at place p isn't empty, and lies behind the index, on a page, and within

@@ -1,32 +1,14 @@
 -- How far a block is filled, and the entries of records that stand one behind another.
 use Rattle.std.specs.Prelude.{ℕ, ◌+◌, ◌<◌, ◌≤◌, List, [], ◌∷◌, ◌++◌}
-use Rattle.foyer_format.specs.Page.{page_up}
+use Rattle.foyer_layout.specs.Page.{page_up}
+use Rattle.foyer_layout.specs.Position as layout
+use Rattle.foyer_layout.specs.Position.{Sizes, fresh}
 use Rattle.foyer_buffer.specs.declared.BufferEntryInfo.{BufferEntryInfo}
 use Rattle.foyer_blob.specs.declared.blob.BlobEntryIndex.{BlobEntryIndex}
 
--- of a block and of a blob's index, in bytes
-pub record Sizes : Type 0 where
-  pub block : ℕ
-  pub index : ℕ
-
--- How far a filling of a block has come: its present blob begins at blob, the next data stand at
--- this offset of the blob, and its index lists these.
-pub record Position : Type 0 where
-  pub blob : ℕ
-  pub at : ℕ
-  pub listed : List BlobEntryIndex
-
--- where its data end in the block
-abbrev pub end_of : Position → ℕ
-end_of f = f.blob + f.at
-
--- of a block into which nothing was written
-abbrev pub fresh : Sizes → Position
-fresh s = record { blob = 0; at = s.index; listed = [] }
-
--- the next blob begins where the data of the blob before it end
-abbrev pub next_blob : Sizes → Position → Position
-next_blob s f = record { blob = end_of f; at = s.index; listed = [] }
+-- how far a filling of a block has come
+abbrev pub Position : Type 0
+Position = layout.Position BlobEntryIndex
 
 -- where a splitter goes on
 pub record Context : Type 0 where

@@ -3,7 +3,8 @@ use Rattle.std.specs.Prelude.{◌≡◌, ℕ, ◌+◌, ◌<◌, ◌≤◌, List,
 use Rattle.foyer_device.specs.Section.{Section}
 use Rattle.foyer_blob.specs.Blob.{capacity_of}
 use Rattle.foyer_blob.specs.OpenIndex.{entries_of}
-use Rattle.foyer_buffer.specs.Position.{Sizes, Position, Context, taken, entries_from}
+use Rattle.foyer_layout.specs.Position.{Sizes}
+use Rattle.foyer_buffer.specs.Position.{Position, Context, taken, entries_from}
 use Rattle.foyer_buffer.specs.Layout.{LaidOut, Left, Places, parts_of}
 use Rattle.foyer_buffer.specs.declared.BufferEntryInfo.{BufferEntryInfo}
 use Rattle.foyer_buffer.specs.declared.split.BlobPart.{BlobPart}

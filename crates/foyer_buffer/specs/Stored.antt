@@ -1,7 +1,7 @@
 -- Records that stand in a block.
 use Rattle.std.specs.Prelude.{◌≡◌, ℕ, ◌+◌, ◌-◌, ◌<◌, ◌≤◌, List, [], ◌∷◌, length, take, drop}
-use Rattle.foyer_format.specs.Page.{page_up}
-use Rattle.foyer_buffer.specs.BlockBytes.{read}
+use Rattle.foyer_layout.specs.Page.{page_up}
+use Rattle.foyer_layout.specs.BlockBytes.{read}
 use Rattle.foyer_buffer.specs.Entries.{Entry}
 use Rattle.foyer_buffer.specs.declared.BufferEntryInfo.{BufferEntryInfo}
 use Rattle.foyer_blob.specs.declared.blob.BlobEntryIndex.{BlobEntryIndex}

@@ -3,7 +3,7 @@
 ghost use Rattle.std.specs.Prelude.{◌≡◌, ◌+◌, ◌^◌, ◌<◌, ◌≤◌, ◌↔◌, [], length, IsTrue, OnErr, IfOk, IfErr, true};
 ghost use Rattle.std.specs.Bool.{OnTrue, OnFalse};
 ghost use Rattle.foyer_device.specs.declared.error.Error.{Error as error};
-ghost use Rattle.foyer_format.specs.Page.{page_up};
+ghost use Rattle.foyer_layout.specs.Page.{page_up};
 ghost use Rattle.foyer_buffer.specs.Entries.{EachTakes, FitsBuffer, IsFinished, IsPacked, entries_at, with_entry, left_of, size_of};
 ghost use Rattle.foyer_buffer.specs.Position.{taken};
 ghost use Rattle.foyer_format.specs.Record.{record_bytes};

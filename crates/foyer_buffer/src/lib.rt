@@ -3,7 +3,7 @@
 #![tactic(auto)]
 
 ghost use Rattle.std.specs.Prelude.{◌≡◌, ◌<◌, ◌^◌};
-ghost use Rattle.foyer_format.specs.Page.{page_up};
+ghost use Rattle.foyer_layout.specs.Page.{page_up};
 
 use foyer_format::block::buffer::whole_pages;
 use foyer_format::block::serde::Sequence;

@@ -85,7 +85,7 @@ impl<A: Allocator> SplitCtx<A> {
     ghost use Rattle.foyer_buffer.specs.Splitting.{IsBegun, sizes_of, filling_of};
 
     /// At the start of a block, with an index without entries. Memory where it was refused.
-    #[tactic(auto, using(foyer_format::proofs::PageLaws::pages))]
+    #[tactic(auto, using(foyer_layout::proofs::PageLaws::pages))]
     pub fn new(alloc: A, block_size: usize, blob_index_size: usize) -> Result<SplitCtx<A>>
         requires block_pages { block_size % 4096 ≡ 0 }
         requires index_pages { blob_index_size % 4096 ≡ 0 }

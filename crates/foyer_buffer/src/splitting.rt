@@ -57,7 +57,7 @@ fn end_block<A: Allocator + Clone>(
 impl<A: Allocator + Clone> Splitting<A> {
     ghost use Rattle.std.specs.Prelude.{◌+◌, ◌<◌, ◌≤◌, length, map, OnOk, IsTrue};
     ghost use Rattle.foyer_device.specs.Section.{Section, bytes_of};
-    ghost use Rattle.foyer_format.specs.Page.{page_up};
+    ghost use Rattle.foyer_layout.specs.Page.{page_up};
     ghost use Rattle.foyer_buffer.specs.Position.{Position, FitsBlock};
     ghost use Rattle.foyer_buffer.specs.Splitting.{Going, Closed, Moves, sizes_of, filling_of};
     ghost use Rattle.foyer_buffer.specs.Layout.{Places, parts_of};
@@ -132,7 +132,7 @@ impl<A: Allocator + Clone> Splitting<A> {
     }
 
     // Collects a record.
-    #[tactic(auto, using(foyer_format::proofs::PageLaws::page_laws))]
+    #[tactic(auto, using(foyer_layout::proofs::PageLaws::page_laws))]
     fn append(&mut self, info: &BufferEntryInfo) -> Result<()>
         requires fits { self.old.blob + self.old.at + self.old.size + page_up info.now.len
             ≤ self.old.block_size }

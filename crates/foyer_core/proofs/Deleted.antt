@@ -5,7 +5,7 @@ use Rattle.foyer_block.specs.Insertion.{displaced}
 use Rattle.foyer_block.specs.declared.indexer.EntryAddress.{EntryAddress}
 use Rattle.foyer_block.specs.declared.indexer.Index.{Index}
 use Rattle.foyer_block.specs.declared.indexer.Index.TheVariants.{Address, Tombstone}
-use Rattle.foyer_format.specs.Page.{page_up}
+use Rattle.foyer_layout.specs.Page.{page_up}
 use Rattle.foyer_model.specs.Queue.{invalidated_by}
 use Rattle.foyer_rules.specs.Content.{Meaning}
 use Rattle.foyer_rules.specs.CoreRules.{machine}

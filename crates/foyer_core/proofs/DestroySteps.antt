@@ -8,7 +8,8 @@ use Rattle.std.specs.FinMap as finite
 use Rattle.std.specs.FinMap.{get-empty}
 use Rattle.std.proofs.Common.{nat_cmp}
 use Rattle.foyer_block.specs.declared.indexer.Index.TheVariants.{Address}
-use Rattle.foyer_buffer.specs.Position.{Sizes, fresh_context}
+use Rattle.foyer_layout.specs.Position.{Sizes}
+use Rattle.foyer_buffer.specs.Position.{fresh_context}
 use Rattle.foyer_placing.specs.Bridge.{filling_of}
 use Rattle.foyer_model.specs.Destroy.{vacated, refilled, IsIdle}
 use Rattle.foyer_model.specs.Ids.{ids, is_id_in}

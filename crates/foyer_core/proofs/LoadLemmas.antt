@@ -6,7 +6,7 @@ use Rattle.foyer_device.specs.Error.{kind_of}
 use Rattle.foyer_device.specs.declared.error.Error.{Error}
 use Rattle.foyer_device.specs.declared.error.Error.TheVariants as error
 use Rattle.foyer_device.specs.declared.error.ErrorKind.TheVariants as kind
-use Rattle.foyer_format.specs.Page.{page_up}
+use Rattle.foyer_layout.specs.Page.{page_up}
 use Rattle.foyer_format.specs.Record as format
 use Rattle.foyer_format.specs.Refusals.{IsRecordFault, ReachesPair}
 use Rattle.foyer_format.specs.declared.serde.ages.Age.{Age}

@@ -6,8 +6,8 @@ use Rattle.foyer_rules.specs.Sizes.{sizes_in}
 use Rattle.foyer_blob.specs.declared.blob.BlobEntryIndex.{BlobEntryIndex}
 use Rattle.foyer_block.specs.declared.indexer.HashedEntryAddress.{HashedEntryAddress}
 use Rattle.foyer_buffer.specs.Listing.{behind, placed}
-use Rattle.foyer_buffer.specs.Position.{Sizes}
-use Rattle.foyer_format.specs.Page.{page_up}
+use Rattle.foyer_layout.specs.Position.{Sizes}
+use Rattle.foyer_layout.specs.Page.{page_up}
 use Rattle.foyer_model.specs.Flush.{is_some}
 use Rattle.foyer_model.specs.Index.{is_same}
 use Rattle.foyer_model.specs.Record as model_record

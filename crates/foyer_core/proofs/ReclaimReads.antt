@@ -6,7 +6,7 @@ use Rattle.foyer_blob.specs.declared.blob.BlobEntryIndex.{BlobEntryIndex}
 use Rattle.foyer_block.specs.declared.indexer.HashedEntryAddress.{HashedEntryAddress}
 use Rattle.foyer_buffer.specs.Listing.{behind, placed}
 use Rattle.foyer_filter.specs.declared.verdict.StorageFilterResult.{StorageFilterResult}
-use Rattle.foyer_format.specs.Page.{page_up}
+use Rattle.foyer_layout.specs.Page.{page_up}
 use Rattle.foyer_model.specs.Record.{Address}
 use Rattle.foyer_model.specs.Reclaim.{addresses, admitted, place_behind, stage_after, stage_behind, issued_at, reclaiming, Lists}
 use Rattle.foyer_model.specs.State as model_state

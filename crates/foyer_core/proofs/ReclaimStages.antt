@@ -3,7 +3,7 @@ use Rattle.std.specs.Prelude.{is_none}
 use Rattle.std.proofs.Common.{◌≡◌, ℕ, ◌==◌, Bool, true, false, not, ◌&&◌, if◌then◌else◌, List, [], ◌∷◌, map, length, Option, Some, None, refl, sym, ap, subst, ◌∙◌, arith}
 use Rattle.std.proofs.lemmas.Bool.Decides.{nat_tests}
 use Rattle.foyer_block.specs.declared.indexer.HashedEntryAddress.{HashedEntryAddress}
-use Rattle.foyer_format.specs.Page.{page_up}
+use Rattle.foyer_layout.specs.Page.{page_up}
 use Rattle.foyer_model.specs.InTurn.{ReadsFor, IsScan, IsAt}
 use Rattle.foyer_model.specs.Reclaim.{Scanned, reclaiming as model_reclaiming}
 use Rattle.foyer_model.specs.Reply as model_reply

@@ -3,7 +3,7 @@ use Rattle.std.proofs.Common.{◌≡◌, ◌≢◌, ℕ, ◌+◌, ◌<◌, ◌�
 use Rattle.foyer_blob.specs.declared.blob.BlobEntryIndex.{BlobEntryIndex}
 use Rattle.foyer_buffer.specs.Listing.{IsIndex, Chain, Lists}
 use Rattle.foyer_buffer.specs.Listing.Chain.{ends, goes}
-use Rattle.foyer_buffer.specs.Position.{Sizes}
+use Rattle.foyer_layout.specs.Position.{Sizes}
 use Rattle.foyer_core.specs.Reopened.{ReadsAll, IsReopened, HasAgain, HasNewer, BeginsWithNewest, slot_at}
 use Rattle.foyer_core.specs.declared.state.Core.{Core}
 use Rattle.foyer_model.specs.Record.{Address, Indexed}

@@ -8,7 +8,7 @@ use Rattle.std.specs.declared.hash.FoldHasher.{FoldHasher}
 use Rattle.std.specs.declared.vec.Vec.{Vec}
 use Rattle.foyer_block.specs.Removal.{same_address}
 use Rattle.foyer_block.specs.declared.indexer.HashedEntryAddress.{HashedEntryAddress}
-use Rattle.foyer_buffer.specs.Position.{Sizes}
+use Rattle.foyer_layout.specs.Position.{Sizes}
 use Rattle.foyer_filter.specs.Verdict.{IsAdmit, AreAnswers, IsVerdict}
 use Rattle.foyer_filter.specs.declared.verdict.StorageFilterResult.{StorageFilterResult}
 use Rattle.foyer_model.specs.Record as model_record

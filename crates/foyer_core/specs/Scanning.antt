@@ -3,7 +3,7 @@ use Rattle.std.specs.Prelude.{◌≡◌, ℕ, Bool, List, Option, Some, None, Re
 use Rattle.std.specs.declared.vec.Vec.{Vec}
 use Rattle.foyer_device.specs.declared.error.Error.{Error}
 use Rattle.foyer_filter.specs.declared.verdict.StorageFilterResult.{StorageFilterResult}
-use Rattle.foyer_format.specs.Page.{page_up}
+use Rattle.foyer_layout.specs.Page.{page_up}
 use Rattle.foyer_statistics.specs.declared.state.IoState.{IoState}
 use Rattle.foyer_core.specs.Reclaiming.{IsReread, Reclaiming, index_infos, reclaim_at, verdict_list, wanted_of}
 use Rattle.foyer_core.specs.declared.block.reclaimer.Wanted.{Wanted}

@@ -7,7 +7,7 @@ ghost use Rattle.foyer_core.specs.Unchanged.{IsUnchanged};
 ghost use Rattle.foyer_rules.specs.Content.{Meaning};
 ghost use Rattle.foyer_core.specs.Refines.{RefinesUncounted};
 ghost use Rattle.foyer_core.specs.declared.step.Step.TheVariants as step;
-ghost use Rattle.foyer_format.specs.Page.{page_up};
+ghost use Rattle.foyer_layout.specs.Page.{page_up};
 ghost use Rattle.foyer_format.specs.declared.serde.ages.Age.TheVariants as age;
 
 use crate::reply::Reply;
@@ -24,7 +24,7 @@ use foyer_standing::blocks::InvalidStats;
 use std::alloc::Allocator;
 
 // The bytes of a block that a mark makes invalid where it pushes this address out.
-#[tactic(auto, unfolding(foyer_format::specs::Page::page_up))]
+#[tactic(auto, unfolding(foyer_layout::specs::Page::page_up))]
 fn invalid_stats(address: &EntryAddress) -> InvalidStats
     ensures block { result.block ≡ address.now.block }
     ensures size { result.size ≡ page_up address.now.len }

@@ -1,6 +1,6 @@
 //! The steps of a reclaim.
 ghost use Rattle.std.specs.Prelude.{◌≡◌, ◌<◌, ◌%◌, ℕ, Some, Ok, IfSome, vec_len};
-ghost use Rattle.foyer_format.specs.Page.{page_up};
+ghost use Rattle.foyer_layout.specs.Page.{page_up};
 ghost use Rattle.foyer_core.specs.Reclaiming.{awaited, reclaim_at, requeue_count};
 ghost use Rattle.foyer_core.specs.Scanning.{HasNoVerdicts, IsJudged, scan_reply};
 ghost use Rattle.foyer_core.specs.Answered.{HandsBack, DescribesNothing, Idling, IsPicked};
@@ -40,7 +40,7 @@ fn reclaim_read<K, V, P, A: Allocator>(
 }
 
 // The bytes that a record takes, in whole pages.
-#[tactic(auto, unfolding(foyer_format::specs::Page::page_up))]
+#[tactic(auto, unfolding(foyer_layout::specs::Page::page_up))]
 fn record_pages(address: &EntryAddress) -> usize
     ensures { result ≡ page_up address.now.len }
 {

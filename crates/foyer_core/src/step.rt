@@ -1,6 +1,6 @@
 //! What may happen to the core.
 ghost use Rattle.std.specs.Prelude.{◌≡◌, ◌≤◌};
-ghost use Rattle.foyer_format.specs.Page.{page_up};
+ghost use Rattle.foyer_layout.specs.Page.{page_up};
 
 use foyer_block::indexer::EntryAddress;
 use foyer_block::manager::BlockId;
@@ -20,7 +20,7 @@ pub struct Ticket {
 
 impl Ticket {
     /// How many bytes are read: the record's, in whole pages.
-    #[tactic(auto, unfolding(foyer_format::specs::Page::page_up))]
+    #[tactic(auto, unfolding(foyer_layout::specs::Page::page_up))]
     pub fn read_len(&self) -> usize
         ensures pages { result ≡ page_up self.now.address.len }
         ensures all { self.now.address.len ≤ result }

@@ -3,11 +3,11 @@ use Rattle.std.proofs.Common.{◌≡◌, ℕ, ◌+◌, ◌-◌, ◌*◌, ◌<◌
 use Rattle.std.proofs.lemmas.List.{length-append}
 use Rattle.std.proofs.lemmas.Bool.{eqb-true}
 use Rattle.std.specs.Int.{w64, to_le_bytes}
-use Rattle.foyer_buffer.specs.BlockBytes.{Each}
+use Rattle.foyer_layout.specs.Each.{Each}
 use Rattle.foyer_code.specs.CodeLaws.{full_length, number_length}
 use Rattle.foyer_code.specs.Codes.{number_bytes, counted}
 use Rattle.foyer_buffer.specs.Entries.{Entry, Entries, FitsBuffer, with_entry, left_of, size_of}
-use Rattle.foyer_format.specs.Page.{page_up}
+use Rattle.foyer_layout.specs.Page.{page_up}
 use Rattle.foyer_format.specs.Record.{record_bytes}
 use Rattle.foyer_buffer.proofs.EntriesLemmas.{size_none, size_cons}
 use Rattle.foyer_format.proofs.RecordBytes.{length-record_bytes}

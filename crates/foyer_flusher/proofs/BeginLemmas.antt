@@ -11,14 +11,14 @@ use Rattle.foyer_model.specs.Position.{BlockLayout, records_of, last_end}
 use Rattle.foyer_model.specs.Flush.{is_some as has}
 use Rattle.foyer_model.specs.Receive.{pieces_of}
 use Rattle.foyer_model.specs.Record as model_record
-use Rattle.foyer_model.specs.Rules.{Rules}
+use Rattle.foyer_model.specs.Rules.{Rules, sizes_of}
 use Rattle.foyer_model.specs.State as model_state
 use Rattle.foyer_placing.proofs.BridgeLemmas.{batch_lays}
 use Rattle.foyer_placing.proofs.KeepsLemmas.{keeps_records, goes_on}
 use Rattle.foyer_placing.proofs.WithinLemmas.{all_within}
 use Rattle.foyer_placing.specs.Bridge.{filling_of, kept_of, AreBlocksAs}
 use Rattle.foyer_placing.specs.Laws.{IsLaidAs}
-use Rattle.foyer_placing.specs.Splits.{sizes_of, IsLaidOut, AreRules}
+use Rattle.foyer_placing.specs.Splits.{IsLaidOut, AreRules}
 use Rattle.foyer_rules.specs.Content.{Content, Meaning, content_of, contents_of}
 use Rattle.foyer_rules.specs.declared.settings.Settings.{Settings}
 use Rattle.foyer_standing.specs.Addresses.{mark_of, invalid_of}

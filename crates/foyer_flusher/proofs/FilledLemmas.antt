@@ -8,7 +8,8 @@ use Rattle.foyer_buffer.proofs.EntriesLemmas.{size_taken}
 use Rattle.foyer_buffer.proofs.HoldsLemmas.{finished_all}
 use Rattle.foyer_buffer.proofs.SplitLemmas.{taken_none}
 use Rattle.foyer_buffer.specs.Entries.{Entry, Entries, IsFinished, EachTakes, entries_at, size_of, with_entry}
-use Rattle.foyer_buffer.specs.Position.{Sizes, FitsBlock, taken}
+use Rattle.foyer_layout.specs.Position.{Sizes}
+use Rattle.foyer_buffer.specs.Position.{FitsBlock, taken}
 use Rattle.foyer_buffer.specs.declared.BufferEntryInfo.{BufferEntryInfo}
 use Rattle.foyer_device.specs.Section.{Section, bytes_of, all_of}
 use Rattle.foyer_flusher.specs.Filled.{AreShared, AreSome, IsFull, IsShared}

@@ -3,17 +3,19 @@ use Rattle.std.proofs.Common.{◌≡◌, ℕ, zero, suc, ◌+◌, ◌-◌, ◌^�
 use Rattle.std.specs.Prelude.{MatchOption}
 use Rattle.std.specs.declared.vec.Vec.{Vec}
 use Rattle.std.proofs.lemmas.List.{map-append, length-map}
+use Rattle.foyer_layout.proofs.EachLaws.{each_front, each_back}
 use Rattle.foyer_block.specs.declared.indexer.EntryAddress.{EntryAddress}
 use Rattle.foyer_block.specs.declared.indexer.HashedEntryAddress.{HashedEntryAddress}
 use Rattle.foyer_blob.specs.declared.blob.BlobEntryIndex.{BlobEntryIndex}
-use Rattle.foyer_buffer.specs.BlockBytes.{Each}
+use Rattle.foyer_layout.specs.Each.{Each}
 use Rattle.foyer_buffer.specs.Layout.{parts_of}
 use Rattle.foyer_buffer.specs.declared.split.BlobPart.{BlobPart}
 use Rattle.foyer_buffer.specs.declared.split.Block.{Block}
 use Rattle.foyer_device.specs.Section.{bytes_of}
-use Rattle.foyer_format.proofs.PageLaws.{page_up-holds}
-use Rattle.foyer_format.specs.Page.{page_up}
-use Rattle.foyer_model.specs.Position.{Data, Index, Write as ModelWrite, Part, BlockLayout, records_in, records_of}
+use Rattle.foyer_layout.proofs.PageLaws.{page_up-holds}
+use Rattle.foyer_layout.specs.Page.{page_up}
+use Rattle.foyer_layout.specs.BlockBytes.{Data, Index, Write as ModelWrite}
+use Rattle.foyer_model.specs.Position.{Part, BlockLayout, records_in, records_of}
 use Rattle.foyer_model.specs.Flush.{writing_of}
 use Rattle.foyer_model.specs.Layout.{writes_in}
 use Rattle.foyer_model.specs.Record as model_record
@@ -31,14 +33,6 @@ use Rattle.foyer_flusher.specs.Issued.{padded, source_in, WritesAs, IssuesFirst}
 use Rattle.foyer_flusher.specs.declared.flusher.Batch.{Batch}
 use Rattle.foyer_flusher.specs.declared.flusher.Write.{Write}
 use Rattle.foyer_flusher.specs.declared.flusher.Writing.{Writing}
-
-each_front : {X : Type 0} (P : X → Type 0) (xs ys : List X) → Each P (xs ++ ys) → Each P xs
-each_front P [] ys each = tt
-each_front P (x ∷ xs) ys each = (each.0, each_front P xs ys each.1)
-
-each_back : {X : Type 0} (P : X → Type 0) (xs ys : List X) → Each P (xs ++ ys) → Each P ys
-each_back P [] ys each = each
-each_back P (x ∷ xs) ys each = each_back P xs ys each.1
 
 end_front : {C : Type 0} (n : ℕ) (ps qs : List (ℕ × model_record.Record C)) → AllEndBy n (ps ++ qs) → AllEndBy n ps
 end_front n [] qs all = tt

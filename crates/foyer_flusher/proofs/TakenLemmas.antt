@@ -4,10 +4,10 @@ use Rattle.std.specs.Prelude.{◌↔◌}
 use Rattle.std.proofs.lemmas.Bool.{lt-ltb}
 use Rattle.std.specs.Cmp.Derive.{both_true}
 use Rattle.foyer_buffer.specs.Entries.{Entries, FitsBuffer, left_of, size_of, with_entry}
-use Rattle.foyer_format.specs.Page.{page_up}
+use Rattle.foyer_layout.specs.Page.{page_up}
 use Rattle.foyer_format.specs.Record.{record_bytes}
 use Rattle.foyer_format.specs.declared.compress.Compression.TheVariants as compression
-use Rattle.foyer_format.proofs.PageLaws.{page_up-holds}
+use Rattle.foyer_layout.proofs.PageLaws.{page_up-holds}
 use Rattle.foyer_format.proofs.RecordBytes.{length-record_bytes}
 use Rattle.foyer_policy.specs.Record.{Record}
 use Rattle.foyer_model.specs.Receive.{Fits, TakesFront as TakesOne, bytes_taken, turned}

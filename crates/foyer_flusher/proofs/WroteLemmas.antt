@@ -7,7 +7,7 @@ use Rattle.foyer_block.specs.declared.indexer.HashedEntryAddress.{HashedEntryAdd
 use Rattle.foyer_block.specs.Committing.{committed_all, put_count}
 use Rattle.foyer_block.specs.Removal.{without_marks}
 use Rattle.foyer_model.specs.Commit.{commit_of}
-use Rattle.foyer_model.specs.Position.{Write}
+use Rattle.foyer_layout.specs.BlockBytes.{Write}
 use Rattle.foyer_model.specs.Flush.{released, invalidated_unless, commit_in, write_done, block_done, batch_failed, Wrote, Finishes}
 use Rattle.foyer_model.specs.Index.{unmarked}
 use Rattle.foyer_model.specs.Numbers.{put}

@@ -5,9 +5,9 @@ use Rattle.foyer_model.specs.Position.{BlockLayout}
 use Rattle.foyer_model.specs.Flush.{Begins}
 use Rattle.foyer_model.specs.Receive.{turned}
 use Rattle.foyer_model.specs.Reply as model_reply
-use Rattle.foyer_model.specs.Rules.{Rules}
+use Rattle.foyer_model.specs.Rules.{Rules, sizes_of}
 use Rattle.foyer_model.specs.State as model_state
-use Rattle.foyer_placing.specs.Splits.{sizes_of, IsLaidOut, AreRules}
+use Rattle.foyer_placing.specs.Splits.{IsLaidOut, AreRules}
 use Rattle.foyer_rules.specs.Content.{Content, Meaning}
 use Rattle.foyer_rules.specs.declared.settings.Settings.{Settings}
 use Rattle.foyer_standing.specs.Addresses.{mark_of}

@@ -1,13 +1,14 @@
 -- The records that a flusher received: in pages that are still written into, or in pages that may have several owners.
 use Rattle.std.specs.Prelude.{◌≡◌, ℕ, ◌+◌, ◌≤◌, ◌<◌, List, [], length}
-use Rattle.foyer_buffer.specs.BlockBytes.{Each}
+use Rattle.foyer_layout.specs.Each.{Each}
 use Rattle.foyer_buffer.specs.Entries.{Entry, Entries, IsPacked, EachTakes, IsFinished, entries_at, left_of}
-use Rattle.foyer_buffer.specs.Position.{Sizes, Position, taken}
+use Rattle.foyer_layout.specs.Position.{Sizes}
+use Rattle.foyer_buffer.specs.Position.{Position, taken}
 use Rattle.foyer_buffer.specs.Layout.{IsLaidOut}
 use Rattle.foyer_buffer.specs.declared.BufferEntryInfo.{BufferEntryInfo}
 use Rattle.foyer_buffer.specs.declared.split.Batch.{Batch}
 use Rattle.foyer_device.specs.Section.{Section, bytes_of, all_of}
-use Rattle.foyer_format.specs.Page.{page_up}
+use Rattle.foyer_layout.specs.Page.{page_up}
 use Rattle.foyer_flusher.specs.declared.filled.State.{State}
 use Rattle.foyer_flusher.specs.declared.filled.State.TheVariants as state
 

@@ -4,7 +4,7 @@ use Rattle.foyer_block.specs.declared.indexer.HashedEntryAddress.{HashedEntryAdd
 use Rattle.foyer_blob.specs.declared.blob.BlobEntryIndex.{BlobEntryIndex}
 use Rattle.foyer_buffer.specs.declared.split.BlobPart.{BlobPart}
 use Rattle.foyer_device.specs.Section.{bytes_of}
-use Rattle.foyer_model.specs.Position as model_position
+use Rattle.foyer_layout.specs.BlockBytes as layout
 use Rattle.foyer_flusher.specs.declared.flusher.Write.{Write}
 use Rattle.foyer_flusher.specs.declared.flusher.WriteBytes.{WriteBytes}
 use Rattle.foyer_flusher.specs.declared.flusher.WriteBytes.TheVariants.{Data, Index}
@@ -35,10 +35,10 @@ module _ {A : Type 0} where
       ∷ record { offset = p.blob_block_offset; bytes = Index p.index } ∷ writes_of ps
 
   -- whether records or an index are written
-  abbrev pub role_of : WriteBytes A → model_position.Role
-  role_of (Data section) = model_position.Data
-  role_of (Index bytes) = model_position.Index
+  abbrev pub role_of : WriteBytes A → layout.Role
+  role_of (Data section) = layout.Data
+  role_of (Index bytes) = layout.Index
 
   -- a write as the model's
-  abbrev pub write_of : Write A → model_position.Write
+  abbrev pub write_of : Write A → layout.Write
   write_of w = record { role = role_of w.bytes; offset = w.offset; bytes = written_bytes w.bytes }

@@ -3,7 +3,7 @@ ghost use Rattle.std.specs.Prelude.{◌≡◌, ◌^◌, ◌+◌, ◌<◌, ◌≤
 ghost use Rattle.std.specs.Prelude.{◌↔◌, IsTrue, true};
 ghost use Rattle.std.specs.Bool.{OnTrue, OnFalse};
 ghost use Rattle.foyer_buffer.specs.Entries.{Entries, FitsBuffer, entries_at, with_entry, left_of};
-ghost use Rattle.foyer_format.specs.Page.{page_up};
+ghost use Rattle.foyer_layout.specs.Page.{page_up};
 ghost use Rattle.foyer_format.specs.Record.{record_bytes};
 ghost use Rattle.foyer_format.specs.declared.compress.Compression.TheVariants as compression;
 ghost use Rattle.foyer_device.specs.Section.{bytes_of, all_of};

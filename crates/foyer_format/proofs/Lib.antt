@@ -1,7 +1,6 @@
 pub mod CompressionLemmas
 pub mod HeaderLemmas
 pub mod OuterFault
-pub mod PageLaws
 pub mod RecordBytes
 pub mod RecordLemmas
 pub mod RefusalLemmas

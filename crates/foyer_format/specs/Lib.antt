@@ -1,6 +1,5 @@
 pub mod Compression
 pub mod Header
-pub mod Page
 pub mod Record
 pub mod Refusals
 pub mod Vectors

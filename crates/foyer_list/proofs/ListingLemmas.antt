@@ -6,12 +6,12 @@ use Rattle.std.proofs.lemmas.List.{map-append}
 use Rattle.std.specs.Option.{option_map}
 use Rattle.std.specs.declared.vec.Vec.{Vec}
 use Rattle.foyer_blob.specs.declared.blob.BlobEntryIndex.{BlobEntryIndex}
-use Rattle.foyer_buffer.specs.BlockBytes.{read}
+use Rattle.foyer_layout.specs.BlockBytes.{read}
 use Rattle.foyer_buffer.specs.Fills.{AreSizes}
 use Rattle.foyer_buffer.specs.Holding.{all_read}
 use Rattle.foyer_buffer.specs.Listing.{IsIndex, behind, placed, Chain, rising, kept}
 use Rattle.foyer_buffer.specs.Listing.Chain.{ends, goes}
-use Rattle.foyer_buffer.specs.Position.{Sizes}
+use Rattle.foyer_layout.specs.Position.{Sizes}
 use Rattle.foyer_scan.specs.IndexBytes.{index_at, IsIndexOf}
 use Rattle.foyer_scan.specs.Scan.{next_blob, info_of, infos_of, ScanStep, scan_step, index_step}
 use Rattle.foyer_scan.specs.ScanState.{Scan}

@@ -2,7 +2,7 @@
 use Rattle.std.specs.Prelude.{◌≡◌, ◌⊎◌, ℕ, []}
 use Rattle.std.specs.FinMap as finite
 use Rattle.foyer_block.specs.Index.{IndexMap}
-use Rattle.foyer_buffer.specs.Position.{Sizes}
+use Rattle.foyer_layout.specs.Position.{Sizes}
 use Rattle.foyer_device.specs.declared.error.Error.{Error}
 use Rattle.foyer_device.specs.declared.error.Error.TheVariants as error
 use Rattle.foyer_recover.specs.Opening.{Opened}

@@ -1,7 +1,7 @@
 //! What a block lists, and why its chain of indices ends.
 ghost use Rattle.std.specs.Prelude.{◌≡◌, ℕ, ◌≤◌, ◌^◌, vec_len, true, false, length, Some, IfOk, IsOkUnless};
 ghost use Rattle.foyer_device.specs.declared.error.Error.TheVariants.{Memory};
-ghost use Rattle.foyer_buffer.specs.BlockBytes.{read};
+ghost use Rattle.foyer_layout.specs.BlockBytes.{read};
 ghost use Rattle.foyer_buffer.specs.Fills.{AreSizes};
 ghost use Rattle.foyer_recover.specs.Kept.{rising_infos};
 ghost use Rattle.foyer_list.specs.BlockListing.{IsListed, IsListing};

@@ -4,14 +4,15 @@ use Rattle.std.proofs.lemmas.Bool.{eqb-true}
 use Rattle.std.proofs.lemmas.Bool.Decides.{nat_tests}
 use Rattle.foyer_model.specs.Numbers.{put, page}
 use Rattle.foyer_model.specs.Record.{Address, Outcome, Record}
-use Rattle.foyer_model.specs.Position.{Write}
+use Rattle.foyer_layout.specs.BlockBytes.{Write, laid, all_laid, read, IsBeside}
 use Rattle.foyer_model.specs.State.{Writing, Flusher, BlockSet}
 use Rattle.foyer_model.specs.Rules.{Rules}
 use Rattle.foyer_model.specs.Step.{ReadResult, Bytes, Fault}
-use Rattle.foyer_model.specs.Layout.{laid, all_laid, read, AllStand, IsBeside, AllBehind}
+use Rattle.foyer_model.specs.Layout.{AllStand, AllBehind}
 use Rattle.foyer_model.specs.Access.{BlockWrites, Idle, Issued, InFlight, CleanState, CleanIdle, CleanIssued, CleanInFlight, CleanDone, ReadState, ReadIssued, Reading, ReadDone, Load, is_in, writes_covers, some_writes_covers, clean_covers, begun, read_torn, came, at_load, writes_begun, will_cover, writes_ended, bytes_ended, clean_will_cover, cleaned_page, bytes_cleaned, IsRead, IsTorn, IsTornClean}
 use Rattle.foyer_model.specs.World.{World, covers, IsReadAt}
-use Rattle.foyer_model.proofs.Basics.{put_at, put_other, read_same, take_read, put_one}
+use Rattle.foyer_layout.proofs.BlockBytesLaws.{read_same, take_read}
+use Rattle.foyer_model.proofs.Basics.{put_at, put_other, put_one}
 use Rattle.foyer_model.proofs.Invariant.{Ground, ground_of, InPages, Spares, WritesSpare, IsSolid, IsGood, writing_in, line_of, ReadStateHolds, IsPromised, LoadOk, AreLeft, AllWell, WritesFit, WritingOk, FlusherInvariant, WorldInvariant, one_owner}
 use Rattle.foyer_model.proofs.GoodAddresses.{good_writes, read_ended, good_ended, slot_lift, load_lift}
 

@@ -6,7 +6,7 @@ use Rattle.foyer_model.specs.State.{State}
 use Rattle.foyer_model.specs.Rules.{Rules, Splitting}
 use Rattle.foyer_model.specs.Step.{ReadResult, Bytes, Fault, Age, Ticket}
 use Rattle.foyer_model.specs.Reply.{Entry}
-use Rattle.foyer_model.specs.Layout.{read}
+use Rattle.foyer_layout.specs.BlockBytes.{read}
 use Rattle.foyer_model.specs.Load.{judged, Judges, Ends}
 use Rattle.foyer_model.specs.Event.{Put}
 use Rattle.foyer_model.specs.Access.{ReadDone, Load}

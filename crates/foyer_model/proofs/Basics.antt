@@ -3,8 +3,6 @@ use Rattle.std.proofs.Common.{◌≡◌, ℕ, zero, suc, ◌+◌, ◌<◌, ◌�
 use Rattle.std.proofs.lemmas.Bool.{eqb-true, eqb-false}
 use Rattle.std.proofs.lemmas.Bool.Decides.{nat_tests}
 use Rattle.foyer_model.specs.Numbers.{put}
-use Rattle.foyer_model.specs.Position.{Write}
-use Rattle.foyer_model.specs.Layout.{read, IsBeside}
 
 -- what holds of the new value at k, and of the old ones elsewhere, holds of the map with it
 pub put_at : {A : Type 0} (P : A → Type 0) (m : ℕ → A) (k : ℕ) (v : A) (q : ℕ) → (q ≡ k → P v) → ((q ≡ k → ⊥) → P (m q)) → P (put m k v q)
@@ -58,23 +56,6 @@ ascends_at_least low [] high h = tt
 ascends_at_least low (x ∷ xs) high h =
     let a : low ≤ x = h.0 in (h.0, at_least_less low (x + 1) xs (omega arith) (ascends_at_least (x + 1) xs high h.1))
 
--- a read sees only its range
-pub read_same : (g k : ℕ → ℕ) (o n : ℕ) → ((i : ℕ) → o ≤ i → i < o + n → g i ≡ k i) → read g o n ≡ read k o n
-read_same g k o zero h = refl
-read_same g k o (suc n) h =
-    let here : g o ≡ k o = h o (omega arith) (omega arith) in
-    let there : read g (o + 1) n ≡ read k (o + 1) n = read_same g k (o + 1) n (λ i l m. h i (omega arith) (omega arith)) in
-    cc
-
-pub take_read : (bs : List ℕ) (g : ℕ → ℕ) (o n : ℕ) → n ≤ length bs → ((i : ℕ) → i < length bs → slice_index bs i ≡ g (o + i)) → take n bs ≡ read g o n
-take_read bs g o zero l h = refl
-take_read [] g o (suc n) l h = absurd (omega arith)
-take_read (b ∷ bs) g o (suc n) l h =
-    let zero_there : o + 0 ≡ o = omega arith in
-    let here : b ≡ g o = h 0 (omega arith) ∙ ap g zero_there in
-    let there : take n bs ≡ read g (o + 1) n = take_read bs g (o + 1) n (omega arith) (λ i m. let e : o + suc i ≡ o + 1 + i = omega arith in h (suc i) (omega arith) ∙ ap g e) in
-    cc
-
 -- one place of a map changes, and each place keeps its fact
 pub put_one : {A : Type 0} (P : ℕ → A → Type 0) (m : ℕ → A) (k : ℕ) (v : A) → P k v → ((q : ℕ) → (q ≡ k → ⊥) → P q (m q)) → (q : ℕ) → P q (put m k v q)
 put_one P m k v here others q = put_at (P q) m k v q (λ e. subst (λ i. P i v) (sym e) here) (λ ne. others q ne)
@@ -86,12 +67,3 @@ put_both {A} {B} P m n k v u here others q = go (q == k) refl
     go : (b : Bool) → (q == k) ≡ b → P q (if b then v else m q) (if b then u else n q)
     go true e = subst (λ i. P i v u) (sym (eqb-true q k e)) here
     go false e = others q (eqb-false q k e)
-
-pub beside_or : (w : Write) (o : ℕ) → IsBeside w o ⊎ (IsBeside w o → ⊥)
-beside_or w o = go (nat_lt o w.offset) refl (nat_le (w.offset + length w.bytes) o) refl
-  where
-    go : (a : Bool) → nat_lt o w.offset ≡ a → (b : Bool) → nat_le (w.offset + length w.bytes) o ≡ b → IsBeside w o ⊎ (IsBeside w o → ⊥)
-    go true e b f = inl (inl (grind (arith, nat_tests)))
-    go false e true f = inl (inr (grind (arith, nat_tests)))
-    go false e false f =
-        inr (λ h. elim h [ inl l ↦ grind (arith, nat_tests) | inr r ↦ grind (arith, nat_tests) ])

@@ -11,7 +11,8 @@ use Rattle.foyer_model.specs.Commit.{address_of, taken_in, is_put, committed_one
 use Rattle.foyer_model.specs.Event.{Event, Put, Deletion, sequence_in, newest, outcome_in, put_event, with_puts}
 use Rattle.foyer_model.specs.Access.{BlockWrites}
 use Rattle.foyer_model.proofs.Basics.{put_at, put_other, Ascends, ascends_span, ascends_from, AllAtLeast, ascends_at_least}
-use Rattle.foyer_model.proofs.Invariant.{Ground, Each, IsGood, put_in, puts_onto, queue_puts, batch_records, line_of, AtLeast, SlotOk, sequences, queue_sequences, IsOrdered, SourceOk, RecordOk, IsFaithful}
+use Rattle.foyer_layout.specs.Each.{Each}
+use Rattle.foyer_model.proofs.Invariant.{Ground, IsGood, put_in, puts_onto, queue_puts, batch_records, line_of, AtLeast, SlotOk, sequences, queue_sequences, IsOrdered, SourceOk, RecordOk, IsFaithful}
 use Rattle.foyer_model.proofs.GoodAddresses.{slot_lift}
 
 -- the index and the history, record by record
@@ -49,18 +50,6 @@ noted_is {C} b n (p ∷ ps) m H =
         → with_puts (if is_put src slot then p.1 ∷ rest else rest) H ≡ with_puts rest (noted_one p.1 src slot H)
     one (Given c) slot is = ap (λ k. with_puts rest (put_event p.1 k H ∷ H)) is
     one (Reread a) slot is = again a (Reread a) is refl (holds a slot)
-
-pub each_drop : {A : Type 0} (P : A → Type 0) (xs ys : List A) → Each P (xs ++ ys) → Each P ys
-each_drop P [] ys h = h
-each_drop P (x ∷ xs) ys h = each_drop P xs ys h.1
-
-pub each_join : {A : Type 0} (P : A → Type 0) (xs ys : List A) → Each P xs → Each P ys → Each P (xs ++ ys)
-each_join P [] ys h k = k
-each_join P (x ∷ xs) ys h k = (h.0, each_join P xs ys h.1 k)
-
-pub each_front : {A : Type 0} (P : A → Type 0) (xs ys : List A) → Each P (xs ++ ys) → Each P xs
-each_front P [] ys h = tt
-each_front P (x ∷ xs) ys h = (h.0, each_front P xs ys h.1)
 
 -- newest
 

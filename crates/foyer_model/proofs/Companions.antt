@@ -1,7 +1,8 @@
 -- What one step with its reply says.
 use Rattle.std.proofs.Common.{◌≡◌, ℕ, ◌+◌, Bool, true, false, if◌then◌else◌, List, [], ◌∷◌, length, Option, Some, None, inl, inr, refl, sym, ap, ◌∙◌}
 use Rattle.foyer_model.specs.Record.{Slot, Source, Given, Reread, Record}
-use Rattle.foyer_model.specs.Position.{Write, BlockLayout}
+use Rattle.foyer_layout.specs.BlockBytes.{Write}
+use Rattle.foyer_model.specs.Position.{BlockLayout}
 use Rattle.foyer_model.specs.State.{Submission, Piece, Remove, Await, Reinsert, Writing, Batch, State}
 use Rattle.foyer_model.specs.Rules.{Rules, Splitting}
 use Rattle.foyer_model.specs.Step.{FlushWrote}

@@ -2,17 +2,21 @@
 use Rattle.std.proofs.Common.{◌≡◌, ℕ, ◌≤◌, Bool, true, false, List, [], ◌∷◌, ◌++◌, map, Option, Some, None, refl, sym, ap, subst, ◌∙◌}
 use Rattle.foyer_model.specs.Numbers.{put}
 use Rattle.foyer_model.specs.Record.{Address, Outcome, Record}
-use Rattle.foyer_model.specs.Position.{Position, Write, BlockLayout, records_in, records_of, last_end}
+use Rattle.foyer_layout.specs.BlockBytes.{Write, all_laid}
+use Rattle.foyer_model.specs.Position.{Position, BlockLayout, records_in, records_of, last_end}
 use Rattle.foyer_model.specs.State.{Writing, Batch, Flusher, BlockSet, Writes}
 use Rattle.foyer_model.specs.Rules.{Rules, first_position}
-use Rattle.foyer_model.specs.Layout.{MayWrite, all_laid, AllStand, AllOutside, AllBehind, writes_in, KeepsBlocks}
+use Rattle.foyer_layout.specs.Position.{MayWrite}
+use Rattle.foyer_model.specs.Layout.{AllStand, AllOutside, AllBehind, writes_in, KeepsBlocks}
 use Rattle.foyer_model.specs.Flush.{released, writing_of}
 use Rattle.foyer_model.specs.Access.{BlockWrites, writes_of}
 use Rattle.foyer_model.specs.World.{World}
 use Rattle.foyer_model.proofs.Basics.{put_at, put_same, put_other, Ascends, put_one, put_both}
-use Rattle.foyer_model.proofs.Invariant.{Ground, ground_of, Each, IsGood, puts_onto, queue_puts, writing_in, placed_in, blocks_in, goes_on_in, line_of, SlotOk, sequences, RecordOk, WritingOk, start_of, FlusherInvariant, WorldInvariant}
+use Rattle.foyer_layout.specs.Each.{Each}
+use Rattle.foyer_model.proofs.Invariant.{Ground, ground_of, IsGood, puts_onto, queue_puts, writing_in, placed_in, blocks_in, goes_on_in, line_of, SlotOk, sequences, RecordOk, WritingOk, start_of, FlusherInvariant, WorldInvariant}
 use Rattle.foyer_model.proofs.GoodAddresses.{slot_lift, load_lift}
-use Rattle.foyer_model.proofs.CommitSteps.{each_drop, ascends_skip}
+use Rattle.foyer_layout.proofs.EachLaws.{each_back}
+use Rattle.foyer_model.proofs.CommitSteps.{ascends_skip}
 use Rattle.foyer_model.proofs.FlushEnds.{put_self, puts_skip, released_other, flushed, leaves}
 
 module _ {C : Type 0} (rules : Rules C) where
@@ -105,7 +109,7 @@ module _ {C : Type 0} (rules : Rules C) where
                 marks = t.order.marks;
                 queue = t.order.queue;
               };
-              batch = records_issued (Each (RecordOk rules f)) b (writes_in rules s.parts) (records_in s.parts) (records_of rest) (each_drop (RecordOk rules f)) t.batch;
+              batch = records_issued (Each (RecordOk rules f)) b (writes_in rules s.parts) (records_in s.parts) (records_of rest) (each_back (RecordOk rules f)) t.batch;
               batch_marks = t.batch_marks;
               buffer = t.buffer;
               marks = t.marks;

@@ -3,20 +3,24 @@ use Rattle.std.proofs.Common.{◌≡◌, ℕ, ◌<◌, ◌≤◌, Bool, true, fa
 use mathlib.Core.Path.{fun_ext}
 use Rattle.foyer_model.specs.Numbers.{put}
 use Rattle.foyer_model.specs.Record.{Address, Slot, Outcome, Record}
-use Rattle.foyer_model.specs.Position.{Position, Write, records_of}
+use Rattle.foyer_layout.specs.BlockBytes.{Write, all_laid}
+use Rattle.foyer_model.specs.Position.{Position, records_of}
 use Rattle.foyer_model.specs.State.{Writing, Batch, Flusher, BlockSet, Writes, Evictable}
 use Rattle.foyer_model.specs.Rules.{Rules, flusher_of, first_position}
 use Rattle.foyer_model.specs.Index.{unmarked}
-use Rattle.foyer_model.specs.Layout.{MayWrite, all_laid, AllStand, AllOutside, AllBehind}
+use Rattle.foyer_layout.specs.Position.{MayWrite}
+use Rattle.foyer_model.specs.Layout.{AllStand, AllOutside, AllBehind}
 use Rattle.foyer_model.specs.Commit.{address_of}
 use Rattle.foyer_model.specs.Flush.{released}
 use Rattle.foyer_model.specs.Event.{Event, sequence_in, newest}
 use Rattle.foyer_model.specs.Access.{BlockWrites, Idle, Issued, InFlight, writes_reported, result_of}
 use Rattle.foyer_model.specs.World.{World}
 use Rattle.foyer_model.proofs.Basics.{put_at, Ascends, ascends_span, ascends_to, ascends_at_least, put_one, put_both}
-use Rattle.foyer_model.proofs.Invariant.{Ground, ground_of, Each, WritesSpare, IsGood, puts_onto, queue_puts, writing_in, line_of, SlotOk, sequences, queue_sequences, RecordOk, AreLeft, AllWell, WritesFit, WritingOk, FlusherInvariant, WorldInvariant, one_owner, tended_place}
+use Rattle.foyer_layout.specs.Each.{Each}
+use Rattle.foyer_model.proofs.Invariant.{Ground, ground_of, WritesSpare, IsGood, puts_onto, queue_puts, writing_in, line_of, SlotOk, sequences, queue_sequences, RecordOk, AreLeft, AllWell, WritesFit, WritingOk, FlusherInvariant, WorldInvariant, one_owner, tended_place}
 use Rattle.foyer_model.proofs.GoodAddresses.{good_writes, slot_lift, load_lift}
-use Rattle.foyer_model.proofs.CommitSteps.{committed, noted, each_drop, each_front, each_past, onto_append, ascends_skip, ascends_first, ascends_join, ascends_puts, line_ascends, Brings, commits, commits_other, noted_below, unmarks, unmarks_other}
+use Rattle.foyer_layout.proofs.EachLaws.{each_back, each_front}
+use Rattle.foyer_model.proofs.CommitSteps.{committed, noted, each_past, onto_append, ascends_skip, ascends_first, ascends_join, ascends_puts, line_ascends, Brings, commits, commits_other, noted_below, unmarks, unmarks_other}
 
 pub put_self : {A : Type 0} (m : ℕ → A) (k : ℕ) → put m k (m k) ≡ m
 put_self m k = fun_ext (λ q. put_at (λ x. x ≡ m q) m k (m k) q (λ e. ap m (sym e)) (λ _. refl))
@@ -286,7 +290,7 @@ module _ {C : Type 0} (rules : Rules C) where
           marks = t.order.marks;
           queue = t.order.queue;
         };
-        batch = each_drop (RecordOk rules f) (map (λ p. p.1) r.records) (records_of batch.blocks) t.batch;
+        batch = each_back (RecordOk rules f) (map (λ p. p.1) r.records) (records_of batch.blocks) t.batch;
         batch_marks = t.batch_marks;
         buffer = t.buffer;
         marks = t.marks;

@@ -12,7 +12,8 @@ use Rattle.foyer_model.specs.Event.{Event, Put, Deletion, sequence_in, newest, o
 use Rattle.foyer_model.specs.Kept.{with_kept, unless}
 use Rattle.foyer_model.specs.Access.{BlockWrites}
 use Rattle.foyer_model.proofs.Basics.{put_at, put_same, put_other, Ascends}
-use Rattle.foyer_model.proofs.Invariant.{Ground, Each, IsGood, put_in, puts_onto, SlotOk, sequences, SourceOk, RecordOk}
+use Rattle.foyer_layout.specs.Each.{Each}
+use Rattle.foyer_model.proofs.Invariant.{Ground, IsGood, put_in, puts_onto, SlotOk, sequences, SourceOk, RecordOk}
 use Rattle.foyer_model.proofs.CommitSteps.{committed, noted_one, noted, newest_kept, newest_del, newest_del_other, Brings, other_newest, all_bring, put_next, commits}
 use Rattle.foyer_model.proofs.Rereads.{AllHere}
 

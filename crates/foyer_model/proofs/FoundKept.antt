@@ -4,13 +4,13 @@ use Rattle.std.proofs.lemmas.Bool.{eqb-true, eqb-false}
 use Rattle.foyer_model.specs.Kind.{Kind}
 use Rattle.foyer_model.specs.Numbers.{put}
 use Rattle.foyer_model.specs.Record.{Address, Slot, Indexed, Mark, Outcome, NoRecord, Holds, IndexEntry, Source, Given, Reread, Record}
-use Rattle.foyer_model.specs.Position.{Write, records_of}
+use Rattle.foyer_layout.specs.BlockBytes.{Write, read}
+use Rattle.foyer_model.specs.Position.{records_of}
 use Rattle.foyer_model.specs.State.{Submission, Piece, Remove, Await, Reinsert, Writing, Batch, Flusher, BlockSet, Clean, Writes, Evictable, Reclaims, Stage, AtIndex, AtRecord, Reclaim, Destroy, NoDestroy, Begun, Cleaning, State}
 use Rattle.foyer_model.specs.Rules.{Rules, flusher_of, Splitting}
 use Rattle.foyer_model.specs.Step.{ReadResult, Bytes, Fault, Age, Ticket, Step, Enqueue, Delete, Wait, MayContains, LoadBegin, LoadEnd, Receive, FlushBegin, FlushBlock, FlushWrote, LogWrote, FlushEnd, ReclaimBegin, ReclaimRead, ReclaimForget, ReclaimCleaned, ReclaimIdle, DestroyBegin, DestroyClear, DestroyCleaned, Close}
 use Rattle.foyer_model.specs.Reply.{Reply, NotNow, Refused, Ignored, Queued, Deleted, Done, Miss, Throttled, Read, Entry, Empty, Received, Began, Written, NoBlock, Next, Committed, Failed, Ended, Picked, Cleans, Destroying, Cleared}
 use Rattle.foyer_model.specs.Index.{is_same, holds, inserted, without}
-use Rattle.foyer_model.specs.Layout.{read}
 use Rattle.foyer_model.specs.Commit.{address_of, committed_one}
 use Rattle.foyer_model.specs.Queue.{invalidated_by, queued, Enqueues, Deletes, Waits}
 use Rattle.foyer_model.specs.Load.{Looks, judged, Judges, Ends}
@@ -28,9 +28,11 @@ use Rattle.foyer_model.specs.World.{World, WorldEvent, Applies, ReadBegins, Read
 use Rattle.foyer_model.specs.Opened.{slot_among, block_among, is_clean, IsOpened}
 use Rattle.foyer_model.specs.Laws.{Demands}
 use Rattle.foyer_model.proofs.Basics.{put_at, Ascends}
-use Rattle.foyer_model.proofs.Invariant.{ground_of, Each, IsGood, puts_onto, queue_puts, writing_in, batch_records, line_of, SlotOk, ReadStateHolds, IsPromised, LoadOk, sequences, RecordOk, WritingOk, FlusherInvariant, WorldInvariant, RecordWaits}
+use Rattle.foyer_layout.specs.Each.{Each}
+use Rattle.foyer_model.proofs.Invariant.{ground_of, IsGood, puts_onto, queue_puts, writing_in, batch_records, line_of, SlotOk, ReadStateHolds, IsPromised, LoadOk, sequences, RecordOk, WritingOk, FlusherInvariant, WorldInvariant, RecordWaits}
 use Rattle.foyer_model.proofs.GoodAddresses.{good_writes, slot_lift}
-use Rattle.foyer_model.proofs.CommitSteps.{committed, noted, committed_is, noted_is, each_front, onto_append, line_ascends, same_address, Brings}
+use Rattle.foyer_layout.proofs.EachLaws.{each_front}
+use Rattle.foyer_model.proofs.CommitSteps.{committed, noted, committed_is, noted_is, onto_append, line_ascends, same_address, Brings}
 use Rattle.foyer_model.proofs.LoadSteps.{mark_enters}
 use Rattle.foyer_model.proofs.FlushEnds.{last_stands, all_good}
 use Rattle.foyer_model.proofs.FlushBlocks.{issued}

@@ -3,13 +3,17 @@ use Rattle.std.proofs.Common.{◌≡◌, ℕ, ◌+◌, ◌-◌, ◌≤◌, nat_l
 use Rattle.std.proofs.lemmas.Bool.Decides.{nat_tests}
 use Rattle.foyer_model.specs.Numbers.{put}
 use Rattle.foyer_model.specs.Record.{Address, Slot, Indexed, Mark, Outcome}
-use Rattle.foyer_model.specs.Position.{Write, BlockLayout}
+use Rattle.foyer_layout.specs.BlockBytes.{Write, laid, read, IsBeside, AllWithin}
+use Rattle.foyer_model.specs.Position.{BlockLayout}
 use Rattle.foyer_model.specs.Rules.{Rules}
-use Rattle.foyer_model.specs.Layout.{MayWrite, laid, read, IsBeside, AllWithin, writes_in, KeepsBlock}
+use Rattle.foyer_layout.specs.Position.{MayWrite}
+use Rattle.foyer_model.specs.Layout.{writes_in, KeepsBlock}
 use Rattle.foyer_model.specs.Event.{Event, sequence_in, newest}
 use Rattle.foyer_model.specs.Access.{BlockWrites, Idle, Issued, InFlight, Load, writes_of, writes_ended, bytes_ended, IsTorn}
-use Rattle.foyer_model.proofs.Basics.{put_at, read_same, put_one, beside_or}
-use Rattle.foyer_model.proofs.Invariant.{Ground, Each, InPages, Spares, WritesSpare, IsSolid, IsGood, AtLeast, SlotOk, ReadStateHolds, IsPromised, LoadOk}
+use Rattle.foyer_layout.proofs.BlockBytesLaws.{read_same, beside_or, laid_beside}
+use Rattle.foyer_model.proofs.Basics.{put_at, put_one}
+use Rattle.foyer_layout.specs.Each.{Each}
+use Rattle.foyer_model.proofs.Invariant.{Ground, InPages, Spares, WritesSpare, IsSolid, IsGood, AtLeast, SlotOk, ReadStateHolds, IsPromised, LoadOk}
 
 module _ {C : Type 0} (rules : Rules C) where
   -- writes that spare what they spared
@@ -89,15 +93,6 @@ module _ {C : Type 0} (rules : Rules C) where
           }
 
   -- a write ends, well or not
-  pub laid_beside : (w : Write) (g : ℕ → ℕ) (o : ℕ) → IsBeside w o → laid w g o ≡ g o
-  laid_beside w g o beside = go (nat_le w.offset o) refl (nat_lt o (w.offset + length w.bytes)) refl
-    where
-      go : (p : Bool) → nat_le w.offset o ≡ p → (q : Bool) → nat_lt o (w.offset + length w.bytes) ≡ q
-          → (if p && q then slice_index w.bytes (o - w.offset) else g o) ≡ g o
-      go true e true f = absurd (elim beside [ inl l ↦ grind (arith, nat_tests) | inr r ↦ grind (arith, nat_tests) ])
-      go true e false f = refl
-      go false e q f = refl
-
   pub ended_same : (bytes : ℕ → ℕ → ℕ) (pending : BlockWrites) (ok : Bool) (g : ℕ → ℕ) (a : Address) → IsTorn bytes pending g → WritesSpare rules a pending
       → (o : ℕ) → InPages rules a o → bytes_ended ok g pending bytes a.block o ≡ bytes a.block o
   ended_same bytes Idle ok g a torn spares o inside = refl

@@ -2,15 +2,17 @@
 use Rattle.std.proofs.Common.{◌≡◌, ◌≢◌, ℕ, ◌+◌, ◌<◌, ◌≤◌, Bool, true, false, List, [], ◌∷◌, ◌++◌, map, take, Option, Some, None}
 use Rattle.foyer_model.specs.Numbers.{page}
 use Rattle.foyer_model.specs.Record.{Address, Slot, Indexed, Mark, Outcome, Holds, Source, Given, Reread, Record}
-use Rattle.foyer_model.specs.Position.{Position, Write, BlockLayout, records_of, last_end}
+use Rattle.foyer_layout.specs.BlockBytes.{Write, laid, all_laid, read, IsBeside}
+use Rattle.foyer_model.specs.Position.{Position, BlockLayout, records_of, last_end}
 use Rattle.foyer_model.specs.State.{Submission, Piece, Remove, Await, Reinsert, Writing, Batch, Flusher, BlockSet, Writes}
 use Rattle.foyer_model.specs.Rules.{Rules, flusher_of, first_position}
 use Rattle.foyer_model.specs.Step.{Bytes, Fault}
-use Rattle.foyer_model.specs.Layout.{MayWrite, laid, all_laid, read, AllStand, IsBeside, AllOutside, AllBehind, KeepsBlocks}
+use Rattle.foyer_layout.specs.Position.{MayWrite}
+use Rattle.foyer_model.specs.Layout.{AllStand, AllOutside, AllBehind, KeepsBlocks}
 use Rattle.foyer_model.specs.Event.{Event, Put, Deletion, sequence_in, newest}
 use Rattle.foyer_model.specs.Access.{BlockWrites, Idle, Issued, InFlight, ReadState, ReadIssued, Reading, ReadDone, Load}
 use Rattle.foyer_model.specs.World.{World, covers}
-pub use Rattle.foyer_model.specs.Widths.{Each}
+use Rattle.foyer_layout.specs.Each.{Each}
 use Rattle.foyer_model.proofs.Basics.{Ascends}
 
 -- what the invariant sees of a world

@@ -7,7 +7,7 @@ use Rattle.foyer_model.specs.State.{State}
 use Rattle.foyer_model.specs.Rules.{Rules, Splitting}
 use Rattle.foyer_model.specs.Step.{ReadResult, Bytes, Fault, Ticket, LoadBegin, LoadEnd}
 use Rattle.foyer_model.specs.Reply.{Kind, Io, Memory, Parse, Closed, Unsupported, SequenceEnd, Reply, NotNow, Refused, Miss, Throttled, Read, Entry}
-use Rattle.foyer_model.specs.Layout.{read}
+use Rattle.foyer_layout.specs.BlockBytes.{read}
 use Rattle.foyer_model.specs.Load.{judged, Judges, IsDecoded}
 use Rattle.foyer_model.specs.InTurn.{InTurn}
 use Rattle.foyer_model.specs.Refusal.{MayRefuse}

@@ -7,9 +7,11 @@ use Rattle.foyer_model.specs.Event.{sequence_in, newest}
 use Rattle.foyer_model.specs.Access.{BlockWrites}
 use Rattle.foyer_model.specs.World.{World}
 use Rattle.foyer_model.proofs.Basics.{put_at, Ascends, ascends_to, put_one}
-use Rattle.foyer_model.proofs.Invariant.{Ground, ground_of, Each, puts_onto, queue_puts, batch_records, line_of, AtLeast, SlotOk, sequences, queue_sequences, IsOrdered, SubmissionOk, FlusherInvariant, WorldInvariant}
+use Rattle.foyer_layout.specs.Each.{Each}
+use Rattle.foyer_model.proofs.Invariant.{Ground, ground_of, puts_onto, queue_puts, batch_records, line_of, AtLeast, SlotOk, sequences, queue_sequences, IsOrdered, SubmissionOk, FlusherInvariant, WorldInvariant}
 use Rattle.foyer_model.proofs.GoodAddresses.{slot_lift}
-use Rattle.foyer_model.proofs.CommitSteps.{each_join, each_onto}
+use Rattle.foyer_layout.proofs.EachLaws.{each_join}
+use Rattle.foyer_model.proofs.CommitSteps.{each_onto}
 
 pub ordered_next : {C : Type 0} (n m : ℕ) (φ : Flusher C) → n ≤ m → IsOrdered n φ → IsOrdered m φ
 ordered_next n m φ le o =

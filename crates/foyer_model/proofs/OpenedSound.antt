@@ -6,7 +6,8 @@ use Rattle.foyer_model.specs.Ids.{ids, is_id_in, AreDistinct}
 use Rattle.foyer_model.specs.Record.{Address, Slot, Indexed, Mark, Outcome}
 use Rattle.foyer_model.specs.State.{BlockSet, Clean, Writes, Evictable, Reclaims, State}
 use Rattle.foyer_model.specs.Rules.{Rules}
-use Rattle.foyer_model.specs.Layout.{MayWrite, read}
+use Rattle.foyer_layout.specs.Position.{MayWrite}
+use Rattle.foyer_layout.specs.BlockBytes.{read}
 use Rattle.foyer_model.specs.Event.{Event, Put, sequence_in, newest}
 use Rattle.foyer_model.specs.World.{World}
 use Rattle.foyer_model.specs.Opened.{slot_among, recovered, IsAlone, IsFound, AllFound, is_clean, clean_among, IsOpened}

@@ -6,7 +6,7 @@ use Rattle.foyer_model.specs.State.{State}
 use Rattle.foyer_model.specs.Rules.{Rules, Splitting}
 use Rattle.foyer_model.specs.Step.{Ticket, Step, LoadBegin}
 use Rattle.foyer_model.specs.Reply.{Reply, Read, Picked, Cleared}
-use Rattle.foyer_model.specs.Layout.{read}
+use Rattle.foyer_layout.specs.BlockBytes.{read}
 use Rattle.foyer_model.specs.Load.{Looks}
 use Rattle.foyer_model.specs.Event.{Event, Put, newest}
 use Rattle.foyer_model.specs.Kept.{unless}

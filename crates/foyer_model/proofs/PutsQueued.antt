@@ -13,7 +13,7 @@ use Rattle.foyer_model.specs.Event.{Event, Put, Deletion, Destruction, events_of
 use Rattle.foyer_model.specs.Access.{came}
 use Rattle.foyer_model.specs.World.{World, WorldEvent, Applies, ReadBegins, ReadEnds, ScanBegins, ScanEnds, WriteBegins, WriteEnds, CleanBegins, CleanEnds, after, after_all, MayHappen, MayAllHappen}
 use Rattle.foyer_model.specs.Laws.{Demands, WasQueued, IsAmong, PutsAreQueued}
-use Rattle.foyer_model.proofs.Invariant.{Each}
+use Rattle.foyer_layout.specs.Each.{Each}
 use Rattle.foyer_model.proofs.RereadsKept.{new_again}
 use Rattle.foyer_model.proofs.SoundKept.{IsKnown, known_keeps}
 use Rattle.foyer_model.proofs.OpenedSound.{new_sound, new_sets}

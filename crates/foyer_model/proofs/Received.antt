@@ -9,13 +9,11 @@ use Rattle.foyer_model.specs.Layout.{KeepsBlocks, KeepsBatch}
 use Rattle.foyer_model.specs.Flush.{is_some}
 use Rattle.foyer_model.specs.World.{World}
 use Rattle.foyer_model.proofs.Basics.{Ascends, ascends_from, ascends_to}
-use Rattle.foyer_model.proofs.Invariant.{Each, puts_onto, queue_puts, batch_records, AtLeast, sequences, queue_sequences, RecordOk, start_of, WorldInvariant}
-use Rattle.foyer_model.proofs.CommitSteps.{each_join, each_onto, onto_append, ascends_last}
+use Rattle.foyer_layout.specs.Each.{Each}
+use Rattle.foyer_model.proofs.Invariant.{puts_onto, queue_puts, batch_records, AtLeast, sequences, queue_sequences, RecordOk, start_of, WorldInvariant}
+use Rattle.foyer_layout.proofs.EachLaws.{each_join, each_weaker}
+use Rattle.foyer_model.proofs.CommitSteps.{each_onto, onto_append, ascends_last}
 use Rattle.foyer_model.proofs.OneFlusher.{one_turned}
-
-pub each_weaker : {A : Type 0} (P Q : A → Type 0) (xs : List A) → ((x : A) → P x → Q x) → Each P xs → Each Q xs
-each_weaker P Q [] f h = tt
-each_weaker P Q (x ∷ xs) f h = (f x h.0, each_weaker P Q xs f h.1)
 
 pub marks_below : (n m : ℕ) (ps : List (ℕ × ℕ)) → n ≤ m → Each (λ p. p.1 < n) ps → Each (λ p. p.1 < m) ps
 marks_below n m ps le = each_weaker (λ p. p.1 < n) (λ p. p.1 < m) ps (λ p lt. omega arith)

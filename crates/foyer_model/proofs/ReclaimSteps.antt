@@ -6,7 +6,7 @@ use Rattle.foyer_model.specs.Record.{Address, Outcome}
 use Rattle.foyer_model.specs.State.{Flusher, BlockSet, Writes, Reclaims}
 use Rattle.foyer_model.specs.Rules.{Rules, flusher_of, first_position}
 use Rattle.foyer_model.specs.Index.{without, forgotten}
-use Rattle.foyer_model.specs.Layout.{MayWrite}
+use Rattle.foyer_layout.specs.Position.{MayWrite}
 use Rattle.foyer_model.specs.Destroy.{vacated, refilled}
 use Rattle.foyer_model.specs.Event.{Destruction, sequence_in, newest}
 use Rattle.foyer_model.specs.World.{World}

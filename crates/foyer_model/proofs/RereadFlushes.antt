@@ -19,9 +19,10 @@ use Rattle.foyer_model.specs.Access.{Idle, came}
 use Rattle.foyer_model.specs.World.{World, Applies, after}
 use Rattle.foyer_model.specs.Opened.{is_clean}
 use Rattle.foyer_model.proofs.Basics.{put_at, put_other, put_both}
-use Rattle.foyer_model.proofs.Invariant.{ground_of, Each, writing_in, batch_records, WritingOk, WorldInvariant, IsBarred, SourceWaits, RecordWaits, SubmissionWaits, AllWait}
-use Rattle.foyer_model.proofs.CommitSteps.{committed, noted, committed_is, noted_is, each_drop, each_join, newest_del_other, SourceBrings, Brings, all_faithful}
-use Rattle.foyer_model.proofs.Received.{each_weaker}
+use Rattle.foyer_layout.specs.Each.{Each}
+use Rattle.foyer_model.proofs.Invariant.{ground_of, writing_in, batch_records, WritingOk, WorldInvariant, IsBarred, SourceWaits, RecordWaits, SubmissionWaits, AllWait}
+use Rattle.foyer_layout.proofs.EachLaws.{each_back, each_join, each_weaker}
+use Rattle.foyer_model.proofs.CommitSteps.{committed, noted, committed_is, noted_is, newest_del_other, SourceBrings, Brings, all_faithful}
 use Rattle.foyer_model.proofs.LoadSteps.{mark_enters}
 use Rattle.foyer_model.proofs.FlushBlocks.{records_issued}
 use Rattle.foyer_model.proofs.Rereads.{IsAgainIn, still_of, IsAgain, without_stays, put_stays, unmarked_stays, committed_stays, drifted, removed, one_waits}
@@ -181,7 +182,7 @@ module _ {C : Type 0} (rules : Rules C) where
       on : IsAgainIn rules w.core.index w.history (still_of rules w) w.core.place
           (put w.core.flushers f (record (w.core.flushers f) { own = Some b; ready = None; batch = Some (record batch { blocks = rest; continues_own_block = false; writing = writing_of b (writes_in rules s.parts) (records_in s.parts) }) })) w.core.reclaims w.scans
       on = turn_wait w f (record (w.core.flushers f) { own = Some b; ready = None; batch = Some (record batch { blocks = rest; continues_own_block = false; writing = writing_of b (writes_in rules s.parts) (records_in s.parts) }) }) (λ t. record {
-        batch = records_issued rules (Each (RecordWaits rules w.core.index w.history w.core.place w.core.filling)) b (writes_in rules s.parts) (records_in s.parts) (records_of rest) (each_drop (RecordWaits rules w.core.index w.history w.core.place w.core.filling))
+        batch = records_issued rules (Each (RecordWaits rules w.core.index w.history w.core.place w.core.filling)) b (writes_in rules s.parts) (records_in s.parts) (records_of rest) (each_back (RecordWaits rules w.core.index w.history w.core.place w.core.filling))
             (subst (λ k. Each (RecordWaits rules w.core.index w.history w.core.place w.core.filling) (batch_records k)) whole t.batch);
         buffer = t.buffer;
         queue = t.queue;
@@ -214,7 +215,7 @@ module _ {C : Type 0} (rules : Rules C) where
       (λ h a barred. committed_stays rules r.block (w.core.filling r.block) r.records w.core.index h a (apart a barred))
       (λ a barred. barred) (λ b r _ at. (at, refl)) (λ b. refl)
       (turn_wait w f (record (w.core.flushers f) { batch = Some (record batch { writing = None }) }) (λ t. record {
-        batch = each_drop (RecordWaits rules w.core.index w.history w.core.place w.core.filling) (map (λ p. p.1) r.records) (records_of batch.blocks)
+        batch = each_back (RecordWaits rules w.core.index w.history w.core.place w.core.filling) (map (λ p. p.1) r.records) (records_of batch.blocks)
             (subst (λ k. Each (RecordWaits rules w.core.index w.history w.core.place w.core.filling) (batch_records k)) whole t.batch);
         buffer = t.buffer;
         queue = t.queue;

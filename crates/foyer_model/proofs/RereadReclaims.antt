@@ -8,7 +8,7 @@ use Rattle.foyer_model.specs.Rules.{Rules, flusher_of, first_position}
 use Rattle.foyer_model.specs.Step.{ReadResult, Bytes, Fault, ReclaimBegin, ReclaimRead, ReclaimForget, ReclaimCleaned, DestroyBegin, DestroyClear}
 use Rattle.foyer_model.specs.Reply.{Reply, Done, Picked, Listed, Cleans, Destroying, Cleared}
 use Rattle.foyer_model.specs.Index.{forgotten}
-use Rattle.foyer_model.specs.Layout.{read}
+use Rattle.foyer_layout.specs.BlockBytes.{read}
 use Rattle.foyer_model.specs.Reclaim.{not_among, addresses, admitted, place_behind, Picks, stage_after, issued_at, reclaiming, Lists, Rereads, Forgets, Cleaned}
 use Rattle.foyer_model.specs.Destroy.{vacated, refilled, BeginsDestroy, Clears, CleansOne}
 use Rattle.foyer_model.specs.InTurn.{MayClear}
@@ -17,7 +17,7 @@ use Rattle.foyer_model.specs.Access.{ReadIssued, Scan, scans_after, came}
 use Rattle.foyer_model.specs.World.{World, Applies, IsBrought, after}
 use Rattle.foyer_model.proofs.Basics.{put_at, put_same, put_other, put_both}
 use Rattle.foyer_model.proofs.Invariant.{Ground, ground_of, IsSolid, ReadStateHolds, WorldInvariant, AllWait}
-use Rattle.foyer_model.proofs.CommitSteps.{each_join}
+use Rattle.foyer_layout.proofs.EachLaws.{each_join}
 use Rattle.foyer_model.proofs.FlushEnds.{failed}
 use Rattle.foyer_model.proofs.FlushBlocks.{issued}
 use Rattle.foyer_model.proofs.ReclaimSteps.{plus_one}

@@ -6,15 +6,16 @@ use Rattle.foyer_model.specs.State.{Submission, Piece, Remove, Await, Reinsert, 
 use Rattle.foyer_model.specs.Rules.{Rules, flusher_of, first_position}
 use Rattle.foyer_model.specs.Step.{Bytes, Fault}
 use Rattle.foyer_model.specs.Index.{is_same, holds, without, forgotten, without_mark, unmarked}
-use Rattle.foyer_model.specs.Layout.{read}
+use Rattle.foyer_layout.specs.BlockBytes.{read}
 use Rattle.foyer_model.specs.Commit.{address_of, taken_in, committed_one}
 use Rattle.foyer_model.specs.Event.{Event, Put, newest}
 use Rattle.foyer_model.specs.Access.{ReadState, ReadIssued, Reading, ReadDone, Scan, at_scan}
 use Rattle.foyer_model.specs.World.{World}
 use Rattle.foyer_model.proofs.Basics.{put_at, put_one}
-use Rattle.foyer_model.proofs.Invariant.{Ground, ground_of, Each, IsSolid, batch_records, line_of, SlotOk, ReadStateHolds, WorldInvariant, IsBarred, IsFaithful, SourceWaits, RecordWaits, SubmissionWaits, AllWait}
+use Rattle.foyer_layout.specs.Each.{Each}
+use Rattle.foyer_model.proofs.Invariant.{Ground, ground_of, IsSolid, batch_records, line_of, SlotOk, ReadStateHolds, WorldInvariant, IsBarred, IsFaithful, SourceWaits, RecordWaits, SubmissionWaits, AllWait}
 use Rattle.foyer_model.proofs.CommitSteps.{committed}
-use Rattle.foyer_model.proofs.Received.{each_weaker}
+use Rattle.foyer_layout.proofs.EachLaws.{each_weaker}
 
 -- addresses of a block in a filling
 abbrev pub AllHere : ℕ → ℕ → List (ℕ × Address) → Type 0

@@ -9,7 +9,8 @@ use Rattle.foyer_model.specs.State.{BlockSet, Destroy, NoDestroy, Begun, Cleanin
 use Rattle.foyer_model.specs.Rules.{Rules, first_position, Splitting}
 use Rattle.foyer_model.specs.Step.{ReadResult, Bytes, Fault, Step, Enqueue, Delete, Wait, MayContains, LoadBegin, LoadEnd, Receive, FlushBegin, FlushBlock, FlushWrote, LogWrote, FlushEnd, ReclaimBegin, ReclaimRead, ReclaimForget, ReclaimCleaned, ReclaimIdle, DestroyBegin, DestroyClear, DestroyCleaned, Close}
 use Rattle.foyer_model.specs.Reply.{Reply, NotNow, Refused, Done, Destroyed}
-use Rattle.foyer_model.specs.Layout.{read, KeepsRecords}
+use Rattle.foyer_layout.specs.BlockBytes.{read}
+use Rattle.foyer_model.specs.Layout.{KeepsRecords}
 use Rattle.foyer_model.specs.Destroy.{issued_after_clean, CleansOne}
 use Rattle.foyer_model.specs.InTurn.{InTurn}
 use Rattle.foyer_model.specs.Changes.{Changes}
@@ -18,7 +19,8 @@ use Rattle.foyer_model.specs.Event.{Event}
 use Rattle.foyer_model.specs.Access.{ReadState, ReadIssued, Reading, ReadDone, Scan, begun, read_torn, came, at_scan, will_cover, bytes_ended, clean_will_cover, bytes_cleaned, IsRead}
 use Rattle.foyer_model.specs.World.{World, WorldEvent, Applies, ReadBegins, ReadEnds, ScanBegins, ScanEnds, WriteBegins, WriteEnds, CleanBegins, CleanEnds, covers, after, IsScanned, IsFed, MayHappen}
 use Rattle.foyer_model.specs.Opened.{idle, IsOpened}
-use Rattle.foyer_model.proofs.Basics.{read_same, put_one}
+use Rattle.foyer_layout.proofs.BlockBytesLaws.{read_same}
+use Rattle.foyer_model.proofs.Basics.{put_one}
 use Rattle.foyer_model.proofs.Invariant.{ground_of, InPages, IsSolid, ReadStateHolds, WorldInvariant, AllWait}
 use Rattle.foyer_model.proofs.GoodAddresses.{read_ended}
 use Rattle.foyer_model.proofs.AccessEvents.{read_state_begun, read_state_came, read_state_torn, writes_will_spare, clean_will_spare, cleaned_behind}

@@ -3,7 +3,7 @@ use Rattle.std.proofs.Common.{◌≡◌, ℕ, ◌+◌, true, [], ◌∷◌, Some
 use Rattle.foyer_model.specs.Numbers.{put}
 use Rattle.foyer_model.specs.Ids.{without_id}
 use Rattle.foyer_model.specs.Record.{Mark, Given}
-use Rattle.foyer_model.specs.Position.{Data, Index}
+use Rattle.foyer_layout.specs.BlockBytes.{Data, Index}
 use Rattle.foyer_model.specs.State.{Piece, Remove, Writes, State}
 use Rattle.foyer_model.specs.Step.{Fresh, Young, Enqueue, Delete, Receive, FlushBegin, FlushBlock, FlushWrote, LogWrote, FlushEnd}
 use Rattle.foyer_model.specs.Reply.{Memory, NotNow, Refused, Ignored, Queued, Deleted, Done, Empty, Received, Began, Written, Next, Committed, Ended}

@@ -1,7 +1,7 @@
 -- Loads of the record, and a write that fails.
 use Rattle.std.proofs.Common.{◌≡◌, ℕ, zero, suc, ◌+◌, ◌<◌, true, false, [], ◌∷◌, slice_index, Some, None, inl, inr, refl, arith, lit<}
 use Rattle.foyer_model.specs.Record.{Given}
-use Rattle.foyer_model.specs.Position.{Data, Index}
+use Rattle.foyer_layout.specs.BlockBytes.{Data, Index}
 use Rattle.foyer_model.specs.State.{Piece, State}
 use Rattle.foyer_model.specs.Step.{Bytes, Fault, Fresh, Young, Enqueue, MayContains, LoadBegin, LoadEnd, Receive, FlushBegin, FlushBlock, FlushWrote, LogWrote, FlushEnd}
 use Rattle.foyer_model.specs.Reply.{Io, Refused, Queued, Done, Answer, Miss, Throttled, Read, Entry, Received, Began, Written, Failed, Ended}

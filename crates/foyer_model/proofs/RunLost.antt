@@ -3,7 +3,7 @@ use Rattle.std.proofs.Common.{◌≡◌, ℕ, ◌+◌, true, false, [], ◌∷�
 use Rattle.foyer_model.specs.Numbers.{put}
 use Rattle.foyer_model.specs.Ids.{without_id}
 use Rattle.foyer_model.specs.Record.{Given}
-use Rattle.foyer_model.specs.Position.{Data, Index}
+use Rattle.foyer_layout.specs.BlockBytes.{Data, Index}
 use Rattle.foyer_model.specs.State.{Piece, Await, Writes, Reclaims, AtIndex, AllListed, ToClean, State}
 use Rattle.foyer_model.specs.Step.{Fault, Fresh, Young, Enqueue, Wait, LoadBegin, Receive, FlushBegin, FlushBlock, FlushWrote, LogWrote, FlushEnd, ReclaimBegin, ReclaimRead, ReclaimForget, ReclaimCleaned}
 use Rattle.foyer_model.specs.Reply.{SequenceEnd, Refused, Queued, Done, Miss, Received, Began, Written, NoBlock, Failed, Ended, Picked, Listed, Cleans}

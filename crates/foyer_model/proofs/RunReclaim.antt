@@ -2,7 +2,7 @@
 use Rattle.std.proofs.Common.{◌≡◌, ℕ, zero, suc, ◌+◌, ◌<◌, true, [], ◌∷◌, slice_index, Some, None, inl, inr, refl, arith, lit<}
 use Rattle.foyer_model.specs.Numbers.{put}
 use Rattle.foyer_model.specs.Record.{Reread}
-use Rattle.foyer_model.specs.Position.{Data, Index}
+use Rattle.foyer_layout.specs.BlockBytes.{Data, Index}
 use Rattle.foyer_model.specs.State.{Reinsert, Writes, Reclaims, AtIndex, AtRecord, AllListed, ToClean, State}
 use Rattle.foyer_model.specs.Step.{Bytes, Receive, FlushBegin, FlushBlock, FlushWrote, LogWrote, FlushEnd, ReclaimBegin, ReclaimRead, ReclaimForget, ReclaimCleaned}
 use Rattle.foyer_model.specs.Reply.{Done, Received, Began, Written, Next, Committed, Ended, Picked, Scans, Listed, Cleans}

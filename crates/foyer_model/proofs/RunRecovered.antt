@@ -3,12 +3,11 @@ use Rattle.std.proofs.Common.{◌≡◌, ℕ, zero, suc, ◌+◌, ◌<◌, ◌�
 use Rattle.std.proofs.lemmas.Bool.{eqb-true}
 use Rattle.foyer_model.specs.Numbers.{put}
 use Rattle.foyer_model.specs.Record.{Address}
-use Rattle.foyer_model.specs.Position.{Data}
+use Rattle.foyer_layout.specs.BlockBytes.{Data, all_laid}
 use Rattle.foyer_model.specs.State.{BlockSet, Clean, Evictable, no_stats, NoDestroy, State}
 use Rattle.foyer_model.specs.Step.{Bytes, Young, LoadBegin, LoadEnd}
 use Rattle.foyer_model.specs.Reply.{Parse, Unsupported, Refused, Miss, Read, Entry}
 use Rattle.foyer_model.specs.Index.{without}
-use Rattle.foyer_model.specs.Layout.{all_laid}
 use Rattle.foyer_model.specs.Load.{accessed}
 use Rattle.foyer_model.specs.Access.{Idle, CleanIdle}
 use Rattle.foyer_model.specs.World.{World, WorldEvent, Applies, ReadBegins, ReadEnds, after, MayHappen}

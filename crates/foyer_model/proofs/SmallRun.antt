@@ -1,15 +1,15 @@
 -- What the small runs share: readings of a state, the empty core, and a block that begins with zeros.
 use Rattle.std.proofs.Common.{◌≡◌, ℕ, zero, suc, ◌+◌, ◌<◌, false, List, [], ◌∷◌, length, slice_index, Option, Some, None, inl, inr, refl, sym, ap, ◌∙◌, arith, lit<}
 use Rattle.foyer_model.specs.Record.{Address}
-use Rattle.foyer_model.specs.Position.{Position, Data, Index, Write}
+use Rattle.foyer_layout.specs.BlockBytes.{Data, Index, Write, laid}
+use Rattle.foyer_model.specs.Position.{Position}
 use Rattle.foyer_model.specs.State.{Writing, Batch, Clean, no_stats, NoDestroy, State}
 use Rattle.foyer_model.specs.Rules.{first_position}
-use Rattle.foyer_model.specs.Layout.{laid}
 use Rattle.foyer_model.specs.Access.{Idle, CleanIdle, ReadIssued, Load, Scan}
 use Rattle.foyer_model.specs.World.{World}
 use Rattle.foyer_model.specs.Opened.{idle, full_filling, IsOpened}
 use Rattle.foyer_model.specs.SmallCore.{small}
-use Rattle.foyer_model.proofs.GoodAddresses.{laid_beside}
+use Rattle.foyer_layout.proofs.BlockBytesLaws.{laid_beside}
 
 -- what a fact speaks of, where it is there
 
@@ -157,4 +157,4 @@ pub index_here : (i : ℕ) → i < length index_bytes → slice_index index_byte
 index_here i lt =
     let low : i < 4096 = omega (arith, index_length) in
     index_zero i low
-    ∙ sym (laid_beside small no_index (laid first_data (λ _. 0)) (0 + i) (inr (omega arith)) ∙ laid_beside small first_data (λ _. 0) (0 + i) (inl (omega arith)))
+    ∙ sym (laid_beside no_index (laid first_data (λ _. 0)) (0 + i) (inr (omega arith)) ∙ laid_beside first_data (λ _. 0) (0 + i) (inl (omega arith)))

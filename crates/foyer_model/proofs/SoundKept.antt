@@ -30,9 +30,11 @@ use Rattle.foyer_model.specs.Opened.{is_clean}
 use Rattle.foyer_model.specs.Laws.{Demands}
 use Rattle.foyer_model.proofs.Basics.{put_at, put_same, Ascends, ascends_push}
 use Rattle.foyer_model.proofs.Ids.{in_last}
-use Rattle.foyer_model.proofs.Invariant.{ground_of, Each, writing_in, blocks_in, goes_on_in, batch_records, line_of, SlotOk, LoadOk, WritingOk, start_of, WorldInvariant, RecordWaits, one_owner}
+use Rattle.foyer_layout.specs.Each.{Each}
+use Rattle.foyer_model.proofs.Invariant.{ground_of, writing_in, blocks_in, goes_on_in, batch_records, line_of, SlotOk, LoadOk, WritingOk, start_of, WorldInvariant, RecordWaits, one_owner}
 use Rattle.foyer_model.proofs.GoodAddresses.{good_issued, good_handed}
-use Rattle.foyer_model.proofs.CommitSteps.{noted, committed_is, noted_is, each_front}
+use Rattle.foyer_layout.proofs.EachLaws.{each_front}
+use Rattle.foyer_model.proofs.CommitSteps.{noted, committed_is, noted_is}
 use Rattle.foyer_model.proofs.OneFlusher.{one_turned, pushed}
 use Rattle.foyer_model.proofs.Received.{received_piece, returned_piece, received_mark, received_wait, received_again, dropped_again, begun_batch}
 use Rattle.foyer_model.proofs.LoadSteps.{slot_none, slot_without, mark_enters, deleted, indexed, promised}

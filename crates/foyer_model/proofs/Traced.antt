@@ -22,9 +22,10 @@ use Rattle.foyer_model.specs.Event.{Event, Put, Deletion, Destruction, sequence_
 use Rattle.foyer_model.specs.Access.{BlockWrites, came}
 use Rattle.foyer_model.specs.World.{World, Applies, after}
 use Rattle.foyer_model.proofs.Basics.{put_one}
-use Rattle.foyer_model.proofs.Invariant.{Ground, ground_of, Each, writing_in, batch_records, WritingOk, WorldInvariant, RecordWaits}
-use Rattle.foyer_model.proofs.CommitSteps.{noted_one, noted, noted_is, each_drop, each_join, each_front, holds_is, SourceBrings, Brings, all_bring}
-use Rattle.foyer_model.proofs.Received.{each_weaker}
+use Rattle.foyer_layout.specs.Each.{Each}
+use Rattle.foyer_model.proofs.Invariant.{Ground, ground_of, writing_in, batch_records, WritingOk, WorldInvariant, RecordWaits}
+use Rattle.foyer_layout.proofs.EachLaws.{each_back, each_join, each_front, each_weaker}
+use Rattle.foyer_model.proofs.CommitSteps.{noted_one, noted, noted_is, holds_is, SourceBrings, Brings, all_bring}
 use Rattle.foyer_model.proofs.FlushEnds.{failed}
 use Rattle.foyer_model.proofs.FlushBlocks.{records_issued}
 use Rattle.foyer_model.proofs.Rereads.{IsAgain}
@@ -194,7 +195,7 @@ module _ {C : Type 0} (rules : Rules C) (K : ℕ → ℕ → C → Type 0) (R : 
       issued = one_traced w f _ (λ t. record {
         pieces = t.pieces;
         received = t.received;
-        written = records_issued rules (Each (RecordKnown K)) b (writes_in rules s.parts) (records_in s.parts) (records_of rest) (each_drop (RecordKnown K))
+        written = records_issued rules (Each (RecordKnown K)) b (writes_in rules s.parts) (records_in s.parts) (records_of rest) (each_back (RecordKnown K))
             (subst (λ k. Each (RecordKnown K) (batch_records k)) whole t.written);
       }) traced
   issues_traced w f batch reply new is wants ok traced = absurd ok
@@ -213,7 +214,7 @@ module _ {C : Type 0} (rules : Rules C) (K : ℕ → ℕ → C → Type 0) (R : 
       (let t : IsTracedIn K R (put w.core.flushers f (record (w.core.flushers f) { batch = Some (record batch { writing = None }) })) w.history = one_traced w f _ (λ t. record {
         pieces = t.pieces;
         received = t.received;
-        written = each_drop (RecordKnown K) (map (λ p. p.1) r.records) (records_of batch.blocks) (parts t);
+        written = each_back (RecordKnown K) (map (λ p. p.1) r.records) (records_of batch.blocks) (parts t);
       }) traced in
       record {
         at = t.at;

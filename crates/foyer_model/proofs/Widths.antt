@@ -3,9 +3,11 @@ use Rattle.std.proofs.Common.{◌≡◌, ℕ, ◌<◌, ◌≤◌, ◌==◌, nat_
 use Rattle.foyer_model.specs.Kind.{Kind}
 use Rattle.foyer_model.specs.Numbers.{put, last_number}
 use Rattle.foyer_model.specs.Record.{Address, Slot, Indexed, Mark, Outcome, NoRecord, Holds, IndexEntry, Source, Given, Reread, Record}
-use Rattle.foyer_model.specs.Position.{Write, records_in, records_of}
+use Rattle.foyer_layout.specs.BlockBytes.{Write}
+use Rattle.foyer_model.specs.Position.{records_in, records_of}
 use Rattle.foyer_model.specs.State.{Submission, Piece, Remove, Await, Reinsert, Batch, Flusher, Stage, AtIndex, AtRecord, AllListed, ToClean, Reclaim, Destroy, NoDestroy, Begun, Cleaning, State}
-use Rattle.foyer_model.specs.Widths.{Each, HaveWidths, RecordsHaveWidths, SubmissionHasWidths, WritingHasWidths, BatchHasWidths, FlusherHasWidths, SlotHasWidths, StateHasWidths}
+use Rattle.foyer_layout.specs.Each.{Each}
+use Rattle.foyer_model.specs.Widths.{HaveWidths, RecordsHaveWidths, SubmissionHasWidths, WritingHasWidths, BatchHasWidths, FlusherHasWidths, SlotHasWidths, StateHasWidths}
 use Rattle.foyer_model.specs.Rules.{Rules, flusher_of, Splitting}
 use Rattle.foyer_model.specs.Step.{ReadResult, Bytes, Fault, Age, Ticket, Step, Enqueue, Delete, Wait, MayContains, LoadBegin, LoadEnd, Receive, FlushBegin, FlushBlock, FlushWrote, LogWrote, FlushEnd, ReclaimBegin, ReclaimRead, ReclaimForget, ReclaimCleaned, ReclaimIdle, DestroyBegin, DestroyClear, DestroyCleaned, Close}
 use Rattle.foyer_model.specs.Reply.{Reply, NotNow, Refused, Ignored, Queued, Deleted, Done, Miss, Throttled, Read, Entry, Empty, Received, Began, Written, NoBlock, Next, Committed, Failed, Ended, Picked, Cleans, Destroying, Cleared}
@@ -25,7 +27,8 @@ use Rattle.foyer_model.specs.Opened.{slot_among, AllFound, IsOpened}
 use Rattle.foyer_model.specs.Companions.{WidthsStay}
 use Rattle.std.proofs.lemmas.Bool.{eqb-true}
 use Rattle.foyer_model.proofs.Basics.{put_one}
-use Rattle.foyer_model.proofs.CommitSteps.{each_join, each_front, each_drop, same_address}
+use Rattle.foyer_layout.proofs.EachLaws.{each_join, each_front, each_back}
+use Rattle.foyer_model.proofs.CommitSteps.{same_address}
 
 -- what the index holds
 
@@ -245,7 +248,7 @@ module _ {C : Type 0} (rules : Rules C) (Splits : Splitting C) where
         buffer = t.buffer;
         marks = t.marks;
         batch = (
-          each_drop (λ r. HaveWidths r.hash r.sequence) (map (λ p. p.1) (records_in s.parts)) (records_of rest) records,
+          each_back (λ r. HaveWidths r.hash r.sequence) (map (λ p. p.1) (records_in s.parts)) (records_of rest) records,
           writing_wide b (writes_in rules s.parts) (records_in s.parts) (each_front (λ r. HaveWidths r.hash r.sequence) (map (λ p. p.1) (records_in s.parts)) (records_of rest) records),
           now.2,
         );

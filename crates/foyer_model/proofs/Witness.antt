@@ -3,13 +3,14 @@ use Rattle.std.proofs.Common.{◌≡◌, ℕ, zero, suc, ◌+◌, ◌-◌, ◌<�
 use Rattle.std.proofs.lemmas.Bool.{eqb-true, eqb-false}
 use Rattle.std.proofs.lemmas.Bool.Decides.{nat_tests}
 use Rattle.foyer_model.specs.Record.{NoRecord, NotSupported, Undecodable, Holds, Source, Record}
-use Rattle.foyer_model.specs.Position.{Position, Data, Index, Write, BlockLayout, records_of}
-use Rattle.foyer_model.specs.Layout.{laid, all_laid, read, AllStand, writes_in, KeepsBlock, KeepsBlocks, KeepsBatch}
+use Rattle.foyer_layout.specs.BlockBytes.{Data, Index, Write, laid, all_laid, read}
+use Rattle.foyer_model.specs.Position.{Position, BlockLayout, records_of}
+use Rattle.foyer_model.specs.Layout.{AllStand, writes_in, KeepsBlock, KeepsBlocks, KeepsBatch}
 use Rattle.foyer_model.specs.World.{WorldEvent, MayAllHappen}
 use Rattle.foyer_model.specs.Laws.{Demands}
 use Rattle.foyer_model.specs.SmallCore.{small_pair, small_encode, small, IsSmall, three, filled_to, one_spread, no_spread, GoesTo, each_alone, SmallSplits}
 use Rattle.foyer_model.specs.Witness.{ReachesEveryReply}
-use Rattle.foyer_model.proofs.GoodAddresses.{laid_beside}
+use Rattle.foyer_layout.proofs.BlockBytesLaws.{laid_beside, laid_there, read_is}
 use Rattle.foyer_model.proofs.SmallRun.{w0, opened}
 use Rattle.foyer_model.proofs.RunFlush.{e0, may0, e1, may1, e2, may2, e3, may3, e4, may4, e5, may5, e6, may6, e7, may7, e8, may8, e9, may9, e10, may10, e11, may11, e12, may12, e13, may13, e14, may14, e15, may15}
 use Rattle.foyer_model.proofs.RunLoads.{e16, may16, e17, may17, e18, may18, e19, may19, e20, may20, e21, may21, e22, may22, e23, may23, e24, may24, e25, may25, e26, may26, e27, may27, e28, may28, e29, may29, e30, may30, e31, may31, e32, may32, e33, may33, e34, may34, e35, may35, e36, may36, e37, may37}
@@ -71,27 +72,10 @@ one_placed at h s a b c source low stand = record {
 
 -- what is written stands
 
-read_is : (bs : List ℕ) (g : ℕ → ℕ) (o : ℕ) → ((i : ℕ) → i < length bs → g (o + i) ≡ slice_index bs i) → read g o (length bs) ≡ bs
-read_is [] g o h = refl
-read_is (b ∷ bs) g o h =
-    let none : o ≡ o + 0 = omega arith in
-    let here : g o ≡ b = ap g none ∙ h 0 (omega arith) in
-    let there : read g (o + 1) (length bs) ≡ bs = read_is bs g (o + 1) (λ i lt. let e : o + 1 + i ≡ o + suc i = omega arith in ap g e ∙ h (suc i) (omega arith)) in
-    cc
-
-laid_at : (w : Write) (g : ℕ → ℕ) (i : ℕ) → i < length w.bytes → laid w g (w.offset + i) ≡ slice_index w.bytes i
-laid_at w g i lt = go (nat_le w.offset (w.offset + i)) refl (nat_lt (w.offset + i) (w.offset + length w.bytes)) refl
-  where
-    go : (p : Bool) → nat_le w.offset (w.offset + i) ≡ p → (q : Bool) → nat_lt (w.offset + i) (w.offset + length w.bytes) ≡ q
-        → (if p && q then slice_index w.bytes (w.offset + i - w.offset) else g (w.offset + i)) ≡ slice_index w.bytes i
-    go true e true f = let back : w.offset + i - w.offset ≡ i = omega arith in ap (slice_index w.bytes) back
-    go true e false f = absurd (grind (arith, nat_tests))
-    go false e q f = absurd (grind (arith, nat_tests))
-
 alone_stands : (bs : List ℕ) (g : ℕ → ℕ) → read (laid (record { role = Index; offset = 0; bytes = [] }) (laid (record { role = Data; offset = 4096; bytes = bs }) g)) 4096 (length bs) ≡ bs
 alone_stands bs g = read_is bs _ 4096 (λ i lt.
-    laid_beside small (record { role = Index; offset = 0; bytes = [] }) (laid (record { role = Data; offset = 4096; bytes = bs }) g) (4096 + i) (inr (omega arith))
-    ∙ laid_at (record { role = Data; offset = 4096; bytes = bs }) g i lt)
+    laid_beside (record { role = Index; offset = 0; bytes = [] }) (laid (record { role = Data; offset = 4096; bytes = bs }) g) (4096 + i) (inr (omega arith))
+    ∙ laid_there (record { role = Data; offset = 4096; bytes = bs }) g i lt)
 
 alone_kept : (r : Record ℕ) → KeepsBlock small (filled_to 4096) (one_spread 4096 r)
 alone_kept r = record {

@@ -2,8 +2,7 @@
 use Rattle.std.specs.Prelude.{◌≡◌, ℕ, suc, zero, ◌+◌, ◌<◌, ◌≤◌, ◌==◌, nat_le, nat_lt, Bool, false, ◌&&◌, ◌||◌, if◌then◌else◌, List, [], ◌∷◌, ◌++◌, length, Option, Some, None, slice_index}
 use Rattle.foyer_model.specs.Numbers.{put, page}
 use Rattle.foyer_model.specs.Ids.{is_id_in}
-use Rattle.foyer_model.specs.Position.{Write}
-use Rattle.foyer_model.specs.Layout.{laid, IsBeside}
+use Rattle.foyer_layout.specs.BlockBytes.{Write, laid, IsBeside}
 use Rattle.foyer_model.specs.Step.{ReadResult, Bytes, Ticket, Step, FlushBlock, FlushWrote, ReclaimBegin, ReclaimRead, ReclaimForget, ReclaimCleaned, DestroyClear, DestroyCleaned}
 use Rattle.foyer_model.specs.Reply.{Reply, Read, Written, Next, Committed, Failed, Picked, Scans, Listed, Cleans, Cleared, Done, Destroyed}
 use Rattle.foyer_model.specs.Event.{Event, newest}

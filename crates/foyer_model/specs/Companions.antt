@@ -3,7 +3,8 @@ use Rattle.std.specs.Prelude.{◌≡◌, ℕ, ◌<◌, Bool, true, List, [], ◌
 use Rattle.foyer_model.specs.Numbers.{last_number}
 use Rattle.foyer_model.specs.Ids.{is_id_in, AreDistinct}
 use Rattle.foyer_model.specs.Record.{Given, Record}
-use Rattle.foyer_model.specs.Position.{Write, BlockLayout, records_of}
+use Rattle.foyer_layout.specs.BlockBytes.{Write}
+use Rattle.foyer_model.specs.Position.{BlockLayout, records_of}
 use Rattle.foyer_model.specs.State.{Submission, Piece, Writing, Batch, Evictable, State, Clean}
 use Rattle.foyer_model.specs.Rules.{Rules, Splitting}
 use Rattle.foyer_model.specs.Widths.{StateHasWidths}

@@ -3,7 +3,8 @@ use Rattle.std.specs.Prelude.{◌≡◌, ℕ, ◌+◌, nat_lt, Bool, true, false
 use Rattle.foyer_model.specs.Numbers.{put, last_number, plus}
 use Rattle.foyer_model.specs.Ids.{without_id, with_id}
 use Rattle.foyer_model.specs.Record.{Record}
-use Rattle.foyer_model.specs.Position.{Write, BlockLayout, records_in, last_end}
+use Rattle.foyer_layout.specs.BlockBytes.{Write}
+use Rattle.foyer_model.specs.Position.{BlockLayout, records_in, last_end}
 use Rattle.foyer_model.specs.Index.{unmarked}
 use Rattle.foyer_model.specs.State.{Writing, Batch, BlockSet, Writes, Evictable, Stats, Destroy, NoDestroy, Begun, Cleaning, State}
 use Rattle.foyer_model.specs.Rules.{Rules, first_position, Splitting}

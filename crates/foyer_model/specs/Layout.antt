@@ -1,41 +1,16 @@
 -- What the placing of a batch must keep: the four facts that the laws need of a splitter.
 use Rattle.std.specs.Prelude.{◌≡◌, ◌≢◌, ℕ, suc, zero, ◌+◌, ◌-◌, ◌<◌, ◌≤◌, nat_le, nat_lt, ◌&&◌, if◌then◌else◌, List, [], ◌∷◌, ◌++◌, length, slice_index, ◌⊎◌}
 use Rattle.foyer_model.specs.Record.{Record}
-use Rattle.foyer_model.specs.Position.{Position, tail_of, Write, Part, BlockLayout, records_in, records_of, last_end}
+use Rattle.foyer_layout.specs.Position.{tail_of, MayWrite}
+use Rattle.foyer_layout.specs.BlockBytes.{Write, all_laid, read, AllWithin}
+use Rattle.foyer_model.specs.Position.{Position, Part, BlockLayout, records_in, records_of, last_end}
 use Rattle.foyer_model.specs.Rules.{Rules, first_position, Splitting}
 use Rattle.foyer_model.specs.Widths.{RecordsHaveWidths}
-
--- where later writes of a filling may fall: at or behind its tail, or into the index of its present blob
-abbrev pub MayWrite : ℕ → Position → ℕ → Type 0
-MayWrite index_size f o = (tail_of f ≤ o) ⊎ ((f.blob ≤ o) × (o < f.blob + index_size))
-
--- a block's bytes after a write
-abbrev pub laid : Write → (ℕ → ℕ) → ℕ → ℕ
-laid w g o = if nat_le w.offset o && nat_lt o (w.offset + length w.bytes) then slice_index w.bytes (o - w.offset) else g o
-
--- a block's bytes after these writes, the first of them first
-abbrev pub all_laid : List Write → (ℕ → ℕ) → ℕ → ℕ
-all_laid [] g = g
-all_laid (w ∷ ws) g = all_laid ws (laid w g)
-
--- the n bytes from o on
-abbrev pub read : (ℕ → ℕ) → ℕ → ℕ → List ℕ
-read g o zero = []
-read g o (suc n) = g o ∷ read g (o + 1) n
 
 -- these records stand at their offsets
 abbrev pub AllStand : {C : Type 0} → (ℕ → ℕ) → List (ℕ × Record C) → Type 0
 AllStand g [] = Unit {0}
 AllStand g (p ∷ ps) = (read g p.0 (length (p.1).bytes) ≡ (p.1).bytes) × AllStand g ps
-
--- an offset is outside of the bytes of a write
-abbrev pub IsBeside : Write → ℕ → Type 0
-IsBeside w o = (o < w.offset) ⊎ (w.offset + length w.bytes ≤ o)
-
--- each byte that these writes touch has the property
-abbrev pub AllWithin : (ℕ → Type 0) → List Write → Type 0
-AllWithin P [] = Unit {0}
-AllWithin P (w ∷ ws) = ((o : ℕ) → (IsBeside w o → ⊥) → P o) × AllWithin P ws
 
 -- no byte of these records' pages has it
 abbrev pub AllOutside : {C : Type 0} → (ℕ → ℕ) → (ℕ → Type 0) → List (ℕ × Record C) → Type 0

@@ -6,7 +6,7 @@ use Rattle.foyer_model.specs.Record.{Address, Slot, Indexed}
 use Rattle.foyer_model.specs.Position.{Position}
 use Rattle.foyer_model.specs.State.{Flusher, BlockSet, Clean, Writes, Evictable, Reclaims, no_stats, NoDestroy, State}
 use Rattle.foyer_model.specs.Rules.{Rules, first_position}
-use Rattle.foyer_model.specs.Layout.{read}
+use Rattle.foyer_layout.specs.BlockBytes.{read}
 use Rattle.foyer_model.specs.Event.{Event, Put}
 use Rattle.foyer_model.specs.Access.{Idle, CleanIdle}
 use Rattle.foyer_model.specs.World.{World}

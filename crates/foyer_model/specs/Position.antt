@@ -1,28 +1,11 @@
 -- How far a block is filled, and what a batch puts into it.
 use Rattle.std.specs.Prelude.{ℕ, ◌+◌, List, [], ◌∷◌, ◌++◌, map}
+use Rattle.foyer_layout.specs.Position as layout
 use Rattle.foyer_model.specs.Record.{IndexEntry, Record}
 
--- How far a filling of a block has come: its present blob begins at blob, the next data stand at this offset of the
--- blob, and its index lists these.
-pub record Position : Type 0 where
-  pub blob : ℕ
-  pub at : ℕ
-  pub listed : List IndexEntry
-
--- where its data end
-abbrev pub tail_of : Position → ℕ
-tail_of f = f.blob + f.at
-
--- what a write puts into a block
-pub data Role : Type 0 where
-  Data : Role
-  Index : Role
-
--- bytes to be written at an offset of a block
-pub record Write : Type 0 where
-  pub role : Role
-  pub offset : ℕ
-  pub bytes : List ℕ
+-- how far a filling of a block has come
+abbrev pub Position : Type 0
+Position = layout.Position IndexEntry
 
 -- Records that are written together, each with its offset in the block, and the index that lists them: their data
 -- stand at blob + at, the index at the blob's start.

@@ -1,6 +1,7 @@
 -- The replies of the core. Each choice that a step makes stands in its reply.
 use Rattle.std.specs.Prelude.{ℕ, Bool, List, Option}
-use Rattle.foyer_model.specs.Position.{Write, BlockLayout}
+use Rattle.foyer_layout.specs.BlockBytes.{Write}
+use Rattle.foyer_model.specs.Position.{BlockLayout}
 pub use Rattle.foyer_model.specs.Kind.{Kind, Io, Memory, Parse, Closed, Unsupported, SequenceEnd}
 use Rattle.foyer_model.specs.Step.{Age, Ticket, Step}
 

@@ -1,8 +1,10 @@
 -- What a core is made with: its sizes, and what its bytes mean.
 use Rattle.std.specs.Prelude.{◌≡◌, ℕ, ◌<◌, ◌≤◌, ◌%◌, Bool, List, [], Option, Some}
+use Rattle.foyer_layout.specs.Position.{Sizes}
 use Rattle.foyer_model.specs.Numbers.{last_number, page}
 use Rattle.foyer_model.specs.Record.{Outcome, Holds, IndexEntry, Record}
-use Rattle.foyer_model.specs.Position.{Position, Write, Part, BlockLayout}
+use Rattle.foyer_layout.specs.BlockBytes.{Write}
+use Rattle.foyer_model.specs.Position.{Position, Part, BlockLayout}
 
 -- the sizes, and the judgements on bytes
 pub record Rules (C : Type 0) : Type 0 where
@@ -23,6 +25,10 @@ pub record Rules (C : Type 0) : Type 0 where
   pub some_flusher : 0 < flushers
   pub page_up_above : (n : ℕ) → n ≤ page_up n
   pub index_holds_page : page ≤ index_size
+
+-- of a block and of an index
+abbrev pub sizes_of : {C : Type 0} → Rules C → Sizes
+sizes_of rules = record { block = rules.block_size; index = rules.index_size }
 
 -- the flusher of a hash, through which all its submissions pass
 abbrev pub flusher_of : {C : Type 0} → Rules C → ℕ → ℕ

@@ -4,7 +4,8 @@ use Rattle.std.specs.Prelude.{◌≡◌, ℕ, zero, suc, ◌+◌, ◌==◌, nat_
 use Rattle.std.proofs.Common.{lit<}
 use Rattle.std.proofs.Math.Nat.{le_refl}
 use Rattle.foyer_model.specs.Record.{Outcome, NoRecord, NotSupported, Undecodable, Holds, Source, Record}
-use Rattle.foyer_model.specs.Position.{Position, Data, Index, Write, Part, BlockLayout}
+use Rattle.foyer_layout.specs.BlockBytes.{Data, Index, Write}
+use Rattle.foyer_model.specs.Position.{Position, Part, BlockLayout}
 use Rattle.foyer_model.specs.Rules.{Rules, Splitting}
 
 -- what a content stands for

@@ -2,7 +2,8 @@
 use Rattle.std.specs.Prelude.{ℕ, Bool, false, List, Option}
 use Rattle.foyer_model.specs.Kind.{Kind}
 use Rattle.foyer_model.specs.Record.{Address, Slot, Record}
-use Rattle.foyer_model.specs.Position.{Position, Write, BlockLayout}
+use Rattle.foyer_layout.specs.BlockBytes.{Write}
+use Rattle.foyer_model.specs.Position.{Position, BlockLayout}
 
 -- what waits in a flusher's queue: a piece with its estimated size; a mark, with the bytes that it made invalid and
 -- their block; a wait with its id; a record to be reinserted, with the address that it was read from

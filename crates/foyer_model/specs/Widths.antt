@@ -1,14 +1,10 @@
 -- What has 64 bits: the hash and the sequence of whatever is queued, buffered, in a batch or indexed.
 use Rattle.std.specs.Prelude.{ℕ, ◌≤◌, List, [], ◌∷◌, map, Option, Some, None}
+use Rattle.foyer_layout.specs.Each.{Each}
 use Rattle.foyer_model.specs.Numbers.{last_number}
 use Rattle.foyer_model.specs.Record.{Slot, Indexed, Mark, Record}
 use Rattle.foyer_model.specs.Position.{records_of}
 use Rattle.foyer_model.specs.State.{Submission, Piece, Remove, Await, Reinsert, Writing, Batch, Flusher, State}
-
--- each of a list
-abbrev pub Each : {A : Type 0} → (A → Type 0) → List A → Type 0
-Each P [] = Unit {0}
-Each P (x ∷ xs) = P x × Each P xs
 
 -- a hash and a sequence
 abbrev pub HaveWidths : (hash sequence : ℕ) → Type 0

@@ -1,7 +1,8 @@
 -- The world of the core: the bytes of every block, the core, and the accesses under way.
 use Rattle.std.specs.Prelude.{◌≡◌, ℕ, ◌≤◌, ◌==◌, nat_lt, Bool, true, false, ◌||◌, if◌then◌else◌, List, [], ◌∷◌, Option, Some, None}
 use Rattle.foyer_model.specs.Numbers.{put, last_number}
-use Rattle.foyer_model.specs.Position.{Position, Write, BlockLayout}
+use Rattle.foyer_layout.specs.BlockBytes.{Write}
+use Rattle.foyer_model.specs.Position.{Position, BlockLayout}
 use Rattle.foyer_model.specs.Record.{Record}
 use Rattle.foyer_model.specs.State.{Writing, Batch, State}
 use Rattle.foyer_model.specs.Rules.{Rules, first_position, Splitting}

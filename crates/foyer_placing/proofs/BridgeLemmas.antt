@@ -6,7 +6,8 @@ use Rattle.foyer_blob.specs.declared.blob.BlobEntryIndex.{BlobEntryIndex}
 use Rattle.foyer_buffer.proofs.FillsLemmas.{part_is}
 use Rattle.foyer_buffer.proofs.SplitLemmas.{taken-append, taken_cons, taken_none, entries_cons, entries_none}
 use Rattle.foyer_buffer.specs.Entries.{Entry, Entries, IsFinished, IsPacked, entries_at}
-use Rattle.foyer_buffer.specs.Position.{Sizes, taken}
+use Rattle.foyer_layout.specs.Position.{Sizes, fresh, next_blob}
+use Rattle.foyer_buffer.specs.Position.{taken}
 use Rattle.foyer_buffer.specs.Position as buffered
 use Rattle.foyer_buffer.specs.Layout as buffered_placing
 use Rattle.foyer_buffer.specs.Layout.{IsLaidOut as IsCodeLayout, Places, parts_of}
@@ -16,8 +17,8 @@ use Rattle.foyer_buffer.specs.declared.BufferEntryInfo.{BufferEntryInfo}
 use Rattle.foyer_buffer.specs.declared.split.Batch.{Batch}
 use Rattle.foyer_buffer.specs.declared.split.BlobPart.{BlobPart}
 use Rattle.foyer_device.specs.Section.{Section, bytes_of}
-use Rattle.foyer_format.proofs.PageLaws.{page_up-holds}
-use Rattle.foyer_format.specs.Page.{page_up}
+use Rattle.foyer_layout.proofs.PageLaws.{page_up-holds}
+use Rattle.foyer_layout.specs.Page.{page_up}
 use Rattle.foyer_model.specs.Position.{Position, Part, BlockLayout, last_end}
 use Rattle.foyer_model.specs.Receive.{bytes_taken}
 use Rattle.foyer_model.specs.Record.{Record}
@@ -243,13 +244,13 @@ module _ {C : Type 0} where
       left_lays (r ∷ rs) stand within (buffered_done room) = absurd stand
       left_lays rs stand within (buffered_blob {start = start} {f = f} {g = g} {infos = infos} {parts = parts} {blocks = blocks} full placed) =
           let many : length (map entry_of f.listed) ≡ length f.listed = length-map f.listed entry_of in
-          let l : Laid (buffered.next_blob s f) rs parts blocks g = lays rs stand within placed in
+          let l : Laid (next_blob s f) rs parts blocks g = lays rs stand within placed in
           record { qs = l.qs; end = l.end; others = l.others; left = blob (omega arith) l.placed; first_are = l.first_are; others_are = l.others_are; last = l.last }
       left_lays [] stand within (buffered_block room over placed) = absurd stand
       left_lays (r ∷ rs) stand within (buffered_block {start = start} {f = f} {g = g} {i = i} {infos = infos} {parts = parts} {blocks = blocks} room over placed) =
           let many : length (map entry_of f.listed) ≡ length f.listed = length-map f.listed entry_of in
           let pages : page_up (length r.bytes) ≡ page_up i.len = ap page_up stand.3 in
-          let l : Laid (buffered.fresh s) (r ∷ rs) parts blocks g = lays (r ∷ rs) stand within placed in
+          let l : Laid (fresh s) (r ∷ rs) parts blocks g = lays (r ∷ rs) stand within placed in
           record {
             qs = [];
             end = filling_of f;

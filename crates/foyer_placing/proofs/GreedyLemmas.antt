@@ -3,20 +3,20 @@ use Rattle.std.proofs.Common.{◌≡◌, ℕ, suc, ◌+◌, ◌-◌, ◌<◌, �
 use Rattle.std.proofs.lemmas.Bool.Decides.{nat_tests}
 use Rattle.std.proofs.lemmas.List.{length-append, length-replicate, take-append-le, take_at, drop_at, append_assoc}
 use Rattle.foyer_blob.specs.Blob.{capacity_of}
-use Rattle.foyer_buffer.specs.Position.{Sizes}
-use Rattle.foyer_format.proofs.PageLaws.{page_up-holds}
-use Rattle.foyer_format.specs.Page.{page_up}
+use Rattle.foyer_layout.specs.Position.{Sizes, tail_of, fresh, next_blob}
+use Rattle.foyer_layout.proofs.PageLaws.{page_up-holds}
+use Rattle.foyer_layout.specs.Page.{page_up}
 use Rattle.foyer_model.specs.Numbers.{last_number}
-use Rattle.foyer_model.specs.Position.{Position, tail_of, Part, BlockLayout, last_end}
+use Rattle.foyer_model.specs.Position.{Position, Part, BlockLayout, last_end}
 use Rattle.foyer_model.specs.Layout.{AllFitBlock, MayBegin, PlacesAll}
 use Rattle.foyer_model.specs.Layout.MayBegin.{empty_block, after_batch}
 use Rattle.foyer_model.specs.Receive.{bytes_taken}
 use Rattle.foyer_model.specs.Record.{IndexEntry, Record}
-use Rattle.foyer_model.specs.Rules.{Rules}
+use Rattle.foyer_model.specs.Rules.{Rules, sizes_of}
 use Rattle.foyer_model.specs.Widths.{HaveWidths, RecordsHaveWidths}
 use Rattle.foyer_placing.proofs.KeepsLemmas.{goes_on}
 use Rattle.foyer_placing.proofs.SealLemmas.{AllFitEntry, IndexOf, index_for}
-use Rattle.foyer_placing.specs.Splits.{sizes_of, fresh, next_blob, entries_from, laid_from, with_records, AreBytesOf, LaidOut, Left, MayGoOn, IsLaidOut, AreRules}
+use Rattle.foyer_placing.specs.Splits.{entries_from, laid_from, with_records, AreBytesOf, LaidOut, Left, MayGoOn, IsLaidOut, AreRules}
 use Rattle.foyer_placing.specs.Splits.LaidOut.{part, none}
 use Rattle.foyer_placing.specs.Splits.Left.{done, blob, block}
 

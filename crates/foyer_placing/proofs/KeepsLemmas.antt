@@ -1,18 +1,19 @@
 -- A placing keeps its records: what the plain machine asks of it.
 use Rattle.std.proofs.Common.{◌≡◌, ℕ, ◌+◌, ◌<◌, ◌≤◌, List, [], ◌∷◌, ◌++◌, map, length, inl, inr, refl, sym, ap, subst, ◌∙◌, arith}
 use Rattle.std.proofs.lemmas.List.{map-append, append_assoc}
-use Rattle.foyer_buffer.specs.Position.{Sizes}
-use Rattle.foyer_format.specs.Page.{page_up}
-use Rattle.foyer_model.proofs.Basics.{beside_or}
-use Rattle.foyer_model.specs.Position.{Position, tail_of, Data, Index, Write, Part, BlockLayout, records_in, records_of, last_end}
-use Rattle.foyer_model.specs.Layout.{MayWrite, laid, all_laid, AllStand, IsBeside, AllWithin, AllOutside, AllBehind, writes_in, KeepsBlock, KeepsBlocks, KeepsRecords}
+use Rattle.foyer_layout.specs.Position.{Sizes, tail_of, MayWrite, next_blob, fresh}
+use Rattle.foyer_layout.specs.Page.{page_up}
+use Rattle.foyer_layout.proofs.BlockBytesLaws.{beside_or, laid_beside, laid_there, laid_outside, within_more}
+use Rattle.foyer_layout.specs.BlockBytes.{Data, Index, Write, laid, all_laid, IsBeside, AllWithin}
+use Rattle.foyer_model.specs.Position.{Position, Part, BlockLayout, records_in, records_of, last_end}
+use Rattle.foyer_model.specs.Layout.{AllStand, AllOutside, AllBehind, writes_in, KeepsBlock, KeepsBlocks, KeepsRecords}
 use Rattle.foyer_model.specs.Receive.{bytes_taken}
 use Rattle.foyer_model.specs.Record.{Record}
-use Rattle.foyer_model.specs.Rules.{Rules, first_position}
-use Rattle.foyer_placing.specs.Splits.{sizes_of, next_blob, fresh, laid_from, with_records, IsPart, LaidOut, Left, part_writes, MayGoOn, IsLaidOut, AreRules}
+use Rattle.foyer_model.specs.Rules.{Rules, first_position, sizes_of}
+use Rattle.foyer_placing.specs.Splits.{laid_from, with_records, IsPart, LaidOut, Left, part_writes, MayGoOn, IsLaidOut, AreRules}
 use Rattle.foyer_placing.specs.Splits.LaidOut.{part, none}
 use Rattle.foyer_placing.specs.Splits.Left.{done, blob, block}
-use Rattle.foyer_placing.proofs.LaidLemmas.{laid_beside, laid_there, laid_outside, within_more, stand_same, outside_less, outside_pages, stand_join, outside_join, behind_join, bytes_stand, bytes_len, laid_outside_all, laid_behind, laid_records}
+use Rattle.foyer_placing.proofs.LaidLemmas.{stand_same, outside_less, outside_pages, stand_join, outside_join, behind_join, bytes_stand, bytes_len, laid_outside_all, laid_behind, laid_records}
 
 module _ {C : Type 0} (rules : Rules C) (are : AreRules rules) where
   -- what is kept of the first block and of the others

@@ -2,42 +2,16 @@
 use Rattle.std.proofs.Common.{◌≡◌, ℕ, zero, suc, ◌+◌, ◌-◌, ◌<◌, ◌≤◌, nat_le, nat_lt, Bool, true, false, ◌&&◌, if◌then◌else◌, List, [], ◌∷◌, ◌++◌, map, length, drop, slice_index, inl, inr, refl, sym, ap, ◌∙◌, arith}
 use Rattle.std.proofs.lemmas.Bool.Decides.{nat_tests}
 use Rattle.std.proofs.lemmas.List.{length-drop}
-use Rattle.foyer_format.proofs.PageLaws.{page_up-holds}
-use Rattle.foyer_format.specs.Page.{page_up}
-use Rattle.foyer_model.proofs.Basics.{read_same, take_read, beside_or}
-use Rattle.foyer_model.specs.Position.{Position, tail_of, Write}
-use Rattle.foyer_model.specs.Layout.{MayWrite, laid, all_laid, AllStand, IsBeside, AllWithin, AllOutside, AllBehind}
+use Rattle.foyer_layout.proofs.PageLaws.{page_up-holds}
+use Rattle.foyer_layout.specs.Page.{page_up}
+use Rattle.foyer_layout.proofs.BlockBytesLaws.{read_same, take_read, beside_or}
+use Rattle.foyer_layout.specs.Position.{tail_of, MayWrite}
+use Rattle.foyer_layout.specs.BlockBytes.{Write, laid, all_laid, IsBeside, AllWithin}
+use Rattle.foyer_model.specs.Position.{Position}
+use Rattle.foyer_model.specs.Layout.{AllStand, AllOutside, AllBehind}
 use Rattle.foyer_model.specs.Receive.{bytes_taken}
 use Rattle.foyer_model.specs.Record.{Record}
 use Rattle.foyer_placing.specs.Splits.{laid_from, AreBytesOf}
-
-pub laid_beside : (w : Write) (g : ℕ → ℕ) (o : ℕ) → IsBeside w o → laid w g o ≡ g o
-laid_beside w g o beside = go (nat_le w.offset o) refl (nat_lt o (w.offset + length w.bytes)) refl
-  where
-    go : (p : Bool) → nat_le w.offset o ≡ p → (q : Bool) → nat_lt o (w.offset + length w.bytes) ≡ q
-        → (if p && q then slice_index w.bytes (o - w.offset) else g o) ≡ g o
-    go true e true f = absurd (elim beside [ inl l ↦ grind (arith, nat_tests) | inr r ↦ grind (arith, nat_tests) ])
-    go true e false f = refl
-    go false e q f = refl
-
--- the bytes of a write, where it is laid
-pub laid_there : (w : Write) (g : ℕ → ℕ) (i : ℕ) → i < length w.bytes → laid w g (w.offset + i) ≡ slice_index w.bytes i
-laid_there w g i lt =
-    let above : nat_le w.offset (w.offset + i) ≡ true = grind (arith, nat_tests) in
-    let below : nat_lt (w.offset + i) (w.offset + length w.bytes) ≡ true = grind (arith, nat_tests) in
-    let at : w.offset + i - w.offset ≡ i = omega arith in
-    rw (above, below) (ap (slice_index w.bytes) at)
-
--- writes within P leave what lies outside
-pub laid_outside : (P : ℕ → Type 0) (ws : List Write) (g : ℕ → ℕ) (o : ℕ) → AllWithin P ws → (P o → ⊥) → all_laid ws g o ≡ g o
-laid_outside P [] g o within out = refl
-laid_outside P (w ∷ ws) g o within out =
-    laid_outside P ws (laid w g) o within.1 out
-    ∙ laid_beside w g o (elim (beside_or w o) [ inl outside ↦ outside | inr inside ↦ absurd (out (within.0 o inside)) ])
-
-pub within_more : (P Q : ℕ → Type 0) (ws : List Write) → ((o : ℕ) → P o → Q o) → AllWithin P ws → AllWithin Q ws
-within_more P Q [] more within = tt
-within_more P Q (w ∷ ws) more within = (λ o beside. more o (within.0 o beside), within_more P Q ws more within.1)
 
 index-drop : (n : ℕ) (xs : List ℕ) (i : ℕ) → slice_index (drop n xs) i ≡ slice_index xs (n + i)
 index-drop zero xs i = let e : 0 + i ≡ i = omega arith in ap (slice_index xs) (sym e)

@@ -8,7 +8,7 @@ use Rattle.foyer_checksum.specs.Xxh64.{xxh64, avalanche, mul64, prime2, prime3}
 use Rattle.foyer_blob.proofs.BlobLemmas.{entry_put, sealed_by, entries_none}
 use Rattle.foyer_blob.specs.Blob.{entry_bytes, entries_in, IsSealed, FitsEntry, capacity_of}
 use Rattle.foyer_blob.specs.declared.blob.BlobEntryIndex.{BlobEntryIndex}
-use Rattle.foyer_buffer.specs.BlockBytes.{Each}
+use Rattle.foyer_layout.specs.Each.{Each}
 use Rattle.foyer_model.specs.Record.{IndexEntry}
 use Rattle.foyer_placing.specs.Splits.{is_encoded, IsIndexOf}
 

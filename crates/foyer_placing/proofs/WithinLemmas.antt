@@ -1,9 +1,9 @@
 -- What goes into a block lies within it.
 use Rattle.std.proofs.Common.{◌≡◌, ℕ, ◌+◌, ◌≤◌, List, [], ◌∷◌, ◌++◌, length, sym, subst, arith}
-use Rattle.foyer_buffer.specs.BlockBytes.{Each}
-use Rattle.foyer_buffer.specs.Position.{Sizes}
-use Rattle.foyer_format.specs.Page.{page_up}
-use Rattle.foyer_model.specs.Position.{Position, tail_of, Part, BlockLayout, records_in}
+use Rattle.foyer_layout.specs.Each.{Each}
+use Rattle.foyer_layout.specs.Position.{Sizes, tail_of}
+use Rattle.foyer_layout.specs.Page.{page_up}
+use Rattle.foyer_model.specs.Position.{Position, Part, BlockLayout, records_in}
 use Rattle.foyer_model.specs.Receive.{bytes_taken}
 use Rattle.foyer_model.specs.Record.{Record}
 use Rattle.foyer_placing.proofs.LaidLemmas.{bytes_len}

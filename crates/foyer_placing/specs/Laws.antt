@@ -1,22 +1,22 @@
 -- What holds of every placing of the plain machine's records.
 use Rattle.std.specs.Prelude.{◌≡◌, ◌+◌, ◌%◌, ◌^◌, ◌≤◌, ◌↔◌, ℕ, List, map, length}
-use Rattle.foyer_buffer.specs.BlockBytes.{Each}
+use Rattle.foyer_layout.specs.Each.{Each}
 use Rattle.foyer_buffer.specs.Entries.{Entries, IsFinished, left_of}
-use Rattle.foyer_buffer.specs.Position.{Sizes}
+use Rattle.foyer_layout.specs.Position.{Sizes}
 use Rattle.foyer_buffer.specs.Position as buffered
 use Rattle.foyer_buffer.specs.Layout.{IsLaidOut as IsCodeLayout, parts_of}
 use Rattle.foyer_buffer.specs.declared.BufferEntryInfo.{BufferEntryInfo}
 use Rattle.foyer_buffer.specs.declared.split.Batch.{Batch}
 use Rattle.foyer_device.specs.Section.{Section, bytes_of}
-use Rattle.foyer_format.specs.Page.{page_up}
+use Rattle.foyer_layout.specs.Page.{page_up}
 use Rattle.foyer_model.specs.Position.{Position, BlockLayout, last_end}
 use Rattle.foyer_model.specs.Layout.{KeepsRecords, PlacesAll}
 use Rattle.foyer_model.specs.Receive.{Fits}
 use Rattle.foyer_model.specs.Record.{Record}
-use Rattle.foyer_model.specs.Rules.{Rules}
+use Rattle.foyer_model.specs.Rules.{Rules, sizes_of}
 use Rattle.foyer_model.specs.State.{State, Flusher}
 use Rattle.foyer_placing.specs.Bridge.{filling_of, kept_of, AreBlocksAs}
-use Rattle.foyer_placing.specs.Splits.{sizes_of, MayGoOn, IsLaidOut, AreRules, LiesWithin}
+use Rattle.foyer_placing.specs.Splits.{MayGoOn, IsLaidOut, AreRules, LiesWithin}
 
 -- after its writes, over any bytes, each record stands where it was placed, and no later write falls into its pages
 abbrev pub KeepsAll : Type 0 → Type 0

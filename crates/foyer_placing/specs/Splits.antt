@@ -2,25 +2,14 @@
 use Rattle.std.specs.Prelude.{◌≡◌, ℕ, ◌+◌, ◌<◌, ◌≤◌, List, [], ◌∷◌, ◌++◌, map, length, take, drop}
 use Rattle.foyer_blob.specs.Blob.{IsSealed, capacity_of}
 use Rattle.foyer_blob.specs.declared.blob.BlobEntryIndex.{BlobEntryIndex}
-use Rattle.foyer_buffer.specs.BlockBytes.{Each}
-use Rattle.foyer_buffer.specs.Position.{Sizes}
-use Rattle.foyer_format.specs.Page.{page_up}
-use Rattle.foyer_model.specs.Position.{Position, tail_of, Data, Index, Write, Part, BlockLayout, records_in}
+use Rattle.foyer_layout.specs.Each.{Each}
+use Rattle.foyer_layout.specs.Position.{Sizes, tail_of, next_blob, fresh}
+use Rattle.foyer_layout.specs.Page.{page_up}
+use Rattle.foyer_layout.specs.BlockBytes.{Data, Index, Write}
+use Rattle.foyer_model.specs.Position.{Position, Part, BlockLayout, records_in}
 use Rattle.foyer_model.specs.Receive.{bytes_taken}
 use Rattle.foyer_model.specs.Record.{IndexEntry, Record}
 use Rattle.foyer_model.specs.Rules.{Rules, Splitting}
-
--- of these rules
-abbrev pub sizes_of : {C : Type 0} → Rules C → Sizes
-sizes_of rules = record { block = rules.block_size; index = rules.index_size }
-
--- of a block into which nothing was written
-abbrev pub fresh : Sizes → Position
-fresh s = record { blob = 0; at = s.index; listed = [] }
-
--- the next blob begins where the data of the blob before it end
-abbrev pub next_blob : Sizes → Position → Position
-next_blob s f = record { blob = tail_of f; at = s.index; listed = [] }
 
 -- an entry of an index, as its bytes spell it
 abbrev pub is_encoded : IndexEntry → BlobEntryIndex

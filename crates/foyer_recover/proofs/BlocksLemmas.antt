@@ -9,8 +9,8 @@ use Rattle.foyer_block.specs.declared.indexer.HashedEntryAddress.{HashedEntryAdd
 use Rattle.foyer_block.specs.Index.{IndexMap}
 use Rattle.foyer_block.specs.Insertion.{inserted_all}
 use Rattle.foyer_buffer.specs.Listing.{Lists, kept}
-use Rattle.foyer_buffer.specs.BlockBytes.{Each}
-use Rattle.foyer_buffer.specs.Position.{Sizes}
+use Rattle.foyer_layout.specs.Each.{Each}
+use Rattle.foyer_layout.specs.Position.{Sizes}
 use Rattle.foyer_recover.specs.BlocksKept.{held_by, HoldsKept, AreBlocksRead, IsBlockCut}
 use Rattle.foyer_recover.specs.Chained.{hashed_entries, IsKeptOf}
 use Rattle.foyer_recover.specs.Kept.{greatest_in}

@@ -3,15 +3,17 @@ use Rattle.std.proofs.Common.{◌≡◌, ℕ, suc, ◌+◌, ◌-◌, ◌<◌, �
 use Rattle.std.proofs.lemmas.Bool.{eq-eqb, eqb-true}
 use Rattle.std.proofs.lemmas.Bool.Decides.{nat_tests}
 use Rattle.std.proofs.lemmas.List.{map-append}
-use Rattle.foyer_format.specs.Page.{page_up}
+use Rattle.foyer_layout.proofs.EachLaws.{each_join}
+use Rattle.foyer_layout.specs.Page.{page_up}
 use Rattle.foyer_blob.specs.declared.blob.BlobEntryIndex.{BlobEntryIndex}
 use Rattle.foyer_block.specs.declared.indexer.HashedEntryAddress.{HashedEntryAddress}
-use Rattle.foyer_buffer.specs.BlockBytes.{read, Each}
+use Rattle.foyer_layout.specs.BlockBytes.{read}
+use Rattle.foyer_layout.specs.Each.{Each}
 use Rattle.foyer_buffer.specs.Fills.{AreSizes}
 use Rattle.foyer_buffer.specs.Holding.{all_read}
 use Rattle.foyer_buffer.specs.Listing.{Fits, IsIndex, behind, placed, Chain, Lists, rising, kept}
 use Rattle.foyer_buffer.specs.Listing.Chain.{ends, goes}
-use Rattle.foyer_buffer.specs.Position.{Sizes}
+use Rattle.foyer_layout.specs.Position.{Sizes}
 use Rattle.foyer_scan.specs.IndexBytes.{index_at, IsIndexOf}
 use Rattle.foyer_scan.specs.Scan.{next_blob, info_of, infos_of, ScanStep, scan_step, index_step}
 use Rattle.foyer_scan.specs.ScanRun.{infos_in}
@@ -90,10 +92,6 @@ pub record IsSomeAlong (s : Sizes) (block : ℕ) (old now : List HashedEntryAddr
   pub hashed : AllHashed (rising_infos (Some 0) (infos_of block 0 given))
   pub kept : now ≡ old ++ hashed_infos (rising_infos (Some 0) (infos_of block 0 given))
   pub last : least ≡ last_kept (Some 0) (infos_of block 0 given)
-
-each_both : {X : Type 0} (P : X → Type 0) (xs ys : List X) → Each P xs → Each P ys → Each P (xs ++ ys)
-each_both P [] ys are too = too
-each_both P (x ∷ xs) ys are too = (are.0, each_both P xs ys are.1 too)
 
 -- what is kept of entries that lie in their block
 each_kept : (P : BlobEntryIndex → Type 0) (n : ℕ) (es : List BlobEntryIndex) → Each P es → Each P (rising n es)
@@ -258,13 +256,13 @@ module _ (s : Sizes) (B : ℕ → ℕ) (sizes : AreSizes s) where
         with_more : (more : List BlobEntryIndex) → Each (IsWithin s) more → infos_in listed ≡ infos_of block 0 more → IsSomeAlong s block old now' last'
         with_more more are is = record {
           given = along.given ++ more;
-          within = each_both (IsWithin s) along.given more along.within are;
+          within = each_join (IsWithin s) along.given more along.within are;
           hashed =
               let g : List EntryInfo = infos_of block 0 along.given in
               let m : List EntryInfo = infos_of block 0 more in
               subst (λ l. AllHashed (rising_infos (Some 0) l)) (sym (map-append (info_of block 0) along.given more))
               (subst AllHashed (sym (rising_both (Some 0) g m))
-              (each_both (λ (i : EntryInfo). i.hash < 2 ^ 64) (rising_infos (Some 0) g) (rising_infos (last_kept (Some 0) g) m) along.hashed
+              (each_join (λ (i : EntryInfo). i.hash < 2 ^ 64) (rising_infos (Some 0) g) (rising_infos (last_kept (Some 0) g) m) along.hashed
               (subst (λ o. AllHashed (rising_infos o m)) along.last (subst (λ l. AllHashed (rising_infos last l)) is hashed))));
           kept = now_is ∙ ap (λ l. now ++ hashed_infos (rising_infos last l)) is ∙ kept_on block old now last along.given more along.kept along.last;
           last = last_is ∙ ap (last_kept last) is ∙ last_on block last along.given more along.last;

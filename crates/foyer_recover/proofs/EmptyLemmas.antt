@@ -1,7 +1,7 @@
 -- An opening that reads no block finds nothing.
 use Rattle.std.proofs.Common.{◌≡◌, ℕ, zero, suc, ◌+◌, ◌<◌, ◌≤◌, ◌^◌, Bool, Option, None, List, [], ◌++◌, refl, sym, ap, ◌∙◌, arith}
 use Rattle.foyer_blob.specs.declared.blob.BlobEntryIndex.{BlobEntryIndex}
-use Rattle.foyer_buffer.specs.Position.{Sizes}
+use Rattle.foyer_layout.specs.Position.{Sizes}
 use Rattle.foyer_recover.specs.Opening.{Opened, Found, winner, slot_of, stand_in, all_stand, greatest, IsAtEnd}
 use Rattle.foyer_recover.specs.Recovery.{IsRecovered}
 use Rattle.foyer_recover.specs.declared.block.recover.RecoverMode.TheVariants as recover_mode

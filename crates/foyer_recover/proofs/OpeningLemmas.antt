@@ -2,7 +2,7 @@
 use Rattle.std.proofs.Common.{◌≡◌, ℕ, ◌+◌, ◌<◌, ◌≤◌, ◌==◌, ◌^◌, Bool, true, false, if◌then◌else◌, Option, Some, None, List, [], ◌++◌, refl, sym, ap, subst, ◌∙◌, ◌⊎◌, inl, inr, Result, Ok, Err, IfOk, IfErr}
 use Rattle.std.proofs.lemmas.Bool.{eqb-true, eq-eqb}
 use Rattle.std.specs.FinMap as finite
-use Rattle.foyer_buffer.specs.Position.{Sizes}
+use Rattle.foyer_layout.specs.Position.{Sizes}
 use Rattle.foyer_recover.specs.BlocksKept.{addressed_by, HoldsKept, HoldsFound, AreBlocksRead, AreBlocksKept, IsBlockCut}
 use Rattle.foyer_recover.specs.Opening.{Found, Stands, Marked, winner, slot_of, all_stand, all_marked, IsCut, IsCutShort, IsAtEnd}
 use Rattle.foyer_device.specs.declared.error.Error.{Error}

@@ -7,7 +7,7 @@ use Rattle.foyer_block.specs.declared.indexer.EntryAddress.{EntryAddress}
 use Rattle.foyer_block.specs.declared.indexer.Index.{Index}
 use Rattle.foyer_block.specs.declared.indexer.Index.TheVariants.{Address, Tombstone}
 use Rattle.foyer_buffer.specs.Listing.{Lists, kept}
-use Rattle.foyer_buffer.specs.Position.{Sizes}
+use Rattle.foyer_layout.specs.Position.{Sizes}
 use Rattle.foyer_recover.specs.Opening.{Found, Stands, Marked, winner, all_stand, greatest, clean_from, Keeps, IsCut}
 use Rattle.foyer_recover.specs.declared.block.recover.RecoverMode.{RecoverMode}
 use Rattle.foyer_recover.specs.declared.block.recover.RecoverMode.TheVariants as recover_mode

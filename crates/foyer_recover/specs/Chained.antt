@@ -2,7 +2,7 @@
 use Rattle.std.specs.Prelude.{◌≡◌, ℕ, Bool, true, false, List, ◌++◌}
 use Rattle.foyer_blob.specs.declared.blob.BlobEntryIndex.{BlobEntryIndex}
 use Rattle.foyer_block.specs.declared.indexer.HashedEntryAddress.{HashedEntryAddress}
-use Rattle.foyer_buffer.specs.Position.{Sizes}
+use Rattle.foyer_layout.specs.Position.{Sizes}
 use Rattle.foyer_buffer.specs.Listing.{Lists, kept}
 use Rattle.foyer_scan.specs.Scan.{infos_of}
 use Rattle.foyer_recover.specs.Kept.{hashed_infos}

@@ -1,7 +1,7 @@
 -- What an opening makes of the bytes of all blocks.
 use Rattle.std.specs.Prelude.{◌≡◌, ℕ, zero, suc, ◌+◌, ◌<◌, ◌≤◌, ◌==◌, ◌^◌, nat_lt, nat_le, if◌then◌else◌, Bool, true, false, List, [], ◌∷◌, ◌++◌, Option, Some, None}
 use Rattle.foyer_blob.specs.declared.blob.BlobEntryIndex.{BlobEntryIndex}
-use Rattle.foyer_buffer.specs.Position.{Sizes}
+use Rattle.foyer_layout.specs.Position.{Sizes}
 use Rattle.foyer_buffer.specs.Listing.{Chain, Lists, kept}
 use Rattle.foyer_model.specs.Record.{Address, Slot, Indexed}
 use Rattle.foyer_recover.specs.declared.block.recover.RecoverMode.{RecoverMode}

@@ -1,10 +1,10 @@
 -- What an opening keeps, whatever was read: entries that lie in their blocks.
 use Rattle.std.specs.Prelude.{◌≡◌, ℕ, ◌+◌, ◌<◌, ◌≤◌, ◌^◌, List, ◌++◌}
-use Rattle.foyer_format.specs.Page.{page_up}
+use Rattle.foyer_layout.specs.Page.{page_up}
 use Rattle.foyer_blob.specs.declared.blob.BlobEntryIndex.{BlobEntryIndex}
 use Rattle.foyer_block.specs.declared.indexer.HashedEntryAddress.{HashedEntryAddress}
-use Rattle.foyer_buffer.specs.BlockBytes.{Each}
-use Rattle.foyer_buffer.specs.Position.{Sizes}
+use Rattle.foyer_layout.specs.Each.{Each}
+use Rattle.foyer_layout.specs.Position.{Sizes}
 use Rattle.foyer_scan.specs.declared.block.scanner.EntryInfo.{EntryInfo}
 use Rattle.foyer_recover.specs.BlocksKept.{HoldsKept}
 use Rattle.foyer_recover.specs.Chained.{hashed_entries}

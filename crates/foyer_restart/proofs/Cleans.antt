@@ -2,7 +2,8 @@
 use Rattle.std.proofs.lemmas.Bool.Decides.{nat_tests}
 use Rattle.std.proofs.Common.{◌≡◌, ◌≢◌, ℕ, suc, ◌+◌, ◌<◌, ◌≤◌, ◌==◌, nat_lt, Bool, true, false, ◌&&◌, if◌then◌else◌, Option, Some, None, List, [], ◌∷◌, ◌++◌, map, length, slice_index, ◌⊎◌, inl, inr, refl, sym, ap, subst, ◌∙◌, arith}
 use Rattle.std.proofs.lemmas.Bool.{eqb-true}
-use Rattle.foyer_buffer.specs.BlockBytes.{all_laid, read}
+use Rattle.foyer_layout.specs.Position.{Sizes, fresh}
+use Rattle.foyer_layout.specs.BlockBytes.{all_laid, read}
 use Rattle.foyer_buffer.specs.Position as laid
 use Rattle.foyer_buffer.specs.Fills.{AreSizes}
 use Rattle.foyer_buffer.specs.Holding.{Holds}
@@ -12,7 +13,7 @@ use Rattle.foyer_model.specs.Numbers.{put, last_number, plus, page}
 use Rattle.foyer_model.specs.Ids.{ids, is_id_in, without_id}
 use Rattle.foyer_model.specs.Record.{Indexed}
 use Rattle.foyer_model.specs.State.{Stage, AtIndex, AtRecord, AllListed, ToClean, Reclaim, Begun, Cleaning}
-use Rattle.foyer_model.specs.Rules.{Rules, first_position}
+use Rattle.foyer_model.specs.Rules.{Rules, first_position, sizes_of}
 use Rattle.foyer_model.specs.Flush.{is_cleaning}
 use Rattle.foyer_model.specs.Destroy.{vacated, after_clean, refilled}
 use Rattle.foyer_model.specs.InTurn.{IsAt, AwaitsClean}
@@ -24,7 +25,7 @@ use Rattle.foyer_model.proofs.Invariant.{blocks_in, goes_on_in, start_of, writin
 use Rattle.foyer_model.proofs.Ids.{in_without, in_cases, same_in, later_in}
 use Rattle.foyer_model.proofs.FlushEnds.{put_self}
 use Rattle.foyer_model.proofs.ReclaimSteps.{plus_one}
-use Rattle.foyer_restart.specs.Entries.{sizes_of, filled_to, plain, entry_of, puts_at}
+use Rattle.foyer_restart.specs.Entries.{filled_to, entry_of, puts_at}
 use Rattle.foyer_restart.proofs.Tasks.{role_more, TasksOk, IsWrittenIn}
 use Rattle.foyer_restart.proofs.Safe.{Sight, Job, job_of, job_in, left_in, IsBelow, IsDead, RestOk, sequences_of, puts_in, PhaseReads, ScanReads, StageReads, ReadsOk, IsSafe}
 use Rattle.foyer_restart.proofs.Puts.{puts_none}
@@ -83,7 +84,7 @@ module _ (A : Type 0) {C : Type 0} (rules : Rules C) (sizes : AreSizes (sizes_of
     };
     slots = λ h a e. absurd (let x : None ≡ Some (Indexed a) = e in cc);
     ups = record { ascends = λ c. (0, subst (λ l. Ascends 0 (sequences_of l) 0) (sym (none c)) (omega arith)); owned = λ f b e. absurd (let x : None ≡ Some b = e in cc) };
-    still = λ c living no_job. (laid.fresh sz, subst (Holds sz (v.bytes c) (laid.fresh sz)) (sym (none c)) (holds_fresh sz (v.bytes c) sizes));
+    still = λ c living no_job. (fresh sz, subst (Holds sz (v.bytes c) (fresh sz)) (sym (none c)) (holds_fresh sz (v.bytes c) sizes));
     held = λ f. record {
       mine = λ b e. absurd (let x : None ≡ Some b = e in cc);
       writing = λ b ps e. let j : Job C = (b, ps) in absurd (let x : None ≡ Some j = sym (no_job f) ∙ e in cc);
@@ -101,7 +102,7 @@ module _ (A : Type 0) {C : Type 0} (rules : Rules C) (sizes : AreSizes (sizes_of
     reads = λ b. subst (λ r. ReadsOk sz (v.bytes b) b (refilled rules.blocks v.filling b) r (v.scans b)) (sym (unread b)) tt;
   }
     where
-      sz : laid.Sizes
+      sz : Sizes
       sz = sizes_of rules
 
       no_job : (f : ℕ) → job_in (v.flushers f) ≡ None
@@ -224,15 +225,15 @@ module _ (A : Type 0) {C : Type 0} (rules : Rules C) (sizes : AreSizes (sizes_of
     well = s.well;
     still = λ c living no_job. elim (same_or c b) [
       | inl at ↦ (
-        laid.fresh sz,
-        subst (λ l. Holds sz (put v.bytes b k c) (laid.fresh sz) l) (sym (ap (puts_in v.filling v.committed) at ∙ elim which [ inl soon ↦ absurd (living (subst (IsDead v.place v.reclaims) (sym at) (inr soon))) | inr awaits ↦ s.apart.cleaned b awaits ]))
+        fresh sz,
+        subst (λ l. Holds sz (put v.bytes b k c) (fresh sz) l) (sym (ap (puts_in v.filling v.committed) at ∙ elim which [ inl soon ↦ absurd (living (subst (IsDead v.place v.reclaims) (sym at) (inr soon))) | inr awaits ↦ s.apart.cleaned b awaits ]))
             (holds_fresh sz (put v.bytes b k c) sizes),
       )
       | inr other ↦ subst (λ B. (g : laid.Position) × Holds sz B g (puts_in v.filling v.committed c)) (sym (put_other v.bytes b k c other)) (s.still c living no_job)
     ];
     held = λ q. record {
       mine = λ c owns idle. subst (λ B. Holds sz B (filled_to (v.filled c)) (puts_in v.filling v.committed c)) (sym (put_other v.bytes b k c (unowned q c owns))) ((s.held q).mine c owns idle);
-      writing = λ c ps is_job. subst (λ B. Holds sz (all_laid (map plain (left_in (v.block_writes q))) B) (filled_to (v.filled c)) (puts_in v.filling v.committed c ++ map entry_of ps) × TasksOk (puts_in v.filling v.committed c) ps B (left_in (v.block_writes q)))
+      writing = λ c ps is_job. subst (λ B. Holds sz (all_laid (left_in (v.block_writes q)) B) (filled_to (v.filled c)) (puts_in v.filling v.committed c ++ map entry_of ps) × TasksOk (puts_in v.filling v.committed c) ps B (left_in (v.block_writes q)))
           (sym (put_other v.bytes b k c (unowned q c (o.job q c ps is_job)))) ((s.held q).writing c ps is_job);
     };
     log = λ c x i. role_more x.role _ _ x (λ e k'. elim k' [ inl done ↦ inl done | inr (q, ps, is_job, there) ↦ inr (q, ps, is_job, subst (λ B. IsWrittenIn ps B (left_in (v.block_writes q)) e) (sym (put_other v.bytes b k c (unowned q c (o.job q c ps is_job)))) there) ]) (s.log c x i);
@@ -246,7 +247,7 @@ module _ (A : Type 0) {C : Type 0} (rules : Rules C) (sizes : AreSizes (sizes_of
     reads = put_one (λ c B. ReadsOk sz B c (v.filling c) (v.reclaims c) (v.scans c)) v.bytes b k (again (v.reclaims b) refl (s.reads b)) (λ c _. s.reads c);
   }
     where
-      sz : laid.Sizes
+      sz : Sizes
       sz = sizes_of rules
 
       which : IsAt ToClean (v.reclaims b) ⊎ AwaitsClean b v.destroy
@@ -287,7 +288,7 @@ module _ (A : Type 0) {C : Type 0} (rules : Rules C) (sizes : AreSizes (sizes_of
   scan_begins v b over none s = scanned A rules v (put v.scans b (at_scan (begun over) b (v.scans b))) s
       (put_one (λ c sc. ReadsOk sz (v.bytes c) c (v.filling c) (v.reclaims c) sc) v.scans b (at_scan (begun over) b (v.scans b)) (again (v.reclaims b) none (s.reads b)) (λ c _. s.reads c))
     where
-      sz : laid.Sizes
+      sz : Sizes
       sz = sizes_of rules
 
       read_state : (p : ℕ) (k : ReadState) → ((o : ℕ) → over b o ≡ false) → PhaseReads sz (v.bytes b) p k → PhaseReads sz (v.bytes b) p (begun over b k)
@@ -315,7 +316,7 @@ module _ (A : Type 0) {C : Type 0} (rules : Rules C) (sizes : AreSizes (sizes_of
   scan_ends v b bs given s = scanned A rules v (put v.scans b (at_scan (λ _. came (Bytes bs)) b (v.scans b))) s
       (put_one (λ c sc. ReadsOk sz (v.bytes c) c (v.filling c) (v.reclaims c) sc) v.scans b (at_scan (λ _. came (Bytes bs)) b (v.scans b)) (again (v.reclaims b) (s.reads b)) (λ c _. s.reads c))
     where
-      sz : laid.Sizes
+      sz : Sizes
       sz = sizes_of rules
 
       read_state : (p o n : ℕ) (k : ReadState) → o ≡ p → n ≡ sz.index → IsRead (v.bytes b) o n k (Bytes bs) → PhaseReads sz (v.bytes b) p k → PhaseReads sz (v.bytes b) p (came (Bytes bs) k)

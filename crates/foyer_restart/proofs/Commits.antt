@@ -1,22 +1,25 @@
 -- The records of a block are committed.
 use Rattle.std.proofs.lemmas.Bool.Decides.{nat_tests}
 use Rattle.std.proofs.Common.{◌≡◌, ℕ, ◌+◌, ◌<◌, ◌≤◌, nat_le, Bool, true, false, if◌then◌else◌, Option, Some, None, List, [], ◌∷◌, ◌++◌, map, ◌⊎◌, inl, inr, refl, sym, ap, subst, ◌∙◌, arith}
-use Rattle.foyer_buffer.specs.BlockBytes.{all_laid}
+use Rattle.foyer_layout.specs.Position.{Sizes}
+use Rattle.foyer_layout.specs.BlockBytes.{all_laid}
 use Rattle.foyer_buffer.specs.Position as laid
 use Rattle.foyer_buffer.specs.Holding.{Holds}
 use Rattle.foyer_model.specs.Numbers.{put}
 use Rattle.foyer_model.specs.Record.{Address, Slot, Indexed, Source, Given, Reread, Record}
 use Rattle.foyer_model.specs.Position.{records_of}
 use Rattle.foyer_model.specs.State.{Submission, Piece, Remove, Await, Reinsert, Batch, Flusher, Writes}
-use Rattle.foyer_model.specs.Rules.{Rules, flusher_of}
+use Rattle.foyer_model.specs.Rules.{Rules, flusher_of, sizes_of}
 use Rattle.foyer_model.specs.Index.{sequence_at}
 use Rattle.foyer_model.specs.Commit.{address_of, taken_in, committed_one}
 use Rattle.foyer_model.specs.Access.{Idle}
 use Rattle.foyer_model.specs.World.{Stored, with_stored}
 use Rattle.foyer_model.proofs.Basics.{put_at, put_one, put_both, put_same, put_other, Ascends, ascends_span, ascends_from, AllAtLeast, ascends_at_least}
-use Rattle.foyer_model.proofs.Invariant.{Each, AllWell, put_in, puts_onto, queue_puts, sequences, batch_records, blocks_in, goes_on_in, start_of}
-use Rattle.foyer_model.proofs.CommitSteps.{committed, line_ascends, each_front, each_drop}
-use Rattle.foyer_restart.specs.Entries.{In, sizes_of, filled_to, plain, entry_of, entry_at, entry_done}
+use Rattle.foyer_layout.specs.Each.{Each}
+use Rattle.foyer_model.proofs.Invariant.{AllWell, put_in, puts_onto, queue_puts, sequences, batch_records, blocks_in, goes_on_in, start_of}
+use Rattle.foyer_layout.proofs.EachLaws.{each_front, each_back}
+use Rattle.foyer_model.proofs.CommitSteps.{committed, line_ascends}
+use Rattle.foyer_restart.specs.Entries.{In, filled_to, entry_of, entry_at, entry_done}
 use Rattle.foyer_restart.proofs.Tasks.{Entry, IsWrittenIn, role_more, TasksOk}
 use Rattle.foyer_restart.proofs.Safe.{Sight, Job, job_in, left_in, results_in, SourceIs, RecordIs, SubmissionIs, AllWait, IsOf, IsBelow, IsSlot, IsDead, IsHeld, RestOk, WasDone, IsInJob, sequences_of, puts_in, IsSafe}
 use Rattle.foyer_restart.proofs.Puts.{puts_more, puts_other, stored_out, stored_before, stored_in}
@@ -270,7 +273,7 @@ module _ (A : Type 0) {C : Type 0} (rules : Rules C) where
         })
         (λ q ne. record {
           mine = λ c owns none. subst (λ l. Holds sz (v.bytes c) (filled_to (v.filled c)) l) (sym (puts_far c (λ at. ne (o.one q f b (owns ∙ ap Some at) own)))) ((s.held q).mine c owns none);
-          writing = λ c qs at_job. subst (λ l. Holds sz (all_laid (map plain (left_in (v.block_writes q))) (v.bytes c)) (filled_to (v.filled c)) (l ++ map entry_of qs) × TasksOk l qs (v.bytes c) (left_in (v.block_writes q)))
+          writing = λ c qs at_job. subst (λ l. Holds sz (all_laid (left_in (v.block_writes q)) (v.bytes c)) (filled_to (v.filled c)) (l ++ map entry_of qs) × TasksOk l qs (v.bytes c) (left_in (v.block_writes q)))
               (sym (puts_far c (λ at. ne (o.one q f b (o.job q c qs at_job ∙ ap Some at) own)))) ((s.held q).writing c qs at_job);
         });
     rests = put_one (λ q φ. RestOk A sz (filled_to (start_of rules v.filled φ.own (goes_on_in φ.batch))) (blocks_in φ.batch)) v.flushers f ψ
@@ -291,7 +294,7 @@ module _ (A : Type 0) {C : Type 0} (rules : Rules C) where
     reads = s.reads;
   }
     where
-      sz : laid.Sizes
+      sz : Sizes
       sz = sizes_of rules
 
       n : ℕ
@@ -356,7 +359,7 @@ module _ (A : Type 0) {C : Type 0} (rules : Rules C) where
       higher h k le ok = (le, ok.1)
 
       raised : Each (RecordIs Pm) (records_of batch.blocks) × AllAtLeast mid (sequences rest)
-      raised = raise mid Pf Pm (records_of batch.blocks) rest higher (each_drop (RecordIs Pf) (rows ps) (records_of batch.blocks) all)
+      raised = raise mid Pf Pm (records_of batch.blocks) rest higher (each_back (RecordIs Pf) (rows ps) (records_of batch.blocks) all)
           (ascends_at_least mid (sequences (puts_onto (records_of batch.blocks) rest)) v.next split.1)
 
       raised_buffer : Each (RecordIs Pm) (v.flushers f).buffer × AllAtLeast mid (sequences (queue_puts (v.flushers f).queue))
@@ -378,7 +381,7 @@ module _ (A : Type 0) {C : Type 0} (rules : Rules C) where
 
       written : Holds sz (v.bytes b) (filled_to (v.filled b)) (puts' b)
       written = subst (Holds sz (v.bytes b) (filled_to (v.filled b))) (sym puts_here)
-          (subst (λ l. Holds sz (all_laid (map plain l) (v.bytes b)) (filled_to (v.filled b)) (puts b ++ map entry_of ps)) left ((s.held f).writing b ps is_job).0)
+          (subst (λ l. Holds sz (all_laid (l) (v.bytes b)) (filled_to (v.filled b)) (puts b ++ map entry_of ps)) left ((s.held f).writing b ps is_job).0)
 
       kept_job : (q c : ℕ) (qs : List (ℕ × Record C)) → job_in (v.flushers q) ≡ Some (c, qs) → (c ≡ b → ⊥) → job_in (put v.flushers f ψ q) ≡ Some (c, qs)
       kept_job q c qs at_job other = ap job_in (put_other v.flushers f ψ q (λ at. other (sym (job_same (b, ps) (c, qs) (sym is_job ∙ ap (λ k. job_in (v.flushers k)) (sym at) ∙ at_job)).0))) ∙ at_job

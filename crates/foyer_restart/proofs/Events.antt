@@ -1,6 +1,6 @@
 -- Each step and each access that goes well keeps a world safe.
 use Rattle.std.proofs.Common.{◌≡◌, ℕ, ◌+◌, ◌<◌, ◌==◌, nat_le, Bool, true, false, if◌then◌else◌, Option, Some, None, List, [], ◌∷◌, ◌++◌, inl, inr, refl, sym, ap, subst, ◌∙◌, arith}
-use Rattle.foyer_buffer.specs.BlockBytes.{read}
+use Rattle.foyer_layout.specs.BlockBytes.{read}
 use Rattle.foyer_model.specs.Kind.{Kind}
 use Rattle.foyer_model.specs.Destroy.{first_fault}
 use Rattle.foyer_model.specs.Numbers.{put, last_number}
@@ -8,7 +8,7 @@ use Rattle.foyer_model.specs.Ids.{ids, without_id}
 use Rattle.foyer_model.specs.Record.{Address, Slot, IndexEntry, Record}
 use Rattle.foyer_model.specs.Position.{Position}
 use Rattle.foyer_model.specs.State.{Submission, Piece, Remove, Await, Reinsert, Writing, Batch, Flusher, BlockSet, Clean, Writes, Evictable, Reclaims, Stage, AtIndex, AtRecord, AllListed, ToClean, Reclaim, Destroy, NoDestroy, Begun, Cleaning, State}
-use Rattle.foyer_model.specs.Rules.{Rules, flusher_of, first_position, Splitting}
+use Rattle.foyer_model.specs.Rules.{Rules, flusher_of, first_position, Splitting, sizes_of}
 use Rattle.foyer_model.specs.Step.{ReadResult, Bytes, Fault, Step, Enqueue, Delete, Wait, MayContains, LoadBegin, LoadEnd, Receive, FlushBegin, FlushBlock, FlushWrote, LogWrote, FlushEnd, ReclaimBegin, ReclaimRead, ReclaimForget, ReclaimCleaned, ReclaimIdle, DestroyBegin, DestroyClear, DestroyCleaned, Close}
 use Rattle.foyer_model.specs.Reply.{Reply, NotNow, Refused, Ignored, Queued, Deleted, Done, Miss, Throttled, Read, Entry, Empty, Received, Began, Written, NoBlock, Next, Committed, Failed, Ended, Picked, Scans, Listed, Cleans, Destroying, Cleared, Destroyed}
 use Rattle.foyer_model.specs.Index.{inserted, without, unmarked}
@@ -23,11 +23,12 @@ use Rattle.foyer_model.specs.World.{World, WorldEvent, Applies, with_stored, sto
 use Rattle.foyer_model.specs.Laws.{Demands}
 use Rattle.foyer_model.specs.Widths.{StateHasWidths}
 use Rattle.foyer_model.proofs.Basics.{put_other}
-use Rattle.foyer_model.proofs.Invariant.{Each, WritesFit, WritingOk, ground_of, writing_in, blocks_in, goes_on_in, batch_records, start_of}
+use Rattle.foyer_layout.specs.Each.{Each}
+use Rattle.foyer_model.proofs.Invariant.{WritesFit, WritingOk, ground_of, writing_in, blocks_in, goes_on_in, batch_records, start_of}
 use Rattle.foyer_model.proofs.CommitSteps.{committed, committed_is}
 use Rattle.foyer_model.proofs.Sets.{fillings_few}
 use Rattle.foyer_model.proofs.SoundKept.{IsKnown}
-use Rattle.foyer_restart.specs.Entries.{sizes_of, filled_to}
+use Rattle.foyer_restart.specs.Entries.{filled_to}
 use Rattle.foyer_restart.specs.Real.{IsReal}
 use Rattle.foyer_restart.specs.Restart.{AllRefused, StepGoesWell}
 use Rattle.foyer_restart.proofs.Safe.{Sight, sight_of, Job, job_of, job_in, left_in, results_in, RecordIs, SubmissionIs, AllWait, IsOf, RestOk, IsDead, IsSlot, sequences_of, puts_in, ScanReads, StageReads, ReadsOk, IsSafe}

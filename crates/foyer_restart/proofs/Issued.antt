@@ -2,9 +2,9 @@
 use Rattle.std.proofs.Common.{◌≡◌, ℕ, ◌+◌, ◌<◌, ◌≤◌, ◌==◌, Bool, true, false, Option, Some, None, List, [], ◌∷◌, ◌++◌, map, length, ◌⊎◌, inl, inr, refl, sym, ap, subst, ◌∙◌, arith}
 use Rattle.std.proofs.lemmas.Bool.{eqb-true, eqb-false}
 use Rattle.std.proofs.lemmas.List.{append-nil}
+use Rattle.foyer_layout.specs.Position.{Sizes, fresh}
 use Rattle.foyer_device.specs.Section.{Section, bytes_of}
-use Rattle.foyer_buffer.specs.BlockBytes as bytes
-use Rattle.foyer_buffer.specs.BlockBytes.{all_laid}
+use Rattle.foyer_layout.specs.BlockBytes.{all_laid, Write}
 use Rattle.foyer_buffer.specs.Position as laid
 use Rattle.foyer_buffer.specs.Fills as fills
 use Rattle.foyer_buffer.specs.Fills.{AreSizes, Fills}
@@ -16,20 +16,21 @@ use Rattle.foyer_buffer.proofs.HoldsLemmas.{holds_fills, each_some}
 use Rattle.foyer_buffer.proofs.SplitLemmas.{taken-append}
 use Rattle.foyer_model.specs.Numbers.{put}
 use Rattle.foyer_model.specs.Record.{Address, Indexed, Record}
-use Rattle.foyer_model.specs.Position.{Position, Write, Part, BlockLayout, records_in, records_of}
+use Rattle.foyer_model.specs.Position.{Position, Part, BlockLayout, records_in, records_of}
 use Rattle.foyer_model.specs.State.{Batch, Flusher, BlockSet, Clean, Writes, Evictable, Destroy, NoDestroy, Begun, Cleaning}
-use Rattle.foyer_model.specs.Rules.{Rules}
+use Rattle.foyer_model.specs.Rules.{Rules, sizes_of}
 use Rattle.foyer_model.specs.Flush.{is_cleaning, released, writing_of}
 use Rattle.foyer_model.specs.InTurn.{AwaitsClean}
 use Rattle.foyer_model.specs.Access.{writes_of as issued_writes}
 use Rattle.foyer_model.specs.World.{Stored}
 use Rattle.foyer_model.proofs.Basics.{put_at, put_one, put_both, put_same, put_other, Ascends}
-use Rattle.foyer_model.proofs.Invariant.{Each, AllWell, writing_in, blocks_in, goes_on_in, batch_records, start_of}
-use Rattle.foyer_model.proofs.CommitSteps.{each_drop}
+use Rattle.foyer_layout.specs.Each.{Each}
+use Rattle.foyer_model.proofs.Invariant.{AllWell, writing_in, blocks_in, goes_on_in, batch_records, start_of}
+use Rattle.foyer_layout.proofs.EachLaws.{each_back, each_front}
 use Rattle.foyer_model.proofs.FlushBlocks.{records_issued, start_other}
-use Rattle.foyer_restart.specs.Entries.{In, sizes_of, filled_to, plain, entry_of, puts_at}
+use Rattle.foyer_restart.specs.Entries.{In, filled_to, entry_of, puts_at}
 use Rattle.foyer_restart.specs.Real.{AreSameParts, AreSpread, IsSpread}
-use Rattle.foyer_restart.proofs.Tasks.{Entry, IsWrittenIn, role_more, TasksOk, writes_of, same_writes, same_records, entries_stored, fills_tasks, each_front}
+use Rattle.foyer_restart.proofs.Tasks.{Entry, IsWrittenIn, role_more, TasksOk, writes_of, same_writes, same_records, entries_stored, fills_tasks}
 use Rattle.foyer_restart.proofs.Safe.{Sight, Job, job_of, job_in, left_in, results_in, RecordIs, AllWait, IsOf, IsBelow, IsSlot, IsDead, IsJob, IsHeld, RestOk, sequences_of, puts_in, ReadsOk, IsSafe}
 use Rattle.foyer_restart.proofs.Puts.{puts_none}
 use Rattle.foyer_restart.proofs.Stop.{some_same, job_same}
@@ -56,8 +57,8 @@ well_writes b [] = tt
 well_writes b (w ∷ ws) = tt
 
 -- what a block holds once it is issued
-held_issued : {C : Type 0} (s : laid.Sizes) (filled : ℕ → Position) (B : ℕ → ℕ → ℕ) (puts : ℕ → List Entry) (b : ℕ) (parts : List (Part C))
-    → Holds s (all_laid (map plain (writes_of parts)) (B b)) (filled_to (filled b)) (puts b ++ map entry_of (records_in parts))
+held_issued : {C : Type 0} (s : Sizes) (filled : ℕ → Position) (B : ℕ → ℕ → ℕ) (puts : ℕ → List Entry) (b : ℕ) (parts : List (Part C))
+    → Holds s (all_laid (writes_of parts) (B b)) (filled_to (filled b)) (puts b ++ map entry_of (records_in parts))
     → TasksOk (puts b) (records_in parts) (B b) (writes_of parts)
     → IsHeld s filled B puts (Some b) (job_of (writing_of b (writes_of parts) (records_in parts))) (left_in (issued_writes b (writes_of parts)))
 held_issued s filled B puts b [] holds tasks = record {
@@ -68,8 +69,8 @@ held_issued {C} s filled B puts b (p ∷ ps) holds tasks = record {
   mine = λ c owns none. let j : Job C = (b, records_in (p ∷ ps)) in absurd (let x : Some j ≡ None = none in cc);
   writing = λ c qs is.
       let same : (b ≡ c) × (records_in (p ∷ ps) ≡ qs) = job_same (b, records_in (p ∷ ps)) (c, qs) is in
-      subst (λ d. Holds s (all_laid (map plain (writes_of (p ∷ ps))) (B d)) (filled_to (filled d)) (puts d ++ map entry_of qs) × TasksOk (puts d) qs (B d) (writes_of (p ∷ ps))) same.0
-      (subst (λ l. Holds s (all_laid (map plain (writes_of (p ∷ ps))) (B b)) (filled_to (filled b)) (puts b ++ map entry_of l) × TasksOk (puts b) l (B b) (writes_of (p ∷ ps))) same.1
+      subst (λ d. Holds s (all_laid (writes_of (p ∷ ps)) (B d)) (filled_to (filled d)) (puts d ++ map entry_of qs) × TasksOk (puts d) qs (B d) (writes_of (p ∷ ps))) same.0
+      (subst (λ l. Holds s (all_laid (writes_of (p ∷ ps)) (B b)) (filled_to (filled b)) (puts b ++ map entry_of l) × TasksOk (puts b) l (B b) (writes_of (p ∷ ps))) same.1
       (holds, tasks));
 }
 
@@ -91,8 +92,8 @@ released_back place f (Some b) c owned is =
 module _ (A : Type 0) {C : Type 0} (rules : Rules C) (sizes : AreSizes (sizes_of rules)) where
   -- what the parts of the first block of a spread make of it
   pub spread_holds : (B : ℕ → ℕ) (start : laid.Position) (puts : List Entry) (sp : BlockLayout C) (rest : List (BlockLayout C)) → IsSpread A (sizes_of rules) start (sp ∷ rest) → Holds (sizes_of rules) B start puts
-      → Holds (sizes_of rules) (all_laid (map plain (writes_of sp.parts)) B) (filled_to sp.end) (puts ++ map entry_of (records_in sp.parts))
-      × TasksOk puts (records_in sp.parts) B (writes_of sp.parts) × RestOk A (sizes_of rules) (laid.fresh (sizes_of rules)) rest
+      → Holds (sizes_of rules) (all_laid (writes_of sp.parts) B) (filled_to sp.end) (puts ++ map entry_of (records_in sp.parts))
+      × TasksOk puts (records_in sp.parts) B (writes_of sp.parts) × RestOk A (sizes_of rules) (fresh (sizes_of rules)) rest
   spread_holds B start puts sp rest spread holds = (
     subst (λ ws. Holds s (all_laid ws B) (filled_to sp.end) (puts ++ map entry_of (records_in sp.parts))) (sym (same_writes sp.parts parts same))
         (subst (λ es. Holds s (all_laid (fills.writes_of parts) B) (filled_to sp.end) (puts ++ es)) (ap (map stands.entry_of) (sym (same_records sp.parts parts same)) ∙ entries_stored (records_in sp.parts))
@@ -101,7 +102,7 @@ module _ (A : Type 0) {C : Type 0} (rules : Rules C) (sizes : AreSizes (sizes_of
     more rest (spread.spread).6,
   )
     where
-      s : laid.Sizes
+      s : Sizes
       s = sizes_of rules
 
       w : Section
@@ -134,13 +135,15 @@ module _ (A : Type 0) {C : Type 0} (rules : Rules C) (sizes : AreSizes (sizes_of
       near : n + laid.taken now ≤ length (bytes_of w)
       near = let r : n + (laid.taken now + laid.taken later) ≤ length (bytes_of w) = room in omega arith
 
-      each : bytes.Each (laid.FitsBlock s) now × bytes.Each (laid.FitsBlock s) later
-      each = each_front (laid.FitsBlock s) now later (subst (bytes.Each (laid.FitsBlock s)) all spread.each)
+      each : Each (laid.FitsBlock s) now × Each (laid.FitsBlock s) later
+      each =
+          let whole : Each (laid.FitsBlock s) (now ++ later) = subst (Each (laid.FitsBlock s)) all spread.each in
+          (each_front (laid.FitsBlock s) now later whole, each_back (laid.FitsBlock s) now later whole)
 
-      some : bytes.Each (λ i. 0 < i.len) now × bytes.Each (λ i. 0 < i.len) later
+      some : Each (λ i. 0 < i.len) now × Each (λ i. 0 < i.len) later
       some = (each_some s now each.0, each_some s later each.1)
 
-      more : (rest : List (BlockLayout C)) → AreSpread A s w (n + laid.taken now) (laid.fresh s) later rest → RestOk A s (laid.fresh s) rest
+      more : (rest : List (BlockLayout C)) → AreSpread A s w (n + laid.taken now) (fresh s) later rest → RestOk A s (fresh s) rest
       more [] k = tt
       more (b ∷ bs) k = record {
         whole = w;
@@ -175,7 +178,7 @@ module _ (A : Type 0) {C : Type 0} (rules : Rules C) (sizes : AreSizes (sizes_of
       lows = s.lines.lows;
       waits = put_one (λ q φ. AllWait (IsOf rules s.low q) φ) v.flushers f ψ
           (record {
-            batch = records_issued rules (Each (RecordIs (IsOf rules s.low f))) b (writes_of sp.parts) (records_in sp.parts) (records_of rest) (each_drop (RecordIs (IsOf rules s.low f)))
+            batch = records_issued rules (Each (RecordIs (IsOf rules s.low f))) b (writes_of sp.parts) (records_in sp.parts) (records_of rest) (each_back (RecordIs (IsOf rules s.low f)))
                 (subst (λ k. Each (RecordIs (IsOf rules s.low f)) (batch_records k)) is (s.lines.waits f).batch);
             buffer = (s.lines.waits f).buffer;
             queue = (s.lines.waits f).queue;
@@ -218,8 +221,8 @@ module _ (A : Type 0) {C : Type 0} (rules : Rules C) (sizes : AreSizes (sizes_of
               subst (λ l. Holds sz (v.bytes c) (filled_to (put v.filled b sp.end c)) l) (sym (puts_far c other))
               (subst (λ g. Holds sz (v.bytes c) (filled_to g) (puts c)) (sym (put_other v.filled b sp.end c other)) ((s.held q).mine c owns none));
           writing = λ c ps is_job. let other : c ≡ b → ⊥ = λ at. alone q ne (o.job q c ps is_job ∙ ap Some at) in
-              subst (λ l. Holds sz (all_laid (map plain (left_in (v.block_writes q))) (v.bytes c)) (filled_to (put v.filled b sp.end c)) (l ++ map entry_of ps) × TasksOk l ps (v.bytes c) (left_in (v.block_writes q))) (sym (puts_far c other))
-              (subst (λ g. Holds sz (all_laid (map plain (left_in (v.block_writes q))) (v.bytes c)) (filled_to g) (puts c ++ map entry_of ps) × TasksOk (puts c) ps (v.bytes c) (left_in (v.block_writes q))) (sym (put_other v.filled b sp.end c other))
+              subst (λ l. Holds sz (all_laid (left_in (v.block_writes q)) (v.bytes c)) (filled_to (put v.filled b sp.end c)) (l ++ map entry_of ps) × TasksOk l ps (v.bytes c) (left_in (v.block_writes q))) (sym (puts_far c other))
+              (subst (λ g. Holds sz (all_laid (left_in (v.block_writes q)) (v.bytes c)) (filled_to g) (puts c ++ map entry_of ps) × TasksOk (puts c) ps (v.bytes c) (left_in (v.block_writes q))) (sym (put_other v.filled b sp.end c other))
               ((s.held q).writing c ps is_job));
         });
     rests = put_one (λ q φ. RestOk A sz (filled_to (start_of rules (put v.filled b sp.end) φ.own (goes_on_in φ.batch))) (blocks_in φ.batch)) v.flushers f ψ holding.2
@@ -240,7 +243,7 @@ module _ (A : Type 0) {C : Type 0} (rules : Rules C) (sizes : AreSizes (sizes_of
     ];
   }
     where
-      sz : laid.Sizes
+      sz : Sizes
       sz = sizes_of rules
 
       ψ : Flusher C
@@ -258,13 +261,13 @@ module _ (A : Type 0) {C : Type 0} (rules : Rules C) (sizes : AreSizes (sizes_of
       puts_far : (c : ℕ) → (c ≡ b → ⊥) → puts' c ≡ puts c
       puts_far c other = ap (λ n. puts_at c n v.committed) (far c other)
 
-      holding : Holds sz (all_laid (map plain (writes_of sp.parts)) (v.bytes b)) (filled_to sp.end) (puts' b ++ map entry_of (records_in sp.parts))
-          × TasksOk (puts' b) (records_in sp.parts) (v.bytes b) (writes_of sp.parts) × RestOk A sz (laid.fresh sz) rest
+      holding : Holds sz (all_laid (writes_of sp.parts) (v.bytes b)) (filled_to sp.end) (puts' b ++ map entry_of (records_in sp.parts))
+          × TasksOk (puts' b) (records_in sp.parts) (v.bytes b) (writes_of sp.parts) × RestOk A sz (fresh sz) rest
       holding = spread_holds (v.bytes b) start (puts' b) sp rest spread holds
 
       mine : IsHeld sz (put v.filled b sp.end) v.bytes puts' (Some b) (job_of (writing_of b (writes_of sp.parts) (records_in sp.parts))) (left_in (issued_writes b (writes_of sp.parts)))
       mine = held_issued sz (put v.filled b sp.end) v.bytes puts' b sp.parts
-          (subst (λ g. Holds sz (all_laid (map plain (writes_of sp.parts)) (v.bytes b)) (filled_to g) (puts' b ++ map entry_of (records_in sp.parts))) (sym (put_same v.filled b sp.end)) holding.0)
+          (subst (λ g. Holds sz (all_laid (writes_of sp.parts) (v.bytes b)) (filled_to g) (puts' b ++ map entry_of (records_in sp.parts))) (sym (put_same v.filled b sp.end)) holding.0)
           holding.1
 
       idle_f : job f ≡ None
@@ -315,7 +318,7 @@ module _ (A : Type 0) {C : Type 0} (rules : Rules C) (sizes : AreSizes (sizes_of
     reads = s.reads;
   }
     where
-      sz : laid.Sizes
+      sz : Sizes
       sz = sizes_of rules
 
       puts : ℕ → List Entry

@@ -1,11 +1,11 @@
 -- The restart law.
 use Rattle.std.proofs.Common.{◌≡◌, ℕ, true, false, Some, None, [], inl, inr, sym, ap, subst, ◌∙◌, arith}
-use Rattle.foyer_buffer.specs.Position as laid
+use Rattle.foyer_layout.specs.Position.{Sizes, fresh}
 use Rattle.foyer_buffer.specs.Holding.{Holds}
 use Rattle.foyer_buffer.proofs.HoldsLemmas.{holds_fresh}
 use Rattle.foyer_model.specs.Record.{Indexed}
 use Rattle.foyer_model.specs.State.{Flusher}
-use Rattle.foyer_model.specs.Rules.{Rules, Splitting}
+use Rattle.foyer_model.specs.Rules.{Rules, Splitting, sizes_of}
 use Rattle.foyer_model.specs.InTurn.{AwaitsClean}
 use Rattle.foyer_model.specs.Flush.{is_cleaning}
 use Rattle.foyer_model.specs.World.{World}
@@ -18,7 +18,7 @@ use Rattle.foyer_model.proofs.RereadsKept.{new_again}
 use Rattle.foyer_model.proofs.Widths.{opened_wide}
 use Rattle.foyer_model.proofs.Served.{opened_served}
 use Rattle.foyer_model.proofs.SoundKept.{IsKnown, all_known, reclaims_at}
-use Rattle.foyer_restart.specs.Entries.{In, sizes_of, filled_to, puts_at}
+use Rattle.foyer_restart.specs.Entries.{In, filled_to, puts_at}
 use Rattle.foyer_restart.specs.Real.{IsReal}
 use Rattle.foyer_restart.specs.Restart.{IsRun, RestartLaw, IdleLaw}
 use Rattle.foyer_restart.proofs.Safe.{sight_of, Job, job_in, results_in, AllWait, IsOf, RestOk, sequences_of, puts_in, ReadsOk, IsSafe}
@@ -43,7 +43,7 @@ module _ (A : Type 0) {C : Type 0} (rules : Rules C) (Splits : Splitting C) (is_
       ascends = λ b. (0, subst (λ l. Ascends 0 (sequences_of l) 0) (sym (none b)) (omega arith));
       owned = λ f b e. absurd (let x : None ≡ Some b = sym (ap (λ (φ : Flusher C). φ.own) (opened.flushers f)) ∙ e in cc);
     };
-    still = λ b living no_job. (laid.fresh sz, subst (Holds sz (w.bytes b) (laid.fresh sz)) (sym (none b)) (holds_fresh sz (w.bytes b) real.format.sizes));
+    still = λ b living no_job. (fresh sz, subst (Holds sz (w.bytes b) (fresh sz)) (sym (none b)) (holds_fresh sz (w.bytes b) real.format.sizes));
     held = λ f. record {
       mine = λ b e. absurd (let x : None ≡ Some b = sym (ap (λ (φ : Flusher C). φ.own) (opened.flushers f)) ∙ e in cc);
       writing = λ b ps e. let j : Job C = (b, ps) in absurd (let x : None ≡ Some j = sym (ap job_in (opened.flushers f)) ∙ e in cc);
@@ -61,7 +61,7 @@ module _ (A : Type 0) {C : Type 0} (rules : Rules C) (Splits : Splitting C) (is_
     reads = λ b. subst (λ r. ReadsOk sz (w.bytes b) b (w.core.filling b) r (w.scans b)) (sym (opened.reclaims b)) tt;
   }
     where
-      sz : laid.Sizes
+      sz : Sizes
       sz = sizes_of rules
 
       none : (b : ℕ) → puts_in w.core.filling w.committed b ≡ []

@@ -2,10 +2,11 @@
 use Rattle.std.proofs.Common.{◌≡◌, ℕ, ◌+◌, ◌-◌, ◌≤◌, ◌^◌, List, [], ◌∷◌, ◌++◌, map, length, take, drop, refl, sym, ap, subst, ◌∙◌, arith}
 use Rattle.std.proofs.lemmas.List.{length-append, length-map, map-append, append_assoc, take_at, drop_at, drop-drop, take_all}
 use Rattle.std.specs.declared.vec.Vec.{Vec}
+use Rattle.foyer_layout.specs.Position.{Sizes, fresh}
 use denote.RawPtr.{null_ptr}
 use Rattle.foyer_blob.specs.Blob.{IsSealed, capacity_of}
 use Rattle.foyer_blob.specs.declared.blob.BlobEntryIndex.{BlobEntryIndex}
-use Rattle.foyer_buffer.specs.BlockBytes.{Each}
+use Rattle.foyer_layout.specs.Each.{Each}
 use Rattle.foyer_buffer.specs.Position as laid
 use Rattle.foyer_buffer.specs.Layout as buffered
 use Rattle.foyer_buffer.specs.Fills.{Fills}
@@ -17,19 +18,19 @@ use Rattle.foyer_buffer.proofs.FillsLemmas.{part_is}
 use Rattle.foyer_buffer.proofs.SplitLemmas.{taken-append, taken_cons, taken_none, entries_cons, entries_none}
 use Rattle.foyer_buffer.proofs.StoredLemmas.{stored_none, stored_cons}
 use Rattle.foyer_device.specs.Section.{Section, bytes_of, all_of, part_of}
-use Rattle.foyer_format.specs.Page.{page_up}
+use Rattle.foyer_layout.specs.Page.{page_up}
 use Rattle.foyer_model.specs.Layout.{AllFitBlock}
 use Rattle.foyer_model.specs.Laws.{Demands}
 use Rattle.foyer_model.specs.Position.{Position, Part, BlockLayout}
 use Rattle.foyer_model.specs.Receive.{bytes_taken}
 use Rattle.foyer_model.specs.Record.{Record}
-use Rattle.foyer_model.specs.Rules.{Rules, HasRoundTrip}
+use Rattle.foyer_model.specs.Rules.{Rules, HasRoundTrip, sizes_of}
 use Rattle.foyer_placing.proofs.KeepsLemmas.{keeps_records}
 use Rattle.foyer_placing.proofs.LaidLemmas.{bytes_len}
 use Rattle.foyer_placing.specs.Splits.{entries_from, laid_from, with_records, AreBytesOf, IsPart, LaidOut, Left, IsLaidOut, AreRules}
 use Rattle.foyer_placing.specs.Splits.LaidOut.{part, none}
 use Rattle.foyer_placing.specs.Splits.Left.{done, blob, block}
-use Rattle.foyer_restart.specs.Entries.{sizes_of, entry_in, filled_to, stored}
+use Rattle.foyer_restart.specs.Entries.{entry_in, filled_to, stored}
 use Rattle.foyer_restart.specs.Real.{IsSamePart, AreSameParts, AreSpread, IsSpread, IsFormat, IsReal}
 use Rattle.foyer_restart.specs.Laid.{LaidRestartLaw, LaidIdleLaw}
 use Rattle.foyer_restart.proofs.Law.{restart_law_lem, idle_law_lem}
@@ -87,7 +88,7 @@ module _ {C : Type 0} where
   contents_of [] = []
   contents_of (b ∷ bs) = contents_in b.parts ++ contents_of bs
 
-  module _ (s : laid.Sizes) (w : Section) (few : capacity_of s.index ≤ 2 ^ 32) where
+  module _ (s : Sizes) (w : Section) (few : capacity_of s.index ≤ 2 ^ 32) where
     -- how the records of a layout go on from a byte of the batch, where the first of them go into the present block
     record Spread (start : ℕ) (f : Position) (rs : List (Record C)) (parts : List (Part C)) (e : Position) (blocks : List (BlockLayout C)) : Type 0 where
       pub now : List (Record C)
@@ -96,7 +97,7 @@ module _ {C : Type 0} where
       pub all : rs ≡ now ++ later
       pub fills : Fills s w start (filled_to f) (infos_of now) made (filled_to e)
       pub same : AreSameParts parts made
-      pub spread : AreSpread (Unit {0}) s w (start + laid.taken (infos_of now)) (laid.fresh s) (infos_of later) blocks
+      pub spread : AreSpread (Unit {0}) s w (start + laid.taken (infos_of now)) (fresh s) (infos_of later) blocks
       pub room : start + laid.taken (infos_of rs) ≤ length (bytes_of w)
 
     -- a part that the splitter would make
@@ -168,7 +169,7 @@ module _ {C : Type 0} where
             fills = subst (λ is. Fills s w start (filled_to f) is (m.made ∷ l.made) (filled_to e)) (sym (map-append info_of now l.now))
                 (fills_part m.is (subst (λ g. Fills s w (start + n) g (infos_of l.now) l.made (filled_to e)) (with_same f now) l.fills));
             same = (m.same, l.same);
-            spread = subst (λ k. AreSpread (Unit {0}) s w k (laid.fresh s) (infos_of l.later) blocks) at l.spread;
+            spread = subst (λ k. AreSpread (Unit {0}) s w k (fresh s) (infos_of l.later) blocks) at l.spread;
             room = omega (arith, l.room, taken_both now rest);
           }
       spreads start front len bytes (none left) = left_spreads start front len bytes left
@@ -198,7 +199,7 @@ module _ {C : Type 0} where
             room = l.room;
           }
       left_spreads start front len bytes (block {f = f} {r = r} {rs = rs} {first = first} {blocks = blocks} room over placed) =
-          let l : Spread start (Rattle.foyer_placing.specs.Splits.fresh s) (r ∷ rs) first.parts first.end blocks = spreads start front len bytes placed in
+          let l : Spread start (fresh s) (r ∷ rs) first.parts first.end blocks = spreads start front len bytes placed in
           let zero : start + laid.taken [] ≡ start = omega (arith, taken_none) in
           record {
             now = [];
@@ -207,7 +208,7 @@ module _ {C : Type 0} where
             all = refl;
             fills = stays;
             same = tt;
-            spread = subst (λ k. AreSpread (Unit {0}) s w k (laid.fresh s) (infos_of (r ∷ rs)) (first ∷ blocks)) (sym zero)
+            spread = subst (λ k. AreSpread (Unit {0}) s w k (fresh s) (infos_of (r ∷ rs)) (first ∷ blocks)) (sym zero)
                 (infos_of l.now, infos_of l.later, l.made, ap infos_of l.all ∙ map-append info_of l.now l.later, l.fills, l.same, l.spread);
             room = l.room;
           }

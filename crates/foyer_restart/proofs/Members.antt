@@ -3,7 +3,7 @@ use Rattle.std.proofs.lemmas.Bool.Decides.{nat_tests}
 use Rattle.std.proofs.lemmas.Bool.{eqb-true, eqb-false}
 use Rattle.std.proofs.Common.{◌≡◌, ℕ, zero, suc, ◌+◌, ◌<◌, ◌≤◌, ◌==◌, nat_le, nat_lt, Bool, true, false, if◌then◌else◌, Option, Some, None, List, [], ◌∷◌, ◌++◌, ◌⊎◌, inl, inr, refl, sym, ap, subst, ◌∙◌, arith}
 use Rattle.foyer_blob.specs.declared.blob.BlobEntryIndex.{BlobEntryIndex}
-use Rattle.foyer_buffer.specs.Position.{Sizes}
+use Rattle.foyer_layout.specs.Position.{Sizes}
 use Rattle.foyer_buffer.specs.Holding.{all_read}
 use Rattle.foyer_buffer.specs.Listing.{IsIndex, behind, placed, Chain, rising}
 use Rattle.foyer_buffer.specs.Listing.Chain.{ends, goes}

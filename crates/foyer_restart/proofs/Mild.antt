@@ -2,16 +2,17 @@
 use Rattle.std.proofs.Common.{◌≡◌, ◌≢◌, ℕ, ◌+◌, ◌<◌, ◌≤◌, nat_le, Bool, true, false, if◌then◌else◌, Option, Some, None, List, [], ◌∷◌, ◌++◌, map, length, ◌⊎◌, inl, inr, refl, sym, ap, subst, ◌∙◌, arith}
 use Rattle.foyer_model.specs.Numbers.{put}
 use Rattle.foyer_model.specs.Record.{Address, Slot, Indexed, Mark}
-use Rattle.foyer_model.specs.Position.{Position, Write}
+use Rattle.foyer_layout.specs.BlockBytes.{Write}
+use Rattle.foyer_model.specs.Position.{Position}
 use Rattle.foyer_model.specs.State.{Submission, Flusher, NoDestroy, Begun}
-use Rattle.foyer_model.specs.Rules.{Rules}
+use Rattle.foyer_model.specs.Rules.{Rules, sizes_of}
 use Rattle.foyer_model.specs.Index.{is_same, inserted, without, without_mark, unmarked, sequence_at}
 use Rattle.foyer_model.specs.InTurn.{AwaitsClean}
 use Rattle.foyer_model.specs.Access.{BlockWrites}
 use Rattle.foyer_model.proofs.Basics.{put_at, put_one}
 use Rattle.foyer_model.proofs.Invariant.{AllWell, blocks_in, goes_on_in, start_of}
-use Rattle.foyer_model.proofs.CommitSteps.{each_join}
-use Rattle.foyer_restart.specs.Entries.{sizes_of, filled_to}
+use Rattle.foyer_layout.proofs.EachLaws.{each_join}
+use Rattle.foyer_restart.specs.Entries.{filled_to}
 use Rattle.foyer_restart.proofs.Tasks.{Entry}
 use Rattle.foyer_restart.proofs.Safe.{Sight, Job, job_in, left_in, results_in, SubmissionIs, AllWait, IsOf, RestOk, AreUp, AreStill, IsHeld, AreLogged, AreApart, puts_in, IsSafe}
 

@@ -1,21 +1,19 @@
 -- What is found again is what it was.
 use Rattle.std.proofs.Common.{◌≡◌, ℕ, ◌+◌, ◌<◌, ◌≤◌, Bool, List, [], Some, refl, sym, ap, subst, ◌∙◌, arith}
-use Rattle.foyer_buffer.specs.BlockBytes.{IsBeside}
+use Rattle.foyer_layout.specs.BlockBytes.{IsBeside, read, Write}
 use Rattle.foyer_model.specs.Access.{InFlight}
 use Rattle.foyer_model.specs.Event.{Put, newest}
 use Rattle.foyer_model.specs.Laws.{Demands}
-use Rattle.foyer_model.specs.Layout.{read}
 use Rattle.foyer_model.specs.Opened.{IsOpened}
-use Rattle.foyer_model.specs.Position.{Write}
 use Rattle.foyer_model.specs.Record.{Address, Indexed}
-use Rattle.foyer_model.specs.Rules.{Rules, Splitting, flusher_of}
+use Rattle.foyer_model.specs.Rules.{Rules, Splitting, flusher_of, sizes_of}
 use Rattle.foyer_model.specs.World.{World}
-use Rattle.foyer_model.proofs.Basics.{read_same}
+use Rattle.foyer_layout.proofs.BlockBytesLaws.{read_same}
 use Rattle.foyer_model.proofs.Invariant.{WorldInvariant, ground_of, line_of, SlotOk, IsSolid, WritesSpare}
 use Rattle.foyer_model.proofs.OpenedSound.{new_sound}
 use Rattle.foyer_model.proofs.SoundKept.{IsKnown}
 use Rattle.foyer_placing.specs.Splits.{IsLaidOut}
-use Rattle.foyer_restart.specs.Entries.{In, sizes_of, plain, entry_at}
+use Rattle.foyer_restart.specs.Entries.{In, entry_at}
 use Rattle.foyer_restart.specs.Newest.{KeepsNewest, LaidNewestLaw}
 use Rattle.foyer_restart.specs.Real.{IsReal}
 use Rattle.foyer_restart.specs.Restart.{IsStopped}
@@ -47,7 +45,7 @@ module _ (A : Type 0) {C : Type 0} (rules : Rules C) (w : World C) (sound : Worl
       within : a.len ≤ rules.page_up a.len
       within = rules.page_up_above a.len
 
-      beside : (i : ℕ) → a.offset ≤ i → i < a.offset + a.len → (f : ℕ) (rs : List Bool) (v : Write) (vs : List Write) → w.block_writes f ≡ InFlight a.block rs v vs → IsBeside (plain v) i
+      beside : (i : ℕ) → a.offset ≤ i → i < a.offset + a.len → (f : ℕ) (rs : List Bool) (v : Write) (vs : List Write) → w.block_writes f ≡ InFlight a.block rs v vs → IsBeside v i
       beside i low high f rs v vs is =
           (subst (WritesSpare rules a) is (solid.spared f) refl).0 i (low, (let l : a.len ≤ rules.page_up a.len = within in omega arith))
 

@@ -1,7 +1,7 @@
 -- Who has which block, as it is known of every world that is reached.
 use Rattle.std.proofs.Common.{◌≡◌, ℕ, ◌<◌, Bool, Option, Some, None, List, inl, inr, refl, sym, ap, subst, ◌∙◌}
 use Rattle.foyer_model.specs.Record.{Record}
-use Rattle.foyer_model.specs.Position.{Write}
+use Rattle.foyer_layout.specs.BlockBytes.{Write}
 use Rattle.foyer_model.specs.State.{Writing, Clean, Writes, Reclaims, ToClean, Reclaim}
 use Rattle.foyer_model.specs.Rules.{Rules, Splitting, first_position}
 use Rattle.foyer_model.specs.InTurn.{IsAt}

@@ -1,10 +1,12 @@
 -- The splitter's relation keeps records, and whatever it places has blocks of the model.
 use Rattle.std.proofs.Common.{◌≡◌, ◌≢◌, ℕ, zero, suc, ◌+◌, ◌≤◌, List, [], ◌∷◌, ◌++◌, length, map, refl, sym, ap, subst, ◌∙◌, arith}
 use Rattle.std.proofs.lemmas.List.{append-nil, map-append}
+use Rattle.foyer_layout.proofs.EachLaws.{each_join}
+use Rattle.foyer_layout.specs.Position.{Sizes, fresh, next_blob, MayWrite}
+use Rattle.foyer_layout.specs.Each.{Each}
 use Rattle.foyer_device.specs.Section.{Section, bytes_of}
-use Rattle.foyer_format.specs.Page.{page_up}
+use Rattle.foyer_layout.specs.Page.{page_up}
 use Rattle.foyer_blob.specs.declared.blob.BlobEntryIndex.{BlobEntryIndex}
-use Rattle.foyer_buffer.specs.BlockBytes as bytes
 use Rattle.foyer_buffer.specs.Position as laid
 use Rattle.foyer_buffer.specs.Fills as fills
 use Rattle.foyer_buffer.specs.Fills.{AreSizes, Fills, Blocks, IsLaid}
@@ -19,62 +21,47 @@ use Rattle.foyer_buffer.proofs.NestingLemmas as nesting
 use Rattle.foyer_buffer.proofs.SplitLemmas.{taken-append, taken_cons}
 use Rattle.foyer_buffer.proofs.StoredLemmas.{stored_none, stored_cons}
 use Rattle.foyer_model.specs.Record.{IndexEntry, Record}
-use Rattle.foyer_model.specs.Position.{Position, Write, Part, BlockLayout, records_in, records_of, last_end}
-use Rattle.foyer_model.specs.Rules.{Rules, HasRoundTrip, first_position}
+use Rattle.foyer_layout.specs.BlockBytes.{Write, AllWithin, all_laid}
+use Rattle.foyer_model.specs.Position.{Position, Part, BlockLayout, records_in, records_of, last_end}
+use Rattle.foyer_model.specs.Rules.{Rules, HasRoundTrip, first_position, sizes_of}
 use Rattle.foyer_model.specs.Laws.{Demands}
 use Rattle.foyer_model.specs.Layout as model
 use Rattle.foyer_model.specs.Layout.{writes_in, KeepsRecords}
-use Rattle.foyer_restart.specs.Entries.{sizes_of, entry_in, filled_to, plain, stored}
+use Rattle.foyer_restart.specs.Entries.{entry_in, filled_to, stored}
 use Rattle.foyer_restart.specs.Real.{IsSamePart, AreSameParts, AreSpread, IsFormat, IsReal}
 use Rattle.foyer_restart.specs.Splits.{AreBuffered, AreSameBlocks, IsRealSplit, SplitIsReal, RealRestartLaw, RealIdleLaw}
 use Rattle.foyer_restart.proofs.Tasks.{writes_of, same_writes, same_records}
 use Rattle.foyer_restart.proofs.Law.{restart_law_lem, idle_law_lem}
 
--- the two crates' definitions of bytes are the same
-
-read_is : (g : ℕ → ℕ) (o n : ℕ) → model.read g o n ≡ bytes.read g o n
-read_is g o zero = refl
-read_is g o (suc n) = ap (λ l. g o ∷ l) (read_is g (o + 1) n)
-
-laid_is : (ws : List Write) (g : ℕ → ℕ) → model.all_laid ws g ≡ bytes.all_laid (map plain ws) g
-laid_is [] g = refl
-laid_is (w ∷ ws) g = laid_is ws (model.laid w g)
-
-within_is : (P : ℕ → Type 0) (ws : List Write) → bytes.AllWithin P (map plain ws) → model.AllWithin P ws
-within_is P [] h = tt
-within_is P (w ∷ ws) h = (h.0, within_is P ws h.1)
+-- records that stand, in the model's words
 
 stand_is : {C : Type 0} (g : ℕ → ℕ) (ps : List (ℕ × Record C)) → stands.AllStand g (map stored ps) → model.AllStand g ps
 stand_is g [] h = tt
-stand_is g (p ∷ ps) h = (read_is g p.0 (length (p.1).bytes) ∙ h.0, stand_is g ps h.1)
+stand_is g (p ∷ ps) h = (h.0, stand_is g ps h.1)
 
 outside_is : {C : Type 0} (page : ℕ → ℕ) (P : ℕ → Type 0) (ps : List (ℕ × Record C)) → ((n : ℕ) → page n ≡ page_up n) → stands.AllOutside P (map stored ps) → model.AllOutside page P ps
 outside_is page P [] pages h = tt
 outside_is page P (p ∷ ps) pages h = (λ o l m. let e : page (length (p.1).bytes) ≡ page_up (length (p.1).bytes) = pages (length (p.1).bytes) in h.0 o l (omega arith), outside_is page P ps pages h.1)
 
-behind_is : {C : Type 0} (n : ℕ) (ps : List (ℕ × Record C)) → bytes.Each (λ r. n ≤ r.offset) (map stored ps) → model.AllBehind n ps
+behind_is : {C : Type 0} (n : ℕ) (ps : List (ℕ × Record C)) → Each (λ r. n ≤ r.offset) (map stored ps) → model.AllBehind n ps
 behind_is n [] h = tt
 behind_is n (p ∷ ps) h = (h.0, behind_is n ps h.1)
 
-each_join : {X : Type 0} (P : X → Type 0) (xs ys : List X) → bytes.Each P xs → bytes.Each P ys → bytes.Each P (xs ++ ys)
-each_join P [] ys h k = k
-each_join P (x ∷ xs) ys h k = (h.0, each_join P xs ys h.1 k)
-
 -- each record stands behind the first index
 
-stored_behind : (now : List BufferEntryInfo) (n base at0 at : ℕ) (D : List ℕ) → n ≤ at → bytes.Each (λ r. n ≤ r.offset) (stands.stored_at base at0 D (laid.entries_from at now))
-stored_behind [] n base at0 at D le = subst (bytes.Each (λ r. n ≤ r.offset)) (sym (stored_none base at0 at D)) tt
+stored_behind : (now : List BufferEntryInfo) (n base at0 at : ℕ) (D : List ℕ) → n ≤ at → Each (λ r. n ≤ r.offset) (stands.stored_at base at0 D (laid.entries_from at now))
+stored_behind [] n base at0 at D le = subst (Each (λ r. n ≤ r.offset)) (sym (stored_none base at0 at D)) tt
 stored_behind (i ∷ is) n base at0 at D le =
-    subst (bytes.Each (λ r. n ≤ r.offset)) (sym (stored_cons base at0 at D i is)) (omega arith, stored_behind is n base at0 (at + page_up i.len) D (omega arith))
+    subst (Each (λ r. n ≤ r.offset)) (sym (stored_cons base at0 at D i is)) (omega arith, stored_behind is n base at0 (at + page_up i.len) D (omega arith))
 
-module _ {A : Type 0} (s : laid.Sizes) (w : Section) where
+module _ {A : Type 0} (s : Sizes) (w : Section) where
   fills_behind : (start : ℕ) (f : laid.Position) (infos : List BufferEntryInfo) (parts : List (BlobPart A)) (g : laid.Position) → s.index ≤ f.at → Fills s w start f infos parts g
-      → bytes.Each (λ r. s.index ≤ r.offset) (fills.records_in parts)
+      → Each (λ r. s.index ≤ r.offset) (fills.records_in parts)
   fills_behind start f infos parts g past (stays) = tt
-  fills_behind start f infos parts g past (blob full fill) = fills_behind start (laid.next_blob s f) infos parts g (omega arith) fill
+  fills_behind start f infos parts g past (blob full fill) = fills_behind start (next_blob s f) infos parts g (omega arith) fill
   fills_behind start f infos parts g past (part {now = now} {rest = rest} {p = p} {parts = others} is fill) =
       each_join (λ r. s.index ≤ r.offset) (stands.stored_at p.blob_block_offset p.part_blob_offset (bytes_of p.part_data) p.indices.items) (fills.records_in others)
-      (subst (bytes.Each (λ r. s.index ≤ r.offset)) (sym (part_records s w start f now p is)) (stored_behind now s.index f.blob f.at f.at (bytes_of p.part_data) past))
+      (subst (Each (λ r. s.index ≤ r.offset)) (sym (part_records s w start f now p is)) (stored_behind now s.index f.blob f.at f.at (bytes_of p.part_data) past))
       (fills_behind (start + laid.taken now) (laid.with_records f now) rest others g (omega arith) fill)
 
 module _ (A : Type 0) {C : Type 0} (rules : Rules C) (format : IsFormat rules) where
@@ -88,14 +75,14 @@ module _ (A : Type 0) {C : Type 0} (rules : Rules C) (format : IsFormat rules) w
   block_placed w start f now b parts past room fill same =
       let lies : IsLaid (sizes_of rules) w start (filled_to f) now parts (filled_to b.end) = fills_laid (sizes_of rules) w start (filled_to f) now parts (filled_to b.end) past room fill in
       record {
-        within = subst (model.AllWithin (model.MayWrite rules.index_size f)) (sym (writes_are b.parts))
-            (within_is (model.MayWrite rules.index_size f) (writes_of b.parts) (subst (bytes.AllWithin (fills.MayWrite (sizes_of rules) (filled_to f))) (sym (same_writes b.parts parts same)) lies.within));
+        within = subst (AllWithin (MayWrite rules.index_size f)) (sym (writes_are b.parts))
+            (subst (AllWithin (MayWrite rules.index_size f)) (sym (same_writes b.parts parts same)) lies.within);
         shrinks = lies.shrinks;
-        stand = λ g. subst (λ k. model.AllStand k (records_in b.parts)) (sym (ap (λ ws. model.all_laid ws g) (writes_are b.parts) ∙ laid_is (writes_of b.parts) g ∙ ap (λ ws. bytes.all_laid ws g) (same_writes b.parts parts same)))
-            (stand_is (bytes.all_laid (fills.writes_of parts) g) (records_in b.parts) (subst (stands.AllStand (bytes.all_laid (fills.writes_of parts) g)) (sym (same_records b.parts parts same)) (lies.stand g)));
-        outside = outside_is rules.page_up (model.MayWrite rules.index_size b.end) (records_in b.parts) format.pages
-            (subst (stands.AllOutside (fills.MayWrite (sizes_of rules) (filled_to b.end))) (sym (same_records b.parts parts same)) lies.outside);
-        behind = behind_is rules.index_size (records_in b.parts) (subst (bytes.Each (λ r. rules.index_size ≤ r.offset)) (sym (same_records b.parts parts same)) (fills_behind (sizes_of rules) w start (filled_to f) now parts (filled_to b.end) past fill));
+        stand = λ g. subst (λ k. model.AllStand k (records_in b.parts)) (sym (ap (λ ws. all_laid ws g) (writes_are b.parts) ∙ ap (λ ws. all_laid ws g) (same_writes b.parts parts same)))
+            (stand_is (all_laid (fills.writes_of parts) g) (records_in b.parts) (subst (stands.AllStand (all_laid (fills.writes_of parts) g)) (sym (same_records b.parts parts same)) (lies.stand g)));
+        outside = outside_is rules.page_up (MayWrite rules.index_size b.end) (records_in b.parts) format.pages
+            (subst (stands.AllOutside (MayWrite rules.index_size (filled_to b.end))) (sym (same_records b.parts parts same)) lies.outside);
+        behind = behind_is rules.index_size (records_in b.parts) (subst (Each (λ r. rules.index_size ≤ r.offset)) (sym (same_records b.parts parts same)) (fills_behind (sizes_of rules) w start (filled_to f) now parts (filled_to b.end) past fill));
       }
 
   all_placed : (w : Section) (start : ℕ) (f : Position) (infos : List BufferEntryInfo) (blocks : List (BlockLayout C)) → rules.index_size ≤ f.at → start + laid.taken infos ≤ length (bytes_of w)
@@ -153,7 +140,7 @@ module _ (A : Type 0) {C : Type 0} (rules : Rules C) (format : IsFormat rules) w
       → (qs : List (Part C)) × AreSameParts qs parts × (map (λ (p : ℕ × Record C). p.1) (records_in qs) ≡ records)
   fills_parts w start f infos parts g [] past room (stays) are = ([], tt, refl)
   fills_parts w start f infos parts g (r ∷ rs) past room (stays) are = absurd are
-  fills_parts w start f infos parts g records past room (blob full fill) are = fills_parts w start (laid.next_blob (sizes_of rules) f) infos parts g records (omega arith) room fill are
+  fills_parts w start f infos parts g records past room (blob full fill) are = fills_parts w start (next_blob (sizes_of rules) f) infos parts g records (omega arith) room fill are
   fills_parts w start f infos parts g records past room (part {now = now} {rest = rest} {p = p} {parts = others} is fill) are =
       go (λ back room are. fills_parts w (start + laid.taken now) (laid.with_records f now) rest others g back (omega arith) room fill are)
     where
@@ -221,8 +208,8 @@ module _ (A : Type 0) {C : Type 0} (rules : Rules C) (format : IsFormat rules) w
       let total : laid.taken (now ++ rest) ≡ laid.taken now + laid.taken rest = taken-append now rest in
       let cut : (front : List (Record C)) × (back : List (Record C)) × (records ≡ front ++ back) × AreBuffered (bytes_of w) start now front × AreBuffered (bytes_of w) (start + laid.taken now) rest back = split_buffered (bytes_of w) start now rest records are in
       let k : (qs : List (Part C)) × AreSameParts qs parts × (map (λ (p : ℕ × Record C). p.1) (records_in qs) ≡ cut.0) = fills_parts w start f now parts h cut.0 past (omega arith) fill cut.3 in
-      let l : (bs : List (BlockLayout C)) × AreSameBlocks bs blocks × AreSpread A (sizes_of rules) w (start + laid.taken now) (laid.fresh (sizes_of rules)) rest bs × (records_of bs ≡ cut.1) × (bs ≢ []) × (filled_to (last_end (filling_from h) bs) ≡ g) =
-      blocks_spread w (start + laid.taken now) (laid.fresh (sizes_of rules)) rest blocks g cut.1 (filling_from h) (omega arith) (omega arith) others cut.4 in (
+      let l : (bs : List (BlockLayout C)) × AreSameBlocks bs blocks × AreSpread A (sizes_of rules) w (start + laid.taken now) (fresh (sizes_of rules)) rest bs × (records_of bs ≡ cut.1) × (bs ≢ []) × (filled_to (last_end (filling_from h) bs) ≡ g) =
+      blocks_spread w (start + laid.taken now) (fresh (sizes_of rules)) rest blocks g cut.1 (filling_from h) (omega arith) (omega arith) others cut.4 in (
         record { parts = k.0; end = filling_from h } ∷ l.0,
         (k.1, l.1),
         (now, rest, parts, refl, subst (Fills (sizes_of rules) w start f now parts) (sym (filling_back h)) fill, k.1, l.2),

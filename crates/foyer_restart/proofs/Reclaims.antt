@@ -3,9 +3,10 @@ use Rattle.std.proofs.lemmas.Bool.Decides.{nat_tests}
 use Rattle.std.proofs.Common.{◌≡◌, ℕ, ◌+◌, ◌<◌, ◌≤◌, ◌==◌, nat_le, Bool, true, false, ◌&&◌, if◌then◌else◌, Option, Some, None, List, [], ◌∷◌, ◌++◌, map, ◌⊎◌, inl, inr, refl, sym, ap, subst, ◌∙◌, arith, append_assoc}
 use Rattle.std.proofs.lemmas.Bool.{eqb-false}
 use Rattle.std.proofs.lemmas.List.{append-nil}
-use Rattle.foyer_format.specs.Page.{page_up}
+use Rattle.foyer_layout.specs.Position.{Sizes, fresh}
+use Rattle.foyer_layout.specs.Page.{page_up}
 use Rattle.foyer_blob.specs.Blob.{IsSealed}
-use Rattle.foyer_buffer.specs.BlockBytes.{all_laid, read}
+use Rattle.foyer_layout.specs.BlockBytes.{all_laid, read}
 use Rattle.foyer_buffer.specs.Position as laid
 use Rattle.foyer_buffer.specs.Fills.{AreSizes}
 use Rattle.foyer_buffer.specs.Holding.{all_read, Leads, Holds}
@@ -17,7 +18,7 @@ use Rattle.foyer_model.specs.Numbers.{put}
 use Rattle.foyer_model.specs.Record.{Address, Slot, Indexed, Mark, IndexEntry, Record}
 use Rattle.foyer_model.specs.Position.{Position}
 use Rattle.foyer_model.specs.State.{Flusher, BlockSet, Clean, Writes, Evictable, Reclaims, Stage, AtIndex, AllListed, ToClean, Reclaim}
-use Rattle.foyer_model.specs.Rules.{Rules, Splitting}
+use Rattle.foyer_model.specs.Rules.{Rules, Splitting, sizes_of}
 use Rattle.foyer_model.specs.Index.{is_same, without, forgotten}
 use Rattle.foyer_model.specs.Flush.{is_cleaning}
 use Rattle.foyer_model.specs.Reclaim.{addresses, place_behind}
@@ -25,7 +26,7 @@ use Rattle.foyer_model.specs.InTurn.{IsAt, AwaitsClean}
 use Rattle.foyer_model.specs.Access.{CleanIdle, CleanIssued, ReadIssued, Scan}
 use Rattle.foyer_model.proofs.Basics.{put_at, put_one, put_both, put_same, put_other, Ascends}
 use Rattle.foyer_model.proofs.Invariant.{blocks_in, goes_on_in, start_of}
-use Rattle.foyer_restart.specs.Entries.{In, sizes_of, filled_to, entry_in, entry_at, entry_done, plain, entry_of, puts_at}
+use Rattle.foyer_restart.specs.Entries.{In, filled_to, entry_in, entry_at, entry_done, entry_of, puts_at}
 use Rattle.foyer_restart.specs.Real.{IsReal}
 use Rattle.foyer_restart.proofs.Members.{in_left, in_right, in_either}
 use Rattle.foyer_restart.proofs.Tasks.{Entry, role_more, TasksOk}
@@ -38,7 +39,7 @@ use Rattle.foyer_restart.proofs.Issued.{same_or, awaits_cleaning, no_puts}
 -- chains
 
 -- one index more
-leads_more : (s : laid.Sizes) (B : ℕ → ℕ) (p q : ℕ) (xs : List Entry) (e : Entry) (es : List Entry) → Leads s B p xs q
+leads_more : (s : Sizes) (B : ℕ → ℕ) (p q : ℕ) (xs : List Entry) (e : Entry) (es : List Entry) → Leads s B p xs q
     → IsIndex s B all_read q (e ∷ es) → Leads s B p (xs ++ placed q (e ∷ es)) (behind s q (e ∷ es))
 leads_more s B p q xs e es (here) is = subst (λ l. Leads s B q l (behind s q (e ∷ es))) (append-nil (placed q (e ∷ es))) (over is here)
 leads_more s B p q xs e es (over {e = d} {es = ds} {rest = rest} first leads) is =
@@ -46,13 +47,13 @@ leads_more s B p q xs e es (over {e = d} {es = ds} {rest = rest} first leads) is
     (over first (leads_more s B (behind s p (d ∷ ds)) q rest e es leads is))
 
 -- a chain behind its front
-leads_chain : (s : laid.Sizes) (B : ℕ → ℕ) (p q r : ℕ) (xs rest : List Entry) → Leads s B p xs q → Chain s B all_read q rest r → Chain s B all_read p (xs ++ rest) r
+leads_chain : (s : Sizes) (B : ℕ → ℕ) (p q r : ℕ) (xs rest : List Entry) → Leads s B p xs q → Chain s B all_read q rest r → Chain s B all_read p (xs ++ rest) r
 leads_chain s B p q r xs rest (here) chain = chain
 leads_chain s B p q r xs rest (over {e = e} {es = es} {rest = more} is leads) chain =
     subst (λ l. Chain s B all_read p l r) (sym (append_assoc (placed p (e ∷ es)) more rest)) (goes is (leads_chain s B (behind s p (e ∷ es)) q r more rest leads chain))
 
 -- the listing ends at a place
-leads_ends : (s : laid.Sizes) (B : ℕ → ℕ) (q : ℕ) (es : List Entry) → Leads s B 0 es q → ((fs : List Entry) → IsIndex s B all_read q fs → ⊥) → Lists s B all_read es
+leads_ends : (s : Sizes) (B : ℕ → ℕ) (q : ℕ) (es : List Entry) → Leads s B 0 es q → ((fs : List Entry) → IsIndex s B all_read q fs → ⊥) → Lists s B all_read es
 leads_ends s B q es leads none = record { end = q; chain = subst (λ l. Chain s B all_read 0 l q) (append-nil es) (leads_chain s B 0 q q es [] leads (ends none)) }
 
 -- addresses of entries
@@ -62,7 +63,7 @@ listed_in b n p e [] i = absurd i
 listed_in b n p e (x ∷ xs) (inl same) = inl (λ i. ((same i).hash, address_in b n (same i)))
 listed_in b n p e (x ∷ xs) (inr i) = inr (listed_in b n p e xs i)
 
-behind_is : (page : ℕ → ℕ) (s : laid.Sizes) → ((n : ℕ) → page n ≡ page_up n) → (p : ℕ) (es : List IndexEntry) → place_behind page s.block p es ≡ behind s p (map entry_in es)
+behind_is : (page : ℕ → ℕ) (s : Sizes) → ((n : ℕ) → page n ≡ page_up n) → (p : ℕ) (es : List IndexEntry) → place_behind page s.block p es ≡ behind s p (map entry_in es)
 behind_is page s pages p [] = refl
 behind_is page s pages p (e ∷ []) = ap (λ k. p + e.offset + k) (pages e.len)
 behind_is page s pages p (e ∷ f ∷ es) = behind_is page s pages p (f ∷ es)
@@ -210,7 +211,7 @@ module _ (A : Type 0) {C : Type 0} (rules : Rules C) (sizes : AreSizes (sizes_of
     subst (λ q. StageReads s B b n listed (stage_next q) (scan_next q)) (sym (behind_is rules.page_up s real.format.pages p es)) (go (map entry_in es) refl),
   )
     where
-      s : laid.Sizes
+      s : Sizes
       s = sizes_of rules
 
       listed : List (ℕ × Address)
@@ -298,7 +299,7 @@ module _ (A : Type 0) {C : Type 0} (rules : Rules C) (sizes : AreSizes (sizes_of
     reads = put_one (λ q x. ReadsOk (sizes_of rules) (v.bytes q) q (v.filling q) x (v.scans q)) v.reclaims b (Some (record r { stage = ToClean })) (reading.0, tt) (λ q _. s.reads q);
   }
     where
-      sz : laid.Sizes
+      sz : Sizes
       sz = sizes_of rules
 
       reading : ReadsOk sz (v.bytes b) b (v.filling b) (Some r) (v.scans b)
@@ -410,7 +411,7 @@ module _ (A : Type 0) {C : Type 0} (rules : Rules C) (sizes : AreSizes (sizes_of
       owned = λ q c e. subst (λ l. Ascends 0 (sequences_of l) (s.low q)) (sym (puts_far c (unowned q c (own_was q c e)))) (s.ups.owned q c (own_was q c e));
     };
     still = λ c living no_job. elim (same_or c b) [
-      | inl at_b ↦ (laid.fresh sz, subst (λ d. Holds sz (v.bytes d) (laid.fresh sz) (puts' d)) (sym at_b) (subst (Holds sz (v.bytes b) (laid.fresh sz)) (sym none) (holds_fresh sz (v.bytes b) sizes)))
+      | inl at_b ↦ (fresh sz, subst (λ d. Holds sz (v.bytes d) (fresh sz) (puts' d)) (sym at_b) (subst (Holds sz (v.bytes b) (fresh sz)) (sym none) (holds_fresh sz (v.bytes b) sizes)))
       | inr other ↦ subst (λ l. (g : laid.Position) × Holds sz (v.bytes c) g l) (sym (puts_far c other))
           (s.still c (λ d. living (dead_back c other d)) (λ (q, ps, is_job). no_job (q, ps, job_now q c ps is_job)))
     ];
@@ -429,7 +430,7 @@ module _ (A : Type 0) {C : Type 0} (rules : Rules C) (sizes : AreSizes (sizes_of
     reads = put_both (λ q x n. ReadsOk sz (v.bytes q) q n x (v.scans q)) v.reclaims v.filling b None (v.filling b + 1) tt (λ q _. s.reads q);
   }
     where
-      sz : laid.Sizes
+      sz : Sizes
       sz = sizes_of rules
 
       ψ : Flusher C
@@ -474,8 +475,8 @@ module _ (A : Type 0) {C : Type 0} (rules : Rules C) (sizes : AreSizes (sizes_of
         mine = λ c owns idle. let other : c ≡ b → ⊥ = unowned q c owns in
             subst (λ l. Holds sz (v.bytes c) (filled_to (filled c)) l) (sym (puts_far c other)) (subst (λ g. Holds sz (v.bytes c) (filled_to g) (puts_in v.filling v.committed c)) (sym (far c other)) ((s.held q).mine c owns idle));
         writing = λ c ps is_job. let other : c ≡ b → ⊥ = unowned q c (o.job q c ps is_job) in
-            subst (λ l. Holds sz (all_laid (map plain (left_in (v.block_writes q))) (v.bytes c)) (filled_to (filled c)) (l ++ map entry_of ps) × TasksOk l ps (v.bytes c) (left_in (v.block_writes q))) (sym (puts_far c other))
-            (subst (λ g. Holds sz (all_laid (map plain (left_in (v.block_writes q))) (v.bytes c)) (filled_to g) (puts_in v.filling v.committed c ++ map entry_of ps) × TasksOk (puts_in v.filling v.committed c) ps (v.bytes c) (left_in (v.block_writes q))) (sym (far c other))
+            subst (λ l. Holds sz (all_laid (left_in (v.block_writes q)) (v.bytes c)) (filled_to (filled c)) (l ++ map entry_of ps) × TasksOk l ps (v.bytes c) (left_in (v.block_writes q))) (sym (puts_far c other))
+            (subst (λ g. Holds sz (all_laid (left_in (v.block_writes q)) (v.bytes c)) (filled_to g) (puts_in v.filling v.committed c ++ map entry_of ps) × TasksOk (puts_in v.filling v.committed c) ps (v.bytes c) (left_in (v.block_writes q))) (sym (far c other))
             ((s.held q).writing c ps is_job));
       }
 

@@ -1,21 +1,23 @@
 -- What is true of every world that a run of the law reaches, beside what is known of every world.
 use Rattle.std.proofs.Common.{◌≡◌, ◌≢◌, ℕ, ◌+◌, ◌<◌, ◌≤◌, Bool, true, false, Option, Some, None, List, [], ◌∷◌, ◌++◌, map, ◌⊎◌}
-use Rattle.foyer_buffer.specs.BlockBytes.{all_laid, read}
+use Rattle.foyer_layout.specs.Position.{Sizes}
+use Rattle.foyer_layout.specs.BlockBytes.{all_laid, read, Write}
 use Rattle.foyer_buffer.specs.Position as laid
 use Rattle.foyer_buffer.specs.Holding.{all_read, Leads, Holds}
 use Rattle.foyer_buffer.specs.Listing.{Lists}
 use Rattle.foyer_model.specs.Record.{Address, Slot, Indexed, Source, Given, Reread, Record}
-use Rattle.foyer_model.specs.Position.{Position, Write, BlockLayout}
+use Rattle.foyer_model.specs.Position.{Position, BlockLayout}
 use Rattle.foyer_model.specs.State.{Submission, Piece, Remove, Await, Reinsert, Writing, Flusher, BlockSet, Clean, Stage, AtIndex, AtRecord, AllListed, ToClean, Reclaim, Destroy}
-use Rattle.foyer_model.specs.Rules.{Rules, flusher_of}
+use Rattle.foyer_model.specs.Rules.{Rules, flusher_of, sizes_of}
 use Rattle.foyer_model.specs.Step.{Bytes, Fault}
 use Rattle.foyer_model.specs.Flush.{is_cleaning}
 use Rattle.foyer_model.specs.InTurn.{IsAt, AwaitsClean}
 use Rattle.foyer_model.specs.Access.{BlockWrites, Idle, Issued, InFlight, CleanState, CleanIdle, ReadState, ReadIssued, Reading, ReadDone, Scan}
 use Rattle.foyer_model.specs.World.{World, Stored}
 use Rattle.foyer_model.proofs.Basics.{Ascends}
-use Rattle.foyer_model.proofs.Invariant.{Each, AllWell, writing_in, blocks_in, goes_on_in, batch_records, start_of}
-use Rattle.foyer_restart.specs.Entries.{In, sizes_of, filled_to, plain, entry_of, entry_at, entry_done, puts_at}
+use Rattle.foyer_layout.specs.Each.{Each}
+use Rattle.foyer_model.proofs.Invariant.{AllWell, writing_in, blocks_in, goes_on_in, batch_records, start_of}
+use Rattle.foyer_restart.specs.Entries.{In, filled_to, entry_of, entry_at, entry_done, puts_at}
 use Rattle.foyer_restart.specs.Real.{IsSpread}
 use Rattle.foyer_restart.proofs.Tasks.{Entry, IsWrittenIn, RoleOk, TasksOk}
 
@@ -107,7 +109,7 @@ pub record AreLines {C : Type 0} (rules : Rules C) (low : ℕ → ℕ) (next : �
   pub waits : (f : ℕ) → AllWait (IsOf rules low f) (flushers f)
 
 -- the rest of a batch is spread as the splitter's relation says
-abbrev pub RestOk : Type 0 → {C : Type 0} → laid.Sizes → laid.Position → List (BlockLayout C) → Type 0
+abbrev pub RestOk : Type 0 → {C : Type 0} → Sizes → laid.Position → List (BlockLayout C) → Type 0
 RestOk A s f [] = Unit {0}
 RestOk A s f (b ∷ bs) = IsSpread A s f (b ∷ bs)
 
@@ -157,16 +159,16 @@ abbrev pub IsJob : {C : Type 0} → (ℕ → Option (Job C)) → ℕ → Type 0
 IsJob {C} job b = (f : ℕ) × (ps : List (ℕ × Record C)) × (job f ≡ Some (b, ps))
 
 -- a block that isn't being written holds what was put into its filling
-abbrev pub AreStill : {C : Type 0} → laid.Sizes → (ℕ → BlockSet) → (ℕ → Option Reclaim) → (ℕ → Option (Job C)) → (ℕ → ℕ → ℕ) → (ℕ → List Entry) → Type 0
+abbrev pub AreStill : {C : Type 0} → Sizes → (ℕ → BlockSet) → (ℕ → Option Reclaim) → (ℕ → Option (Job C)) → (ℕ → ℕ → ℕ) → (ℕ → List Entry) → Type 0
 AreStill s place reclaims job bytes puts =
     (b : ℕ) → (IsDead place reclaims b → ⊥) → (IsJob job b → ⊥) → (g : laid.Position) × Holds s (bytes b) g (puts b)
 
 -- A flusher's own block holds it up to where the splitter goes on; while it is written, it will once the writes that are
 -- left are done.
-pub record IsHeld {C : Type 0} (s : laid.Sizes) (filled : ℕ → Position) (bytes : ℕ → ℕ → ℕ) (puts : ℕ → List Entry) (own : Option ℕ) (job : Option (Job C)) (left : List Write) : Type 0 where
+pub record IsHeld {C : Type 0} (s : Sizes) (filled : ℕ → Position) (bytes : ℕ → ℕ → ℕ) (puts : ℕ → List Entry) (own : Option ℕ) (job : Option (Job C)) (left : List Write) : Type 0 where
   pub mine : (b : ℕ) → own ≡ Some b → job ≡ None → Holds s (bytes b) (filled_to (filled b)) (puts b)
   pub writing : (b : ℕ) (ps : List (ℕ × Record C)) → job ≡ Some (b, ps)
-      → Holds s (all_laid (map plain left) (bytes b)) (filled_to (filled b)) (puts b ++ map entry_of ps) × TasksOk (puts b) ps (bytes b) left
+      → Holds s (all_laid (left) (bytes b)) (filled_to (filled b)) (puts b ++ map entry_of ps) × TasksOk (puts b) ps (bytes b) left
 
 -- every index whose write began lists what was committed, or what is being written
 abbrev pub WasDone : {C : Type 0} → List (Stored C) → ℕ → Entry → Type 0
@@ -199,24 +201,24 @@ address_in b n e = record { block = b; offset = e.offset; len = e.len; sequence 
 abbrev pub AllListedIn : (block filling : ℕ) → List Entry → List (ℕ × Address) → Type 0
 AllListedIn b n es listed = (e : Entry) → In e es → In (e.hash, address_in b n e) listed
 
-abbrev pub PhaseReads : laid.Sizes → (ℕ → ℕ) → ℕ → ReadState → Type 0
+abbrev pub PhaseReads : Sizes → (ℕ → ℕ) → ℕ → ReadState → Type 0
 PhaseReads s B p ReadIssued = Unit {0}
 PhaseReads s B p (Reading covers) = (o : ℕ) → covers o ≡ false
 PhaseReads s B p (ReadDone Fault) = ⊥
 PhaseReads s B p (ReadDone (Bytes bs)) = bs ≡ read B p s.index
 
-abbrev pub ScanReads : laid.Sizes → (ℕ → ℕ) → ℕ → Option Scan → Type 0
+abbrev pub ScanReads : Sizes → (ℕ → ℕ) → ℕ → Option Scan → Type 0
 ScanReads s B p None = ⊥
 ScanReads s B p (Some sc) = (sc.offset ≡ p) × (sc.len ≡ s.index) × PhaseReads s B p sc.read_state
 
 -- what was listed so far is what the chain has listed up to the place that is read
-abbrev pub StageReads : laid.Sizes → (ℕ → ℕ) → (block filling : ℕ) → List (ℕ × Address) → Stage → Option Scan → Type 0
+abbrev pub StageReads : Sizes → (ℕ → ℕ) → (block filling : ℕ) → List (ℕ × Address) → Stage → Option Scan → Type 0
 StageReads s B b n listed (AtIndex p) scan = (es : List Entry) × Leads s B 0 es p × AllListedIn b n es listed × ScanReads s B p scan × (p + s.index ≤ s.block)
 StageReads s B b n listed (AtRecord h a rest p) scan = ⊥
 StageReads s B b n listed AllListed scan = (es : List Entry) × Lists s B all_read es × AllListedIn b n es listed
 StageReads s B b n listed ToClean scan = Unit {0}
 
-abbrev pub ReadsOk : laid.Sizes → (ℕ → ℕ) → (block filling : ℕ) → Option Reclaim → Option Scan → Type 0
+abbrev pub ReadsOk : Sizes → (ℕ → ℕ) → (block filling : ℕ) → Option Reclaim → Option Scan → Type 0
 ReadsOk s B b n None scan = Unit {0}
 ReadsOk s B b n (Some r) scan = (r.requeued ≡ []) × StageReads s B b n r.listed r.stage scan
 

@@ -1,13 +1,15 @@
 -- Each step that goes well keeps a world safe.
 use Rattle.std.proofs.Common.{◌≡◌, ℕ, ◌+◌, ◌≤◌, Bool, true, false, if◌then◌else◌, Option, Some, None, List, [], ◌∷◌, ◌++◌, inl, inr, refl, sym, ap, subst, ◌∙◌, arith}
+use Rattle.foyer_layout.specs.Position.{Sizes, fresh}
 use Rattle.foyer_buffer.specs.Position as laid
 use Rattle.foyer_buffer.specs.Holding.{Holds}
 use Rattle.foyer_buffer.proofs.HoldsLemmas.{holds_fresh}
 use Rattle.foyer_model.specs.Numbers.{put}
 use Rattle.foyer_model.specs.Record.{Address, Slot, Indexed, Mark, Outcome, NoRecord, Holds as Content, Given}
-use Rattle.foyer_model.specs.Position.{Position, Write, Part, BlockLayout, records_in, last_end}
+use Rattle.foyer_layout.specs.BlockBytes.{Write}
+use Rattle.foyer_model.specs.Position.{Position, Part, BlockLayout, records_in, last_end}
 use Rattle.foyer_model.specs.State.{Submission, Piece, Remove, Await, Reinsert, Writing, Batch, Flusher, BlockSet, Clean, Writes, Evictable, Reclaims, Reclaim, State}
-use Rattle.foyer_model.specs.Rules.{Rules, flusher_of, first_position, Splitting}
+use Rattle.foyer_model.specs.Rules.{Rules, flusher_of, first_position, Splitting, sizes_of}
 use Rattle.foyer_model.specs.Step.{ReadResult, Bytes, Fault, Age, Ticket, Step, Enqueue, Delete, Wait, LoadBegin, LoadEnd, Receive, FlushBegin, FlushBlock, LogWrote, FlushEnd}
 use Rattle.foyer_model.specs.Reply.{Reply, Ignored, Queued, Deleted, Done, Miss, Throttled, Read, Entry, Empty, Received, Began, Written, NoBlock, Ended}
 use Rattle.foyer_model.specs.Index.{inserted, without, unmarked}
@@ -22,12 +24,13 @@ use Rattle.foyer_model.specs.Access.{BlockWrites, Idle, Issued, InFlight, writes
 use Rattle.foyer_model.specs.World.{World, Applies, end_in, after}
 use Rattle.foyer_model.specs.Laws.{Demands}
 use Rattle.foyer_model.proofs.Basics.{put_at, put_one, put_same, put_other, Ascends}
-use Rattle.foyer_model.proofs.Invariant.{Each, AllWell, AreLeft, WritesFit, writing_in, blocks_in, goes_on_in, batch_records, start_of}
-use Rattle.foyer_model.proofs.CommitSteps.{each_join}
+use Rattle.foyer_layout.specs.Each.{Each}
+use Rattle.foyer_model.proofs.Invariant.{AllWell, AreLeft, WritesFit, writing_in, blocks_in, goes_on_in, batch_records, start_of}
+use Rattle.foyer_layout.proofs.EachLaws.{each_join}
 use Rattle.foyer_model.proofs.Received.{start_same}
 use Rattle.foyer_model.proofs.Sets.{clean_is}
 use Rattle.foyer_model.proofs.SoundKept.{IsKnown}
-use Rattle.foyer_restart.specs.Entries.{sizes_of, filled_to, puts_at}
+use Rattle.foyer_restart.specs.Entries.{filled_to, puts_at}
 use Rattle.foyer_restart.specs.Real.{IsReal, IsSpread}
 use Rattle.foyer_restart.proofs.Tasks.{writes_of}
 use Rattle.foyer_restart.proofs.Safe.{Sight, sight_of, job_of, job_in, left_in, results_in, RecordIs, SubmissionIs, AllWait, IsOf, RestOk, IsDead, sequences_of, puts_in, IsSafe}
@@ -37,11 +40,11 @@ use Rattle.foyer_restart.proofs.Owned.{IsOwned, no_reclaim, owned_of}
 use Rattle.foyer_restart.proofs.Issued.{issued, leaves, no_puts}
 
 -- the rest of a batch that is spread
-rest_of : (A : Type 0) {C : Type 0} (s : laid.Sizes) (f : laid.Position) (blocks : List (BlockLayout C)) → IsSpread A s f blocks → RestOk A s f blocks
+rest_of : (A : Type 0) {C : Type 0} (s : Sizes) (f : laid.Position) (blocks : List (BlockLayout C)) → IsSpread A s f blocks → RestOk A s f blocks
 rest_of A s f [] ok = tt
 rest_of A s f (b ∷ bs) ok = ok
 
-rest_is : (A : Type 0) {C : Type 0} (s : laid.Sizes) (f : laid.Position) (blocks : List (BlockLayout C)) (b : BlockLayout C) (bs : List (BlockLayout C)) → blocks ≡ b ∷ bs → RestOk A s f blocks → IsSpread A s f (b ∷ bs)
+rest_is : (A : Type 0) {C : Type 0} (s : Sizes) (f : laid.Position) (blocks : List (BlockLayout C)) (b : BlockLayout C) (bs : List (BlockLayout C)) → blocks ≡ b ∷ bs → RestOk A s f blocks → IsSpread A s f (b ∷ bs)
 rest_is A s f blocks b bs is ok = subst (RestOk A s f) is ok
 
 -- the last result of a block leaves nothing to be written
@@ -252,10 +255,10 @@ module _ (A : Type 0) {C : Type 0} (rules : Rules C) (Splits : Splitting C) (is_
           (no_reclaim rules v o f b (o.place f b own))
 
       in_ready : batch.continues_own_block ≡ false → (w.core.flushers f).ready ≡ Some b → IsSafe A rules (shape w f b batch sp rest w.core.filling w.core.place (writes_of sp.parts) (writes_of sp.parts) sp.end)
-      in_ready fresh ready =
-          issued A rules real.format.sizes v f b batch sp rest w.core.filling w.core.place (laid.fresh (sizes_of rules)) s o whole
-          (spread (first_position rules) (empty_start w.filled (w.core.flushers f).own (goes_on_in (w.core.flushers f).batch) (goes_is ∙ fresh)))
-          (subst (Holds (sizes_of rules) (w.bytes b) (laid.fresh (sizes_of rules))) (sym none) (holds_fresh (sizes_of rules) (w.bytes b) real.format.sizes))
+      in_ready begins ready =
+          issued A rules real.format.sizes v f b batch sp rest w.core.filling w.core.place (fresh (sizes_of rules)) s o whole
+          (spread (first_position rules) (empty_start w.filled (w.core.flushers f).own (goes_on_in (w.core.flushers f).batch) (goes_is ∙ begins)))
+          (subst (Holds (sizes_of rules) (w.bytes b) (fresh (sizes_of rules))) (sym none) (holds_fresh (sizes_of rules) (w.bytes b) real.format.sizes))
           (subst (λ l. Ascends 0 (sequences_of l) (s.low f)) (sym none) (omega arith))
           (λ q ne e. ne (let x : w.core.place b ≡ Writes f = (o.ready f b ready).0 in let y : w.core.place b ≡ Writes q = o.place q b e in cc))
           (λ q ne e. ne (let x : w.core.place b ≡ Writes f = (o.ready f b ready).0 in let y : w.core.place b ≡ Writes q = (o.ready q b e).0 in cc))
@@ -267,10 +270,10 @@ module _ (A : Type 0) {C : Type 0} (rules : Rules C) (Splits : Splitting C) (is_
           none = s.apart.handed f b ready
 
       in_clean : batch.continues_own_block ≡ false → clean_block rules w.core ≡ Some b → IsSafe A rules (shape w f b batch sp rest fill' place' (writes_of sp.parts) (writes_of sp.parts) sp.end)
-      in_clean fresh free =
-          issued A rules real.format.sizes v f b batch sp rest fill' place' (laid.fresh (sizes_of rules)) s o whole
-          (spread (first_position rules) (empty_start w.filled (w.core.flushers f).own (goes_on_in (w.core.flushers f).batch) (goes_is ∙ fresh)))
-          (subst (Holds (sizes_of rules) (w.bytes b) (laid.fresh (sizes_of rules))) (sym none) (holds_fresh (sizes_of rules) (w.bytes b) real.format.sizes))
+      in_clean begins free =
+          issued A rules real.format.sizes v f b batch sp rest fill' place' (fresh (sizes_of rules)) s o whole
+          (spread (first_position rules) (empty_start w.filled (w.core.flushers f).own (goes_on_in (w.core.flushers f).batch) (goes_is ∙ begins)))
+          (subst (Holds (sizes_of rules) (w.bytes b) (fresh (sizes_of rules))) (sym none) (holds_fresh (sizes_of rules) (w.bytes b) real.format.sizes))
           (subst (λ l. Ascends 0 (sequences_of l) (s.low f)) (sym none) (omega arith))
           (λ q ne e. let x : Clean ≡ Writes q = sym at ∙ o.place q b e in cc)
           (λ q ne e. let x : Clean ≡ Writes q = sym at ∙ (o.ready q b e).0 in cc)

@@ -2,25 +2,26 @@
 use Rattle.std.proofs.Common.{◌≡◌, ◌≢◌, ℕ, zero, suc, ◌+◌, ◌<◌, ◌≤◌, ◌==◌, Bool, true, false, ◌&&◌, ◌||◌, Option, Some, None, List, [], ◌∷◌, ◌++◌, length, map, ◌⊎◌, inl, inr, refl, sym, ap, subst, ◌∙◌, arith}
 use Rattle.std.proofs.lemmas.Bool.{eqb-true}
 use Rattle.std.proofs.lemmas.List.{append-nil}
+use Rattle.foyer_layout.specs.Position.{Sizes}
 use Rattle.foyer_blob.specs.Blob.{IsSealed}
-use Rattle.foyer_buffer.specs.BlockBytes.{read, IsBeside}
+use Rattle.foyer_layout.specs.BlockBytes.{read, IsBeside, Index, Write}
 use Rattle.foyer_buffer.specs.Position as laid
 use Rattle.foyer_buffer.specs.Holding.{all_read, Holds}
 use Rattle.foyer_buffer.specs.Listing.{IsIndex, placed, Lists, kept}
-use Rattle.foyer_buffer.proofs.BlockBytesLemmas.{read_same}
+use Rattle.foyer_layout.proofs.BlockBytesLaws.{read_same}
 use Rattle.foyer_buffer.proofs.HoldsLemmas.{holds_lists}
 use Rattle.foyer_buffer.proofs.ListingLemmas.{sealed_one}
 use Rattle.foyer_model.specs.Record.{Address, Indexed, Source, Given, Reread, Record}
-use Rattle.foyer_model.specs.Position.{Index, Write}
 use Rattle.foyer_model.specs.State.{Writing, Batch, ToClean, Reclaim}
-use Rattle.foyer_model.specs.Rules.{Rules, flusher_of}
+use Rattle.foyer_model.specs.Rules.{Rules, flusher_of, sizes_of}
 use Rattle.foyer_model.specs.InTurn.{IsAt, AwaitsClean}
 use Rattle.foyer_model.specs.Access.{BlockWrites, Idle, Issued, InFlight, CleanState, CleanIdle, CleanIssued, CleanInFlight, CleanDone, is_in, writes_covers, some_writes_covers, clean_covers}
 use Rattle.foyer_model.specs.World.{World, covers}
-use Rattle.foyer_model.proofs.Invariant.{Each, WorldInvariant, writing_in, placed_in, ground_of, WritingOk, WritesFit, one_owner}
+use Rattle.foyer_layout.specs.Each.{Each}
+use Rattle.foyer_model.proofs.Invariant.{WorldInvariant, writing_in, placed_in, ground_of, WritingOk, WritesFit, one_owner}
 use Rattle.foyer_model.proofs.AccessEvents.{beside_not_in}
-use Rattle.foyer_model.proofs.CommitSteps.{each_front}
-use Rattle.foyer_restart.specs.Entries.{In, sizes_of, plain, entry_at, entry_done}
+use Rattle.foyer_layout.proofs.EachLaws.{each_front}
+use Rattle.foyer_restart.specs.Entries.{In, entry_at, entry_done}
 use Rattle.foyer_recover.specs.Opening.{Found, Stands, hash_of, sequence_of, winner, opened_at, slot_of, all_stand, Keeps, Opened, Opens}
 use Rattle.foyer_recover.specs.declared.block.recover.RecoverMode.{RecoverMode}
 use Rattle.foyer_recover.specs.declared.block.recover.RecoverMode.TheVariants as recover_mode
@@ -30,7 +31,7 @@ use Rattle.foyer_restart.proofs.Tasks.{Entry, IsSparedBy, IsWrittenIn, RoleOk, L
 use Rattle.foyer_restart.proofs.Safe.{sight_of, Job, job_of, job_in, left_in, SourceIs, IsOf, RecordIs, IsSlot, IsDead, IsJob, WasDone, IsInJob, puts_in, IsSafe}
 use Rattle.foyer_restart.proofs.Puts.{in_puts}
 
-keeps_listed : (s : laid.Sizes) (mode : RecoverMode) (B : ℕ → ℕ) (failed : ℕ → Bool) (es : List Entry) → mode ≢ recover_mode.None → Keeps s mode B failed es → (ls : List Entry) × Lists s B failed ls × (es ≡ kept ls)
+keeps_listed : (s : Sizes) (mode : RecoverMode) (B : ℕ → ℕ) (failed : ℕ → Bool) (es : List Entry) → mode ≢ recover_mode.None → Keeps s mode B failed es → (ls : List Entry) × Lists s B failed ls × (es ≡ kept ls)
 keeps_listed s recover_mode.None B failed es some keeps = absurd (some refl)
 keeps_listed s recover_mode.Quiet B failed es some keeps = keeps
 keeps_listed s recover_mode.Strict B failed es some keeps = keeps
@@ -81,7 +82,7 @@ module _ (A : Type 0) {C : Type 0} (rules : Rules C) (w : World C) (sound : Worl
   abbrev puts : ℕ → List Entry
   puts = puts_in w.core.filling w.committed
 
-  abbrev s : laid.Sizes
+  abbrev s : Sizes
   s = sizes_of rules
 
   -- a pending under way writes its flusher's job
@@ -95,7 +96,7 @@ module _ (A : Type 0) {C : Type 0} (rules : Rules C) (w : World C) (sound : Worl
           (r.records, ap job_of e ∙ (λ i. Some (sym fits.0 i, r.records)))
 
   -- nothing but a job of the block is under way there where it isn't being cleaned
-  pub uncovered : (b o : ℕ) → ((f : ℕ) (rs : List Bool) (v : Write) (vs : List Write) → w.block_writes f ≡ InFlight b rs v vs → IsBeside (plain v) o) → clean_covers (w.clean_states b) o ≡ false → covers rules w b o ≡ false
+  pub uncovered : (b o : ℕ) → ((f : ℕ) (rs : List Bool) (v : Write) (vs : List Write) → w.block_writes f ≡ InFlight b rs v vs → IsBeside v o) → clean_covers (w.clean_states b) o ≡ false → covers rules w b o ≡ false
   uncovered b o beside dry = or_false (some_writes_covers rules.flushers w.block_writes b o) (clean_covers (w.clean_states b) o) (no_writes rules.flushers w.block_writes b o (λ f. one f (w.block_writes f) refl)) dry
     where
       one : (f : ℕ) (pending : BlockWrites) → w.block_writes f ≡ pending → writes_covers b pending o ≡ false
@@ -163,12 +164,12 @@ module _ (A : Type 0) {C : Type 0} (rules : Rules C) (w : World C) (sound : Worl
   stands_still bytes stopped b e f ps is_job alive dry r =
       read_same (bytes b) (w.bytes b) (r.0).0 (length ((r.0).1).bytes) (λ i l m. stopped b i (uncovered b i (spared i l m) (dry i)))
     where
-      spared : (i : ℕ) → (r.0).0 ≤ i → i < (r.0).0 + length ((r.0).1).bytes → (g : ℕ) (rs : List Bool) (v : Write) (vs : List Write) → w.block_writes g ≡ InFlight b rs v vs → IsBeside (plain v) i
+      spared : (i : ℕ) → (r.0).0 ≤ i → i < (r.0).0 + length ((r.0).1).bytes → (g : ℕ) (rs : List Bool) (v : Write) (vs : List Write) → w.block_writes g ≡ InFlight b rs v vs → IsBeside v i
       spared i l m g rs v vs under =
           let j : (qs : List (ℕ × Record C)) × (job g ≡ Some (b, qs)) = under_job g b rs v vs under in
           let same : g ≡ f = one_owner rules w sound g f b (job_own g b j.0 j.1) (job_own f b ps is_job) in
           let left : left_in (w.block_writes f) ≡ v ∷ vs = ap (λ q. left_in (w.block_writes q)) (sym same) ∙ ap left_in under in
-          (subst (λ ws. Rattle.foyer_buffer.specs.BlockBytes.Each (IsSparedBy r.0) ws) left r.4).0 i l m
+          (subst (λ ws. Each (IsSparedBy r.0) ws) left r.4).0 i l m
 
   -- the job's block is owned, so neither dead nor cleaned
   job_place : (f b : ℕ) (ps : List (ℕ × Record C)) → job f ≡ Some (b, ps) → w.core.place b ≡ Rattle.foyer_model.specs.State.BlockSet.Writes f

@@ -2,28 +2,32 @@
 use Rattle.std.proofs.Common.{◌≡◌, ℕ, ◌+◌, ◌<◌, ◌≤◌, List, [], ◌∷◌, ◌++◌, length, ◌⊎◌, inl, inr, refl, sym, ap, subst, ◌∙◌, arith, append_assoc}
 use Rattle.std.specs.Prelude.{map}
 use Rattle.std.proofs.lemmas.List.{append-nil, map-append}
+use Rattle.foyer_layout.proofs.EachLaws.{each_join, each_front, each_back}
 use Rattle.foyer_device.specs.Section.{Section, bytes_of}
-use Rattle.foyer_format.specs.Page.{page_up}
-use Rattle.foyer_format.proofs.PageLaws.{page_up-holds}
+use Rattle.foyer_layout.specs.Page.{page_up}
+use Rattle.foyer_layout.proofs.PageLaws.{page_up-holds}
 use Rattle.foyer_blob.specs.Blob.{IsSealed}
 use Rattle.foyer_blob.specs.declared.blob.BlobEntryIndex.{BlobEntryIndex}
-use Rattle.foyer_buffer.specs.BlockBytes.{laid, read, IsBeside, AllWithin, Each}
-use Rattle.foyer_buffer.specs.Position.{Sizes, Position, next_blob, taken, with_records}
+use Rattle.foyer_layout.specs.BlockBytes.{laid, read, IsBeside, AllWithin, Role, Data, Index, Write}
+use Rattle.foyer_layout.specs.Each.{Each}
+use Rattle.foyer_layout.specs.Position.{Sizes, next_blob, MayWrite}
+use Rattle.foyer_buffer.specs.Position.{Position, taken, with_records}
 use Rattle.foyer_buffer.specs.Fills as fills
-use Rattle.foyer_buffer.specs.Fills.{AreSizes, MayWrite, Fills, IsLaid}
+use Rattle.foyer_buffer.specs.Fills.{AreSizes, Fills, IsLaid}
 use Rattle.foyer_buffer.specs.Fills.Fills.{stays, part, blob}
 use Rattle.foyer_buffer.specs.Holding.{Holds}
 use Rattle.foyer_buffer.specs.Listing.{placed}
 use Rattle.foyer_buffer.specs.Stored as stands
 use Rattle.foyer_buffer.specs.declared.BufferEntryInfo.{BufferEntryInfo}
 use Rattle.foyer_buffer.specs.declared.split.BlobPart.{BlobPart}
-use Rattle.foyer_buffer.proofs.BlockBytesLemmas.{beside_or, laid_beside, read_same, stand_same, outside_less, stand_join, outside_join}
+use Rattle.foyer_layout.proofs.BlockBytesLaws.{beside_or, laid_beside, read_same}
+use Rattle.foyer_buffer.proofs.StoredLemmas.{stand_same, outside_less, stand_join, outside_join}
 use Rattle.foyer_buffer.proofs.FillsLemmas.{blob_less, records_less, fills_laid}
 use Rattle.foyer_buffer.proofs.HoldsLemmas.{holds_fills}
 use Rattle.foyer_buffer.proofs.SplitLemmas.{taken-append, taken_none}
 use Rattle.foyer_model.specs.Record.{Record}
-use Rattle.foyer_model.specs.Position.{Role, Data, Index, Write, Part, records_in}
-use Rattle.foyer_restart.specs.Entries.{In, plain, stored, entry_of}
+use Rattle.foyer_model.specs.Position.{Part, records_in}
+use Rattle.foyer_restart.specs.Entries.{In, stored, entry_of}
 use Rattle.foyer_restart.specs.Real.{AreSameParts}
 use Rattle.foyer_restart.proofs.Members.{in_left, in_right, in_either}
 
@@ -32,7 +36,7 @@ Entry = BlobEntryIndex
 
 -- no byte of the record is touched by the write
 abbrev pub IsSparedBy : {C : Type 0} → ℕ × Record C → Write → Type 0
-IsSparedBy p v = (i : ℕ) → p.0 ≤ i → i < p.0 + length (p.1).bytes → IsBeside (plain v) i
+IsSparedBy p v = (i : ℕ) → p.0 ≤ i → i < p.0 + length (p.1).bytes → IsBeside v i
 
 -- The entry is of one of these records, which stands in these bytes, and no write of these touches it.
 abbrev pub IsWrittenIn : {C : Type 0} → List (ℕ × Record C) → (ℕ → ℕ) → List Write → Entry → Type 0
@@ -54,13 +58,13 @@ role_more Index P Q v more ok = (ok.0, ok.1, λ e i. more e (ok.2 e i))
 abbrev pub TasksOk : {C : Type 0} → List Entry → List (ℕ × Record C) → (ℕ → ℕ) → List Write → Type 0
 TasksOk puts records B [] = Unit {0}
 TasksOk puts records B (v ∷ vs) =
-    RoleOk v.role (λ e. In e puts ⊎ IsWrittenIn records B (v ∷ vs) e) v × TasksOk puts records (laid (plain v) B) vs
+    RoleOk v.role (λ e. In e puts ⊎ IsWrittenIn records B (v ∷ vs) e) v × TasksOk puts records (laid v B) vs
 
 -- once the first of the writes is done
 pub written_tail : {C : Type 0} (records : List (ℕ × Record C)) (B : ℕ → ℕ) (v : Write) (vs : List Write) (e : Entry)
-    → IsWrittenIn records B (v ∷ vs) e → IsWrittenIn records (laid (plain v) B) vs e
+    → IsWrittenIn records B (v ∷ vs) e → IsWrittenIn records (laid v B) vs e
 written_tail records B v vs e (p, there, is, stand, spared) =
-    (p, there, is, read_same (laid (plain v) B) B p.0 (length (p.1).bytes) (λ i l m. laid_beside (plain v) B i (spared.0 i l m)) ∙ stand, spared.1)
+    (p, there, is, read_same (laid v B) B p.0 (length (p.1).bytes) (λ i l m. laid_beside v B i (spared.0 i l m)) ∙ stand, spared.1)
 
 -- the writes of parts as the model has them
 abbrev pub writes_of : {C : Type 0} → List (Part C) → List Write
@@ -70,12 +74,12 @@ writes_of (p ∷ ps) =
 
 -- the parts' writes and records are those of the blob's parts
 
-pub same_writes : {A C : Type 0} (qs : List (Part C)) (ps : List (BlobPart A)) → AreSameParts qs ps → map plain (writes_of qs) ≡ fills.writes_of ps
+pub same_writes : {A C : Type 0} (qs : List (Part C)) (ps : List (BlobPart A)) → AreSameParts qs ps → (writes_of qs) ≡ fills.writes_of ps
 same_writes [] [] same = refl
 same_writes [] (p ∷ ps) same = absurd same
 same_writes (q ∷ qs) [] same = absurd same
 same_writes (q ∷ qs) (p ∷ ps) same =
-    λ i. record { offset = (same.0).blob i + (same.0).at i; bytes = (same.0).content i } ∷ record { offset = (same.0).blob i; bytes = (same.0).index i } ∷ same_writes qs ps same.1 i
+    λ i. record { role = Data; offset = (same.0).blob i + (same.0).at i; bytes = (same.0).content i } ∷ record { role = Index; offset = (same.0).blob i; bytes = (same.0).index i } ∷ same_writes qs ps same.1 i
 
 pub same_records : {A C : Type 0} (qs : List (Part C)) (ps : List (BlobPart A)) → AreSameParts qs ps → map stored (records_in qs) ≡ fills.records_in ps
 same_records [] [] same = refl
@@ -113,43 +117,34 @@ outside_in P p (q ∷ ps) all (inr i) = outside_in P p ps all.1 i
 
 -- writes within P spare what lies outside
 spared_one : {C : Type 0} (P : ℕ → Type 0) (p : ℕ × Record C) (v : Write) → ((o : ℕ) → p.0 ≤ o → o < p.0 + length (p.1).bytes → P o → ⊥)
-    → ((o : ℕ) → (IsBeside (plain v) o → ⊥) → P o) → IsSparedBy p v
-spared_one P p v out within i l m = elim (beside_or (plain v) i) [ inl outside ↦ outside | inr inside ↦ absurd (out i l m (within i inside)) ]
+    → ((o : ℕ) → (IsBeside v o → ⊥) → P o) → IsSparedBy p v
+spared_one P p v out within i l m = elim (beside_or v i) [ inl outside ↦ outside | inr inside ↦ absurd (out i l m (within i inside)) ]
 
 spared_all : {C : Type 0} (P : ℕ → Type 0) (p : ℕ × Record C) (vs : List Write) → ((o : ℕ) → p.0 ≤ o → o < p.0 + length (p.1).bytes → P o → ⊥)
-    → AllWithin P (map plain vs) → Each (IsSparedBy p) vs
+    → AllWithin P (vs) → Each (IsSparedBy p) vs
 spared_all P p [] out within = tt
 spared_all P p (v ∷ vs) out within = (spared_one P p v out within.0, spared_all P p vs out within.1)
-
--- the records of a front and of the rest
-pub each_front : (P : BufferEntryInfo → Type 0) (xs ys : List BufferEntryInfo) → Each P (xs ++ ys) → Each P xs × Each P ys
-each_front P [] ys h = (tt, h)
-each_front P (x ∷ xs) ys h = let r : Each P xs × Each P ys = each_front P xs ys h.1 in ((h.0, r.0), r.1)
-
-each_join : (P : BufferEntryInfo → Type 0) (xs ys : List BufferEntryInfo) → Each P xs → Each P ys → Each P (xs ++ ys)
-each_join P [] ys h k = k
-each_join P (x ∷ xs) ys h k = (h.0, each_join P xs ys h.1 k)
 
 module _ {A C : Type 0} (s : Sizes) (w : Section) (sizes : AreSizes s) where
   -- Es is what the block held before the batch with the records so far, which stand.
   pub fills_tasks : (B : ℕ → ℕ) (start : ℕ) (f : Position) (es puts : List Entry) (so all : List (ℕ × Record C)) (infos : List BufferEntryInfo) (parts : List (BlobPart A)) (qs : List (Part C)) (g : Position)
       → start + taken infos ≤ length (bytes_of w) → Each (λ i. 0 < i.len) infos
       → Fills s w start f infos parts g → AreSameParts qs parts → Holds s B f es → es ≡ puts ++ map entry_of so
-      → stands.AllStand B (map stored so) → stands.AllOutside (MayWrite s f) (map stored so)
+      → stands.AllStand B (map stored so) → stands.AllOutside (MayWrite s.index f) (map stored so)
       → ((p : ℕ × Record C) → In p (so ++ records_in qs) → In p all) → TasksOk puts all B (writes_of qs)
   fills_tasks B start f es puts so all infos parts [] g room some fill same h are stand out into = tt
   fills_tasks B start f es puts so all infos parts (q ∷ qs) g room some (stays) same h are stand out into = absurd same
   fills_tasks B start f es puts so all infos parts (q ∷ qs) g room some (blob full more) same h are stand out into =
       fills_tasks B start (next_blob s f) es puts so all infos parts (q ∷ qs) g room some more same
       (subst (λ l. Holds s B (next_blob s f) l) (append-nil es) (holds_fills {A = A} s w sizes B start f es [] [] (next_blob s f) (omega (arith, taken_none)) tt (blob full stays) h)) are stand
-      (outside_less (MayWrite s f) (MayWrite s (next_blob s f)) (map stored so) (blob_less s f) out) into
+      (outside_less (MayWrite s.index f) (MayWrite s.index (next_blob s f)) (map stored so) (blob_less s f) out) into
   fills_tasks B start f es puts so all infos parts (q ∷ qs) g room some (part {now = now} {rest = rest} {p = p} {parts = more} is fill) same h are stand out into = (
     tt,
     (
       ind,
       fills_tasks D (start + taken now) f' (es ++ map entry_of q.records) puts (so ++ q.records) all rest more qs g (omega (arith, total)) someboth.1 fill same.1
           later (ap (λ l. l ++ map entry_of q.records) are ∙ append_assoc puts (map entry_of so) (map entry_of q.records) ∙ ap (λ l. puts ++ l) (sym (map-append entry_of so q.records)))
-          (stand_same (MayWrite s f') M D (map stored (so ++ q.records)) outside (λ o away. laid_beside (plain iw) M o (beside_index o away)) standing)
+          (stand_same (MayWrite s.index f') M D (map stored (so ++ q.records)) outside (λ o away. laid_beside iw M o (beside_index o away)) standing)
           outside (λ r i. into r (subst (λ l. In r l) (append_assoc so q.records (records_in qs)) i)),
     ),
   )
@@ -164,25 +159,25 @@ module _ {A C : Type 0} (s : Sizes) (w : Section) (sizes : AreSizes s) where
       iw = record { role = Index; offset = q.blob; bytes = q.index }
 
       M : ℕ → ℕ
-      M = laid (plain dw) B
+      M = laid dw B
 
       D : ℕ → ℕ
-      D = laid (plain iw) M
+      D = laid iw M
 
       total : taken (now ++ rest) ≡ taken now + taken rest
       total = taken-append now rest
 
       someboth : Each (λ i. 0 < i.len) now × Each (λ i. 0 < i.len) rest
-      someboth = each_front (λ i. 0 < i.len) now rest some
+      someboth = (each_front (λ i. 0 < i.len) now rest some, each_back (λ i. 0 < i.len) now rest some)
 
       past : s.index ≤ f.at
       past = h.past
 
-      data_is : plain dw ≡ fills.data_write p
-      data_is = λ i. record { offset = (same.0).blob i + (same.0).at i; bytes = (same.0).content i }
+      data_is : dw ≡ fills.data_write p
+      data_is = λ i. record { role = Data; offset = (same.0).blob i + (same.0).at i; bytes = (same.0).content i }
 
-      index_is : plain iw ≡ fills.index_write p
-      index_is = λ i. record { offset = (same.0).blob i; bytes = (same.0).index i }
+      index_is : iw ≡ fills.index_write p
+      index_is = λ i. record { role = Index; offset = (same.0).blob i; bytes = (same.0).index i }
 
       all_is : D ≡ laid (fills.index_write p) (laid (fills.data_write p) B)
       all_is = λ i. laid (index_is i) (laid (data_is i) B)
@@ -205,13 +200,13 @@ module _ {A C : Type 0} (s : Sizes) (w : Section) (sizes : AreSizes s) where
           (subst (λ k. Holds s k f' (es ++ map stands.entry_of (fills.records_in (p ∷ [])))) (sym all_is)
           (holds_fills s w sizes B start f es (now ++ []) (p ∷ []) f' near (each_join (λ i. 0 < i.len) now [] someboth.0 tt) alone h))
 
-      outside : stands.AllOutside (MayWrite s f') (map stored (so ++ q.records))
-      outside = subst (stands.AllOutside (MayWrite s f')) (sym (map-append stored so q.records))
-          (outside_join (MayWrite s f') (map stored so) (map stored q.records)
-          (outside_less (MayWrite s f) (MayWrite s f') (map stored so) (records_less s f now) out)
-          (subst (stands.AllOutside (MayWrite s f')) (sym own_is) lies.outside))
+      outside : stands.AllOutside (MayWrite s.index f') (map stored (so ++ q.records))
+      outside = subst (stands.AllOutside (MayWrite s.index f')) (sym (map-append stored so q.records))
+          (outside_join (MayWrite s.index f') (map stored so) (map stored q.records)
+          (outside_less (MayWrite s.index f) (MayWrite s.index f') (map stored so) (records_less s f now) out)
+          (subst (stands.AllOutside (MayWrite s.index f')) (sym own_is) lies.outside))
 
-      in_index : (o : ℕ) → (IsBeside (plain iw) o → ⊥) → MayWrite s f' o
+      in_index : (o : ℕ) → (IsBeside iw o → ⊥) → MayWrite s.index f' o
       in_index o inside =
           let b : q.blob ≡ f.blob = (same.0).blob ∙ is.blob in
           let n : length q.index ≡ s.index = ap length (same.0).index ∙ is.size in
@@ -219,30 +214,30 @@ module _ {A C : Type 0} (s : Sizes) (w : Section) (sizes : AreSizes s) where
           let high : q.blob + length q.index ≤ o → ⊥ = λ l. inside (inr l) in
           inr (omega (arith, b, low), omega (arith, b, n, high))
 
-      beside_index : (o : ℕ) → (MayWrite s f' o → ⊥) → IsBeside (plain iw) o
-      beside_index o away = elim (beside_or (plain iw) o) [ inl outside ↦ outside | inr inside ↦ absurd (away (in_index o inside)) ]
+      beside_index : (o : ℕ) → (MayWrite s.index f' o → ⊥) → IsBeside iw o
+      beside_index o away = elim (beside_or iw o) [ inl outside ↦ outside | inr inside ↦ absurd (away (in_index o inside)) ]
 
-      beside_data : (o : ℕ) → (MayWrite s f o → ⊥) → IsBeside (plain dw) o
-      beside_data o away = elim (beside_or (plain dw) o) [
+      beside_data : (o : ℕ) → (MayWrite s.index f o → ⊥) → IsBeside dw o
+      beside_data o away = elim (beside_or dw o) [
         | inl outside ↦ outside
         | inr inside ↦ absurd (away ((lies.within).0 o (subst (λ k. IsBeside k o → ⊥) data_is inside)))
       ]
 
       -- after its data are written the part's records stand: its index touches none of them
       own_stands : stands.AllStand M (map stored q.records)
-      own_stands = stand_same (MayWrite s f') D M (map stored q.records) (subst (stands.AllOutside (MayWrite s f')) (sym own_is) lies.outside)
-          (λ o away. sym (laid_beside (plain iw) M o (beside_index o away)))
+      own_stands = stand_same (MayWrite s.index f') D M (map stored q.records) (subst (stands.AllOutside (MayWrite s.index f')) (sym own_is) lies.outside)
+          (λ o away. sym (laid_beside iw M o (beside_index o away)))
           (subst (stands.AllStand D) (sym own_is)
           (subst (λ k. stands.AllStand k (fills.records_in (p ∷ []))) (sym all_is) (lies.stand B)))
 
       standing : stands.AllStand M (map stored (so ++ q.records))
       standing = subst (stands.AllStand M) (sym (map-append stored so q.records))
           (stand_join M (map stored so) (map stored q.records)
-          (stand_same (MayWrite s f) B M (map stored so) out (λ o away. laid_beside (plain dw) B o (beside_data o away)) stand)
+          (stand_same (MayWrite s.index f) B M (map stored so) out (λ o away. laid_beside dw B o (beside_data o away)) stand)
           own_stands)
 
-      within : AllWithin (MayWrite s f') (map plain (writes_of qs))
-      within = subst (AllWithin (MayWrite s f')) (sym (same_writes qs more same.1))
+      within : AllWithin (MayWrite s.index f') (writes_of qs)
+      within = subst (AllWithin (MayWrite s.index f')) (sym (same_writes qs more same.1))
           (fills_laid s w (start + taken now) f' rest more g (omega arith) (omega (arith, total)) fill).within
 
       known : (e : Entry) → In e (placed q.blob f'.listed) → In e puts ⊎ IsWrittenIn all M (iw ∷ writes_of qs) e
@@ -253,15 +248,15 @@ module _ {A C : Type 0} (s : Sizes) (w : Section) (sizes : AreSizes s) where
             | inl before ↦ inl before
             | inr there ↦
                 let r : (k : ℕ × Record C) × In k (so ++ q.records) × (e ≡ entry_of k) = entries_out e (so ++ q.records) there in
-                let away : (o : ℕ) → (r.0).0 ≤ o → o < (r.0).0 + length ((r.0).1).bytes → MayWrite s f' o → ⊥ =
+                let away : (o : ℕ) → (r.0).0 ≤ o → o < (r.0).0 + length ((r.0).1).bytes → MayWrite s.index f' o → ⊥ =
                 λ o l m. let a : length ((r.0).1).bytes ≤ page_up (length ((r.0).1).bytes) = page_up-holds (length ((r.0).1).bytes) in
-                outside_in (MayWrite s f') r.0 (so ++ q.records) outside r.1 o l (omega arith) in
+                outside_in (MayWrite s.index f') r.0 (so ++ q.records) outside r.1 o l (omega arith) in
                 inr (
                   r.0,
                   into r.0 (subst (λ l. In r.0 l) (append_assoc so q.records (records_in qs)) (in_left r.0 (so ++ q.records) (records_in qs) r.1)),
                   r.2,
                   stand_in M r.0 (so ++ q.records) standing r.1,
-                  (spared_one (MayWrite s f') r.0 iw away in_index, spared_all (MayWrite s f') r.0 (writes_of qs) away within),
+                  (spared_one (MayWrite s.index f') r.0 iw away in_index, spared_all (MayWrite s.index f') r.0 (writes_of qs) away within),
                 )
           ]
 

@@ -1,23 +1,23 @@
 -- Machines with two flushers and three blocks of two pages, and the records that a torn run writes.
 use Rattle.std.proofs.Common.{◌≡◌, ℕ, zero, suc, ◌+◌, ◌*◌, ◌<◌, ◌≤◌, Bool, ◌-◌, Option, Some, List, [], ◌∷◌, length, drop, slice_index, ◌⊎◌, inl, inr, refl, ap, ◌∙◌, arith}
 use Rattle.foyer_format.specs.Header.{number_at}
-use Rattle.foyer_format.specs.Page.{page_up}
+use Rattle.foyer_layout.specs.Page.{page_up}
 use Rattle.foyer_model.specs.Numbers.{page}
 use Rattle.foyer_model.specs.Record.{Outcome, IndexEntry, Given, Record}
-use Rattle.foyer_model.specs.Position.{Position, Data, Index}
+use Rattle.foyer_layout.specs.BlockBytes.{Data, Index, read}
+use Rattle.foyer_model.specs.Position.{Position}
 use Rattle.foyer_model.specs.Rules.{Rules}
 use Rattle.foyer_blob.specs.Blob.{IsSealed, capacity_of}
 use Rattle.foyer_blob.specs.declared.blob.BlobEntryIndex.{BlobEntryIndex}
-use Rattle.foyer_buffer.specs.BlockBytes as bytes
 use Rattle.foyer_restart.specs.Torn.{Place}
 
 -- the count of an index
 
-length_read : (B : ℕ → ℕ) (o n : ℕ) → length (bytes.read B o n) ≡ n
+length_read : (B : ℕ → ℕ) (o n : ℕ) → length (read B o n) ≡ n
 length_read B o zero = refl
 length_read B o (suc n) = ap suc (length_read B (o + 1) n)
 
-index_read : (B : ℕ → ℕ) (o n i : ℕ) → i < n → slice_index (bytes.read B o n) i ≡ B (o + i)
+index_read : (B : ℕ → ℕ) (o n i : ℕ) → i < n → slice_index (read B o n) i ≡ B (o + i)
 index_read B o zero i l = absurd (omega arith)
 index_read B o (suc n) zero l = let e : o ≡ o + 0 = omega arith in ap B e
 index_read B o (suc n) (suc i) l = let e : o + 1 + i ≡ o + suc i = omega arith in index_read B (o + 1) n i (omega arith) ∙ ap B e
@@ -39,13 +39,13 @@ count_is b long =
     omega arith
 
 -- where its second byte is 255, it counts too many
-pub unsealed : (B : ℕ → ℕ) (n : ℕ) (es : List BlobEntryIndex) → n ≡ 4096 → B 9 ≡ 255 → IsSealed (bytes.read B 0 n) es → ⊥
+pub unsealed : (B : ℕ → ℕ) (n : ℕ) (es : List BlobEntryIndex) → n ≡ 4096 → B 9 ≡ 255 → IsSealed (read B 0 n) es → ⊥
 unsealed B n es size there is =
-    let len : length (bytes.read B 0 n) ≡ n = length_read B 0 n in
-    let byte : slice_index (bytes.read B 0 n) 9 ≡ B 9 = index_read B 0 n 9 (omega arith) in
-    let many : number_at 8 4 (bytes.read B 0 n) ≡ length es = is.count in
-    let room : length es ≤ capacity_of (length (bytes.read B 0 n)) = is.room in
-    let sum = count_is (bytes.read B 0 n) is.long in
+    let len : length (read B 0 n) ≡ n = length_read B 0 n in
+    let byte : slice_index (read B 0 n) 9 ≡ B 9 = index_read B 0 n 9 (omega arith) in
+    let many : number_at 8 4 (read B 0 n) ≡ length es = is.count in
+    let room : length es ≤ capacity_of (length (read B 0 n)) = is.room in
+    let sum = count_is (read B 0 n) is.long in
     omega arith
 
 -- where it counts one entry, its first bytes are 0

@@ -1,10 +1,11 @@
 -- A run that is stopped with two flushers inside writes, of any machine with two flushers and three blocks of two pages.
 use Rattle.std.proofs.Common.{◌≡◌, ℕ, ◌+◌, ◌<◌, ◌≤◌, true, false, Some, None, List, [], ◌∷◌, length, ◌⊎◌, inl, inr, refl, sym, ap, ◌∙◌, arith}
-use Rattle.foyer_format.specs.Page.{page_up}
-use Rattle.foyer_format.proofs.PageLaws.{page_up-least}
+use Rattle.foyer_layout.specs.Page.{page_up}
+use Rattle.foyer_layout.proofs.PageLaws.{page_up-least}
 use Rattle.foyer_model.specs.Numbers.{put}
 use Rattle.foyer_model.specs.Record.{Record}
-use Rattle.foyer_model.specs.Position.{Index, Write, BlockLayout}
+use Rattle.foyer_layout.specs.BlockBytes.{Index, Write}
+use Rattle.foyer_model.specs.Position.{BlockLayout}
 use Rattle.foyer_model.specs.State.{Flusher, Piece, Batch, Writing, Clean, Writes, no_stats, NoDestroy, State}
 use Rattle.foyer_model.specs.Rules.{Rules, Splitting, first_position}
 use Rattle.foyer_model.specs.Step.{Fresh, Young, Enqueue, Receive, FlushBegin, FlushBlock, FlushWrote}

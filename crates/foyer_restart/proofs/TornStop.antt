@@ -1,26 +1,23 @@
 -- What stands where a torn run is stopped, and what an opening finds there.
 use Rattle.std.proofs.Common.{◌≡◌, ℕ, ◌+◌, ◌<◌, ◌≤◌, nat_le, nat_lt, Bool, true, false, ◌||◌, if◌then◌else◌, ◌-◌, List, [], ◌∷◌, ◌++◌, length, slice_index, ◌⊎◌, inl, inr, refl, sym, ap, subst, ◌∙◌, arith}
 use Rattle.std.proofs.lemmas.Bool.Decides.{nat_tests}
-use Rattle.foyer_format.specs.Page.{page_up}
-use Rattle.foyer_format.proofs.PageLaws.{page_up-least, page_up-holds}
+use Rattle.foyer_layout.specs.Page.{page_up}
+use Rattle.foyer_layout.proofs.PageLaws.{page_up-least, page_up-holds}
 use Rattle.foyer_model.specs.Numbers.{put}
 use Rattle.foyer_model.specs.Record.{Record}
-use Rattle.foyer_model.specs.Position.{Data, Index, Write}
+use Rattle.foyer_layout.specs.BlockBytes.{Data, Index, Write, laid, read}
 use Rattle.foyer_model.specs.State.{Writing}
 use Rattle.foyer_model.specs.Rules.{Rules, Splitting, first_position}
-use Rattle.foyer_model.specs.Layout.{laid}
 use Rattle.foyer_model.specs.Access.{is_in}
 use Rattle.foyer_model.specs.World.{World, covers}
 use Rattle.foyer_model.proofs.Basics.{put_at}
 use Rattle.foyer_blob.specs.Blob.{IsSealed}
 use Rattle.foyer_blob.specs.declared.blob.BlobEntryIndex.{BlobEntryIndex}
-use Rattle.foyer_buffer.specs.BlockBytes as bytes
-use Rattle.foyer_buffer.specs.Position.{Sizes}
+use Rattle.foyer_layout.specs.Position.{Sizes}
 use Rattle.foyer_buffer.specs.Holding.{all_read}
 use Rattle.foyer_buffer.specs.Listing.{IsIndex, kept}
 use Rattle.foyer_buffer.specs.Listing.Chain.{ends, goes}
-use Rattle.foyer_buffer.proofs.BlockBytesLemmas.{read_whole, read_part, read_same}
-use Rattle.foyer_placing.proofs.LaidLemmas.{laid_beside, laid_there}
+use Rattle.foyer_layout.proofs.BlockBytesLaws.{read_whole, read_part, read_same, laid_beside, laid_there}
 use Rattle.foyer_recover.specs.Opening.{Keeps, Opened, Opens, winner, slot_of, all_stand, greatest, clean_from}
 use Rattle.foyer_recover.specs.declared.block.recover.RecoverMode.TheVariants as recover_mode
 use Rattle.foyer_restart.proofs.Witness.{first_only}
@@ -162,38 +159,38 @@ module _ {C : Type 0} (m : Machine C) (Splits : Splitting C) (is_value : C → T
   stopped = stopped_with (put (w.bytes 1) 8 0) (λ o there. put_at (λ u. u ≡ w.bytes 1 o) (w.bytes 1) 8 0 o
       (λ at. let t : true ≡ false = sym index_under_way ∙ subst (λ u. covers rules w 1 u ≡ false) at there in absurd cc) (λ _. refl))
 
-  index_there : p.index ≡ bytes.read (torn 0) 0 4096
-  index_there = subst (λ u. p.index ≡ bytes.read (torn 0) u 4096) first_is.blob (subst (λ n. p.index ≡ bytes.read (torn 0) p.blob n) first_is.size
-      (sym (read_whole (record { offset = p.blob; bytes = p.index }) (bytes.laid (record { offset = p.blob + p.at; bytes = p.content }) (λ u. 255)))))
+  index_there : p.index ≡ read (torn 0) 0 4096
+  index_there = subst (λ u. p.index ≡ read (torn 0) u 4096) first_is.blob (subst (λ n. p.index ≡ read (torn 0) p.blob n) first_is.size
+      (sym (read_whole (record { role = Index; offset = p.blob; bytes = p.index }) (laid (record { role = Data; offset = p.blob + p.at; bytes = p.content }) (λ u. 255)))))
 
   -- what passes as an index is one that was written, where in block 1 it is so
-  strays_with : (g : ℕ → ℕ) → ((es : List BlobEntryIndex) → IsSealed (bytes.read g 0 4096) es → q.index ≡ bytes.read g 0 4096) → HasNoStrays rules w (with_index g)
+  strays_with : (g : ℕ → ℕ) → ((es : List BlobEntryIndex) → IsSealed (read g 0 4096) es → q.index ≡ read g 0 4096) → HasNoStrays rules w (with_index g)
   strays_with g known b o es lt scan is = go (which b lt)
     where
       at_first : o ≡ 0
       at_first = first_only (with_index g b) o es scan is.room
 
-      there : IsSealed (bytes.read (with_index g b) 0 4096) es
-      there = subst (λ u. IsSealed (bytes.read (with_index g b) u 4096) es) at_first is.sealed
+      there : IsSealed (read (with_index g b) 0 4096) es
+      there = subst (λ u. IsSealed (read (with_index g b) u 4096) es) at_first is.sealed
 
       go : (b ≡ 0) ⊎ (b ≡ 1) ⊎ (b ≡ 2)
-          → (v : Write) × In (b, v) w.begun_writes × (v.role ≡ Index) × (v.offset ≡ o) × (v.bytes ≡ bytes.read (with_index g b) o 4096)
+          → (v : Write) × In (b, v) w.begun_writes × (v.role ≡ Index) × (v.offset ≡ o) × (v.bytes ≡ read (with_index g b) o 4096)
       go (inl e) = (
         record { role = Index; offset = p.blob; bytes = p.index },
         inr (inr (inr (inl (λ t. (e t, record { role = Index; offset = p.blob; bytes = p.index }))))),
         refl,
         first_is.blob ∙ sym at_first,
-        subst (λ u. p.index ≡ bytes.read (with_index g u) o 4096) (sym e) (subst (λ u. p.index ≡ bytes.read (with_index g 0) u 4096) (sym at_first) index_there),
+        subst (λ u. p.index ≡ read (with_index g u) o 4096) (sym e) (subst (λ u. p.index ≡ read (with_index g 0) u 4096) (sym at_first) index_there),
       )
       go (inr (inl e)) = (
         index2,
         inl (λ t. (e t, index2)),
         refl,
         second_is.blob ∙ sym at_first,
-        subst (λ u. q.index ≡ bytes.read (with_index g u) o 4096) (sym e)
-            (subst (λ u. q.index ≡ bytes.read g u 4096) (sym at_first) (known es (subst (λ u. IsSealed (bytes.read (with_index g u) 0 4096) es) e there))),
+        subst (λ u. q.index ≡ read (with_index g u) o 4096) (sym e)
+            (subst (λ u. q.index ≡ read g u 4096) (sym at_first) (known es (subst (λ u. IsSealed (read (with_index g u) 0 4096) es) e there))),
       )
-      go (inr (inr e)) = absurd (unsealed (with_index g 2) 4096 es refl refl (subst (λ u. IsSealed (bytes.read (with_index g u) 0 4096) es) e there))
+      go (inr (inr e)) = absurd (unsealed (with_index g 2) 4096 es refl refl (subst (λ u. IsSealed (read (with_index g u) 0 4096) es) e there))
 
   strays : HasNoStrays rules w torn
   strays = strays_with (put (w.bytes 1) 8 0) (λ es is. absurd (unsealed (put (w.bytes 1) 8 0) 4096 es refl (before_data 9 (omega arith)) is))
@@ -226,9 +223,9 @@ module _ {C : Type 0} (m : Machine C) (Splits : Splitting C) (is_value : C → T
       beside true e = e
       beside false e = refl
 
-  second_there : q.index ≡ bytes.read (whole 1) 0 4096
-  second_there = subst (λ u. q.index ≡ bytes.read (whole 1) u 4096) second_is.blob (subst (λ n. q.index ≡ bytes.read (whole 1) q.blob n) second_is.size
-      (sym (read_whole (record { offset = q.blob; bytes = q.index }) (bytes.laid (record { offset = q.blob + q.at; bytes = q.content }) (λ u. 255)))))
+  second_there : q.index ≡ read (whole 1) 0 4096
+  second_there = subst (λ u. q.index ≡ read (whole 1) u 4096) second_is.blob (subst (λ n. q.index ≡ read (whole 1) q.blob n) second_is.size
+      (sym (read_whole (record { role = Index; offset = q.blob; bytes = q.index }) (laid (record { role = Data; offset = q.blob + q.at; bytes = q.content }) (λ u. 255)))))
 
   whole_strays : HasNoStrays rules w whole
   whole_strays = strays_with (laid index2 (w.bytes 1)) (λ es is. second_there)
@@ -262,7 +259,7 @@ module _ {C : Type 0} (m : Machine C) (Splits : Splitting C) (is_value : C → T
   nothing_in : (B : ℕ → ℕ) → B 9 ≡ 255 → Keeps sizes recover_mode.Quiet B all_read []
   nothing_in B there = ([], record { end = 0; chain = ends (λ es is. unsealed B 4096 es refl there is.sealed) }, refl)
 
-  one_in : (B : ℕ → ℕ) (h s n : ℕ) → 0 < n → n ≤ 4096 → one_entry h s n ∷ [] ≡ kept (one_entry h s n ∷ []) → IsSealed (bytes.read B 0 4096) (one_entry h s n ∷ [])
+  one_in : (B : ℕ → ℕ) (h s n : ℕ) → 0 < n → n ≤ 4096 → one_entry h s n ∷ [] ≡ kept (one_entry h s n ∷ []) → IsSealed (read B 0 4096) (one_entry h s n ∷ [])
       → Keeps sizes recover_mode.Quiet B all_read (one_entry h s n ∷ [])
   one_in B h s n some small all sealed = (one_entry h s n ∷ [], record { end = 0 + 4096 + page_up n; chain = goes there (ends (λ es is. past is.room)) }, all)
     where
@@ -316,16 +313,16 @@ module _ {C : Type 0} (m : Machine C) (Splits : Splitting C) (is_value : C → T
       }
 
       -- the newer record stands, before the index and behind it
-      data_read : bytes.read (laid data2 (λ u. 255)) 4096 (length j.bytes) ≡ j.bytes
+      data_read : read (laid data2 (λ u. 255)) 4096 (length j.bytes) ≡ j.bytes
       data_read =
           let low : q.blob ≡ 0 = second_is.blob in
           let at : q.at ≡ 4096 = second_is.at in
           let e : q.blob + q.at + 0 ≡ 4096 = omega arith in
-          subst (λ u. bytes.read (bytes.laid (record { offset = q.blob + q.at; bytes = u }) (λ v. 255)) 4096 (length j.bytes) ≡ j.bytes) (sym starts)
-          (subst (λ u. bytes.read (bytes.laid (record { offset = q.blob + q.at; bytes = j.bytes ++ post }) (λ v. 255)) u (length j.bytes) ≡ j.bytes) e
-          (read_part (q.blob + q.at) [] j.bytes post (λ v. 255)))
+          subst (λ u. read (laid (record { role = Data; offset = q.blob + q.at; bytes = u }) (λ v. 255)) 4096 (length j.bytes) ≡ j.bytes) (sym starts)
+          (subst (λ u. read (laid (record { role = Data; offset = q.blob + q.at; bytes = j.bytes ++ post }) (λ v. 255)) u (length j.bytes) ≡ j.bytes) e
+          (read_part Data (q.blob + q.at) [] j.bytes post (λ v. 255)))
 
-      newer_stands : bytes.read (whole 1) 4096 (length j.bytes) ≡ j.bytes
+      newer_stands : read (whole 1) 4096 (length j.bytes) ≡ j.bytes
       newer_stands =
           let low : q.blob ≡ 0 = second_is.blob in
           let size : length q.index ≡ 4096 = second_is.size in

@@ -1,6 +1,7 @@
 -- A run that is stopped with two flushers inside writes, where the splitter places each batch.
 use Rattle.std.proofs.Common.{◌≡◌, ℕ, zero, suc, ◌+◌, ◌<◌, ◌≤◌, false, Option, Some, List, [], ◌∷◌, ◌++◌, ◌-◌, length, drop, take, slice_index, refl, sym, ap, subst, ◌∙◌, arith}
-use Rattle.foyer_format.specs.Page.{page_up}
+use Rattle.foyer_layout.specs.Position.{Sizes, fresh}
+use Rattle.foyer_layout.specs.Page.{page_up}
 use Rattle.foyer_model.specs.Numbers.{page}
 use Rattle.foyer_model.specs.Record.{Holds, IndexEntry, Record}
 use Rattle.foyer_model.specs.Rules.{Rules, first_position}
@@ -25,7 +26,7 @@ use Rattle.foyer_restart.proofs.TornStop.{reached}
 
 -- what a part of one record is
 
-abbrev sizes : laid_out.Sizes
+abbrev sizes : Sizes
 sizes = record { block = 8192; index = 4096 }
 
 record Begins (x y : ℕ) (xs : List ℕ) : Type 0 where
@@ -119,7 +120,7 @@ module _ (A : Type 0) (entries_of : ℕ → List ℕ → Option (List IndexEntry
     second_is : StandsAlone 7 6 q
     second_is =
         let more = (split.spread).6 in
-        stands_alone split.whole _ (laid_out.fresh sizes) more.0 q newer 7 6 more.2 (filled_to q.end) refl refl refl refl more.4 more.5
+        stands_alone split.whole _ (fresh sizes) more.0 q newer 7 6 more.2 (filled_to q.end) refl refl refl refl more.4 more.5
 
     third_is : StandsAlone 5 4 r
     third_is = stands_alone split_other.whole 0 (filled_to (first_position rules)) (split_other.spread).0 r other 5 4 (split_other.spread).2 (filled_to r.end) refl refl refl refl (split_other.spread).4 (split_other.spread).5

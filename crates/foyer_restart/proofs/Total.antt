@@ -1,14 +1,14 @@
 -- That there is what an opening gives.
 use Rattle.std.proofs.lemmas.Bool.Decides.{nat_tests}
 use Rattle.std.proofs.Common.{◌≡◌, ℕ, zero, suc, ◌+◌, ◌<◌, ◌≤◌, ◌^◌, nat_le, nat_lt, Bool, true, false, Option, Some, None, List, [], ◌∷◌, ◌++◌, map, ◌⊎◌, inl, inr, refl, sym, ◌∙◌, arith}
-use Rattle.foyer_buffer.specs.BlockBytes as bytes
-use Rattle.foyer_buffer.specs.BlockBytes.{read}
-use Rattle.foyer_buffer.specs.Position as laid
+use Rattle.foyer_layout.specs.Position.{Sizes}
+use Rattle.foyer_layout.specs.Each.{Each}
+use Rattle.foyer_layout.specs.BlockBytes.{read}
 use Rattle.foyer_buffer.specs.Listing.{Fits, IsIndex, behind, placed, Chain, Lists, kept}
 use Rattle.foyer_buffer.specs.Listing.Chain.{ends, goes}
 use Rattle.foyer_model.specs.Record.{IndexEntry}
-use Rattle.foyer_model.specs.Rules.{Rules}
-use Rattle.foyer_restart.specs.Entries.{sizes_of, entry_in}
+use Rattle.foyer_model.specs.Rules.{Rules, sizes_of}
+use Rattle.foyer_restart.specs.Entries.{entry_in}
 use Rattle.foyer_restart.specs.Real.{IsFormat}
 use Rattle.foyer_recover.specs.Opening.{Keeps, winner, slot_of, all_stand, greatest, clean_from, Opened, Opens}
 use Rattle.foyer_recover.specs.declared.block.recover.RecoverMode.{RecoverMode}
@@ -18,7 +18,7 @@ use Rattle.foyer_restart.specs.Total.{ListsExist, OpensUnlessLast}
 use Rattle.foyer_restart.proofs.Tasks.{Entry}
 
 module _ {C : Type 0} (rules : Rules C) (format : IsFormat rules) where
-  s : laid.Sizes
+  s : Sizes
   s = sizes_of rules
 
   -- whether an index stands at a place
@@ -32,7 +32,7 @@ module _ {C : Type 0} (rules : Rules C) (format : IsFormat rules) where
       room true e false f None g = inr (λ es is. format.ends p (read B p rules.index_size) es g is.sealed is.fits)
       room true e false f (Some es) g = inl (map entry_in es, record { room = grind (arith, nat_tests, e); came = f; sealed = (format.lists p (read B p rules.index_size) es g).0; fits = (format.lists p (read B p rules.index_size) es g).1 })
 
-  behind_more : (p : ℕ) (es : List Entry) → bytes.Each (Fits (sizes_of rules) p) es → p < behind (sizes_of rules) p es
+  behind_more : (p : ℕ) (es : List Entry) → Each (Fits (sizes_of rules) p) es → p < behind (sizes_of rules) p es
   behind_more p [] fits = let a : 0 < rules.index_size = format.sizes.some in let b : rules.index_size < rules.block_size = format.sizes.order in omega arith
   behind_more p (e ∷ []) fits = let a : 0 < rules.index_size = format.sizes.some in let b : rules.index_size ≤ e.offset = (fits.0).behind in omega arith
   behind_more p (e ∷ d ∷ es) fits = behind_more p (d ∷ es) fits.1

@@ -1,10 +1,12 @@
 -- A run that goes well and leaves an address in the index.
 use Rattle.std.proofs.Common.{◌≡◌, ℕ, ◌+◌, ◌<◌, ◌≤◌, Bool, true, false, Option, Some, None, List, [], ◌∷◌, length, ◌⊎◌, inl, inr, refl, sym, ap, subst, ◌∙◌, arith}
-use Rattle.foyer_format.specs.Page.{page_up}
-use Rattle.foyer_format.proofs.PageLaws.{page_up-fewest}
+use Rattle.foyer_layout.specs.Position.{Sizes}
+use Rattle.foyer_layout.specs.Page.{page_up}
+use Rattle.foyer_layout.proofs.PageLaws.{page_up-fewest, page_up-holds}
 use Rattle.foyer_model.specs.Numbers.{put, page}
 use Rattle.foyer_model.specs.Record.{Indexed, IndexEntry}
-use Rattle.foyer_model.specs.Position.{Position, Index, Write, Part, BlockLayout}
+use Rattle.foyer_layout.specs.BlockBytes.{Index, Write, laid, read, Data}
+use Rattle.foyer_model.specs.Position.{Position, Part, BlockLayout}
 use Rattle.foyer_model.specs.State.{Flusher, Piece, Batch, Writing, Clean, Writes, no_stats, NoDestroy, State}
 use Rattle.foyer_model.specs.Rules.{Rules, first_position}
 use Rattle.foyer_model.specs.Step.{Fresh, Young, Enqueue, Receive, FlushBegin, FlushBlock, FlushWrote}
@@ -19,7 +21,7 @@ use Rattle.foyer_model.specs.Opened.{IsOpened, idle, full_filling}
 use Rattle.foyer_device.specs.Section.{Section}
 use Rattle.foyer_blob.specs.Blob.{capacity_of}
 use Rattle.foyer_blob.specs.declared.blob.BlobEntryIndex.{BlobEntryIndex}
-use Rattle.foyer_buffer.specs.BlockBytes.{laid, read, Each}
+use Rattle.foyer_layout.specs.Each.{Each}
 use Rattle.foyer_buffer.specs.Position as laid
 use Rattle.foyer_buffer.specs.Fills.{Fills}
 use Rattle.foyer_buffer.specs.Fills.Fills.{part, blob}
@@ -27,8 +29,7 @@ use Rattle.foyer_buffer.specs.Holding.{all_read}
 use Rattle.foyer_buffer.specs.Listing.{Fits, IsIndex, behind}
 use Rattle.foyer_buffer.specs.declared.BufferEntryInfo.{BufferEntryInfo}
 use Rattle.foyer_buffer.specs.declared.split.BlobPart.{BlobPart}
-use Rattle.foyer_buffer.proofs.BlockBytesLemmas.{read_whole}
-use Rattle.foyer_format.proofs.PageLaws.{page_up-holds}
+use Rattle.foyer_layout.proofs.BlockBytesLaws.{read_whole}
 use Rattle.foyer_model.proofs.Basics.{put_at, put_other}
 use Rattle.foyer_restart.specs.Entries.{filled_to}
 use Rattle.foyer_restart.specs.Real.{AreSameParts}
@@ -38,12 +39,12 @@ use Rattle.foyer_restart.specs.Splits.{IsRealSplit}
 use Rattle.foyer_restart.specs.Witness.{tiny, one, ReachesIndexed}
 
 -- what one part is
-one_part : {A : Type 0} (s : laid.Sizes) (w : Section) (start : ℕ) (f : laid.Position) (infos : List BufferEntryInfo) (p : BlobPart A) (g : laid.Position) → 0 < capacity_of s.index → length f.listed ≡ 0
+one_part : {A : Type 0} (s : Sizes) (w : Section) (start : ℕ) (f : laid.Position) (infos : List BufferEntryInfo) (p : BlobPart A) (g : laid.Position) → 0 < capacity_of s.index → length f.listed ≡ 0
     → Fills s w start f infos (p ∷ []) g → (p.blob_block_offset ≡ f.blob) × (length p.index ≡ s.index)
 one_part s w start f infos p g room none (part is fill) = (is.blob, is.size)
 one_part s w start f infos p g room none (blob full fill) = absurd (omega arith)
 
-only_part : {A : Type 0} (s : laid.Sizes) (w : Section) (start : ℕ) (f : laid.Position) (infos : List BufferEntryInfo) (q : Part (List ℕ)) (parts : List (BlobPart A)) (g : laid.Position) → 0 < capacity_of s.index → length f.listed ≡ 0
+only_part : {A : Type 0} (s : Sizes) (w : Section) (start : ℕ) (f : laid.Position) (infos : List BufferEntryInfo) (q : Part (List ℕ)) (parts : List (BlobPart A)) (g : laid.Position) → 0 < capacity_of s.index → length f.listed ≡ 0
     → Fills s w start f infos parts g → AreSameParts (q ∷ []) parts → (q.blob ≡ f.blob) × (length q.index ≡ s.index)
 only_part s w start f infos q [] g room none fill same = absurd same
 only_part s w start f infos q (p ∷ []) g room none fill same =
@@ -269,7 +270,7 @@ module _ (A : Type 0) (entries_of : ℕ → List ℕ → Option (List IndexEntry
           subst (λ c. index ≡ read ((after rules (after rules w6 e6) e7).bytes c) p 4096) (sym block)
               (subst (λ q. index ≡ read ((after rules (after rules w6 e6) e7).bytes 0) q 4096) (at_zero ∙ sym at_first)
               (subst (λ n. index ≡ read ((after rules (after rules w6 e6) e7).bytes 0) base n) size
-              (sym (read_whole (record { offset = base; bytes = index }) (laid (record { offset = base + at; bytes = content }) (λ o. 0)))))),
+              (sym (read_whole (record { role = Index; offset = base; bytes = index }) (laid (record { role = Data; offset = base + at; bytes = content }) (λ o. 0)))))),
         )
       where
         only : (base ≡ 0) × (length index ≡ 4096)

@@ -1,21 +1,21 @@
 -- A write begins, or ends, or is reported.
 use Rattle.std.proofs.Common.{◌≡◌, ℕ, ◌==◌, Bool, true, false, ◌&&◌, ◌||◌, Option, Some, None, List, [], ◌∷◌, ◌++◌, map, ◌⊎◌, inl, inr, refl, sym, ap, subst, ◌∙◌, arith}
 use Rattle.std.proofs.lemmas.Bool.{eqb-true}
-use Rattle.foyer_buffer.specs.BlockBytes.{all_laid, laid}
+use Rattle.foyer_layout.specs.Position.{Sizes}
+use Rattle.foyer_layout.specs.BlockBytes.{all_laid, laid, Write}
 use Rattle.foyer_buffer.specs.Position as laid
 use Rattle.foyer_buffer.specs.Holding.{Holds}
 use Rattle.foyer_model.specs.Numbers.{put}
 use Rattle.foyer_model.specs.Record.{Record}
-use Rattle.foyer_model.specs.Position.{Write}
 use Rattle.foyer_model.specs.State.{Writes, Reclaims, Stage, AtIndex, AtRecord, AllListed, ToClean, Reclaim}
-use Rattle.foyer_model.specs.Rules.{Rules}
+use Rattle.foyer_model.specs.Rules.{Rules, sizes_of}
 use Rattle.foyer_model.specs.InTurn.{IsAt}
 use Rattle.foyer_model.specs.Access.{BlockWrites, Idle, Issued, InFlight, ReadState, ReadIssued, Reading, ReadDone, Scan, read_torn, at_scan, writes_begun, will_cover, writes_ended, bytes_ended, writes_reported, is_in}
 use Rattle.foyer_model.specs.World.{noted_write}
 use Rattle.foyer_model.proofs.Basics.{put_at, put_one, put_same, put_other}
 use Rattle.foyer_model.proofs.Invariant.{AllWell}
 use Rattle.foyer_model.proofs.FlushEnds.{put_self}
-use Rattle.foyer_restart.specs.Entries.{In, sizes_of, filled_to, plain, entry_of}
+use Rattle.foyer_restart.specs.Entries.{In, filled_to, entry_of}
 use Rattle.foyer_restart.proofs.Tasks.{Entry, IsWrittenIn, RoleOk, role_more, TasksOk, written_tail}
 use Rattle.foyer_restart.proofs.Safe.{Sight, Job, job_in, left_in, results_in, puts_in, WasDone, IsInJob, IsHeld, AreLogged, PhaseReads, ScanReads, StageReads, ReadsOk, IsSafe}
 use Rattle.foyer_restart.proofs.Puts.{puts_out}
@@ -59,7 +59,7 @@ well_more (true ∷ rs) ok = well_more rs ok
 well_more (false ∷ rs) ok = absurd ok
 
 -- a read goes on where what begins doesn't fall into its block
-read_state_torn : (s : laid.Sizes) (B : ℕ → ℕ) (p b : ℕ) (over : ℕ → ℕ → Bool) (read_state : ReadState) → ((o : ℕ) → over b o ≡ false) → PhaseReads s B p read_state → PhaseReads s B p (read_torn over b read_state)
+read_state_torn : (s : Sizes) (B : ℕ → ℕ) (p b : ℕ) (over : ℕ → ℕ → Bool) (read_state : ReadState) → ((o : ℕ) → over b o ≡ false) → PhaseReads s B p read_state → PhaseReads s B p (read_torn over b read_state)
 read_state_torn s B p b over ReadIssued none ok = ok
 read_state_torn s B p b over (Reading seen) none ok = λ o. go (seen o) (over b o) (ok o) (none o)
   where
@@ -68,11 +68,11 @@ read_state_torn s B p b over (Reading seen) none ok = λ o. go (seen o) (over b 
     go false y e f = f
 read_state_torn s B p b over (ReadDone r) none ok = ok
 
-scan_torn : (s : laid.Sizes) (B : ℕ → ℕ) (p b : ℕ) (over : ℕ → ℕ → Bool) (scan : Option Scan) → ((o : ℕ) → over b o ≡ false) → ScanReads s B p scan → ScanReads s B p (at_scan (read_torn over) b scan)
+scan_torn : (s : Sizes) (B : ℕ → ℕ) (p b : ℕ) (over : ℕ → ℕ → Bool) (scan : Option Scan) → ((o : ℕ) → over b o ≡ false) → ScanReads s B p scan → ScanReads s B p (at_scan (read_torn over) b scan)
 scan_torn s B p b over None none ok = ok
 scan_torn s B p b over (Some sc) none ok = (ok.0, ok.1, read_state_torn s B p b over sc.read_state none ok.2)
 
-pub reads_torn : (s : laid.Sizes) (B : ℕ → ℕ) (b n : ℕ) (over : ℕ → ℕ → Bool) (reclaim : Option Reclaim) (scan : Option Scan) → ((p : ℕ) → IsAt (AtIndex p) reclaim → (o : ℕ) → over b o ≡ false)
+pub reads_torn : (s : Sizes) (B : ℕ → ℕ) (b n : ℕ) (over : ℕ → ℕ → Bool) (reclaim : Option Reclaim) (scan : Option Scan) → ((p : ℕ) → IsAt (AtIndex p) reclaim → (o : ℕ) → over b o ≡ false)
     → ReadsOk s B b n reclaim scan → ReadsOk s B b n reclaim (at_scan (read_torn over) b scan)
 reads_torn s B b n over None scan none ok = tt
 reads_torn s B b n over (Some r) scan none ok = (ok.0, go r.stage refl ok.1)
@@ -181,7 +181,7 @@ module _ (A : Type 0) {C : Type 0} (rules : Rules C) where
 
   -- A write ends well.
   pub write_ended : (v : Sight C) (f b : ℕ) (rs : List Bool) (w : Write) (ws : List Write) → v.block_writes f ≡ InFlight b rs w ws → IsOwned rules v → IsSafe A rules v
-      → IsSafe A rules (record v { block_writes = put v.block_writes f (Issued b (rs ++ true ∷ []) ws); bytes = put v.bytes b (laid (plain w) (v.bytes b)) })
+      → IsSafe A rules (record v { block_writes = put v.block_writes f (Issued b (rs ++ true ∷ []) ws); bytes = put v.bytes b (laid w (v.bytes b)) })
   write_ended v f b rs w ws is o s = record {
     low = s.low;
     lines = s.lines;
@@ -196,14 +196,14 @@ module _ (A : Type 0) {C : Type 0} (rules : Rules C) where
           mine = λ c owns none. absurd (let j : Job C = (b, ps) in let x : Some j ≡ None = sym is_job ∙ none in cc);
           writing = λ c qs given.
               let same : (b ≡ c) × (ps ≡ qs) = job_same (b, ps) (c, qs) (sym is_job ∙ given) in
-              subst (λ d. Holds sz (all_laid (map plain ws) (put v.bytes b bytes' d)) (filled_to (v.filled d)) (puts d ++ map entry_of qs) × TasksOk (puts d) qs (put v.bytes b bytes' d) ws) same.0
-              (subst (λ l. Holds sz (all_laid (map plain ws) (put v.bytes b bytes' b)) (filled_to (v.filled b)) (puts b ++ map entry_of l) × TasksOk (puts b) l (put v.bytes b bytes' b) ws) same.1
-              (subst (λ B. Holds sz (all_laid (map plain ws) B) (filled_to (v.filled b)) (puts b ++ map entry_of ps) × TasksOk (puts b) ps B ws) (sym (put_same v.bytes b bytes'))
+              subst (λ d. Holds sz (all_laid (ws) (put v.bytes b bytes' d)) (filled_to (v.filled d)) (puts d ++ map entry_of qs) × TasksOk (puts d) qs (put v.bytes b bytes' d) ws) same.0
+              (subst (λ l. Holds sz (all_laid (ws) (put v.bytes b bytes' b)) (filled_to (v.filled b)) (puts b ++ map entry_of l) × TasksOk (puts b) l (put v.bytes b bytes' b) ws) same.1
+              (subst (λ B. Holds sz (all_laid (ws) B) (filled_to (v.filled b)) (puts b ++ map entry_of ps) × TasksOk (puts b) ps B ws) (sym (put_same v.bytes b bytes'))
               (was.0, (was.1).1)));
         })
         (λ q ne. record {
           mine = λ c owns none. subst (λ B. Holds sz B (filled_to (v.filled c)) (puts c)) (sym (put_other v.bytes b bytes' c (apart q ne c owns))) ((s.held q).mine c owns none);
-          writing = λ c qs given. subst (λ B. Holds sz (all_laid (map plain (left_in (v.block_writes q))) B) (filled_to (v.filled c)) (puts c ++ map entry_of qs) × TasksOk (puts c) qs B (left_in (v.block_writes q)))
+          writing = λ c qs given. subst (λ B. Holds sz (all_laid (left_in (v.block_writes q)) B) (filled_to (v.filled c)) (puts c ++ map entry_of qs) × TasksOk (puts c) qs B (left_in (v.block_writes q)))
               (sym (put_other v.bytes b bytes' c (apart q ne c (o.job q c qs given)))) ((s.held q).writing c qs given);
         });
     rests = s.rests;
@@ -214,7 +214,7 @@ module _ (A : Type 0) {C : Type 0} (rules : Rules C) where
         (λ at. subst (λ r. ReadsOk sz bytes' c (v.filling c) r (v.scans c)) (sym (ap v.reclaims at ∙ no_reclaim rules v o f b at_b)) tt) (λ _. s.reads c);
   }
     where
-      sz : laid.Sizes
+      sz : Sizes
       sz = sizes_of rules
 
       job : ℕ → Option (Job C)
@@ -224,7 +224,7 @@ module _ (A : Type 0) {C : Type 0} (rules : Rules C) where
       puts = puts_in v.filling v.committed
 
       bytes' : ℕ → ℕ
-      bytes' = laid (plain w) (v.bytes b)
+      bytes' = laid w (v.bytes b)
 
       pending' : BlockWrites
       pending' = Issued b (rs ++ true ∷ []) ws
@@ -241,8 +241,8 @@ module _ (A : Type 0) {C : Type 0} (rules : Rules C) where
       at_b : v.place b ≡ Writes f
       at_b = o.place f b own
 
-      was : Holds sz (all_laid (map plain (w ∷ ws)) (v.bytes b)) (filled_to (v.filled b)) (puts b ++ map entry_of ps) × TasksOk (puts b) ps (v.bytes b) (w ∷ ws)
-      was = subst (λ l. Holds sz (all_laid (map plain l) (v.bytes b)) (filled_to (v.filled b)) (puts b ++ map entry_of ps) × TasksOk (puts b) ps (v.bytes b) l) (ap left_in is) ((s.held f).writing b ps is_job)
+      was : Holds sz (all_laid (w ∷ ws) (v.bytes b)) (filled_to (v.filled b)) (puts b ++ map entry_of ps) × TasksOk (puts b) ps (v.bytes b) (w ∷ ws)
+      was = subst (λ l. Holds sz (all_laid (l) (v.bytes b)) (filled_to (v.filled b)) (puts b ++ map entry_of ps) × TasksOk (puts b) ps (v.bytes b) l) (ap left_in is) ((s.held f).writing b ps is_job)
 
       apart : (q : ℕ) → (q ≡ f → ⊥) → (c : ℕ) → (v.flushers q).own ≡ Some c → c ≡ b → ⊥
       apart q ne c owns at = ne (o.one q f b (owns ∙ ap Some at) own)

@@ -1,11 +1,11 @@
 -- Entries, sizes and writes of the model as those of the bytes.
 use Rattle.std.specs.Prelude.{◌≡◌, ℕ, ◌==◌, ◌&&◌, if◌then◌else◌, List, [], ◌∷◌, ◌++◌, length, map, ◌⊎◌}
 use Rattle.foyer_blob.specs.declared.blob.BlobEntryIndex.{BlobEntryIndex}
-use Rattle.foyer_buffer.specs.BlockBytes as bytes
 use Rattle.foyer_buffer.specs.Position as laid
 use Rattle.foyer_buffer.specs.Stored as stands
 use Rattle.foyer_model.specs.Record.{Address, IndexEntry, Record}
-use Rattle.foyer_model.specs.Position.{Position, Write}
+use Rattle.foyer_layout.specs.BlockBytes.{Write}
+use Rattle.foyer_model.specs.Position.{Position}
 use Rattle.foyer_model.specs.Rules.{Rules}
 use Rattle.foyer_model.specs.World.{World, Stored}
 
@@ -14,10 +14,6 @@ abbrev pub In : {X : Type 0} → X → List X → Type 0
 In x [] = ⊥
 In x (y ∷ ys) = (x ≡ y) ⊎ In x ys
 
--- the sizes of a block and of an index
-abbrev pub sizes_of : {C : Type 0} → Rules C → laid.Sizes
-sizes_of rules = record { block = rules.block_size; index = rules.index_size }
-
 -- an entry of an index
 abbrev pub entry_in : IndexEntry → BlobEntryIndex
 entry_in e = record { hash = e.hash; sequence = e.sequence; offset = e.offset; len = e.len }
@@ -25,10 +21,6 @@ entry_in e = record { hash = e.hash; sequence = e.sequence; offset = e.offset; l
 -- how far a block is filled
 abbrev pub filled_to : Position → laid.Position
 filled_to f = record { blob = f.blob; at = f.at; listed = map entry_in f.listed }
-
--- a write without its role
-abbrev pub plain : Write → bytes.Write
-plain w = record { offset = w.offset; bytes = w.bytes }
 
 -- a record that stands at an offset
 abbrev pub stored : {C : Type 0} → ℕ × Record C → stands.Stored

@@ -1,8 +1,7 @@
 -- The restart law over the layouts of the model's own records.
 use Rattle.std.specs.Prelude.{◌≤◌, ◌^◌}
-use Rattle.foyer_model.specs.Rules.{Rules, HasRoundTrip}
+use Rattle.foyer_model.specs.Rules.{Rules, HasRoundTrip, sizes_of}
 use Rattle.foyer_placing.specs.Splits.{IsLaidOut}
-use Rattle.foyer_restart.specs.Entries.{sizes_of}
 use Rattle.foyer_restart.specs.Real.{IsFormat}
 use Rattle.foyer_restart.specs.Restart.{FindsAgain, FindsAll}
 

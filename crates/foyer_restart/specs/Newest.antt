@@ -3,10 +3,9 @@ use Rattle.std.specs.Prelude.{◌≡◌, ℕ, ◌≤◌, ◌^◌, Some}
 use Rattle.foyer_model.specs.Event.{newest}
 use Rattle.foyer_model.specs.Opened.{IsOpened}
 use Rattle.foyer_model.specs.Record.{Address, Indexed}
-use Rattle.foyer_model.specs.Rules.{Rules, Splitting, HasRoundTrip}
+use Rattle.foyer_model.specs.Rules.{Rules, Splitting, HasRoundTrip, sizes_of}
 use Rattle.foyer_model.specs.World.{World}
 use Rattle.foyer_placing.specs.Splits.{IsLaidOut}
-use Rattle.foyer_restart.specs.Entries.{sizes_of}
 use Rattle.foyer_restart.specs.Real.{IsFormat}
 use Rattle.foyer_restart.specs.Restart.{IsRun, IsStopped}
 

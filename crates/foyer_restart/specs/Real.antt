@@ -1,10 +1,11 @@
 -- What the restart law asks of a core's rules and of its placing: the format of indices, and the splitter's relation.
 use Rattle.std.specs.Prelude.{◌≡◌, ℕ, ◌+◌, ◌≤◌, List, [], ◌∷◌, ◌++◌, length, map, Some, None}
+use Rattle.foyer_layout.specs.Position.{Sizes, fresh}
 use Rattle.foyer_device.specs.Section.{Section, bytes_of}
-use Rattle.foyer_format.specs.Page.{page_up}
+use Rattle.foyer_layout.specs.Page.{page_up}
 use Rattle.foyer_blob.specs.Blob.{IsSealed}
 use Rattle.foyer_blob.specs.declared.blob.BlobEntryIndex.{BlobEntryIndex}
-use Rattle.foyer_buffer.specs.BlockBytes.{Each}
+use Rattle.foyer_layout.specs.Each.{Each}
 use Rattle.foyer_buffer.specs.Position as laid
 use Rattle.foyer_buffer.specs.Fills.{AreSizes, Fills}
 use Rattle.foyer_buffer.specs.Listing.{Fits}
@@ -12,10 +13,11 @@ use Rattle.foyer_buffer.specs.Stored.{stored_at}
 use Rattle.foyer_buffer.specs.declared.BufferEntryInfo.{BufferEntryInfo}
 use Rattle.foyer_buffer.specs.declared.split.BlobPart.{BlobPart}
 use Rattle.foyer_model.specs.Record.{IndexEntry, Record}
-use Rattle.foyer_model.specs.Position.{Position, Data, Index, Part, BlockLayout}
+use Rattle.foyer_layout.specs.BlockBytes.{Data, Index}
+use Rattle.foyer_model.specs.Position.{Position, Part, BlockLayout}
 use Rattle.foyer_model.specs.Layout.{AllFitBlock}
-use Rattle.foyer_model.specs.Rules.{Rules, Splitting}
-use Rattle.foyer_restart.specs.Entries.{sizes_of, entry_in, filled_to, stored}
+use Rattle.foyer_model.specs.Rules.{Rules, Splitting, sizes_of}
+use Rattle.foyer_restart.specs.Entries.{entry_in, filled_to, stored}
 
 -- the model's part is this part of a blob
 pub record IsSamePart {A C : Type 0} (q : Part C) (p : BlobPart A) : Type 0 where
@@ -33,15 +35,15 @@ AreSameParts (q ∷ qs) [] = ⊥
 AreSameParts (q ∷ qs) (p ∷ ps) = IsSamePart q p × AreSameParts qs ps
 
 -- block after block is filled as the splitter's relation says, the first from a filling on, the others from nothing
-abbrev pub AreSpread : Type 0 → {C : Type 0} → laid.Sizes → Section → (start : ℕ) → laid.Position → List BufferEntryInfo → List (BlockLayout C) → Type 0
+abbrev pub AreSpread : Type 0 → {C : Type 0} → Sizes → Section → (start : ℕ) → laid.Position → List BufferEntryInfo → List (BlockLayout C) → Type 0
 AreSpread A s whole start f infos [] = Unit {0}
 AreSpread A s whole start f infos (b ∷ bs) =
     (now : List BufferEntryInfo) × (later : List BufferEntryInfo) × (parts : List (BlobPart A)) × (infos ≡ now ++ later)
     × Fills s whole start f now parts (filled_to b.end) × AreSameParts b.parts parts
-    × AreSpread A s whole (start + laid.taken now) (laid.fresh s) later bs
+    × AreSpread A s whole (start + laid.taken now) (fresh s) later bs
 
 -- a batch that is within its bytes, and whose records aren't empty and fit into a block, is so spread
-pub record IsSpread (A : Type 0) {C : Type 0} (s : laid.Sizes) (f : laid.Position) (blocks : List (BlockLayout C)) : Type 0 where
+pub record IsSpread (A : Type 0) {C : Type 0} (s : Sizes) (f : laid.Position) (blocks : List (BlockLayout C)) : Type 0 where
   pub whole : Section
   pub start : ℕ
   pub infos : List BufferEntryInfo

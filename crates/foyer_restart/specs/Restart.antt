@@ -1,20 +1,19 @@
 -- What an opening finds after a run that was stopped at any moment.
 use Rattle.std.specs.Prelude.{◌≡◌, ◌≢◌, ℕ, ◌<◌, Bool, true, false, List, [], ◌∷◌, length, Some, None, ◌⊎◌}
 use Rattle.foyer_blob.specs.declared.blob.BlobEntryIndex.{BlobEntryIndex}
-use Rattle.foyer_buffer.specs.BlockBytes.{read}
-use Rattle.foyer_buffer.specs.Position.{Sizes}
+use Rattle.foyer_layout.specs.BlockBytes.{read, Index, Write}
+use Rattle.foyer_layout.specs.Position.{Sizes}
 use Rattle.foyer_buffer.specs.Holding.{all_read}
 use Rattle.foyer_buffer.specs.Listing.{IsIndex, behind}
 use Rattle.foyer_model.specs.Record.{Address, Indexed, Record}
-use Rattle.foyer_model.specs.Position.{Index, Write}
 use Rattle.foyer_model.specs.State.{Writing, Batch, State}
-use Rattle.foyer_model.specs.Rules.{Rules, Splitting}
+use Rattle.foyer_model.specs.Rules.{Rules, Splitting, sizes_of}
 use Rattle.foyer_model.specs.Step.{ReadResult, Bytes, Fault, Step, FlushWrote, ReclaimRead}
 use Rattle.foyer_model.specs.Reply.{Reply, Failed, Scans, Listed}
 use Rattle.foyer_model.specs.World.{World, WorldEvent, Applies, ScanEnds, WriteEnds, covers, MayAllHappen, after_all}
 use Rattle.foyer_model.specs.Opened.{IsOpened}
 use Rattle.foyer_model.specs.Laws.{Demands}
-use Rattle.foyer_restart.specs.Entries.{In, sizes_of}
+use Rattle.foyer_restart.specs.Entries.{In}
 use Rattle.foyer_restart.specs.Real.{IsReal}
 use Rattle.foyer_recover.specs.Opening.{Opened, Opens}
 use Rattle.foyer_recover.specs.declared.block.recover.RecoverMode.{RecoverMode}

@@ -1,8 +1,9 @@
 -- The splitter's relation as a placing of the model.
 use Rattle.std.specs.Prelude.{◌≡◌, ◌≢◌, ℕ, ◌+◌, ◌≤◌, List, [], ◌∷◌, length, map, take, drop}
+use Rattle.foyer_layout.specs.Position.{Sizes}
 use Rattle.foyer_device.specs.Section.{Section, bytes_of}
-use Rattle.foyer_format.specs.Page.{page_up}
-use Rattle.foyer_buffer.specs.BlockBytes.{Each}
+use Rattle.foyer_layout.specs.Page.{page_up}
+use Rattle.foyer_layout.specs.Each.{Each}
 use Rattle.foyer_buffer.specs.Position as laid
 use Rattle.foyer_buffer.specs.Layout.{IsLaidOut, parts_of}
 use Rattle.foyer_buffer.specs.declared.BufferEntryInfo.{BufferEntryInfo}
@@ -10,8 +11,8 @@ use Rattle.foyer_buffer.specs.declared.split.BlobPart.{BlobPart}
 use Rattle.foyer_buffer.specs.declared.split.Batch.{Batch}
 use Rattle.foyer_model.specs.Record.{Record}
 use Rattle.foyer_model.specs.Position.{Position, BlockLayout, records_of, last_end}
-use Rattle.foyer_model.specs.Rules.{Rules, HasRoundTrip}
-use Rattle.foyer_restart.specs.Entries.{sizes_of, filled_to}
+use Rattle.foyer_model.specs.Rules.{Rules, HasRoundTrip, sizes_of}
+use Rattle.foyer_restart.specs.Entries.{filled_to}
 use Rattle.foyer_restart.specs.Real.{AreSameParts, AreSpread, IsFormat}
 use Rattle.foyer_restart.specs.Restart.{FindsAgain, FindsAll}
 
@@ -31,7 +32,7 @@ AreSameBlocks (b ∷ bs) [] = ⊥
 AreSameBlocks (b ∷ bs) (ps ∷ pss) = AreSameParts b.parts ps × AreSameBlocks bs pss
 
 -- what a buffer has finished: records that aren't empty, fit into a block, and stand in its bytes
-pub record IsBuffer {C : Type 0} (s : laid.Sizes) (whole : Section) (infos : List BufferEntryInfo) (records : List (Record C)) : Type 0 where
+pub record IsBuffer {C : Type 0} (s : Sizes) (whole : Section) (infos : List BufferEntryInfo) (records : List (Record C)) : Type 0 where
   pub room : laid.taken infos ≤ length (bytes_of whole)
   pub each : Each (laid.FitsBlock s) infos
   pub are : AreBuffered (bytes_of whole) 0 infos records

@@ -1,18 +1,17 @@
 -- That the law speaks of a stop inside writes: two flushers, each inside one, and an address whose block neither writes.
 use Rattle.std.specs.Prelude.{◌≡◌, ◌≢◌, ℕ, ◌+◌, ◌<◌, ◌≤◌, Bool, false, List, [], ◌∷◌, Option, Some, ◌⊎◌}
-use Rattle.foyer_format.specs.Page.{page_up}
+use Rattle.foyer_layout.specs.Page.{page_up}
 use Rattle.foyer_model.specs.Access.{InFlight}
-use Rattle.foyer_model.specs.Layout.{laid}
+use Rattle.foyer_layout.specs.BlockBytes.{laid, Role, Data, Index, Write}
 use Rattle.foyer_model.specs.Numbers.{page}
-use Rattle.foyer_model.specs.Position.{Position, Role, Data, Index, Write, BlockLayout}
+use Rattle.foyer_model.specs.Position.{Position, BlockLayout}
 use Rattle.foyer_model.specs.Record.{Address, Indexed, Holds, IndexEntry, Given, Record}
-use Rattle.foyer_model.specs.Rules.{Rules, Splitting, first_position}
+use Rattle.foyer_model.specs.Rules.{Rules, Splitting, first_position, sizes_of}
 use Rattle.foyer_model.specs.State.{Writing}
 use Rattle.foyer_model.specs.World.{World}
 use Rattle.foyer_recover.specs.Opening.{Opened, Opens}
 use Rattle.foyer_recover.specs.declared.block.recover.RecoverMode.{RecoverMode}
 use Rattle.foyer_recover.specs.declared.block.recover.RecoverMode.TheVariants as recover_mode
-use Rattle.foyer_restart.specs.Entries.{sizes_of}
 use Rattle.foyer_restart.specs.Real.{IsFormat}
 use Rattle.foyer_restart.specs.Restart.{IsRun, IsStopped, HasNoStrays, IsWriting, IsBeingWritten, IsFoundAgain, IsFoundNewer, no_fault}
 use Rattle.foyer_restart.specs.Splits.{IsRealSplit}

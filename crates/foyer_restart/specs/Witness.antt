@@ -1,8 +1,9 @@
 -- That the law speaks of something: a run that goes well and leaves an address in the index.
 use Rattle.std.specs.Prelude.{◌≡◌, ℕ, ◌+◌, ◌<◌, ◌≤◌, false, List, [], ◌∷◌, Option, Some}
-use Rattle.foyer_format.specs.Page.{page_up}
+use Rattle.foyer_layout.specs.Page.{page_up}
 use Rattle.foyer_model.specs.Record.{Indexed, Holds, IndexEntry, Given, Record}
-use Rattle.foyer_model.specs.Position.{Position, Data, Index}
+use Rattle.foyer_layout.specs.BlockBytes.{Data, Index}
+use Rattle.foyer_model.specs.Position.{Position}
 use Rattle.foyer_model.specs.Numbers.{page}
 use Rattle.foyer_model.specs.Rules.{Rules, first_position}
 use Rattle.foyer_model.specs.World.{World}

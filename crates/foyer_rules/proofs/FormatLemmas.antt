@@ -3,7 +3,7 @@ use Rattle.std.proofs.Common.{◌≡◌, ℕ, Bool, List, [], ◌∷◌, map, Op
 use Rattle.std.specs.Option.{option_map}
 use Rattle.foyer_blob.specs.Blob.{IsSealed}
 use Rattle.foyer_blob.specs.declared.blob.BlobEntryIndex.{BlobEntryIndex}
-use Rattle.foyer_buffer.specs.BlockBytes.{Each}
+use Rattle.foyer_layout.specs.Each.{Each}
 use Rattle.foyer_buffer.specs.Listing.{Fits}
 use Rattle.foyer_model.specs.Record.{IndexEntry}
 use Rattle.foyer_placing.specs.Bridge.{entry_of}

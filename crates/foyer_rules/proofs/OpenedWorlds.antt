@@ -2,9 +2,10 @@
 use Rattle.std.proofs.Common.{◌≡◌, ◌≢◌, ℕ, zero, suc, ◌+◌, ◌<◌, ◌≤◌, ◌==◌, ◌^◌, nat_lt, nat_le, Bool, true, false, ◌||◌, if◌then◌else◌, Option, Some, None, List, [], ◌∷◌, ◌++◌, refl, sym, ap, subst, ◌∙◌, ◌⊎◌, inl, inr, arith}
 use Rattle.std.proofs.lemmas.Bool.{eqb-true, eqb-false, eq-eqb}
 use Rattle.std.proofs.lemmas.Bool.Decides.{nat_tests}
+use Rattle.foyer_layout.proofs.EachLaws.{each_join}
 use Rattle.foyer_blob.specs.declared.blob.BlobEntryIndex.{BlobEntryIndex}
-use Rattle.foyer_buffer.specs.BlockBytes.{Each}
-use Rattle.foyer_buffer.specs.Position.{Sizes}
+use Rattle.foyer_layout.specs.Each.{Each}
+use Rattle.foyer_layout.specs.Position.{Sizes}
 use Rattle.foyer_model.specs.Ids.{ids, is_id_in}
 use Rattle.foyer_model.specs.Opened.{IsOpened as IsOpenedWorld, IsFound, AllFound, IsAlone, slot_among, is_clean, clean_among}
 use Rattle.foyer_model.specs.Record.{Address, Slot, Indexed, Mark}
@@ -160,10 +161,6 @@ abbrev IsGood : (s : Sizes) (n : ℕ) (keeps : ℕ → List BlobEntryIndex) → 
 IsGood s n keeps (Stands b e) = (b < n) × IsPlaced s e × (is_empty (keeps b) ≡ false)
 IsGood s n keeps (Marked h q) = Unit {0}
 
-each_append : {X : Type 0} (P : X → Type 0) (xs ys : List X) → Each P xs → Each P ys → Each P (xs ++ ys)
-each_append P [] ys are too = too
-each_append P (x ∷ xs) ys are too = (are.0, each_append P xs ys are.1 too)
-
 module _ (s : Sizes) (n : ℕ) (keeps : ℕ → List BlobEntryIndex) (placed : (b : ℕ) → b < n → Each (IsPlaced s) (keeps b)) where
   good_in : (b : ℕ) → b < n → (es : List BlobEntryIndex) → Each (IsPlaced s) es → is_empty (keeps b) ≡ false → Each (IsGood s n keeps) (stand_in b es)
   good_in b lt [] are some = tt
@@ -179,14 +176,14 @@ module _ (s : Sizes) (n : ℕ) (keeps : ℕ → List BlobEntryIndex) (placed : (
   good_all : (from k : ℕ) → from + k ≤ n → Each (IsGood s n keeps) (all_stand from k keeps)
   good_all from zero le = tt
   good_all from (suc k) le =
-      each_append (IsGood s n keeps) (stand_in from (keeps from)) (all_stand (from + 1) k keeps) (good_here from (omega arith)) (good_all (from + 1) k (omega (arith, le)))
+      each_join (IsGood s n keeps) (stand_in from (keeps from)) (all_stand (from + 1) k keeps) (good_here from (omega arith)) (good_all (from + 1) k (omega (arith, le)))
 
   good_marked : (marks : List (ℕ × ℕ)) → Each (IsGood s n keeps) (all_marked marks)
   good_marked [] = tt
   good_marked (m ∷ ms) = (tt, good_marked ms)
 
   good_found : (marks : List (ℕ × ℕ)) → Each (IsGood s n keeps) (all_stand 0 n keeps ++ all_marked marks)
-  good_found marks = each_append (IsGood s n keeps) (all_stand 0 n keeps) (all_marked marks) (good_all 0 n (let le : 0 + n ≤ n = omega arith in le)) (good_marked marks)
+  good_found marks = each_join (IsGood s n keeps) (all_stand 0 n keeps) (all_marked marks) (good_all 0 n (let le : 0 + n ≤ n = omega arith in le)) (good_marked marks)
 
   -- the set of a block
   place_is : (b : ℕ) → b < n → place_of n (clean_from 0 n keeps) b ≡ (if is_empty (keeps b) then model_state.Clean else model_state.Evictable)

@@ -4,17 +4,17 @@ use Rattle.std.proofs.lemmas.Bool.Decides.{nat_tests}
 use Rattle.std.proofs.lemmas.List.{length-append, length-replicate, take_at, drop_all}
 use Rattle.foyer_blob.specs.Blob.{IsSealed}
 use Rattle.foyer_blob.specs.declared.blob.BlobEntryIndex.{BlobEntryIndex}
-use Rattle.foyer_buffer.specs.BlockBytes.{laid, read}
+use Rattle.foyer_layout.specs.BlockBytes.{laid, read, Index, Write, Data}
 use Rattle.foyer_buffer.specs.Listing.{IsIndex, Lists}
 use Rattle.foyer_buffer.specs.Listing.Chain.{ends, goes}
-use Rattle.foyer_buffer.proofs.BlockBytesLemmas.{read_whole}
-use Rattle.foyer_format.specs.Page.{page_up}
+use Rattle.foyer_layout.proofs.BlockBytesLaws.{read_whole}
+use Rattle.foyer_layout.specs.Page.{page_up}
 use Rattle.foyer_format.specs.Record.{record_bytes}
-use Rattle.foyer_format.proofs.PageLaws.{page_up-holds, page_up-least}
+use Rattle.foyer_layout.proofs.PageLaws.{page_up-holds, page_up-least}
 use Rattle.foyer_format.proofs.RecordBytes.{length-record_bytes}
 use Rattle.foyer_model.specs.Numbers.{put}
 use Rattle.foyer_model.specs.Record.{IndexEntry, Record, Given}
-use Rattle.foyer_model.specs.Position.{Position, Index, Write, Part, BlockLayout}
+use Rattle.foyer_model.specs.Position.{Position, Part, BlockLayout}
 use Rattle.foyer_model.specs.State.{Flusher, Piece, Batch, Writing, Clean, Writes, no_stats, NoDestroy, State}
 use Rattle.foyer_model.specs.Rules.{Rules, first_position}
 use Rattle.foyer_model.specs.Step.{Fresh, Young, Enqueue, Receive, FlushBegin, FlushBlock, FlushWrote}
@@ -302,7 +302,7 @@ module _ (is_key is_value : List ℕ → Bool) (s : Settings) (sound : AreValid 
   -- the index stands where it was written
   index_there : index ≡ read (w7.bytes 0) 0 4096
   index_there = subst (λ k. index ≡ read (w7.bytes 0) 0 k) sealed.len
-      (sym (read_whole (record { offset = 0; bytes = index }) (laid (record { offset = 4096; bytes = content }) (λ o. 0))))
+      (sym (read_whole (record { role = Index; offset = 0; bytes = index }) (laid (record { role = Data; offset = 4096; bytes = content }) (λ o. 0))))
 
   strays : HasNoStrays rules w7 w7.bytes
   strays b q es lt scan is =

@@ -3,9 +3,9 @@ use Rattle.std.proofs.Common.{◌≡◌, ℕ, ◌+◌, ◌-◌, ◌<◌, ◌≤�
 use Rattle.std.proofs.lemmas.Bool.Decides.{nat_tests}
 use Rattle.std.proofs.lemmas.List.{length-append, length-replicate, take_at, drop_all}
 use Rattle.foyer_format.specs.Header.{header_bytes}
-use Rattle.foyer_format.specs.Page.{page_up}
+use Rattle.foyer_layout.specs.Page.{page_up}
 use Rattle.foyer_format.specs.Record.{record_bytes, pair_of}
-use Rattle.foyer_format.proofs.PageLaws.{page_up-holds, page_up-least, even-page_up}
+use Rattle.foyer_layout.proofs.PageLaws.{page_up-holds, page_up-least, even-page_up}
 use Rattle.foyer_format.proofs.RecordBytes.{length-record_bytes}
 use Rattle.foyer_model.specs.Record.{IndexEntry, Record, Address}
 use Rattle.foyer_model.specs.Position.{Position}

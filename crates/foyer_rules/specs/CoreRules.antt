@@ -2,7 +2,7 @@
 use Rattle.std.specs.Prelude.{◌≡◌, ℕ, ◌-◌, ◌%◌, ◌^◌, ◌<◌, ◌≤◌, Bool, true, nat_lt, ◌&&◌, if◌then◌else◌, List, map, length, Option, Some, None}
 use Rattle.std.specs.Option.{option_map}
 use Rattle.std.proofs.Common.{arith}
-use Rattle.foyer_format.specs.Page.{page_up}
+use Rattle.foyer_layout.specs.Page.{page_up}
 use Rattle.foyer_format.specs.Record.{Outcome, record_bytes, pair_of}
 use Rattle.foyer_format.specs.Record.Outcome.{NoRecord, Unsupported, Undecodable, Pair}
 use Rattle.foyer_model.specs.Record as model_record

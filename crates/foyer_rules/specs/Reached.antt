@@ -1,12 +1,11 @@
 -- That the restart law speaks of something: a run that goes well, leaves an address in the index, and is opened.
 use Rattle.std.specs.Prelude.{◌≡◌, ℕ, [], Some}
 use Rattle.foyer_model.specs.Record.{Address, Indexed}
-use Rattle.foyer_model.specs.Rules.{Rules, Splitting}
+use Rattle.foyer_model.specs.Rules.{Rules, Splitting, sizes_of}
 use Rattle.foyer_model.specs.State.{Writing}
 use Rattle.foyer_model.specs.World.{World}
 use Rattle.foyer_recover.specs.Opening.{Opened, Opens}
 use Rattle.foyer_recover.specs.declared.block.recover.RecoverMode.TheVariants as recover_mode
-use Rattle.foyer_restart.specs.Entries.{sizes_of}
 use Rattle.foyer_restart.specs.Restart.{IsRun, IsStopped, HasNoStrays, IsWriting, no_fault}
 use Rattle.foyer_rules.specs.declared.settings.Settings.{Settings}
 

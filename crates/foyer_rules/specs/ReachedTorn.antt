@@ -1,10 +1,9 @@
 -- That the restart law speaks of a stop inside writes, of a core with two flushers.
 use Rattle.std.specs.Prelude.{ℕ, []}
 use Rattle.foyer_model.specs.Record.{Address}
-use Rattle.foyer_model.specs.Rules.{Rules, Splitting}
+use Rattle.foyer_model.specs.Rules.{Rules, Splitting, sizes_of}
 use Rattle.foyer_recover.specs.Opening.{Opened, Opens}
 use Rattle.foyer_recover.specs.declared.block.recover.RecoverMode.TheVariants as recover_mode
-use Rattle.foyer_restart.specs.Entries.{sizes_of}
 use Rattle.foyer_restart.specs.Restart.{IsFoundAgain, no_fault}
 use Rattle.foyer_restart.specs.Torn.{IsTornStop, FindsAfter, FindsNewer}
 use Rattle.foyer_rules.specs.declared.settings.Settings.{Settings}

@@ -2,7 +2,7 @@
 use Rattle.std.proofs.Common.{◌≡◌, ℕ, Bool, false, List, [], ◌∷◌, Option, Some, None, refl, sym, ap, ◌∙◌}
 use Rattle.foyer_model.specs.Access.{Load, ReadState, ReadIssued, Reading, ReadDone, BlockWrites, Idle, Issued, InFlight, load_unless, loads_after, issued_after, block_writes_after, writes_of, writes_reported, at_load, read_torn}
 use Rattle.foyer_model.specs.Event.{Event}
-use Rattle.foyer_model.specs.Position.{Write}
+use Rattle.foyer_layout.specs.BlockBytes.{Write}
 use Rattle.foyer_model.specs.Kept.{unless}
 use Rattle.foyer_model.specs.Reply.{Reply, Read, Written, Next, Committed, Failed, Picked, Cleared}
 use Rattle.foyer_model.specs.Step.{Ticket, Step, FlushBlock, FlushWrote}

@@ -5,7 +5,7 @@ use Rattle.std.proofs.lemmas.Option.{slice_get_within}
 use Rattle.std.specs.Prelude.{IfOk, vec_len}
 use Rattle.std.specs.declared.vec.Vec.{Vec}
 use Rattle.foyer_device.specs.declared.error.Error.{Error}
-use Rattle.foyer_format.specs.Page.{page_up}
+use Rattle.foyer_layout.specs.Page.{page_up}
 use Rattle.foyer_model.specs.Access.{Load, ReadState, ReadIssued, Reading, ReadDone, at_load, begun, came, loads_after, issued_after, block_writes_after, IsRead as IsReadFrom}
 use Rattle.foyer_model.specs.Event as model_event
 use Rattle.foyer_model.specs.Rules.{Rules}

@@ -6,8 +6,8 @@ use Rattle.std.specs.Prelude.{OnOk, OnErr}
 use Rattle.std.specs.declared.vec.Vec.{Vec}
 use Rattle.foyer_device.specs.declared.error.Error.{Error}
 use Rattle.foyer_model.specs.Access.{BlockWrites, Issued as IssuesWrites, InFlight, will_cover, writes_begun, writes_ended, bytes_ended, result_of, loads_after, issued_after, block_writes_after, IsTorn as IsTornIn}
-use Rattle.foyer_model.specs.Position as model_position
-use Rattle.foyer_model.specs.Layout.{laid}
+use Rattle.foyer_layout.specs.BlockBytes as layout
+use Rattle.foyer_layout.specs.BlockBytes.{laid}
 use Rattle.foyer_model.specs.Rules.{Rules}
 use Rattle.foyer_model.specs.Step as model_step
 use Rattle.foyer_model.specs.World.{World, Applies, WriteBegins, WriteEnds, after}
@@ -98,7 +98,7 @@ abbrev torn_of : Bool → (old new : ℕ → ℕ) → ℕ → ℕ
 torn_of true old new = old
 torn_of false old new = new
 
-bytes_are : {A : Type 0} (ok : Bool) (bytes old new : ℕ → ℕ → ℕ) (block : ℕ) (w : Write A) (ws : List model_position.Write) → ((b o : ℕ) → bytes b o ≡ old b o)
+bytes_are : {A : Type 0} (ok : Bool) (bytes old new : ℕ → ℕ → ℕ) (block : ℕ) (w : Write A) (ws : List layout.Write) → ((b o : ℕ) → bytes b o ≡ old b o)
     → IsDone old new block w ok → (b o : ℕ) → bytes_ended ok (torn_of ok (bytes block) (new block)) (InFlight block [] (write_of w) ws) bytes b o ≡ new b o
 bytes_are true bytes old new block w ws same is b o =
     put_at (λ h. h o ≡ new b o) bytes block (laid (write_of w) (bytes block)) b
@@ -109,7 +109,7 @@ bytes_are false bytes old new block w ws same is b o =
     (λ here. ap (λ c. new c o) (sym here))
     (λ ne. same b o ∙ sym (is b o (inl ne)))
 
-torn_is : {A : Type 0} (ok : Bool) (bytes old new : ℕ → ℕ → ℕ) (block : ℕ) (w : Write A) (ws : List model_position.Write) → ((b o : ℕ) → bytes b o ≡ old b o)
+torn_is : {A : Type 0} (ok : Bool) (bytes old new : ℕ → ℕ → ℕ) (block : ℕ) (w : Write A) (ws : List layout.Write) → ((b o : ℕ) → bytes b o ≡ old b o)
     → IsDone old new block w ok → IsTornIn bytes (InFlight block [] (write_of w) ws) (torn_of ok (bytes block) (new block))
 torn_is true bytes old new block w ws same is o out = refl
 torn_is false bytes old new block w ws same is o out = is block o (inr out) ∙ sym (same block o)
@@ -201,7 +201,7 @@ module _ {K V P : Type 0} (m : Meaning K V P) (s : Settings) (sound : AreValid s
       noted_at : IsIssued said x (w.block_writes f)
       noted_at = noted (from.block_writes f) said (at (slice_get issued f)) x (w.block_writes f) (running.writes f) is_due
 
-      rest : List model_position.Write
+      rest : List layout.Write
       rest = map write_of (drop (x.next + 1) noted_at.writes.items)
 
       due_at : due (w.block_writes f) ≡ Some (x.block, write_of write ∷ rest)

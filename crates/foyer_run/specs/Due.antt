@@ -1,7 +1,7 @@
 -- The accesses of a world that were issued and haven't begun.
 use Rattle.std.specs.Prelude.{◌≡◌, ℕ, List, [], ◌∷◌, Option, Some, None}
 use Rattle.foyer_model.specs.Access.{Load, ReadState, ReadIssued, Scan, BlockWrites, Issued}
-use Rattle.foyer_model.specs.Position.{Write}
+use Rattle.foyer_layout.specs.BlockBytes.{Write}
 use Rattle.foyer_model.specs.Step.{Ticket}
 
 abbrev pub unread_in : ReadState → Ticket → Option Ticket

@@ -2,7 +2,7 @@
 use Rattle.std.specs.Prelude.{◌≡◌, ℕ, ◌+◌, ◌≢◌, ◌≤◌, ◌⊎◌, Bool, true, false, List, [], ◌∷◌, ◌++◌, drop, length, map, replicate, Option, Some, None, slice_get, slice_set}
 use Rattle.std.specs.declared.vec.Vec.{Vec}
 use Rattle.foyer_model.specs.Access.{BlockWrites, ReadIssued, Scan, CleanState, CleanIssued}
-use Rattle.foyer_model.specs.Position as model_position
+use Rattle.foyer_layout.specs.BlockBytes as layout
 use Rattle.foyer_model.specs.Numbers.{last_number}
 use Rattle.foyer_model.specs.Step as model_step
 use Rattle.foyer_model.specs.World.{World, WorldEvent, MayAllHappen, after_all}
@@ -55,7 +55,7 @@ issued_of None = None
 issued_of (Some ticket) = Some (ticket_of ticket)
 
 -- these writes of a block, of which the first is due
-abbrev pub next_of : ℕ → List model_position.Write → Option (ℕ × List model_position.Write)
+abbrev pub next_of : ℕ → List layout.Write → Option (ℕ × List layout.Write)
 next_of b [] = None
 next_of b (w ∷ ws) = Some (b, w ∷ ws)
 

@@ -1,6 +1,6 @@
 //! The accesses of a core's tickets and writes, done at a disk.
 ghost use Rattle.std.specs.Prelude.{◌≡◌, length, vec_len, IsOk, IfOk, IfErr, OnOk, OnErr};
-ghost use Rattle.foyer_format.specs.Page.{page_up};
+ghost use Rattle.foyer_layout.specs.Page.{page_up};
 ghost use Rattle.foyer_flusher.specs.Issuing.{written_bytes};
 ghost use Rattle.foyer_blockio.specs.Disk.{IsRead, IsWritten, IsTorn};
 

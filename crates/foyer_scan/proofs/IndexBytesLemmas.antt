@@ -5,11 +5,11 @@ use Rattle.std.proofs.lemmas.Bool.Decides.{nat_tests}
 use Rattle.std.proofs.lemmas.List.{at_drop_more, at_drop_all}
 use Rattle.foyer_checksum.specs.Xxh64.{xxh64}
 use Rattle.foyer_format.specs.Header.{number_at}
-use Rattle.foyer_format.specs.Page.{page_up}
+use Rattle.foyer_layout.specs.Page.{page_up}
 use Rattle.foyer_blob.specs.Blob.{IsSealed, entries_in, capacity_of}
 use Rattle.foyer_blob.proofs.BlobLemmas.{sealed_from}
-use Rattle.foyer_buffer.specs.BlockBytes.{Each}
-use Rattle.foyer_buffer.specs.Position.{Sizes}
+use Rattle.foyer_layout.specs.Each.{Each}
+use Rattle.foyer_layout.specs.Position.{Sizes}
 use Rattle.foyer_buffer.specs.Listing.{Fits}
 use Rattle.foyer_scan.specs.IndexBytes.{is_sealed, sealed_entries, fits, all_fit, index_at, IsIndexOf}
 use Rattle.foyer_scan.specs.Walk.{Judges}

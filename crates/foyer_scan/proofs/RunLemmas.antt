@@ -1,9 +1,9 @@
 -- What the steps of a scan give is what a walk lists.
 use Rattle.std.proofs.Common.{◌≡◌, ℕ, zero, suc, ◌+◌, ◌<◌, ◌≤◌, nat_le, Bool, true, false, if◌then◌else◌, List, [], ◌∷◌, ◌++◌, map, Option, Some, None, refl, sym, ap, subst, ◌∙◌, arith}
 use Rattle.std.proofs.lemmas.Bool.Decides.{nat_tests}
-use Rattle.foyer_buffer.specs.BlockBytes.{read}
+use Rattle.foyer_layout.specs.BlockBytes.{read}
 use Rattle.foyer_buffer.specs.Fills.{AreSizes}
-use Rattle.foyer_buffer.specs.Position.{Sizes}
+use Rattle.foyer_layout.specs.Position.{Sizes}
 use Rattle.foyer_buffer.specs.Listing.{IsIndex, behind, placed}
 use Rattle.foyer_blob.specs.declared.blob.BlobEntryIndex.{BlobEntryIndex}
 use Rattle.foyer_scan.specs.IndexBytes.{index_at}

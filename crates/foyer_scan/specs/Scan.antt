@@ -1,7 +1,7 @@
 -- The scan of a block as a machine whose steps are what was read at each offset.
 use Rattle.std.specs.Prelude.{◌≡◌, ℕ, ◌+◌, nat_le, if◌then◌else◌, List, [], ◌∷◌, map, Option, Some, None}
 use Rattle.foyer_block.specs.declared.indexer.EntryAddress.{EntryAddress}
-use Rattle.foyer_buffer.specs.Position.{Sizes}
+use Rattle.foyer_layout.specs.Position.{Sizes}
 use Rattle.foyer_buffer.specs.Listing.{behind, placed}
 use Rattle.foyer_scan.specs.IndexBytes.{index_at}
 use Rattle.foyer_scan.specs.ScanState.{Scan}

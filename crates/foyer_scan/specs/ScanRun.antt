@@ -1,6 +1,6 @@
 -- A scan that is run over a block: what its calls give one after the other.
 use Rattle.std.specs.Prelude.{◌≡◌, ℕ, ◌+◌, ◌≤◌, suc, Bool, true, false, List, [], ◌++◌, Option, Some, None}
-use Rattle.foyer_buffer.specs.BlockBytes.{read}
+use Rattle.foyer_layout.specs.BlockBytes.{read}
 use Rattle.foyer_buffer.specs.Fills.{AreSizes}
 use Rattle.foyer_buffer.specs.Listing.{Lists}
 use Rattle.foyer_scan.specs.Scan.{ScanStep, next_blob, infos_of, scan_step, scan_end}

@@ -1,6 +1,6 @@
 -- Where a scan is.
 use Rattle.std.specs.Prelude.{ℕ, Option}
-use Rattle.foyer_buffer.specs.Position.{Sizes}
+use Rattle.foyer_layout.specs.Position.{Sizes}
 
 -- a scan: of which block and filling, its sizes, and the offset that is to be read next, until it has ended
 pub record Scan : Type 0 where

@@ -1,8 +1,8 @@
 -- A block that is scanned to its end.
 use Rattle.std.specs.Prelude.{◌≡◌, ℕ, zero, suc, ◌+◌, ◌≤◌, Bool, true, false, if◌then◌else◌, List, [], ◌∷◌, ◌++◌, Option, Some, None}
-use Rattle.foyer_buffer.specs.BlockBytes.{read}
+use Rattle.foyer_layout.specs.BlockBytes.{read}
 use Rattle.foyer_buffer.specs.Fills.{AreSizes}
-use Rattle.foyer_buffer.specs.Position.{Sizes}
+use Rattle.foyer_layout.specs.Position.{Sizes}
 use Rattle.foyer_buffer.specs.Listing.{IsIndex, behind, placed, Chain, Lists}
 use Rattle.foyer_scan.specs.IndexBytes.{index_at, IsIndexOf}
 use Rattle.foyer_scan.specs.Scan.{next_blob}

@@ -12,7 +12,7 @@ use std::test::Fail;
 mod lists;
 
 // Records of these hashes and lengths, one behind another, are split.
-#[tactic(auto, using(foyer_format::proofs::PageLaws::pages))]
+#[tactic(auto, using(foyer_layout::proofs::PageLaws::pages))]
 fn split(
     alloc: Global,
     ctx: &mut SplitCtx<Global>,

@@ -1,11 +1,11 @@
 //! Whole pages: what a record takes in a buffer of entries and on a device.
 ghost use Rattle.std.specs.Prelude.{◌≡◌, ◌+◌, ◌^◌, ◌<◌};
-ghost use Rattle.foyer_format.specs.Page.{page_up};
+ghost use Rattle.foyer_layout.specs.Page.{page_up};
 
 pub use foyer_device::io::bytes::PAGE;
 
 /// The least whole number of pages that has so many bytes, in bytes.
-#[tactic(auto, unfolding(crate::specs::Page::page_up))]
+#[tactic(auto, unfolding(foyer_layout::specs::Page::page_up))]
 pub fn whole_pages(len: usize) -> usize
     requires { page_up len < 2 ^ 64 }
     ensures { result ≡ page_up len }

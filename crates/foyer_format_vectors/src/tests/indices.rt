@@ -24,7 +24,7 @@ fn second() -> BlobEntryIndex {
 }
 
 // An index of one page, without entries.
-#[tactic(auto, unfolding(foyer_format::specs::Page::page_up))]
+#[tactic(auto, unfolding(foyer_layout::specs::Page::page_up))]
 fn empty(alloc: Global) -> Result<BlobIndex<Global>> {
     Ok(BlobIndex::new(IoSliceMut::new(alloc, 4096)?))
 }

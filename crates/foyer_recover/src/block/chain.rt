@@ -1,7 +1,7 @@
 //! The chain of a block's indices, read and kept.
 ghost use Rattle.std.specs.Prelude.{◌≡◌, ℕ, ◌≤◌, ◌^◌, vec_len, true, false, [], IfOk, IsOkUnless};
 ghost use Rattle.foyer_device.specs.declared.error.Error.TheVariants.{Memory};
-ghost use Rattle.foyer_buffer.specs.BlockBytes.{read};
+ghost use Rattle.foyer_layout.specs.BlockBytes.{read};
 ghost use Rattle.foyer_buffer.specs.Fills.{AreSizes};
 ghost use Rattle.foyer_recover.specs.Chained.{IsKeptOf};
 ghost use Rattle.foyer_recover.specs.Placed.{IsSomeKept};

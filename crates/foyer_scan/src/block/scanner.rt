@@ -2,7 +2,7 @@
 ghost use Rattle.std.specs.Prelude.{◌≡◌, ◌+◌, ◌<◌, ◌≤◌, ◌^◌, ◌%◌, ℕ, None, Some, length, vec_len, map, IfOk, OnOk, OnErr, IsOkUnless, IfSome, true};
 ghost use Rattle.std.specs.Option.{option_map};
 ghost use Rattle.foyer_device.specs.declared.error.Error.TheVariants.{Memory};
-ghost use Rattle.foyer_buffer.specs.Position.{Sizes};
+ghost use Rattle.foyer_layout.specs.Position.{Sizes};
 ghost use Rattle.foyer_buffer.specs.Listing.{behind, placed};
 ghost use Rattle.foyer_scan.specs.IndexBytes.{fits, all_fit};
 ghost use Rattle.foyer_scan.specs.Scan.{next_blob, infos_of, scan_step, scan_end};
@@ -49,7 +49,7 @@ impl Model for BlockScanner {
 }
 
 // Whether an entry of an index at the offset isn't empty, and lies behind the index, on a page, and within the block.
-#[tactic(auto, using(foyer_format::proofs::PageLaws::pages))]
+#[tactic(auto, using(foyer_layout::proofs::PageLaws::pages))]
 fn fits(entry: &BlobEntryIndex, blob_offset: usize, block_size: usize, index_size: usize) -> bool
     requires { blob_offset ≤ 2 ^ 32 }
     ensures { result ≡ fits (record { block = block_size; index = index_size }) blob_offset entry.now }
@@ -112,7 +112,7 @@ fn infos_of<A: Allocator>(
 }
 
 // Where an index at the offset ends with its records; without records the block ends with it.
-#[tactic(auto, using(foyer_format::proofs::PageLaws::pages))]
+#[tactic(auto, using(foyer_layout::proofs::PageLaws::pages))]
 fn blob_end(
     entries: &[BlobEntryIndex],
     blob_offset: usize,

@@ -1,4 +1,4 @@
-use Rattle.foyer_format.proofs.PageLaws.{pages, page_up-even}
+use Rattle.foyer_layout.proofs.PageLaws.{pages, page_up-even}
 use Rattle.std.proofs.Common.{arith, ap, sym, ◌∙◌, length}
 use Rattle.std.proofs.lemmas.Grind.{common_steps}
 use Rattle.std.proofs.lemmas.List.{length-replicate}

@@ -3,7 +3,7 @@ ghost use Rattle.std.specs.Prelude.{◌≡◌, ◌⊎◌, ◌^◌, ◌*◌, ◌�
 ghost use Rattle.std.specs.Borrow.{sem, Lends, Array, u8};
 ghost use Rattle.std.specs.Cmp.Lexicographic.{pointwise, nat_list_eq_equiv};
 ghost use Rattle.std.specs.Cmp.{partial_equiv_from_equiv};
-ghost use Rattle.foyer_device.specs.Page.{page_up};
+ghost use Rattle.foyer_layout.specs.Page.{page_up};
 ghost use Rattle.foyer_device.specs.Refilled.{refilled, refilled-same};
 ghost use Rattle.foyer_device.specs.contracts.io.bytes.raw.Raw.{the_row};
 ghost use Rattle.foyer_device.specs.declared.error.Error.TheVariants as error;
@@ -36,7 +36,7 @@ impl<A: Allocator> Model for Raw<A> {
 impl<A: Allocator> Raw<A> {
     /// Zeros, `capacity` bytes of them rounded up to whole pages. OutOfRange where that passes
     /// `usize::MAX`, Memory where it was refused.
-    #[tactic(auto, unfolding(crate::specs::Page::page_up))]
+    #[tactic(auto, unfolding(foyer_layout::specs::Page::page_up))]
     pub fn new(alloc: A, capacity: usize) -> Result<Raw<A>>
         ensures zeros { IfOk result (λ r. r ≡ replicate (page_up capacity) 0) }
         ensures beyond { (result ≡ Err error.OutOfRange) ↔ (2 ^ 64 ≤ page_up capacity) }

@@ -1,7 +1,7 @@
 use Rattle.std.proofs.lemmas.Grind.{common_steps}
 use Rattle.std.proofs.Common.{◌≡◌, arith}
-use Rattle.foyer_format.proofs.PageLaws.{page_up-even}
-use Rattle.foyer_format.specs.Page.{page_up}
+use Rattle.foyer_layout.proofs.PageLaws.{page_up-even}
+use Rattle.foyer_layout.specs.Page.{page_up}
 use Rattle.foyer_flusher.proofs.filled.new_pages.Goals as goal
 
 pub returns-in_err-pages-clause-memory : goal.returns-in_err-pages-clause-memory

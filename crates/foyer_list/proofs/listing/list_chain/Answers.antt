@@ -1,6 +1,6 @@
 use Rattle.std.proofs.Common.{◌≡◌, ℕ, ◌+◌, ◌≤◌, ◌++◌, vec_len, true, false, refl, sym, ap, subst, ◌∙◌, rules}
-use Rattle.foyer_buffer.specs.BlockBytes.{read}
-use Rattle.foyer_buffer.specs.Position.{Sizes}
+use Rattle.foyer_layout.specs.BlockBytes.{read}
+use Rattle.foyer_layout.specs.Position.{Sizes}
 use Rattle.foyer_scan.specs.ScanState.{Scan}
 use Rattle.foyer_recover.proofs.ChainLemmas.{step_stays, falls}
 use Rattle.foyer_list.specs.BlockListing.{IsListed}

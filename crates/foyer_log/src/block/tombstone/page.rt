@@ -1,7 +1,7 @@
 //! A page of the log in memory.
 ghost use Rattle.std.specs.Prelude.{◌≡◌, ◌⊎◌, ◌≤◌, ℕ, Ok, Some, None, ◌*◌, ◌+◌, ◌<◌, ◌^◌, [], Err, length, replicate, slice_index, IfOk, IfErr, OnOk, OnErr, IfSome, IfNone, MatchResult};
 ghost use Rattle.std.specs.Borrow.{sem, Lends, Array, u8};
-ghost use Rattle.foyer_device.specs.Page.{page_up};
+ghost use Rattle.foyer_layout.specs.Page.{page_up};
 ghost use Rattle.foyer_device.specs.Refilled.{refilled};
 ghost use Rattle.foyer_log.specs.contracts.block.tombstone.page.PageBuffer.{the_row};
 ghost use Rattle.foyer_device.specs.declared.error.Error.TheVariants as error;
@@ -56,7 +56,7 @@ impl<E: IoEngine + Drop, P: Partition + Drop, A: Allocator> Model for PageBuffer
 }
 
 // Zeros, as many as a page has or none. Memory.
-#[tactic(auto, unfolding(foyer_device::specs::Page::page_up))]
+#[tactic(auto, unfolding(foyer_layout::specs::Page::page_up))]
 fn page_memory<A: Allocator>(alloc: A, len: usize) -> Result<Raw<A>>
     requires { len ≤ 4096 }
     ensures zeros { IfOk result (λ r. r ≡ replicate (page_up len) 0) }

@@ -1,5 +1,5 @@
 use Rattle.std.proofs.Common.{rules}
-use Rattle.foyer_format.proofs.PageLaws.{pages}
+use Rattle.foyer_layout.proofs.PageLaws.{pages}
 use Rattle.foyer_blob.proofs.blob.BlobEntryIndex.aligned.Goals as goal
 
 pub returns : goal.returns

@@ -1,6 +1,6 @@
 use Rattle.std.proofs.Common.{length, refl, arith}
 use Rattle.std.proofs.lemmas.Result.{MatchResult-from_err}
-use Rattle.foyer_format.proofs.PageLaws.{page_up-holds, page_up-fewest}
+use Rattle.foyer_layout.proofs.PageLaws.{page_up-holds, page_up-fewest}
 use Rattle.foyer_buffer.proofs.EntriesLemmas.{shown, one_more, none_more, keeps, never, on_err}
 use Rattle.foyer_buffer.proofs.entries.Buffer.push_slice.Goals as goal
 

@@ -4,7 +4,7 @@ use Rattle.foyer_buffer.specs.Position.{Context}
 use Rattle.foyer_blob.specs.OpenIndex.{entries_of}
 use Rattle.foyer_blob.specs.declared.blob.BlobEntryIndex.{BlobEntryIndex}
 use Rattle.foyer_blob.proofs.BlobLemmas.{entries_none}
-use Rattle.foyer_format.proofs.PageLaws.{page_up-even}
+use Rattle.foyer_layout.proofs.PageLaws.{page_up-even}
 use Rattle.foyer_buffer.proofs.split.SplitCtx.new.Goals as goal
 
 pub new-requires-2 : goal.new-requires-2

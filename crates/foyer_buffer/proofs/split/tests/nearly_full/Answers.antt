@@ -1,8 +1,8 @@
 use Rattle.std.proofs.Common.{◌≡◌, ℕ, List, length, refl, ap, ◌∙◌, arith}
 use Rattle.std.specs.Prelude.{replicate}
 use Rattle.std.proofs.lemmas.List.{length-replicate}
-use Rattle.foyer_format.specs.Page.{page_up}
-use Rattle.foyer_format.proofs.PageLaws.{page_up-even}
+use Rattle.foyer_layout.specs.Page.{page_up}
+use Rattle.foyer_layout.proofs.PageLaws.{page_up-even}
 use Rattle.foyer_buffer.proofs.split.tests.nearly_full.Goals as goal
 
 one_page : (bytes : List ℕ) → bytes ≡ replicate (page_up 4096) 0 → length bytes ≡ 4096

@@ -1,9 +1,9 @@
 use Rattle.std.proofs.Common.{◌≡◌, ◌+◌, ℕ, List, [], ◌∷◌, ◌++◌, ap, ◌∙◌, arith}
 use Rattle.std.proofs.lemmas.List.Elements.{All-nil, All-push}
 use Rattle.foyer_buffer.specs.Position.{FitsBlock, taken}
-use Rattle.foyer_format.specs.Page.{page_up}
+use Rattle.foyer_layout.specs.Page.{page_up}
 use Rattle.foyer_buffer.specs.declared.BufferEntryInfo.{BufferEntryInfo}
-use Rattle.foyer_format.proofs.PageLaws.{page_up-least}
+use Rattle.foyer_layout.proofs.PageLaws.{page_up-least}
 use Rattle.foyer_buffer.proofs.SplitLemmas.{taken_none, taken_one, taken-append}
 use Rattle.foyer_buffer.proofs.split.tests.split.Goals as goal
 

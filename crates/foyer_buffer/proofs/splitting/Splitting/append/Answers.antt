@@ -1,4 +1,4 @@
-use Rattle.foyer_format.proofs.PageLaws.{page_laws, even-page_up}
+use Rattle.foyer_layout.proofs.PageLaws.{page_laws, even-page_up}
 use Rattle.std.proofs.Common.{◌+◌, ℕ, refl, ap, ◌∙◌, arith}
 use Rattle.foyer_buffer.proofs.SplitLemmas.{appends}
 use Rattle.foyer_buffer.proofs.splitting.Splitting.append.Goals as goal

@@ -1,7 +1,7 @@
 use Rattle.std.proofs.Common.{◌+◌, ◌≤◌, length, ap, arith}
 use Rattle.std.specs.Prelude.{IsTrue, false}
-use Rattle.foyer_format.proofs.PageLaws.{page_up-holds, page_up-fewest}
-use Rattle.foyer_format.specs.Page.{page_up}
+use Rattle.foyer_layout.proofs.PageLaws.{page_up-holds, page_up-fewest}
+use Rattle.foyer_layout.specs.Page.{page_up}
 use Rattle.foyer_flusher.specs.Filled.{HasRoom}
 use Rattle.foyer_flusher.proofs.filled.Filled.has_room.Goals as goal
 

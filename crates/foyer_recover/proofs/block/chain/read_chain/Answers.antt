@@ -1,8 +1,8 @@
 use Rattle.std.proofs.Common.{◌≡◌, ℕ, ◌+◌, ◌≤◌, vec_len, true, false, refl, sym, ap, subst, ◌∙◌, rules}
 use Rattle.std.specs.Option.{option_map}
-use Rattle.foyer_buffer.specs.BlockBytes.{read}
+use Rattle.foyer_layout.specs.BlockBytes.{read}
 use Rattle.foyer_buffer.specs.Fills.{AreSizes}
-use Rattle.foyer_buffer.specs.Position.{Sizes}
+use Rattle.foyer_layout.specs.Position.{Sizes}
 use Rattle.foyer_scan.specs.ScanState.{Scan}
 use Rattle.foyer_recover.specs.Chained.{IsKeptOf}
 use Rattle.foyer_recover.specs.Placed.{IsSomeKept}

@@ -1,5 +1,5 @@
 use Rattle.std.proofs.Common.{rules}
-use Rattle.foyer_device.specs.Page.{page_up}
+use Rattle.foyer_layout.specs.Page.{page_up}
 use Rattle.foyer_device.proofs.io.bytes.raw.Raw.new.Goals as goal
 
 pub returns-clause-zeros : goal.returns-clause-zeros

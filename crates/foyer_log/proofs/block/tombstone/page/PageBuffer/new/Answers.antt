@@ -1,6 +1,6 @@
 use Rattle.std.proofs.Common.{ℕ, ◌∙◌, ap, length, refl}
 use Rattle.std.proofs.lemmas.List.{length-replicate}
-use Rattle.foyer_device.specs.Page.{page_up}
+use Rattle.foyer_layout.specs.Page.{page_up}
 use Rattle.foyer_log.proofs.block.tombstone.page.PageBuffer.new.Goals as goal
 
 pub invariant_of-result : goal.invariant_of-result

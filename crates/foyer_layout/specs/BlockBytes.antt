@@ -1,16 +1,20 @@
 -- A block's bytes by their offsets, and what writes make of them.
 use Rattle.std.specs.Prelude.{ℕ, zero, suc, ◌+◌, ◌-◌, ◌<◌, ◌≤◌, nat_le, nat_lt, ◌&&◌, if◌then◌else◌, List, [], ◌∷◌, length, slice_index, ◌⊎◌}
 
+-- what a write puts into a block
+pub data Role : Type 0 where
+  Data : Role
+  Index : Role
+
 -- bytes to be written at an offset of a block
 pub record Write : Type 0 where
+  pub role : Role
   pub offset : ℕ
   pub bytes : List ℕ
 
 -- a block's bytes after a write
 abbrev pub laid : Write → (ℕ → ℕ) → ℕ → ℕ
-laid w g o =
-    if nat_le w.offset o && nat_lt o (w.offset + length w.bytes)
-    then slice_index w.bytes (o - w.offset) else g o
+laid w g o = if nat_le w.offset o && nat_lt o (w.offset + length w.bytes) then slice_index w.bytes (o - w.offset) else g o
 
 -- a block's bytes after these writes, the first of them first
 abbrev pub all_laid : List Write → (ℕ → ℕ) → ℕ → ℕ
@@ -30,8 +34,3 @@ IsBeside w o = (o < w.offset) ⊎ (w.offset + length w.bytes ≤ o)
 abbrev pub AllWithin : (ℕ → Type 0) → List Write → Type 0
 AllWithin P [] = Unit {0}
 AllWithin P (w ∷ ws) = ((o : ℕ) → (IsBeside w o → ⊥) → P o) × AllWithin P ws
-
--- every element has the property
-abbrev pub Each : {X : Type 0} → (X → Type 0) → List X → Type 0
-Each P [] = Unit {0}
-Each P (x ∷ xs) = P x × Each P xs

@@ -1,7 +1,7 @@
 -- Rounding up gives whole pages, the fewest that hold the bytes.
 use Rattle.std.specs.Prelude.{◌≡◌, ℕ, ◌+◌, ◌*◌, ◌/◌, ◌%◌, ◌<◌, ◌≤◌}
 use Rattle.std.proofs.Common.{arith, refl}
-use Rattle.foyer_format.specs.Page.{page_up}
+use Rattle.foyer_layout.specs.Page.{page_up}
 
 pub page_up-zero : page_up 0 ≡ 0
 unfolding page_up

@@ -1,11 +1,8 @@
 -- Reads of a block's bytes after writes.
 use Rattle.std.proofs.lemmas.Bool.Decides.{nat_tests}
-use Rattle.std.proofs.Common.{◌≡◌, ℕ, zero, suc, ◌+◌, ◌-◌, ◌<◌, ◌≤◌, nat_le, nat_lt, Bool, true, false, ◌&&◌, if◌then◌else◌, List, [], ◌∷◌, ◌++◌, length, slice_index, ◌⊎◌, inl, inr, refl, sym, ap, ◌∙◌, arith}
+use Rattle.std.proofs.Common.{◌≡◌, ℕ, zero, suc, ◌+◌, ◌-◌, ◌<◌, ◌≤◌, nat_le, nat_lt, Bool, true, false, ◌&&◌, if◌then◌else◌, List, [], ◌∷◌, ◌++◌, length, take, slice_index, ◌⊎◌, inl, inr, refl, sym, ap, ◌∙◌, arith}
 use Rattle.std.proofs.lemmas.List.{length-append}
-use Rattle.foyer_format.specs.Page.{page_up}
-use Rattle.foyer_buffer.specs.BlockBytes.{Write, laid, all_laid, read, IsBeside, AllWithin}
-use Rattle.foyer_buffer.specs.Stored.{Stored, AllStand, AllOutside}
-use Rattle.foyer_format.proofs.PageLaws.{page_up-holds}
+use Rattle.foyer_layout.specs.BlockBytes.{Role, Write, laid, all_laid, read, IsBeside, AllWithin}
 
 pub beside_or : (w : Write) (o : ℕ) → IsBeside w o ⊎ (IsBeside w o → ⊥)
 beside_or w o = go (nat_lt o w.offset) refl (nat_le (w.offset + length w.bytes) o) refl
@@ -16,6 +13,7 @@ beside_or w o = go (nat_lt o w.offset) refl (nat_le (w.offset + length w.bytes) 
     go false e false f =
         inr (λ h. elim h [ inl l ↦ grind (arith, nat_tests) | inr r ↦ grind (arith, nat_tests) ])
 
+-- a read sees only its range
 pub read_same : (g k : ℕ → ℕ) (o n : ℕ) → ((i : ℕ) → o ≤ i → i < o + n → g i ≡ k i) → read g o n ≡ read k o n
 read_same g k o zero h = refl
 read_same g k o (suc n) h =
@@ -44,13 +42,27 @@ laid_at w g o i is l = go (nat_le w.offset o) refl (nat_lt o (w.offset + length 
     go true e false f = absurd (grind (arith, nat_tests))
     go false e q f = absurd (grind (arith, nat_tests))
 
-read_is : (bs : List ℕ) (k : ℕ → ℕ) (o : ℕ) → ((i : ℕ) → i < length bs → k (o + i) ≡ slice_index bs i) → read k o (length bs) ≡ bs
+-- and is those bytes that stand there
+pub read_is : (bs : List ℕ) (k : ℕ → ℕ) (o : ℕ) → ((i : ℕ) → i < length bs → k (o + i) ≡ slice_index bs i) → read k o (length bs) ≡ bs
 read_is [] k o h = refl
 read_is (b ∷ bs) k o h =
     let zero_there : o + 0 ≡ o = omega arith in
     let here : k o ≡ b = ap k (sym zero_there) ∙ h 0 (omega arith) in
     let there : read k (o + 1) (length bs) ≡ bs = read_is bs k (o + 1) (λ i l. let e : o + suc i ≡ o + 1 + i = omega arith in ap k (sym e) ∙ h (suc i) (omega arith)) in
     cc
+
+pub take_read : (bs : List ℕ) (g : ℕ → ℕ) (o n : ℕ) → n ≤ length bs → ((i : ℕ) → i < length bs → slice_index bs i ≡ g (o + i)) → take n bs ≡ read g o n
+take_read bs g o zero l h = refl
+take_read [] g o (suc n) l h = absurd (omega arith)
+take_read (b ∷ bs) g o (suc n) l h =
+    let zero_there : o + 0 ≡ o = omega arith in
+    let here : b ≡ g o = h 0 (omega arith) ∙ ap g zero_there in
+    let there : take n bs ≡ read g (o + 1) n = take_read bs g (o + 1) n (omega arith) (λ i m. let e : o + suc i ≡ o + 1 + i = omega arith in h (suc i) (omega arith) ∙ ap g e) in
+    cc
+
+-- the bytes of a write, where it is laid
+pub laid_there : (w : Write) (g : ℕ → ℕ) (i : ℕ) → i < length w.bytes → laid w g (w.offset + i) ≡ slice_index w.bytes i
+laid_there w g i lt = laid_at w g (w.offset + i) i refl lt
 
 index_in : (pre bs post : List ℕ) (i : ℕ) → i < length bs → slice_index (pre ++ (bs ++ post)) (length pre + i) ≡ slice_index bs i
 index_in [] [] post i l = absurd (omega arith)
@@ -64,10 +76,10 @@ index_in (p ∷ pre) bs post i l =
     ap (slice_index (p ∷ (pre ++ (bs ++ post)))) e ∙ index_in pre bs post i l
 
 -- a part of a write is read back
-pub read_part : (at : ℕ) (pre bs post : List ℕ) (g : ℕ → ℕ) → read (laid (record { offset = at; bytes = pre ++ (bs ++ post) }) g) (at + length pre) (length bs) ≡ bs
-read_part at pre bs post g =
-    read_is bs (laid (record { offset = at; bytes = pre ++ (bs ++ post) }) g) (at + length pre)
-    (λ i l. laid_at (record { offset = at; bytes = pre ++ (bs ++ post) }) g (at + length pre + i) (length pre + i) (omega arith)
+pub read_part : (role : Role) (at : ℕ) (pre bs post : List ℕ) (g : ℕ → ℕ) → read (laid (record { role = role; offset = at; bytes = pre ++ (bs ++ post) }) g) (at + length pre) (length bs) ≡ bs
+read_part role at pre bs post g =
+    read_is bs (laid (record { role = role; offset = at; bytes = pre ++ (bs ++ post) }) g) (at + length pre)
+    (λ i l. laid_at (record { role = role; offset = at; bytes = pre ++ (bs ++ post) }) g (at + length pre + i) (length pre + i) (omega arith)
     (omega (arith, length-append pre (bs ++ post), length-append bs post))
     ∙ index_in pre bs post i l)
 
@@ -82,26 +94,6 @@ laid_outside P (w ∷ ws) g o within out =
     laid_outside P ws (laid w g) o within.1 out
     ∙ laid_beside w g o (elim (beside_or w o) [ inl outside ↦ outside | inr inside ↦ absurd (out (within.0 o inside)) ])
 
-pub stand_same : (P : ℕ → Type 0) (g k : ℕ → ℕ) (rs : List Stored)
-    → AllOutside P rs → ((o : ℕ) → (P o → ⊥) → k o ≡ g o) → AllStand g rs → AllStand k rs
-stand_same P g k [] out same stand = tt
-stand_same P g k (r ∷ rs) out same stand = (
-  read_same k g r.offset (length r.bytes) (λ i l m. let a : length r.bytes ≤ page_up (length r.bytes) = page_up-holds (length r.bytes) in same i (out.0 i l (omega arith))) ∙ stand.0,
-  stand_same P g k rs out.1 same stand.1,
-)
-
-pub outside_less : (P Q : ℕ → Type 0) (rs : List Stored) → ((o : ℕ) → Q o → P o) → AllOutside P rs → AllOutside Q rs
-outside_less P Q [] less out = tt
-outside_less P Q (r ∷ rs) less out = (λ o l m q. out.0 o l m (less o q), outside_less P Q rs less out.1)
-
 pub within_more : (P Q : ℕ → Type 0) (ws : List Write) → ((o : ℕ) → P o → Q o) → AllWithin P ws → AllWithin Q ws
 within_more P Q [] more within = tt
 within_more P Q (w ∷ ws) more within = (λ o beside. more o (within.0 o beside), within_more P Q ws more within.1)
-
-pub stand_join : (g : ℕ → ℕ) (ps qs : List Stored) → AllStand g ps → AllStand g qs → AllStand g (ps ++ qs)
-stand_join g [] qs a b = b
-stand_join g (p ∷ ps) qs a b = (a.0, stand_join g ps qs a.1 b)
-
-pub outside_join : (P : ℕ → Type 0) (ps qs : List Stored) → AllOutside P ps → AllOutside P qs → AllOutside P (ps ++ qs)
-outside_join P [] qs a b = b
-outside_join P (p ∷ ps) qs a b = (a.0, outside_join P ps qs a.1 b)

@@ -1,0 +1,4 @@
+pub mod Page
+pub mod Each
+pub mod BlockBytes
+pub mod Position
