@@ -1,9 +1,10 @@
 -- What a step shows the pickers that are lent: the blocks that become evictable, and the one that is reclaimed.
 use Rattle.std.specs.Prelude.{ℕ, List, [], length, Option, option_and_then, slice_get}
+use Rattle.foyer_model.specs.Ids.{ids}
 use Rattle.foyer_sets.specs.Managed.{Managed}
 use Rattle.foyer_sets.specs.Pickers.{Info, picker_info}
 use Rattle.foyer_sets.specs.Picks.{usable_in}
-use Rattle.foyer_sets.specs.Shown.{AreShown, AreShownAll, written_below, written_of}
+use Rattle.foyer_sets.specs.Shown.{AreChanged, AreShown, AreShownAll, written_below, written_of}
 use Rattle.foyer_flusher.specs.Leaving.{left_by}
 use Rattle.foyer_flusher.specs.declared.flusher.Flusher.{Flusher}
 use Rattle.foyer_core.specs.declared.reply.Reply.{Reply}
@@ -34,3 +35,10 @@ abbrev pub IsShown : {K V P A Q : Type 0} → (Q → Info → ℕ → Q → Type
 IsShown learns forgets step.ReclaimBegin (reply.Picked block answers probation) old after ps qs =
     AreShown forgets (picker_info after.blocks after.evictable (usable_in after)) block ps qs
 IsShown learns forgets given answer old after ps qs = AreShownAll learns (vacated_blocks given answer old) ps qs
+
+-- Pickers that an opening described so many blocks, of such a size, and then showed these, one after the other.
+pub record HaveLearned {Q : Type 0} (begins : Q → List ℕ → ℕ → Q → Type 0) (learns : Q → Info → ℕ → Q → Type 0) (blocks block_size : ℕ)
+    (evictable : List ℕ) (old new : List Q) : Type 0 where
+  pub described : List Q
+  pub begun : AreChanged (λ p q. begins p (ids blocks) block_size q) old described
+  pub shown : AreShownAll learns evictable described new

@@ -3,12 +3,15 @@ ghost use Rattle.std.specs.Prelude.{◌≡◌, [], ◌∷◌, None, Some, OnOk, 
 ghost use Rattle.foyer_device.specs.declared.error.Error.TheVariants.{Memory};
 ghost use Rattle.foyer_core.specs.Lent.{IsNoIo, generator_of};
 ghost use Rattle.foyer_model.specs.Ids.{ids};
+ghost use Rattle.foyer_sets.specs.Shown.{AreChanged};
 ghost use Rattle.foyer_sets.specs.declared.block.picker.BuiltInPicker.TheVariants as picker;
 
 use foyer_block::manager::BlockId;
 use foyer_device::error::Result;
 use foyer_filter::{BuiltInCondition, StorageFilter, StorageFilterCondition};
-use foyer_sets::block::eviction::{BuiltInPicker, EvictionPicker, FifoPicker, InvalidRatioPicker};
+use foyer_sets::block::eviction::{
+    BuiltInPicker, EvictionPicker, FifoPicker, InvalidRatioPicker, init_all,
+};
 use foyer_statistics::IoState;
 use rand_pcg::Pcg32;
 use std::alloc::Global;
@@ -146,14 +149,13 @@ impl<E: EvictionPicker, C: StorageFilterCondition> Env<E, C> {
     // Describes the pickers so many blocks, before all else; its own list has their ids then, in order.
     pub(crate) fn init(&mut self, blocks: u32, block_size: usize) -> Result<()>
         ensures ids { OnOk result (self.new.own.items ≡ ids blocks) }
+        ensures begun { OnOk result (AreChanged (λ p q. E.begins p (ids blocks) block_size q)
+            self.old.pickers.items self.new.pickers.items) }
         ensures filter { (self.new.reinsertion ≡ self.old.reinsertion) × (self.new.io ≡ self.old.io) }
         ensures refused { IsOkUnless result Memory }
     {
         self.list_blocks(blocks)?;
         let alloc = *self.own.allocator();
-        'each_picker: for picker in self.pickers.iter_mut() {
-            picker.init(alloc, &self.own, block_size)?;
-        }
-        Ok(())
+        init_all(&mut self.pickers, alloc, &self.own, block_size)
     }
 }

@@ -1,5 +1,5 @@
 //! Opening.
-ghost use Rattle.std.specs.Prelude.{◌≡◌, ◌≢◌, ◌⊎◌, ◌<◌, ℕ, [], Err, IfOk, IfErr, IsOkUnless, map, replicate, true, vec_len};
+ghost use Rattle.std.specs.Prelude.{◌≡◌, ◌≢◌, ◌⊎◌, ◌<◌, ℕ, [], Err, IfOk, IfErr, IsOkUnless, length, map, replicate, true, vec_len};
 ghost use Rattle.foyer_device.specs.declared.error.Error.TheVariants.{Memory, Config, Recover, SequenceEnd};
 ghost use Rattle.foyer_core.specs.Opened.{IsOpenedFrom, opened_sets};
 ghost use Rattle.foyer_flusher.specs.Idle.{idle};
@@ -7,6 +7,8 @@ ghost use Rattle.foyer_flusher.specs.Seen.{seen};
 ghost use Rattle.foyer_model.specs.Ids.{is_id_in, AreDistinct};
 ghost use Rattle.foyer_recover.specs.Recovery.{IsRefused, marks_of};
 ghost use Rattle.foyer_rules.specs.Sizes.{AreValid, sizes_in};
+ghost use Rattle.foyer_core.specs.Showing.{HaveLearned};
+ghost use Rattle.foyer_sets.specs.Shown.{evictable_below};
 ghost use Rattle.foyer_standing.specs.Standing.{IsManagedAs};
 
 use crate::destroy::Destroy;
@@ -54,6 +56,8 @@ fn place_blocks<A: Allocator + Clone, E: EvictionPicker, C: StorageFilterConditi
     requires once { AreDistinct clean.now }
     requires there { (b : ℕ) → is_id_in b clean.now ≡ true → b < settings.now.blocks }
     ensures placed { IfOk result (λ manager. IsManagedAs settings.now manager (opened_sets settings.now.blocks clean.now)) }
+    ensures shown { IfOk result (λ manager. HaveLearned E.begins E.learns settings.now.blocks settings.now.block_size
+        (evictable_below manager.blocks (length manager.blocks)) env.old.pickers.items env.new.pickers.items) }
     ensures refused { IsOkUnless result Memory }
 {
     let mut manager = BlockManager::open(
@@ -93,6 +97,8 @@ impl<K: Drop, V: Drop, P: Drop, A: Allocator + Clone> Core<K, V, P, A> {
     ) -> Result<Core<K, V, P, A>>
         ensures opened { IfOk result (IsOpenedFrom settings (D.byte_at disk.old) (D.surely_has disk.old) mode (marks_of marks.now)
             ((mode ≡ recover_mode.None) ⊎ D.is_known disk.old)) }
+        ensures shown { IfOk result (λ core. HaveLearned E.begins E.learns settings.blocks settings.block_size
+            (evictable_below core.manager.blocks (length core.manager.blocks)) env.old.pickers.items env.new.pickers.items) }
         ensures sound { IfOk result (λ _. AreValid settings) }
         ensures refused { IfErr result (λ e. (e ≡ Memory) ⊎ ((e ≡ Config) × (AreValid settings → ⊥))
             ⊎ ((e ≡ Recover) × (mode ≡ recover_mode.Strict)) ⊎ ((e ≡ SequenceEnd) × (mode ≡ recover_mode.None → marks.now ≢ []))) }

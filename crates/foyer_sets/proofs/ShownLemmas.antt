@@ -2,43 +2,43 @@
 use Rattle.std.proofs.Common.{◌≡◌, ℕ, zero, suc, ◌+◌, ◌<◌, ◌≤◌, List, [], ◌∷◌, length, take, drop, slice_set, slice_index_or, refl, sym, ap, subst, add-one, arith, ◌++◌, ◌∙◌, Bool, IsTrue, true, false, slice_get, if◌then◌else◌}
 use Rattle.foyer_sets.specs.Pickers.{Info}
 use Rattle.foyer_sets.specs.Managed.{IsWritten, Managed, is_evictable, is_writing}
-use Rattle.foyer_sets.specs.Shown.{AreShown, AreShownAll, evictable_below, written_at, written_below}
+use Rattle.foyer_sets.specs.Shown.{AreChanged, AreShown, AreShownAll, evictable_below, written_at, written_below}
 use Rattle.foyer_sets.specs.declared.block.states.BlockState.{BlockState}
 use Rattle.foyer_sets.proofs.ClearingLemmas.{written_as}
 
-module _ {Q : Type 0} (may_be : Q → Info → ℕ → Q → Type 0) (info : Info) (block : ℕ) where
-  -- the first so many were shown it, and the others are as they were
-  abbrev pub ShownBefore : ℕ → List Q → List Q → Type 0
-  ShownBefore i ps qs = AreShown may_be info block (take i ps) (take i qs) × (drop i qs ≡ drop i ps)
+module _ {Q : Type 0} (may_be : Q → Q → Type 0) where
+  -- the first so many have changed so, and the others are as they were
+  abbrev pub ChangedBefore : ℕ → List Q → List Q → Type 0
+  ChangedBefore i ps qs = AreChanged may_be (take i ps) (take i qs) × (drop i qs ≡ drop i ps)
 
   -- and so is one more
-  shown_more : (ps qs : List Q) (i : ℕ) (d q : Q) → i < length qs → ShownBefore i ps qs → may_be (slice_index_or qs i d) info block q
-      → ShownBefore (suc i) ps (slice_set qs i q)
-  shown_more ps [] i d q lt before is = absurd (omega arith)
-  shown_more [] (x ∷ qs) zero d q lt before is = let clash : x ∷ qs ≡ [] = before.1 in absurd cc
-  shown_more (p ∷ ps) (x ∷ qs) zero d q lt before is =
+  changed_more : (ps qs : List Q) (i : ℕ) (d q : Q) → i < length qs → ChangedBefore i ps qs → may_be (slice_index_or qs i d) q
+      → ChangedBefore (suc i) ps (slice_set qs i q)
+  changed_more ps [] i d q lt before is = absurd (omega arith)
+  changed_more [] (x ∷ qs) zero d q lt before is = let clash : x ∷ qs ≡ [] = before.1 in absurd cc
+  changed_more (p ∷ ps) (x ∷ qs) zero d q lt before is =
       let same : x ∷ qs ≡ p ∷ ps = before.1 in
       let head : x ≡ p = cc in
       let tail : qs ≡ ps = cc in
-      ((subst (λ k. may_be k info block q) head is, tt), tail)
-  shown_more [] (x ∷ qs) (suc i) d q lt before is = absurd before.0
-  shown_more (p ∷ ps) (x ∷ qs) (suc i) d q lt before is =
-      let rest = shown_more ps qs i d q (omega arith) (before.0.1, before.1) is in
+      ((subst (λ k. may_be k q) head is, tt), tail)
+  changed_more [] (x ∷ qs) (suc i) d q lt before is = absurd before.0
+  changed_more (p ∷ ps) (x ∷ qs) (suc i) d q lt before is =
+      let rest = changed_more ps qs i d q (omega arith) (before.0.1, before.1) is in
       ((before.0.0, rest.0), rest.1)
 
-  pub shown_next : (ps qs : List Q) (i : ℕ) (d q : Q) → i < length qs → ShownBefore i ps qs → may_be (slice_index_or qs i d) info block q
-      → ShownBefore (i + 1) ps (slice_set qs i q)
-  shown_next ps qs i d q lt before is = subst (λ n. ShownBefore n ps (slice_set qs i q)) (sym (add-one i)) (shown_more ps qs i d q lt before is)
+  pub changed_next : (ps qs : List Q) (i : ℕ) (d q : Q) → i < length qs → ChangedBefore i ps qs → may_be (slice_index_or qs i d) q
+      → ChangedBefore (i + 1) ps (slice_set qs i q)
+  changed_next ps qs i d q lt before is = subst (λ n. ChangedBefore n ps (slice_set qs i q)) (sym (add-one i)) (changed_more ps qs i d q lt before is)
 
   -- until all were
-  pub shown_all : (ps qs : List Q) (i : ℕ) → length qs ≤ i → ShownBefore i ps qs → AreShown may_be info block ps qs
-  shown_all [] [] i le before = tt
-  shown_all (p ∷ ps) [] zero le before = let clash : [] ≡ p ∷ ps = before.1 in absurd cc
-  shown_all (p ∷ ps) [] (suc i) le before = absurd before.0
-  shown_all [] (x ∷ qs) zero le before = absurd (omega arith)
-  shown_all (p ∷ ps) (x ∷ qs) zero le before = absurd (omega arith)
-  shown_all [] (x ∷ qs) (suc i) le before = absurd before.0
-  shown_all (p ∷ ps) (x ∷ qs) (suc i) le before = (before.0.0, shown_all ps qs i (omega arith) (before.0.1, before.1))
+  pub changed_all : (ps qs : List Q) (i : ℕ) → length qs ≤ i → ChangedBefore i ps qs → AreChanged may_be ps qs
+  changed_all [] [] i le before = tt
+  changed_all (p ∷ ps) [] zero le before = let clash : [] ≡ p ∷ ps = before.1 in absurd cc
+  changed_all (p ∷ ps) [] (suc i) le before = absurd before.0
+  changed_all [] (x ∷ qs) zero le before = absurd (omega arith)
+  changed_all (p ∷ ps) (x ∷ qs) zero le before = absurd (omega arith)
+  changed_all [] (x ∷ qs) (suc i) le before = absurd before.0
+  changed_all (p ∷ ps) (x ∷ qs) (suc i) le before = (before.0.0, changed_all ps qs i (omega arith) (before.0.1, before.1))
 
 -- a test that is false where a flusher writes the block
 pub not_writing : (m : Managed) (b : ℕ) (t : Bool) → (IsWritten m b → IsTrue t) → t ≡ false → is_writing (slice_get m.blocks b) ≡ false

@@ -4,11 +4,15 @@ use Rattle.foyer_sets.specs.Managed.{is_evictable, is_writing}
 use Rattle.foyer_sets.specs.Pickers.{Info}
 use Rattle.foyer_sets.specs.declared.block.states.BlockState.{BlockState}
 
+-- each of them may have become the one in its place
+abbrev pub AreChanged : {Q : Type 0} → (Q → Q → Type 0) → List Q → List Q → Type 0
+AreChanged may_be [] [] = Unit {0}
+AreChanged may_be (p ∷ ps) (q ∷ qs) = may_be p q × AreChanged may_be ps qs
+AreChanged may_be ps qs = ⊥
+
 -- each of them was shown the block, and saw this
 abbrev pub AreShown : {Q : Type 0} → (Q → Info → ℕ → Q → Type 0) → Info → ℕ → List Q → List Q → Type 0
-AreShown may_be info block [] [] = Unit {0}
-AreShown may_be info block (p ∷ ps) (q ∷ qs) = may_be p info block q × AreShown may_be info block ps qs
-AreShown may_be info block ps qs = ⊥
+AreShown may_be info block = AreChanged (λ p q. may_be p info block q)
 
 -- each of them was shown these blocks, one after the other
 abbrev pub AreShownAll : {Q : Type 0} → (Q → Info → ℕ → Q → Type 0) → List ℕ → List Q → List Q → Type 0

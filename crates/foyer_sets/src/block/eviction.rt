@@ -3,7 +3,7 @@ ghost use Rattle.std.specs.Prelude.{◌≡◌, ◌≤◌, ◌<◌, ℕ, List, []
 ghost use Rattle.foyer_device.specs.declared.error.Error.TheVariants.{Memory};
 ghost use Rattle.foyer_model.specs.Ids.{is_id_in};
 ghost use Rattle.foyer_sets.specs.Managed.{is_evictable, is_writing_set, is_reclaiming_set};
-ghost use Rattle.foyer_sets.specs.Shown.{AreShown};
+ghost use Rattle.foyer_sets.specs.Shown.{AreChanged, AreShown};
 ghost use Rattle.foyer_sets.specs.Pickers.{Info, picker_info, answers_of, is_pick, answers_given, marks_given, pick_of};
 
 pub use crate::block::fifo::FifoPicker;
@@ -41,8 +41,12 @@ pub trait EvictionPicker: Drop {
 
     ghost forgets: { Self → Info → ℕ → Self → Type 0 } = { λ _ _ _ _. Unit {0} };
 
+    // How it may be once it was described these blocks, of such a size, of how it was; of one that doesn't say, anyhow.
+    ghost begins: { Self → List ℕ → ℕ → Self → Type 0 } = { λ _ _ _ _. Unit {0} };
+
     /// Describes it the blocks, before all else.
     fn init(&mut self, alloc: Global, blocks: &[BlockId], block_size: usize) -> Result<()>
+        ensures begins { OnOk result (begins self.old blocks.now block_size self.new) }
         ensures refused { IsOkUnless result Memory };
 
     /// The block that it picks; one that isn't evictable is no pick. The ids that it puts into `probation`, which comes
@@ -135,6 +139,24 @@ pub(crate) fn consult<P: EvictionPicker, A: Allocator>(
         }
     }
     Ok(None)
+}
+
+/// Each picker is described these blocks, of such a size, in the pickers' order. `Memory` where one is refused it: those before
+/// it know the blocks then.
+pub fn init_all<P: EvictionPicker>(
+    pickers: &mut [P],
+    alloc: Global,
+    blocks: &[BlockId],
+    block_size: usize,
+) -> Result<()>
+    ensures begun { OnOk result (AreChanged (λ p q. P.begins p blocks.now block_size q) pickers.old pickers.new) }
+    ensures count { length pickers.new ≡ length pickers.old }
+    ensures refused { IsOkUnless result Memory }
+{
+    'each_picker: for picker in pickers.iter_mut() {
+        picker.init(alloc, blocks, block_size)?;
+    }
+    Ok(())
 }
 
 // Each picker is shown that a block has become evictable.

@@ -69,6 +69,12 @@ impl EvictionPicker for FifoPicker {
 
     ghost marks = { fifo_marks };
 
+    ghost begins = { λ p blocks _ q. q ≡ record p {
+      queue = [];
+      room = length blocks;
+      probations = probations_of p.num p.den (length blocks);
+    } };
+
     ghost learns = { λ p _ block q. q ≡ fifo_with p block };
 
     ghost forgets = { λ p _ block q. q ≡ fifo_without p block };

@@ -34,6 +34,8 @@ impl EvictionPicker for AnyPicker {
       | Boxed q ↦ (EvictionPicker-box q).marks q.value info
     ] };
 
+    ghost begins = { λ p blocks size q. BeginsAs p (length blocks) size q };
+
     ghost learns = { λ p _ block q. IsWith p block q };
 
     ghost forgets = { λ p _ block q. IsWithout p block q };
@@ -87,6 +89,8 @@ impl EvictionPicker for BuiltInPicker {
     ghost answer = { built_in_answer };
 
     ghost marks = { built_in_marks };
+
+    ghost begins = { λ p blocks size q. q ≡ begun_built_in p (length blocks) size };
 
     ghost learns = { λ p _ block q. q ≡ built_in_with p block };
 
