@@ -30,7 +30,7 @@ use Rattle.foyer_flusher.specs.Cleared.{are_still, cleared}
 use Rattle.foyer_flusher.specs.Flushing.{AreBatched, IsFlusherAs}
 use Rattle.foyer_flusher.specs.Seen.{Seen, seen}
 use Rattle.foyer_flusher.specs.Taking.{size_in}
-use Rattle.foyer_flusher.specs.declared.flusher.Batch.{Batch}
+use Rattle.foyer_flusher.specs.declared.batch.Batch.{Batch}
 use Rattle.foyer_flusher.specs.declared.flusher.Flusher.{Flusher}
 use Rattle.foyer_core.specs.Destroying.{IsDestroyAs, AreLeftAs}
 use Rattle.foyer_core.specs.Reclaiming.{Reclaiming, reclaim_at, AreReclaimAs}

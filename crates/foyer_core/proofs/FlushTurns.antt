@@ -31,9 +31,9 @@ use Rattle.foyer_placing.specs.Bridge.{AreBlocksAs as AreLaidOutAs}
 use Rattle.foyer_flusher.proofs.NextLemmas.{would_issue}
 use Rattle.foyer_core.proofs.ReclaimLemmas.{reclaim_kept}
 use Rattle.foyer_core.proofs.StateLemmas.{flushers_count, flusher_at, flusher_put, size_put, unchanged_stands}
-use Rattle.foyer_flusher.specs.declared.flusher.Batch.{Batch}
+use Rattle.foyer_flusher.specs.declared.batch.Batch.{Batch}
 use Rattle.foyer_flusher.specs.declared.flusher.Flusher.{Flusher}
-use Rattle.foyer_flusher.specs.declared.flusher.Writing.{Writing}
+use Rattle.foyer_flusher.specs.declared.batch.Writing.{Writing}
 use Rattle.foyer_core.specs.declared.reply.Reply.TheVariants as reply
 use Rattle.foyer_rules.specs.declared.settings.Settings.{Settings}
 use Rattle.foyer_sets.specs.Managed.{Managed}

@@ -8,7 +8,7 @@ use Rattle.foyer_core.specs.StateOf.{AreFlushersAs, IsSizedAs, size_of_all}
 use Rattle.foyer_flusher.specs.Taking.{size_in}
 use Rattle.foyer_flusher.specs.Seen.{seen}
 use Rattle.foyer_flusher.specs.declared.flusher.Flusher.{Flusher}
-use Rattle.foyer_flusher.specs.declared.flusher.Submission.{Submission}
+use Rattle.foyer_flusher.specs.declared.submission.Submission.{Submission}
 use Rattle.foyer_rules.specs.declared.settings.Settings.{Settings}
 use Rattle.foyer_core.proofs.Opening.{map-end}
 use Rattle.foyer_core.proofs.StateLemmas.{flusher_at, flusher_put, size_put, size_pushed}

@@ -12,7 +12,7 @@ use Rattle.foyer_flusher.proofs.BeginTurns.{no_map}
 use Rattle.foyer_flusher.specs.Cleared.{are_still}
 use Rattle.foyer_flusher.specs.Flushing.{AreBatched, AreReceived, IsFlusherAs, submission_of}
 use Rattle.foyer_flusher.specs.Seen.{is_still, seen}
-use Rattle.foyer_flusher.specs.declared.flusher.Batch.{Batch}
+use Rattle.foyer_flusher.specs.declared.batch.Batch.{Batch}
 use Rattle.foyer_flusher.specs.declared.flusher.Flusher.{Flusher}
 use Rattle.foyer_policy.specs.Record.{Record}
 use Rattle.foyer_standing.specs.Addresses.{mark_of}

@@ -29,7 +29,7 @@ use Rattle.foyer_flusher.specs.Flushing.{AreFrom, AreReceived, AreWriting, HasOw
 use Rattle.foyer_rules.specs.Sizes.{sizes_in}
 use Rattle.foyer_flusher.specs.Seen.{seen}
 use Rattle.foyer_flusher.specs.declared.flusher.Flusher.{Flusher}
-use Rattle.foyer_flusher.specs.declared.flusher.Writing.{Writing}
+use Rattle.foyer_flusher.specs.declared.batch.Writing.{Writing}
 
 own_there : (own : Option ℕ) (b : Bool) → b ≡ is_some own → b ≡ true → HasOwn own
 own_there None b is does = absurd (let e : false ≡ true = sym is ∙ does in cc)

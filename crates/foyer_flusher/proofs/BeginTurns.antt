@@ -9,7 +9,7 @@ use Rattle.foyer_standing.specs.Addresses.{mark_of}
 use Rattle.foyer_flusher.specs.FlushInTurn.{MayBegin}
 use Rattle.foyer_flusher.specs.Flushing.{AreBatched, IsFlusherAs}
 use Rattle.foyer_flusher.specs.Seen.{seen}
-use Rattle.foyer_flusher.specs.declared.flusher.Batch.{Batch}
+use Rattle.foyer_flusher.specs.declared.batch.Batch.{Batch}
 use Rattle.foyer_flusher.specs.declared.flusher.Flusher.{Flusher}
 
 -- a list is empty where its map is

@@ -8,8 +8,8 @@ use Rattle.foyer_placing.specs.Bridge.{AreBlocksAs}
 use Rattle.foyer_rules.specs.Content.{Content, Meaning}
 use Rattle.foyer_rules.specs.declared.settings.Settings.{Settings}
 use Rattle.foyer_flusher.specs.Flushing.{IsWritingAs, AreWriting, IsBatchAs, AreBatched}
-use Rattle.foyer_flusher.specs.declared.flusher.Batch.{Batch}
-use Rattle.foyer_flusher.specs.declared.flusher.Writing.{Writing}
+use Rattle.foyer_flusher.specs.declared.batch.Batch.{Batch}
+use Rattle.foyer_flusher.specs.declared.batch.Writing.{Writing}
 
 module _ {A : Type 0} where
   -- the model has a block to be issued just where the code has one

@@ -30,9 +30,9 @@ use Rattle.foyer_flusher.specs.BlockIssued.{IsIssued}
 use Rattle.foyer_flusher.specs.Flushing.{IsSomeRecord, AreFrom, IsFrom, AreEntering, AreWriting, IsBatchAs}
 use Rattle.foyer_flusher.specs.Issuing.{entering, entering_of, writes_of, write_of}
 use Rattle.foyer_flusher.specs.Issued.{padded, source_in, WritesAs, IssuesFirst}
-use Rattle.foyer_flusher.specs.declared.flusher.Batch.{Batch}
-use Rattle.foyer_flusher.specs.declared.flusher.Write.{Write}
-use Rattle.foyer_flusher.specs.declared.flusher.Writing.{Writing}
+use Rattle.foyer_flusher.specs.declared.batch.Batch.{Batch}
+use Rattle.foyer_flusher.specs.declared.batch.Write.{Write}
+use Rattle.foyer_flusher.specs.declared.batch.Writing.{Writing}
 
 end_front : {C : Type 0} (n : ℕ) (ps qs : List (ℕ × model_record.Record C)) → AllEndBy n (ps ++ qs) → AllEndBy n ps
 end_front n [] qs all = tt

@@ -15,7 +15,7 @@ use Rattle.foyer_standing.proofs.SetsLemmas.{managed_kept, same_blocks, leaves_a
 use Rattle.foyer_flusher.specs.FlusherSteps.{StandsAt, FlusherStep}
 use Rattle.foyer_flusher.specs.Flushing.{IsBatchAs}
 use Rattle.foyer_flusher.specs.Seen.{Seen}
-use Rattle.foyer_flusher.specs.declared.flusher.Batch.{Batch}
+use Rattle.foyer_flusher.specs.declared.batch.Batch.{Batch}
 use Rattle.foyer_flusher.proofs.FlushLemmas.{batched}
 use Rattle.foyer_flusher.proofs.WroteLemmas.{batch_put}
 

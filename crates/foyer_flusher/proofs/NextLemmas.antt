@@ -25,8 +25,8 @@ use Rattle.foyer_model.proofs.Basics.{put_at, put_same, put_other}
 use Rattle.foyer_model.proofs.Ids.{in_with, in_without}
 use Rattle.foyer_flusher.specs.Seen.{Seen}
 use Rattle.foyer_flusher.proofs.FlushLemmas.{batched, some_laid}
-use Rattle.foyer_flusher.specs.declared.flusher.Batch.{Batch}
-use Rattle.foyer_flusher.specs.declared.flusher.Write.{Write}
+use Rattle.foyer_flusher.specs.declared.batch.Batch.{Batch}
+use Rattle.foyer_flusher.specs.declared.batch.Write.{Write}
 use Rattle.foyer_rules.specs.declared.settings.Settings.{Settings}
 
 module _ {K V P : Type 0} (m : Meaning K V P) (s : Settings) (sound : AreValid s) where

@@ -29,7 +29,7 @@ use Rattle.foyer_flusher.specs.Filled.{HasRoom, HasRoomFor}
 use Rattle.foyer_flusher.specs.Flushing.{AreReceived, IsFlusherAs, submission_of, invalid_of_all}
 use Rattle.foyer_flusher.specs.Seen.{Seen, seen}
 use Rattle.foyer_flusher.specs.Taking.{size_in, IsPutAgain, PutsAgain, IsReceivedAs}
-use Rattle.foyer_flusher.specs.declared.flusher.Reinsertion.{Reinsertion}
+use Rattle.foyer_flusher.specs.declared.submission.Reinsertion.{Reinsertion}
 use Rattle.foyer_block.specs.Index.{IndexMap, address_of as indexed_at}
 use Rattle.foyer_block.specs.declared.indexer.EntryAddress.{EntryAddress}
 use Rattle.foyer_block.specs.declared.indexer.Index.{Index}
@@ -41,9 +41,9 @@ use Rattle.foyer_standing.proofs.SlotLemmas.{same_itself}
 use Rattle.foyer_standing.specs.Standing.{IsIndexedAs, slot_of}
 use Rattle.std.specs.FinMap as finite
 use Rattle.foyer_flusher.specs.declared.flusher.Flusher.{Flusher}
-use Rattle.foyer_flusher.specs.declared.flusher.Submission.{Submission}
-use Rattle.foyer_flusher.specs.declared.flusher.Submission.TheVariants as submission
-use Rattle.foyer_flusher.specs.declared.flusher.TombstoneInfo.{TombstoneInfo}
+use Rattle.foyer_flusher.specs.declared.submission.Submission.{Submission}
+use Rattle.foyer_flusher.specs.declared.submission.Submission.TheVariants as submission
+use Rattle.foyer_flusher.specs.declared.submission.TombstoneInfo.{TombstoneInfo}
 
 map_end : {X Y : Type 0} (f : X → Y) (xs : List X) (x : X) → map f (xs ++ x ∷ []) ≡ map f xs ++ f x ∷ []
 map_end f [] x = refl

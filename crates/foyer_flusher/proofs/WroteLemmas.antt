@@ -33,8 +33,8 @@ use Rattle.foyer_flusher.proofs.CommitLemmas.{committed, puts_all}
 use Rattle.foyer_standing.proofs.IndexLemmas.{unmarked_is}
 use Rattle.foyer_flusher.specs.declared.batch.Wrote.{Wrote as Answer}
 use Rattle.foyer_flusher.specs.declared.batch.Wrote.TheVariants as answers
-use Rattle.foyer_flusher.specs.declared.flusher.Batch.{Batch}
-use Rattle.foyer_flusher.specs.declared.flusher.Writing.{Writing}
+use Rattle.foyer_flusher.specs.declared.batch.Batch.{Batch}
+use Rattle.foyer_flusher.specs.declared.batch.Writing.{Writing}
 use Rattle.foyer_rules.specs.declared.settings.Settings.{Settings}
 
 first_left : (ws : List Write) → 0 < length ws → (first : Write) × (rest : List Write) × (ws ≡ first ∷ rest)

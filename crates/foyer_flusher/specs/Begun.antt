@@ -4,7 +4,7 @@ use Rattle.foyer_block.specs.declared.tombstone.Tombstone.{Tombstone}
 use Rattle.foyer_buffer.specs.declared.split.Batch.{Batch as Split}
 use Rattle.foyer_flusher.specs.Filled.{WasSplit}
 use Rattle.foyer_flusher.specs.Seen.{seen}
-use Rattle.foyer_flusher.specs.declared.flusher.Batch.{Batch}
+use Rattle.foyer_flusher.specs.declared.batch.Batch.{Batch}
 use Rattle.foyer_flusher.specs.declared.flusher.Flusher.{Flusher}
 
 pub record IsBegun {K V P A : Type 0} (old new : Flusher K V P A) (marks_issued : List Tombstone) : Type 0 where

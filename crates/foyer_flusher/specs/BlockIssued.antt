@@ -11,8 +11,8 @@ use Rattle.foyer_rules.specs.declared.settings.Settings.{Settings}
 use Rattle.foyer_flusher.specs.Flushing.{IsBatchAs}
 use Rattle.foyer_flusher.specs.Issuing.{write_of}
 use Rattle.foyer_flusher.specs.Issued.{IssuesFirst}
-use Rattle.foyer_flusher.specs.declared.flusher.Batch.{Batch}
-use Rattle.foyer_flusher.specs.declared.flusher.Write.{Write}
+use Rattle.foyer_flusher.specs.declared.batch.Batch.{Batch}
+use Rattle.foyer_flusher.specs.declared.batch.Write.{Write}
 
 -- what is issued is what the model writes of the batch's next block, which leaves the batch and is being written
 pub record IsIssued {K V P A : Type 0} (m : Meaning K V P) (rules : Rules Content) (s : Settings) (b : ℕ) (written : List (Write A)) (batch : Batch K V P A)

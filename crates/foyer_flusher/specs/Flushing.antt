@@ -16,10 +16,10 @@ use Rattle.foyer_rules.specs.declared.settings.Settings.{Settings}
 use Rattle.foyer_standing.specs.Addresses.{address_of, mark_of, invalid_of}
 use Rattle.foyer_standing.specs.declared.blocks.InvalidStats.{InvalidStats}
 use Rattle.foyer_flusher.specs.Seen.{Seen}
-use Rattle.foyer_flusher.specs.declared.flusher.Batch.{Batch}
-use Rattle.foyer_flusher.specs.declared.flusher.Submission.{Submission}
-use Rattle.foyer_flusher.specs.declared.flusher.Submission.TheVariants as submission
-use Rattle.foyer_flusher.specs.declared.flusher.Writing.{Writing}
+use Rattle.foyer_flusher.specs.declared.batch.Batch.{Batch}
+use Rattle.foyer_flusher.specs.declared.submission.Submission.{Submission}
+use Rattle.foyer_flusher.specs.declared.submission.Submission.TheVariants as submission
+use Rattle.foyer_flusher.specs.declared.batch.Writing.{Writing}
 
 abbrev pub invalid_of_all : Option InvalidStats → List (ℕ × ℕ)
 invalid_of_all None = []

@@ -5,9 +5,9 @@ use Rattle.foyer_block.specs.declared.indexer.EntryAddress.{EntryAddress}
 use Rattle.foyer_block.specs.declared.indexer.HashedEntryAddress.{HashedEntryAddress}
 use Rattle.foyer_buffer.specs.declared.split.Block.{Block}
 use Rattle.foyer_flusher.specs.Issuing.{entering_of, writes_of}
-use Rattle.foyer_flusher.specs.declared.flusher.Batch.{Batch}
-use Rattle.foyer_flusher.specs.declared.flusher.Write.{Write}
-use Rattle.foyer_flusher.specs.declared.flusher.Writing.{Writing}
+use Rattle.foyer_flusher.specs.declared.batch.Batch.{Batch}
+use Rattle.foyer_flusher.specs.declared.batch.Write.{Write}
+use Rattle.foyer_flusher.specs.declared.batch.Writing.{Writing}
 
 -- the source at a place; none past the end
 abbrev pub source_in : List (Option EntryAddress) → ℕ → Option EntryAddress

@@ -5,9 +5,9 @@ use Rattle.foyer_blob.specs.declared.blob.BlobEntryIndex.{BlobEntryIndex}
 use Rattle.foyer_buffer.specs.declared.split.BlobPart.{BlobPart}
 use Rattle.foyer_device.specs.Section.{bytes_of}
 use Rattle.foyer_layout.specs.BlockBytes as layout
-use Rattle.foyer_flusher.specs.declared.flusher.Write.{Write}
-use Rattle.foyer_flusher.specs.declared.flusher.WriteBytes.{WriteBytes}
-use Rattle.foyer_flusher.specs.declared.flusher.WriteBytes.TheVariants.{Data, Index}
+use Rattle.foyer_flusher.specs.declared.batch.Write.{Write}
+use Rattle.foyer_flusher.specs.declared.batch.WriteBytes.{WriteBytes}
+use Rattle.foyer_flusher.specs.declared.batch.WriteBytes.TheVariants.{Data, Index}
 
 -- a record of a blob that begins at this offset of a block, which isn't known yet
 abbrev pub entering : ℕ → BlobEntryIndex → HashedEntryAddress

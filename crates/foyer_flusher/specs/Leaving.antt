@@ -2,7 +2,7 @@
 use Rattle.std.specs.Prelude.{ℕ, if◌then◌else◌, Option, Some, None}
 use Rattle.foyer_flusher.specs.declared.batch.Wrote.{Wrote}
 use Rattle.foyer_flusher.specs.declared.batch.Wrote.TheVariants as wrote
-use Rattle.foyer_flusher.specs.declared.flusher.Batch.{Batch}
+use Rattle.foyer_flusher.specs.declared.batch.Batch.{Batch}
 
 -- its own, as the next block of its batch is issued, unless the batch goes on in it
 abbrev pub left_by : {K V P A : Type 0} → Option (Batch K V P A) → Option ℕ → Option ℕ

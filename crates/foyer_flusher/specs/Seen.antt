@@ -6,10 +6,10 @@ use Rattle.foyer_block.specs.declared.tombstone.Tombstone.{Tombstone}
 use Rattle.foyer_buffer.specs.Entries.{Entries}
 use Rattle.foyer_buffer.specs.Position.{Context}
 use Rattle.foyer_policy.specs.Record.{Record}
-use Rattle.foyer_flusher.specs.declared.flusher.Batch.{Batch}
+use Rattle.foyer_flusher.specs.declared.batch.Batch.{Batch}
 use Rattle.foyer_flusher.specs.declared.flusher.Flusher.{Flusher}
 use Rattle.foyer_standing.specs.declared.blocks.InvalidStats.{InvalidStats}
-use Rattle.foyer_flusher.specs.declared.flusher.Submission.{Submission}
+use Rattle.foyer_flusher.specs.declared.submission.Submission.{Submission}
 
 pub record Seen (K V P A : Type 0) : Type 0 where
   pub queue : List (Submission K V P A)

@@ -17,7 +17,7 @@ use Rattle.foyer_flusher.specs.Filled.{HasRoomFor}
 use Rattle.foyer_flusher.specs.Flushing.{IsFlusherAs}
 use Rattle.foyer_flusher.specs.Seen.{seen}
 use Rattle.foyer_flusher.specs.declared.flusher.Flusher.{Flusher}
-use Rattle.foyer_flusher.specs.declared.flusher.Reinsertion.{Reinsertion}
+use Rattle.foyer_flusher.specs.declared.submission.Reinsertion.{Reinsertion}
 use Rattle.foyer_flusher.specs.declared.receive.Taken.{Taken}
 use Rattle.foyer_flusher.specs.declared.receive.Taken.TheVariants as taken
 

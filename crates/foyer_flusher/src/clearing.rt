@@ -6,16 +6,6 @@ ghost use Rattle.foyer_flusher.specs.Seen.{seen};
 use crate::flusher::Flusher;
 use std::alloc::Allocator;
 
-impl<K, V, P, A: Allocator> Flusher<K, V, P, A> {
-    // It has no block, and its splitter is fresh.
-    fn clear(&mut self)
-        ensures { seen self.new ≡ cleared (seen self.old) }
-    {
-        self.own = None;
-        self.context.reset();
-    }
-}
-
 /// Whether nothing is queued, received or in a batch at any of these flushers.
 pub fn are_idle<K, V, P, A: Allocator>(flushers: &[Flusher<K, V, P, A>]) -> bool
     ensures { result ≡ are_still flushers.now }

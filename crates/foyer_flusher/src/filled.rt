@@ -84,6 +84,15 @@ fn take_pages<A: Allocator>(
     new_pages(alloc, room)
 }
 
+// The pages of a batch are filled again, unless it had none or somebody still has a part of them.
+pub(crate) fn keep_pages<A: Allocator>(spare: &mut Option<IoSliceMut<A>>, pages: IoSlice<A>) {
+    if let Some(pages) = pages.try_into_io_slice_mut() {
+        if pages.len() > 0 {
+            *spare = Some(pages);
+        }
+    }
+}
+
 // Copies bytes over pages of the same length.
 fn copy_over<A: Allocator>(pages: &mut IoSliceMut<A>, bytes: &[u8])
     requires { length pages.old ≡ length bytes.now }

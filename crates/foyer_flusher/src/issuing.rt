@@ -4,7 +4,7 @@ ghost use Rattle.foyer_device.specs.declared.error.Error.{Error as error};
 ghost use Rattle.foyer_flusher.specs.Issuing.{entering, entering_of, writes_of};
 ghost use Rattle.foyer_flusher.specs.Issued.{IsReady, IssuesFirst, padded, source_in};
 
-use crate::flusher::{Batch, Write, WriteBytes, Writing};
+use crate::batch::{Batch, Write, WriteBytes, Writing};
 use foyer_block::indexer::{EntryAddress, HashedEntryAddress};
 use foyer_block::manager::BlockId;
 use foyer_buffer::{BlobEntryIndex, BlobPart, Block};

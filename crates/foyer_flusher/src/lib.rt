@@ -5,10 +5,11 @@
 pub mod batch;
 pub mod begin;
 pub mod clearing;
+pub mod committing;
 pub mod filled;
 pub mod flusher;
 pub mod issuing;
 pub mod laws;
 pub mod logged;
 pub mod receive;
-pub mod state;
+pub mod submission;

@@ -37,29 +37,3 @@ pub(crate) fn invalidate_unless<A: Allocator>(
         Some(false) => {}
     }
 }
-
-impl<K, V, P, A: Allocator> Flusher<K, V, P, A> {
-    /// Whether a batch is there for which the log of deletes hasn't answered.
-    pub fn is_unlogged(&self) -> bool
-        ensures { IsTrue result ↔ IsUnlogged self.now }
-    {
-        match &self.batch {
-            Some(batch) => batch.logged.is_none(),
-            None => false,
-        }
-    }
-
-    /// Notes whether the log of deletes took the batch's marks.
-    pub fn log(&mut self, went_well: bool)
-        requires { IsUnlogged self.old }
-        ensures { (m : Meaning K V P) (s : Settings) (sound : AreValid s) (f : ℕ) (it : State Content)
-            (slots : IndexMap) (blocks : Managed) → StandsAt m s f it (seen self.old) slots blocks
-            → FlusherStep m s sound (model_step.LogWrote f went_well) f it model_reply.Done
-            (seen self.new) slots blocks }
-    {
-        let Some(batch) = &mut self.batch else {
-            unreachable!()
-        };
-        batch.logged = Some(went_well);
-    }
-}

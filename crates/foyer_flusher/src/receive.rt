@@ -20,7 +20,7 @@ ghost use Rattle.foyer_flusher.specs.Seen.{seen};
 ghost use Rattle.foyer_flusher.specs.Taking.{TakesFront};
 
 use crate::filled::Filled;
-use crate::flusher::{Flusher, Reinsertion, Submission, TombstoneInfo};
+use crate::submission::{Reinsertion, TombstoneInfo};
 use foyer_block::indexer::{EntryAddress, Indexer};
 use foyer_block::tombstone::Tombstone;
 use foyer_device::error::Result;
@@ -54,7 +54,7 @@ fn holds<A: Allocator + Clone>(index: &Indexer<A>, reinsertion: &Reinsertion<A>)
 }
 
 // Appends a piece's record, with room for the piece in its list; false where it doesn't fit or a code fails.
-fn put_piece<K: Code<A>, V: Code<A>, P, A: Allocator + Clone>(
+pub(crate) fn put_piece<K: Code<A>, V: Code<A>, P, A: Allocator + Clone>(
     alloc: &A,
     filled: &mut Filled<A>,
     spare: &mut Option<IoSliceMut<A>>,
@@ -95,7 +95,7 @@ fn put_piece<K: Code<A>, V: Code<A>, P, A: Allocator + Clone>(
 }
 
 // Appends a record that was read back, with where it was read from, if the index has it there still and it has room.
-fn put_reinsertion<A: Allocator + Clone>(
+pub(crate) fn put_reinsertion<A: Allocator + Clone>(
     alloc: &A,
     filled: &mut Filled<A>,
     spare: &mut Option<IoSliceMut<A>>,
@@ -130,7 +130,7 @@ fn put_reinsertion<A: Allocator + Clone>(
 }
 
 // Appends a mark, and what it made invalid, if it did.
-fn put_mark<A: Allocator>(
+pub(crate) fn put_mark<A: Allocator>(
     marks: &mut Vec<Tombstone, A>,
     invalid: &mut Vec<InvalidStats, A>,
     info: TombstoneInfo,
@@ -151,7 +151,7 @@ fn put_mark<A: Allocator>(
 }
 
 // Appends a wait.
-fn put_wait<A: Allocator>(waits: &mut Vec<u64, A>, id: u64) -> Result<()>
+pub(crate) fn put_wait<A: Allocator>(waits: &mut Vec<u64, A>, id: u64) -> Result<()>
     ensures put { OnOk result (waits.new.items ≡ waits.old.items ++ id ∷ []) }
     ensures kept { OnErr result (waits.new.items ≡ waits.old.items) }
     ensures memory { IfErr result (λ e. e ≡ error.Memory) }
@@ -159,86 +159,4 @@ fn put_wait<A: Allocator>(waits: &mut Vec<u64, A>, id: u64) -> Result<()>
     waits.reserve(1)?;
     waits.push_reserved(id);
     Ok(())
-}
-
-impl<K, V, P, A: Allocator + Clone> Flusher<K, V, P, A> {
-    /// Takes the front of the queue. What has no room is handed back; a record that was read back is dropped then, and where the
-    /// index hasn't the very address that it was read from. Memory where an allocation was refused for what has room: it stays
-    /// at the front then.
-    pub fn receive(&mut self, alloc: &A, index: &Indexer<A>) -> Result<Taken<K, V, P, A>>
-    where
-        K: Code<A>,
-        V: Code<A>,
-        ensures refused { OnErr result (seen self.new ≡ seen self.old) }
-        ensures memory { IfErr result (λ e. e ≡ error.Memory) }
-        ensures takes { (age_of : P → Option age) (s : Settings) (sound : AreValid s) (st : State Content) (f : ℕ)
-            → IsFlusherAs (meaning K.encoding V.encoding K.is_encodable V.is_encodable K.is_decodable V.is_decodable age_of) s (seen self.old) (st.flushers f)
-            → IsIndexedAs s index.now.slots st.index
-            → TakesFront (meaning K.encoding V.encoding K.is_encodable V.is_encodable K.is_decodable V.is_decodable age_of) s sound st f result self.new }
-    {
-        match self.queue.pop_front() {
-            None => Ok(Taken::Nothing),
-            Some(
-                Submission::CacheEntry {
-                    piece,
-                    estimated_size,
-                    sequence,
-                },
-            ) => match put_piece(
-                alloc,
-                &mut self.filled,
-                &mut self.spare,
-                &mut self.pieces,
-                &mut self.sources,
-                &piece,
-                sequence,
-            ) {
-                Ok(true) => {
-                    self.pieces.push_reserved(piece);
-                    self.sources.push_back_reserved(None);
-                    Ok(Taken::Piece(estimated_size, None))
-                }
-                Ok(false) => Ok(Taken::Piece(estimated_size, Some(piece))),
-                Err(error) => {
-                    self.queue.push_front_reserved(Submission::CacheEntry {
-                        piece,
-                        estimated_size,
-                        sequence,
-                    });
-                    Err(error)
-                }
-            },
-            Some(Submission::Tombstone(info)) => {
-                match put_mark(&mut self.marks, &mut self.invalid, info) {
-                    Ok(()) => Ok(Taken::Other),
-                    Err(error) => {
-                        self.queue.push_front_reserved(Submission::Tombstone(info));
-                        Err(error)
-                    }
-                }
-            }
-            Some(Submission::Reinsertion(reinsertion)) => match put_reinsertion(
-                alloc,
-                &mut self.filled,
-                &mut self.spare,
-                &mut self.sources,
-                index,
-                &reinsertion,
-            ) {
-                Ok(()) => Ok(Taken::Other),
-                Err(error) => {
-                    self.queue
-                        .push_front_reserved(Submission::Reinsertion(reinsertion));
-                    Err(error)
-                }
-            },
-            Some(Submission::Wait { id }) => match put_wait(&mut self.waits, id) {
-                Ok(()) => Ok(Taken::Other),
-                Err(error) => {
-                    self.queue.push_front_reserved(Submission::Wait { id });
-                    Err(error)
-                }
-            },
-        }
-    }
 }

@@ -12,7 +12,7 @@ use Rattle.foyer_placing.specs.Bridge.{kept_of}
 use Rattle.foyer_flusher.proofs.BeginTurns.{no_map}
 use Rattle.foyer_flusher.specs.Flushing.{AreBatched, IsFlusherAs}
 use Rattle.foyer_flusher.specs.Seen.{Seen, is_still, seen}
-use Rattle.foyer_flusher.specs.declared.flusher.Batch.{Batch}
+use Rattle.foyer_flusher.specs.declared.batch.Batch.{Batch}
 use Rattle.foyer_flusher.specs.declared.flusher.Flusher.{Flusher as CoreFlusher}
 use Rattle.foyer_core.specs.StateOf.{IsStateOf}
 use Rattle.foyer_core.specs.declared.state.Core.{Core}

@@ -7,7 +7,7 @@ use Rattle.foyer_core.specs.Refines.{IsHandedBack}
 use Rattle.foyer_core.specs.Replied.{IsReply}
 use Rattle.foyer_core.specs.declared.reply.Reply.{Reply}
 use Rattle.foyer_core.specs.declared.reply.Reply.TheVariants as reply
-use Rattle.foyer_flusher.specs.declared.flusher.Write.{Write}
+use Rattle.foyer_flusher.specs.declared.batch.Write.{Write}
 use Rattle.foyer_core.specs.declared.step.Ticket.{Ticket}
 use Rattle.std.specs.declared.vec.Vec.{Vec}
 use Rattle.foyer_run.specs.Running.{ticket_in, block_in}

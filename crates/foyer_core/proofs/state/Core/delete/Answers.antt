@@ -12,7 +12,7 @@ use Rattle.foyer_model.specs.State.{Remove}
 use Rattle.foyer_flusher.specs.Flushing.{invalid_of_all}
 use Rattle.foyer_rules.specs.CoreRules.{machine}
 use Rattle.foyer_standing.specs.Standing.{IsIndexedAs}
-use Rattle.foyer_flusher.specs.declared.flusher.Submission.TheVariants.{Tombstone}
+use Rattle.foyer_flusher.specs.declared.submission.Submission.TheVariants.{Tombstone}
 use Rattle.foyer_standing.proofs.SetsLemmas.{managed_kept, blocks_kept}
 use Rattle.foyer_core.specs.declared.step.Step.TheVariants as step
 use Rattle.foyer_core.proofs.Deleted.{bytes_of, pushed_out}

@@ -6,7 +6,7 @@ use Rattle.foyer_model.specs.Numbers.{put, last_number}
 use Rattle.foyer_model.specs.Reply as model_reply
 use Rattle.foyer_model.specs.State as model_state
 use Rattle.foyer_model.specs.State.{Remove}
-use Rattle.foyer_flusher.specs.declared.flusher.Submission.TheVariants.{Tombstone}
+use Rattle.foyer_flusher.specs.declared.submission.Submission.TheVariants.{Tombstone}
 use Rattle.foyer_flusher.specs.Seen.{seen}
 use Rattle.foyer_standing.specs.Standing.{sets_of, IsManagedAs}
 use Rattle.foyer_standing.proofs.SetsLemmas.{managed_kept, blocks_kept}

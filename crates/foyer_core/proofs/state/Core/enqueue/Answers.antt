@@ -9,7 +9,7 @@ use Rattle.foyer_standing.proofs.SetsLemmas.{managed_kept, blocks_kept}
 use Rattle.foyer_core.specs.Asked.{known_age}
 use Rattle.foyer_rules.specs.Content.{content_of}
 use Rattle.foyer_rules.specs.CoreRules.{machine}
-use Rattle.foyer_flusher.specs.declared.flusher.Submission.TheVariants.{CacheEntry}
+use Rattle.foyer_flusher.specs.declared.submission.Submission.TheVariants.{CacheEntry}
 use Rattle.foyer_core.specs.declared.step.Step.TheVariants as step
 use Rattle.foyer_core.proofs.Enqueued.{ignored_young, ignored_full, not_ignored}
 use Rattle.foyer_core.proofs.QueueLemmas.{with_queued, queue_pushed_at, size_grown}

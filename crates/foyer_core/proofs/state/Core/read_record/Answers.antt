@@ -3,7 +3,7 @@ use Rattle.std.specs.Prelude.{IfSome}
 use Rattle.foyer_block.proofs.Rooms.{kept_itself}
 use Rattle.foyer_device.specs.declared.error.ErrorKind.TheVariants as kind
 use Rattle.foyer_flusher.specs.Seen.{seen}
-use Rattle.foyer_flusher.specs.declared.flusher.Submission.TheVariants.{Reinsertion}
+use Rattle.foyer_flusher.specs.declared.submission.Submission.TheVariants.{Reinsertion}
 use Rattle.foyer_layout.specs.Page.{page_up}
 use Rattle.foyer_model.specs.Reclaim.{issued_at}
 use Rattle.foyer_model.specs.State as model_state

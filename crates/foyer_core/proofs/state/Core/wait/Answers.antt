@@ -4,7 +4,7 @@ use Rattle.foyer_model.specs.Numbers.{put, last_number}
 use Rattle.foyer_model.specs.Reply.{Memory, Done, Refused}
 use Rattle.foyer_model.specs.State.{Await}
 use Rattle.foyer_model.specs.Step as model_step
-use Rattle.foyer_flusher.specs.declared.flusher.Submission.TheVariants.{Wait}
+use Rattle.foyer_flusher.specs.declared.submission.Submission.TheVariants.{Wait}
 use Rattle.foyer_standing.proofs.SetsLemmas.{managed_kept, blocks_kept}
 use Rattle.foyer_core.proofs.QueueLemmas.{with_queued, queue_pushed, size_grown}
 use Rattle.foyer_core.proofs.StateLemmas.{flushers_count, unchanged_stands}

@@ -1,6 +1,6 @@
 use Rattle.std.proofs.Common.{◌≡◌, [], None, Some, refl, ap, ◌∙◌}
 use Rattle.foyer_buffer.specs.Entries.{Entries}
-use Rattle.foyer_flusher.specs.declared.flusher.Batch.{Batch}
+use Rattle.foyer_flusher.specs.declared.batch.Batch.{Batch}
 use Rattle.foyer_flusher.proofs.flusher.Flusher.begin.Goals as goal
 
 pub returns-clause-begins : goal.returns-clause-begins

@@ -6,7 +6,7 @@ use Rattle.foyer_standing.specs.Addresses.{invalid_of}
 use Rattle.foyer_sets.specs.BlockSets.{Stands}
 use Rattle.foyer_standing.specs.Standing.{sets_of}
 use Rattle.foyer_flusher.specs.Seen.{seen}
-use Rattle.foyer_flusher.specs.declared.flusher.Batch.{Batch}
+use Rattle.foyer_flusher.specs.declared.batch.Batch.{Batch}
 use Rattle.foyer_flusher.proofs.WroteLemmas.{ended}
 use Rattle.foyer_flusher.proofs.flusher.Flusher.end.Goals as goal
 

@@ -4,7 +4,7 @@ use Rattle.foyer_format.specs.Record.{record_bytes}
 use Rattle.foyer_format.specs.declared.compress.Compression.TheVariants as compression
 use Rattle.foyer_rules.specs.Content.{meaning}
 use Rattle.foyer_flusher.specs.Seen.{seen}
-use Rattle.foyer_flusher.specs.declared.flusher.Submission.TheVariants.{CacheEntry, Tombstone, Reinsertion, Wait}
+use Rattle.foyer_flusher.specs.declared.submission.Submission.TheVariants.{CacheEntry, Tombstone, Reinsertion, Wait}
 use Rattle.foyer_flusher.proofs.TakenLemmas.{wait_kept, mark_kept, again_kept, again_takes, invalidated_listed, piece_kept, piece_back, piece_takes}
 use Rattle.foyer_flusher.proofs.flusher.Flusher.receive.Goals as goal
 

@@ -5,8 +5,8 @@ use Rattle.foyer_block.specs.Committing.{committed_all, put_count}
 use Rattle.foyer_flusher.specs.FlusherSteps.{FlusherStep, settled}
 use Rattle.foyer_standing.specs.Standing.{sets_of}
 use Rattle.foyer_flusher.specs.Seen.{seen}
-use Rattle.foyer_flusher.specs.declared.flusher.Batch.{Batch}
-use Rattle.foyer_flusher.specs.declared.flusher.Writing.{Writing}
+use Rattle.foyer_flusher.specs.declared.batch.Batch.{Batch}
+use Rattle.foyer_flusher.specs.declared.batch.Writing.{Writing}
 use Rattle.foyer_flusher.proofs.WroteLemmas.{wrote_next, wrote_last, wrote_fails}
 use Rattle.foyer_flusher.proofs.flusher.Flusher.wrote.Goals as goal
 

@@ -1,6 +1,6 @@
 use Rattle.std.proofs.Common.{◌≡◌, map, take, drop, ◌++◌}
 use Rattle.foyer_flusher.specs.FlusherSteps.{settled}
-use Rattle.foyer_flusher.proofs.batch.settle.Given as goal
+use Rattle.foyer_flusher.proofs.committing.settle.Given as goal
 
 abbrev pub invariant-loop-record : goal.invariant-loop-record
 invariant-loop-record g l =

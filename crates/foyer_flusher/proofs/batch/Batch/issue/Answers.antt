@@ -3,7 +3,7 @@ use Rattle.foyer_buffer.specs.declared.split.Block.{Block}
 use Rattle.foyer_flusher.proofs.IssueLemmas.{first_is, padded_count, writes_as}
 use Rattle.foyer_flusher.specs.Issued.{padded}
 use Rattle.foyer_flusher.specs.Issuing.{entering_of}
-use Rattle.foyer_flusher.proofs.flusher.Batch.issue.Goals as goal
+use Rattle.foyer_flusher.proofs.batch.Batch.issue.Goals as goal
 
 pub begin_writing-requires : goal.begin_writing-requires
 begin_writing-requires g c = ap length c.requires.ready.sources ∙ padded_count (length c.args.prepared.records.items) c.args.self.now.sources.items

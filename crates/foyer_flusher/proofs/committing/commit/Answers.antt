@@ -2,7 +2,7 @@ use Rattle.std.proofs.Common.{IsOk, sym, subst, ◌∙◌}
 use Rattle.foyer_block.specs.Index.{HasRoomFor}
 use Rattle.foyer_block.specs.Committing.{PiecesHeld}
 use Rattle.foyer_flusher.proofs.CommitLemmas.{held_settled, room_settled}
-use Rattle.foyer_flusher.proofs.batch.commit.Goals as goal
+use Rattle.foyer_flusher.proofs.committing.commit.Goals as goal
 
 pub returns-clause-overwrites : goal.returns-clause-overwrites
 returns-clause-overwrites g c = λ held.

@@ -1,7 +1,7 @@
 use Rattle.std.proofs.Common.{◌≡◌, get_or, ap, ◌∙◌, arith}
 use Rattle.foyer_flusher.specs.Issued.{padded}
 use Rattle.foyer_flusher.proofs.IssueLemmas.{head_of}
-use Rattle.foyer_flusher.proofs.flusher.Batch.prepare.Goals as goal
+use Rattle.foyer_flusher.proofs.batch.Batch.prepare.Goals as goal
 
 pub returns-clause-ready : goal.returns-clause-ready
 returns-clause-ready g c =
