@@ -68,6 +68,8 @@ pub struct Flusher<K, V, P, A: Allocator> {
 
 impl<K, V, P, A: Allocator> Flusher<K, V, P, A> {
     ghost use Rattle.foyer_flusher.specs.Cleared.{cleared};
+    ghost use Rattle.foyer_flusher.specs.FlushInTurn.{IsUnlogged};
+    ghost use Rattle.foyer_flusher.specs.FlusherSteps.{StandsAt, FlusherStep};
     ghost use Rattle.foyer_flusher.specs.Idle.{idle};
     ghost use Rattle.foyer_flusher.specs.Seen.{is_still, seen};
 
@@ -138,6 +140,30 @@ impl<K, V, P, A: Allocator> Flusher<K, V, P, A> {
             && self.batch.is_none()
     }
 
+    /// Whether a batch is there for which the log of deletes hasn't answered.
+    pub fn is_unlogged(&self) -> bool
+        ensures { IsTrue result ↔ IsUnlogged self.now }
+    {
+        match &self.batch {
+            Some(batch) => batch.logged.is_none(),
+            None => false,
+        }
+    }
+
+    /// Notes whether the log of deletes took the batch's marks.
+    pub fn log(&mut self, went_well: bool)
+        requires { IsUnlogged self.old }
+        ensures { (m : Meaning K V P) (s : Settings) (sound : AreValid s) (f : ℕ) (it : State Content)
+            (slots : IndexMap) (blocks : Managed) → StandsAt m s f it (seen self.old) slots blocks
+            → FlusherStep m s sound (model_step.LogWrote f went_well) f it model_reply.Done
+            (seen self.new) slots blocks }
+    {
+        let Some(batch) = &mut self.batch else {
+            unreachable!()
+        };
+        batch.logged = Some(went_well);
+    }
+
     // It has no block, and its splitter is fresh.
     pub(crate) fn clear(&mut self)
         ensures { seen self.new ≡ cleared (seen self.old) }
@@ -150,7 +176,7 @@ impl<K, V, P, A: Allocator> Flusher<K, V, P, A> {
 impl<K, V, P, A: Allocator + Clone> Flusher<K, V, P, A> {
     ghost use Rattle.foyer_flusher.specs.Begun.{IsBegun};
     ghost use Rattle.foyer_flusher.specs.Failing.{MustGrowFor};
-    ghost use Rattle.foyer_flusher.specs.FlushInTurn.{MayBegin, HasBlock, IsWriting, IsUnlogged, IsWritten};
+    ghost use Rattle.foyer_flusher.specs.FlushInTurn.{MayBegin, HasBlock, IsWriting, IsWritten};
     ghost use Rattle.foyer_flusher.specs.FlusherSteps.{StandsAt, FlusherStep, issued_next, issued_wrote, HasEnded, failed_batch};
     ghost use Rattle.foyer_flusher.specs.Flushing.{IsFlusherAs};
     ghost use Rattle.foyer_flusher.specs.Leaving.{left_after, left_by};
@@ -410,30 +436,6 @@ impl<K, V, P, A: Allocator + Clone> Flusher<K, V, P, A> {
         release(&mut self.own, manager, pickers);
         self.context.reset(); // nothing goes on in that block
         Wrote::Failed
-    }
-
-    /// Whether a batch is there for which the log of deletes hasn't answered.
-    pub fn is_unlogged(&self) -> bool
-        ensures { IsTrue result ↔ IsUnlogged self.now }
-    {
-        match &self.batch {
-            Some(batch) => batch.logged.is_none(),
-            None => false,
-        }
-    }
-
-    /// Notes whether the log of deletes took the batch's marks.
-    pub fn log(&mut self, went_well: bool)
-        requires { IsUnlogged self.old }
-        ensures { (m : Meaning K V P) (s : Settings) (sound : AreValid s) (f : ℕ) (it : State Content)
-            (slots : IndexMap) (blocks : Managed) → StandsAt m s f it (seen self.old) slots blocks
-            → FlusherStep m s sound (model_step.LogWrote f went_well) f it model_reply.Done
-            (seen self.new) slots blocks }
-    {
-        let Some(batch) = &mut self.batch else {
-            unreachable!()
-        };
-        batch.logged = Some(went_well);
     }
 
     /// Whether the batch has nothing left to write, and the log of deletes has answered, where there is one.
