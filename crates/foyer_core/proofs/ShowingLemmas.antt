@@ -1,10 +1,10 @@
 -- Pickers that were lent as a slice, and are those of a list again.
-use Rattle.std.proofs.Common.{◌≡◌, ℕ, ◌≤◌, ◌<◌, Some, List, [], ◌∷◌, ◌++◌, length, take, drop, slice_get, slice_index_or, refl, sym, ap, subst, ◌∙◌, arith}
+use Rattle.std.proofs.Common.{◌≡◌, ℕ, ◌≤◌, ◌<◌, Some, Ok, Err, List, [], ◌∷◌, ◌++◌, length, take, drop, slice_get, slice_index_or, refl, sym, ap, subst, ◌∙◌, arith}
 use Rattle.std.proofs.lemmas.List.{append-nil, at_drop_all, take_all}
 use Rattle.std.proofs.lemmas.Option.{slice_get_read}
-use Rattle.std.specs.Prelude.{option_and_then}
+use Rattle.std.specs.Prelude.{option_and_then, OnOk, Result}
 use Rattle.foyer_sets.specs.Pickers.{Info}
-use Rattle.foyer_sets.specs.Shown.{AreShown, AreShownAll}
+use Rattle.foyer_sets.specs.Shown.{AreChanged, AreShown, AreShownAll}
 use Rattle.foyer_flusher.specs.Leaving.{left_by}
 use Rattle.foyer_flusher.specs.declared.flusher.Flusher.{Flusher}
 use Rattle.foyer_core.specs.Showing.{left_at, own_at}
@@ -13,6 +13,24 @@ use Rattle.foyer_core.specs.declared.state.Core.{Core}
 back_same : {Q : Type 0} (n : ℕ) (ps qs : List Q) → length ps ≡ n → length qs ≡ length ps → take n (qs ++ drop (length qs) ps) ≡ qs
 back_same n ps qs whole same =
     at_drop_all (λ l. take n (qs ++ l)) ps (length qs) (omega arith) ∙ ap (take n) (append-nil qs) ∙ take_all n qs (omega arith)
+
+-- what a success has, had it more
+pub on_success : {T E : Type 0} (r : Result T E) (X Y : Type 0) → (X → Y) → OnOk r X → OnOk r Y
+on_success (Ok v) X Y more has = more has
+on_success (Err e) X Y more has = has
+
+module _ {Q : Type 0} (may_be : Q → Q → Type 0) where
+  changed_count : (ps qs : List Q) → AreChanged may_be ps qs → length qs ≡ length ps
+  changed_count [] [] changed = refl
+  changed_count [] (q ∷ qs) changed = absurd changed
+  changed_count (p ∷ ps) [] changed = absurd changed
+  changed_count (p ∷ ps) (q ∷ qs) changed = let rest : length qs ≡ length ps = changed_count ps qs changed.1 in omega arith
+
+  pub changed_back : (n : ℕ) (ps lent qs : List Q) → lent ≡ ps → length ps ≡ n → AreChanged may_be lent qs
+      → AreChanged may_be ps (take n (qs ++ drop (length qs) ps))
+  changed_back n ps lent qs is whole changed =
+      let all : AreChanged may_be ps qs = subst (λ l. AreChanged may_be l qs) is changed in
+      subst (AreChanged may_be ps) (sym (back_same n ps qs whole (changed_count ps qs all))) all
 
 module _ {Q : Type 0} (may_be : Q → Info → ℕ → Q → Type 0) where
   shown_count : (info : Info) (b : ℕ) (ps qs : List Q) → AreShown may_be info b ps qs → length qs ≡ length ps

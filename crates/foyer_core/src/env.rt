@@ -136,6 +136,7 @@ impl<E: EvictionPicker, C: StorageFilterCondition> Env<E, C> {
     // Its own list has the ids of so many blocks, in order.
     fn list_blocks(&mut self, blocks: u32) -> Result<()>
         ensures ids { OnOk result (self.new.own.items ≡ ids blocks) }
+        ensures pickers { self.new.pickers ≡ self.old.pickers }
         ensures filter { (self.new.reinsertion ≡ self.old.reinsertion) × (self.new.io ≡ self.old.io) }
         ensures refused { IsOkUnless result Memory }
     {
@@ -144,6 +145,18 @@ impl<E: EvictionPicker, C: StorageFilterCondition> Env<E, C> {
             self.own.push(block)?;
         }
         Ok(())
+    }
+
+    // Describes the pickers the blocks of its own list.
+    fn describe(&mut self, block_size: usize) -> Result<()>
+        ensures begun { OnOk result (AreChanged (λ p q. E.begins p self.old.own.items block_size q)
+            self.old.pickers.items self.new.pickers.items) }
+        ensures own { self.new.own ≡ self.old.own }
+        ensures filter { (self.new.reinsertion ≡ self.old.reinsertion) × (self.new.io ≡ self.old.io) }
+        ensures refused { IsOkUnless result Memory }
+    {
+        let alloc = *self.own.allocator();
+        init_all(&mut self.pickers, alloc, &self.own, block_size)
     }
 
     // Describes the pickers so many blocks, before all else; its own list has their ids then, in order.
@@ -155,7 +168,6 @@ impl<E: EvictionPicker, C: StorageFilterCondition> Env<E, C> {
         ensures refused { IsOkUnless result Memory }
     {
         self.list_blocks(blocks)?;
-        let alloc = *self.own.allocator();
-        init_all(&mut self.pickers, alloc, &self.own, block_size)
+        self.describe(block_size)
     }
 }

@@ -1,4 +1,6 @@
-use Rattle.std.proofs.Common.{sym, subst, inl, inr}
+use Rattle.std.proofs.Common.{length, sym, subst, inl, inr, arith}
+use Rattle.foyer_sets.specs.Shown.{evictable_below}
+use Rattle.foyer_core.proofs.ShowingLemmas.{all_back}
 use Rattle.foyer_sets.specs.Initial.{CanBeClean}
 use Rattle.foyer_sets.specs.Managed.{Managed}
 use Rattle.foyer_core.proofs.CleanLemmas.{can_be_clean, opened_manager}
@@ -19,3 +21,14 @@ pub returns-in-Ok-clause-placed : goal.returns-in-Ok-clause-placed
 returns-in-Ok-clause-placed g c =
     opened_manager c.args.settings.now c.in_ok-manager.manager c.init-2.new.self c.args.clean.now c.in_ok-manager.ensures.made c.init-2.ensures.same
     c.in-Ok.ensures.clean
+
+pub returns-in-Ok-clause-shown : goal.returns-in-Ok-clause-shown
+returns-in-Ok-clause-shown g c =
+    let pickers = c.init.new.self.pickers in
+    let blocks = c.init-2.new.self.blocks in
+    record {
+      described = pickers.items;
+      begun = c.in_ok-init.ensures.begun;
+      shown = all_back g.E.EvictionPicker.learns (evictable_below blocks (length blocks)) pickers.len pickers.items c.deref_mut.result.now c.init-2.new.pickers
+          c.deref_mut.ensures.value (omega (arith, pickers.ok.0)) c.in-Ok.ensures.shown;
+    }

@@ -5,6 +5,7 @@ use Rattle.foyer_core.proofs.env.Env.list_blocks.Goals as goal
 pub each_block-preserved : goal.each_block-preserved
 each_block-preserved g c = record {
   ids = c.in_ok-push.ensures.items ∙ ap (λ xs. xs ++ c.each_block.block ∷ []) c.each_block.invariant.ids ∙ ap ids (sym (add-one c.each_block.block));
+  pickers = c.each_block.invariant.pickers;
   filter = c.each_block.invariant.filter;
 }
 
@@ -18,3 +19,9 @@ returns-clause-ids g c =
 
 pub returns-clause-filter : goal.returns-clause-filter
 returns-clause-filter g c = c.each_block.invariant.filter
+
+pub returns-in_err-push-clause-pickers : goal.returns-in_err-push-clause-pickers
+returns-in_err-push-clause-pickers g c = c.each_block.invariant.pickers
+
+pub returns-clause-pickers : goal.returns-clause-pickers
+returns-clause-pickers g c = c.each_block.invariant.pickers
