@@ -1,10 +1,11 @@
 //! An engine over the files of a directory.
-ghost use Rattle.std.specs.Prelude.{◌≡◌, ◌⊎◌, ◌-◌, ◌/◌, ◌<◌, ◌≤◌, true, false, IfOk};
-ghost use Rattle.foyer_log.specs.Pages.{log_pages};
+ghost use Rattle.std.specs.Prelude.{◌≡◌, ◌⊎◌, ◌↔◌, ◌-◌, ◌/◌, ◌<◌, ◌≤◌, ◌++◌, ◌∷◌, ◌*◌, [], map, replicate, true, false, Ok, Some, None, IfOk, IfErr, IfSome, IsSome, OnErr};
+ghost use Rattle.foyer_log.specs.Pages.{log_pages, places};
 ghost use Rattle.foyer_recover.specs.Recovery.{marks_of};
 ghost use Rattle.foyer_recover.specs.declared.block.recover.RecoverMode.TheVariants as recover_mode;
 ghost use Rattle.foyer_rules.specs.Sizes.{AreValid};
 ghost use Rattle.foyer_run.specs.Begun.{IsBegun};
+ghost use Rattle.foyer_serve.specs.OpenedFiles.{AreBlockFiles, IsOpenedOver};
 ghost use Rattle.foyer_serve.specs.Texts.{plain};
 
 use crate::answer::name_of;
@@ -102,6 +103,13 @@ pub fn open_directory<R, A>(
 where
     R: Files<File = File> + AllocGlobal,
     A: Allocator + Clone,
+    ensures begins { IfOk result (λ engine. (sound : AreValid settings) → IsOpenedOver plain settings sound
+        ⟦<Partitions<PsyncIoEngine<R::A>, FsPartition, A> as Disk>⟧.byte_at
+        ⟦<Partitions<PsyncIoEngine<R::A>, FsPartition, A> as Disk>⟧.surely_has
+        ⟦<Partitions<PsyncIoEngine<R::A>, FsPartition, A> as Disk>⟧.is_known
+        (λ d. d.blocks.items) ⟦<FsPartition as Partition>⟧.bytes ⟦<FsPartition as Partition>⟧.extent
+        mode engine.core engine.disk) }
+    ensures log { IfOk result (λ engine. IsSome engine.log ↔ (settings.tombstone_log ≡ true)) }
 {
     let builder = FsDeviceBuilder::new(directory).with_capacity(capacity);
     let parts = open_parts(rt, alloc, builder, 0, capacity, settings)?;
@@ -126,6 +134,10 @@ pub(crate) fn open_parts<R, A>(
 where
     R: Files<File = File> + AllocGlobal,
     A: Allocator + Clone,
+    ensures blocks { IfOk result (λ parts. AreBlockFiles ⟦<FsPartition as Partition>⟧.bytes ⟦<FsPartition as Partition>⟧.extent
+        settings parts.blocks.items) }
+    ensures log { IfOk result (λ parts. IsSome parts.deletes.log ↔ (settings.tombstone_log ≡ true)) }
+    ensures unlogged { settings.tombstone_log ≡ false → IfOk result (λ parts. parts.deletes.marks.items ≡ []) }
 {
     let built = match alloc.clone() {
         Ok(own) => builder.build(rt, own, now),
@@ -175,7 +187,14 @@ fn make_log<R: Files, D: Device>(
     device: &mut D,
     capacity: usize,
     tombstone_log: bool,
-) -> Result<Option<D::Partition>, Error> {
+) -> Result<Option<D::Partition>, Error>
+    ensures some { IfOk result (λ log. IsSome log ↔ (tombstone_log ≡ true)) }
+    ensures size { IfOk result (λ log. IfSome log (λ p. D.Partition.bytes p ≡ log_pages capacity * 4096)) }
+    ensures made { IfOk result (λ log. IfSome log (λ p. D.extents device.new
+        ≡ D.extents device.old ++ D.Partition.extent p ∷ [])) }
+    ensures unlogged { tombstone_log ≡ false → (result ≡ Ok None) × (device.new ≡ device.old) }
+    ensures refused { OnErr result (D.extents device.new ≡ D.extents device.old) }
+{
     if !tombstone_log {
         return Ok(None);
     }
@@ -202,6 +221,10 @@ fn open_log<R, A>(
 where
     R: Files<File = File> + AllocGlobal,
     A: Allocator + Clone,
+    ensures there { IfOk result (λ deletes. IsSome deletes.log ↔ IsSome partition) }
+    ensures none { partition ≡ None → IfOk result (λ deletes. deletes.marks.items ≡ []) }
+    ensures places { IfOk result (λ deletes. IfSome deletes.log (λ log. IfSome partition (λ p. log.places
+        ≡ places ⟦<FsPartition as Partition>⟧.extent ⟦<FsPartition as Partition>⟧.bytes (p ∷ [])))) }
 {
     let mut marks = Vec::new(alloc.clone()?);
     let Some(partition) = partition else {

@@ -1,4 +1,9 @@
 //! The program's arguments.
+ghost use Rattle.std.specs.Prelude.{◌≡◌, ◌↔◌, IfOk, IsOk, IsOkUnless, IsTrue, MatchOption, codes};
+ghost use Rattle.foyer_device.specs.declared.error.Error.TheVariants.{Config};
+ghost use Rattle.foyer_rules.specs.Sizes.{AreValid};
+ghost use Rattle.foyer_serve.specs.Arguments.{AreAsked, AreWords, GoTogether};
+
 use crate::command::number;
 use crate::directory::blocks_in;
 use foyer_core::settings::{DEFAULT_TOMBSTONE_LOG, MAX_BLOCK_SIZE, Settings};
@@ -26,7 +31,9 @@ pub struct Options<'a> {
 
 impl<'a> Options<'a> {
     /// Reads the words. None where there are not three, or the second or third is no number.
-    pub fn parse<A: Allocator>(words: &'a [String<A>]) -> Option<Options<'a>> {
+    pub fn parse<A: Allocator>(words: &'a [String<A>]) -> Option<Options<'a>>
+        ensures { MatchOption result ((o : Options) → ¬ AreWords words.now o) (AreWords words.now) }
+    {
         if words.len() != 3 {
             return None;
         }
@@ -38,13 +45,20 @@ impl<'a> Options<'a> {
     }
 
     /// Whether the blocks are to be in memory.
-    pub fn is_memory(&self) -> bool {
+    pub fn is_memory(&self) -> bool
+        ensures { IsTrue result ↔ ((self.now.directory).now ≡ codes ":memory:") }
+    {
         self.directory == MEMORY
     }
 
     /// The sizes that an engine is opened with: the block rounded up to whole pages, and as many blocks as the capacity
     /// holds. `Config` where they don't go together.
-    pub fn settings(&self) -> Result<Settings> {
+    pub fn settings(&self) -> Result<Settings>
+        ensures sizes { IfOk result (AreAsked self.now) }
+        ensures valid { IfOk result AreValid }
+        ensures together { IsOk result ↔ GoTogether self.now }
+        ensures refused { IsOkUnless result Config }
+    {
         if self.block_size == 0 || self.block_size > MAX_BLOCK_SIZE as u64 {
             return Err(Error::Config);
         }
