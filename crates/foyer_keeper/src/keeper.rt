@@ -101,8 +101,8 @@ impl<K: Eq + Drop, V: Drop, P: Drop, A: Allocator + Clone> Keeper<K, V, P, A> {
         Ok(Keeper { shards: made })
     }
 
-    /// Keeps the piece under its hash and its key, in place of what is there, until a release of them. Memory is the
-    /// only refusal: then all is kept as before.
+    /// Keeps one more owner of the piece under its hash and its key, in place of what is there, until a release of them.
+    /// Memory is the only refusal: then all is kept as before.
     pub fn insert(&self, rt: &impl Wait, piece: &Piece<K, V, P, A>) -> Result<PieceRef<K, V, P, A>>
         ensures piece { IfOk result (λ kept. (kept.piece ≡ piece.now) × (kept.is_kept ≡ true)) }
         ensures refused { IsOkUnless result Error.Memory }
@@ -128,8 +128,8 @@ impl<K: Eq + Drop, V: Drop, P: Drop, A: Allocator + Clone> Keeper<K, V, P, A> {
         shard_of(&self.shards, hash).lock(rt).contains(hash, key)
     }
 
-    /// Removes what is kept under the hash and the key of a piece that was inserted, be it another piece by now. One
-    /// that was made of a piece removes nothing. It takes no memory.
+    /// Removes what this keeper has under the hash and the key of a piece that was inserted, be it another piece by now.
+    /// A reference that was made of a piece removes nothing. It takes no memory.
     pub fn release(&self, rt: &impl Wait, piece: PieceRef<K, V, P, A>) {
         shard_of(&self.shards, piece.hash())
             .lock(rt)

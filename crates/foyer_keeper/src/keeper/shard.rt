@@ -80,7 +80,7 @@ impl<K: Eq + Drop, V: Drop, P: Drop, A: Allocator + Clone> Shard<K, V, P, A> {
     }
 
     /// Inserts one more owner of the piece under its hash and its key, in place of what is there. Memory is the only
-    /// refusal.
+    /// refusal: then all is as before.
     pub fn insert(&mut self, piece: &Piece<K, V, P, A>) -> Result<()>
         ensures inserted { OnOk result
             (ChangesAt K.eq self.old self.new piece.now.hash piece.now.key (Some piece.now)) }
