@@ -1,5 +1,5 @@
 //! The keeper: a map from a key to its piece, in shards that are locked one at a time.
-ghost use Rattle.std.specs.Prelude.{◌≡◌, ◌≢◌, ◌<◌, ◌%◌, ℕ, Some, length, slice_get, IfOk, IfSome, OnOk, IsOkUnless, true, false};
+ghost use Rattle.std.specs.Prelude.{◌≡◌, ◌≢◌, ◌<◌, ◌%◌, length, IfOk, IfSome, IsOkUnless, true, false};
 ghost use Rattle.foyer_keeper.specs.PieceMap.{IsOf};
 
 mod bucket;
@@ -76,15 +76,22 @@ impl<K: Eq, V, P, A: Allocator> Model for Keeper<K, V, P, A> {
     ghost invariant = { λ k. 0 < length k.shards.items };
 }
 
-// The shard of a hash.
+// Which of so many shards a hash lies in.
+fn place_of(hash: u64, shards: usize) -> usize
+    requires { 0 < shards }
+    ensures { result ≡ hash % shards }
+{
+    (hash % shards as u64) as usize
+}
+
+// The shard of a hash. Contracts tell no lock from another, so that `place_of` says which one it is.
 fn shard_of<K: Eq, V, P, A: Allocator>(
     shards: &[Mutex<Shard<K, V, P, A>>],
     hash: u64,
 ) -> &Mutex<Shard<K, V, P, A>>
     requires { 0 < length shards.now }
-    ensures { slice_get shards.now (hash % length shards.now) ≡ Some result.now }
 {
-    &shards[(hash % shards.len() as u64) as usize]
+    &shards[place_of(hash, shards.len())]
 }
 
 impl<K: Eq + Drop, V: Drop, P: Drop, A: Allocator + Clone> Keeper<K, V, P, A> {
