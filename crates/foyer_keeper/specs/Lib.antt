@@ -1,0 +1,2 @@
+pub mod PieceMap
+pub mod Referred
