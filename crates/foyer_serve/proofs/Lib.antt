@@ -1,3 +1,4 @@
 pub mod EngineLemmas
 pub mod LineLemmas
 pub mod ThrottledLemmas
+pub mod ArgumentLemmas
