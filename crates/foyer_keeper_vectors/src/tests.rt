@@ -67,7 +67,7 @@ fn release_other(rt: &impl Wait, keeper: &Bytes<Global>, refs: &mut Refs, place:
     Ok(b'f')
 }
 
-// `pHKV` puts, `gHK` gets, and `hHK` tells whether there is one; `rN` releases the n-th reference that is there, and `dN`
+// `pHKV` puts, `gHK` gets, and `hHK` asks whether there is one; `rN` releases the n-th reference that is there, and `dN`
 // drops it; `fN` releases another of its piece, and it goes behind the others.
 fn answer(
     rt: &impl Wait,
