@@ -1,9 +1,8 @@
 -- The next block of a batch, as it is issued.
-use Rattle.std.proofs.Common.{◌≡◌, ℕ, zero, suc, ◌+◌, ◌-◌, ◌^◌, ◌<◌, ◌≤◌, min, List, [], ◌∷◌, ◌++◌, map, drop, length, get_or, Option, Some, None, refl, sym, ap, subst, ◌∙◌, arith}
+use Rattle.std.proofs.Common.{◌≡◌, ℕ, zero, suc, ◌+◌, ◌-◌, ◌^◌, ◌<◌, ◌≤◌, List, [], ◌∷◌, ◌++◌, map, drop, length, get_or, Option, Some, None, refl, sym, ap, subst, ◌∙◌, arith}
 use Rattle.std.specs.Prelude.{MatchOption}
 use Rattle.std.specs.declared.vec.Vec.{Vec}
-use Rattle.std.proofs.lemmas.List.{map-append, length-map}
-use Rattle.foyer_layout.proofs.EachLaws.{each_front, each_back}
+use Rattle.std.proofs.lemmas.List.{length-map}
 use Rattle.foyer_block.specs.declared.indexer.EntryAddress.{EntryAddress}
 use Rattle.foyer_block.specs.declared.indexer.HashedEntryAddress.{HashedEntryAddress}
 use Rattle.foyer_blob.specs.declared.blob.BlobEntryIndex.{BlobEntryIndex}
@@ -12,8 +11,6 @@ use Rattle.foyer_buffer.specs.Layout.{parts_of}
 use Rattle.foyer_buffer.specs.declared.split.BlobPart.{BlobPart}
 use Rattle.foyer_buffer.specs.declared.split.Block.{Block}
 use Rattle.foyer_device.specs.Section.{bytes_of}
-use Rattle.foyer_layout.proofs.PageLaws.{page_up-holds}
-use Rattle.foyer_layout.specs.Page.{page_up}
 use Rattle.foyer_layout.specs.BlockBytes.{Data, Index, Write as ModelWrite}
 use Rattle.foyer_model.specs.Position.{Part, BlockLayout, records_in, records_of}
 use Rattle.foyer_model.specs.Flush.{writing_of}
@@ -27,20 +24,12 @@ use Rattle.foyer_rules.specs.Content.{Content, Meaning, content_of}
 use Rattle.foyer_rules.specs.declared.settings.Settings.{Settings}
 use Rattle.foyer_standing.specs.Addresses.{mark_of, invalid_of}
 use Rattle.foyer_flusher.specs.BlockIssued.{IsIssued}
-use Rattle.foyer_flusher.specs.Flushing.{IsSomeRecord, AreFrom, IsFrom, AreEntering, AreWriting, IsBatchAs}
+use Rattle.foyer_flusher.specs.Flushing.{AreFrom, AreEntering, AreWriting, IsBatchAs}
 use Rattle.foyer_flusher.specs.Issuing.{entering, entering_of, writes_of, write_of}
 use Rattle.foyer_flusher.specs.Issued.{padded, source_in, WritesAs, IssuesFirst}
 use Rattle.foyer_flusher.specs.declared.batch.Batch.{Batch}
 use Rattle.foyer_flusher.specs.declared.batch.Write.{Write}
 use Rattle.foyer_flusher.specs.declared.batch.Writing.{Writing}
-
-end_front : {C : Type 0} (n : ℕ) (ps qs : List (ℕ × model_record.Record C)) → AllEndBy n (ps ++ qs) → AllEndBy n ps
-end_front n [] qs all = tt
-end_front n (p ∷ ps) qs all = (all.0, end_front n ps qs all.1)
-
-end_back : {C : Type 0} (n : ℕ) (ps qs : List (ℕ × model_record.Record C)) → AllEndBy n (ps ++ qs) → AllEndBy n qs
-end_back n [] qs all = all
-end_back n (p ∷ ps) qs all = end_back n ps qs all.1
 
 entering-join : (es fs : List HashedEntryAddress) (ps qs : List (ℕ × model_record.Record Content)) → AreEntering es ps → AreEntering fs qs → AreEntering (es ++ fs) (ps ++ qs)
 entering-join [] fs [] qs a b = b
@@ -55,14 +44,6 @@ entering_count [] (p ∷ ps) are = absurd are
 entering_count (e ∷ es) [] are = absurd are
 entering_count (e ∷ es) (p ∷ ps) are = ap (λ n. suc n) (entering_count es ps are.4)
 
--- records of sources are some
-some_from : (os : List (Option EntryAddress)) (rs : List (model_record.Record Content)) → AreFrom os rs → Each IsSomeRecord rs
-some_from [] [] from = tt
-some_from [] (r ∷ rs) from = absurd from
-some_from (o ∷ os) [] from = absurd from
-some_from (None ∷ os) (r ∷ rs) from = ((from.0).2, some_from os rs from.1)
-some_from (Some over ∷ os) (r ∷ rs) from = ((from.0).1, some_from os rs from.1)
-
 -- the first of them have the first sources, and the others the others
 from_front : (os : List (Option EntryAddress)) (rs ts : List (model_record.Record Content)) → AreFrom os (rs ++ ts) → AreFrom (padded (length rs) os) rs
 from_front os [] ts from = tt
@@ -75,44 +56,31 @@ from_back [] (r ∷ rs) ts from = absurd from
 from_back (o ∷ os) (r ∷ rs) ts from = from_back os rs ts from.1
 
 -- the records of one part
-part_enters : (n base : ℕ) (es : List BlobEntryIndex) (ps : List (ℕ × model_record.Record Content)) → n ≤ 2 ^ 32 → AreEntriesOf base es ps → AllEndBy n ps
-    → Each IsSomeRecord (map (λ p. p.1) ps) → AreEntering (map (entering base) es) ps
-part_enters n base [] [] small are ends given = tt
-part_enters n base [] (p ∷ ps) small are ends given = absurd are
-part_enters n base (e ∷ es) [] small are ends given = absurd are
-part_enters n base (e ∷ es) (p ∷ ps) small are ends given =
-    let some : 0 < length (p.1).bytes = given.0 in
-    let above : length (p.1).bytes ≤ page_up (length (p.1).bytes) = page_up-holds (length (p.1).bytes) in
-    let there : p.0 ≡ base + e.offset = are.0 in
-    let room : p.0 + page_up (length (p.1).bytes) ≤ n = ends.0 in
-    let offset : min (base + e.offset) (2 ^ 32 - 1) ≡ p.0 = omega arith in
-    (sym are.1, sym are.2, offset, sym are.3, part_enters n base es ps small are.4 ends.1 given.1)
+part_enters : (base : ℕ) (es : List BlobEntryIndex) (ps : List (ℕ × model_record.Record Content)) → AreEntriesOf base es ps → AreEntering (map (entering base) es) ps
+part_enters base [] [] are = tt
+part_enters base [] (p ∷ ps) are = absurd are
+part_enters base (e ∷ es) [] are = absurd are
+part_enters base (e ∷ es) (p ∷ ps) are = (sym are.1, sym are.2, sym are.0, sym are.3, part_enters base es ps are.4)
 
 module _ {A : Type 0} where
-  pub enters : (n : ℕ) (ps : List (BlobPart A)) (qs : List (Part Content)) → n ≤ 2 ^ 32 → ArePartsAs ps qs → AllEndBy n (records_in qs)
-      → Each IsSomeRecord (map (λ p. p.1) (records_in qs)) → AreEntering (entering_of ps) (records_in qs)
-  enters n [] [] small are ends given = tt
-  enters n [] (q ∷ qs) small are ends given = absurd are
-  enters n (p ∷ ps) [] small are ends given = absurd are
-  enters n (p ∷ ps) (q ∷ qs) small are ends given =
-      let both : Each IsSomeRecord (map (λ r. r.1) q.records ++ map (λ r. r.1) (records_in qs)) = subst (Each IsSomeRecord) (map-append (λ r. r.1) q.records (records_in qs)) given in
+  pub enters : (ps : List (BlobPart A)) (qs : List (Part Content)) → ArePartsAs ps qs → AreEntering (entering_of ps) (records_in qs)
+  enters [] [] are = tt
+  enters [] (q ∷ qs) are = absurd are
+  enters (p ∷ ps) [] are = absurd are
+  enters (p ∷ ps) (q ∷ qs) are =
       entering-join (map (entering p.blob_block_offset) p.indices.items) (entering_of ps) q.records (records_in qs)
-      (part_enters n p.blob_block_offset p.indices.items q.records small (are.0).records (end_front n q.records (records_in qs) ends)
-      (each_front IsSomeRecord (map (λ r. r.1) q.records) (map (λ r. r.1) (records_in qs)) both))
-      (enters n ps qs small are.1 (end_back n q.records (records_in qs) ends)
-      (each_back IsSomeRecord (map (λ r. r.1) q.records) (map (λ r. r.1) (records_in qs)) both))
+      (part_enters p.blob_block_offset p.indices.items q.records (are.0).records) (enters ps qs are.1)
 
-  pub writes_are : (rules : Rules Content) (n : ℕ) (ps : List (BlobPart A)) (qs : List (Part Content)) → AreRules rules → n ≤ 2 ^ 32 → ArePartsAs ps qs
-      → Each (λ q. q.blob + q.at + length q.content ≤ n) qs → map write_of (writes_of ps) ≡ writes_in rules qs
-  writes_are rules n [] [] rule small are within = refl
-  writes_are rules n [] (q ∷ qs) rule small are within = absurd are
-  writes_are rules n (p ∷ ps) [] rule small are within = absurd are
-  writes_are rules n (p ∷ ps) (q ∷ qs) rule small are within =
+  pub writes_are : (rules : Rules Content) (ps : List (BlobPart A)) (qs : List (Part Content)) → AreRules rules → ArePartsAs ps qs
+      → map write_of (writes_of ps) ≡ writes_in rules qs
+  writes_are rules [] [] rule are = refl
+  writes_are rules [] (q ∷ qs) rule are = absurd are
+  writes_are rules (p ∷ ps) [] rule are = absurd are
+  writes_are rules (p ∷ ps) (q ∷ qs) rule are =
       let one = are.0 in
-      let end : q.blob + q.at + length q.content ≤ n = within.0 in
-      let offset : min (p.blob_block_offset + p.part_blob_offset) (2 ^ 64 - 1) ≡ q.blob + q.at = omega (arith, one.blob, one.at) in
-      let rest : map write_of (writes_of ps) ≡ writes_in rules qs = writes_are rules n ps qs rule small are.1 within.1 in
-      ap (λ ws. data_at (min (p.blob_block_offset + p.part_blob_offset) (2 ^ 64 - 1)) (bytes_of p.part_data) ∷ index_at p.blob_block_offset p.index ∷ ws) rest
+      let offset : p.blob_block_offset + p.part_blob_offset ≡ q.blob + q.at = omega (arith, one.blob, one.at) in
+      let rest : map write_of (writes_of ps) ≡ writes_in rules qs = writes_are rules ps qs rule are.1 in
+      ap (λ ws. data_at (p.blob_block_offset + p.part_blob_offset) (bytes_of p.part_data) ∷ index_at p.blob_block_offset p.index ∷ ws) rest
       ∙ ap (λ k. data_at k (bytes_of p.part_data) ∷ index_at p.blob_block_offset p.index ∷ writes_in rules qs) offset
       ∙ ap (λ bs. data_at (q.blob + q.at) bs ∷ index_at p.blob_block_offset p.index ∷ writes_in rules qs) (sym one.content)
       ∙ ap (λ k. data_at (q.blob + q.at) q.content ∷ index_at k p.index ∷ writes_in rules qs) (sym one.blob)
@@ -161,12 +129,11 @@ module _ {A : Type 0} where
         → Each (LiesWithin s.block_size) layouts → AreFrom old.sources.items (records_of layouts) → IsIssued m rules s b issued new it
     first_issued [] same are within given = absurd are
     first_issued (layout ∷ rest) same are within given =
-        let parts : Each IsSomeRecord (map (λ p. p.1) (records_in layout.parts)) = each_front IsSomeRecord (map (λ p. p.1) (records_in layout.parts)) (records_of rest) (some_from old.sources.items (map (λ p. p.1) (records_in layout.parts) ++ records_of rest) given) in
         let entered : AreEntering (entering_of (is.first).blob_parts.items) (records_in layout.parts) =
-        enters s.block_size (is.first).blob_parts.items layout.parts small are.0 (within.0).records parts in
+        enters (is.first).blob_parts.items layout.parts are.0 in
         let count : length (map (λ p. p.1) (records_in layout.parts)) ≡ length (entering_of (is.first).blob_parts.items) = sym (entering_count (entering_of (is.first).blob_parts.items) (records_in layout.parts) entered) in
         let writes : map write_of issued ≡ writes_in rules layout.parts =
-        ap (map write_of) is.writes ∙ writes_are rules s.block_size (is.first).blob_parts.items layout.parts rule small are.0 (within.0).parts in
+        ap (map write_of) is.writes ∙ writes_are rules (is.first).blob_parts.items layout.parts rule are.0 in
         record {
           spread = layout;
           rest = rest;

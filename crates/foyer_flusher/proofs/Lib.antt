@@ -6,5 +6,6 @@ pub mod FlushLemmas
 pub mod IssueLemmas
 pub mod LoggedLemmas
 pub mod NextLemmas
+pub mod OffsetLemmas
 pub mod TakenLemmas
 pub mod WroteLemmas

@@ -1,6 +1,7 @@
 -- The outcome of the log of deletes, as the model notes it.
 use Rattle.std.proofs.Common.{◌≡◌, ℕ, Bool, Option, Some, refl, sym, subst}
 use Rattle.foyer_block.specs.Index.{IndexMap}
+use Rattle.foyer_layout.specs.Each.{Each}
 use Rattle.foyer_model.specs.Flush.{Logs}
 use Rattle.foyer_model.specs.Receive.{turned}
 use Rattle.foyer_model.specs.Reply as model_reply
@@ -14,6 +15,7 @@ use Rattle.foyer_sets.specs.Managed.{Managed}
 use Rattle.foyer_standing.proofs.SetsLemmas.{managed_kept, same_blocks, leaves_all, reclaims_all}
 use Rattle.foyer_flusher.specs.FlusherSteps.{StandsAt, FlusherStep}
 use Rattle.foyer_flusher.specs.Flushing.{IsBatchAs}
+use Rattle.foyer_flusher.specs.Offsets.{BlockFits}
 use Rattle.foyer_flusher.specs.Seen.{Seen}
 use Rattle.foyer_flusher.specs.declared.batch.Batch.{Batch}
 use Rattle.foyer_flusher.proofs.FlushLemmas.{batched}
@@ -21,9 +23,9 @@ use Rattle.foyer_flusher.proofs.WroteLemmas.{batch_put}
 
 module _ {K V P A : Type 0} (m : Meaning K V P) (s : Settings) where
   -- the log's answer is this one
-  answer_put : (own : Option ℕ) (batch : Batch K V P A) (p : model_state.Batch Content) (answer : Option Bool) → IsBatchAs m s own batch p
-      → IsBatchAs m s own (record batch { logged = answer }) (record p { logged = answer })
-  answer_put own batch p answer are = record {
+  answer_put : (own : Option ℕ) (batch : Batch K V P A) (p : model_state.Batch Content) (answer : Option Bool) (fits : Each BlockFits batch.blocks.items)
+      → IsBatchAs m s own batch p → IsBatchAs m s own (record batch { logged = answer; fits = fits }) (record p { logged = answer })
+  answer_put own batch p answer fits are = record {
     blocks = are.blocks;
     within = are.within;
     given = are.given;
@@ -39,9 +41,9 @@ module _ {K V P A : Type 0} (m : Meaning K V P) (s : Settings) where
 
   -- a batch's outcome is noted
   pub noted : (sound : AreValid s) (f : ℕ) (it : model_state.State Content) (φ : Seen K V P A) (slots : IndexMap) (blocks : Managed) → StandsAt m s f it φ slots blocks
-      → (batch : Batch K V P A) → φ.batch ≡ Some batch → (ok : Bool)
-      → FlusherStep m s sound (model_step.LogWrote f ok) f it model_reply.Done (record φ { batch = Some (record batch { logged = Some ok }) }) slots blocks
-  noted sound f it φ slots blocks stands batch is ok =
+      → (batch : Batch K V P A) → φ.batch ≡ Some batch → (ok : Bool) → (fits : Each BlockFits batch.blocks.items)
+      → FlusherStep m s sound (model_step.LogWrote f ok) f it model_reply.Done (record φ { batch = Some (record batch { logged = Some ok; fits = fits }) }) slots blocks
+  noted sound f it φ slots blocks stands batch is ok fits =
       let got = batched m s φ.own φ.batch (it.flushers f).batch (stands.flusher).batch batch is in
       let p : model_state.Batch Content = record got.0 { logged = Some ok } in
       let after : model_state.Flusher Content = record (it.flushers f) { batch = Some p } in
@@ -50,7 +52,7 @@ module _ {K V P A : Type 0} (m : Meaning K V P) (s : Settings) where
         does = subst (λ q. Logs (machine m s sound) it f ok q model_reply.Done (turned (machine m s sound) it f after)) (sym got.1) refl;
         flusher = after;
         flushers = refl;
-        it = batch_put m s φ (it.flushers f) (record batch { logged = Some ok }) p stands.flusher (answer_put φ.own batch got.0 (Some ok) got.2);
+        it = batch_put m s φ (it.flushers f) (record batch { logged = Some ok; fits = fits }) p stands.flusher (answer_put φ.own batch got.0 (Some ok) fits got.2);
         queue = refl;
         index = stands.index;
         manager = managed_kept s f it blocks after (record { own = refl; ready = refl }) stands.manager;

@@ -1,5 +1,5 @@
 -- What is issued of a block: its writes, and the records that enter the index when they are done.
-use Rattle.std.specs.Prelude.{ℕ, ◌+◌, ◌-◌, ◌^◌, min, List, [], ◌∷◌, ◌++◌, map}
+use Rattle.std.specs.Prelude.{ℕ, ◌+◌, List, [], ◌∷◌, ◌++◌, map}
 use Rattle.foyer_block.specs.declared.indexer.HashedEntryAddress.{HashedEntryAddress}
 use Rattle.foyer_blob.specs.declared.blob.BlobEntryIndex.{BlobEntryIndex}
 use Rattle.foyer_buffer.specs.declared.split.BlobPart.{BlobPart}
@@ -13,7 +13,7 @@ use Rattle.foyer_flusher.specs.declared.batch.WriteBytes.TheVariants.{Data, Inde
 abbrev pub entering : ℕ → BlobEntryIndex → HashedEntryAddress
 entering blob e = record {
   hash = e.hash;
-  address = record { block = 0; offset = min (blob + e.offset) (2 ^ 32 - 1); len = e.len; sequence = e.sequence; filling = 0 };
+  address = record { block = 0; offset = blob + e.offset; len = e.len; sequence = e.sequence; filling = 0 };
 }
 
 module _ {A : Type 0} where
@@ -31,7 +31,7 @@ module _ {A : Type 0} where
   abbrev pub writes_of : List (BlobPart A) → List (Write A)
   writes_of [] = []
   writes_of (p ∷ ps) =
-      record { offset = min (p.blob_block_offset + p.part_blob_offset) (2 ^ 64 - 1); bytes = Data p.part_data }
+      record { offset = p.blob_block_offset + p.part_blob_offset; bytes = Data p.part_data }
       ∷ record { offset = p.blob_block_offset; bytes = Index p.index } ∷ writes_of ps
 
   -- whether records or an index are written

@@ -11,5 +11,6 @@ pub mod Idle
 pub mod Issued
 pub mod Issuing
 pub mod Leaving
+pub mod Offsets
 pub mod Seen
 pub mod Taking

@@ -1,6 +1,8 @@
 //! A flusher's batch, its writes, and what a flusher answers of them.
 ghost use Rattle.std.specs.Prelude.{◌≡◌, [], Option, None, Some, true, false, length, MatchOption};
 ghost use Rattle.foyer_flusher.specs.Issuing.{written_bytes};
+ghost use Rattle.foyer_flusher.specs.Offsets.{BlockFits, blocks_fit_once};
+ghost use Rattle.foyer_layout.specs.Each.{Each};
 
 use foyer_block::indexer::{EntryAddress, HashedEntryAddress};
 use foyer_block::manager::BlockId;
@@ -70,6 +72,7 @@ pub struct Batch<K, V, P, A: Allocator> {
     pub waits: Vec<u64, A>,
     /// Whether the log of deletes took the marks, once it has answered.
     pub logged: Option<bool>,
+    ghost fits: { Each BlockFits blocks.items } by { blocks_fit_once blocks.items },
 }
 
 /// The next block of a batch.
@@ -133,7 +136,7 @@ impl<K, V, P, A: Allocator> Batch<K, V, P, A> {
     pub(crate) fn drop_rest(&mut self)
         ensures none { self.new.blocks.items ≡ [] }
         ensures no_sources { self.new.sources.items ≡ [] }
-        ensures rest { self.new ≡ record self.old { blocks = self.new.blocks; sources = self.new.sources; continues_own_block = false } }
+        ensures rest { self.new ≡ record self.old { blocks = self.new.blocks; sources = self.new.sources; continues_own_block = false; fits = self.new.fits } }
     {
         self.blocks.clear();
         self.sources.clear();

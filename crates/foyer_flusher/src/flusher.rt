@@ -1,5 +1,5 @@
 //! A flusher: what waits in its queue, what it received, and the batch that it writes.
-ghost use Rattle.std.specs.Prelude.{◌≡◌, ◌≢◌, ◌+◌, ◌*◌, ◌↔◌, ◌<◌, ◌≤◌, ℕ, Option, None, Some, IsSomeAnd, IsTrue, true, false, length, MatchOption, IsOkUnless};
+ghost use Rattle.std.specs.Prelude.{◌≡◌, ◌≢◌, ◌+◌, ◌*◌, ◌^◌, ◌↔◌, ◌<◌, ◌≤◌, ℕ, Option, None, Some, IsSomeAnd, IsTrue, true, false, length, MatchOption, IsOkUnless};
 ghost use Rattle.std.specs.Prelude.{IfErr, IfOk, OnErr, OnOk};
 ghost use Rattle.foyer_block.specs.Index.{IndexMap};
 ghost use Rattle.foyer_buffer.specs.Entries.{left_of};
@@ -64,6 +64,7 @@ pub struct Flusher<K, V, P, A: Allocator> {
     pub own: Option<BlockId>,
     pub batch: Option<Batch<K, V, P, A>>,
     ghost fits: { context.sizes.index + filled.greatest ≤ context.sizes.block },
+    ghost small: { context.sizes.block ≤ 2 ^ 32 },
 }
 
 impl<K, V, P, A: Allocator> Flusher<K, V, P, A> {

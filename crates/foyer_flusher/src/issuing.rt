@@ -2,6 +2,8 @@
 ghost use Rattle.std.specs.Prelude.{◌≡◌, ◌≢◌, ◌<◌, None, MatchOption, ◌+◌, ◌*◌, ◌≤◌, ◌++◌, [], map, drop, length, OnOk, IfOk, IfErr, vec_len, vec_capacity};
 ghost use Rattle.foyer_device.specs.declared.error.Error.{Error as error};
 ghost use Rattle.foyer_flusher.specs.Issuing.{entering, entering_of, writes_of};
+ghost use Rattle.foyer_flusher.specs.Offsets.{BlockFits, EntryFits};
+ghost use Rattle.foyer_layout.specs.Each.{Each};
 ghost use Rattle.foyer_flusher.specs.Issued.{IsReady, IssuesFirst, padded, source_in};
 
 use crate::batch::{Batch, Write, WriteBytes, Writing};
@@ -14,14 +16,15 @@ use std::collections::VecDeque;
 
 // A record of a blob, by its offset in the block, whose number isn't known yet.
 fn entering(blob: usize, entry: &BlobEntryIndex) -> HashedEntryAddress
+    requires { EntryFits blob entry.now }
     ensures { result ≡ entering blob entry.now }
 {
-    let offset = blob.saturating_add(entry.offset as usize);
+    let offset = blob + entry.offset as usize;
     HashedEntryAddress {
         hash: entry.hash,
         address: EntryAddress {
             block: 0,
-            offset: offset.min(u32::MAX as usize) as u32,
+            offset: offset as u32,
             len: entry.len,
             sequence: entry.sequence,
             filling: 0,
@@ -35,6 +38,7 @@ fn enter_part<A: Allocator>(
     blob: usize,
     entries: &[BlobEntryIndex],
 ) -> Result<()>
+    requires { Each (EntryFits blob) entries.now }
     ensures entered { OnOk result (records.new.items ≡ records.old.items ++ map (entering blob) entries.now) }
     ensures memory { IfErr result (λ e. e ≡ error.Memory) }
 {
@@ -49,6 +53,7 @@ fn records_of<A: Allocator + Clone>(
     alloc: &A,
     block: &Block<A>,
 ) -> Result<Vec<HashedEntryAddress, A>>
+    requires { BlockFits block.now }
     ensures records { IfOk result (λ v. v.items ≡ entering_of block.now.blob_parts.items) }
     ensures memory { IfErr result (λ e. e ≡ error.Memory) }
 {
@@ -103,6 +108,7 @@ fn drop_sources<A: Allocator>(sources: &mut VecDeque<Option<EntryAddress>, A>, c
 
 // The writes of a block, in room that was made for them; nothing is copied.
 fn writes_of<A: Allocator>(writes: Vec<Write<A>, A>, block: Block<A>) -> Vec<Write<A>, A>
+    requires fits { BlockFits block }
     requires none { writes.items ≡ [] }
     requires room { vec_len writes + 2 * vec_len block.blob_parts ≤ vec_capacity writes }
     ensures { result.items ≡ writes_of block.blob_parts.items }
@@ -117,7 +123,7 @@ fn writes_of<A: Allocator>(writes: Vec<Write<A>, A>, block: Block<A>) -> Vec<Wri
             ..
         } = part;
         issued.push_reserved(Write {
-            offset: blob_block_offset.saturating_add(part_blob_offset),
+            offset: blob_block_offset + part_blob_offset,
             bytes: WriteBytes::Data(part_data),
         });
         issued.push_reserved(Write {
@@ -171,7 +177,7 @@ impl<K, V, P, A: Allocator + Clone> Batch<K, V, P, A> {
         };
         let records = records_of(alloc, block)?;
         let sources = first_sources(alloc.clone()?, &self.sources, records.len())?;
-        let room = block.blob_parts.len().saturating_mul(2);
+        let room = 2 * block.blob_parts.len();
         let writes = Vec::with_capacity(alloc.clone()?, room)?;
         Ok(Prepared {
             records,

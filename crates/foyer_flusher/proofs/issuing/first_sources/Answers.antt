@@ -1,4 +1,4 @@
-use Rattle.std.proofs.Common.{◌≡◌, ◌+◌, ◌-◌, ◌<◌, ◌≤◌, ◌++◌, ◌∷◌, [], drop, vec_len, vec_capacity, sym, ap, subst, ◌∙◌, arith}
+use Rattle.std.proofs.Common.{◌≡◌, ◌+◌, ◌-◌, ◌<◌, ◌≤◌, ◌++◌, ◌∷◌, [], drop, vec_len, vec_capacity, sym, ap, ◌∙◌, arith}
 use Rattle.foyer_flusher.specs.Issued.{padded, source_in}
 use Rattle.foyer_flusher.proofs.IssueLemmas.{padded_next, put_behind}
 use Rattle.foyer_flusher.proofs.issuing.first_sources.Goals as goal

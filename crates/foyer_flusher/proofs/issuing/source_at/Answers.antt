@@ -1,4 +1,4 @@
-use Rattle.std.proofs.Common.{◌≡◌, ◌<◌, ◌≤◌, length, None, false, true, refl, sym, arith}
+use Rattle.std.proofs.Common.{◌≡◌, false, true, refl, arith}
 use Rattle.foyer_flusher.proofs.IssueLemmas.{source_some, source_none}
 use Rattle.foyer_flusher.proofs.issuing.source_at.Goals as goal
 

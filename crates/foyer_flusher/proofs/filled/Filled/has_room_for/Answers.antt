@@ -1,7 +1,6 @@
-use Rattle.std.proofs.Common.{◌≡◌, ◌≤◌, ◌<◌, ap, arith}
+use Rattle.std.proofs.Common.{ap, arith}
 use Rattle.std.specs.Prelude.{IsTrue, false}
 use Rattle.foyer_layout.proofs.PageLaws.{page_up-holds, page_up-fewest}
-use Rattle.foyer_layout.specs.Page.{page_up}
 use Rattle.foyer_flusher.specs.Filled.{HasRoomFor}
 use Rattle.foyer_flusher.proofs.filled.Filled.has_room_for.Goals.{then-len-eq0-via-then-len-eq0, then-len-eq0-via-else-len-eq0+then-self-len}
 use Rattle.foyer_flusher.proofs.filled.Filled.has_room_for.Goals as goal

@@ -1,7 +1,13 @@
 use Rattle.std.proofs.Common.{◌≡◌, [], None, Some, refl, ap, ◌∙◌}
 use Rattle.foyer_buffer.specs.Entries.{Entries}
+use Rattle.foyer_flusher.proofs.OffsetLemmas.{refit, split_fits}
 use Rattle.foyer_flusher.specs.declared.batch.Batch.{Batch}
 use Rattle.foyer_flusher.proofs.flusher.Flusher.begin.Goals as goal
+
+pub invariant_of-batch : goal.invariant_of-batch
+invariant_of-batch g c =
+    let old = c.args.self.now in
+    record { fits = split_fits old.filled old.context.sizes old.context.filling c.split.new.ctx.filling c.in_ok-blocks.field-0 old.fits old.small c.in_ok-blocks.ensures.split }
 
 pub returns-clause-begins : goal.returns-clause-begins
 returns-clause-begins g c =
@@ -17,9 +23,10 @@ returns-clause-begins g c =
       pieces = c.replace-4.result;
       waits = c.replace-5.result;
       logged = None;
+      fits = split_fits old.filled old.context.sizes old.context.filling c.split.new.ctx.filling c.in_ok-blocks.field-0 old.fits old.small c.in_ok-blocks.ensures.split;
     } in
     let filled : c.reset.new.self ≡ record old.filled { entries = [] } = c.reset.ensures ∙ ap (λ (b : Entries). record b { entries = [] }) c.split.ensures.same in
-    let batch : c.replace-6.new.self ≡ Some all = c.replace-6.ensures.after in
+    let batch : c.replace-6.new.self ≡ Some all = refit all.fits c.replace-6.ensures.after in
     let no_sources : c.replace.new.dest.items ≡ [] = (λ j. (c.replace.ensures.after j).items) ∙ c.new.ensures.items in
     let no_marks : c.replace-2.new.dest.items ≡ [] = (λ j. (c.replace-2.ensures.after j).items) ∙ c.new-2.ensures.items in
     let no_invalid : c.replace-3.new.dest.items ≡ [] = (λ j. (c.replace-3.ensures.after j).items) ∙ c.new-3.ensures.items in
