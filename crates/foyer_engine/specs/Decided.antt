@@ -7,6 +7,7 @@ use Rattle.foyer_engine.specs.declared.engine.Load.TheVariants as load
 use Rattle.foyer_engine.specs.Loading.{is_of}
 
 -- the keeper's piece, else the engine's answer, of which one with another key is a miss
-abbrev pub decided_load : {K V P A : Type 0} → (K → K → Bool) → K → Option (Record K V P) → Load K V P A → Load K V P A
+abbrev pub decided_load : {K V P A : Type 0}
+    → (K → K → Bool) → K → Option (Record K V P) → Load K V P A → Load K V P A
 decided_load eq key (Some piece) answer = load.Piece piece (record { age = age.Young })
 decided_load eq key None answer = if is_of eq key answer then answer else load.Miss

@@ -48,8 +48,8 @@ impl Moves {
     }
 }
 
-/// A count of moves, which threads share by reference. A thread remembers the count, tries its step, and waits for a move
-/// since where it couldn't: so no move between the two is missed. Each call takes the bell's lock alone.
+/// A count of moves, which threads share by reference. A thread remembers the count, tries its step, and where it can't
+/// it waits for a move since: so none between the two is missed. Each call takes the bell's lock, and no other.
 #[derive(Drop)]
 pub struct Bell {
     moves: Mutex<Moves>,

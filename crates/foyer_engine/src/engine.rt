@@ -87,8 +87,8 @@ fn is_of<K: Eq, V, P, A: Allocator>(answer: &Load<K, V, P, A>, key: &K) -> bool
     }
 }
 
-/// What a store's load of a key gives: the keeper's piece, where there is one, as `Piece` of age `Young`; else the engine's
-/// answer, of which one with another key is `Miss`.
+/// What a store's load of a key gives: the keeper's piece, where there is one, as `Piece` of age `Young`; else the
+/// engine's answer, of which one with another key is `Miss`.
 pub fn decide<K: Eq + Drop, V: Drop, P: Drop, A: Allocator>(
     key: &K,
     kept: Option<Piece<K, V, P, A>>,
