@@ -5,7 +5,7 @@ ghost use Rattle.foyer_recover.specs.Recovery.{marks_of};
 ghost use Rattle.foyer_recover.specs.declared.block.recover.RecoverMode.TheVariants as recover_mode;
 ghost use Rattle.foyer_rules.specs.Sizes.{AreValid};
 ghost use Rattle.foyer_run.specs.Begun.{IsBegun};
-ghost use Rattle.foyer_serve.specs.OpenedFiles.{AreBlockFiles};
+ghost use Rattle.foyer_serve.specs.OpenedFiles.{AreBlockFiles, IsOpenedOver};
 ghost use Rattle.foyer_serve.specs.Texts.{plain};
 
 use crate::answer::name_of;
@@ -103,6 +103,13 @@ pub fn open_directory<R, A>(
 where
     R: Files<File = File> + AllocGlobal,
     A: Allocator + Clone,
+    ensures begins { IfOk result (λ engine. (sound : AreValid settings) → IsOpenedOver plain settings sound
+        ⟦<Partitions<PsyncIoEngine<R::A>, FsPartition, A> as Disk>⟧.byte_at
+        ⟦<Partitions<PsyncIoEngine<R::A>, FsPartition, A> as Disk>⟧.surely_has
+        ⟦<Partitions<PsyncIoEngine<R::A>, FsPartition, A> as Disk>⟧.is_known
+        (λ d. d.blocks.items) ⟦<FsPartition as Partition>⟧.bytes ⟦<FsPartition as Partition>⟧.extent
+        mode engine.core engine.disk) }
+    ensures log { IfOk result (λ engine. IsSome engine.log ↔ (settings.tombstone_log ≡ true)) }
 {
     let builder = FsDeviceBuilder::new(directory).with_capacity(capacity);
     let parts = open_parts(rt, alloc, builder, 0, capacity, settings)?;
