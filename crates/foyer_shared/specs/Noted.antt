@@ -1,0 +1,32 @@
+-- What lies behind the lock, and what a session has.
+use Rattle.std.specs.Prelude.{◌≡◌, ℕ, Bool, true, false, List, [], ◌∷◌, ◌++◌, length, map, Option, Some, None}
+use Rattle.std.specs.Option.{option_map}
+use Rattle.foyer_core.specs.declared.state.Core.{Core}
+use Rattle.foyer_rules.specs.Content.{Meaning}
+use Rattle.foyer_shared.specs.Briefs.{brief_of}
+use Rattle.foyer_shared.specs.History.{IsLegal, Made}
+use Rattle.foyer_shared.specs.declared.brief.Brief.{Brief}
+
+abbrev pub noted : {K V P A : Type 0} → Made K V P A → Brief
+noted x = brief_of x.step x.reply
+
+-- notes that are kept are those of the history
+abbrev pub AreNotesOf : {K V P A : Type 0} → List (Made K V P A) → Option (List Brief) → Type 0
+AreNotesOf run None = Unit {0}
+AreNotesOf run (Some notes) = notes ≡ map noted run
+
+-- Some history leads from an opening to the core, has as many steps as were counted, and is the one of the notes.
+pub record IsNoted {K V P A : Type 0} (m : Meaning K V P) (core : Core K V P A) (notes : Option (List Brief)) (calls : ℕ) : Type 0 where
+  pub run : List (Made K V P A)
+  pub legal : IsLegal m run core
+  pub count : calls ≡ length run
+  pub kept : AreNotesOf run notes
+
+-- one note more, where notes are kept
+abbrev pub and_note : Brief → Option (List Brief) → Option (List Brief)
+and_note x notes = option_map (λ xs. xs ++ x ∷ []) notes
+
+-- before the first step
+abbrev pub notes_at_first : Bool → Option (List Brief)
+notes_at_first false = None
+notes_at_first true = Some []

@@ -1,0 +1,8 @@
+//! A core behind one lock, and the sessions that ask it.
+#![tactic(auto)]
+
+pub mod brief;
+pub mod locked;
+pub mod notes;
+pub mod session;
+pub mod shared;

@@ -1,0 +1,227 @@
+//! The core, what it is lent, and what is noted of its steps, as they lie behind the lock.
+ghost use Rattle.foyer_device.specs.declared.error.Error.TheVariants.{Memory};
+ghost use Rattle.foyer_rules.specs.Content.{meaning};
+ghost use Rattle.foyer_shared.specs.Behind.{HasRoom, kept_notes};
+ghost use Rattle.foyer_shared.specs.Noted.{IsNoted, and_note, notes_at_first};
+ghost use Rattle.std.specs.Prelude.{◌≡◌, ◌≢◌, IfErr, IfOk, IsOkUnless, OnOk, None};
+
+use crate::brief::{Brief, ReplyBrief, StepBrief};
+use crate::notes::Notes;
+use crate::session::Session;
+use foyer_block::tombstone::Tombstone;
+use foyer_blockio::disk::Disk;
+use foyer_core::apply::Env;
+use foyer_core::open::RecoverMode;
+use foyer_core::reply::Reply;
+use foyer_core::settings::Settings;
+use foyer_core::state::Core;
+use foyer_core::step::Step;
+use foyer_device::error::Result;
+use foyer_filter::StorageFilterCondition;
+use foyer_format::serde::{Code, Properties};
+use foyer_sets::block::eviction::EvictionPicker;
+use std::alloc::Allocator;
+use std::sync::ledger::{Blank, Book, Ledger};
+
+/// A core with what it is lent at each step, the number of steps that were made, and, where they are kept, their notes.
+#[derive(Drop)]
+pub struct Locked<L, K, V, P, A, E, C>
+where
+    L: Ledger,
+    K: Code<A>,
+    V: Code<A>,
+    P: Properties + Drop,
+    A: Allocator,
+    E: EvictionPicker,
+    C: StorageFilterCondition,
+{
+    pub(crate) core: Core<K, V, P, A>,
+    pub(crate) env: Env<E, C>,
+    pub(crate) notes: Option<Notes<A>>,
+    pub(crate) calls: Book<L>,
+    ghost noted: { ∥ IsNoted (meaning K.encoding V.encoding K.is_encodable V.is_encodable K.is_decodable V.is_decodable P.age)
+        core (kept_notes notes) calls.total ∥₁ },
+}
+
+// No note yet, where notes are kept.
+fn first_notes<A: Allocator + Clone>(alloc: &A, keeps_notes: bool) -> Result<Option<Notes<A>>>
+    ensures none { IfOk result (λ notes. kept_notes notes ≡ notes_at_first keeps_notes) }
+    ensures refused { IsOkUnless result Memory }
+{
+    if !keeps_notes {
+        return Ok(None);
+    }
+    let notes = Notes::new(alloc.clone()?)?;
+    Ok(Some(notes))
+}
+
+// Makes room for one note more, where notes are kept.
+fn reserve<A: Allocator + Clone>(notes: &mut Option<Notes<A>>) -> Result<()>
+    ensures room { OnOk result (HasRoom notes.new) }
+    ensures same { kept_notes notes.new ≡ kept_notes notes.old }
+    ensures kept { IfErr result (λ e. (e ≡ Memory) × (kept_notes notes.old ≢ None)) }
+{
+    match notes {
+        Some(notes) => notes.reserve(),
+        None => Ok(()),
+    }
+}
+
+// Keeps one note more, where notes are kept.
+fn note<A: Allocator + Clone>(notes: &mut Option<Notes<A>>, brief: Brief)
+    requires { HasRoom notes.old }
+    ensures { kept_notes notes.new ≡ and_note brief (kept_notes notes.old) }
+{
+    if let Some(notes) = notes {
+        notes.push(brief);
+    }
+}
+
+impl<L, K, V, P, A, E, C> Locked<L, K, V, P, A, E, C>
+where
+    L: Ledger,
+    K: Code<A> + Drop,
+    V: Code<A> + Drop,
+    P: Properties + Drop,
+    A: Allocator + Clone,
+    E: EvictionPicker,
+    C: StorageFilterCondition,
+{
+    ghost use Rattle.std.specs.Prelude.{◌⊎◌, ◌+◌, ◌<◌, ℕ, List, [], ◌∷◌, ◌++◌, Some, Result, length, option_map};
+    ghost use Rattle.std.specs.declared.vec.Vec.{Vec};
+    ghost use Rattle.foyer_core.specs.Answered.{HandsBack, Describes, IsPicked, MayFail};
+    ghost use Rattle.foyer_core.specs.Opened.{IsOpenedFrom};
+    ghost use Rattle.foyer_core.specs.Refines.{Refines};
+    ghost use Rattle.foyer_core.specs.Scanning.{IsJudged};
+    ghost use Rattle.foyer_core.specs.Showing.{HaveLearned, IsShown};
+    ghost use Rattle.foyer_core.specs.declared.reply.Reply.TheVariants as reply;
+    ghost use Rattle.foyer_core.specs.declared.step.Step.TheVariants as steps;
+    ghost use Rattle.foyer_device.specs.declared.error.Error.{Error};
+    ghost use Rattle.foyer_device.specs.declared.error.Error.TheVariants.{Config, Recover, SequenceEnd};
+    ghost use Rattle.foyer_recover.specs.Recovery.{marks_of};
+    ghost use Rattle.foyer_recover.specs.declared.block.recover.RecoverMode.TheVariants as recover_mode;
+    ghost use Rattle.foyer_rules.specs.Sizes.{AreValid};
+    ghost use Rattle.foyer_sets.specs.Shown.{evictable_below};
+    ghost use Rattle.foyer_shared.specs.Briefs.{brief_of};
+    ghost use Rattle.foyer_shared.specs.Chunks.{all_of};
+    ghost use Rattle.foyer_shared.specs.History.{IsLegal, Made};
+
+    /// Opens a core as `Core::open` does, with the session that has all parts. Where `keeps_notes` is set the notes of all
+    /// steps are kept, which take memory as long as the core is there. `Memory` also where an allocator's clone is refused.
+    pub fn open<D: Disk>(
+        alloc: A,
+        mut env: Env<E, C>,
+        settings: Settings,
+        disk: &mut D,
+        mode: RecoverMode,
+        marks: &[Tombstone],
+        keeps_notes: bool,
+        blank: Blank,
+    ) -> Result<(Locked<L, K, V, P, A, E, C>, Session<L>)>
+        requires name { blank.name ≡ L.name }
+        requires parts { blank.parts ≡ L.parts }
+        ensures opened { IfOk result (λ r. IsOpenedFrom settings (D.byte_at disk.old) (D.surely_has disk.old) mode (marks_of marks.now)
+            ((mode ≡ recover_mode.None) ⊎ D.is_known disk.old) r.0.core) }
+        ensures fresh { IfOk result (λ r. (r.0.calls.total ≡ 0) × (kept_notes r.0.notes ≡ notes_at_first keeps_notes)) }
+        ensures session { IfOk result (λ r. (r.1.share.parts ≡ L.parts) × (r.1.share.amount ≡ 0) × (r.1.newest ≡ None) × (r.1.before ≡ None)) }
+        ensures shown { IfOk result (λ r. HaveLearned E.begins E.learns settings.blocks settings.block_size
+            (evictable_below r.0.core.manager.blocks (length r.0.core.manager.blocks)) env.pickers.items r.0.env.pickers.items) }
+        ensures sound { IfOk result (λ _. AreValid settings) }
+        ensures refused { IfErr result (λ e. (e ≡ Memory) ⊎ ((e ≡ Config) × (AreValid settings → ⊥))
+            ⊎ ((e ≡ Recover) × (mode ≡ recover_mode.Strict)) ⊎ ((e ≡ SequenceEnd) × (mode ≡ recover_mode.None → marks.now ≢ []))) }
+        ensures known { D.is_known disk.old → D.is_known disk.new }
+        ensures same { D.byte_at disk.new ≡ D.byte_at disk.old }
+        ensures has { (b o n : ℕ) → D.surely_has disk.old b o n → D.surely_has disk.new b o n }
+    {
+        let notes = first_notes(&alloc, keeps_notes)?;
+        let core = Core::open(alloc, &mut env, settings, disk, mode, marks)?;
+        let (calls, share) = blank.open::<L>();
+        let locked = Locked {
+            core,
+            env,
+            notes,
+            calls,
+        };
+        let session = Session {
+            share,
+            newest: None,
+            before: None,
+        };
+        Ok((locked, session))
+    }
+
+    /// Applies a step as `Core::apply` does, notes it, and counts it with the session's share; the session's newest brief is
+    /// then that of the step and of this very reply. Where notes are kept and memory for one is refused, the step comes back
+    /// and nothing changed.
+    pub fn step(
+        &mut self,
+        session: &mut Session<L>,
+        step: Step<K, V, P, A>,
+    ) -> std::result::Result<Reply<K, V, P, A>, Step<K, V, P, A>>
+        requires { 0 < session.old.share.parts }
+        ensures back { IfOk result (λ answer. HandsBack step answer self.old.core self.new.core) }
+        ensures issued { IfOk result (λ answer. Describes K.is_decodable V.is_decodable K.encoding V.encoding
+            step answer self.old.core self.new.core) }
+        ensures meets { IfOk result (λ answer. Refines
+            (meaning K.encoding V.encoding K.is_encodable V.is_encodable K.is_decodable V.is_decodable P.age)
+            step answer self.old.core self.new.core) }
+        ensures history { IfOk result (λ answer. (run : List (Made K V P A))
+            → IsLegal (meaning K.encoding V.encoding K.is_encodable V.is_encodable K.is_decodable V.is_decodable P.age) run self.old.core
+            → IsLegal (meaning K.encoding V.encoding K.is_encodable V.is_encodable K.is_decodable V.is_decodable P.age)
+            (run ++ record { step = step; reply = answer } ∷ []) self.new.core) }
+        ensures failed { IfOk result (λ answer. answer ≡ reply.Failed → MayFail step self.old.core) }
+        ensures picks { step ≡ steps.ReclaimBegin → IfOk result (λ answer.
+            IsPicked E.answer E.marks self.old.env.pickers.items answer self.old.core self.new.core) }
+        ensures judged { (block : ℕ) (came : Result (Vec ℕ A) Error) → step ≡ steps.ReclaimRead block came
+            → IfOk result (λ answer. IsJudged C.may_answer self.old.env.reinsertion self.old.env.io block came answer self.old.core) }
+        ensures shown { IfOk result (λ answer. IsShown E.learns E.forgets step answer self.old.core self.new.core.manager
+            self.old.env.pickers.items self.new.env.pickers.items) }
+        ensures lent { (self.new.env.reinsertion ≡ self.old.env.reinsertion) × (self.new.env.io ≡ self.old.env.io) }
+        ensures noted { IfOk result (λ answer. (kept_notes self.new.notes ≡ and_note (brief_of step answer) (kept_notes self.old.notes))
+            × (session.new.newest ≡ Some (brief_of step answer)) × (session.new.before ≡ session.old.newest)) }
+        ensures counted { OnOk result ((self.new.calls.total ≡ self.old.calls.total + 1) × (session.new.share.amount ≡ session.old.share.amount + 1)
+            × (session.new.share.parts ≡ session.old.share.parts)) }
+        ensures roomless { IfErr result (λ given. (given ≡ step) × (session.new ≡ session.old) × (kept_notes self.old.notes ≢ None)
+            × (self.new.core ≡ self.old.core) × (self.new.env ≡ self.old.env) × (self.new.calls.total ≡ self.old.calls.total)
+            × (kept_notes self.new.notes ≡ kept_notes self.old.notes)) }
+    {
+        if reserve(&mut self.notes).is_err() {
+            return Err(step);
+        }
+        let asked = StepBrief::of(&step);
+        let reply = self.core.apply(&mut self.env, step);
+        let brief = Brief {
+            step: asked,
+            reply: ReplyBrief::of(&reply),
+        };
+        note(&mut self.notes, brief);
+        self.calls.add(&mut session.share, 1);
+        session.note(brief);
+        Ok(reply)
+    }
+
+    /// The core, which its steps alone change.
+    pub fn core(&self) -> &Core<K, V, P, A>
+        ensures { result.now ≡ self.now.core }
+    {
+        &self.core
+    }
+
+    /// The notes of all steps, where they are kept.
+    pub fn notes(&self) -> Option<&Notes<A>>
+        ensures { option_map (λ n. all_of n.now.full.items n.now.last.items) result ≡ kept_notes self.now.notes }
+    {
+        self.notes.as_ref()
+    }
+
+    /// Whoever has all parts knows how many steps were made.
+    pub fn audit(&mut self, all: &mut Session<L>)
+        requires { all.old.share.parts ≡ L.parts }
+        ensures count { self.new.calls.total ≡ all.new.share.amount }
+        ensures same { (self.new.core ≡ self.old.core) × (self.new.env ≡ self.old.env) × (kept_notes self.new.notes ≡ kept_notes self.old.notes) }
+        ensures session { (all.new.share.parts ≡ all.old.share.parts) × (all.new.share.amount ≡ all.old.share.amount)
+            × (all.new.newest ≡ all.old.newest) × (all.new.before ≡ all.old.before) }
+    {
+        self.calls.audit(&mut all.share);
+    }
+}
