@@ -1,0 +1,5 @@
+//! Tests of a core behind its lock.
+#![tactic(auto)]
+
+#[cfg(test)]
+mod tests;

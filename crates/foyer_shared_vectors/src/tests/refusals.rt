@@ -1,0 +1,60 @@
+//! Allocations that are refused, one after the other.
+ghost use Rattle.std.specs.Prelude.{◌≡◌, ◌^◌};
+
+use super::{opened, step_of};
+use foyer_core::reply::Reply;
+use foyer_device::error::{Error, ErrorKind, Result};
+use foyer_format_vectors::refusing::Refusing;
+use foyer_shared::shared::Shared;
+use std::alloc::Global;
+use std::marker::Brand;
+use std::sync::Wait;
+use std::sync::ledger::{Blank, Ledger};
+use std::test::Fail;
+
+// Asks whether a hash is indexed, which takes no memory but a note's. Whether that was refused; Config where a refused step
+// left a brief, or one that was made left none.
+fn is_note_refused<L: Ledger>(
+    rt: &impl Wait,
+    heap: &Refusing<Global>,
+    global: Global,
+    blank: Blank,
+) -> Result<bool>
+    requires { (blank.name ≡ L.name) × (blank.parts ≡ L.parts) × (L.parts ≡ 2 ^ 32) }
+{
+    let (locked, mut session) = opened::<L, &Refusing<Global>>(&heap, global, true, blank)?;
+    let shared = Shared::new(locked);
+    let step = step_of(&heap, b'm', b'1')?;
+    let is_refused = match shared.step(rt, &mut session, step) {
+        Reply::Answer(false) => false,
+        Reply::Refused(ErrorKind::Memory, _) => true,
+        _ => return Err(Error::Config),
+    };
+    let [newest, _before] = session.last();
+    if newest.is_none() != is_refused {
+        return Err(Error::Config);
+    }
+    Ok(is_refused)
+}
+
+#[test]
+fn a_step_whose_note_finds_no_room_leaves_no_brief(
+    rt: HostRuntime,
+) -> std::result::Result<(), Fail> {
+    let mut refused = 0u32;
+    for n in 1..200 {
+        let heap = Refusing::new(rt.alloc(), n);
+        let answer = is_note_refused::<Brand>(&rt, &heap, rt.alloc(), Blank::new(1 << 32));
+        if !heap.has_refused() {
+            assert!(rt; answer == Ok(false));
+            assert!(rt; refused > 0);
+            return Ok(());
+        }
+        // Else the core wasn't opened.
+        if answer != Err(Error::Memory) {
+            assert!(rt; answer == Ok(true), "allocation {n}");
+            refused = refused.saturating_add(1);
+        }
+    }
+    Err(Fail::new("the script makes more allocations"))
+}
