@@ -98,9 +98,9 @@ where
     ghost use Rattle.foyer_core.specs.declared.step.Step.TheVariants as steps;
     ghost use Rattle.foyer_device.specs.declared.error.Error.{Error};
     ghost use Rattle.foyer_device.specs.declared.error.Error.TheVariants.{Config, Recover, SequenceEnd};
-    ghost use Rattle.foyer_recover.specs.Recovery.{marks_of};
+    ghost use Rattle.foyer_recover.specs.Recovery.{IsRefused, marks_of};
     ghost use Rattle.foyer_recover.specs.declared.block.recover.RecoverMode.TheVariants as recover_mode;
-    ghost use Rattle.foyer_rules.specs.Sizes.{AreValid};
+    ghost use Rattle.foyer_rules.specs.Sizes.{AreValid, sizes_in};
     ghost use Rattle.foyer_sets.specs.Shown.{evictable_below};
     ghost use Rattle.foyer_shared.specs.Briefs.{brief_of};
     ghost use Rattle.foyer_shared.specs.Chunks.{all_of};
@@ -129,6 +129,9 @@ where
         ensures sound { IfOk result (λ _. AreValid settings) }
         ensures refused { IfErr result (λ e. (e ≡ Memory) ⊎ ((e ≡ Config) × (AreValid settings → ⊥))
             ⊎ ((e ≡ Recover) × (mode ≡ recover_mode.Strict)) ⊎ ((e ≡ SequenceEnd) × (mode ≡ recover_mode.None → marks.now ≢ []))) }
+        ensures cause { AreValid settings → (mode ≡ recover_mode.None) ⊎ D.is_known disk.old → IfErr result
+            (IsRefused (sizes_in settings) settings.blocks (D.byte_at disk.old) (D.surely_has disk.old) mode (marks_of marks.now)) }
+        ensures unread { mode ≡ recover_mode.None → disk.new ≡ disk.old }
         ensures known { D.is_known disk.old → D.is_known disk.new }
         ensures same { D.byte_at disk.new ≡ D.byte_at disk.old }
         ensures has { (b o n : ℕ) → D.surely_has disk.old b o n → D.surely_has disk.new b o n }
