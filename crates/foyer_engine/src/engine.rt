@@ -54,7 +54,11 @@ impl<K: Drop, V: Drop, P: Drop, A: Allocator> Load<K, V, P, A> {
         ensures { result ≡ kv_of self }
     {
         match self {
-            Load::Entry { key, value, .. } => Some((key, value)),
+            Load::Entry {
+                key,
+                value,
+                populated: _,
+            } => Some((key, value)),
             _ => None,
         }
     }

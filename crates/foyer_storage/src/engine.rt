@@ -204,9 +204,7 @@ where
         requires { 0 < session.old.share.parts }
         ensures { IsAnsweredAs enqueued_as session.old session.new (asked.Enqueue piece.hash) result }
     {
-        let reply = self
-            .shared
-            .step(rt, session, Step::Enqueue { piece, size });
+        let reply = self.shared.step(rt, session, Step::Enqueue { piece, size });
         self.bell.ring(rt);
         enqueued_of(reply)
     }
@@ -223,12 +221,7 @@ where
     }
 
     /// Whether a hash is indexed. `Memory` only where notes are kept, and one finds no room.
-    pub fn may_contains(
-        &self,
-        rt: &impl Wait,
-        session: &mut Session<L>,
-        hash: u64,
-    ) -> Result<bool>
+    pub fn may_contains(&self, rt: &impl Wait, session: &mut Session<L>, hash: u64) -> Result<bool>
         requires { 0 < session.old.share.parts }
         ensures { IsAnsweredAs asked_as session.old session.new (asked.MayContains hash) result }
     {
