@@ -35,7 +35,7 @@ from program import BINARY, HEAD_BYTES, INDEX, PAGE, Program, describe, max_leng
 
 IDLE, QUEUED, FLUSH = "idle", "queued", "in a flush"
 BLOCKS = (16 << 10, 64 << 10, 1 << 20, 4 << 20, 4 << 20)
-# No put is ignored below what may be queued.
+# No put is dropped below what may be queued.
 ROUND_BYTES = 15 << 20
 KEYS = 200
 
@@ -73,6 +73,7 @@ class Directory:
         self.shown = {}
         self.queued = collections.defaultdict(list)
         self.deleted = set()
+        self.too_great = set()
 
     # --- lines ---
 
@@ -105,6 +106,9 @@ class Directory:
             self.puts[key].append(put)
             self.queued[key].append(put)
             self.deleted.discard(key)
+            self.too_great.discard(key)
+        else:
+            self.too_great.add(key)
         return stored_bytes(put.length)
 
     def delete(self, program):
@@ -128,6 +132,10 @@ class Directory:
             self.newest[key] = puts[-1]
             if key not in self.deleted:
                 self.shown[key] = puts[-1]
+        # A text that is too great deletes its key when it is received; what it deleted may be found again by an opening.
+        for key in self.too_great:
+            self.shown.pop(key, None)
+        self.too_great.clear()
         self.queued.clear()
 
     def wait(self, program):
@@ -202,6 +210,7 @@ class Directory:
         self.figures["flushes cut in two"] += has_newer and has_older
         self.queued.clear()
         self.deleted.clear()
+        self.too_great.clear()
         self.shown = {key: put for key, put in self.newest.items() if put}
 
 

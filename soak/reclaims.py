@@ -8,11 +8,11 @@ same lines each time. It prints one line of figures, and on the first wrong answ
 Exit status: 0 when all held, 1 for a wrong answer or exit status of the program, 2 for bad arguments.
 
 Checked is:
-- a put is `ignored` exactly where the puts queued since the last `wait` sum to more than 16 MiB (8 bytes for the key and
+- a put is `deleted` exactly where the puts queued since the last `wait` sum to more than 16 MiB (8 bytes for the key and
   8 for the length beside each text), else `queued`; `wait`, `del` and `close` are `ok`; the exit status is 0;
 - a `get` answers the newest text that a `wait` wrote, byte for byte, or `miss`: never a text that is still queued, that
-  was too great for a block, or that a `del` came after. What was missed once stays missed until it is put and written
-  again;
+  was too great for a block, or that a `del` or a put that was `deleted` came after; nor, after a `wait`, one that a text
+  too great for a block came after. What was missed once stays missed until it is put and written again;
 - what must be there is not missed. With N blocks one is clean after a `wait` that was `ok`, and one is being written; so
   N - 2 are full. A block is left where the next record doesn't fit in it, with the index that would begin for it. So two
   blocks that were filled one after the other hold more than a block less two indices, and less one index in 171 pages for
@@ -125,7 +125,7 @@ class Answers:
         # Of each key what a get may answer: the put's number, its length, and where the record begins among all bytes
         # of records.
         self.written = {}
-        # The same of what was put since the last wait.
+        # The same of what was put since the last wait; None for a text that is too great.
         self.queued = {}
         self.queued_bytes = 0
         self.record_bytes = 0
@@ -157,15 +157,18 @@ class Answers:
 
     def put(self, answer, key, count, length):
         self.figures["puts"] += 1
-        wanted = b"ignored" if self.queued_bytes > QUEUE_BYTES else b"queued"
+        wanted = b"deleted" if self.queued_bytes > QUEUE_BYTES else b"queued"
         if answer != wanted:
             raise Wrong(f"put {count} of key {key} with {self.queued_bytes} bytes queued was answered {describe(answer)}")
-        if answer == b"ignored":
-            self.figures["ignored"] += 1
+        if answer == b"deleted":
+            self.figures["dropped"] += 1
+            self.queued.pop(key, None)
+            self.forget(key)
             return
         self.queued_bytes += length + QUEUED_BYTES
         if length > self.max_length:
             self.figures["too great"] += 1
+            self.queued[key] = None
             return
         self.queued[key] = (count, length, self.record_bytes)
         self.record_bytes += stored_bytes(length)
@@ -197,6 +200,9 @@ class Answers:
     def delete(self, key):
         self.figures["deletes"] += 1
         self.queued.pop(key, None)
+        self.forget(key)
+
+    def forget(self, key):
         put = self.written.pop(key, None)
         if put:
             self.deleted_bytes[put[2] // self.block] += stored_bytes(put[1])
@@ -204,7 +210,11 @@ class Answers:
 
     def wait(self):
         self.figures["waits"] += 1
-        self.written.update(self.queued)
+        for key, put in self.queued.items():
+            if put:
+                self.written[key] = put
+            else:
+                self.forget(key)
         self.queued.clear()
         self.queued_bytes = 0
         if self.batch_deletes:
@@ -242,7 +252,7 @@ def run(words, directory):
         program.kill()
         said = f"WRONG at line {answers.line}: {wrong}"
     figures = ", ".join(f"{answers.figures[it]} {it}" for it in
-                        ("puts", "ignored", "too great", "waits", "deletes", "entries", "misses", "had to be there"))
+                        ("puts", "dropped", "too great", "waits", "deletes", "entries", "misses", "had to be there"))
     full = answers.record_bytes / (words.blocks * words.block)
     place = "memory" if words.memory else "files"
     print(f"reclaims: seed {words.seed}, {words.blocks} blocks of {words.block} bytes in {place}: {figures}; "

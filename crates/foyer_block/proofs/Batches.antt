@@ -1,16 +1,11 @@
 -- A batch: counted by shard, and inserted in order.
-use Rattle.std.proofs.Common.{◌≡◌, ◌≢◌, ◌⊎◌, inl, inr, ℕ, suc, ◌+◌, ◌<◌, ◌≤◌, ◌%◌, ◌==◌, Bool, true, false, cond, IsSome, Some, List, [], ◌∷◌, ◌++◌, length, take, drop, get_or, slice_set, slice_index, if◌then◌else◌, refl, sym, ap, subst, ◌∙◌, arith}
+use Rattle.std.proofs.Common.{◌≡◌, ◌≢◌, ℕ, ◌+◌, ◌<◌, ◌≤◌, ◌%◌, ◌==◌, Bool, true, false, cond, List, [], ◌∷◌, ◌++◌, length, take, drop, get_or, slice_set, slice_index, if◌then◌else◌, refl, sym, ap, ◌∙◌, arith}
 use Rattle.std.proofs.lemmas.List.{take_more, get_or-set_same, get_or-set_other}
 use Rattle.std.proofs.lemmas.List.Sums.{sum_by-cons, sum_by_push}
 use Rattle.std.proofs.lemmas.Bool.{eqb-true, eqb-false, eq-eqb}
 use Rattle.foyer_block.specs.declared.indexer.HashedEntryAddress.{HashedEntryAddress}
-use Rattle.std.specs.FinMap as map
-use Rattle.foyer_block.specs.declared.indexer.Index.{Index}
-use Rattle.foyer_block.specs.declared.indexer.Index.TheVariants.{Address}
 use Rattle.foyer_block.specs.Index.{IndexMap, belonging}
-use Rattle.foyer_block.specs.Insertion.{entered, inserted, inserted_all, all_left_out, AllHeld}
-use Rattle.foyer_block.specs.Shards.{Shard, map_of, room, HasRoom, TakesOnePlace}
-use Rattle.foyer_block.proofs.Indexed.{get-inserted}
+use Rattle.foyer_block.specs.Insertion.{inserted_all, all_left_out}
 
 belonging-push : (n i : ℕ) (es : List HashedEntryAddress) (e : HashedEntryAddress) → belonging n i (es ++ e ∷ []) ≡ belonging n i es + cond (e.hash % n == i) 1 0
 belonging-push n i es e = sum_by_push (λ e. cond (e.hash % n == i) 1 0) es e
@@ -51,42 +46,3 @@ pub record Midway (m : IndexMap) (batch : List HashedEntryAddress) (now : IndexM
   pub inserted : inserted_all now (drop i left) ≡ inserted_all m batch
   pub answered : take answers left ++ all_left_out now (drop i left) ≡ all_left_out m batch
   pub behind : answers ≤ i
-
--- what a hash has stays something when another is inserted
-still_held : (m : IndexMap) (hash : ℕ) (next : Index) (q : ℕ) → IsSome (map.get m q) → IsSome (map.get (inserted m hash next) q)
-still_held m hash next q some = subst IsSome (sym (get-inserted m hash next q)) (go (q == hash))
-  where
-    go : (b : Bool) → IsSome (cond b (Some (entered (map.get m hash) next)) (map.get m q))
-    go true = refl
-    go false = some
-
--- what an insertion of a batch needs: room for it, or that nothing of it is new
-abbrev pub GoesIn : ℕ → List Shard → List HashedEntryAddress → Type 0
-GoesIn n shards es = HasRoom n shards es ⊎ AllHeld (map_of shards) es
-
--- then its first entry goes in
-pub first_goes_in : (n : ℕ) (shards : List Shard) (e : HashedEntryAddress) (es : List HashedEntryAddress) → n ≡ length shards → 0 < n
-    → GoesIn n shards (e ∷ es) → (0 < room shards (e.hash % length shards)) ⊎ IsSome (map.get (map_of shards) e.hash)
-first_goes_in n shards e es len some (inl fits) = inl (subst (λ l. 0 < room shards (e.hash % l)) len (omega (arith, enough, more)))
-  where
-    enough : belonging n (e.hash % n) (e ∷ es) ≤ room shards (e.hash % n)
-    enough = fits (e.hash % n) (omega (arith, some))
-
-    more : belonging n (e.hash % n) (e ∷ es) ≡ 1 + belonging n (e.hash % n) es
-    more = belonging-cons n (e.hash % n) e es ∙ ap (λ b. cond b 1 0 + belonging n (e.hash % n) es) (eq-eqb (e.hash % n) (e.hash % n) refl)
-first_goes_in n shards e es len some (inr held) = inr (held 0 e (omega arith))
-
--- and the others still do
-pub rest_goes_in : (n : ℕ) (old new : List Shard) (e : HashedEntryAddress) (es : List HashedEntryAddress) → n ≡ length old
-    → map_of new ≡ inserted (map_of old) e.hash (Address e.address) → TakesOnePlace old new e.hash → GoesIn n old (e ∷ es) → GoesIn n new es
-rest_goes_in n old new e es len is takes (inl fits) = inl (λ i lt. fit i (fits i lt) (belonging-cons n i e es)
-    (subst (λ l. room old i ≤ room new i + cond (e.hash % l == i) 1 0) (sym len) (takes i)))
-  where
-    fit : (i : ℕ) → belonging n i (e ∷ es) ≤ room old i → belonging n i (e ∷ es) ≡ cond (e.hash % n == i) 1 0 + belonging n i es
-        → room old i ≤ room new i + cond (e.hash % n == i) 1 0 → belonging n i es ≤ room new i
-    fit i = go (cond (e.hash % n == i) 1 0) (belonging n i (e ∷ es)) (belonging n i es) (room old i) (room new i)
-      where
-        go : (k a b x y : ℕ) → a ≤ x → a ≡ k + b → x ≤ y + k → b ≤ y
-        go k a b x y = λ p q r. omega (arith, p, q, r)
-rest_goes_in n old new e es len is takes (inr held) =
-    inr (subst (λ m. AllHeld m es) (sym is) (λ k d lt. still_held (map_of old) e.hash (Address e.address) (get_or es k d).hash (held (suc k) d (omega (arith, lt)))))

@@ -1,21 +1,16 @@
 -- A batch whose records enter in order, some of them over the address that they were read from.
-use Rattle.std.proofs.Common.{◌≡◌, ◌⊎◌, inl, inr, ℕ, zero, suc, ◌+◌, ◌<◌, ◌≤◌, ◌%◌, ◌==◌, Bool, true, false, cond, IsSome, IsTrue, ◌↔◌, Option, Some, None, List, [], ◌∷◌, length, drop, get_or, if◌then◌else◌, refl, sym, ap, subst, ◌∙◌, arith}
-use Rattle.std.proofs.lemmas.Bool.{eq-eqb}
+use Rattle.std.proofs.Common.{◌≡◌, ℕ, zero, suc, ◌+◌, ◌<◌, ◌≤◌, Bool, true, false, IsSome, IsTrue, ◌↔◌, Option, Some, None, List, [], ◌∷◌, length, drop, get_or, if◌then◌else◌, refl, sym, ap, subst, ◌∙◌, arith}
 use Rattle.std.specs.Bool.{OnTrue, OnFalse}
 use Rattle.std.specs.Prelude.{is_some, MatchOption}
-use Rattle.std.specs.Cmp.{nat_cmp_total, unsigned_tied}
 use Rattle.std.specs.FinMap as map
-use Rattle.std.specs.FinMap.{get-insert}
-use Rattle.std.proofs.lemmas.List.Sums.{sum_by-cons}
 use Rattle.foyer_block.specs.declared.indexer.EntryAddress.{EntryAddress}
 use Rattle.foyer_block.specs.declared.indexer.HashedEntryAddress.{HashedEntryAddress}
 use Rattle.foyer_block.specs.declared.indexer.Index.TheVariants.{Address}
 use Rattle.foyer_block.specs.Committing.{is_put, committed_one, PiecesHeld}
-use Rattle.foyer_block.specs.Index.{IndexMap, belonging}
-use Rattle.foyer_block.specs.Insertion.{entered}
+use Rattle.foyer_block.specs.Index.{IndexMap}
 use Rattle.foyer_block.specs.Removal.{has_address}
-use Rattle.foyer_block.specs.Shards.{Shard, map_of, room, HasRoom, TakesOnePlace}
-use Rattle.foyer_block.proofs.Indexed.{get-inserted, has_address-is, has_address-itself}
+use Rattle.foyer_block.specs.Shards.{source_at}
+use Rattle.foyer_block.proofs.Indexed.{has_address-is, has_address-itself}
 
 -- a replacement, by what it answers
 pub replaces : (m new : IndexMap) (e : HashedEntryAddress) (over : EntryAddress) (done : Bool)
@@ -35,63 +30,11 @@ replaces m new e over done is does stays = go done refl (has_address (map.get m 
         absurd (let clash : false ≡ true = sym d ∙ done_is in cc)
     go false d false h = (subst (λ t. OnFalse t (new ≡ m)) d stays ∙ ap (λ t. if t then map.insert m e.hash (Address e.address) else m) (sym h), d ∙ sym h)
 
--- what a batch needs: room for it, or that no hash of a piece's record is new
-abbrev pub GoesIn : ℕ → List Shard → List HashedEntryAddress → List (Option EntryAddress) → Type 0
-GoesIn n shards es os = HasRoom n shards es ⊎ PiecesHeld (map_of shards) es os
-
-belonging-cons : (n i : ℕ) (e : HashedEntryAddress) (es : List HashedEntryAddress) → belonging n i (e ∷ es) ≡ cond (e.hash % n == i) 1 0 + belonging n i es
-belonging-cons n i e es = sum_by-cons (λ e. cond (e.hash % n == i) 1 0) e es
-
--- then its first record goes in
-pub first_goes : (n : ℕ) (shards : List Shard) (e : HashedEntryAddress) (es : List HashedEntryAddress) (o : Option EntryAddress) (os : List (Option EntryAddress)) → n ≡ length shards → 0 < n
-    → GoesIn n shards (e ∷ es) (o ∷ os) → o ≡ None → (0 < room shards (e.hash % length shards)) ⊎ IsSome (map.get (map_of shards) e.hash)
-first_goes n shards e es o os len some (inl fits) none = inl (subst (λ l. 0 < room shards (e.hash % l)) len (omega (arith, enough, more)))
-  where
-    enough : belonging n (e.hash % n) (e ∷ es) ≤ room shards (e.hash % n)
-    enough = fits (e.hash % n) (omega (arith, some))
-
-    more : belonging n (e.hash % n) (e ∷ es) ≡ 1 + belonging n (e.hash % n) es
-    more = belonging-cons n (e.hash % n) e es ∙ ap (λ b. cond b 1 0 + belonging n (e.hash % n) es) (eq-eqb (e.hash % n) (e.hash % n) refl)
-first_goes n shards e es None os len some (inr held) none = inr held.0
-first_goes n shards e es (Some over) os len some (inr held) none = absurd (cc)
-
--- what a hash has stays something
-still_held : (m : IndexMap) (e : HashedEntryAddress) (o : Option EntryAddress) (q : ℕ) → IsSome (map.get m q) → IsSome (map.get (committed_one m e o) q)
-still_held m e None q some = subst IsSome (sym (get-inserted m e.hash (Address e.address) q)) (go (q == e.hash))
-  where
-    go : (b : Bool) → IsSome (cond b (Some (entered (map.get m e.hash) (Address e.address))) (map.get m q))
-    go true = refl
-    go false = some
-still_held m e (Some over) q some = go (has_address (map.get m e.hash) over)
-  where
-    here : (b : Bool) → IsSome (cond b (Some (Address e.address)) (map.get m q))
-    here true = refl
-    here false = some
-
-    go : (t : Bool) → IsSome (map.get (if t then map.insert m e.hash (Address e.address) else m) q)
-    go true = subst IsSome (sym (get-insert nat_cmp_total m e.hash (Address e.address) q ∙ ap (λ b. cond b (Some (Address e.address)) (map.get m q)) (unsigned_tied q e.hash))) (here (q == e.hash))
-    go false = some
-
-all_still : (m : IndexMap) (e : HashedEntryAddress) (o : Option EntryAddress) (es : List HashedEntryAddress) (os : List (Option EntryAddress)) → PiecesHeld m es os → PiecesHeld (committed_one m e o) es os
-all_still m e o [] os held = tt
-all_still m e o (x ∷ xs) [] held = (still_held m e o x.hash held.0, all_still m e o xs [] held.1)
-all_still m e o (x ∷ xs) (None ∷ os) held = (still_held m e o x.hash held.0, all_still m e o xs os held.1)
-all_still m e o (x ∷ xs) (Some over ∷ os) held = all_still m e o xs os held
-
--- and the others still do
-pub rest_goes : (n : ℕ) (old new : List Shard) (e : HashedEntryAddress) (es : List HashedEntryAddress) (o : Option EntryAddress) (os : List (Option EntryAddress)) → n ≡ length old
-    → map_of new ≡ committed_one (map_of old) e o → TakesOnePlace old new e.hash → GoesIn n old (e ∷ es) (o ∷ os) → GoesIn n new es os
-rest_goes n old new e es o os len is takes (inl fits) = inl (λ i lt. fit i (fits i lt) (belonging-cons n i e es)
-    (subst (λ l. room old i ≤ room new i + cond (e.hash % l == i) 1 0) (sym len) (takes i)))
-  where
-    fit : (i : ℕ) → belonging n i (e ∷ es) ≤ room old i → belonging n i (e ∷ es) ≡ cond (e.hash % n == i) 1 0 + belonging n i es
-        → room old i ≤ room new i + cond (e.hash % n == i) 1 0 → belonging n i es ≤ room new i
-    fit i = go (cond (e.hash % n == i) 1 0) (belonging n i (e ∷ es)) (belonging n i es) (room old i) (room new i)
-      where
-        go : (k a b x y : ℕ) → a ≤ x → a ≡ k + b → x ≤ y + k → b ≤ y
-        go k a b x y = λ p q r. omega (arith, p, q, r)
-rest_goes n old new e es None os len is takes (inr held) = inr (subst (λ m. PiecesHeld m es os) (sym is) (all_still (map_of old) e None es os held.1))
-rest_goes n old new e es (Some over) os len is takes (inr held) = inr (subst (λ m. PiecesHeld m es os) (sym is) (all_still (map_of old) e (Some over) es os held))
+-- the source of a record at a place
+pub source_is : (os : List (Option EntryAddress)) (k : ℕ) → k < length os → source_at os k ≡ get_or os k None
+source_is [] k lt = absurd (omega arith)
+source_is (o ∷ os) zero lt = refl
+source_is (o ∷ os) (suc k) lt = source_is os k (omega arith)
 
 -- a list from a place on
 pub from_here : {X : Type 0} (xs : List X) (i : ℕ) (d : X) → i < length xs → drop i xs ≡ get_or xs i d ∷ drop (i + 1) xs

@@ -1,7 +1,12 @@
 pub mod Batches
 pub mod Commits
+pub mod Entries
+pub mod Filling
 pub mod Found
 pub mod Greatest
+pub mod Halving
 pub mod Indexed
+pub mod Merges
 pub mod Removals
 pub mod Rooms
+pub mod Seating

@@ -2,24 +2,23 @@
 use Rattle.std.proofs.Common.{◌≡◌, ℕ, zero, suc, ◌+◌, ◌<◌, ◌≤◌, ◌%◌, ◌==◌, Bool, true, false, Result, Ok, Err, IsOk, OnErr, List, [], ◌∷◌, ◌++◌, map, length, take, drop, slice_index, if◌then◌else◌, refl, sym, ap, subst, ◌∙◌, arith}
 use Rattle.std.proofs.lemmas.Bool.{eqb-true}
 use Rattle.std.proofs.lemmas.List.{length-map}
-use Rattle.std.specs.HashMap.{spare}
 use Rattle.foyer_block.specs.declared.indexer.HashedEntryAddress.{HashedEntryAddress}
 use Rattle.foyer_block.specs.Index.{IndexState, belonging, HasRoomAt, HasRoomFor, KeepsIndex}
-use Rattle.foyer_block.specs.Shards.{Shard, map_of, state_of, room, HasRoom, TakesOnePlace}
+use Rattle.foyer_block.specs.Shards.{Shard, spare_of, map_of, state_of, room, TakesOnePlace}
 
-pub room_is : (shards : List Shard) (i : ℕ) → slice_index (map spare shards) i ≡ room shards i
+pub room_is : (shards : List Shard) (i : ℕ) → slice_index (map spare_of shards) i ≡ room shards i
 room_is [] i = refl
 room_is (shard ∷ shards) zero = refl
 room_is (shard ∷ shards) (suc i) = room_is shards i
 
 -- shards that have at each hash what they had, and no less room
 pub keeps_index : (old new : List Shard) → map_of new ≡ map_of old → length new ≡ length old → ((i : ℕ) → room old i ≤ room new i) → KeepsIndex (state_of old) (state_of new)
-keeps_index old new same len kept = (same, (length-map new spare ∙ len ∙ sym (length-map old spare), λ i. omega (arith, room_is old i, room_is new i, kept i)))
+keeps_index old new same len kept = (same, (length-map new spare_of ∙ len ∙ sym (length-map old spare_of), λ i. omega (arith, room_is old i, room_is new i, kept i)))
 
 -- a hash's shard that has room
 pub has_room_at : (shards : List Shard) (hash : ℕ) → HasRoomAt (state_of shards).rooms hash → 0 < room shards (hash % length shards)
 has_room_at shards hash some =
-    let there : 0 < slice_index (map spare shards) (hash % length shards) = subst (λ n. 0 < slice_index (map spare shards) (hash % n)) (length-map shards spare) some in
+    let there : 0 < slice_index (map spare_of shards) (hash % length shards) = subst (λ n. 0 < slice_index (map spare_of shards) (hash % n)) (length-map shards spare_of) some in
     subst (λ n. 0 < n) (room_is shards (hash % length shards)) there
 
 -- shards that have room for a batch, by its counts
@@ -27,9 +26,9 @@ pub has_room_for : (shards : List Shard) (counts : List ℕ) (n : ℕ) (es : Lis
     → ((i : ℕ) → i < length counts → slice_index counts i ≡ belonging n i es) → HasRoomFor (state_of shards).rooms es
     → (i : ℕ) → i < length counts → slice_index counts i ≤ room shards i
 has_room_for shards counts n es len counted is room i lt =
-    let rooms : length (map spare shards) ≡ length shards = length-map shards spare in
-    let within : i < length (map spare shards) = omega (arith, rooms, counted, lt) in
-    let enough : belonging n i es ≤ slice_index (map spare shards) i = subst (λ k. belonging k i es ≤ slice_index (map spare shards) i) (rooms ∙ sym len) (room i within) in
+    let rooms : length (map spare_of shards) ≡ length shards = length-map shards spare_of in
+    let within : i < length (map spare_of shards) = omega (arith, rooms, counted, lt) in
+    let enough : belonging n i es ≤ slice_index (map spare_of shards) i = subst (λ k. belonging k i es ≤ slice_index (map spare_of shards) i) (rooms ∙ sym len) (room i within) in
     omega (arith, is i lt, enough, room_is shards i)
 
 -- an insertion that was refused came where its shard had no room, so that no shard has less
@@ -67,13 +66,3 @@ refused_without_room r e state shards counts read n es view len counted is same 
     let enough : (i : ℕ) → i < length read → slice_index read i ≤ room shards i =
     subst (λ (k : List ℕ). (i : ℕ) → i < length k → slice_index k i ≤ room shards i) (sym same) (has_room_for shards counts n es len counted is here) in
     let ok = subst IsOk err (fits enough) in cc
-
--- one that succeeds makes the room
-pub room_made : (shards : List Shard) (counts read : List ℕ) (n k : ℕ) (es : List HashedEntryAddress) → n ≡ k → length counts ≡ k
-    → ((i : ℕ) → i < length counts → slice_index counts i ≡ belonging n i es) → read ≡ counts
-    → ((i : ℕ) → i < length read → slice_index read i ≤ room shards i) → HasRoom k shards es
-room_made shards counts read n k es len counted is same made = λ i lt.
-    let there : i < length counts = omega (arith, counted, lt) in
-    let all : (i : ℕ) → i < length counts → slice_index counts i ≤ room shards i = subst (λ (l : List ℕ). (i : ℕ) → i < length l → slice_index l i ≤ room shards i) same made in
-    let belongs : slice_index counts i ≡ belonging k i es = is i there ∙ ap (λ m. belonging m i es) len in
-    subst (λ m. m ≤ room shards i) belongs (all i there)

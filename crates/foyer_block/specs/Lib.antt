@@ -1,6 +1,9 @@
 pub mod Committing
+pub mod Entries
 pub mod Greatest
 pub mod Index
 pub mod Insertion
+pub mod Probe
 pub mod Removal
+pub mod Seats
 pub mod Shards

@@ -1,19 +1,22 @@
 //! The index: what each hash has, an address on the device or the mark of a delete.
-ghost use Rattle.std.specs.Prelude.{◌≡◌, ◌<◌, ◌↔◌, ℕ, List, length, MatchOption, IsTrue};
+ghost use Rattle.std.specs.Prelude.{◌≡◌, ◌<◌, ◌%◌, ◌↔◌, ℕ, List, length, MatchOption, IsTrue};
 ghost use Rattle.std.specs.Prelude.{IfOk, OnOk, OnErr, IsOk, IsSome, IsOkUnless};
 ghost use Rattle.std.specs.Bool.{OnTrue, OnFalse};
 ghost use Rattle.std.specs.FinMap as map;
 ghost use Rattle.foyer_block.specs.Insertion.{displaced, inserted, inserted_all, all_left_out, AllHeld};
 ghost use Rattle.foyer_block.specs.Committing.{committed_all, put_count, PiecesHeld};
+ghost use Rattle.foyer_block.specs.Probe.{HasPlace};
 ghost use Rattle.foyer_block.specs.Removal.{without_addresses, without_marks};
 ghost use Rattle.foyer_block.specs.Index.{address_at, HasRoomAt, HasRoomFor, KeepsIndex};
 ghost use Rattle.foyer_block.specs.Greatest.{IsAbsent, HoldsNewest};
 ghost use Rattle.foyer_block.specs.declared.indexer.HashedEntryAddress.{HashedEntryAddress};
 
 use crate::manager::BlockId;
-use crate::shards;
-use crate::shards::Shard;
+pub use crate::probe::{Probe, search};
+use crate::seats::Seat;
+use crate::shard::Shard;
 use crate::tombstone::Tombstone;
+use crate::{seats, shards};
 use foyer_device::error::{Error, Result};
 use std::alloc::Allocator;
 use std::marker::Model;
@@ -54,12 +57,16 @@ pub struct Indexer<A: Allocator> {
     shards: Vec<Shard<A>, A>,
     // For each shard a count, of use while a batch enters alone.
     counts: Vec<usize, A>,
+    // The seats of a batch, of use while its hashes get their places.
+    seats: Vec<Seat, A>,
+    // Of these the hashes of one shard that have no place yet.
+    news: Vec<u64, A>,
 }
 
 impl<A: Allocator> Model for Indexer<A> {
-    ghost use Rattle.std.specs.Prelude.{◌≡◌, ◌<◌, length};
+    ghost use Rattle.std.specs.Prelude.{◌≡◌, ◌<◌, length, vec_capacity};
     ghost use Rattle.foyer_block.specs.Index.{IndexState, index_state_code};
-    ghost use Rattle.foyer_block.specs.Shards.{state_of};
+    ghost use Rattle.foyer_block.specs.Shards.{state_of, AreFilled};
 
     ghost Value = { IndexState };
 
@@ -68,7 +75,10 @@ impl<A: Allocator> Model for Indexer<A> {
     ghost view = { λ a. state_of a.shards.items };
 
     ghost invariant = { λ a. (0 < length a.shards.items)
-        × (length a.counts.items ≡ length a.shards.items) };
+        × (length a.counts.items ≡ length a.shards.items)
+        × (0 < vec_capacity a.seats)
+        × (0 < vec_capacity a.news)
+        × AreFilled a.shards.items };
 }
 
 impl<A: Allocator + Clone> Indexer<A> {
@@ -80,8 +90,15 @@ impl<A: Allocator + Clone> Indexer<A> {
         ensures refused { IsOkUnless result Error.Memory }
     {
         let counts = shards::zeros(alloc.clone()?, shards)?;
+        let seats = Vec::with_capacity(alloc.clone()?, 1)?;
+        let news = Vec::with_capacity(alloc.clone()?, 1)?;
         let shards = shards::empty(alloc, shards)?;
-        Ok(Indexer { shards, counts })
+        Ok(Indexer {
+            shards,
+            counts,
+            seats,
+            news,
+        })
     }
 
     /// Inserts a mark, and answers the address that doesn't stay. Memory is the only refusal, and comes only where the
@@ -103,12 +120,22 @@ impl<A: Allocator + Clone> Indexer<A> {
         shards::enter(&mut self.shards, hash, Index::Tombstone(sequence))
     }
 
+    /// A look at the shard of that number, with no turns yet: it has the hashes of the index that belong there.
+    pub fn probe(&self, shard: usize) -> Probe<'_>
+        requires { shard < length self.now.rooms }
+        ensures hashes { (hash : ℕ) → HasPlace result.hashes hash
+            ↔ ((hash % length self.now.rooms ≡ shard) × IsSome (map.get self.now.slots hash)) }
+        ensures turns { result.turns ≡ 0 }
+    {
+        self.shards[shard].probe()
+    }
+
     /// The address of a hash. A mark has none.
     pub fn get(&self, hash: u64) -> Option<EntryAddress>
         ensures { result ≡ address_at self.now.slots hash }
     {
         match shards::find(&self.shards, hash) {
-            Some(Index::Address(address)) => Some(*address),
+            Some(Index::Address(address)) => Some(address),
             Some(Index::Tombstone(_)) => None,
             None => None,
         }
@@ -131,9 +158,18 @@ impl<A: Allocator + Clone> Indexer<A> {
     {
         let mut batch = batch;
         shards::count(&mut self.counts, &batch);
-        if let Err(refused) = shards::reserve(&mut self.shards, &self.counts) {
-            if !shards::holds_all(&self.shards, &batch) {
-                return Err(refused);
+        match shards::reserve(&mut self.shards, &self.counts) {
+            Ok(()) => seats::seat_all(
+                &mut self.shards,
+                &mut self.seats,
+                &mut self.news,
+                &batch,
+                &[],
+            ),
+            Err(refused) => {
+                if !shards::holds_all(&self.shards, &batch) {
+                    return Err(refused);
+                }
             }
         }
         let answers = shards::enter_all(&mut self.shards, &mut batch);
@@ -159,9 +195,18 @@ impl<A: Allocator + Clone> Indexer<A> {
         ensures room { HasRoomFor self.old.rooms batch.now → IsOk result }
     {
         shards::count(&mut self.counts, batch);
-        if let Err(refused) = shards::reserve(&mut self.shards, &self.counts) {
-            if !shards::holds_pieces(&self.shards, batch, sources) {
-                return Err(refused);
+        match shards::reserve(&mut self.shards, &self.counts) {
+            Ok(()) => seats::seat_all(
+                &mut self.shards,
+                &mut self.seats,
+                &mut self.news,
+                batch,
+                sources,
+            ),
+            Err(refused) => {
+                if !shards::holds_pieces(&self.shards, batch, sources) {
+                    return Err(refused);
+                }
             }
         }
         Ok(shards::commit_all(&mut self.shards, batch, sources))
@@ -199,14 +244,14 @@ impl<A: Allocator + Clone> Indexer<A> {
     pub fn remove_batch(&mut self, addresses: &[HashedEntryAddress])
         ensures { self.new.slots ≡ without_addresses self.old.slots addresses.now }
     {
-        shards::remove_addresses(&mut self.shards, addresses);
+        shards::remove_addresses(&mut self.shards, &mut self.counts, addresses);
     }
 
     /// Removes each hash of the list that has a mark of that very sequence.
     pub fn remove_marks(&mut self, marks: &[Tombstone])
         ensures { self.new.slots ≡ without_marks self.old.slots marks.now }
     {
-        shards::remove_marks(&mut self.shards, marks);
+        shards::remove_marks(&mut self.shards, &mut self.counts, marks);
     }
 
     /// Removes everything.

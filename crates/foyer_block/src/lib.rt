@@ -3,5 +3,8 @@
 
 pub mod indexer;
 pub mod manager;
+mod probe;
+mod seats;
+mod shard;
 mod shards;
 pub mod tombstone;

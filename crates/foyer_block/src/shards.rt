@@ -1,46 +1,21 @@
 //! The shards of the index: a hash lies in the shard of its number modulo the count of shards.
-ghost use Rattle.std.specs.Prelude.{◌≡◌, ◌<◌, ◌≤◌, ◌+◌, ◌%◌, ◌↔◌, ◌⊎◌, ℕ, None, length, take, slice_index};
+ghost use Rattle.std.specs.Prelude.{◌≡◌, ◌<◌, ◌≤◌, ◌+◌, ◌%◌, ◌↔◌, ℕ, None, [], length, take, slice_index};
 ghost use Rattle.std.specs.Prelude.{EachIndex, IfOk, OnOk, OnErr, IsOk, IsSome, IsOkUnless, IsTrue, MatchOption, is_some, true};
 ghost use Rattle.std.specs.Bool.{OnTrue, OnFalse};
-ghost use Rattle.std.specs.Option.{option_copied};
 ghost use Rattle.std.specs.FinMap as map;
-ghost use Rattle.std.specs.HashMap.{spare};
-ghost use Rattle.foyer_block.specs.Index.{sequence_of, address_of, belonging};
-ghost use Rattle.foyer_block.specs.Insertion.{entered, displaced, inserted};
+ghost use Rattle.foyer_block.specs.Index.{belonging};
+ghost use Rattle.foyer_block.specs.Insertion.{displaced, inserted};
 ghost use Rattle.foyer_block.specs.Insertion.{inserted_all, all_left_out, AllHeld};
 ghost use Rattle.foyer_block.specs.Committing.{is_put, committed_one, committed_all, put_count, PiecesHeld};
 ghost use Rattle.foyer_block.specs.Removal.{without_addresses, without_marks};
-ghost use Rattle.foyer_block.specs.Shards.{held_at, map_of, ChangesAt, HoldsSame};
-ghost use Rattle.foyer_block.specs.Shards.{room, HasRoom, TakesOnePlace};
+ghost use Rattle.foyer_block.specs.Shards.{map_of, Seated, PiecesSeated, Placed, AddsNoPlace, AddsPlaceOf, AreFilled, AreFilledBut};
+ghost use Rattle.foyer_block.specs.Shards.{room, TakesOnePlace};
 
-use crate::indexer::{EntryAddress, HashedEntryAddress, Index, Sequence};
+use crate::indexer::{EntryAddress, HashedEntryAddress, Index};
+use crate::shard::Shard;
 use crate::tombstone::Tombstone;
 use foyer_device::error::{Error, Result};
 use std::alloc::Allocator;
-use std::collections::HashMap;
-use std::hash::{BuildHasherDefault, FoldHasher};
-
-pub(crate) type Shard<A> = HashMap<u64, Index, BuildHasherDefault<FoldHasher>, A>;
-
-impl Index {
-    fn sequence(&self) -> Sequence
-        ensures { result ≡ sequence_of self.now }
-    {
-        match self {
-            Index::Address(address) => address.sequence,
-            Index::Tombstone(sequence) => *sequence,
-        }
-    }
-
-    fn address(&self) -> Option<EntryAddress>
-        ensures { result ≡ address_of self.now }
-    {
-        match self {
-            Index::Address(address) => Some(*address),
-            Index::Tombstone(_) => None,
-        }
-    }
-}
 
 // A number for each shard.
 pub(crate) fn zeros<A: Allocator>(alloc: A, shards: usize) -> Result<Vec<usize, A>>
@@ -53,47 +28,21 @@ pub(crate) fn zeros<A: Allocator>(alloc: A, shards: usize) -> Result<Vec<usize, 
 pub(crate) fn empty<A: Allocator + Clone>(alloc: A, shards: usize) -> Result<Vec<Shard<A>, A>>
     ensures len { IfOk result (λ made. length made.items ≡ shards) }
     ensures empty { IfOk result (λ made. map_of made.items ≡ map.empty) }
+    ensures filled { IfOk result (λ made. AreFilled made.items) }
     ensures refused { IsOkUnless result Error.Memory }
 {
     let mut made = Vec::with_capacity(alloc.clone()?, shards)?;
     for _ in 0..shards {
-        made.push(HashMap::new(alloc.clone()?))?;
+        made.push(Shard::new(alloc.clone()?))?;
     }
     Ok(made)
 }
 
-pub(crate) fn find<A: Allocator>(shards: &[Shard<A>], hash: u64) -> Option<&Index>
+pub(crate) fn find<A: Allocator>(shards: &[Shard<A>], hash: u64) -> Option<Index>
     requires { 0 < length shards.now }
-    ensures { option_copied result ≡ map.get (map_of shards.now) hash }
+    ensures { result ≡ map.get (map_of shards.now) hash }
 {
-    shards[(hash % shards.len() as u64) as usize].get(&hash)
-}
-
-// An insertion into the shard of the hash.
-fn enter_here<A: Allocator + Clone>(
-    shard: &mut Shard<A>,
-    hash: u64,
-    next: Index,
-) -> Result<Option<EntryAddress>>
-    ensures entered { OnOk result
-        (ChangesAt shard.old shard.new hash (Some (entered (held_at shard.old hash) next))) }
-    ensures answer { IfOk result (λ answer. answer ≡ displaced (held_at shard.old hash) next) }
-    ensures err { OnErr result (HoldsSame shard.old shard.new) }
-    ensures refused { IsOkUnless result Error.Memory }
-    ensures succeeds { 0 < spare shard.old → IsOk result }
-    ensures held { IsSome (held_at shard.old hash) → IsOk result }
-    ensures spare { spare shard.old ≤ spare shard.new + 1 }
-{
-    if let Some(held) = shard.get_mut(&hash) {
-        if next.sequence() < held.sequence() {
-            return Ok(next.address());
-        }
-        let before = *held;
-        *held = next;
-        return Ok(before.address());
-    }
-    shard.insert(hash, next)?;
-    Ok(None)
+    shards[(hash % shards.len() as u64) as usize].get(hash)
 }
 
 // An insertion.
@@ -112,26 +61,55 @@ pub(crate) fn enter<A: Allocator + Clone>(
     ensures refused { IsOkUnless result Error.Memory }
     ensures succeeds { 0 < room shards.old.items (hash % length shards.old.items) → IsOk result }
     ensures held { IsSome (map.get (map_of shards.old.items) hash) → IsOk result }
+    ensures seated { Seated shards.old.items hash → IsOk result }
+    ensures kept { (other : ℕ) → Seated shards.old.items other → Seated shards.new.items other }
+    ensures places { AddsPlaceOf shards.old.items shards.new.items hash (IsOk result) }
     ensures room { TakesOnePlace shards.old.items shards.new.items hash }
 {
     let place = (hash % shards.len() as u64) as usize;
-    enter_here(&mut shards[place], hash, next)
+    shards[place].enter(hash, next)
 }
 
-// Removes the hash from its shard where it has just that.
-fn remove_here<A: Allocator>(shard: &mut Shard<A>, hash: u64, held: Index) -> bool
-    ensures answer { IsTrue result ↔ (held_at shard.old hash ≡ Some held) }
-    ensures removed { OnTrue result (ChangesAt shard.old shard.new hash None) }
-    ensures unchanged { OnFalse result (HoldsSame shard.old shard.new) }
+// Leaves the place of the hash vacant where it has just that, and says whether it did.
+fn vacate<A: Allocator>(shards: &mut Vec<Shard<A>, A>, hash: u64, held: Index) -> bool
+    requires { 0 < length shards.old.items }
+    ensures answer { IsTrue result ↔ (map.get (map_of shards.old.items) hash ≡ Some held) }
+    ensures removed { OnTrue result
+        (map_of shards.new.items ≡ map.remove (map_of shards.old.items) hash) }
+    ensures unchanged { OnFalse result (map_of shards.new.items ≡ map_of shards.old.items) }
+    ensures len { length shards.new.items ≡ length shards.old.items }
+    ensures places { AddsNoPlace shards.old.items shards.new.items }
 {
-    let is_held = match shard.get(&hash) {
-        Some(found) => *found == held,
-        None => false,
-    };
-    if is_held {
-        let _ = shard.remove(&hash);
+    let place = (hash % shards.len() as u64) as usize;
+    shards[place].vacate(hash, held)
+}
+
+// Takes the vacant places of the shard at a place away.
+fn sweep<A: Allocator>(shards: &mut Vec<Shard<A>, A>, place: usize)
+    requires { place < length shards.old.items }
+    ensures same { map_of shards.new.items ≡ map_of shards.old.items }
+    ensures len { length shards.new.items ≡ length shards.old.items }
+    ensures places { AddsNoPlace shards.old.items shards.new.items }
+    ensures filled { (hash : ℕ) → Placed shards.new.items place hash → hash % length shards.old.items ≡ place
+        → IsSome (map.get (map_of shards.new.items) hash) }
+{
+    shards[place].sweep();
+}
+
+// Takes the vacant places of the shards away whose count isn't 0.
+fn sweep_counted<A: Allocator>(shards: &mut Vec<Shard<A>, A>, counts: &[usize])
+    requires { length counts.now ≡ length shards.old.items }
+    ensures same { map_of shards.new.items ≡ map_of shards.old.items }
+    ensures len { length shards.new.items ≡ length shards.old.items }
+    ensures places { AddsNoPlace shards.old.items shards.new.items }
+    ensures filled { (i : ℕ) (hash : ℕ) → 0 < slice_index counts.now i → Placed shards.new.items i hash
+        → hash % length shards.new.items ≡ i → IsSome (map.get (map_of shards.new.items) hash) }
+{
+    for (place, count) in counts.iter().enumerate() {
+        if *count > 0 {
+            sweep(shards, place);
+        }
     }
-    is_held
 }
 
 // Removes the hash where it has just that, and says whether it did.
@@ -142,52 +120,65 @@ pub(crate) fn remove<A: Allocator>(shards: &mut Vec<Shard<A>, A>, hash: u64, hel
         (map_of shards.new.items ≡ map.remove (map_of shards.old.items) hash) }
     ensures unchanged { OnFalse result (map_of shards.new.items ≡ map_of shards.old.items) }
     ensures len { length shards.new.items ≡ length shards.old.items }
+    ensures filled { AreFilled shards.old.items → AreFilled shards.new.items }
 {
-    let place = (hash % shards.len() as u64) as usize;
-    remove_here(&mut shards[place], hash, held)
+    let is_held = vacate(shards, hash, held);
+    if is_held {
+        let place = (hash % shards.len() as u64) as usize;
+        sweep(shards, place);
+    }
+    is_held
 }
 
 // Removes each hash of the list that has that very address.
 pub(crate) fn remove_addresses<A: Allocator>(
     shards: &mut Vec<Shard<A>, A>,
+    counts: &mut [usize],
     addresses: &[HashedEntryAddress],
 )
-    requires { 0 < length shards.old.items }
+    requires some { 0 < length shards.old.items }
+    requires counts { length counts.old ≡ length shards.old.items }
     ensures removed { map_of shards.new.items
         ≡ without_addresses (map_of shards.old.items) addresses.now }
     ensures len { length shards.new.items ≡ length shards.old.items }
+    ensures filled { AreFilled shards.old.items → AreFilled shards.new.items }
 {
-    for entry in addresses {
-        let _ = remove(shards, entry.hash, Index::Address(entry.address));
+    if addresses.is_empty() {
+        return;
     }
+    clear_counts(counts);
+    for entry in addresses {
+        if vacate(shards, entry.hash, Index::Address(entry.address)) {
+            let place = (entry.hash % counts.len() as u64) as usize;
+            counts[place] = 1;
+        }
+    }
+    sweep_counted(shards, counts);
 }
 
 // Removes each hash of the list that has a mark of that very sequence.
-pub(crate) fn remove_marks<A: Allocator>(shards: &mut Vec<Shard<A>, A>, marks: &[Tombstone])
-    requires { 0 < length shards.old.items }
+pub(crate) fn remove_marks<A: Allocator>(
+    shards: &mut Vec<Shard<A>, A>,
+    counts: &mut [usize],
+    marks: &[Tombstone],
+)
+    requires some { 0 < length shards.old.items }
+    requires counts { length counts.old ≡ length shards.old.items }
     ensures removed { map_of shards.new.items ≡ without_marks (map_of shards.old.items) marks.now }
     ensures len { length shards.new.items ≡ length shards.old.items }
+    ensures filled { AreFilled shards.old.items → AreFilled shards.new.items }
 {
+    if marks.is_empty() {
+        return;
+    }
+    clear_counts(counts);
     for mark in marks {
-        let _ = remove(shards, mark.hash, Index::Tombstone(mark.sequence));
-    }
-}
-
-// Writes over what the hash has where that is `old`.
-fn replace_here<A: Allocator>(shard: &mut Shard<A>, hash: u64, old: Index, new: Index) -> bool
-    ensures answer { IsTrue result ↔ (held_at shard.old hash ≡ Some old) }
-    ensures replaced { OnTrue result (ChangesAt shard.old shard.new hash (Some new)) }
-    ensures unchanged { OnFalse result (HoldsSame shard.old shard.new) }
-    ensures spare { spare shard.old ≤ spare shard.new + 1 }
-{
-    match shard.get_mut(&hash) {
-        Some(held) if *held == old => {
-            *held = new;
-            true
+        if vacate(shards, mark.hash, Index::Tombstone(mark.sequence)) {
+            let place = (mark.hash % counts.len() as u64) as usize;
+            counts[place] = 1;
         }
-        Some(_) => false,
-        None => false,
     }
+    sweep_counted(shards, counts);
 }
 
 // Writes over what the hash has where that is `old`, and says whether it did.
@@ -203,17 +194,27 @@ pub(crate) fn replace<A: Allocator>(
         (map_of shards.new.items ≡ map.insert (map_of shards.old.items) hash new) }
     ensures unchanged { OnFalse result (map_of shards.new.items ≡ map_of shards.old.items) }
     ensures len { length shards.new.items ≡ length shards.old.items }
-    ensures room { TakesOnePlace shards.old.items shards.new.items hash }
+    ensures places { AddsNoPlace shards.old.items shards.new.items }
+    ensures kept { (other : ℕ) → Seated shards.old.items other → Seated shards.new.items other }
 {
     let place = (hash % shards.len() as u64) as usize;
-    replace_here(&mut shards[place], hash, old, new)
+    shards[place].replace(hash, old, new)
 }
 
 pub(crate) fn clear<A: Allocator>(shards: &mut [Shard<A>])
-    ensures { map_of shards.new ≡ map.empty }
+    ensures empty { map_of shards.new ≡ map.empty }
+    ensures filled { AreFilled shards.new }
 {
     for shard in shards.iter_mut() {
         shard.clear();
+    }
+}
+
+fn clear_counts(counts: &mut [usize])
+    ensures { EachIndex counts.new (λ i. slice_index counts.new i ≡ 0) }
+{
+    for count in counts.iter_mut() {
+        *count = 0;
     }
 }
 
@@ -223,9 +224,7 @@ pub(crate) fn count(counts: &mut [usize], batch: &[HashedEntryAddress])
     ensures { EachIndex counts.new (λ i.
         slice_index counts.new i ≡ belonging (length counts.old) i batch.now) }
 {
-    for count in counts.iter_mut() {
-        *count = 0;
-    }
+    clear_counts(counts);
     for entry in batch {
         let place = (entry.hash % counts.len() as u64) as usize;
         counts[place] += 1;
@@ -244,6 +243,7 @@ pub(crate) fn reserve<A: Allocator + Clone>(
     ensures kept { (i : ℕ) → room shards.old.items i ≤ room shards.new.items i }
     ensures unchanged { map_of shards.new.items ≡ map_of shards.old.items }
     ensures len { length shards.new.items ≡ length shards.old.items }
+    ensures places { AddsNoPlace shards.old.items shards.new.items }
     ensures refused { IsOkUnless result Error.Memory }
 {
     for (place, count) in counts.iter().enumerate() {
@@ -265,18 +265,18 @@ pub(crate) fn holds_all<A: Allocator>(shards: &[Shard<A>], batch: &[HashedEntryA
     true
 }
 
-// Inserts a batch in order, where each shard has room for it or no hash of it is new. The addresses that don't stay are
-// moved to its front, and counted.
+// Inserts a batch in order, whose hashes have their places. The addresses that don't stay are moved to its front, and counted.
 pub(crate) fn enter_all<A: Allocator + Clone>(
     shards: &mut Vec<Shard<A>, A>,
     batch: &mut [HashedEntryAddress],
 ) -> usize
     requires some { 0 < length shards.old.items }
-    requires room { HasRoom (length shards.old.items) shards.old.items batch.old
-        ⊎ AllHeld (map_of shards.old.items) batch.old }
+    requires seated { PiecesSeated shards.old.items batch.old [] }
+    requires filled { AreFilledBut shards.old.items batch.old [] 0 }
     ensures inserted { map_of shards.new.items ≡ inserted_all (map_of shards.old.items) batch.old }
     ensures answers { take result batch.new ≡ all_left_out (map_of shards.old.items) batch.old }
     ensures len { length shards.new.items ≡ length shards.old.items }
+    ensures filled { AreFilled shards.new.items }
 {
     let mut answers = 0;
     for i in 0..batch.len() {
@@ -323,19 +323,19 @@ pub(crate) fn holds_pieces<A: Allocator>(
     true
 }
 
-// A record enters the index, for which there is room. Whether it is a put.
+// A record enters the index, whose hash has its place if it has no source. Whether it is a put.
 fn commit_one<A: Allocator + Clone>(
     shards: &mut Vec<Shard<A>, A>,
     record: &HashedEntryAddress,
     source: Option<EntryAddress>,
 ) -> bool
     requires some { 0 < length shards.old.items }
-    requires goes { source ≡ None → (0 < room shards.old.items (record.now.hash % length shards.old.items))
-        ⊎ IsSome (map.get (map_of shards.old.items) record.now.hash) }
+    requires seated { source ≡ None → Seated shards.old.items record.now.hash }
     ensures committed { map_of shards.new.items ≡ committed_one (map_of shards.old.items) record.now source }
     ensures put { result ≡ is_put (map.get (map_of shards.old.items) record.now.hash) source }
     ensures len { length shards.new.items ≡ length shards.old.items }
-    ensures room { TakesOnePlace shards.old.items shards.new.items record.now.hash }
+    ensures places { AddsPlaceOf shards.old.items shards.new.items record.now.hash (source ≡ None) }
+    ensures kept { (other : ℕ) → Seated shards.old.items other → Seated shards.new.items other }
 {
     match source {
         None => {
@@ -352,8 +352,8 @@ fn commit_one<A: Allocator + Clone>(
     }
 }
 
-// The records of a batch enter the index in order, where each shard has room for them or no hash of one without a source is
-// new. How many are puts.
+// The records of a batch enter the index in order, where the hashes of those without a source have their places. How many are
+// puts.
 pub(crate) fn commit_all<A: Allocator + Clone>(
     shards: &mut Vec<Shard<A>, A>,
     batch: &[HashedEntryAddress],
@@ -361,11 +361,12 @@ pub(crate) fn commit_all<A: Allocator + Clone>(
 ) -> usize
     requires some { 0 < length shards.old.items }
     requires all { length sources.now ≡ length batch.now }
-    requires room { HasRoom (length shards.old.items) shards.old.items batch.now
-        ⊎ PiecesHeld (map_of shards.old.items) batch.now sources.now }
+    requires seated { PiecesSeated shards.old.items batch.now sources.now }
+    requires filled { AreFilledBut shards.old.items batch.now sources.now 0 }
     ensures committed { map_of shards.new.items ≡ committed_all (map_of shards.old.items) batch.now sources.now }
     ensures puts { result ≡ put_count (map_of shards.old.items) batch.now sources.now }
     ensures len { length shards.new.items ≡ length shards.old.items }
+    ensures filled { AreFilled shards.new.items }
 {
     let mut puts = 0usize;
     'each_record: for i in 0..batch.len() {

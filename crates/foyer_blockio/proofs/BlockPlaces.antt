@@ -1,7 +1,9 @@
 -- Where the ranges of blocks lie that stand one behind another.
-use Rattle.std.proofs.Common.{◌≡◌, ◌≢◌, ℕ, ◌+◌, ◌*◌, ◌<◌, ◌≤◌, ◌⊎◌, inl, inr, ⊎_elim, arith, sym, subst, ap}
+use Rattle.std.proofs.Common.{◌≡◌, ◌≢◌, ℕ, ◌+◌, ◌*◌, ◌<◌, ◌≤◌, ◌⊎◌, ◌∙◌, inl, inr, ⊎_elim, arith, sym, subst, ap}
 use Rattle.std.proofs.lemmas.Bool.Decides.{nat_tests}
-use Rattle.std.specs.Prelude.{Bool, true, false, nat_lt, if◌then◌else◌, slice_index, List, length, refl}
+use Rattle.std.proofs.Math.ListN.{get_or}
+use Rattle.std.proofs.lemmas.Option.{slice_get_read}
+use Rattle.std.specs.Prelude.{Bool, true, false, nat_lt, if◌then◌else◌, slice_get, slice_index, Some, List, length, refl}
 use Rattle.std.proofs.Math.Nat.{mul-le-mul_left}
 use Rattle.foyer_blockio.specs.Disk.{IsOutside}
 
@@ -56,3 +58,9 @@ stays_in_block old new size block offset start n is fits others b o out = go (na
     go true e =
         let within : o < size = grind (arith, nat_tests) in
         others (b * size + o) (subst (λ (k : ℕ). (b * size + o < k) ⊎ (k + n ≤ b * size + o)) (sym is) (outside_in_memory size block offset n b o fits within out))
+
+-- the partition that was read at the place of a block
+pub block_found : {P : Type 0} (blocks seen : List P) (n : ℕ) (x : P) → seen ≡ blocks → true ≡ nat_lt n (length seen) → x ≡ get_or seen n x → slice_get blocks n ≡ Some x
+block_found {P} blocks seen n x same there read =
+    let lt : n < length seen = grind (arith, nat_tests) in
+    sym (ap (λ (xs : List P). slice_get xs n) same) ∙ slice_get_read seen (length seen) n x refl lt read

@@ -14,6 +14,7 @@ pub issues_nothing : {K V P A : Type 0} (is_key is_value : List ℕ → Bool) (k
 issues_nothing is_key is_value key_of value_of given (reply.Entry key value age) old new issues = absurd issues
 issues_nothing is_key is_value key_of value_of given (reply.Ignored back) old new issues = absurd issues
 issues_nothing is_key is_value key_of value_of given (reply.Queued sequence) old new issues = absurd issues
+issues_nothing is_key is_value key_of value_of given (reply.Dropped back sequence) old new issues = absurd issues
 issues_nothing is_key is_value key_of value_of given (reply.Deleted sequence) old new issues = absurd issues
 issues_nothing is_key is_value key_of value_of given (reply.Answer answer) old new issues = absurd issues
 issues_nothing is_key is_value key_of value_of given (reply.Read ticket) old new issues = absurd issues
@@ -25,6 +26,7 @@ pub issues_queued : {K V P A : Type 0} (is_key is_value : List ℕ → Bool) (ke
 issues_queued is_key is_value key_of value_of given (reply.Entry key value age) old new issues = absurd issues
 issues_queued is_key is_value key_of value_of given (reply.Ignored back) old new issues = issues
 issues_queued is_key is_value key_of value_of given (reply.Queued sequence) old new issues = issues
+issues_queued is_key is_value key_of value_of given (reply.Dropped back sequence) old new issues = issues
 issues_queued is_key is_value key_of value_of given (reply.Deleted sequence) old new issues = absurd issues
 issues_queued is_key is_value key_of value_of given (reply.Answer answer) old new issues = absurd issues
 issues_queued is_key is_value key_of value_of given (reply.Read ticket) old new issues = absurd issues
@@ -36,6 +38,7 @@ pub issues_deleted : {K V P A : Type 0} (is_key is_value : List ℕ → Bool) (k
 issues_deleted is_key is_value key_of value_of given (reply.Entry key value age) old new issues = absurd issues
 issues_deleted is_key is_value key_of value_of given (reply.Ignored back) old new issues = absurd issues
 issues_deleted is_key is_value key_of value_of given (reply.Queued sequence) old new issues = absurd issues
+issues_deleted is_key is_value key_of value_of given (reply.Dropped back sequence) old new issues = absurd issues
 issues_deleted is_key is_value key_of value_of given (reply.Deleted sequence) old new issues = issues
 issues_deleted is_key is_value key_of value_of given (reply.Answer answer) old new issues = absurd issues
 issues_deleted is_key is_value key_of value_of given (reply.Read ticket) old new issues = absurd issues
@@ -47,6 +50,7 @@ pub issues_looked : {K V P A : Type 0} (is_key is_value : List ℕ → Bool) (ke
 issues_looked is_key is_value key_of value_of given (reply.Entry key value age) old new issues = absurd issues
 issues_looked is_key is_value key_of value_of given (reply.Ignored back) old new issues = absurd issues
 issues_looked is_key is_value key_of value_of given (reply.Queued sequence) old new issues = absurd issues
+issues_looked is_key is_value key_of value_of given (reply.Dropped back sequence) old new issues = absurd issues
 issues_looked is_key is_value key_of value_of given (reply.Deleted sequence) old new issues = absurd issues
 issues_looked is_key is_value key_of value_of given (reply.Answer answer) old new issues = absurd issues
 issues_looked is_key is_value key_of value_of given (reply.Read ticket) old new issues = issues
@@ -58,6 +62,7 @@ pub issues_pair : {K V P A : Type 0} (is_key is_value : List ℕ → Bool) (key_
 issues_pair is_key is_value key_of value_of given (reply.Entry key value age) old new issues = issues
 issues_pair is_key is_value key_of value_of given (reply.Ignored back) old new issues = absurd issues
 issues_pair is_key is_value key_of value_of given (reply.Queued sequence) old new issues = absurd issues
+issues_pair is_key is_value key_of value_of given (reply.Dropped back sequence) old new issues = absurd issues
 issues_pair is_key is_value key_of value_of given (reply.Deleted sequence) old new issues = absurd issues
 issues_pair is_key is_value key_of value_of given (reply.Answer answer) old new issues = absurd issues
 issues_pair is_key is_value key_of value_of given (reply.Read ticket) old new issues = absurd issues
@@ -69,6 +74,7 @@ pub issues_idle : {K V P A : Type 0} (is_key is_value : List ℕ → Bool) (key_
 issues_idle is_key is_value key_of value_of given (reply.Entry key value age) old new issues = absurd issues
 issues_idle is_key is_value key_of value_of given (reply.Ignored back) old new issues = absurd issues
 issues_idle is_key is_value key_of value_of given (reply.Queued sequence) old new issues = absurd issues
+issues_idle is_key is_value key_of value_of given (reply.Dropped back sequence) old new issues = absurd issues
 issues_idle is_key is_value key_of value_of given (reply.Deleted sequence) old new issues = absurd issues
 issues_idle is_key is_value key_of value_of given (reply.Answer answer) old new issues = issues
 issues_idle is_key is_value key_of value_of given (reply.Read ticket) old new issues = absurd issues
@@ -84,6 +90,8 @@ issues_counted is_key is_value key_of value_of (step.Enqueue piece size) (reply.
 issues_counted is_key is_value key_of value_of given (reply.Ignored back) old new n issues = absurd issues
 issues_counted is_key is_value key_of value_of (step.Enqueue piece size) (reply.Queued sequence) old new n issues = issues
 issues_counted is_key is_value key_of value_of given (reply.Queued sequence) old new n issues = absurd issues
+issues_counted is_key is_value key_of value_of (step.Enqueue piece size) (reply.Dropped back sequence) old new n issues = issues
+issues_counted is_key is_value key_of value_of given (reply.Dropped back sequence) old new n issues = absurd issues
 issues_counted is_key is_value key_of value_of (step.Delete hash) (reply.Deleted sequence) old new n issues = issues
 issues_counted is_key is_value key_of value_of given (reply.Deleted sequence) old new n issues = absurd issues
 issues_counted is_key is_value key_of value_of given (reply.Answer answer) old new n issues = issues

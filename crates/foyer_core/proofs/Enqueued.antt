@@ -1,9 +1,9 @@
--- When a piece is ignored.
-use Rattle.std.proofs.Common.{◌≡◌, ◌<◌, ◌≤◌, inl, inr, min, Option, Some, None, refl, sym, ap, ◌∙◌, arith}
+-- When a piece is ignored, and when it is dropped.
+use Rattle.std.proofs.Common.{◌≡◌, ◌<◌, ◌≤◌, min, Option, Some, None, refl, sym, ap, ◌∙◌, arith}
 use Rattle.foyer_format.specs.declared.serde.ages.Age.{Age}
 use Rattle.foyer_format.specs.declared.serde.ages.Age.TheVariants as age
 use Rattle.foyer_model.specs.Numbers.{last_number}
-use Rattle.foyer_model.specs.Queue.{size_queued, IsIgnored}
+use Rattle.foyer_model.specs.Queue.{size_queued, IsCrowded}
 use Rattle.foyer_model.specs.State.{State}
 use Rattle.foyer_model.specs.Step as model_step
 use Rattle.foyer_core.specs.Asked.{known_age}
@@ -15,7 +15,7 @@ use Rattle.foyer_rules.specs.declared.settings.Settings.{Settings}
 use Rattle.foyer_core.specs.declared.state.Core.{Core}
 use Rattle.foyer_core.proofs.StateLemmas.{size_queued_is}
 
-known_young : (o : Option Age) → known_age o ≡ model_step.Young → o ≡ Some age.Young
+pub known_young : (o : Option Age) → known_age o ≡ model_step.Young → o ≡ Some age.Young
 known_young None is = absurd (cc)
 known_young (Some age.Fresh) is = absurd (cc)
 known_young (Some age.Young) is = refl
@@ -25,19 +25,14 @@ module _ {K V P A : Type 0} (m : Meaning K V P) (s : Settings) (sound : AreValid
   pub size_is : size_queued s.flushers it.flushers ≡ min core.queued last_number
   size_is = size_queued_is s.flushers it.flushers ∙ ap (λ n. min n last_number) (sym stands.queued.sum)
 
-  pub ignored_young : (o : Option Age) → o ≡ Some age.Young → IsIgnored (machine m s sound) it (known_age o)
-  ignored_young o is = inl (ap known_age is)
-
-  pub ignored_full : (o : Option Age) → core.settings.submit_queue_size_threshold < min core.queued last_number
-      → IsIgnored (machine m s sound) it (known_age o)
-  ignored_full o full =
+  pub crowded : core.settings.submit_queue_size_threshold < min core.queued last_number → IsCrowded (machine m s sound) it
+  crowded full =
       let sizes : core.settings.submit_queue_size_threshold ≡ s.submit_queue_size_threshold = ap (λ x. x.submit_queue_size_threshold) stands.sizes in
       let queued : size_queued s.flushers it.flushers ≡ min core.queued last_number = size_is in
-      inr (omega arith)
+      omega arith
 
-  pub not_ignored : (o : Option Age) → (o ≡ Some age.Young → ⊥) → min core.queued last_number ≤ core.settings.submit_queue_size_threshold
-      → IsIgnored (machine m s sound) it (known_age o) → ⊥
-  not_ignored o old less ignored =
+  pub has_room : min core.queued last_number ≤ core.settings.submit_queue_size_threshold → IsCrowded (machine m s sound) it → ⊥
+  has_room less full =
       let sizes : core.settings.submit_queue_size_threshold ≡ s.submit_queue_size_threshold = ap (λ x. x.submit_queue_size_threshold) stands.sizes in
       let queued : size_queued s.flushers it.flushers ≡ min core.queued last_number = size_is in
-      elim ignored [ inl young ↦ old (known_young o young) | inr full ↦ omega arith ]
+      omega arith

@@ -1,7 +1,6 @@
 pub mod AdmitLemmas
 pub mod CleanLemmas
 pub mod CleanedSteps
-pub mod Deleted
 pub mod Describing
 pub mod DestroySteps
 pub mod Enqueued

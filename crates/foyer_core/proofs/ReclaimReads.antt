@@ -1,14 +1,13 @@
 -- An index that came for a reclaim, as the model lists it.
-use Rattle.std.proofs.Common.{◌≡◌, ℕ, suc, Bool, true, false, if◌then◌else◌, List, [], ◌∷◌, ◌++◌, map, length, replicate, Option, Some, None, option_map, refl, sym, ap, subst, ◌∙◌}
+use Rattle.std.proofs.Common.{◌≡◌, ℕ, suc, Bool, true, false, List, [], ◌∷◌, ◌++◌, map, length, replicate, Option, Some, None, option_map, refl, sym, ap, subst, ◌∙◌}
 use Rattle.std.specs.List.{AllZip}
 use Rattle.std.specs.declared.vec.Vec.{Vec}
 use Rattle.foyer_blob.specs.declared.blob.BlobEntryIndex.{BlobEntryIndex}
 use Rattle.foyer_block.specs.declared.indexer.HashedEntryAddress.{HashedEntryAddress}
 use Rattle.foyer_buffer.specs.Listing.{behind, placed}
 use Rattle.foyer_filter.specs.declared.verdict.StorageFilterResult.{StorageFilterResult}
-use Rattle.foyer_layout.specs.Page.{page_up}
 use Rattle.foyer_model.specs.Record.{Address}
-use Rattle.foyer_model.specs.Reclaim.{addresses, admitted, place_behind, stage_after, stage_behind, issued_at, reclaiming, Lists}
+use Rattle.foyer_model.specs.Reclaim.{addresses, admitted, stage_after, stage_behind, issued_at, reclaiming, Lists}
 use Rattle.foyer_model.specs.State as model_state
 use Rattle.foyer_placing.specs.Bridge.{entry_of}
 use Rattle.foyer_rules.specs.Content.{Content, Meaning}

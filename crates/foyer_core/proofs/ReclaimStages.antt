@@ -16,7 +16,7 @@ use Rattle.foyer_rules.specs.declared.settings.Settings.{Settings}
 use Rattle.foyer_scan.specs.Scan.{next_blob}
 use Rattle.foyer_sets.specs.BlockSets.{is_reclaimed}
 use Rattle.foyer_standing.specs.Addresses.{address_of, listed_of}
-use Rattle.foyer_core.specs.Reclaiming.{Reclaiming, IsReclaimAs, AreReclaimAs, IsStageAs, IsAtRead, awaited, may_forget, may_clean, wanted_of, read_of, is_all_listed, at_offset}
+use Rattle.foyer_core.specs.Reclaiming.{Reclaiming, IsReclaimAs, AreReclaimAs, IsStageAs, awaited, may_forget, may_clean, read_of, is_all_listed}
 use Rattle.foyer_core.specs.declared.block.reclaimer.Wanted.{Wanted}
 use Rattle.foyer_core.specs.declared.block.reclaimer.Wanted.TheVariants as wanted
 

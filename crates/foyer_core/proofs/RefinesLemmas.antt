@@ -36,6 +36,7 @@ counted rules Splits old given (model_reply.NotNow x0) new ordinary few turns = 
 counted rules Splits old given (model_reply.Refused x0 x1) new ordinary few turns = absurd ordinary
 counted rules Splits old given (model_reply.Ignored x0) new ordinary few turns = (few, turns.0, (new, turns.1, refl))
 counted rules Splits old given (model_reply.Queued x0) new ordinary few turns = (few, turns.0, (new, turns.1, refl))
+counted rules Splits old given (model_reply.Dropped x0 x1) new ordinary few turns = (few, turns.0, (new, turns.1, refl))
 counted rules Splits old given (model_reply.Deleted x0) new ordinary few turns = (few, turns.0, (new, turns.1, refl))
 counted rules Splits old given model_reply.Done new ordinary few turns = (few, turns.0, (new, turns.1, refl))
 counted rules Splits old given (model_reply.Answer x0) new ordinary few turns = (few, turns.0, (new, turns.1, refl))
@@ -66,6 +67,7 @@ module _ {K V P A : Type 0} (m : Meaning K V P) where
   ordinary (reply.Refused why back) it not is = absurd (not tt)
   ordinary (reply.Ignored piece) it not is = subst IsOrdinary (sym is) tt
   ordinary (reply.Queued q) it not is = subst IsOrdinary (sym is) tt
+  ordinary (reply.Dropped piece q) it not is = subst IsOrdinary (sym is) tt
   ordinary (reply.Deleted q) it not is = subst IsOrdinary (sym is) tt
   ordinary reply.Done it not is = subst IsOrdinary (sym is) tt
   ordinary (reply.Answer b) it not is = subst IsOrdinary (sym is) tt

@@ -39,11 +39,20 @@ Queues (step.Enqueue piece size) sequence old new =
     (old.closed ≡ false) × (sequence ≡ old.next) × (new.next ≡ sequence + 1) × (new.index ≡ old.index)
 Queues given sequence old new = ⊥
 
+-- the mark of a hash got the next sequence, and is in the index
+abbrev pub Marks : {K V P A : Type 0} → (hash sequence : ℕ) → Core K V P A → Core K V P A → Type 0
+Marks hash sequence old new =
+    (sequence ≡ old.next) × (new.next ≡ sequence + 1)
+    × (new.index.slots ≡ inserted old.index.slots hash (index.Tombstone sequence))
+
+-- the piece of an enqueue to a core that isn't closed comes back, and its hash is deleted
+abbrev pub Drops : {K V P A : Type 0} → Step K V P A → Record K V P → ℕ → Core K V P A → Core K V P A → Type 0
+Drops (step.Enqueue piece size) back sequence old new = (back ≡ piece) × (old.closed ≡ false) × Marks piece.hash sequence old new
+Drops given back sequence old new = ⊥
+
 -- a delete got the next sequence, from a core that isn't closed, and its mark is in the index
 abbrev pub Deletes : {K V P A : Type 0} → Step K V P A → ℕ → Core K V P A → Core K V P A → Type 0
-Deletes (step.Delete hash) sequence old new =
-    (old.closed ≡ false) × (sequence ≡ old.next) × (new.next ≡ sequence + 1)
-    × (new.index.slots ≡ inserted old.index.slots hash (index.Tombstone sequence))
+Deletes (step.Delete hash) sequence old new = (old.closed ≡ false) × Marks hash sequence old new
 Deletes given sequence old new = ⊥
 
 -- whether the hash that was asked for is indexed, or whether no block is reclaimed
@@ -71,6 +80,7 @@ Describes is_key is_value key_of value_of given (reply.Entry key value age) old 
     BringsPair is_key is_value (key_of key) (value_of value) given
 Describes is_key is_value key_of value_of given (reply.Ignored back) old new = Returns given back
 Describes is_key is_value key_of value_of given (reply.Queued sequence) old new = Queues given sequence old new
+Describes is_key is_value key_of value_of given (reply.Dropped back sequence) old new = Drops given back sequence old new
 Describes is_key is_value key_of value_of given (reply.Deleted sequence) old new = Deletes given sequence old new
 Describes is_key is_value key_of value_of given (reply.Answer answer) old new = Asks given answer old
 Describes is_key is_value key_of value_of given (reply.Read ticket) old new = Looks given ticket old
@@ -81,15 +91,17 @@ abbrev pub DescribesNothing : {K V P A : Type 0} → Reply K V P A → Type 0
 DescribesNothing (reply.Entry key value age) = ⊥
 DescribesNothing (reply.Ignored back) = ⊥
 DescribesNothing (reply.Queued sequence) = ⊥
+DescribesNothing (reply.Dropped back sequence) = ⊥
 DescribesNothing (reply.Deleted sequence) = ⊥
 DescribesNothing (reply.Answer answer) = ⊥
 DescribesNothing (reply.Read ticket) = ⊥
 DescribesNothing answer = Unit {0}
 
--- an enqueue's answer has a sequence, or the piece
+-- an enqueue's answer has a sequence, or the piece, or both
 abbrev pub Enqueues : {K V P A : Type 0} → Step K V P A → Reply K V P A → Core K V P A → Core K V P A → Type 0
 Enqueues given (reply.Ignored back) old new = Returns given back
 Enqueues given (reply.Queued sequence) old new = Queues given sequence old new
+Enqueues given (reply.Dropped back sequence) old new = Drops given back sequence old new
 Enqueues given answer old new = DescribesNothing answer
 
 -- and so of a delete's

@@ -2,6 +2,7 @@ pub mod Answered
 pub mod Asked
 pub mod Destroying
 pub mod Lent
+pub mod Marking
 pub mod Opened
 pub mod Reclaiming
 pub mod Refines

@@ -17,6 +17,7 @@ IsReply m (reply.NotNow back) it = it ≡ model_reply.NotNow (step_of m back)
 IsReply m (reply.Refused why back) it = (k : model_reply.Kind) × (kind_of why ≡ Some k) × (it ≡ model_reply.Refused k (step_of m back))
 IsReply m (reply.Ignored piece) it = it ≡ model_reply.Ignored (content_of m piece)
 IsReply m (reply.Queued sequence) it = it ≡ model_reply.Queued sequence
+IsReply m (reply.Dropped piece sequence) it = it ≡ model_reply.Dropped (content_of m piece) sequence
 IsReply m (reply.Deleted sequence) it = it ≡ model_reply.Deleted sequence
 IsReply m reply.Done it = it ≡ model_reply.Done
 IsReply m (reply.Answer b) it = it ≡ model_reply.Answer b

@@ -6,7 +6,6 @@ use Rattle.foyer_sets.specs.Pickers.{Info, picker_info}
 use Rattle.foyer_sets.specs.Picks.{usable_in}
 use Rattle.foyer_sets.specs.Shown.{AreChanged, AreShown, AreShownAll, written_below, written_of}
 use Rattle.foyer_flusher.specs.Leaving.{left_by}
-use Rattle.foyer_flusher.specs.declared.flusher.Flusher.{Flusher}
 use Rattle.foyer_core.specs.declared.reply.Reply.{Reply}
 use Rattle.foyer_core.specs.declared.reply.Reply.TheVariants as reply
 use Rattle.foyer_core.specs.declared.state.Core.{Core}

@@ -67,7 +67,7 @@ impl<K, V, P, A: Allocator + Clone> Core<K, V, P, A> {
             return Reply::NotNow(Step::Receive { flusher });
         }
         let found = &mut self.flushers[flusher as usize];
-        match found.receive(&self.alloc, &self.index) {
+        match found.receive(&self.alloc, &mut self.index) {
             Err(_) => Reply::Refused(ErrorKind::Memory, Step::Receive { flusher }),
             Ok(Taken::Nothing) => Reply::Empty,
             Ok(Taken::Other) => Reply::Received(None),

@@ -1,39 +1,30 @@
 //! What callers queue.
-ghost use Rattle.std.specs.Prelude.{◌≡◌, ◌<◌, ◌%◌, IsTrue, ◌↔◌, Some, true, is_some, vec_len};
+ghost use Rattle.std.specs.Prelude.{◌≡◌, ◌<◌, ◌-◌, ◌^◌, ◌%◌, IsTrue, ◌↔◌, Some, true, is_some, vec_len, IfOk, OnErr};
 ghost use Rattle.foyer_block.specs.Index.{address_at};
 ghost use Rattle.foyer_core.specs.declared.reply.Reply.TheVariants as reply;
-ghost use Rattle.foyer_core.specs.Answered.{HandsBack, DescribesNothing, Enqueues, Deleting};
+ghost use Rattle.foyer_core.specs.Answered.{HandsBack, DescribesNothing, Enqueues, Deleting, Marks};
+ghost use Rattle.foyer_core.specs.Marking.{marked};
+ghost use Rattle.foyer_core.specs.StateOf.{IsStateOf};
 ghost use Rattle.foyer_core.specs.Unchanged.{IsUnchanged};
-ghost use Rattle.foyer_rules.specs.Content.{Meaning};
+ghost use Rattle.foyer_model.specs.State.{State};
+ghost use Rattle.foyer_rules.specs.Content.{Content, Meaning};
+ghost use Rattle.foyer_rules.specs.CoreRules.{machine};
+ghost use Rattle.foyer_rules.specs.Sizes.{AreValid};
+ghost use Rattle.foyer_rules.specs.declared.settings.Settings.{Settings};
 ghost use Rattle.foyer_core.specs.Refines.{RefinesUncounted};
 ghost use Rattle.foyer_core.specs.declared.step.Step.TheVariants as step;
-ghost use Rattle.foyer_layout.specs.Page.{page_up};
 ghost use Rattle.foyer_format.specs.declared.serde.ages.Age.TheVariants as age;
 
 use crate::reply::Reply;
 use crate::state::Core;
 use crate::step::Step;
-use foyer_block::indexer::EntryAddress;
-use foyer_block::tombstone::Tombstone;
-use foyer_device::error::ErrorKind;
-use foyer_flusher::flusher::{Submission, TombstoneInfo};
-use foyer_format::block::buffer::PAGE;
+use foyer_device::error::{ErrorKind, Result};
+use foyer_flusher::flusher::Submission;
+use foyer_flusher::marking::enter_mark;
+use foyer_format::block::serde::Sequence;
 use foyer_format::serde::{Age, Properties};
 use foyer_policy::keeper::Piece;
-use foyer_standing::blocks::InvalidStats;
 use std::alloc::Allocator;
-
-// The bytes of a block that a mark makes invalid where it pushes this address out.
-#[tactic(auto, unfolding(foyer_layout::specs::Page::page_up))]
-fn invalid_stats(address: &EntryAddress) -> InvalidStats
-    ensures block { result.block ≡ address.now.block }
-    ensures size { result.size ≡ page_up address.now.len }
-{
-    InvalidStats {
-        block: address.block,
-        size: (address.len as usize).div_ceil(PAGE) * PAGE,
-    }
-}
 
 fn is_young<P: Properties>(properties: &P) -> bool
     ensures { IsTrue result ↔ (P.age properties.now ≡ Some age.Young) }
@@ -53,6 +44,26 @@ impl<K, V, P, A: Allocator + Clone> Core<K, V, P, A> {
         (hash % self.flushers.len() as u64) as usize
     }
 
+    // Draws a sequence for the mark of a hash, which enters the index at once and is queued.
+    fn draw_mark(&mut self, hash: u64) -> Result<Sequence>
+        requires { self.old.next < 2 ^ 64 - 1 }
+        ensures refused { OnErr result (IsUnchanged self.old self.new) }
+        ensures drawn { IfOk result (λ sequence. Marks hash sequence self.old self.new) }
+        ensures closed { self.new.closed ≡ self.old.closed }
+        ensures meets { (m : Meaning K V P) (s : Settings) (sound : AreValid s) (it : State Content)
+            → IsStateOf m s self.old it
+            → IfOk result (λ sequence. IsStateOf m s self.new (marked (machine m s sound) it hash sequence)) }
+    {
+        let flusher = self.flusher_of(hash);
+        let queue = &mut self.flushers[flusher].queue;
+        queue.reserve(1)?;
+        let sequence = self.next;
+        let info = enter_mark(&mut self.index, hash, sequence)?;
+        queue.push_back_reserved(Submission::Tombstone(info));
+        self.next = sequence + 1;
+        Ok(sequence)
+    }
+
     pub(crate) fn enqueue(&mut self, piece: Piece<K, V, P, A>, size: usize) -> Reply<K, V, P, A>
     where
         P: Properties,
@@ -64,14 +75,17 @@ impl<K, V, P, A: Allocator + Clone> Core<K, V, P, A> {
         if self.closed {
             return Reply::Refused(ErrorKind::Closed, Step::Enqueue { piece, size });
         }
-        if is_young(piece.properties())
-            || self.queued.min(u64::MAX as u128)
-                > self.settings.submit_queue_size_threshold as u128
-        {
+        if is_young(piece.properties()) {
             return Reply::Ignored(piece);
         }
         if self.next == u64::MAX {
             return Reply::Refused(ErrorKind::SequenceEnd, Step::Enqueue { piece, size });
+        }
+        if self.queued.min(u64::MAX as u128) > self.settings.submit_queue_size_threshold as u128 {
+            return match self.draw_mark(piece.hash()) {
+                Ok(sequence) => Reply::Dropped(piece, sequence),
+                Err(_) => Reply::Refused(ErrorKind::Memory, Step::Enqueue { piece, size }),
+            };
         }
         let flusher = self.flusher_of(piece.hash());
         let queue = &mut self.flushers[flusher].queue;
@@ -101,26 +115,9 @@ impl<K, V, P, A: Allocator + Clone> Core<K, V, P, A> {
         if self.next == u64::MAX {
             return Reply::Refused(ErrorKind::SequenceEnd, Step::Delete { hash });
         }
-        let flusher = self.flusher_of(hash);
-        let queue = &mut self.flushers[flusher].queue;
-        if queue.reserve(1).is_err() {
-            return Reply::Refused(ErrorKind::Memory, Step::Delete { hash });
-        }
-        let sequence = self.next;
-        match self.index.insert_tombstone(hash, sequence) {
+        match self.draw_mark(hash) {
+            Ok(sequence) => Reply::Deleted(sequence),
             Err(_) => Reply::Refused(ErrorKind::Memory, Step::Delete { hash }),
-            Ok(pushed_out) => {
-                let stats = match pushed_out {
-                    Some(address) => Some(invalid_stats(&address)),
-                    None => None,
-                };
-                queue.push_back_reserved(Submission::Tombstone(TombstoneInfo {
-                    tombstone: Tombstone { hash, sequence },
-                    stats,
-                }));
-                self.next = sequence + 1;
-                Reply::Deleted(sequence)
-            }
         }
     }
 

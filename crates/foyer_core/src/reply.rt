@@ -16,10 +16,12 @@ pub enum Reply<K, V, P, A: Allocator> {
     NotNow(Step<K, V, P, A>),
     /// The step is refused: nothing changed.
     Refused(ErrorKind, Step<K, V, P, A>),
-    /// The piece isn't taken: it is young, or too much is queued.
+    /// The piece isn't taken: it is young.
     Ignored(Piece<K, V, P, A>),
     /// The piece is queued under this sequence.
     Queued(Sequence),
+    /// The piece isn't taken, since too much is queued. Its hash is deleted under this sequence.
+    Dropped(Piece<K, V, P, A>, Sequence),
     /// The delete is accepted under this sequence.
     Deleted(Sequence),
     /// A wait is queued, the log's outcome is noted, a clean is noted, or the core is closed.
@@ -40,7 +42,7 @@ pub enum Reply<K, V, P, A: Allocator> {
     },
     /// Nothing is queued.
     Empty,
-    /// The front of the queue was taken. A piece that doesn't fit is handed back.
+    /// The front of the queue was taken. A piece that doesn't fit is handed back, and its hash is deleted under its sequence.
     Received(Option<Piece<K, V, P, A>>),
     /// A batch of so many blocks began; these are its marks, in order.
     Began {

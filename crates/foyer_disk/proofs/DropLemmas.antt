@@ -1,5 +1,5 @@
 -- The partitions that a device was given after the first few.
-use Rattle.std.proofs.Common.{◌≡◌, ◌≢◌, ℕ, zero, suc, ◌+◌, ◌-◌, ◌^◌, ◌<◌, ◌≤◌, List, [], ◌∷◌, ◌++◌, refl, sym, ◌∙◌, ap, subst, arith, length, drop, map, sum, min, Option, Some}
+use Rattle.std.proofs.Common.{◌≡◌, ◌≢◌, ℕ, zero, suc, ◌+◌, ◌-◌, ◌^◌, ◌<◌, ◌≤◌, List, [], ◌∷◌, ◌++◌, refl, sym, ◌∙◌, ap, subst, arith, length, drop, map, sum, min, Option, Some, length-append}
 use Rattle.std.specs.Prelude.{slice_get}
 use Rattle.std.proofs.lemmas.Grind.{common_steps}
 use Rattle.std.proofs.lemmas.List.{map_push}
@@ -29,6 +29,13 @@ pub total_push : (n : ℕ) (ns : List ℕ) → total_size (ns ++ n ∷ []) ≡ m
 total_push n ns = omega (arith, sum_push n ns)
 
 pub ruleset drops = (drop_push, disjoint_drop, within_drop, total_push)
+
+-- a part whose device was given one partition more
+pub part_next : (first n a r : ℕ) (old new : List ℕ) → new ≡ old ++ n ∷ [] → first ≤ length old → a ≡ total_size (drop first old) → r ≡ min (a + n) (2 ^ 64 - 1)
+    → (first ≤ length new) × (r ≡ total_size (drop first new))
+part_next first n a r old new same later sum next =
+    let pushed = total_push n (drop first old) in
+    rw same (simp length-append (omega (arith, later)), rw (drop_push first old n later) (omega (arith, pushed, sum, next)))
 
 -- the sum with y, where y is what a push put behind ws
 pub total_map : {X : Type 0} (f : X → ℕ) (zs ws xs : List X) (y : X) (m a r : ℕ) → zs ≡ ws ++ y ∷ [] → f y ≡ m → a ≡ total_size (map f xs) → r ≡ min (a + m) (2 ^ 64 - 1)

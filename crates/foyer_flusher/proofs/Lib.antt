@@ -5,6 +5,7 @@ pub mod FilledLemmas
 pub mod FlushLemmas
 pub mod IssueLemmas
 pub mod LoggedLemmas
+pub mod MarkLemmas
 pub mod NextLemmas
 pub mod OffsetLemmas
 pub mod TakenLemmas

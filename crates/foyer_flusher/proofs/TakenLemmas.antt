@@ -11,6 +11,8 @@ use Rattle.foyer_layout.proofs.PageLaws.{page_up-holds}
 use Rattle.foyer_format.proofs.RecordBytes.{length-record_bytes}
 use Rattle.foyer_policy.specs.Record.{Record}
 use Rattle.foyer_model.specs.Receive.{Fits, TakesFront as TakesOne, bytes_taken, turned}
+use Rattle.foyer_model.specs.Numbers.{put}
+use Rattle.foyer_model.specs.Queue.{invalidated_by}
 use Rattle.foyer_model.specs.Record as model_record
 use Rattle.foyer_model.specs.Refusal.{TakesMemory}
 use Rattle.foyer_model.specs.Reply as model_reply
@@ -25,25 +27,29 @@ use Rattle.foyer_rules.proofs.LawLemmas.{are_rules}
 use Rattle.foyer_rules.proofs.TripLemmas.{left, right, some_is}
 use Rattle.foyer_standing.specs.Addresses.{address_of, mark_of, invalid_of}
 use Rattle.foyer_standing.specs.declared.blocks.InvalidStats.{InvalidStats}
-use Rattle.foyer_flusher.specs.Filled.{HasRoom, HasRoomFor}
+use Rattle.foyer_flusher.specs.Filled.{HasRoomFor}
 use Rattle.foyer_flusher.specs.Flushing.{AreReceived, IsFlusherAs, submission_of, invalid_of_all}
+use Rattle.foyer_flusher.specs.Marking.{bytes_of}
 use Rattle.foyer_flusher.specs.Seen.{Seen, seen}
 use Rattle.foyer_flusher.specs.Taking.{size_in, IsPutAgain, PutsAgain, IsReceivedAs}
 use Rattle.foyer_flusher.specs.declared.submission.Reinsertion.{Reinsertion}
 use Rattle.foyer_block.specs.Index.{IndexMap, address_of as indexed_at}
+use Rattle.foyer_block.specs.Insertion.{displaced, inserted}
+use Rattle.foyer_block.specs.declared.tombstone.Tombstone.{Tombstone}
 use Rattle.foyer_block.specs.declared.indexer.EntryAddress.{EntryAddress}
 use Rattle.foyer_block.specs.declared.indexer.Index.{Index}
 use Rattle.foyer_block.specs.declared.indexer.Index.TheVariants.{Address, Tombstone as Mark}
 use Rattle.foyer_buffer.proofs.EntriesLemmas.{size_none, size_cons}
 use Rattle.foyer_model.proofs.CommitSteps.{same_address}
 use Rattle.foyer_model.specs.Index as model_index
-use Rattle.foyer_standing.proofs.SlotLemmas.{same_itself}
+use Rattle.foyer_standing.proofs.SlotLemmas.{index_inserted, same_itself}
 use Rattle.foyer_standing.specs.Standing.{IsIndexedAs, slot_of}
 use Rattle.std.specs.FinMap as finite
 use Rattle.foyer_flusher.specs.declared.flusher.Flusher.{Flusher}
 use Rattle.foyer_flusher.specs.declared.submission.Submission.{Submission}
 use Rattle.foyer_flusher.specs.declared.submission.Submission.TheVariants as submission
 use Rattle.foyer_flusher.specs.declared.submission.TombstoneInfo.{TombstoneInfo}
+use Rattle.foyer_flusher.proofs.MarkLemmas.{pushed_out}
 
 map_end : {X Y : Type 0} (f : X → Y) (xs : List X) (x : X) → map f (xs ++ x ∷ []) ≡ map f xs ++ f x ∷ []
 map_end f [] x = refl
@@ -106,7 +112,7 @@ very_back (Some (Address b)) a is =
 very_back (Some (Mark n)) a is = absurd (cc)
 
 module _ {K V P A : Type 0} (m : Meaning K V P) (s : Settings) (sound : AreValid s) (st : model_state.State Content) (f : ℕ)
-    (φ : Seen K V P A) (stands : IsFlusherAs m s φ (st.flushers f)) where
+    (φ : Seen K V P A) (stands : IsFlusherAs m s φ (st.flushers f)) (index : IndexMap) (indexed : IsIndexedAs s index st.index) where
   at_queue : (reply : model_reply.Reply Content) (after : model_state.State Content) (q : List (model_state.Submission Content)) → (st.flushers f).queue ≡ q
       → TakesOne (machine m s sound) st f q reply after → TakesOne (machine m s sound) st f (st.flushers f).queue reply after
   at_queue reply after q is takes = subst (λ x. TakesOne (machine m s sound) st f x reply after) (sym is) takes
@@ -121,9 +127,11 @@ module _ {K V P A : Type 0} (m : Meaning K V P) (s : Settings) (sound : AreValid
 
   -- a wait is kept
   pub wait_kept : (id : ℕ) (rest : List (Submission K V P A)) (new : Flusher K V P A) → φ.queue ≡ submission.Wait id ∷ rest
-      → seen new ≡ record φ { queue = rest; waits = φ.waits ++ id ∷ [] } → IsReceivedAs m s sound st f 0 None new
+      → seen new ≡ record φ { queue = rest; waits = φ.waits ++ id ∷ [] } → IsReceivedAs m s sound st f 0 None new index
   wait_kept id rest new is now = record {
     after = after;
+    index = st.index;
+    indexed = indexed;
     stands = subst (λ x. IsFlusherAs m s x after) (sym now) (record {
       queue = refl;
       buffer = stands.buffer;
@@ -152,9 +160,11 @@ module _ {K V P A : Type 0} (m : Meaning K V P) (s : Settings) (sound : AreValid
   -- a mark is kept, with what it made invalid
   pub mark_kept : (info : TombstoneInfo) (invalidated : List InvalidStats) (rest : List (Submission K V P A)) (new : Flusher K V P A) → φ.queue ≡ submission.Tombstone info ∷ rest
       → map invalid_of invalidated ≡ invalid_of_all info.stats
-      → seen new ≡ record φ { queue = rest; marks = φ.marks ++ info.tombstone ∷ []; invalid = φ.invalid ++ invalidated } → IsReceivedAs m s sound st f 0 None new
+      → seen new ≡ record φ { queue = rest; marks = φ.marks ++ info.tombstone ∷ []; invalid = φ.invalid ++ invalidated } → IsReceivedAs m s sound st f 0 None new index
   mark_kept info invalidated rest new is issued now = record {
     after = after;
+    index = st.index;
+    indexed = indexed;
     stands = subst (λ x. IsFlusherAs m s x after) (sym now) (record {
       queue = refl;
       buffer = stands.buffer;
@@ -208,7 +218,7 @@ module _ {K V P A : Type 0} (m : Meaning K V P) (s : Settings) (sound : AreValid
             record { some = some; room = omega arith; greatest = omega arith }),
       )
 
-  module _ (index : IndexMap) (indexed : IsIndexedAs s index st.index) (r : Reinsertion A) (rest : List (Submission K V P A)) (is : φ.queue ≡ submission.Reinsertion r ∷ rest) where
+  module _ (r : Reinsertion A) (rest : List (Submission K V P A)) (is : φ.queue ≡ submission.Reinsertion r ∷ rest) where
     again_queue : (st.flushers f).queue ≡ model_state.Reinsert r.hash r.slice.items (address_of r.address) ∷ map (submission_of m) rest
     again_queue = stands.queue ∙ ap (map (submission_of m)) is
 
@@ -236,9 +246,11 @@ module _ {K V P A : Type 0} (m : Meaning K V P) (s : Settings) (sound : AreValid
 
     -- it is put into the buffer, or dropped
     pub again_kept : (new : Flusher K V P A) (b : Entries) (sources : List (Option EntryAddress)) → PutsAgain index r φ.filled φ.sources b sources
-        → seen new ≡ record φ { queue = rest; filled = b; sources = sources } → IsReceivedAs m s sound st f 0 None new
+        → seen new ≡ record φ { queue = rest; filled = b; sources = sources } → IsReceivedAs m s sound st f 0 None new index
     again_kept new b sources (inl put) now = record {
       after = after;
+      index = st.index;
+      indexed = indexed;
       stands = subst (λ x. IsFlusherAs m s x after) (sym (now ∙ (λ i. record φ { queue = rest; filled = (put.1) i; sources = (put.2) i }))) (record {
         queue = refl;
         buffer = map_end kept_of (st.flushers f).buffer t ∙ ap (λ es. es ++ kept_of t ∷ []) stands.buffer;
@@ -268,6 +280,8 @@ module _ {K V P A : Type 0} (m : Meaning K V P) (s : Settings) (sound : AreValid
         after = record (st.flushers f) { queue = map (submission_of m) rest; buffer = (st.flushers f).buffer ++ t ∷ [] }
     again_kept new b sources (inr dropped) now = record {
       after = after;
+      index = st.index;
+      indexed = indexed;
       stands = subst (λ x. IsFlusherAs m s x after) (sym (now ∙ (λ i. record φ { queue = rest; filled = (dropped.1) i; sources = (dropped.2) i }))) (record {
         queue = refl;
         buffer = stands.buffer;
@@ -324,18 +338,17 @@ module _ {K V P A : Type 0} (m : Meaning K V P) (s : Settings) (sound : AreValid
         go false has e = absurd (cc)
 
     -- it stays in front where memory was refused for it
-    pub piece_takes : (a ≡ true → b ≡ true → HasRoom φ.filled n) → TakesMemory (machine m s sound) st (st.flushers f) (st.flushers f).queue
-    piece_takes due = subst (TakesMemory (machine m s sound) st (st.flushers f)) (sym queue) (λ bytes some.
-        let how = codes bytes some in
-        let room : HasRoom φ.filled n = due how.0 how.1 in
-        subst (Fits (machine m s sound) st (st.flushers f)) how.2 ((agrees n whole len).0 (room.room, room.greatest)))
+    pub piece_takes : TakesMemory (machine m s sound) st (st.flushers f) (st.flushers f).queue
+    piece_takes = subst (TakesMemory (machine m s sound) st (st.flushers f)) (sym queue) tt
 
     -- it is put into the buffer
     pub piece_kept : (new : Flusher K V P A) → FitsBuffer φ.filled compression.None ((a ≡ true) × (b ≡ true)) n
         → seen new ≡ record φ { queue = rest; filled = with_entry φ.filled p.hash sequence whole; sources = φ.sources ++ None ∷ []; pieces = φ.pieces ++ p ∷ [] }
-        → IsReceivedAs m s sound st f size None new
+        → IsReceivedAs m s sound st f size None new index
     piece_kept new fits now = record {
       after = after;
+      index = st.index;
+      indexed = indexed;
       stands = subst (λ x. IsFlusherAs m s x after) (sym now) (record {
         queue = refl;
         buffer = map_end kept_of (st.flushers f).buffer r ∙ ap (λ es. es ++ kept_of r ∷ []) stands.buffer;
@@ -375,19 +388,26 @@ module _ {K V P A : Type 0} (m : Meaning K V P) (s : Settings) (sound : AreValid
             let has : has_record (content_of m p) ≡ true = both_true (flag ∙ both_true fits.encoded.0 fits.encoded.1) (both_true short_key short_value) in
             ap (λ t. if t then Some whole else None) has
 
-    -- or it doesn't fit, and is handed back
-    pub piece_back : (new : Flusher K V P A) → (FitsBuffer φ.filled compression.None ((a ≡ true) × (b ≡ true)) n → ⊥)
-        → seen new ≡ record φ { queue = rest } → IsReceivedAs m s sound st f size (Some (content_of m p)) new
-    piece_back new lacks now = record {
+    -- or it doesn't fit, and is handed back: its mark is kept
+    pub piece_back : (new : Flusher K V P A) (marks : List Tombstone) (invalid : List InvalidStats) (entered : IndexMap)
+        → (FitsBuffer φ.filled compression.None ((a ≡ true) × (b ≡ true)) n → ⊥)
+        → map mark_of marks ≡ map mark_of φ.marks ++ (p.hash, sequence) ∷ []
+        → map invalid_of invalid ≡ map invalid_of φ.invalid ++ bytes_of (displaced (finite.get index p.hash) (Mark sequence))
+        → entered ≡ inserted index p.hash (Mark sequence)
+        → seen new ≡ record φ { queue = rest; marks = marks; invalid = invalid } → IsReceivedAs m s sound st f size (Some (content_of m p)) new entered
+    piece_back new marks invalid entered lacks marked issued is_entered now = record {
       after = after;
+      index = slots;
+      indexed = subst (λ k. IsIndexedAs s k slots) (sym is_entered) (index_inserted s index st.index p.hash (Mark sequence) tt indexed);
       stands = subst (λ x. IsFlusherAs m s x after) (sym now) (record {
         queue = refl;
         buffer = stands.buffer;
         room = stands.room;
         greatest = stands.greatest;
         given = stands.given;
-        marks = stands.marks;
-        invalidated = stands.invalidated;
+        marks = ap (λ xs. xs ++ (p.hash, sequence) ∷ []) stands.marks ∙ sym marked;
+        invalidated = ap (λ xs. xs ++ invalidated_by (machine m s sound) sequence (st.index p.hash)) stands.invalidated
+            ∙ ap (λ xs. map invalid_of φ.invalid ++ xs) (sym bytes) ∙ sym issued;
         waits = stands.waits;
         own = stands.own;
         there = stands.there;
@@ -396,14 +416,24 @@ module _ {K V P A : Type 0} (m : Meaning K V P) (s : Settings) (sound : AreValid
         goes_on = stands.goes_on;
         batch = stands.batch;
       });
-      receives = at_queue (model_reply.Received (Some (content_of m p))) (turned (machine m s sound) st f after) (model_state.Piece p.hash sequence size (content_of m p) ∷ map (submission_of m) rest)
+      receives = at_queue (model_reply.Received (Some (content_of m p))) (record (turned (machine m s sound) st f after) { index = slots }) (model_state.Piece p.hash sequence size (content_of m p) ∷ map (submission_of m) rest)
           queue (refl, not_fitting, refl);
       keeps = record { own = refl; ready = refl };
       size_is = size_front (submission.CacheEntry p size sequence) rest is;
     }
       where
         after : model_state.Flusher Content
-        after = record (st.flushers f) { queue = map (submission_of m) rest }
+        after = record (st.flushers f) {
+          queue = map (submission_of m) rest;
+          marks = (st.flushers f).marks ++ (p.hash, sequence) ∷ [];
+          invalidated = (st.flushers f).invalidated ++ invalidated_by (machine m s sound) sequence (st.index p.hash);
+        }
+
+        slots : ℕ → Option model_record.Slot
+        slots = put st.index p.hash (model_index.inserted (st.index p.hash) (model_record.Mark sequence))
+
+        bytes : bytes_of (displaced (finite.get index p.hash) (Mark sequence)) ≡ invalidated_by (machine m s sound) sequence (st.index p.hash)
+        bytes = pushed_out m s sound (finite.get index p.hash) sequence ∙ ap (invalidated_by (machine m s sound) sequence) (sym (indexed.slot p.hash))
 
         not_fitting : (bytes : List ℕ) → encoded p.hash sequence (content_of m p) ≡ Some bytes → Fits (machine m s sound) st (st.flushers f) bytes → ⊥
         not_fitting bytes some fits =

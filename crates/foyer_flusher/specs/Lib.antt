@@ -11,6 +11,7 @@ pub mod Idle
 pub mod Issued
 pub mod Issuing
 pub mod Leaving
+pub mod Marking
 pub mod Offsets
 pub mod Seen
 pub mod Taking

@@ -5,6 +5,7 @@ use Rattle.foyer_block.specs.declared.indexer.EntryAddress.{EntryAddress}
 use Rattle.foyer_buffer.specs.Entries.{Entries, with_entry}
 use Rattle.foyer_device.specs.declared.error.Error.{Error}
 use Rattle.foyer_model.specs.Receive.{Receives, turned}
+use Rattle.foyer_model.specs.Record.{Slot}
 use Rattle.foyer_model.specs.Refusal.{TakesMemory}
 use Rattle.foyer_model.specs.Reply as model_reply
 use Rattle.foyer_model.specs.State as model_state
@@ -12,7 +13,7 @@ use Rattle.foyer_rules.specs.Content.{Content, Meaning, returned}
 use Rattle.foyer_rules.specs.CoreRules.{machine}
 use Rattle.foyer_rules.specs.Sizes.{AreValid}
 use Rattle.foyer_rules.specs.declared.settings.Settings.{Settings}
-use Rattle.foyer_standing.specs.Standing.{KeepsItsBlocks}
+use Rattle.foyer_standing.specs.Standing.{IsIndexedAs, KeepsItsBlocks}
 use Rattle.foyer_flusher.specs.Filled.{HasRoomFor}
 use Rattle.foyer_flusher.specs.Flushing.{IsFlusherAs}
 use Rattle.foyer_flusher.specs.Seen.{seen}
@@ -41,17 +42,19 @@ PutsAgain index r b sources new now =
     ⊎ ((IsPutAgain index r b → ⊥) × (new ≡ b) × (now ≡ sources))
 
 -- the front was taken, with a piece of this size
-pub record IsReceivedAs {K V P A : Type 0} (m : Meaning K V P) (s : Settings) (sound : AreValid s) (st : model_state.State Content) (f : ℕ) (size : ℕ) (back : Option Content) (new : Flusher K V P A) : Type 0 where
+pub record IsReceivedAs {K V P A : Type 0} (m : Meaning K V P) (s : Settings) (sound : AreValid s) (st : model_state.State Content) (f : ℕ) (size : ℕ) (back : Option Content) (new : Flusher K V P A) (slots : IndexMap) : Type 0 where
   pub after : model_state.Flusher Content
+  pub index : ℕ → Option Slot
   pub stands : IsFlusherAs m s (seen new) after
-  pub receives : Receives (machine m s sound) st f (model_reply.Received back) (turned (machine m s sound) st f after)
+  pub indexed : IsIndexedAs s slots index
+  pub receives : Receives (machine m s sound) st f (model_reply.Received back) (record (turned (machine m s sound) st f after) { index = index })
   pub keeps : KeepsItsBlocks (st.flushers f) after
   pub size_is : size_in (st.flushers f).queue ≡ size + size_in after.queue
 
--- What a receipt makes of a state of the model. It is refused only where the front takes memory: what has no room is
--- handed back.
-abbrev pub TakesFront : {K V P A : Type 0} → Meaning K V P → (s : Settings) → AreValid s → model_state.State Content → ℕ → Result (Taken K V P A) Error → Flusher K V P A → Type 0
-TakesFront m s sound st f (Ok taken.Nothing) new = ((st.flushers f).queue ≡ []) × IsFlusherAs m s (seen new) (st.flushers f)
-TakesFront m s sound st f (Ok taken.Other) new = IsReceivedAs m s sound st f 0 None new
-TakesFront m s sound st f (Ok (taken.Piece size back)) new = IsReceivedAs m s sound st f size (returned m back) new
-TakesFront m s sound st f (Err e) new = TakesMemory (machine m s sound) st (st.flushers f) (st.flushers f).queue
+-- What a receipt makes of a state of the model. It is refused only where the front takes memory: a piece that has no room
+-- is handed back.
+abbrev pub TakesFront : {K V P A : Type 0} → Meaning K V P → (s : Settings) → AreValid s → model_state.State Content → ℕ → Result (Taken K V P A) Error → Flusher K V P A → IndexMap → Type 0
+TakesFront m s sound st f (Ok taken.Nothing) new slots = ((st.flushers f).queue ≡ []) × IsFlusherAs m s (seen new) (st.flushers f) × IsIndexedAs s slots st.index
+TakesFront m s sound st f (Ok taken.Other) new slots = IsReceivedAs m s sound st f 0 None new slots
+TakesFront m s sound st f (Ok (taken.Piece size back)) new slots = IsReceivedAs m s sound st f size (returned m back) new slots
+TakesFront m s sound st f (Err e) new slots = TakesMemory (machine m s sound) st (st.flushers f) (st.flushers f).queue

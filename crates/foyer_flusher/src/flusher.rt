@@ -1,7 +1,7 @@
 //! A flusher: what waits in its queue, what it received, and the batch that it writes.
 ghost use Rattle.std.specs.Prelude.{◌≡◌, ◌≢◌, ◌+◌, ◌*◌, ◌^◌, ◌↔◌, ◌<◌, ◌≤◌, ℕ, Option, None, Some, IsSomeAnd, IsTrue, true, false, length, MatchOption, IsOkUnless};
 ghost use Rattle.std.specs.Prelude.{IfErr, IfOk, OnErr, OnOk};
-ghost use Rattle.foyer_block.specs.Index.{IndexMap};
+ghost use Rattle.foyer_block.specs.Index.{IndexMap, KeepsIndex};
 ghost use Rattle.foyer_buffer.specs.Entries.{left_of};
 ghost use Rattle.foyer_device.specs.declared.error.Error.{Error as error};
 ghost use Rattle.foyer_device.specs.declared.error.Error.TheVariants.{Memory};
@@ -25,7 +25,7 @@ use crate::begin::handles;
 use crate::committing::commit;
 use crate::filled::{Filled, keep_pages};
 use crate::logged::invalidate_unless;
-use crate::receive::{Taken, put_mark, put_piece, put_reinsertion, put_wait};
+use crate::receive::{Taken, put_mark, put_piece, put_reinsertion, put_returned, put_wait};
 pub use crate::submission::{Reinsertion, Submission, TombstoneInfo};
 use foyer_block::indexer::{EntryAddress, Indexer};
 use foyer_block::manager::BlockId;
@@ -185,19 +185,21 @@ impl<K, V, P, A: Allocator + Clone> Flusher<K, V, P, A> {
     ghost use Rattle.foyer_flusher.specs.Taking.{TakesFront};
     ghost use Rattle.foyer_flusher.specs.declared.batch.Wrote.TheVariants as wrote;
 
-    /// Takes the front of the queue. What has no room is handed back; a record that was read back is dropped then, and where the
-    /// index hasn't the very address that it was read from. Memory where an allocation was refused for what has room: it stays
-    /// at the front then.
-    pub fn receive(&mut self, alloc: &A, index: &Indexer<A>) -> Result<Taken<K, V, P, A>>
+    /// Takes the front of the queue. A piece that has no room, or whose code fails, is handed back, and a mark of its sequence
+    /// enters the index and is kept in its place; a record that was read back is dropped where it has no room, and where the
+    /// index hasn't the very address that it was read from. Memory where an allocation was refused: what it was for stays at
+    /// the front then.
+    pub fn receive(&mut self, alloc: &A, index: &mut Indexer<A>) -> Result<Taken<K, V, P, A>>
     where
         K: Code<A>,
         V: Code<A>,
         ensures refused { OnErr result (seen self.new ≡ seen self.old) }
+        ensures kept { OnErr result (KeepsIndex index.old index.new) }
         ensures memory { IfErr result (λ e. e ≡ error.Memory) }
         ensures takes { (age_of : P → Option age) (s : Settings) (sound : AreValid s) (st : State Content) (f : ℕ)
             → IsFlusherAs (meaning K.encoding V.encoding K.is_encodable V.is_encodable K.is_decodable V.is_decodable age_of) s (seen self.old) (st.flushers f)
-            → IsIndexedAs s index.now.slots st.index
-            → TakesFront (meaning K.encoding V.encoding K.is_encodable V.is_encodable K.is_decodable V.is_decodable age_of) s sound st f result self.new }
+            → IsIndexedAs s index.old.slots st.index
+            → TakesFront (meaning K.encoding V.encoding K.is_encodable V.is_encodable K.is_decodable V.is_decodable age_of) s sound st f result self.new index.new.slots }
     {
         match self.queue.pop_front() {
             None => Ok(Taken::Nothing),
@@ -221,7 +223,23 @@ impl<K, V, P, A: Allocator + Clone> Flusher<K, V, P, A> {
                     self.sources.push_back_reserved(None);
                     Ok(Taken::Piece(estimated_size, None))
                 }
-                Ok(false) => Ok(Taken::Piece(estimated_size, Some(piece))),
+                Ok(false) => match put_returned(
+                    &mut self.marks,
+                    &mut self.invalid,
+                    index,
+                    piece.hash(),
+                    sequence,
+                ) {
+                    Ok(()) => Ok(Taken::Piece(estimated_size, Some(piece))),
+                    Err(error) => {
+                        self.queue.push_front_reserved(Submission::CacheEntry {
+                            piece,
+                            estimated_size,
+                            sequence,
+                        });
+                        Err(error)
+                    }
+                },
                 Err(error) => {
                     self.queue.push_front_reserved(Submission::CacheEntry {
                         piece,

@@ -11,5 +11,6 @@ pub mod flusher;
 pub mod issuing;
 pub mod laws;
 pub mod logged;
+pub mod marking;
 pub mod receive;
 pub mod submission;

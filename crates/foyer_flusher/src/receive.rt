@@ -1,9 +1,14 @@
 //! From a flusher's queue into its buffer.
 ghost use Rattle.std.specs.VecDeque.{deque_len, deque_capacity};
-ghost use Rattle.foyer_block.specs.Index.{address_at};
+ghost use Rattle.foyer_block.specs.Index.{address_at, KeepsIndex};
+ghost use Rattle.foyer_block.specs.Insertion.{displaced, inserted};
+ghost use Rattle.foyer_block.specs.declared.indexer.Index.TheVariants.{Tombstone as Mark};
+ghost use Rattle.std.specs.FinMap as finite;
 ghost use Rattle.foyer_standing.specs.Standing.{IsIndexedAs};
+ghost use Rattle.foyer_standing.specs.Addresses.{mark_of, invalid_of};
+ghost use Rattle.foyer_flusher.specs.Marking.{bytes_of};
 ghost use Rattle.foyer_flusher.specs.Taking.{IsPutAgain, PutsAgain};
-ghost use Rattle.std.specs.Prelude.{◌≡◌, ◌+◌, ◌<◌, ◌↔◌, ◌++◌, ◌∷◌, [], ℕ, true, Some, IsTrue, option_to_list, length, Option, IfErr, IfOk, OnOk, OnErr, vec_len, vec_capacity};
+ghost use Rattle.std.specs.Prelude.{◌≡◌, ◌+◌, ◌<◌, ◌↔◌, ◌++◌, ◌∷◌, [], ℕ, true, Some, IsTrue, option_to_list, map, length, Option, IfErr, IfOk, OnOk, OnErr, vec_len, vec_capacity};
 ghost use Rattle.std.specs.Bool.{OnTrue, OnFalse};
 ghost use Rattle.foyer_buffer.specs.Entries.{FitsBuffer, with_entry};
 ghost use Rattle.foyer_device.specs.declared.error.Error.{Error as error};
@@ -20,6 +25,7 @@ ghost use Rattle.foyer_flusher.specs.Seen.{seen};
 ghost use Rattle.foyer_flusher.specs.Taking.{TakesFront};
 
 use crate::filled::Filled;
+use crate::marking::enter_mark;
 use crate::submission::{Reinsertion, TombstoneInfo};
 use foyer_block::indexer::{EntryAddress, Indexer};
 use foyer_block::tombstone::Tombstone;
@@ -143,6 +149,33 @@ pub(crate) fn put_mark<A: Allocator>(
 {
     marks.reserve(1)?;
     invalid.reserve(1)?;
+    marks.push_reserved(info.tombstone);
+    if let Some(stats) = info.stats {
+        invalid.push_reserved(stats);
+    }
+    Ok(())
+}
+
+// Puts the mark of a piece that is handed back into the index, and appends it with what it made invalid, if it did.
+pub(crate) fn put_returned<A: Allocator + Clone>(
+    marks: &mut Vec<Tombstone, A>,
+    invalid: &mut Vec<InvalidStats, A>,
+    index: &mut Indexer<A>,
+    hash: u64,
+    sequence: Sequence,
+) -> Result<()>
+    ensures marks { OnOk result (map mark_of marks.new.items ≡ map mark_of marks.old.items ++ (hash, sequence) ∷ []) }
+    ensures invalid { OnOk result (map invalid_of invalid.new.items
+        ≡ map invalid_of invalid.old.items ++ bytes_of (displaced (finite.get index.old.slots hash) (Mark sequence))) }
+    ensures entered { OnOk result (index.new.slots ≡ inserted index.old.slots hash (Mark sequence)) }
+    ensures marks_kept { OnErr result (marks.new.items ≡ marks.old.items) }
+    ensures invalid_kept { OnErr result (invalid.new.items ≡ invalid.old.items) }
+    ensures index_kept { OnErr result (KeepsIndex index.old index.new) }
+    ensures memory { IfErr result (λ e. e ≡ error.Memory) }
+{
+    marks.reserve(1)?;
+    invalid.reserve(1)?;
+    let info = enter_mark(index, hash, sequence)?;
     marks.push_reserved(info.tombstone);
     if let Some(stats) = info.stats {
         invalid.push_reserved(stats);

@@ -1,6 +1,5 @@
-//! Tests of the bytes that stand on a device, with an allocator that refuses.
+//! Tests of the bytes that stand on a device.
 #![tactic(auto)]
 
-pub mod refusing;
 #[cfg(test)]
 mod tests;

@@ -1,8 +1,8 @@
 -- What contracts see of a reference to a piece.
-use Rattle.std.specs.Prelude.{Bool}
+use Rattle.std.specs.Prelude.{ℕ}
 use Rattle.foyer_policy.specs.Record.{Record}
 
--- a piece, and whether it was inserted into a keeper
+-- a piece, and the number of its insertion into a keeper; 0 is of none
 pub record Referred (K V P : Type 0) : Type 0 where
   pub piece : Record K V P
-  pub is_kept : Bool
+  pub number : ℕ

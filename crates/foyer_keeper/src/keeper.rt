@@ -1,5 +1,5 @@
 //! The keeper: a map from a key to its piece, in shards that are locked one at a time.
-ghost use Rattle.std.specs.Prelude.{◌≡◌, ◌≢◌, ◌<◌, ◌%◌, length, IfOk, IfSome, IsOkUnless, true, false};
+ghost use Rattle.std.specs.Prelude.{◌≡◌, ◌≢◌, ◌<◌, ◌%◌, ◌⊎◌, length, IfOk, IfErr, IfSome, IsOkUnless};
 ghost use Rattle.foyer_keeper.specs.PieceMap.{IsOf};
 
 mod bucket;
@@ -17,7 +17,7 @@ use std::sync::{Mutex, Wait};
 #[derive(Drop)]
 pub struct PieceRef<K, V, P, A: Allocator> {
     piece: Piece<K, V, P, A>,
-    is_kept: bool,
+    number: u64,
 }
 
 impl<K, V, P, A: Allocator> Model for PieceRef<K, V, P, A> {
@@ -25,15 +25,15 @@ impl<K, V, P, A: Allocator> Model for PieceRef<K, V, P, A> {
 
     ghost Value = { Referred K V P };
 
-    ghost view = { λ r. record { piece = r.piece; is_kept = r.is_kept } };
+    ghost view = { λ r. record { piece = r.piece; number = r.number } };
 }
 
 impl<K, V, P, A: Allocator> PieceRef<K, V, P, A> {
-    /// Whether it was inserted into a keeper.
-    pub fn is_kept(&self) -> bool
-        ensures { result ≡ self.now.is_kept }
+    /// The number of its insertion into a keeper, from 1 up; 0, where it was made of a piece.
+    pub fn number(&self) -> u64
+        ensures { result ≡ self.now.number }
     {
-        self.is_kept
+        self.number
     }
 }
 
@@ -49,13 +49,10 @@ impl<K, V, P, A: Allocator> Deref for PieceRef<K, V, P, A> {
 
 /// A piece that no keeper was given, so that its release removes nothing.
 impl<K, V, P, A: Allocator> From<Piece<K, V, P, A>> for PieceRef<K, V, P, A> {
-    ghost from_gives = { λ piece r. (r.piece ≡ piece) × (r.is_kept ≡ false) };
+    ghost from_gives = { λ piece r. (r.piece ≡ piece) × (r.number ≡ 0) };
 
     fn from(piece: Piece<K, V, P, A>) -> PieceRef<K, V, P, A> {
-        PieceRef {
-            piece,
-            is_kept: false,
-        }
+        PieceRef { piece, number: 0 }
     }
 }
 
@@ -108,18 +105,13 @@ impl<K: Eq + Drop, V: Drop, P: Drop, A: Allocator + Clone> Keeper<K, V, P, A> {
         Ok(Keeper { shards: made })
     }
 
-    /// Keeps one more owner of the piece under its hash and its key, in place of what is there, until a release of them.
-    /// Memory is the only refusal: then all is kept as before.
+    /// Keeps one more owner of the piece under its hash and its key, in place of what is there, under the next number of its
+    /// shard. `SequenceEnd`, where the shard's numbers are used up; `Memory`. Then all is kept as before.
     pub fn insert(&self, rt: &impl Wait, piece: &Piece<K, V, P, A>) -> Result<PieceRef<K, V, P, A>>
-        ensures piece { IfOk result (λ kept. (kept.piece ≡ piece.now) × (kept.is_kept ≡ true)) }
-        ensures refused { IsOkUnless result Error.Memory }
+        ensures piece { IfOk result (λ kept. (kept.piece ≡ piece.now) × (0 < kept.number)) }
+        ensures refused { IfErr result (λ e. (e ≡ Error.Memory) ⊎ (e ≡ Error.SequenceEnd)) }
     {
-        let kept = PieceRef {
-            piece: piece.clone()?,
-            is_kept: true,
-        };
-        shard_of(&self.shards, piece.hash()).lock(rt).insert(piece)?;
-        Ok(kept)
+        shard_of(&self.shards, piece.hash()).lock(rt).insert(piece)
     }
 
     /// One more owner of the piece that is kept under a hash and a key. Memory, where the piece has 2^63 - 1 owners.
@@ -135,11 +127,16 @@ impl<K: Eq + Drop, V: Drop, P: Drop, A: Allocator + Clone> Keeper<K, V, P, A> {
         shard_of(&self.shards, hash).lock(rt).contains(hash, key)
     }
 
-    /// Removes what this keeper has under the hash and the key of a piece that was inserted, be it another piece by now.
-    /// A reference that was made of a piece removes nothing. It takes no memory.
+    /// Removes the piece that this keeper has under the hash and the key, if it has this very number. So a reference that was
+    /// made of a piece removes nothing, nor does one whose piece was replaced. It takes no memory.
     pub fn release(&self, rt: &impl Wait, piece: PieceRef<K, V, P, A>) {
         shard_of(&self.shards, piece.hash())
             .lock(rt)
-            .release_ref(&piece);
+            .release(&piece);
+    }
+
+    /// The lock of the shard that a hash lies in.
+    pub fn shard(&self, hash: u64) -> &Mutex<Shard<K, V, P, A>> {
+        shard_of(&self.shards, hash)
     }
 }

@@ -105,6 +105,15 @@ newest_del_below {C} h s H q n lt below = go (h == q && nat_le (sequence_in (new
     go true = lt
     go false = below
 
+-- an older delete changes nothing
+pub newest_del_past : {C : Type 0} (h s : ℕ) (H : List (Event C)) (q : ℕ) → s < sequence_in (newest h H) → newest q (Deletion h s ∷ H) ≡ newest q H
+newest_del_past {C} h s H q lt = go (h == q) refl (nat_le (sequence_in (newest q H)) s) refl
+  where
+    go : (p : Bool) → (h == q) ≡ p → (t : Bool) → nat_le (sequence_in (newest q H)) s ≡ t → (if p && t then Some (Deletion h s) else newest q H) ≡ newest q H
+    go true e true f = absurd (let above : s < sequence_in (newest q H) = subst (λ k. s < sequence_in (newest k H)) (eqb-true h q e) lt in grind (arith, nat_tests))
+    go true e false f = refl
+    go false e t f = refl
+
 -- lines
 
 pub at_least_all : (h n m : ℕ) (line : List (ℕ × ℕ)) → n ≤ m → AllAtLeast m (sequences line) → AtLeast h n line

@@ -6,7 +6,7 @@ use Rattle.foyer_model.specs.Position.{BlockLayout}
 use Rattle.foyer_model.specs.State.{Submission, Piece, Remove, Await, Reinsert, Writing, Batch, State}
 use Rattle.foyer_model.specs.Rules.{Rules, Splitting}
 use Rattle.foyer_model.specs.Step.{FlushWrote}
-use Rattle.foyer_model.specs.Reply.{Ignored, Received, Began, Written, Committed, Failed, Picked}
+use Rattle.foyer_model.specs.Reply.{Ignored, Dropped, Received, Began, Written, Committed, Failed, Picked}
 use Rattle.foyer_model.specs.Layout.{writes_in}
 use Rattle.foyer_model.specs.Commit.{is_put, committed_one, commit_of}
 use Rattle.foyer_model.specs.Queue.{Enqueues}
@@ -51,6 +51,7 @@ module _ {C : Type 0} (rules : Rules C) (Splits : Splitting C) where
   pub queue_keeps_lem : QueueKeeps rules Splits
   queue_keeps_lem = record {
     ignored = λ old new h n age c d ok. let does : Enqueues rules old h n age c (Ignored d) (ok.2).0 = (ok.2).1 in (does.0, does.2);
+    dropped = λ old new h n s age c d ok. let does : Enqueues rules old h n age c (Dropped d s) (ok.2).0 = (ok.2).1 in (does.0, does.2);
     returned = λ old new f d ok. takes_back old (ok.2).0 f (old.flushers f).queue d (ok.2).1;
   }
 

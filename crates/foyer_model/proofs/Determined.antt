@@ -7,7 +7,7 @@ use Rattle.foyer_model.specs.Record.{Slot, Indexed, Mark, Outcome, NoRecord, Hol
 use Rattle.foyer_model.specs.State.{Submission, Piece, Remove, Await, Reinsert, Batch, Writes, Stage, AtIndex, AtRecord, AllListed, ToClean, Reclaim, Destroy, NoDestroy, Begun, Cleaning, State}
 use Rattle.foyer_model.specs.Rules.{Rules, Splitting}
 use Rattle.foyer_model.specs.Step.{ReadResult, Bytes, Fault, Age, Ticket, Step, Enqueue, Delete, Wait, MayContains, LoadBegin, LoadEnd, Receive, FlushBegin, FlushBlock, FlushWrote, LogWrote, FlushEnd, ReclaimBegin, ReclaimRead, ReclaimForget, ReclaimCleaned, ReclaimIdle, DestroyBegin, DestroyClear, DestroyCleaned, Close}
-use Rattle.foyer_model.specs.Reply.{Reply, NotNow, Refused, Ignored, Queued, Deleted, Done, Miss, Throttled, Read, Entry, Empty, Received, Began, Written, NoBlock, Next, Committed, Failed, Ended, Picked, Scans, Listed, Cleans, Destroying, Cleared}
+use Rattle.foyer_model.specs.Reply.{Reply, NotNow, Refused, Ignored, Queued, Dropped, Deleted, Done, Miss, Throttled, Read, Entry, Empty, Received, Began, Written, NoBlock, Next, Committed, Failed, Ended, Picked, Scans, Listed, Cleans, Destroying, Cleared}
 use Rattle.foyer_model.specs.Queue.{Enqueues, Deletes, Waits}
 use Rattle.foyer_model.specs.Load.{Looks, judged, Judges, Ends}
 use Rattle.foyer_model.specs.Receive.{pushed_to, TakesFront}
@@ -42,14 +42,15 @@ module _ {C : Type 0} (rules : Rules C) (Splits : Splitting C) (old : State C) w
   joined : (one two expr : State C) → one ≡ expr → two ≡ expr → one ≡ two
   joined one two expr p q = p ∙ sym q
 
-  enqueues_one : (h n : ℕ) (age : Age) (k : C) (reply : Reply C) (one two : State C) → Enqueues rules old h n age k reply one → Enqueues rules old h n age k reply two → one ≡ two
-  enqueues_one h n age k (Ignored d) one two p q = joined one two old p.3 q.3
-  enqueues_one h n age k (Queued s) one two p q = joined one two _ p.4 q.4
-  enqueues_one h n age k reply one two p q = absurd p
-
   deletes_one : (h : ℕ) (reply : Reply C) (one two : State C) → Deletes rules old h reply one → Deletes rules old h reply two → one ≡ two
   deletes_one h (Deleted s) one two p q = joined one two _ p.3 q.3
   deletes_one h reply one two p q = absurd p
+
+  enqueues_one : (h n : ℕ) (age : Age) (k : C) (reply : Reply C) (one two : State C) → Enqueues rules old h n age k reply one → Enqueues rules old h n age k reply two → one ≡ two
+  enqueues_one h n age k (Dropped d s) one two p q = deletes_one h (Deleted s) one two p.3 q.3
+  enqueues_one h n age k (Ignored d) one two p q = joined one two old p.3 q.3
+  enqueues_one h n age k (Queued s) one two p q = joined one two _ p.4 q.4
+  enqueues_one h n age k reply one two p q = absurd p
 
   waits_one : (f i : ℕ) (reply : Reply C) (one two : State C) → Waits rules old f i reply one → Waits rules old f i reply two → one ≡ two
   waits_one f i Done one two p q = joined one two _ p q

@@ -15,6 +15,7 @@ use Rattle.foyer_model.proofs.Basics.{put_at, put_same, put_other, Ascends}
 use Rattle.foyer_layout.specs.Each.{Each}
 use Rattle.foyer_model.proofs.Invariant.{Ground, IsGood, put_in, puts_onto, SlotOk, sequences, SourceOk, RecordOk}
 use Rattle.foyer_model.proofs.CommitSteps.{committed, noted_one, noted, newest_kept, newest_del, newest_del_other, Brings, other_newest, all_bring, put_next, commits}
+use Rattle.foyer_model.proofs.LoadSteps.{MarkEnters}
 use Rattle.foyer_model.proofs.Rereads.{AllHere}
 
 -- record by record, as the index and the history
@@ -63,6 +64,17 @@ module _ {C : Type 0} (rules : Rules C) where
             (λ at b t x is new. absurd (let e : newest k (Deletion h s ∷ H) ≡ Some (Deletion k s) = subst (λ q. newest q (Deletion h s ∷ H) ≡ Some (Deletion q s)) (sym at) (newest_del h s H le) in
             let f : Some (Deletion k s) ≡ Some (Put k t x) = sym e ∙ new in cc))
             (λ ne b t x is new. ok.found k b t x is (sym (newest_del_other h s H k (λ e. ne (sym e))) ∙ new));
+        safe = ok.safe;
+      }
+
+  -- a mark enters
+  pub kept_marked : (index index' : ℕ → Option Slot) (H H' : List (Event C)) (kept : ℕ → Option ℕ) (filling : ℕ → ℕ) (place : ℕ → BlockSet)
+      → MarkEnters index index' H H' → IsKept index H kept filling place → IsKept index' H' kept filling place
+  kept_marked index index' H H' kept filling place enters ok =
+      record {
+        found = λ h b s x is new some. let before : (newest h H ≡ Some (Put h s x)) × (index' h ≡ index h) = enters.puts h s x new in
+            let f : (a : Address) × (index h ≡ Some (Indexed a)) × (a.block ≡ b) × (a.filling ≡ filling b) = ok.found h b s x is before.0 some in
+            (f.0, before.1 ∙ f.1, f.2, f.3);
         safe = ok.safe;
       }
 

@@ -9,7 +9,7 @@ use Rattle.foyer_model.specs.Position.{records_of}
 use Rattle.foyer_model.specs.State.{Submission, Piece, Remove, Await, Reinsert, Writing, Batch, Flusher, BlockSet, Clean, Writes, Evictable, Reclaims, Stage, AtIndex, AtRecord, Reclaim, Destroy, NoDestroy, Begun, Cleaning, State}
 use Rattle.foyer_model.specs.Rules.{Rules, flusher_of, Splitting}
 use Rattle.foyer_model.specs.Step.{ReadResult, Bytes, Fault, Age, Ticket, Step, Enqueue, Delete, Wait, MayContains, LoadBegin, LoadEnd, Receive, FlushBegin, FlushBlock, FlushWrote, LogWrote, FlushEnd, ReclaimBegin, ReclaimRead, ReclaimForget, ReclaimCleaned, ReclaimIdle, DestroyBegin, DestroyClear, DestroyCleaned, Close}
-use Rattle.foyer_model.specs.Reply.{Reply, NotNow, Refused, Ignored, Queued, Deleted, Done, Miss, Throttled, Read, Entry, Empty, Received, Began, Written, NoBlock, Next, Committed, Failed, Ended, Picked, Cleans, Destroying, Cleared}
+use Rattle.foyer_model.specs.Reply.{Reply, NotNow, Refused, Ignored, Queued, Dropped, Deleted, Done, Miss, Throttled, Read, Entry, Empty, Received, Began, Written, NoBlock, Next, Committed, Failed, Ended, Picked, Cleans, Destroying, Cleared}
 use Rattle.foyer_model.specs.Index.{is_same, holds, inserted, without}
 use Rattle.foyer_model.specs.Commit.{address_of, committed_one}
 use Rattle.foyer_model.specs.Queue.{invalidated_by, queued, Enqueues, Deletes, Waits}
@@ -21,7 +21,7 @@ use Rattle.foyer_model.specs.Destroy.{BeginsDestroy, Clears, CleansOne}
 use Rattle.foyer_model.specs.InTurn.{InTurn}
 use Rattle.foyer_model.specs.Changes.{Changes}
 use Rattle.foyer_model.specs.Follows.{Follows}
-use Rattle.foyer_model.specs.Event.{Event, Put, Deletion, Destruction, sequence_in, newest, with_puts, puts_of}
+use Rattle.foyer_model.specs.Event.{Event, Put, Deletion, Destruction, sequence_in, newest, with_puts, puts_of, with_returned}
 use Rattle.foyer_model.specs.Kept.{with_kept, kept_of}
 use Rattle.foyer_model.specs.Access.{Idle, ReadDone, Load, result_of, came}
 use Rattle.foyer_model.specs.World.{World, WorldEvent, Applies, ReadBegins, ReadEnds, ScanBegins, ScanEnds, WriteBegins, WriteEnds, CleanBegins, CleanEnds, after, IsFed, MayHappen}
@@ -34,6 +34,7 @@ use Rattle.foyer_model.proofs.GoodAddresses.{good_writes, slot_lift}
 use Rattle.foyer_layout.proofs.EachLaws.{each_front}
 use Rattle.foyer_model.proofs.CommitSteps.{committed, noted, committed_is, noted_is, onto_append, line_ascends, same_address, Brings}
 use Rattle.foyer_model.proofs.LoadSteps.{mark_enters}
+use Rattle.foyer_model.proofs.Received.{piece_enters}
 use Rattle.foyer_model.proofs.FlushEnds.{last_stands, all_good}
 use Rattle.foyer_model.proofs.FlushBlocks.{issued}
 use Rattle.foyer_model.proofs.Rereads.{AllHere, ReclaimOk, still_of, IsAgain}
@@ -41,7 +42,7 @@ use Rattle.foyer_model.proofs.Sets.{AreSets, clean_is}
 use Rattle.foyer_model.proofs.RereadFlushes.{brings_of}
 use Rattle.foyer_model.proofs.SoundKept.{reclaims_at, IsKnown}
 use Rattle.foyer_model.proofs.OpenedSound.{FoundOk, found_ok}
-use Rattle.foyer_model.proofs.Found.{kept_one, all_kept, kept_is, Found, IsKept, kept_deleted, kept_put, kept_unmarked, kept_forgotten, kept_reclaimed, kept_placed, commits_found, commits_found_other}
+use Rattle.foyer_model.proofs.Found.{kept_one, all_kept, kept_is, Found, IsKept, kept_deleted, kept_marked, kept_put, kept_unmarked, kept_forgotten, kept_reclaimed, kept_placed, commits_found, commits_found_other}
 
 abbrev pub Stays : {C : Type 0} → State C → List (Event C) → (ℕ → Option ℕ) → Type 0
 Stays c H kept = IsKept c.index H kept c.filling c.place
@@ -54,11 +55,6 @@ module _ {C : Type 0} (rules : Rules C) (Splits : Splitting C) (is_value : C →
   issued_state : (H : List (Event C)) (kept : ℕ → Option ℕ) (new expr : State C) → new ≡ expr → Stays expr H kept → Stays new H kept
   issued_state H kept new expr is ok = subst (λ c. Stays c H kept) (sym is) ok
 
-  enqueue_kept : (w : World C) (h n : ℕ) (age : Age) (c : C) (reply : Reply C) (new : State C) → Enqueues rules w.core h n age c reply new → Kept w → Kept (after rules w (Applies (Enqueue h n age c) reply new))
-  enqueue_kept w h n age c (Ignored d) new ok kept = issued_state w.history w.kept new w.core ok.3 kept
-  enqueue_kept w h n age c (Queued s) new ok kept = issued_state w.history w.kept new _ ok.4 kept
-  enqueue_kept w h n age c reply new ok kept = absurd ok
-
   destroying_kept : (w : World C) (reply : Reply C) (new : State C) → BeginsDestroy rules w.core reply new → Kept w → Kept (after rules w (Applies DestroyBegin reply new))
   destroying_kept w (Destroying s) new ok kept = issued_state w.history w.kept new _ ok.3 kept
   destroying_kept w reply new ok kept = absurd ok
@@ -69,10 +65,14 @@ module _ {C : Type 0} (rules : Rules C) (Splits : Splitting C) (is_value : C →
 
   plain_read : (w : World C) (b : ℕ) (came : ReadResult) (reply : Reply C) (new : State C) → Stays new w.history w.kept → Kept (after rules w (Applies (ReclaimRead b came) reply new))
   plain_read w b came (Deleted s) new ok = ok
+  plain_read w b came (Received None) new ok = ok
+  plain_read w b came (Received (Some d)) new ok = ok
   plain_read w b came reply new ok = ok
 
   plain_clean : (w : World C) (b : ℕ) (well : Option Kind) (reply : Reply C) (new : State C) → Stays new w.history w.kept → Kept (after rules w (Applies (DestroyCleaned b well) reply new))
   plain_clean w b well (Deleted s) new ok = ok
+  plain_clean w b well (Received None) new ok = ok
+  plain_clean w b well (Received (Some d)) new ok = ok
   plain_clean w b well reply new ok = ok
 
   destroyed_kept : (w : World C) (b : ℕ) (well : Option Kind) (d : Destroy) (reply : Reply C) (new : State C) → CleansOne rules w.core b well d reply new → Kept w → Kept (after rules w (Applies (DestroyCleaned b well) reply new))
@@ -105,6 +105,12 @@ module _ {C : Type 0} (rules : Rules C) (Splits : Splitting C) (is_value : C →
           ≡ record (queued rules w.core (flusher_of rules h) (Remove h s (invalidated_by rules s (w.core.index h)))) { next = s + 1; index = put w.core.index h (Some (Mark s)) }
       entered = λ i. record (queued rules w.core (flusher_of rules h) (Remove h s (invalidated_by rules s (w.core.index h)))) { next = s + 1; index = put w.core.index h (mark_enters rules w h s sound ok.0 i) }
   delete_kept w h reply new ok sound kept = absurd ok
+
+  enqueue_kept : (w : World C) (h n : ℕ) (age : Age) (c : C) (reply : Reply C) (new : State C) → Enqueues rules w.core h n age c reply new → WorldInvariant rules w → Kept w → Kept (after rules w (Applies (Enqueue h n age c) reply new))
+  enqueue_kept w h n age c (Dropped d s) new ok sound kept = delete_kept w h (Deleted s) new ok.3 sound kept
+  enqueue_kept w h n age c (Ignored d) new ok sound kept = issued_state w.history w.kept new w.core ok.3 kept
+  enqueue_kept w h n age c (Queued s) new ok sound kept = issued_state w.history w.kept new _ ok.4 kept
+  enqueue_kept w h n age c reply new ok sound kept = absurd ok
 
   wait_kept : (w : World C) (f i : ℕ) (reply : Reply C) (new : State C) → Waits rules w.core f i reply new → Kept w → Kept (after rules w (Applies (Wait f i) reply new))
   wait_kept w f i Done new ok kept = issued_state w.history w.kept new _ ok kept
@@ -171,15 +177,18 @@ module _ {C : Type 0} (rules : Rules C) (Splits : Splitting C) (is_value : C →
   end_kept w t Fault reply new fed ok sound kept = absurd ok
   end_kept w t (Bytes bs) reply new fed ok sound kept = judge_kept w t bs (judged rules w.core t bs) reply new refl fed ok sound kept
 
-  take_kept : (w : World C) (f : ℕ) (queue : List (Submission C)) (reply : Reply C) (new : State C) → TakesFront rules w.core f queue reply new → Kept w → Kept (after rules w (Applies (Receive f) reply new))
-  take_kept w f [] Empty new ok kept = issued_state w.history w.kept new w.core ok kept
-  take_kept w f (Piece h s n c ∷ rest) (Received None) new ok kept = issued_state w.history w.kept new _ ok.3 kept
-  take_kept w f (Piece h s n c ∷ rest) (Received (Some d)) new ok kept = issued_state w.history w.kept new _ ok.2 kept
-  take_kept w f (Remove h s invalidated ∷ rest) (Received None) new ok kept = issued_state w.history w.kept new _ ok kept
-  take_kept w f (Await i ∷ rest) (Received None) new ok kept = issued_state w.history w.kept new _ ok kept
-  take_kept w f (Reinsert h bytes a ∷ rest) (Received None) new ok kept =
+  take_kept : (w : World C) (f : ℕ) (queue : List (Submission C)) (reply : Reply C) (new : State C) → (w.core.flushers f).queue ≡ queue → TakesFront rules w.core f queue reply new → WorldInvariant rules w → Kept w → Kept (after rules w (Applies (Receive f) reply new))
+  take_kept w f [] Empty new is ok sound kept = issued_state w.history w.kept new w.core ok kept
+  take_kept w f (Piece h s n c ∷ rest) (Received None) new is ok sound kept = issued_state w.history w.kept new _ ok.3 kept
+  take_kept w f (Piece h s n c ∷ rest) (Received (Some d)) new is ok sound kept =
+      subst (λ H. Stays new H w.kept) (sym (ap (λ q. with_returned q w.history) is))
+      (issued_state (Deletion h s ∷ w.history) w.kept new _ ok.2
+      (kept_marked rules w.core.index (put w.core.index h (inserted (w.core.index h) (Mark s))) w.history (Deletion h s ∷ w.history) w.kept w.core.filling w.core.place (piece_enters rules w f h s n c rest sound is) kept))
+  take_kept w f (Remove h s invalidated ∷ rest) (Received None) new is ok sound kept = issued_state w.history w.kept new _ ok kept
+  take_kept w f (Await i ∷ rest) (Received None) new is ok sound kept = issued_state w.history w.kept new _ ok kept
+  take_kept w f (Reinsert h bytes a ∷ rest) (Received None) new is ok sound kept =
       elim ok [ inl (held, fits, eq) ↦ issued_state w.history w.kept new _ eq kept | inr (dropped, eq) ↦ issued_state w.history w.kept new _ eq kept ]
-  take_kept w f queue reply new ok kept = absurd ok
+  take_kept w f queue reply new is ok sound kept = absurd ok
 
   begin_kept : (w : World C) (f : ℕ) (reply : Reply C) (new : State C) → Begins rules Splits w.core f reply new → Kept w → Kept (after rules w (Applies (FlushBegin f) reply new))
   begin_kept w f (Began n marks) new ok kept = issued_state w.history w.kept new _ ok.2 kept
@@ -366,13 +375,13 @@ module _ {C : Type 0} (rules : Rules C) (Splits : Splitting C) (is_value : C →
 
   does_kept : (w : World C) (step : Step C) (reply : Reply C) (new : State C) → IsFed rules Splits is_value w step → InTurn rules w.core step → Changes rules Splits w.core step reply new → AreSets rules w.core → WorldInvariant rules w → IsAgain rules w → Kept w
       → Kept (after rules w (Applies step reply new))
-  does_kept w (Enqueue h n age c) reply new fed turn ok sets sound again kept = enqueue_kept w h n age c reply new ok kept
+  does_kept w (Enqueue h n age c) reply new fed turn ok sets sound again kept = enqueue_kept w h n age c reply new ok sound kept
   does_kept w (Delete h) reply new fed turn ok sets sound again kept = delete_kept w h reply new ok sound kept
   does_kept w (Wait f i) reply new fed turn ok sets sound again kept = wait_kept w f i reply new ok kept
   does_kept w (MayContains h) reply new fed turn ok sets sound again kept = subst (λ r. Kept (after rules w (Applies (MayContains h) r new))) (sym ok.0) (issued_state w.history w.kept new w.core ok.1 kept)
   does_kept w (LoadBegin h throttled) reply new fed turn ok sets sound again kept = look_kept w h throttled (w.core.index h) reply new refl ok kept
   does_kept w (LoadEnd t came) reply new fed turn ok sets sound again kept = end_kept w t came reply new fed ok sound kept
-  does_kept w (Receive f) reply new fed turn ok sets sound again kept = take_kept w f (w.core.flushers f).queue reply new ok kept
+  does_kept w (Receive f) reply new fed turn ok sets sound again kept = take_kept w f (w.core.flushers f).queue reply new refl ok sound kept
   does_kept w (FlushBegin f) reply new fed turn ok sets sound again kept = begin_kept w f reply new ok kept
   does_kept w (FlushBlock f) reply new fed turn ok sets sound again kept = issue_kept w f (w.core.flushers f).batch reply new (clean_is rules w.core sets) ok kept
   does_kept w (FlushWrote f good) reply new fed turn ok sets sound again kept = wrote_kept w f good (w.core.flushers f).batch reply new refl fed ok sound again kept

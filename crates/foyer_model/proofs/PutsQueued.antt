@@ -1,10 +1,10 @@
 -- Each put is one that was recovered, or its content was queued under its sequence.
-use Rattle.std.proofs.Common.{◌≡◌, ℕ, List, [], ◌∷◌, ◌⊎◌, inl, inr, refl, sym, subst}
+use Rattle.std.proofs.Common.{◌≡◌, ℕ, List, [], ◌∷◌, Some, None, ◌⊎◌, inl, inr, refl, sym, subst}
 use Rattle.foyer_model.specs.Record.{Outcome}
 use Rattle.foyer_model.specs.State.{Piece, State}
 use Rattle.foyer_model.specs.Rules.{Rules, flusher_of, Splitting}
 use Rattle.foyer_model.specs.Step.{Age, Step, Enqueue, Delete, Wait, MayContains, LoadBegin, LoadEnd, Receive, FlushBegin, FlushBlock, FlushWrote, LogWrote, FlushEnd, ReclaimBegin, ReclaimRead, ReclaimForget, ReclaimCleaned, ReclaimIdle, DestroyBegin, DestroyClear, DestroyCleaned, Close}
-use Rattle.foyer_model.specs.Reply.{Reply, NotNow, Refused, Ignored, Queued, Deleted, Committed, Cleared}
+use Rattle.foyer_model.specs.Reply.{Reply, NotNow, Refused, Ignored, Queued, Dropped, Deleted, Received, Committed, Cleared}
 use Rattle.foyer_model.specs.Queue.{Enqueues}
 use Rattle.foyer_model.specs.InTurn.{InTurn}
 use Rattle.foyer_model.specs.Changes.{Changes}
@@ -22,7 +22,9 @@ use Rattle.foyer_model.proofs.Traced.{IsKnownPut, IsTracedAt, IsTracedIn, IsTrac
 module _ {C : Type 0} (rules : Rules C) (Splits : Splitting C) (is_value : C → Type 0) (demands : Demands rules Splits is_value) (R : ℕ → ℕ → Outcome C → Type 0) where
   -- steps that give no event
   abbrev IsQuiet : Step C → Type 0
+  IsQuiet (Enqueue h n age c) = ⊥
   IsQuiet (Delete h) = ⊥
+  IsQuiet (Receive f) = ⊥
   IsQuiet (FlushWrote f ok) = ⊥
   IsQuiet DestroyClear = ⊥
   IsQuiet step = Unit {0}
@@ -30,6 +32,11 @@ module _ {C : Type 0} (rules : Rules C) (Splits : Splitting C) (is_value : C →
   quiet : (old : State C) (H : List (Event C)) (reply : Reply C) (step : Step C) → IsQuiet step → events_of old reply step H ≡ H
   quiet old H (Deleted s) (Delete h) none = absurd none
   quiet old H (Deleted s) step none = refl
+  quiet old H (Dropped d s) (Enqueue h n age c) none = absurd none
+  quiet old H (Dropped d s) step none = refl
+  quiet old H (Received (Some d)) (Receive f) none = absurd none
+  quiet old H (Received None) step none = refl
+  quiet old H (Received (Some d)) step none = refl
   quiet old H (Committed n) (FlushWrote f ok) none = absurd none
   quiet old H (Committed n) step none = refl
   quiet old H (Cleared bs) DestroyClear none = absurd none
@@ -44,7 +51,9 @@ module _ {C : Type 0} (rules : Rules C) (Splits : Splitting C) (is_value : C →
   More K events h s c = K h s c ⊎ WasQueued h s c events
 
   enqueues_traced : (K : ℕ → ℕ → C → Type 0) (w : World C) (h n : ℕ) (age : Age) (c : C) (reply : Reply C) (done new : State C) → Enqueues rules w.core h n age c reply done → IsTraced K R w
-      → IsTracedIn (More K (Applies (Enqueue h n age c) reply new ∷ [])) R done.flushers w.history
+      → IsTraced (More K (Applies (Enqueue h n age c) reply new ∷ [])) R (after rules w (Applies (Enqueue h n age c) reply done))
+  enqueues_traced K w h n age c (Dropped d s) done new ok traced =
+      deletes_traced rules (More K (Applies (Enqueue h n age c) (Dropped d s) new ∷ [])) R w h (Deleted s) done ok.3 (traced_more K _ R (λ h s c k. inl k) w traced)
   enqueues_traced K w h n age c (Ignored d) done new ok traced =
       traced_as rules (More K (Applies (Enqueue h n age c) (Ignored d) new ∷ [])) R w.history done w.core ok.3 (traced_more K _ R (λ h s c k. inl k) w traced)
   enqueues_traced K w h n age c (Queued s) done new ok traced =
@@ -54,13 +63,13 @@ module _ {C : Type 0} (rules : Rules C) (Splits : Splitting C) (is_value : C →
 
   does_traced : (K : ℕ → ℕ → C → Type 0) (w : World C) (step : Step C) (reply : Reply C) (done new : State C) → InTurn rules w.core step → Changes rules Splits w.core step reply done → IsKnown rules Splits is_value demands w → IsTraced K R w
       → IsTraced (More K (Applies step reply new ∷ [])) R (after rules w (Applies step reply done))
-  does_traced K w (Enqueue h n age c) reply done new turn ok known traced = quietly (More K (Applies (Enqueue h n age c) reply new ∷ [])) w (Enqueue h n age c) reply done tt (enqueues_traced K w h n age c reply done new ok traced)
+  does_traced K w (Enqueue h n age c) reply done new turn ok known traced = enqueues_traced K w h n age c reply done new ok traced
   does_traced K w (Delete h) reply done new turn ok known traced = deletes_traced rules _ R w h reply done ok (traced_more K _ R (λ h s c k. inl k) w traced)
   does_traced K w (Wait f i) reply done new turn ok known traced = quietly _ w (Wait f i) reply done tt (waits_traced rules _ R w f i reply done ok (traced_more K _ R (λ h s c k. inl k) w traced))
   does_traced K w (MayContains h) reply done new turn ok known traced = quietly _ w (MayContains h) reply done tt (traced_as rules _ R w.history done w.core ok.1 (traced_more K _ R (λ h s c k. inl k) w traced))
   does_traced K w (LoadBegin h throttled) reply done new turn ok known traced = looks_traced rules _ R w h throttled (w.core.index h) reply done ok (traced_more K _ R (λ h s c k. inl k) w traced)
   does_traced K w (LoadEnd t came) reply done new turn ok known traced = ends_traced rules _ R w t came reply done ok (traced_more K _ R (λ h s c k. inl k) w traced)
-  does_traced K w (Receive f) reply done new turn ok known traced = quietly _ w (Receive f) reply done tt (takes_traced rules _ R w f (w.core.flushers f).queue reply done refl ok (traced_more K _ R (λ h s c k. inl k) w traced))
+  does_traced K w (Receive f) reply done new turn ok known traced = takes_traced rules _ R w f (w.core.flushers f).queue reply done refl ok (traced_more K _ R (λ h s c k. inl k) w traced)
   does_traced K w (FlushBegin f) reply done new turn ok known traced = quietly _ w (FlushBegin f) reply done tt (begins_traced rules _ R Splits demands.places w f reply done ok (traced_more K _ R (λ h s c k. inl k) w traced))
   does_traced K w (FlushBlock f) reply done new turn ok known traced = quietly _ w (FlushBlock f) reply done tt (issues_traced rules _ R w f (w.core.flushers f).batch reply done refl turn.1 ok (traced_more K _ R (λ h s c k. inl k) w traced))
   does_traced K w (FlushWrote f good) reply done new turn ok known traced = wrote_traced rules _ R w f good (w.core.flushers f).batch reply done refl ok known.sound known.again (traced_more K _ R (λ h s c k. inl k) w traced)

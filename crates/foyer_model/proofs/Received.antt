@@ -1,19 +1,22 @@
 -- Receive and FlushBegin.
 use Rattle.std.proofs.Common.{◌≡◌, ℕ, ◌+◌, ◌<◌, ◌≤◌, true, List, [], ◌∷◌, ◌++◌, Option, Some, None, refl, sym, ap, subst, ◌∙◌, arith}
 use Rattle.foyer_model.specs.Numbers.{put}
-use Rattle.foyer_model.specs.Record.{Address, Given, Reread, Record}
+use Rattle.foyer_model.specs.Record.{Address, Mark, Given, Reread, Record}
 use Rattle.foyer_model.specs.Position.{Position, BlockLayout, last_end}
 use Rattle.foyer_model.specs.State.{Submission, Piece, Remove, Await, Reinsert, Flusher}
 use Rattle.foyer_model.specs.Rules.{Rules, flusher_of}
+use Rattle.foyer_model.specs.Index.{inserted}
 use Rattle.foyer_model.specs.Layout.{KeepsBlocks, KeepsBatch}
 use Rattle.foyer_model.specs.Flush.{is_some}
+use Rattle.foyer_model.specs.Event.{Deletion}
 use Rattle.foyer_model.specs.World.{World}
-use Rattle.foyer_model.proofs.Basics.{Ascends, ascends_from, ascends_to}
+use Rattle.foyer_model.proofs.Basics.{Ascends, ascends_span, ascends_from, ascends_to}
 use Rattle.foyer_layout.specs.Each.{Each}
-use Rattle.foyer_model.proofs.Invariant.{puts_onto, queue_puts, batch_records, AtLeast, sequences, queue_sequences, RecordOk, start_of, WorldInvariant}
+use Rattle.foyer_model.proofs.Invariant.{ground_of, puts_onto, queue_puts, batch_records, line_of, AtLeast, sequences, queue_sequences, RecordOk, start_of, FlusherInvariant, WorldInvariant}
 use Rattle.foyer_layout.proofs.EachLaws.{each_join, each_weaker}
-use Rattle.foyer_model.proofs.CommitSteps.{each_onto, onto_append, ascends_last}
+use Rattle.foyer_model.proofs.CommitSteps.{each_onto, each_past, onto_append, ascends_last}
 use Rattle.foyer_model.proofs.OneFlusher.{one_turned}
+use Rattle.foyer_model.proofs.LoadSteps.{MarkEnters, returned, returned_enters}
 
 pub marks_below : (n m : ℕ) (ps : List (ℕ × ℕ)) → n ≤ m → Each (λ p. p.1 < n) ps → Each (λ p. p.1 < m) ps
 marks_below n m ps le = each_weaker (λ p. p.1 < n) (λ p. p.1 < m) ps (λ p lt. omega arith)
@@ -66,10 +69,47 @@ module _ {C : Type 0} (rules : Rules C) where
       r : Record C
       r = record { hash = h; sequence = s; bytes = bytes; source = Given c }
 
-  pub returned_piece : (w : World C) (f h s n : ℕ) (c : C) (rest : List (Submission C)) → WorldInvariant rules w → (w.core.flushers f).queue ≡ Piece h s n c ∷ rest
-      → WorldInvariant rules (record w { core = record w.core { flushers = put w.core.flushers f (record (w.core.flushers f) { queue = rest }) } })
-  returned_piece w f h s n c rest sound is =
-      one_turned rules w f (record φ { queue = Piece h s n c ∷ rest }) (record φ { queue = rest }) w.core.next sound
+  -- the front of the queue, as the flusher that is known
+  at_front : (w : World C) (f : ℕ) (sub : Submission C) (rest : List (Submission C)) → WorldInvariant rules w → (w.core.flushers f).queue ≡ sub ∷ rest
+      → FlusherInvariant rules (ground_of w) w.core.place w.core.next f (record (w.core.flushers f) { queue = sub ∷ rest }) (w.block_writes f)
+  at_front w f sub rest sound is =
+      subst (λ k. FlusherInvariant rules (ground_of w) w.core.place w.core.next f k (w.block_writes f)) (λ i. record (w.core.flushers f) { queue = is i }) (sound.flushers f)
+
+  -- a piece at the front waits first of its hash
+  waits_first : (w : World C) (f h s n : ℕ) (c : C) (rest : List (Submission C)) → WorldInvariant rules w → (w.core.flushers f).queue ≡ Piece h s n c ∷ rest
+      → (k : ℕ) → AtLeast h k (line_of (w.core.flushers (flusher_of rules h))) → k ≤ s
+  waits_first w f h s n c rest sound is k line =
+      (each_past P φ.buffer ((h, s) ∷ queue_puts rest) (each_past P (batch_records φ.batch) (puts_onto φ.buffer ((h, s) ∷ queue_puts rest))
+      (subst (λ q. Each P (puts_onto (batch_records φ.batch) (puts_onto φ.buffer (queue_puts q)))) is
+      (subst (λ e. AtLeast h k (line_of (w.core.flushers e))) ((at_front w f (Piece h s n c) rest sound is).queue.0).0 line)))).0 refl
+    where
+      φ : Flusher C
+      φ = w.core.flushers f
+
+      P : ℕ × ℕ → Type 0
+      P = λ p. p.0 ≡ h → k ≤ p.1
+
+  -- its mark enters the index
+  pub piece_enters : (w : World C) (f h s n : ℕ) (c : C) (rest : List (Submission C)) → WorldInvariant rules w → (w.core.flushers f).queue ≡ Piece h s n c ∷ rest
+      → MarkEnters w.core.index (put w.core.index h (inserted (w.core.index h) (Mark s))) w.history (Deletion h s ∷ w.history)
+  piece_enters w f h s n c rest sound is = returned_enters rules w h s sound (waits_first w f h s n c rest sound is)
+
+  pub returned_piece : (w : World C) (f h s n : ℕ) (c : C) (rest : List (Submission C)) (more : List (ℕ × ℕ)) → WorldInvariant rules w → (w.core.flushers f).queue ≡ Piece h s n c ∷ rest
+      → WorldInvariant rules (record w {
+        core = record w.core {
+          flushers = put w.core.flushers f (record (w.core.flushers f) {
+            queue = rest;
+            marks = (w.core.flushers f).marks ++ (h, s) ∷ [];
+            invalidated = more;
+          });
+          index = put w.core.index h (inserted (w.core.index h) (Mark s));
+        };
+        history = Deletion h s ∷ w.history;
+      })
+  returned_piece w f h s n c rest more sound is =
+      one_turned rules (record w { core = record w.core { index = put w.core.index h (inserted (w.core.index h) (Mark s)) }; history = Deletion h s ∷ w.history })
+      f (record φ { queue = Piece h s n c ∷ rest }) (record φ { queue = rest; marks = φ.marks ++ (h, s) ∷ []; invalidated = more }) w.core.next
+      (returned rules w h s sound below (waits_first w f h s n c rest sound is))
       (λ i. record φ { queue = is i }) (omega arith)
       (λ k j lt line. let P : ℕ × ℕ → Type 0 = λ p. p.0 ≡ k → j ≤ p.1 in
       each_onto P (batch_records φ.batch) (puts_onto φ.buffer ((h, s) ∷ queue_puts rest)) (puts_onto φ.buffer (queue_puts rest))
@@ -78,17 +118,17 @@ module _ {C : Type 0} (rules : Rules C) where
       record {
         order = record {
           received = t.order.received;
-          queued = t.order.queued;
+          queued = s + 1;
           batch = t.order.batch;
           batch_marks = t.order.batch_marks;
-          buffer = t.order.buffer;
-          marks = t.order.marks;
-          queue = ascends_from t.order.queued (s + 1) (queue_sequences rest) w.core.next (omega arith) (t.order.queue).1;
+          buffer = ascends_to t.order.received (sequences (puts_onto φ.buffer [])) t.order.queued (s + 1) (omega arith) t.order.buffer;
+          marks = each_join (λ p. p.1 < s + 1) φ.marks ((h, s) ∷ []) (marks_below t.order.queued (s + 1) φ.marks (omega arith) t.order.marks) (omega arith, tt);
+          queue = (t.order.queue).1;
         };
         batch = t.batch;
         batch_marks = t.batch_marks;
         buffer = t.buffer;
-        marks = t.marks;
+        marks = each_join (λ p. flusher_of rules p.0 ≡ f) φ.marks ((h, s) ∷ []) t.marks (((t.queue).0).0, tt);
         queue = (t.queue).1;
         split = t.split;
         context = t.context;
@@ -100,6 +140,11 @@ module _ {C : Type 0} (rules : Rules C) where
     where
       φ : Flusher C
       φ = w.core.flushers f
+
+      below : s < w.core.next
+      below = let t : FlusherInvariant rules (ground_of w) w.core.place w.core.next f (record φ { queue = Piece h s n c ∷ rest }) (w.block_writes f) = at_front w f (Piece h s n c) rest sound is in
+          let span : s + 1 ≤ w.core.next = ascends_span (s + 1) (queue_sequences rest) w.core.next (t.order.queue).1 in
+          omega arith
 
   pub received_mark : (w : World C) (f h s : ℕ) (invalidated more : List (ℕ × ℕ)) (rest : List (Submission C)) → WorldInvariant rules w → (w.core.flushers f).queue ≡ Remove h s invalidated ∷ rest
       → WorldInvariant rules (record w {

@@ -8,14 +8,14 @@ use Rattle.foyer_model.specs.Ids.{ids, without_id}
 use Rattle.foyer_model.specs.Record.{Address, Slot, Indexed, Mark, Outcome, NoRecord, NotSupported, Undecodable, Holds, IndexEntry}
 use Rattle.foyer_layout.specs.BlockBytes.{Write}
 use Rattle.foyer_model.specs.Position.{BlockLayout}
-use Rattle.foyer_model.specs.State.{Submission, Piece, Remove, Await, Reinsert, Writing, Batch, Flusher, BlockSet, no_stats, Stage, AtIndex, AtRecord, AllListed, ToClean, Reclaim, Destroy, NoDestroy, Begun, Cleaning, State}
+use Rattle.foyer_model.specs.State.{Submission, Piece, Remove, Await, Reinsert, Writing, Batch, Flusher, no_stats, Stage, AtIndex, AtRecord, AllListed, ToClean, Reclaim, Destroy, NoDestroy, Begun, Cleaning, State}
 use Rattle.foyer_model.specs.Rules.{Rules, flusher_of, Splitting}
 use Rattle.foyer_model.specs.Step.{ReadResult, Bytes, Fault, Age, Fresh, Young, Old, Ticket, Step, Enqueue, Delete, Wait, MayContains, LoadBegin, LoadEnd, Receive, FlushBegin, FlushBlock, FlushWrote, LogWrote, FlushEnd, ReclaimBegin, ReclaimRead, ReclaimForget, ReclaimCleaned, ReclaimIdle, DestroyBegin, DestroyClear, DestroyCleaned, Close}
-use Rattle.foyer_model.specs.Reply.{Kind, Io, Parse, Closed, Unsupported, SequenceEnd, Reply, NotNow, Refused, Ignored, Queued, Deleted, Done, Answer, Miss, Throttled, Read, Entry, Empty, Received, Began, Written, NoBlock, Next, Committed, Failed, Ended, Picked, Listed, Cleans, Destroying, Cleared}
+use Rattle.foyer_model.specs.Reply.{Kind, Io, Parse, Closed, Unsupported, SequenceEnd, Reply, NotNow, Refused, Ignored, Queued, Dropped, Deleted, Done, Answer, Miss, Throttled, Read, Entry, Empty, Received, Began, Written, NoBlock, Next, Committed, Failed, Ended, Picked, Listed, Cleans, Destroying, Cleared}
 use Rattle.foyer_model.specs.Index.{is_address, holds, without, forgotten, unmarked}
 use Rattle.foyer_model.specs.Layout.{writes_in, PlacesAll}
 use Rattle.foyer_model.specs.Widths.{StateHasWidths}
-use Rattle.foyer_model.specs.Queue.{size_queued, queued, IsIgnored}
+use Rattle.foyer_model.specs.Queue.{size_queued, queued, IsCrowded}
 use Rattle.foyer_model.specs.Load.{Looks, judged, age_at, Judges}
 use Rattle.foyer_model.specs.Receive.{bytes_taken, turned, Fits, TakesFront}
 use Rattle.foyer_model.specs.Flush.{invalidated_unless, commit_in, clean_block, Describes, Wrote, Logs, Finishes}
@@ -97,14 +97,8 @@ module _ {C : Type 0} (rules : Rules C) (Splits : Splitting C) where
   age_or Young = inl refl
   age_or Old = inr (λ e. cc)
 
-  ignored_or : (c : State C) (age : Age) → IsIgnored rules c age ⊎ (IsIgnored rules c age → ⊥)
-  ignored_or c age = elim (age_or age) [
-    | inl young ↦ inl (inl young)
-    | inr old ↦ elim (le_or (size_queued rules.flushers c.flushers) rules.threshold) [
-      | inl low ↦ inr (λ is. elim is [ inl young ↦ old young | inr high ↦ omega arith ])
-      | inr high ↦ inl (inr (omega arith))
-    ]
-  ]
+  crowded_or : (c : State C) → IsCrowded rules c ⊎ (IsCrowded rules c → ⊥)
+  crowded_or c = elim (le_or (size_queued rules.flushers c.flushers) rules.threshold) [ inl low ↦ inr (λ high. omega arith) | inr high ↦ inl (omega arith) ]
 
   -- closed, at the last sequence, or neither
   open_or : (c : State C) → (c.closed ≡ true) ⊎ (c.closed ≡ false)
@@ -117,11 +111,14 @@ module _ {C : Type 0} (rules : Rules C) (Splits : Splitting C) where
   enqueue_replies : (c : State C) (h n : ℕ) (age : Age) (k : C) → c.steps < last_number → HasReply c (Enqueue h n age k)
   enqueue_replies c h n age k few = elim (open_or c) [
     | inl closed ↦ refuses c (Enqueue h n age k) Closed (few, (tt, closed))
-    | inr still ↦ elim (ignored_or c age) [
-      | inl ignored ↦ answers c c (Enqueue h n age k) (Ignored k) tt few tt (refl, still, ignored, refl)
+    | inr still ↦ elim (age_or age) [
+      | inl young ↦ answers c c (Enqueue h n age k) (Ignored k) tt few tt (refl, still, young, refl)
       | inr not ↦ elim (le_or last_number c.next) [
         | inl end ↦ refuses c (Enqueue h n age k) SequenceEnd (inr (few, (tt, not, still, end)))
-        | inr more ↦ answers c _ (Enqueue h n age k) (Queued c.next) tt few tt (refl, still, not, omega arith, refl)
+        | inr more ↦ elim (crowded_or c) [
+          | inl crowded ↦ answers c _ (Enqueue h n age k) (Dropped k c.next) tt few tt (refl, not, crowded, (refl, still, omega arith, refl))
+          | inr room ↦ answers c _ (Enqueue h n age k) (Queued c.next) tt few tt (refl, still, (not, room), omega arith, refl)
+        ]
       ]
     ]
   ]

@@ -6,7 +6,7 @@ use Rattle.foyer_model.specs.Position.{records_in, records_of}
 use Rattle.foyer_model.specs.State.{Submission, Piece, Remove, Await, Reinsert, Batch, Flusher, BlockSet, Clean, Writes, Evictable, Reclaims, State}
 use Rattle.foyer_model.specs.Rules.{Rules, flusher_of, first_position, Splitting}
 use Rattle.foyer_model.specs.Step.{ReadResult, Bytes, Fault, Age, Ticket, Enqueue, Delete, Wait, LoadBegin, LoadEnd, Receive, FlushBegin, FlushBlock, FlushWrote, LogWrote, FlushEnd}
-use Rattle.foyer_model.specs.Reply.{Reply, Ignored, Queued, Deleted, Done, Miss, Throttled, Read, Entry, Empty, Received, Began, Written, NoBlock, Next, Committed, Failed, Ended}
+use Rattle.foyer_model.specs.Reply.{Reply, Ignored, Queued, Dropped, Deleted, Done, Miss, Throttled, Read, Entry, Empty, Received, Began, Written, NoBlock, Next, Committed, Failed, Ended}
 use Rattle.foyer_model.specs.Index.{inserted, without, unmarked}
 use Rattle.foyer_model.specs.Layout.{writes_in, KeepsRecords}
 use Rattle.foyer_model.specs.Queue.{invalidated_by, queued, Enqueues, Deletes, Waits}
@@ -14,7 +14,7 @@ use Rattle.foyer_model.specs.Load.{Looks, judged, Judges, Ends}
 use Rattle.foyer_model.specs.Receive.{turned, TakesFront}
 use Rattle.foyer_model.specs.Flush.{released, writing_of, Begins, clean_block, Describes, Wrote, Logs, Finishes}
 use Rattle.foyer_model.specs.InTurn.{WantsBlock}
-use Rattle.foyer_model.specs.Event.{Event, Put, Deletion, newest, with_puts, puts_of}
+use Rattle.foyer_model.specs.Event.{Event, Put, Deletion, newest, with_puts, puts_of, with_returned}
 use Rattle.foyer_model.specs.Access.{Idle, came}
 use Rattle.foyer_model.specs.World.{World, Applies, after}
 use Rattle.foyer_model.specs.Opened.{is_clean}
@@ -23,7 +23,8 @@ use Rattle.foyer_layout.specs.Each.{Each}
 use Rattle.foyer_model.proofs.Invariant.{ground_of, writing_in, batch_records, WritingOk, WorldInvariant, IsBarred, SourceWaits, RecordWaits, SubmissionWaits, AllWait}
 use Rattle.foyer_layout.proofs.EachLaws.{each_back, each_join, each_weaker}
 use Rattle.foyer_model.proofs.CommitSteps.{committed, noted, committed_is, noted_is, newest_del_other, SourceBrings, Brings, all_faithful}
-use Rattle.foyer_model.proofs.LoadSteps.{mark_enters}
+use Rattle.foyer_model.proofs.LoadSteps.{MarkEnters, mark_enters}
+use Rattle.foyer_model.proofs.Received.{piece_enters}
 use Rattle.foyer_model.proofs.FlushBlocks.{records_issued}
 use Rattle.foyer_model.proofs.Rereads.{IsAgainIn, still_of, IsAgain, without_stays, put_stays, unmarked_stays, committed_stays, drifted, removed, one_waits}
 
@@ -42,11 +43,6 @@ module _ {C : Type 0} (rules : Rules C) where
   pub issued_state : (w : World C) (new expr : State C) → new ≡ expr → IsAgain rules (record w { core = expr }) → IsAgain rules (record w { core = new })
   issued_state w new expr is ok = subst (λ k. IsAgain rules (record w { core = k })) (sym is) ok
 
-  pub enqueue_goes : (w : World C) (h n : ℕ) (age : Age) (c : C) (reply : Reply C) (new : State C) → Enqueues rules w.core h n age c reply new → IsAgain rules w → IsAgain rules (after rules w (Applies (Enqueue h n age c) reply new))
-  enqueue_goes w h n age c (Ignored d) new ok again = issued_state w new w.core ok.3 again
-  enqueue_goes w h n age c (Queued s) new ok again = issued_state w new _ ok.4 (pushes w (flusher_of rules h) (Piece h s n c) tt again)
-  enqueue_goes w h n age c reply new ok again = absurd ok
-
   pub delete_goes : (w : World C) (h : ℕ) (reply : Reply C) (new : State C) → Deletes rules w.core h reply new → WorldInvariant rules w → IsAgain rules w → IsAgain rules (after rules w (Applies (Delete h) reply new))
   delete_goes w h (Deleted s) new ok sound again =
       subst (λ k. IsAgain rules (record w { core = k; history = Deletion h s ∷ w.history })) (sym (ok.3 ∙ entered))
@@ -62,6 +58,12 @@ module _ {C : Type 0} (rules : Rules C) where
           ≡ record (queued rules w.core (flusher_of rules h) (Remove h s (invalidated_by rules s (w.core.index h)))) { next = s + 1; index = put w.core.index h (Some (Mark s)) }
       entered = λ i. record (queued rules w.core (flusher_of rules h) (Remove h s (invalidated_by rules s (w.core.index h)))) { next = s + 1; index = put w.core.index h (mark_enters rules w h s sound ok.0 i) }
   delete_goes w h reply new ok sound again = absurd ok
+
+  pub enqueue_goes : (w : World C) (h n : ℕ) (age : Age) (c : C) (reply : Reply C) (new : State C) → Enqueues rules w.core h n age c reply new → WorldInvariant rules w → IsAgain rules w → IsAgain rules (after rules w (Applies (Enqueue h n age c) reply new))
+  enqueue_goes w h n age c (Dropped d s) new ok sound again = delete_goes w h (Deleted s) new ok.3 sound again
+  enqueue_goes w h n age c (Ignored d) new ok sound again = issued_state w new w.core ok.3 again
+  enqueue_goes w h n age c (Queued s) new ok sound again = issued_state w new _ ok.4 (pushes w (flusher_of rules h) (Piece h s n c) tt again)
+  enqueue_goes w h n age c reply new ok sound again = absurd ok
 
   pub wait_goes : (w : World C) (f i : ℕ) (reply : Reply C) (new : State C) → Waits rules w.core f i reply new → IsAgain rules w → IsAgain rules (after rules w (Applies (Wait f i) reply new))
   wait_goes w f i Done new ok again = issued_state w new _ ok (pushes w f (Await i) tt again)
@@ -94,28 +96,37 @@ module _ {C : Type 0} (rules : Rules C) where
       → IsAgain rules w → IsAgain rules (record w { core = record w.core { flushers = put w.core.flushers f ψ } })
   turn_wait w f ψ change again = one_waits rules w.core.index w.history (still_of rules w) w.core.place w.core.flushers w.core.reclaims w.scans f ψ change again
 
-  pub take_goes : (w : World C) (f : ℕ) (queue : List (Submission C)) (reply : Reply C) (new : State C) → (w.core.flushers f).queue ≡ queue → TakesFront rules w.core f queue reply new → IsAgain rules w
+  pub take_goes : (w : World C) (f : ℕ) (queue : List (Submission C)) (reply : Reply C) (new : State C) → (w.core.flushers f).queue ≡ queue → TakesFront rules w.core f queue reply new → WorldInvariant rules w → IsAgain rules w
       → IsAgain rules (after rules w (Applies (Receive f) reply new))
-  take_goes w f [] Empty new is ok again = issued_state w new w.core ok again
-  take_goes w f (Piece h s n c ∷ rest) (Received None) new is ok again =
+  take_goes w f [] Empty new is ok sound again = issued_state w new w.core ok again
+  take_goes w f (Piece h s n c ∷ rest) (Received None) new is ok sound again =
       issued_state w new _ ok.3 (turn_wait w f _ (λ t. record {
         batch = t.batch;
         buffer = each_join (RecordWaits rules w.core.index w.history w.core.place w.core.filling) (w.core.flushers f).buffer _ t.buffer (tt, tt);
         queue = (subst (Each (SubmissionWaits rules w.core.index w.history w.core.place w.core.filling)) is t.queue).1;
       }) again)
-  take_goes w f (Piece h s n c ∷ rest) (Received (Some d)) new is ok again =
-      issued_state w new _ ok.2 (turn_wait w f _ (λ t. record { batch = t.batch; buffer = t.buffer; queue = (subst (Each (SubmissionWaits rules w.core.index w.history w.core.place w.core.filling)) is t.queue).1 }) again)
-  take_goes w f (Remove h s invalidated ∷ rest) (Received None) new is ok again =
+  take_goes w f (Piece h s n c ∷ rest) (Received (Some d)) new is ok sound again =
+      subst (λ H. IsAgain rules (record w { core = new; history = H })) (sym (ap (λ q. with_returned q w.history) is))
+      (subst (λ k. IsAgain rules (record w { core = k; history = Deletion h s ∷ w.history })) (sym ok.2)
+      (drifted rules w.core.index (put w.core.index h (inserted (w.core.index h) (Mark s))) w.history (Deletion h s ∷ w.history) (still_of rules w) (still_of rules w) w.core.place w.core.place _ w.core.reclaims w.scans
+      (λ k a t x e barred faith held. let was : (w.core.index k ≡ Some (Indexed a)) × (newest k (Deletion h s ∷ w.history) ≡ newest k w.history) = enters.addresses k a held in was.1 ∙ faith was.0)
+      (λ k a barred held. (enters.addresses k a held).0)
+      (λ a barred. barred) (λ b r _ at. (at, refl)) (λ b. refl)
+      (turn_wait w f _ (λ t. record { batch = t.batch; buffer = t.buffer; queue = (subst (Each (SubmissionWaits rules w.core.index w.history w.core.place w.core.filling)) is t.queue).1 }) again)))
+    where
+      enters : MarkEnters w.core.index (put w.core.index h (inserted (w.core.index h) (Mark s))) w.history (Deletion h s ∷ w.history)
+      enters = piece_enters rules w f h s n c rest sound is
+  take_goes w f (Remove h s invalidated ∷ rest) (Received None) new is ok sound again =
       issued_state w new _ ok (turn_wait w f _ (λ t. record { batch = t.batch; buffer = t.buffer; queue = (subst (Each (SubmissionWaits rules w.core.index w.history w.core.place w.core.filling)) is t.queue).1 }) again)
-  take_goes w f (Await i ∷ rest) (Received None) new is ok again =
+  take_goes w f (Await i ∷ rest) (Received None) new is ok sound again =
       issued_state w new _ ok (turn_wait w f _ (λ t. record { batch = t.batch; buffer = t.buffer; queue = (subst (Each (SubmissionWaits rules w.core.index w.history w.core.place w.core.filling)) is t.queue).1 }) again)
-  take_goes w f (Reinsert h bytes a ∷ rest) (Received None) new is ok again =
+  take_goes w f (Reinsert h bytes a ∷ rest) (Received None) new is ok sound again =
       elim ok [
         | inl (held, fits, eq) ↦ issued_state w new _ eq (turn_wait w f _ (λ t. let q : Each (SubmissionWaits rules w.core.index w.history w.core.place w.core.filling) (Reinsert h bytes a ∷ rest) = subst (Each (SubmissionWaits rules w.core.index w.history w.core.place w.core.filling)) is t.queue in
             record { batch = t.batch; buffer = each_join (RecordWaits rules w.core.index w.history w.core.place w.core.filling) (w.core.flushers f).buffer _ t.buffer ((refl, (q.0).0, (q.0).1), tt); queue = q.1 }) again)
         | inr (dropped, eq) ↦ issued_state w new _ eq (turn_wait w f _ (λ t. record { batch = t.batch; buffer = t.buffer; queue = (subst (Each (SubmissionWaits rules w.core.index w.history w.core.place w.core.filling)) is t.queue).1 }) again)
       ]
-  take_goes w f queue reply new is ok again = absurd ok
+  take_goes w f queue reply new is ok sound again = absurd ok
 
   pub begin_goes : (Splits : Splitting C) → KeepsRecords rules Splits → (w : World C) (f : ℕ) (reply : Reply C) (new : State C) → Begins rules Splits w.core f reply new → IsAgain rules w → IsAgain rules (after rules w (Applies (FlushBegin f) reply new))
   begin_goes Splits places w f (Began blocks marks) new ok again =

@@ -104,13 +104,13 @@ module _ {C : Type 0} (rules : Rules C) where
   -- each step
   does_goes : (Splits : Splitting C) (is_value : C → Type 0) → KeepsRecords rules Splits → (w : World C) (step : Step C) (reply : Reply C) (new : State C) → IsFed rules Splits is_value w step → InTurn rules w.core step → Changes rules Splits w.core step reply new → AreSets rules w.core → w.core.steps < last_number → WorldInvariant rules w → IsAgain rules w
       → IsAgain rules (after rules w (Applies step reply new))
-  does_goes Splits is_value places w (Enqueue h n age c) reply new fed turn ok sets few sound again = enqueue_goes rules w h n age c reply new ok again
+  does_goes Splits is_value places w (Enqueue h n age c) reply new fed turn ok sets few sound again = enqueue_goes rules w h n age c reply new ok sound again
   does_goes Splits is_value places w (Delete h) reply new fed turn ok sets few sound again = delete_goes rules w h reply new ok sound again
   does_goes Splits is_value places w (Wait f i) reply new fed turn ok sets few sound again = wait_goes rules w f i reply new ok again
   does_goes Splits is_value places w (MayContains h) reply new fed turn ok sets few sound again = subst (λ r. IsAgain rules (after rules w (Applies (MayContains h) r new))) (sym ok.0) (issued_state rules w new w.core ok.1 again)
   does_goes Splits is_value places w (LoadBegin h throttled) reply new fed turn ok sets few sound again = look_goes rules w h throttled (w.core.index h) reply new ok again
   does_goes Splits is_value places w (LoadEnd t came) reply new fed turn ok sets few sound again = end_goes rules w t came reply new ok again
-  does_goes Splits is_value places w (Receive f) reply new fed turn ok sets few sound again = take_goes rules w f (w.core.flushers f).queue reply new refl ok again
+  does_goes Splits is_value places w (Receive f) reply new fed turn ok sets few sound again = take_goes rules w f (w.core.flushers f).queue reply new refl ok sound again
   does_goes Splits is_value places w (FlushBegin f) reply new fed turn ok sets few sound again = begin_goes rules Splits places w f reply new ok again
   does_goes Splits is_value places w (FlushBlock f) reply new fed turn ok sets few sound again = issue_goes rules w f (w.core.flushers f).batch reply new refl turn.1 (clean_is rules w.core sets) ok sound again
   does_goes Splits is_value places w (FlushWrote f good) reply new fed turn ok sets few sound again = wrote_goes rules w f good (w.core.flushers f).batch reply new refl ok sound again

@@ -3,9 +3,9 @@ use Rattle.std.proofs.Common.{◌≡◌, ℕ, zero, suc, ◌+◌, ◌<◌, ◌==
 use Rattle.std.proofs.lemmas.Bool.{ne_eqb}
 use Rattle.foyer_model.specs.Numbers.{put}
 use Rattle.foyer_model.specs.Record.{Mark}
-use Rattle.foyer_model.specs.State.{Remove, no_stats, NoDestroy, Begun, Cleaning, State}
-use Rattle.foyer_model.specs.Step.{Bytes, Young, Delete, LoadBegin, LoadEnd, Receive, FlushBegin, FlushBlock, LogWrote, FlushEnd, ReclaimIdle, DestroyBegin, DestroyClear, DestroyCleaned, Close}
-use Rattle.foyer_model.specs.Reply.{Io, Closed, Refused, Deleted, Done, Answer, Miss, Read, Entry, Received, Began, Written, Ended, Destroying, Cleared, Destroyed}
+use Rattle.foyer_model.specs.State.{Piece, Remove, no_stats, NoDestroy, Begun, Cleaning, State}
+use Rattle.foyer_model.specs.Step.{Bytes, Fresh, Young, Enqueue, Delete, LoadBegin, LoadEnd, Receive, FlushBegin, FlushBlock, LogWrote, FlushEnd, ReclaimIdle, DestroyBegin, DestroyClear, DestroyCleaned, Close}
+use Rattle.foyer_model.specs.Reply.{Io, Closed, Refused, Queued, Dropped, Deleted, Done, Answer, Miss, Read, Entry, Received, Began, Written, Ended, Destroying, Cleared, Destroyed}
 use Rattle.foyer_model.specs.Index.{unmarked}
 use Rattle.foyer_model.specs.Layout.{writes_in}
 use Rattle.foyer_model.specs.Queue.{queued}
@@ -330,23 +330,48 @@ w107 = after small w106 e106
 pub may106 : MayHappen small SmallSplits IsSmall w106 e106
 may106 = (tt, (lit< tt, tt, (n106, (refl, refl), refl)))
 
+-- a piece more than may be queued is dropped
 abbrev n107 : State ℕ
-n107 = record w107.core { closed = true }
+n107 = record (queued small w107.core 0 (Piece 7 7 101 5)) { next = 8 }
 
 abbrev pub e107 : WorldEvent ℕ
-e107 = Applies (Close) (Done) (counted w107.core n107)
+e107 = Applies (Enqueue 7 101 Fresh 5) (Queued 7) (counted w107.core n107)
 
 abbrev pub w108 : World ℕ
 w108 = after small w107 e107
 
 pub may107 : MayHappen small SmallSplits IsSmall w107 e107
-may107 = (tt, (lit< tt, tt, (n107, (refl, refl), refl)))
+may107 = ((omega arith, refl), (lit< tt, tt, (n107, (refl, refl, ((λ young. let e : Fresh ≡ Young = young in cc), (λ much. omega arith)), lit< tt, refl), refl)))
+
+abbrev n108 : State ℕ
+n108 = record (queued small w108.core 0 (Remove 7 8 [])) { next = 9; index = put w108.core.index 7 (Some (Mark 8)) }
 
 abbrev pub e108 : WorldEvent ℕ
-e108 = Applies (Delete 1) (Refused Closed (Delete 1)) w108.core
+e108 = Applies (Enqueue 7 10 Fresh 6) (Dropped 6 8) (counted w108.core n108)
 
 abbrev pub w109 : World ℕ
 w109 = after small w108 e108
 
 pub may108 : MayHappen small SmallSplits IsSmall w108 e108
-may108 = (omega arith, (refl, (lit< tt, (tt, refl)), refl))
+may108 = ((omega arith, refl), (lit< tt, tt, (n108, (refl, (λ young. let e : Fresh ≡ Young = young in cc), lit< tt, (refl, refl, lit< tt, refl)), refl)))
+
+abbrev n109 : State ℕ
+n109 = record w109.core { closed = true }
+
+abbrev pub e109 : WorldEvent ℕ
+e109 = Applies (Close) (Done) (counted w109.core n109)
+
+abbrev pub w110 : World ℕ
+w110 = after small w109 e109
+
+pub may109 : MayHappen small SmallSplits IsSmall w109 e109
+may109 = (tt, (lit< tt, tt, (n109, (refl, refl), refl)))
+
+abbrev pub e110 : WorldEvent ℕ
+e110 = Applies (Delete 1) (Refused Closed (Delete 1)) w110.core
+
+abbrev pub w111 : World ℕ
+w111 = after small w110 e110
+
+pub may110 : MayHappen small SmallSplits IsSmall w110 e110
+may110 = (omega arith, (refl, (lit< tt, (tt, refl)), refl))

@@ -26,7 +26,7 @@ abbrev pub w1 : World ℕ
 w1 = after small w0 e0
 
 pub may0 : MayHappen small SmallSplits IsSmall w0 e0
-may0 = ((omega arith, refl), (lit< tt, tt, (n0, (refl, refl, (λ is. elim is [ inl young ↦ absurd (let e : Fresh ≡ Young = young in cc) | inr much ↦ absurd (omega arith) ]), lit< tt, refl), refl)))
+may0 = ((omega arith, refl), (lit< tt, tt, (n0, (refl, refl, ((λ young. let e : Fresh ≡ Young = young in cc), (λ much. omega arith)), lit< tt, refl), refl)))
 
 abbrev n1 : State ℕ
 n1 = w1.core
@@ -38,7 +38,7 @@ abbrev pub w2 : World ℕ
 w2 = after small w1 e1
 
 pub may1 : MayHappen small SmallSplits IsSmall w1 e1
-may1 = ((omega arith, refl), (lit< tt, tt, (n1, (refl, refl, inl refl, refl), refl)))
+may1 = ((omega arith, refl), (lit< tt, tt, (n1, (refl, refl, refl, refl), refl)))
 
 abbrev pub e2 : WorldEvent ℕ
 e2 = Applies (Delete 7) (Refused Memory (Delete 7)) w2.core

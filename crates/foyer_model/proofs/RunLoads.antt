@@ -9,7 +9,7 @@ use Rattle.foyer_model.specs.Index.{unmarked}
 use Rattle.foyer_model.specs.Layout.{writes_in}
 use Rattle.foyer_model.specs.Queue.{queued}
 use Rattle.foyer_model.specs.Load.{accessed}
-use Rattle.foyer_model.specs.Receive.{pieces_of, turned, pushed_to}
+use Rattle.foyer_model.specs.Receive.{pieces_of, turned, pushed_to, marked_at}
 use Rattle.foyer_model.specs.Flush.{is_some, invalidated_unless, block_issued, batch_failed}
 use Rattle.foyer_model.specs.World.{World, WorldEvent, Applies, ReadBegins, ReadEnds, WriteBegins, WriteEnds, after, MayHappen}
 use Rattle.foyer_model.specs.SmallCore.{small, IsSmall, three, one_spread, SmallSplits}
@@ -149,10 +149,10 @@ abbrev pub w28 : World ℕ
 w28 = after small w27 e27
 
 pub may27 : MayHappen small SmallSplits IsSmall w27 e27
-may27 = ((omega arith, refl), (lit< tt, tt, (n27, (refl, refl, (λ is. elim is [ inl young ↦ absurd (let e : Fresh ≡ Young = young in cc) | inr much ↦ absurd (omega arith) ]), lit< tt, refl), refl)))
+may27 = ((omega arith, refl), (lit< tt, tt, (n27, (refl, refl, ((λ young. let e : Fresh ≡ Young = young in cc), (λ much. omega arith)), lit< tt, refl), refl)))
 
 abbrev n28 : State ℕ
-n28 = turned small w28.core 0 (record (w28.core.flushers 0) { queue = [] })
+n28 = marked_at small w28.core 0 [] 8 2
 
 abbrev pub e28 : WorldEvent ℕ
 e28 = Applies (Receive 0) (Received (Some 0)) (counted w28.core n28)
@@ -173,7 +173,7 @@ abbrev pub w30 : World ℕ
 w30 = after small w29 e29
 
 pub may29 : MayHappen small SmallSplits IsSmall w29 e29
-may29 = ((omega arith, refl), (lit< tt, tt, (n29, (refl, refl, (λ is. elim is [ inl young ↦ absurd (let e : Fresh ≡ Young = young in cc) | inr much ↦ absurd (omega arith) ]), lit< tt, refl), refl)))
+may29 = ((omega arith, refl), (lit< tt, tt, (n29, (refl, refl, ((λ young. let e : Fresh ≡ Young = young in cc), (λ much. omega arith)), lit< tt, refl), refl)))
 
 abbrev n30 : State ℕ
 n30 = pushed_to small w30.core 0 [] (three 9 3 9 3 6 (Given 6))
@@ -198,7 +198,7 @@ n31 = turned small w31.core 0 (record (w31.core.flushers 0) {
 })
 
 abbrev pub e31 : WorldEvent ℕ
-e31 = Applies (FlushBegin 0) (Began (one_spread 4099 (three 9 3 9 3 6 (Given 6)) ∷ []) []) (counted w31.core n31)
+e31 = Applies (FlushBegin 0) (Began (one_spread 4099 (three 9 3 9 3 6 (Given 6)) ∷ []) ((8, 2) ∷ [])) (counted w31.core n31)
 
 abbrev pub w32 : World ℕ
 w32 = after small w31 e31

@@ -28,7 +28,7 @@ abbrev pub wr18 : World ℕ
 wr18 = after small wr17 er17
 
 pub mayr17 : MayHappen small SmallSplits IsSmall wr17 er17
-mayr17 = ((omega arith, refl), (lit< tt, tt, (nr17, (refl, refl, (λ is. elim is [ inl young ↦ absurd (let e : Fresh ≡ Young = young in cc) | inr much ↦ absurd (omega arith) ]), lit< tt, refl), refl)))
+mayr17 = ((omega arith, refl), (lit< tt, tt, (nr17, (refl, refl, ((λ young. let e : Fresh ≡ Young = young in cc), (λ much. omega arith)), lit< tt, refl), refl)))
 
 abbrev pub er18 : WorldEvent ℕ
 er18 = Applies (Enqueue 9 10 Fresh 6) (Refused SequenceEnd (Enqueue 9 10 Fresh 6)) wr18.core
@@ -37,7 +37,7 @@ abbrev pub wr19 : World ℕ
 wr19 = after small wr18 er18
 
 pub mayr18 : MayHappen small SmallSplits IsSmall wr18 er18
-mayr18 = ((omega arith, refl), (refl, inr (lit< tt, (tt, (λ is. elim is [ inl young ↦ absurd (let e : Fresh ≡ Young = young in cc) | inr much ↦ absurd (omega arith) ]), refl, omega arith)), refl))
+mayr18 = ((omega arith, refl), (refl, inr (lit< tt, (tt, (λ young. let e : Fresh ≡ Young = young in cc), refl, omega arith)), refl))
 
 abbrev nr19 : State ℕ
 nr19 = pushed_to small wr19.core 0 [] (three 9 18446744073709551614 9 18446744073709551614 6 (Given 6))

@@ -110,7 +110,7 @@ abbrev pub w45 : World ℕ
 w45 = after small w44 e44
 
 pub may44 : MayHappen small SmallSplits IsSmall w44 e44
-may44 = ((omega arith, refl), (lit< tt, tt, (n44, (refl, refl, (λ is. elim is [ inl young ↦ absurd (let e : Fresh ≡ Young = young in cc) | inr much ↦ absurd (omega arith) ]), lit< tt, refl), refl)))
+may44 = ((omega arith, refl), (lit< tt, tt, (n44, (refl, refl, ((λ young. let e : Fresh ≡ Young = young in cc), (λ much. omega arith)), lit< tt, refl), refl)))
 
 abbrev n45 : State ℕ
 n45 = pushed_to small w45.core 0 [] (three 9 4 9 4 6 (Given 6))

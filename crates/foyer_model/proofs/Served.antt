@@ -8,7 +8,7 @@ use Rattle.foyer_model.specs.Position.{records_in}
 use Rattle.foyer_model.specs.State.{Submission, Piece, Remove, Await, Reinsert, Writing, Batch, Flusher, Stage, AtIndex, AtRecord, AllListed, ToClean, Reclaim, Destroy, NoDestroy, Begun, Cleaning, State}
 use Rattle.foyer_model.specs.Rules.{Rules, flusher_of, Splitting}
 use Rattle.foyer_model.specs.Step.{ReadResult, Bytes, Fault, Age, Ticket, Step, Enqueue, Delete, Wait, MayContains, LoadBegin, LoadEnd, Receive, FlushBegin, FlushBlock, FlushWrote, LogWrote, FlushEnd, ReclaimBegin, ReclaimRead, ReclaimForget, ReclaimCleaned, ReclaimIdle, DestroyBegin, DestroyClear, DestroyCleaned, Close}
-use Rattle.foyer_model.specs.Reply.{Reply, NotNow, Refused, Ignored, Queued, Deleted, Done, Miss, Throttled, Read, Entry, Empty, Received, Began, Written, NoBlock, Next, Committed, Failed, Ended, Picked, Cleans, Destroying, Cleared}
+use Rattle.foyer_model.specs.Reply.{Reply, NotNow, Refused, Ignored, Queued, Dropped, Deleted, Done, Miss, Throttled, Read, Entry, Empty, Received, Began, Written, NoBlock, Next, Committed, Failed, Ended, Picked, Cleans, Destroying, Cleared}
 use Rattle.foyer_model.specs.Widths.{RecordsHaveWidths, StateHasWidths}
 use Rattle.foyer_model.specs.Layout.{writes_in, FitsBlock, AllFitBlock, KeepsRecords, MayBegin}
 use Rattle.foyer_model.specs.Layout.MayBegin.{empty_block, after_batch}
@@ -193,14 +193,15 @@ module _ {C : Type 0} (rules : Rules C) (Splits : Splitting C) where
       judges (Holds k) (Entry d age) given = served_as new c given.2 served
       judges x reply given = absurd given
 
-  enqueues_served : (c new : State C) (h n : ℕ) (age : Age) (k : C) (reply : Reply C) → Enqueues rules c h n age k reply new → ((q : ℕ) → IsServed rules Splits (c.flushers q)) → (q : ℕ) → IsServed rules Splits (new.flushers q)
-  enqueues_served c new h n age k (Ignored d) ok served = served_as new c ok.3 served
-  enqueues_served c new h n age k (Queued s) ok served = queued_served c new (flusher_of rules h) (Piece h s n k) (ap (λ k. k.flushers) ok.4) served
-  enqueues_served c new h n age k reply ok served = absurd ok
-
   deletes_served : (c new : State C) (h : ℕ) (reply : Reply C) → Deletes rules c h reply new → ((q : ℕ) → IsServed rules Splits (c.flushers q)) → (q : ℕ) → IsServed rules Splits (new.flushers q)
   deletes_served c new h (Deleted s) ok served = queued_served c new (flusher_of rules h) (Remove h s (invalidated_by rules s (c.index h))) (ap (λ k. k.flushers) ok.3) served
   deletes_served c new h reply ok served = absurd ok
+
+  enqueues_served : (c new : State C) (h n : ℕ) (age : Age) (k : C) (reply : Reply C) → Enqueues rules c h n age k reply new → ((q : ℕ) → IsServed rules Splits (c.flushers q)) → (q : ℕ) → IsServed rules Splits (new.flushers q)
+  enqueues_served c new h n age k (Dropped d s) ok served = deletes_served c new h (Deleted s) ok.3 served
+  enqueues_served c new h n age k (Ignored d) ok served = served_as new c ok.3 served
+  enqueues_served c new h n age k (Queued s) ok served = queued_served c new (flusher_of rules h) (Piece h s n k) (ap (λ k. k.flushers) ok.4) served
+  enqueues_served c new h n age k reply ok served = absurd ok
 
   waits_served : (c new : State C) (f i : ℕ) (reply : Reply C) → Waits rules c f i reply new → ((q : ℕ) → IsServed rules Splits (c.flushers q)) → (q : ℕ) → IsServed rules Splits (new.flushers q)
   waits_served c new f i Done ok served = queued_served c new f (Await i) (ap (λ k. k.flushers) ok) served

@@ -8,7 +8,7 @@ use Rattle.foyer_model.specs.Position.{BlockLayout}
 use Rattle.foyer_model.specs.State.{Submission, Piece, Remove, Await, Reinsert, Batch, Flusher, BlockSet, Clean, Writes, Evictable, Reclaims, Stage, AtIndex, AtRecord, ToClean, Reclaim, Destroy, NoDestroy, Begun, Cleaning, State}
 use Rattle.foyer_model.specs.Rules.{Rules, flusher_of, Splitting}
 use Rattle.foyer_model.specs.Step.{ReadResult, Bytes, Fault, Age, Ticket, Step, Enqueue, Delete, Wait, MayContains, LoadBegin, LoadEnd, Receive, FlushBegin, FlushBlock, FlushWrote, LogWrote, FlushEnd, ReclaimBegin, ReclaimRead, ReclaimForget, ReclaimCleaned, ReclaimIdle, DestroyBegin, DestroyClear, DestroyCleaned, Close}
-use Rattle.foyer_model.specs.Reply.{Reply, NotNow, Refused, Ignored, Queued, Deleted, Done, Miss, Throttled, Read, Entry, Empty, Received, Began, Written, NoBlock, Next, Committed, Failed, Ended, Picked, Cleans, Destroying, Cleared}
+use Rattle.foyer_model.specs.Reply.{Reply, NotNow, Refused, Ignored, Queued, Dropped, Deleted, Done, Miss, Throttled, Read, Entry, Empty, Received, Began, Written, NoBlock, Next, Committed, Failed, Ended, Picked, Cleans, Destroying, Cleared}
 use Rattle.foyer_model.specs.Index.{unmarked}
 use Rattle.foyer_model.specs.Queue.{Enqueues, Deletes, Waits}
 use Rattle.foyer_model.specs.Load.{Looks, judged, Judges, Ends}
@@ -294,14 +294,15 @@ module _ {C : Type 0} (rules : Rules C) where
   cleans_sets c new b well NoDestroy reply ok sets = absurd ok
   cleans_sets c new b well Begun reply ok sets = absurd ok
 
-  enqueues_sets : (c new : State C) (h n : ℕ) (age : Age) (k : C) (reply : Reply C) → Enqueues rules c h n age k reply new → AreSets rules c → AreSets rules (record new { steps = c.steps + 1 })
-  enqueues_sets c new h n age k (Ignored d) ok sets = alike c new c ok.3 (counted c sets)
-  enqueues_sets c new h n age k (Queued s) ok sets = alike c new _ ok.4 (one_turned c (flusher_of rules h) _ refl refl sets)
-  enqueues_sets c new h n age k reply ok sets = absurd ok
-
   deletes_sets : (c new : State C) (h : ℕ) (reply : Reply C) → Deletes rules c h reply new → AreSets rules c → AreSets rules (record new { steps = c.steps + 1 })
   deletes_sets c new h (Deleted s) ok sets = alike c new _ ok.3 (one_turned c (flusher_of rules h) _ refl refl sets)
   deletes_sets c new h reply ok sets = absurd ok
+
+  enqueues_sets : (c new : State C) (h n : ℕ) (age : Age) (k : C) (reply : Reply C) → Enqueues rules c h n age k reply new → AreSets rules c → AreSets rules (record new { steps = c.steps + 1 })
+  enqueues_sets c new h n age k (Dropped d s) ok sets = deletes_sets c new h (Deleted s) ok.3 sets
+  enqueues_sets c new h n age k (Ignored d) ok sets = alike c new c ok.3 (counted c sets)
+  enqueues_sets c new h n age k (Queued s) ok sets = alike c new _ ok.4 (one_turned c (flusher_of rules h) _ refl refl sets)
+  enqueues_sets c new h n age k reply ok sets = absurd ok
 
   waits_sets : (c new : State C) (f i : ℕ) (reply : Reply C) → Waits rules c f i reply new → AreSets rules c → AreSets rules (record new { steps = c.steps + 1 })
   waits_sets c new f i Done ok sets = alike c new _ ok (one_turned c f _ refl refl sets)

@@ -8,7 +8,7 @@ use Rattle.foyer_model.specs.Record.{Address, Slot, Indexed, Mark, Outcome, NoRe
 use Rattle.foyer_model.specs.State.{Submission, Piece, Remove, Await, Reinsert, Writing, Batch, BlockSet, Clean, Writes, Evictable, Reclaims, Stage, AtIndex, AtRecord, AllListed, ToClean, Reclaim, Destroy, NoDestroy, Begun, Cleaning, State}
 use Rattle.foyer_model.specs.Rules.{Rules, Splitting}
 use Rattle.foyer_model.specs.Step.{ReadResult, Bytes, Fault, Age, Ticket, Step, Enqueue, Delete, Wait, MayContains, LoadBegin, LoadEnd, Receive, FlushBegin, FlushBlock, FlushWrote, LogWrote, FlushEnd, ReclaimBegin, ReclaimRead, ReclaimForget, ReclaimCleaned, ReclaimIdle, DestroyBegin, DestroyClear, DestroyCleaned, Close}
-use Rattle.foyer_model.specs.Reply.{Reply, Ignored, Queued, Deleted, Done, Miss, Throttled, Read, Entry, Empty, Received, Began, Written, NoBlock, Next, Committed, Failed, Ended, Cleans, Destroying}
+use Rattle.foyer_model.specs.Reply.{Reply, Ignored, Queued, Dropped, Deleted, Done, Miss, Throttled, Read, Entry, Empty, Received, Began, Written, NoBlock, Next, Committed, Failed, Ended, Cleans, Destroying}
 use Rattle.foyer_model.specs.Index.{holds, sequence_at, inserted, without}
 use Rattle.foyer_model.specs.Commit.{address_of, taken_in, committed_one}
 use Rattle.foyer_model.specs.Queue.{Enqueues, Deletes, Waits}
@@ -177,10 +177,23 @@ module _ {C : Type 0} (rules : Rules C) where
       judges (Holds k) (Entry d age) given = settled c new c given.2 (alike c)
       judges x reply given = absurd given
 
+  -- a mark that enters is no address
+  marked_back : (slot : Option Slot) (s : ℕ) (a : Address) → inserted slot (Mark s) ≡ Some (Indexed a) → slot ≡ Some (Indexed a)
+  marked_back None s a is = absurd (let e : Some (Mark s) ≡ Some (Indexed a) = is in cc)
+  marked_back (Some old) s a given = go (nat_le (sequence_at old) s) given
+    where
+      go : (t : Bool) → (if t then Some (Mark s) else Some old) ≡ Some (Indexed a) → Some old ≡ Some (Indexed a)
+      go true is = absurd (let e : Some (Mark s) ≡ Some (Indexed a) = is in cc)
+      go false is = is
+
   takes : (c new : State C) (f : ℕ) (queue : List (Submission C)) (reply : Reply C) → TakesFront rules c f queue reply new → Settles rules c new
   takes c new f [] Empty ok = settled c new c ok (alike c)
   takes c new f (Piece h s n k ∷ rest) (Received None) ok = settled c new _ ok.3 (record { stays = λ b p q. (refl, (p, q)); listed = λ l. l; below = λ ok. ok })
-  takes c new f (Piece h s n k ∷ rest) (Received (Some d)) ok = settled c new _ ok.2 (record { stays = λ b p q. (refl, (p, q)); listed = λ l. l; below = λ ok. ok })
+  takes c new f (Piece h s n k ∷ rest) (Received (Some d)) ok = settled c new _ ok.2 (record {
+    stays = λ b p q. (refl, (p, q));
+    listed = λ l. l;
+    below = λ ok k a is. ok k a (put_stays c.index h (inserted (c.index h) (Mark s)) a (marked_back (c.index h) s a) k is);
+  })
   takes c new f (Remove h s invalidated ∷ rest) (Received None) ok = settled c new _ ok (record { stays = λ b p q. (refl, (p, q)); listed = λ l. l; below = λ ok. ok })
   takes c new f (Await i ∷ rest) (Received None) ok = settled c new _ ok (record { stays = λ b p q. (refl, (p, q)); listed = λ l. l; below = λ ok. ok })
   takes c new f (Reinsert h bytes a ∷ rest) (Received None) ok =
@@ -206,20 +219,6 @@ module _ {C : Type 0} (rules : Rules C) where
       scanned AllListed came given = absurd given
       scanned ToClean came given = absurd given
 
-  enqueues : (c new : State C) (h n : ℕ) (age : Age) (k : C) (reply : Reply C) → Enqueues rules c h n age k reply new → Settles rules c new
-  enqueues c new h n age k (Ignored d) ok = settled c new c ok.3 (alike c)
-  enqueues c new h n age k (Queued s) ok = settled c new _ ok.4 (record { stays = λ b p q. (refl, (p, q)); listed = λ l. l; below = λ ok. ok })
-  enqueues c new h n age k reply ok = absurd ok
-
-  -- a mark that enters is no address
-  marked_back : (slot : Option Slot) (s : ℕ) (a : Address) → inserted slot (Mark s) ≡ Some (Indexed a) → slot ≡ Some (Indexed a)
-  marked_back None s a is = absurd (let e : Some (Mark s) ≡ Some (Indexed a) = is in cc)
-  marked_back (Some old) s a given = go (nat_le (sequence_at old) s) given
-    where
-      go : (t : Bool) → (if t then Some (Mark s) else Some old) ≡ Some (Indexed a) → Some old ≡ Some (Indexed a)
-      go true is = absurd (let e : Some (Mark s) ≡ Some (Indexed a) = is in cc)
-      go false is = is
-
   deletes : (c new : State C) (h : ℕ) (reply : Reply C) → Deletes rules c h reply new → Settles rules c new
   deletes c new h (Deleted s) ok = settled c new _ ok.3 (record {
     stays = λ b p q. (refl, (p, q));
@@ -227,6 +226,12 @@ module _ {C : Type 0} (rules : Rules C) where
     below = λ ok k a is. ok k a (put_stays c.index h (inserted (c.index h) (Mark s)) a (marked_back (c.index h) s a) k is);
   })
   deletes c new h reply ok = absurd ok
+
+  enqueues : (c new : State C) (h n : ℕ) (age : Age) (k : C) (reply : Reply C) → Enqueues rules c h n age k reply new → Settles rules c new
+  enqueues c new h n age k (Dropped d s) ok = deletes c new h (Deleted s) ok.3
+  enqueues c new h n age k (Ignored d) ok = settled c new c ok.3 (alike c)
+  enqueues c new h n age k (Queued s) ok = settled c new _ ok.4 (record { stays = λ b p q. (refl, (p, q)); listed = λ l. l; below = λ ok. ok })
+  enqueues c new h n age k reply ok = absurd ok
 
   waits : (c new : State C) (f i : ℕ) (reply : Reply C) → Waits rules c f i reply new → Settles rules c new
   waits c new f i Done ok = settled c new _ ok (record { stays = λ b p q. (refl, (p, q)); listed = λ l. l; below = λ ok. ok })

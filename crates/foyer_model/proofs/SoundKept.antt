@@ -10,7 +10,7 @@ use Rattle.foyer_model.specs.Position.{Position, BlockLayout, records_of}
 use Rattle.foyer_model.specs.State.{Submission, Piece, Remove, Await, Reinsert, Batch, Clean, Writes, Evictable, Reclaims, Stage, AtIndex, AtRecord, AllListed, ToClean, Reclaim, Destroy, NoDestroy, Begun, Cleaning, State}
 use Rattle.foyer_model.specs.Rules.{Rules, flusher_of, first_position, Splitting}
 use Rattle.foyer_model.specs.Step.{ReadResult, Bytes, Fault, Age, Ticket, Step, Enqueue, Delete, Wait, MayContains, LoadBegin, LoadEnd, Receive, FlushBegin, FlushBlock, FlushWrote, LogWrote, FlushEnd, ReclaimBegin, ReclaimRead, ReclaimForget, ReclaimCleaned, ReclaimIdle, DestroyBegin, DestroyClear, DestroyCleaned, Close}
-use Rattle.foyer_model.specs.Reply.{Reply, NotNow, Refused, Ignored, Queued, Deleted, Done, Miss, Throttled, Read, Entry, Empty, Received, Began, Written, NoBlock, Next, Committed, Failed, Ended, Picked, Listed, Cleans, Destroying, Cleared, Destroyed}
+use Rattle.foyer_model.specs.Reply.{Reply, NotNow, Refused, Ignored, Queued, Dropped, Deleted, Done, Miss, Throttled, Read, Entry, Empty, Received, Began, Written, NoBlock, Next, Committed, Failed, Ended, Picked, Listed, Cleans, Destroying, Cleared, Destroyed}
 use Rattle.foyer_model.specs.Index.{inserted, without}
 use Rattle.foyer_model.specs.Layout.{writes_in, KeepsBlock, KeepsBlocks}
 use Rattle.foyer_model.specs.Queue.{invalidated_by, queued, Enqueues, Deletes, Waits}
@@ -22,7 +22,7 @@ use Rattle.foyer_model.specs.Destroy.{issued_after_clean, BeginsDestroy, Clears,
 use Rattle.foyer_model.specs.InTurn.{WantsBlock, IsWritten, IsAt, MayClear, InTurn}
 use Rattle.foyer_model.specs.Changes.{Changes}
 use Rattle.foyer_model.specs.Follows.{Follows}
-use Rattle.foyer_model.specs.Event.{Deletion, Destruction, sequence_in, newest, with_puts, puts_of}
+use Rattle.foyer_model.specs.Event.{Deletion, Destruction, sequence_in, newest, with_puts, puts_of, with_returned}
 use Rattle.foyer_model.specs.Kept.{unless}
 use Rattle.foyer_model.specs.Access.{BlockWrites, Idle, ReadIssued, Load, load_unless, writes_of, writes_reported, result_of, came}
 use Rattle.foyer_model.specs.World.{World, WorldEvent, Applies, ReadBegins, ReadEnds, ScanBegins, ScanEnds, WriteBegins, WriteEnds, CleanBegins, CleanEnds, end_in, after, after_all, IsFed, MayHappen, MayAllHappen}
@@ -51,18 +51,6 @@ module _ {C : Type 0} (rules : Rules C) (Splits : Splitting C) (is_value : C →
   same : (w : World C) (new : State C) → new ≡ w.core → WorldInvariant rules w → WorldInvariant rules (record w { core = new })
   same w new is sound = subst (λ c. WorldInvariant rules (record w { core = c })) (sym is) sound
 
-  enqueue_keeps : (w : World C) (h n : ℕ) (age : Age) (c : C) (reply : Reply C) (new : State C) → (h ≤ last_number) × is_value c → Enqueues rules w.core h n age c reply new → WorldInvariant rules w
-      → WorldInvariant rules (after rules w (Applies (Enqueue h n age c) reply new))
-  enqueue_keeps w h n age c (Ignored d) new fed ok sound = same w new ok.3 sound
-  enqueue_keeps w h n age c (Queued s) new fed ok sound =
-      subst (λ k. WorldInvariant rules (record w { core = k }))
-      (sym ok.4)
-      (pushed rules w (flusher_of rules h) (Piece h s n c) (s + 1) sound (let e : s ≡ w.core.next = ok.0 in omega arith)
-      (refl, λ bytes is. demands.trips h s c bytes fed.0 (let e : s ≡ w.core.next = ok.0 in let l : w.core.next < last_number = ok.3 in omega arith) fed.1 is)
-      (λ k n lt. ((λ _. let e : s ≡ w.core.next = ok.0 in omega arith), tt))
-      (λ low xs up. ascends_push low xs w.core.next s (let e : s ≡ w.core.next = ok.0 in omega arith) up))
-  enqueue_keeps w h n age c reply new fed ok sound = absurd ok
-
   delete_keeps : (w : World C) (h : ℕ) (reply : Reply C) (new : State C) → Deletes rules w.core h reply new → WorldInvariant rules w
       → WorldInvariant rules (after rules w (Applies (Delete h) reply new))
   delete_keeps w h (Deleted s) new ok sound =
@@ -76,7 +64,7 @@ module _ {C : Type 0} (rules : Rules C) (Splits : Splitting C) (is_value : C →
       }) h s
       (marked_queue w h s (invalidated_by rules s (w.core.index h)) ok.0 sound)
       (omega arith)
-      (λ k. let below : sequence_in (newest k w.history) < w.core.next = sound.next k in let e : s ≡ w.core.next = ok.0 in omega arith))
+      (let below : sequence_in (newest h w.history) < w.core.next = sound.next h in let e : s ≡ w.core.next = ok.0 in omega arith))
     where
       entered : record (queued rules w.core (flusher_of rules h) (Remove h s (invalidated_by rules s (w.core.index h)))) { next = s + 1; index = put w.core.index h (inserted (w.core.index h) (Mark s)) }
           ≡ record (queued rules w.core (flusher_of rules h) (Remove h s (invalidated_by rules s (w.core.index h)))) { next = s + 1; index = put w.core.index h (Some (Mark s)) }
@@ -94,6 +82,19 @@ module _ {C : Type 0} (rules : Rules C) (Splits : Splitting C) (is_value : C →
           (λ k n lt. tt)
           (λ low xs up. ascends_push low xs w.core.next s (omega arith) up)
   delete_keeps w h reply new ok sound = absurd ok
+
+  enqueue_keeps : (w : World C) (h n : ℕ) (age : Age) (c : C) (reply : Reply C) (new : State C) → (h ≤ last_number) × is_value c → Enqueues rules w.core h n age c reply new → WorldInvariant rules w
+      → WorldInvariant rules (after rules w (Applies (Enqueue h n age c) reply new))
+  enqueue_keeps w h n age c (Ignored d) new fed ok sound = same w new ok.3 sound
+  enqueue_keeps w h n age c (Dropped d s) new fed ok sound = delete_keeps w h (Deleted s) new ok.3 sound
+  enqueue_keeps w h n age c (Queued s) new fed ok sound =
+      subst (λ k. WorldInvariant rules (record w { core = k }))
+      (sym ok.4)
+      (pushed rules w (flusher_of rules h) (Piece h s n c) (s + 1) sound (let e : s ≡ w.core.next = ok.0 in omega arith)
+      (refl, λ bytes is. demands.trips h s c bytes fed.0 (let e : s ≡ w.core.next = ok.0 in let l : w.core.next < last_number = ok.3 in omega arith) fed.1 is)
+      (λ k n lt. ((λ _. let e : s ≡ w.core.next = ok.0 in omega arith), tt))
+      (λ low xs up. ascends_push low xs w.core.next s (let e : s ≡ w.core.next = ok.0 in omega arith) up))
+  enqueue_keeps w h n age c reply new fed ok sound = absurd ok
 
   destroying_keeps : (w : World C) (reply : Reply C) (new : State C) → BeginsDestroy rules w.core reply new → WorldInvariant rules w
       → WorldInvariant rules (after rules w (Applies DestroyBegin reply new))
@@ -151,7 +152,9 @@ module _ {C : Type 0} (rules : Rules C) (Splits : Splitting C) (is_value : C →
   take_keeps w f (Piece h s n c ∷ rest) (Received None) new is ok sound =
       subst (λ k. WorldInvariant rules (record w { core = k })) (sym ok.3) (received_piece rules w f h s n c ok.0 rest sound is ok.1)
   take_keeps w f (Piece h s n c ∷ rest) (Received (Some d)) new is ok sound =
-      subst (λ k. WorldInvariant rules (record w { core = k })) (sym ok.2) (returned_piece rules w f h s n c rest sound is)
+      subst (λ H. WorldInvariant rules (record w { core = new; history = H })) (sym (ap (λ q. with_returned q w.history) is))
+      (subst (λ k. WorldInvariant rules (record w { core = k; history = Deletion h s ∷ w.history })) (sym ok.2)
+      (returned_piece rules w f h s n c rest ((w.core.flushers f).invalidated ++ invalidated_by rules s (w.core.index h)) sound is))
   take_keeps w f (Remove h s invalidated ∷ rest) (Received None) new is ok sound =
       subst (λ k. WorldInvariant rules (record w { core = k })) (sym ok) (received_mark rules w f h s invalidated ((w.core.flushers f).invalidated ++ invalidated) rest sound is)
   take_keeps w f (Await i ∷ rest) (Received None) new is ok sound =

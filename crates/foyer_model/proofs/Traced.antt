@@ -6,7 +6,7 @@ use Rattle.foyer_model.specs.Record.{Slot, Indexed, Mark, Outcome, NoRecord, Hol
 use Rattle.foyer_model.specs.Position.{records_in, records_of}
 use Rattle.foyer_model.specs.State.{Submission, Piece, Remove, Await, Reinsert, Batch, Flusher, Stage, AtIndex, AtRecord, AllListed, ToClean, Reclaim, Destroy, NoDestroy, Begun, Cleaning, State}
 use Rattle.foyer_model.specs.Rules.{Rules, flusher_of, Splitting}
-use Rattle.foyer_model.specs.Step.{ReadResult, Bytes, Fault, Ticket, Delete, LoadBegin, LoadEnd, FlushWrote, DestroyClear}
+use Rattle.foyer_model.specs.Step.{ReadResult, Bytes, Fault, Ticket, Delete, LoadBegin, LoadEnd, Receive, FlushWrote, DestroyClear}
 use Rattle.foyer_model.specs.Reply.{Reply, Deleted, Done, Miss, Throttled, Read, Entry, Empty, Received, Began, Written, NoBlock, Next, Committed, Failed, Ended, Picked, Cleans, Destroying, Cleared}
 use Rattle.foyer_model.specs.Index.{holds}
 use Rattle.foyer_model.specs.Layout.{writes_in, KeepsRecords}
@@ -18,7 +18,7 @@ use Rattle.foyer_model.specs.Flush.{Begins, block_issued, Describes, Wrote, Logs
 use Rattle.foyer_model.specs.Reclaim.{Picks, Lists, Scanned, Rereads, Forgets, Cleaned}
 use Rattle.foyer_model.specs.Destroy.{BeginsDestroy, Clears, CleansOne}
 use Rattle.foyer_model.specs.InTurn.{WantsBlock}
-use Rattle.foyer_model.specs.Event.{Event, Put, Deletion, Destruction, sequence_in, newest, outcome_in, with_puts, puts_of}
+use Rattle.foyer_model.specs.Event.{Event, Put, Deletion, Destruction, sequence_in, newest, outcome_in, with_puts, puts_of, with_returned}
 use Rattle.foyer_model.specs.Access.{BlockWrites, came}
 use Rattle.foyer_model.specs.World.{World, Applies, after}
 use Rattle.foyer_model.proofs.Basics.{put_one}
@@ -150,13 +150,17 @@ module _ {C : Type 0} (rules : Rules C) (K : ℕ → ℕ → C → Type 0) (R : 
   deletes_traced w h reply new ok traced = absurd ok
 
   pub takes_traced : (w : World C) (f : ℕ) (queue : List (Submission C)) (reply : Reply C) (new : State C) → (w.core.flushers f).queue ≡ queue → TakesFront rules w.core f queue reply new → IsTraced K R w
-      → IsTracedIn K R new.flushers w.history
+      → IsTraced K R (after rules w (Applies (Receive f) reply new))
   takes_traced w f [] Empty new is ok traced = traced_as w.history new w.core ok traced
   takes_traced w f (Piece h s n c ∷ rest) (Received None) new is ok traced = traced_as w.history new _ ok.3 (one_traced w f _ (λ t.
       let q : Each (SubmissionKnown K) (Piece h s n c ∷ rest) = subst (Each (SubmissionKnown K)) is t.pieces in
       record { pieces = q.1; received = each_join (RecordKnown K) (w.core.flushers f).buffer _ t.received (q.0, tt); written = t.written }) traced)
-  takes_traced w f (Piece h s n c ∷ rest) (Received (Some d)) new is ok traced = traced_as w.history new _ ok.2 (one_traced w f _ (λ t.
-      record { pieces = (subst (Each (SubmissionKnown K)) is t.pieces).1; received = t.received; written = t.written }) traced)
+  takes_traced w f (Piece h s n c ∷ rest) (Received (Some d)) new is ok traced =
+      subst (λ H. IsTracedIn K R new.flushers H) (sym (ap (λ q. with_returned q w.history) is))
+      (traced_as (Deletion h s ∷ w.history) new _ ok.2
+      (let t : IsTracedIn K R (put w.core.flushers f _) w.history = one_traced w f (record (w.core.flushers f) { queue = rest; marks = (w.core.flushers f).marks ++ (h, s) ∷ []; invalidated = (w.core.flushers f).invalidated ++ invalidated_by rules s (w.core.index h) }) (λ t.
+      record { pieces = (subst (Each (SubmissionKnown K)) is t.pieces).1; received = t.received; written = t.written }) traced in
+      record { at = t.at; puts = (tt, t.puts) }))
   takes_traced w f (Remove h s invalidated ∷ rest) (Received None) new is ok traced = traced_as w.history new _ ok (one_traced w f _ (λ t.
       record { pieces = (subst (Each (SubmissionKnown K)) is t.pieces).1; received = t.received; written = t.written }) traced)
   takes_traced w f (Await i ∷ rest) (Received None) new is ok traced = traced_as w.history new _ ok (one_traced w f _ (λ t.

@@ -10,7 +10,7 @@ use Rattle.foyer_layout.specs.Each.{Each}
 use Rattle.foyer_model.specs.Widths.{HaveWidths, RecordsHaveWidths, SubmissionHasWidths, WritingHasWidths, BatchHasWidths, FlusherHasWidths, SlotHasWidths, StateHasWidths}
 use Rattle.foyer_model.specs.Rules.{Rules, flusher_of, Splitting}
 use Rattle.foyer_model.specs.Step.{ReadResult, Bytes, Fault, Age, Ticket, Step, Enqueue, Delete, Wait, MayContains, LoadBegin, LoadEnd, Receive, FlushBegin, FlushBlock, FlushWrote, LogWrote, FlushEnd, ReclaimBegin, ReclaimRead, ReclaimForget, ReclaimCleaned, ReclaimIdle, DestroyBegin, DestroyClear, DestroyCleaned, Close}
-use Rattle.foyer_model.specs.Reply.{Reply, NotNow, Refused, Ignored, Queued, Deleted, Done, Miss, Throttled, Read, Entry, Empty, Received, Began, Written, NoBlock, Next, Committed, Failed, Ended, Picked, Cleans, Destroying, Cleared}
+use Rattle.foyer_model.specs.Reply.{Reply, NotNow, Refused, Ignored, Queued, Dropped, Deleted, Done, Miss, Throttled, Read, Entry, Empty, Received, Began, Written, NoBlock, Next, Committed, Failed, Ended, Picked, Cleans, Destroying, Cleared}
 use Rattle.foyer_model.specs.Index.{is_same, holds, sequence_at, inserted, without, forgotten, without_mark, unmarked}
 use Rattle.foyer_model.specs.Layout.{writes_in, KeepsRecords}
 use Rattle.foyer_model.specs.Commit.{address_of, taken_in, committed_one, commit_of}
@@ -123,15 +123,6 @@ module _ {C : Type 0} (rules : Rules C) (Splits : Splitting C) where
     flushers = subst AllFlushers (sym flushers) ok.flushers;
   }
 
-  enqueues_wide : (c new : State C) (h n : ℕ) (age : Age) (k : C) (reply : Reply C) → h ≤ last_number → Enqueues rules c h n age k reply new → StateHasWidths c → StateHasWidths new
-  enqueues_wide c new h n age k (Ignored d) width ok wide = subst StateHasWidths (sym ok.3) wide
-  enqueues_wide c new h n age k (Queued s) width ok wide = subst StateHasWidths (sym ok.4) (record {
-    next = (let e : s ≡ c.next = ok.0 in let lt : c.next < last_number = ok.3 in omega arith);
-    index = wide.index;
-    flushers = one_wide c (flusher_of rules h) _ (queue_wide (c.flushers (flusher_of rules h)) (Piece h s n k) (width, (let e : s ≡ c.next = ok.0 in let lt : c.next < last_number = ok.3 in omega arith))) wide;
-  })
-  enqueues_wide c new h n age k reply width ok wide = absurd ok
-
   deletes_wide : (c new : State C) (h : ℕ) (reply : Reply C) → h ≤ last_number → Deletes rules c h reply new → StateHasWidths c → StateHasWidths new
   deletes_wide c new h (Deleted s) width ok wide = subst StateHasWidths (sym ok.3) (record {
     next = (let e : s ≡ c.next = ok.0 in let lt : c.next < last_number = ok.2 in omega arith);
@@ -142,6 +133,16 @@ module _ {C : Type 0} (rules : Rules C) (Splits : Splitting C) where
       both : HaveWidths h s
       both = (width, (let e : s ≡ c.next = ok.0 in let lt : c.next < last_number = ok.2 in omega arith))
   deletes_wide c new h reply width ok wide = absurd ok
+
+  enqueues_wide : (c new : State C) (h n : ℕ) (age : Age) (k : C) (reply : Reply C) → h ≤ last_number → Enqueues rules c h n age k reply new → StateHasWidths c → StateHasWidths new
+  enqueues_wide c new h n age k (Dropped d s) width ok wide = deletes_wide c new h (Deleted s) width ok.3 wide
+  enqueues_wide c new h n age k (Ignored d) width ok wide = subst StateHasWidths (sym ok.3) wide
+  enqueues_wide c new h n age k (Queued s) width ok wide = subst StateHasWidths (sym ok.4) (record {
+    next = (let e : s ≡ c.next = ok.0 in let lt : c.next < last_number = ok.3 in omega arith);
+    index = wide.index;
+    flushers = one_wide c (flusher_of rules h) _ (queue_wide (c.flushers (flusher_of rules h)) (Piece h s n k) (width, (let e : s ≡ c.next = ok.0 in let lt : c.next < last_number = ok.3 in omega arith))) wide;
+  })
+  enqueues_wide c new h n age k reply width ok wide = absurd ok
 
   waits_wide : (c new : State C) (f i : ℕ) (reply : Reply C) → Waits rules c f i reply new → StateHasWidths c → StateHasWidths new
   waits_wide c new f i Done ok wide = turned_wide c new f _ ok (queue_wide (c.flushers f) (Await i) tt) wide
@@ -190,7 +191,16 @@ module _ {C : Type 0} (rules : Rules C) (Splits : Splitting C) where
   takes_wide c new f [] Empty is ok wide = subst StateHasWidths (sym ok) wide
   takes_wide c new f (Piece h s n k ∷ rest) (Received None) is (bytes, encoded, fits, eq) wide =
       turned_wide c new f _ eq (pushed_wide (c.flushers f) (Piece h s n k) rest _ is (subst (Each SubmissionHasWidths) is (wide.flushers f).queue).0) wide
-  takes_wide c new f (Piece h s n k ∷ rest) (Received (Some d)) is ok wide = turned_wide c new f _ ok.2 (left_wide (c.flushers f) (Piece h s n k) rest is) wide
+  takes_wide c new f (Piece h s n k ∷ rest) (Received (Some d)) is ok wide = subst StateHasWidths (sym ok.2) (record {
+    next = wide.next;
+    index = index_put c.index h (inserted (c.index h) (Mark s)) (slot_inserted h (c.index h) (Mark s) (subst (Each SubmissionHasWidths) is (wide.flushers f).queue).0 (wide.index h)) wide.index;
+    flushers = one_wide c f _ (λ t. record {
+      queue = (subst (Each SubmissionHasWidths) is t.queue).1;
+      buffer = t.buffer;
+      marks = each_join (λ m. HaveWidths m.0 m.1) (c.flushers f).marks ((h, s) ∷ []) t.marks ((subst (Each SubmissionHasWidths) is t.queue).0, tt);
+      batch = t.batch;
+    }) wide;
+  })
   takes_wide c new f (Remove h s invalidated ∷ rest) (Received None) is ok wide = turned_wide c new f _ ok (λ t. record {
     queue = (subst (Each SubmissionHasWidths) is t.queue).1;
     buffer = t.buffer;

@@ -9,9 +9,9 @@ use Rattle.foyer_model.specs.State.{Submission, Piece, Writing, Batch, Evictable
 use Rattle.foyer_model.specs.Rules.{Rules, Splitting}
 use Rattle.foyer_model.specs.Widths.{StateHasWidths}
 use Rattle.foyer_model.specs.Layout.{writes_in, KeepsRecords, PlacesAll}
-use Rattle.foyer_model.specs.Step.{Age, Step, Enqueue, Receive, FlushBegin, FlushBlock, FlushWrote, ReclaimBegin}
-use Rattle.foyer_model.specs.Reply.{Kind, Reply, NotNow, Refused, Ignored, Received, Began, Written, Committed, Failed, Picked}
-use Rattle.foyer_model.specs.Queue.{IsIgnored}
+use Rattle.foyer_model.specs.Step.{Age, Young, Step, Enqueue, Receive, FlushBegin, FlushBlock, FlushWrote, ReclaimBegin}
+use Rattle.foyer_model.specs.Reply.{Kind, Reply, NotNow, Refused, Ignored, Dropped, Received, Began, Written, Committed, Failed, Picked}
+use Rattle.foyer_model.specs.Queue.{IsCrowded}
 use Rattle.foyer_model.specs.Receive.{Fits}
 use Rattle.foyer_model.specs.Flush.{commit_in}
 use Rattle.foyer_model.specs.Reclaim.{MayReclaim}
@@ -31,9 +31,11 @@ abbrev pub PiecesAmong : {C : Type 0} → List (ℕ × Record C) → List (Recor
 PiecesAmong {C} ps puts = (p : ℕ × Record C) (c : C) → IsAmong p ps → (p.1).source ≡ Given c → IsAmong p.1 puts
 
 module _ {C : Type 0} (rules : Rules C) (Splits : Splitting C) where
-  -- A piece is ignored only where it is young or too much is queued, and handed back only where it doesn't fit.
+  -- A piece is ignored only where it is young, dropped only where too much is queued, and handed back only where it
+  -- doesn't fit.
   pub record QueueKeeps : Type 0 where
-    pub ignored : (old new : State C) (h n : ℕ) (age : Age) (c d : C) → Follows rules Splits old (Enqueue h n age c) (Ignored d) new → (d ≡ c) × IsIgnored rules old age
+    pub ignored : (old new : State C) (h n : ℕ) (age : Age) (c d : C) → Follows rules Splits old (Enqueue h n age c) (Ignored d) new → (d ≡ c) × (age ≡ Young)
+    pub dropped : (old new : State C) (h n s : ℕ) (age : Age) (c d : C) → Follows rules Splits old (Enqueue h n age c) (Dropped d s) new → (d ≡ c) × IsCrowded rules old
     pub returned : (old new : State C) (f : ℕ) (d : C) → Follows rules Splits old (Receive f) (Received (Some d)) new
         → (h : ℕ) × (s : ℕ) × (n : ℕ) × (rest : List (Submission C)) × ((old.flushers f).queue ≡ Piece h s n d ∷ rest)
         × ((bytes : List ℕ) → rules.encode h s d ≡ Some bytes → Fits rules old (old.flushers f) bytes → ⊥)

@@ -1,9 +1,9 @@
 -- The history: what was committed, and which deletes and destroys were accepted. It knows no blocks and no addresses.
 use Rattle.std.specs.Prelude.{ℕ, ◌==◌, nat_le, ◌&&◌, if◌then◌else◌, List, [], ◌∷◌, Option, Some, None}
 use Rattle.foyer_model.specs.Record.{Outcome, NoRecord, Holds, Source, Given, Reread, Record}
-use Rattle.foyer_model.specs.State.{Writing, Batch, State}
-use Rattle.foyer_model.specs.Step.{Step, Delete, FlushWrote, DestroyClear}
-use Rattle.foyer_model.specs.Reply.{Reply, Deleted, Committed, Cleared}
+use Rattle.foyer_model.specs.State.{Submission, Piece, Remove, Await, Reinsert, Writing, Batch, State}
+use Rattle.foyer_model.specs.Step.{Step, Enqueue, Delete, Receive, FlushWrote, DestroyClear}
+use Rattle.foyer_model.specs.Reply.{Reply, Dropped, Deleted, Received, Committed, Cleared}
 use Rattle.foyer_model.specs.Flush.{commit_in}
 
 -- a put of what a record is, a delete, or a destroy
@@ -53,9 +53,19 @@ abbrev pub puts_of : {C : Type 0} → State C → Option (Batch C) → List (Rec
 puts_of old None = []
 puts_of old (Some batch) = puts_in old batch.writing
 
+-- a piece that is taken from the front of a queue and handed back is deleted, under its own sequence
+abbrev pub with_returned : {C : Type 0} → List (Submission C) → List (Event C) → List (Event C)
+with_returned [] H = H
+with_returned (Piece h s n c ∷ rest) H = Deletion h s ∷ H
+with_returned (Remove h s invalidated ∷ rest) H = H
+with_returned (Await i ∷ rest) H = H
+with_returned (Reinsert h bytes a ∷ rest) H = H
+
 -- the history with the events of a step and its reply: nothing else is an event
 abbrev pub events_of : {C : Type 0} → State C → Reply C → Step C → List (Event C) → List (Event C)
 events_of old (Deleted s) (Delete h) H = Deletion h s ∷ H
+events_of old (Dropped d s) (Enqueue h n age c) H = Deletion h s ∷ H
+events_of old (Received (Some d)) (Receive f) H = with_returned (old.flushers f).queue H
 events_of old (Committed n) (FlushWrote f ok) H = with_puts (puts_of old (old.flushers f).batch) H
 events_of old (Cleared bs) DestroyClear H = Destruction ∷ H
 events_of old reply step H = H

@@ -1,12 +1,12 @@
 -- What callers queue.
-use Rattle.std.specs.Prelude.{◌≡◌, ℕ, suc, zero, ◌+◌, ◌<◌, nat_le, true, false, if◌then◌else◌, List, [], ◌∷◌, ◌++◌, Option, Some, None, ◌⊎◌}
+use Rattle.std.specs.Prelude.{◌≡◌, ℕ, suc, zero, ◌+◌, ◌<◌, nat_le, true, false, if◌then◌else◌, List, [], ◌∷◌, ◌++◌, Option, Some, None}
 use Rattle.foyer_model.specs.Numbers.{put, last_number, plus}
 use Rattle.foyer_model.specs.Record.{Slot, Indexed, Mark}
 use Rattle.foyer_model.specs.Index.{is_address, inserted}
 use Rattle.foyer_model.specs.State.{Submission, Piece, Remove, Await, Reinsert, Flusher, State}
 use Rattle.foyer_model.specs.Rules.{Rules, flusher_of}
 use Rattle.foyer_model.specs.Step.{Age, Young}
-use Rattle.foyer_model.specs.Reply.{Reply, Ignored, Queued, Deleted, Done, Answer}
+use Rattle.foyer_model.specs.Reply.{Reply, Ignored, Queued, Dropped, Deleted, Done, Answer}
 
 -- the sizes of the pieces in a queue
 abbrev pub queue_size : {C : Type 0} → List (Submission C) → ℕ
@@ -33,17 +33,9 @@ module _ {C : Type 0} (rules : Rules C) (old : State C) where
   queued f submission =
       record old { flushers = put old.flushers f (record (old.flushers f) { queue = (old.flushers f).queue ++ submission ∷ [] }) }
 
-  -- a piece is ignored where it is young or too much is queued
-  abbrev pub IsIgnored : Age → Type 0
-  IsIgnored age = (age ≡ Young) ⊎ (rules.threshold < size_queued rules.flushers old.flushers)
-
-  -- an ignored piece goes back; another draws a sequence and is queued at its hash's flusher
-  abbrev pub Enqueues : ℕ → ℕ → Age → C → Reply C → State C → Type 0
-  Enqueues h n age c (Ignored d) new = (d ≡ c) × (old.closed ≡ false) × IsIgnored age × (new ≡ old)
-  Enqueues h n age c (Queued s) new =
-      (s ≡ old.next) × (old.closed ≡ false) × (IsIgnored age → ⊥) × (old.next < last_number)
-      × (new ≡ record (queued (flusher_of rules h) (Piece h s n c)) { next = s + 1 })
-  Enqueues h n age c reply new = ⊥
+  -- too much is queued
+  abbrev pub IsCrowded : Type 0
+  IsCrowded = rules.threshold < size_queued rules.flushers old.flushers
 
   -- a delete draws a sequence, and its mark is in the index at once and queued at the same flusher
   abbrev pub Deletes : ℕ → Reply C → State C → Type 0
@@ -54,6 +46,16 @@ module _ {C : Type 0} (rules : Rules C) (old : State C) where
         index = put old.index h (inserted (old.index h) (Mark s));
       })
   Deletes h reply new = ⊥
+
+  -- A young piece goes back. Where too much is queued another one goes back too, and its hash is deleted; else it draws a
+  -- sequence and is queued at its hash's flusher.
+  abbrev pub Enqueues : ℕ → ℕ → Age → C → Reply C → State C → Type 0
+  Enqueues h n age c (Ignored d) new = (d ≡ c) × (old.closed ≡ false) × (age ≡ Young) × (new ≡ old)
+  Enqueues h n age c (Dropped d s) new = (d ≡ c) × (age ≡ Young → ⊥) × IsCrowded × Deletes h (Deleted s) new
+  Enqueues h n age c (Queued s) new =
+      (s ≡ old.next) × (old.closed ≡ false) × ((age ≡ Young → ⊥) × (IsCrowded → ⊥)) × (old.next < last_number)
+      × (new ≡ record (queued (flusher_of rules h) (Piece h s n c)) { next = s + 1 })
+  Enqueues h n age c reply new = ⊥
 
   -- a wait is queued
   abbrev pub Waits : ℕ → ℕ → Reply C → State C → Type 0

@@ -1,11 +1,12 @@
 -- What a flusher receives from its queue.
 use Rattle.std.specs.Prelude.{◌≡◌, ◌≢◌, ℕ, ◌+◌, ◌≤◌, true, List, [], ◌∷◌, ◌++◌, length, Some, None, ◌⊎◌}
 use Rattle.foyer_model.specs.Numbers.{put}
-use Rattle.foyer_model.specs.Record.{Source, Given, Reread, Record}
-use Rattle.foyer_model.specs.Index.{holds}
+use Rattle.foyer_model.specs.Record.{Mark, Source, Given, Reread, Record}
+use Rattle.foyer_model.specs.Index.{holds, inserted}
 use Rattle.foyer_model.specs.State.{Submission, Piece, Remove, Await, Reinsert, Flusher, State}
 use Rattle.foyer_model.specs.Rules.{Rules}
 use Rattle.foyer_model.specs.Layout.{FitsBlock}
+use Rattle.foyer_model.specs.Queue.{invalidated_by}
 use Rattle.foyer_model.specs.Reply.{Reply, Empty, Received}
 
 -- the bytes that the records of a buffer take
@@ -44,8 +45,15 @@ module _ {C : Type 0} (rules : Rules C) (old : State C) where
   abbrev pub pushed_to : ℕ → List (Submission C) → Record C → State C
   pushed_to f rest r = turned f (record (flusher f) { queue = rest; buffer = (flusher f).buffer ++ r ∷ [] })
 
-  -- The front of the queue is taken. A piece that doesn't fit, or whose code fails, is handed back; a reinsertion is
-  -- dropped unless the index holds its very address and it fits.
+  -- a mark is kept for the batch that is next, and enters the index where nothing newer is
+  abbrev pub marked_at : ℕ → List (Submission C) → (hash sequence : ℕ) → State C
+  marked_at f rest h s =
+      record (turned f (record (flusher f) { queue = rest; marks = (flusher f).marks ++ (h, s) ∷ []; invalidated = (flusher f).invalidated ++ invalidated_by rules s (old.index h) })) {
+        index = put old.index h (inserted (old.index h) (Mark s));
+      }
+
+  -- The front of the queue is taken. A piece that doesn't fit, or whose code fails, is handed back, and a mark of its
+  -- sequence takes its place; a reinsertion is dropped unless the index holds its very address and it fits.
   abbrev pub TakesFront : ℕ → List (Submission C) → Reply C → State C → Type 0
   TakesFront f [] Empty new = new ≡ old
   TakesFront f (Piece h s n c ∷ rest) (Received None) new =
@@ -53,7 +61,7 @@ module _ {C : Type 0} (rules : Rules C) (old : State C) where
       × (new ≡ pushed_to f rest (record { hash = h; sequence = s; bytes = bytes; source = Given c }))
   TakesFront f (Piece h s n c ∷ rest) (Received (Some d)) new =
       (d ≡ c) × ((bytes : List ℕ) → rules.encode h s c ≡ Some bytes → Fits (flusher f) bytes → ⊥)
-      × (new ≡ turned f (record (flusher f) { queue = rest }))
+      × (new ≡ marked_at f rest h s)
   TakesFront f (Remove h s invalidated ∷ rest) (Received None) new =
       new ≡ turned f (record (flusher f) { queue = rest; marks = (flusher f).marks ++ (h, s) ∷ []; invalidated = (flusher f).invalidated ++ invalidated })
   TakesFront f (Await i ∷ rest) (Received None) new =

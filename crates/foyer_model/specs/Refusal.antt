@@ -1,14 +1,13 @@
 -- Why a step may be refused.
-use Rattle.std.specs.Prelude.{◌≡◌, ℕ, ◌<◌, ◌≤◌, true, false, List, [], ◌∷◌, Some, ◌⊎◌}
+use Rattle.std.specs.Prelude.{◌≡◌, ◌<◌, ◌≤◌, true, false, List, [], ◌∷◌, ◌⊎◌}
 use Rattle.foyer_model.specs.Numbers.{last_number}
 use Rattle.foyer_model.specs.Record.{NotSupported, Undecodable}
 use Rattle.foyer_model.specs.Index.{holds}
 use Rattle.foyer_model.specs.Receive.{Fits}
 use Rattle.foyer_model.specs.State.{Submission, Piece, Remove, Await, Reinsert, Flusher, State}
 use Rattle.foyer_model.specs.Rules.{Rules, Splitting}
-use Rattle.foyer_model.specs.Step.{Bytes, Fault, Step, Enqueue, Delete, Wait, LoadEnd, Receive, FlushBegin, FlushBlock, ReclaimBegin, ReclaimRead, ReclaimCleaned, DestroyBegin, DestroyClear}
-use Rattle.foyer_model.specs.Reply.{Kind, Io, Memory, Parse, Closed, Unsupported, SequenceEnd, Reply, Queued, Deleted, Done, Written, NoBlock, Picked, Destroying, Cleared}
-use Rattle.foyer_model.specs.Queue.{IsIgnored}
+use Rattle.foyer_model.specs.Step.{Young, Bytes, Fault, Step, Enqueue, Delete, Wait, LoadEnd, Receive, FlushBegin, FlushBlock, ReclaimBegin, ReclaimRead, ReclaimCleaned, DestroyBegin, DestroyClear}
+use Rattle.foyer_model.specs.Reply.{Kind, Io, Memory, Parse, Closed, Unsupported, SequenceEnd, Reply, Queued, Dropped, Deleted, Done, Written, NoBlock, Picked, Destroying, Cleared}
 use Rattle.foyer_model.specs.Load.{judged, IsDecoded}
 use Rattle.foyer_model.specs.Changes.{Changes}
 use Rattle.foyer_model.specs.InTurn.{InTurn}
@@ -24,6 +23,7 @@ Draws step = ⊥
 -- aren't among them
 abbrev pub Allocates : {C : Type 0} → Step C → Reply C → Type 0
 Allocates (Enqueue h n age c) (Queued s) = Unit {0}
+Allocates (Enqueue h n age c) (Dropped d s) = Unit {0}
 Allocates (Delete h) (Deleted s) = Unit {0}
 Allocates (Wait f i) Done = Unit {0}
 Allocates (FlushBlock f) (Written b writes) = Unit {0}
@@ -36,19 +36,18 @@ Allocates DestroyClear (Cleared bs) = Unit {0}
 Allocates step reply = ⊥
 
 module _ {C : Type 0} (rules : Rules C) (old : State C) where
-  -- the front of a queue takes memory: a mark and a wait do; a piece does unless its record has no room, a reinsertion where
-  -- it is put into the buffer
+  -- the front of a queue takes memory: a piece, a mark and a wait do, a reinsertion where it is put into the buffer
   abbrev pub TakesMemory : Flusher C → List (Submission C) → Type 0
   TakesMemory φ [] = ⊥
-  TakesMemory φ (Piece h s n c ∷ rest) = (bytes : List ℕ) → rules.encode h s c ≡ Some bytes → Fits rules old φ bytes
+  TakesMemory φ (Piece h s n c ∷ rest) = Unit {0}
   TakesMemory φ (Remove h s invalidated ∷ rest) = Unit {0}
   TakesMemory φ (Await i ∷ rest) = Unit {0}
   TakesMemory φ (Reinsert h bytes a ∷ rest) = (holds a (old.index h) ≡ true) × Fits rules old φ bytes
 
 module _ {C : Type 0} (rules : Rules C) (Splits : Splitting C) (old : State C) where
-  -- an enqueue that is ignored draws nothing
+  -- an enqueue of a young piece draws nothing
   abbrev pub DrawsNow : Step C → Type 0
-  DrawsNow (Enqueue h n age c) = IsIgnored rules old age → ⊥
+  DrawsNow (Enqueue h n age c) = age ≡ Young → ⊥
   DrawsNow (Delete h) = Unit {0}
   DrawsNow DestroyBegin = Unit {0}
   DrawsNow step = ⊥

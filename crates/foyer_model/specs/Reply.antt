@@ -11,6 +11,7 @@ pub data Reply (C : Type 0) : Type 0 where
   Refused : Kind → Step C → Reply C
   Ignored : C → Reply C
   Queued : (sequence : ℕ) → Reply C
+  Dropped : (returned : C) → (sequence : ℕ) → Reply C  -- under this sequence the hash is deleted
   Deleted : (sequence : ℕ) → Reply C
   Done : Reply C
   Answer : Bool → Reply C

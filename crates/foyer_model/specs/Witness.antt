@@ -2,7 +2,7 @@
 use Rattle.std.specs.Prelude.{◌≡◌, ◌≢◌, ℕ, Bool, true, ◌&&◌, List, [], ◌∷◌, ◌++◌, Some, None}
 use Rattle.foyer_model.specs.Ids.{ids, is_id_in}
 use Rattle.foyer_model.specs.Layout.{PlacesAll}
-use Rattle.foyer_model.specs.Reply.{Io, Memory, Parse, Closed, Unsupported, SequenceEnd, Reply, NotNow, Refused, Ignored, Queued, Deleted, Done, Answer, Miss, Throttled, Read, Entry, Empty, Received, Began, Written, NoBlock, Next, Committed, Failed, Ended, Picked, Scans, Listed, Cleans, Destroying, Cleared, Destroyed}
+use Rattle.foyer_model.specs.Reply.{Io, Memory, Parse, Closed, Unsupported, SequenceEnd, Reply, NotNow, Refused, Ignored, Queued, Dropped, Deleted, Done, Answer, Miss, Throttled, Read, Entry, Empty, Received, Began, Written, NoBlock, Next, Committed, Failed, Ended, Picked, Scans, Listed, Cleans, Destroying, Cleared, Destroyed}
 use Rattle.foyer_model.specs.World.{World, WorldEvent, Applies, MayAllHappen}
 use Rattle.foyer_model.specs.Opened.{IsOpened}
 use Rattle.foyer_model.specs.Laws.{Demands}
@@ -45,6 +45,7 @@ number_of (Cleans b) = 29
 number_of (Destroying s) = 30
 number_of (Cleared bs) = 31
 number_of (Destroyed ok) = 32
+number_of (Dropped c s) = 33
 
 -- the numbers of all replies of a run
 abbrev pub numbers_of : List (WorldEvent ℕ) → List ℕ
@@ -74,4 +75,4 @@ pub record ReachesEveryReply : Type 0 where
   pub is_recovered : recovered.history ≢ []
   pub second : List (WorldEvent ℕ)
   pub is_second : IsRun recovered second
-  pub all : are_all_in (ids 33) (numbers_of run ++ numbers_of second) ≡ true
+  pub all : are_all_in (ids 34) (numbers_of run ++ numbers_of second) ≡ true

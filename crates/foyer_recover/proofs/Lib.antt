@@ -6,3 +6,4 @@ pub mod BlocksLemmas
 pub mod MarkLemmas
 pub mod OpeningLemmas
 pub mod EmptyLemmas
+mod RisingLemmas

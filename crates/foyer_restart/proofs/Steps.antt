@@ -11,7 +11,7 @@ use Rattle.foyer_model.specs.Position.{Position, Part, BlockLayout, records_in, 
 use Rattle.foyer_model.specs.State.{Submission, Piece, Remove, Await, Reinsert, Writing, Batch, Flusher, BlockSet, Clean, Writes, Evictable, Reclaims, Reclaim, State}
 use Rattle.foyer_model.specs.Rules.{Rules, flusher_of, first_position, Splitting, sizes_of}
 use Rattle.foyer_model.specs.Step.{ReadResult, Bytes, Fault, Age, Ticket, Step, Enqueue, Delete, Wait, LoadBegin, LoadEnd, Receive, FlushBegin, FlushBlock, LogWrote, FlushEnd}
-use Rattle.foyer_model.specs.Reply.{Reply, Ignored, Queued, Deleted, Done, Miss, Throttled, Read, Entry, Empty, Received, Began, Written, NoBlock, Ended}
+use Rattle.foyer_model.specs.Reply.{Reply, Ignored, Queued, Dropped, Deleted, Done, Miss, Throttled, Read, Entry, Empty, Received, Began, Written, NoBlock, Ended}
 use Rattle.foyer_model.specs.Index.{inserted, without, unmarked}
 use Rattle.foyer_model.specs.Layout.{writes_in, AllFitBlock}
 use Rattle.foyer_model.specs.Queue.{invalidated_by, Enqueues, Deletes, Waits}
@@ -74,20 +74,21 @@ module _ (A : Type 0) {C : Type 0} (rules : Rules C) (Splits : Splitting C) (is_
   abbrev pub Known : World C → Type 0
   Known = IsKnown rules Splits is_value demands
 
-  pub enqueue_safe : (w : World C) (h n : ℕ) (age : Age) (c : C) (reply : Reply C) (new : State C) → Enqueues rules w.core h n age c reply new → IsSafe A rules (sight_of w) → SafeAt w (Enqueue h n age c) reply new
-  enqueue_safe w h n age c (Ignored d) new ok s = subst (SafeAt w (Enqueue h n age c) (Ignored d)) (sym ok.3) s
-  enqueue_safe w h n age c (Queued k) new ok s =
-      subst (SafeAt w (Enqueue h n age c) (Queued k)) (sym ok.4)
-      (mild.pushed A rules (sight_of w) w.core.index (k + 1) (flusher_of rules h) (Piece h k n c) s (let e : k ≡ w.core.next = ok.0 in omega arith) (fewer_same w.core.index)
-      ((let e : k ≡ w.core.next = ok.0 in let l : s.low (flusher_of rules h) ≤ w.core.next = s.lines.lows (flusher_of rules h) in omega arith), refl))
-  enqueue_safe w h n age c reply new ok s = absurd ok
-
   pub delete_safe : (w : World C) (h : ℕ) (reply : Reply C) (new : State C) → Deletes rules w.core h reply new → IsSafe A rules (sight_of w) → SafeAt w (Delete h) reply new
   delete_safe w h (Deleted k) new ok s =
       subst (SafeAt w (Delete h) (Deleted k)) (sym ok.3)
       (mild.pushed A rules (sight_of w) (put w.core.index h (inserted (w.core.index h) (Mark k))) (k + 1) (flusher_of rules h) (Remove h k (invalidated_by rules k (w.core.index h))) s (let e : k ≡ w.core.next = ok.0 in omega arith)
       (fewer_put w.core.index h (inserted (w.core.index h) (Mark k)) (fewer_mark (w.core.index h) k)) tt)
   delete_safe w h reply new ok s = absurd ok
+
+  pub enqueue_safe : (w : World C) (h n : ℕ) (age : Age) (c : C) (reply : Reply C) (new : State C) → Enqueues rules w.core h n age c reply new → IsSafe A rules (sight_of w) → SafeAt w (Enqueue h n age c) reply new
+  enqueue_safe w h n age c (Dropped d k) new ok s = delete_safe w h (Deleted k) new ok.3 s
+  enqueue_safe w h n age c (Ignored d) new ok s = subst (SafeAt w (Enqueue h n age c) (Ignored d)) (sym ok.3) s
+  enqueue_safe w h n age c (Queued k) new ok s =
+      subst (SafeAt w (Enqueue h n age c) (Queued k)) (sym ok.4)
+      (mild.pushed A rules (sight_of w) w.core.index (k + 1) (flusher_of rules h) (Piece h k n c) s (let e : k ≡ w.core.next = ok.0 in omega arith) (fewer_same w.core.index)
+      ((let e : k ≡ w.core.next = ok.0 in let l : s.low (flusher_of rules h) ≤ w.core.next = s.lines.lows (flusher_of rules h) in omega arith), refl))
+  enqueue_safe w h n age c reply new ok s = absurd ok
 
   pub wait_safe : (w : World C) (f i : ℕ) (reply : Reply C) (new : State C) → Waits rules w.core f i reply new → IsSafe A rules (sight_of w) → SafeAt w (Wait f i) reply new
   wait_safe w f i Done new ok s =
@@ -130,7 +131,9 @@ module _ (A : Type 0) {C : Type 0} (rules : Rules C) (Splits : Splitting C) (is_
   take_safe w f (Piece h k n c ∷ rest) (Received (Some d)) new is ok s =
       let all : Each (SubmissionIs (IsOf rules s.low f)) (Piece h k n c ∷ rest) = subst (Each (SubmissionIs (IsOf rules s.low f))) is (s.lines.waits f).queue in
       subst (SafeAt w (Receive f) (Received (Some d))) (sym ok.2)
-      (taken w f _ s refl (record { batch = (s.lines.waits f).batch; buffer = (s.lines.waits f).buffer; queue = all.1 }) (s.rests f))
+      (mild.turned A rules (sight_of w) (put w.core.index h (inserted (w.core.index h) (Mark k))) w.core.next f _ s (omega arith)
+      (fewer_put w.core.index h (inserted (w.core.index h) (Mark k)) (fewer_mark (w.core.index h) k)) refl
+      (record { batch = (s.lines.waits f).batch; buffer = (s.lines.waits f).buffer; queue = all.1 }) (s.rests f))
   take_safe w f (Remove h k invalidated ∷ rest) (Received None) new is ok s =
       let all : Each (SubmissionIs (IsOf rules s.low f)) (Remove h k invalidated ∷ rest) = subst (Each (SubmissionIs (IsOf rules s.low f))) is (s.lines.waits f).queue in
       subst (SafeAt w (Receive f) (Received None)) (sym ok)

@@ -334,24 +334,23 @@ module _ {C : Type 0} (m : Machine C) (is_value : C → Type 0) (i : Item m is_v
     room_k : 0 + page_up (length k.bytes) ≤ m.room (first_position rules)
     room_k = let a : page_up (length k.bytes) ≤ 4096 = one_page k.bytes k.page in let b : 8192 ≤ m.room (first_position rules) = m.much (first_position rules) in omega arith
 
-    not_ignored : (Fresh ≡ Young) ⊎ (m.threshold < 0) → ⊥
-    not_ignored (inl e) = cc
-    not_ignored (inr l) = omega arith
+    is_queued : (Fresh ≡ Young → ⊥) × (m.threshold < 0 → ⊥)
+    is_queued = ((λ e. cc), (λ l. omega arith))
 
     may1 : May w0 e1
-    may1 = ((omega arith, i.value), (omega arith, tt, (record (queued rules core0 0 (Piece 2 1 1 i.content)) { next = 2 }, (refl, refl, not_ignored, omega arith, refl), refl)))
+    may1 = ((omega arith, i.value), (omega arith, tt, (record (queued rules core0 0 (Piece 2 1 1 i.content)) { next = 2 }, (refl, refl, is_queued, omega arith, refl), refl)))
 
     may2 : May w1 e2
     may2 = (tt, (omega arith, omega arith, (pushed_to rules c1 0 [] older, (i.bytes, i.encoded, (room_i, (i.some, fits i.bytes i.page)), refl), refl)))
 
     may3 : May w2 e3
-    may3 = ((omega arith, j.value), (omega arith, tt, (record (queued rules c2 0 (Piece 2 2 1 j.content)) { next = 3 }, (refl, refl, not_ignored, omega arith, refl), refl)))
+    may3 = ((omega arith, j.value), (omega arith, tt, (record (queued rules c2 0 (Piece 2 2 1 j.content)) { next = 3 }, (refl, refl, is_queued, omega arith, refl), refl)))
 
     may4 : May w3 e4
     may4 = (tt, (omega arith, omega arith, (pushed_to rules c3 0 [] newer, (j.bytes, j.encoded, (room_j, (j.some, fits j.bytes j.page)), refl), refl)))
 
     may5 : May w4 e5
-    may5 = ((omega arith, k.value), (omega arith, tt, (record (queued rules c4 1 (Piece 3 3 1 k.content)) { next = 4 }, (refl, refl, not_ignored, omega arith, refl), refl)))
+    may5 = ((omega arith, k.value), (omega arith, tt, (record (queued rules c4 1 (Piece 3 3 1 k.content)) { next = 4 }, (refl, refl, is_queued, omega arith, refl), refl)))
 
     may6 : May w5 e6
     may6 = (tt, (omega arith, omega arith, (pushed_to rules c5 1 [] other, (k.bytes, k.encoded, (room_k, (k.some, fits k.bytes k.page)), refl), refl)))

@@ -225,11 +225,10 @@ module _ (A : Type 0) (entries_of : ℕ → List ℕ → Option (List IndexEntry
     May = MayHappen rules (IsRealSplit A rules) (λ c. Unit {0})
 
     may1 : May w0 e1
-    may1 = ((omega arith, tt), (omega arith, tt, (record (queued rules core0 0 (Piece 7 1 1 (9 ∷ []))) { next = 2 }, (refl, refl, not_ignored, omega arith, refl), refl)))
+    may1 = ((omega arith, tt), (omega arith, tt, (record (queued rules core0 0 (Piece 7 1 1 (9 ∷ []))) { next = 2 }, (refl, refl, is_queued, omega arith, refl), refl)))
       where
-        not_ignored : (Fresh ≡ Young) ⊎ (1000 < 0) → ⊥
-        not_ignored (inl e) = cc
-        not_ignored (inr l) = omega arith
+        is_queued : (Fresh ≡ Young → ⊥) × (1000 < 0 → ⊥)
+        is_queued = ((λ e. cc), (λ l. omega arith))
 
     may2 : May (after rules w0 e1) e2
     may2 = (tt, (omega arith, omega arith, (pushed_to rules c1 0 [] one, (9 ∷ [], refl, (omega (arith, page_up-fewest 1), omega (arith, page_up-fewest 1)), refl), refl)))

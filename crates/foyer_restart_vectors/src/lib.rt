@@ -1,4 +1,4 @@
-//! Tests of what an opening finds on the bytes that a stopped run left.
+//! Tests of recovery over forged and random blocks, and of what an opening finds on a stopped run's bytes.
 #![tactic(auto)]
 
 #[cfg(test)]

@@ -1,6 +1,2 @@
-mod cleans;
-mod moves;
-mod premises;
-mod reopened;
-mod running;
-mod stopped;
+mod recover;
+pub(crate) mod restart;

@@ -261,11 +261,10 @@ module _ (is_key is_value : List ℕ → Bool) (s : Settings) (sound : AreValid 
   May = MayHappen rules (layout (smallest s)) (IsEncoded is_key is_value)
 
   may1 : May w0 e1
-  may1 = ((omega arith, λ e. (key_is, value_is)), (omega arith, tt, (record (queued rules core0 0 (Piece 7 1 1 c)) { next = 2 }, (refl, refl, not_ignored, omega arith, refl), refl)))
+  may1 = ((omega arith, λ e. (key_is, value_is)), (omega arith, tt, (record (queued rules core0 0 (Piece 7 1 1 c)) { next = 2 }, (refl, refl, is_queued, omega arith, refl), refl)))
     where
-      not_ignored : (Fresh ≡ Young) ⊎ (4096 < 0) → ⊥
-      not_ignored (inl e) = cc
-      not_ignored (inr l) = omega arith
+      is_queued : (Fresh ≡ Young → ⊥) × (4096 < 0 → ⊥)
+      is_queued = ((λ e. cc), (λ l. omega arith))
 
   may2 : May (after rules w0 e1) e2
   may2 = (tt, (omega arith, omega arith, (pushed_to rules c1 0 [] one, (bytes, is_encoded, (room, (some_bytes.0, fits)), refl), refl)))

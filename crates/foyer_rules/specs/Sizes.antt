@@ -1,11 +1,18 @@
 -- Sizes that go together.
-use Rattle.std.specs.Prelude.{◌≡◌, ℕ, ◌*◌, ◌/◌, ◌+◌, ◌%◌, ◌^◌, ◌<◌, ◌≤◌, ◌==◌, if◌then◌else◌}
+use Rattle.std.specs.Prelude.{◌≡◌, ℕ, ◌*◌, ◌/◌, ◌+◌, ◌%◌, ◌^◌, ◌<◌, ◌≤◌, ◌==◌, ◌-◌, min, max, if◌then◌else◌}
+use Rattle.std.specs.Int.{IsNextPowerOfTwo, div_ceil}
 use Rattle.foyer_layout.specs.Position.{Sizes}
 use Rattle.foyer_rules.specs.declared.settings.Settings.{Settings}
 
 -- of a block and of a blob's index
 abbrev pub sizes_in : Settings → Sizes
 sizes_in s = record { block = s.block_size; index = s.blob_index_size }
+
+-- the shards of an index where none are given: the least power of two, from 64 up, that leaves at most 512 pages of the capacity
+-- to each
+abbrev pub IsDefaultShardCount : ℕ → ℕ → ℕ → Type 0
+IsDefaultShardCount blocks block_size shards =
+    IsNextPowerOfTwo (max (div_ceil (min (blocks * block_size) (2 ^ 64 - 1)) (512 * 4096)) 64) shards
 
 -- the bytes of a flusher's buffer: its share of the pool, in whole pages
 abbrev pub buffer_room : Settings → ℕ

@@ -1,6 +1,6 @@
 //! The sizes that a core is opened with.
 ghost use Rattle.std.specs.Prelude.{◌≡◌, ◌^◌, ◌↔◌, false, IsOk, IsOkUnless};
-ghost use Rattle.foyer_rules.specs.Sizes.{AreValid, buffer_room};
+ghost use Rattle.foyer_rules.specs.Sizes.{AreValid, IsDefaultShardCount, buffer_room};
 
 use foyer_device::error::{Error, Result};
 use foyer_format::block::buffer::PAGE;
@@ -8,8 +8,12 @@ use foyer_format::block::buffer::PAGE;
 /// The bytes of a blob index where none are given.
 pub const DEFAULT_BLOB_INDEX_SIZE: usize = PAGE;
 
-/// The shards of the index where none are given.
-pub const DEFAULT_INDEXER_SHARDS: usize = 64;
+/// The least shards of the index where none are given.
+pub const MIN_DEFAULT_INDEXER_SHARDS: usize = 64;
+
+/// The bytes of the capacity for each of which the index has a shard where none are given: 512 pages. So an insertion, which
+/// moves what stands after it in its shard, moves at most 24 KiB where each record takes a page.
+pub const DEFAULT_SHARD_CAPACITY: usize = 512 * PAGE;
 
 /// The flushers where none are given.
 pub const DEFAULT_FLUSHERS: u32 = 1;
@@ -45,7 +49,7 @@ pub struct Settings {
     pub flushers: u32,
     /// Into how many shards the index is divided.
     pub indexer_shards: usize,
-    /// A piece is ignored where the sizes of those queued sum to more than this, in bytes.
+    /// A piece isn't taken, and its hash is deleted, where the sizes of those queued sum to more than this, in bytes.
     pub submit_queue_size_threshold: usize,
     /// The bytes of all flushers' buffers together, of which each has an equal share of whole pages.
     pub buffer_pool_size: usize,
@@ -57,12 +61,23 @@ pub struct Settings {
     pub tombstone_log: bool,
 }
 
+/// The shards of the index where none are given: the least power of two, from `MIN_DEFAULT_INDEXER_SHARDS` up, that leaves at
+/// most `DEFAULT_SHARD_CAPACITY` bytes of the capacity to each.
+pub fn default_indexer_shards(blocks: u32, block_size: usize) -> usize
+    ensures { IsDefaultShardCount blocks block_size result }
+{
+    let capacity = (blocks as usize).saturating_mul(block_size);
+    let wanted = capacity.div_ceil(DEFAULT_SHARD_CAPACITY);
+    wanted.max(MIN_DEFAULT_INDEXER_SHARDS).next_power_of_two()
+}
+
 impl Settings {
     /// So many blocks of this size; all else at its default.
     pub fn new(blocks: u32, block_size: usize) -> Settings
         ensures sizes { (result.blocks ≡ blocks) × (result.block_size ≡ block_size) }
-        ensures defaults { (result.blob_index_size ≡ 4096) × (result.flushers ≡ 1) × (result.indexer_shards ≡ 64)
+        ensures defaults { (result.blob_index_size ≡ 4096) × (result.flushers ≡ 1)
             × (result.submit_queue_size_threshold ≡ 2 ^ 24) × (result.buffer_pool_size ≡ 2 ^ 24) }
+        ensures shards { IsDefaultShardCount result.blocks result.block_size result.indexer_shards }
         ensures reclaims { (result.reclaimers ≡ 1) × (result.clean_block_threshold ≡ 1) }
         ensures log { result.tombstone_log ≡ false }
     {
@@ -71,7 +86,7 @@ impl Settings {
             block_size,
             blob_index_size: DEFAULT_BLOB_INDEX_SIZE,
             flushers: DEFAULT_FLUSHERS,
-            indexer_shards: DEFAULT_INDEXER_SHARDS,
+            indexer_shards: default_indexer_shards(blocks, block_size),
             submit_queue_size_threshold: DEFAULT_SUBMIT_QUEUE_SIZE_THRESHOLD,
             buffer_pool_size: DEFAULT_BUFFER_POOL_SIZE,
             reclaimers: DEFAULT_RECLAIMERS,

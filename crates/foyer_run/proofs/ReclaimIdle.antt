@@ -194,6 +194,7 @@ module _ {K V P A : Type 0} (m : Meaning K V P) where
   same_verdicts (reply.Refused why back) it is = ap given_verdicts is.2
   same_verdicts (reply.Ignored piece) it is = ap given_verdicts is
   same_verdicts (reply.Queued q) it is = ap given_verdicts is
+  same_verdicts (reply.Dropped piece q) it is = ap given_verdicts is
   same_verdicts (reply.Deleted q) it is = ap given_verdicts is
   same_verdicts reply.Done it is = ap given_verdicts is
   same_verdicts (reply.Answer b) it is = ap given_verdicts is
@@ -318,6 +319,7 @@ module _ {K V P A : Type 0} (m : Meaning K V P) where
   sorted (reply.Refused why back) it is = ap sort is.2
   sorted (reply.Ignored piece) it is = ap sort is
   sorted (reply.Queued q) it is = ap sort is
+  sorted (reply.Dropped piece q) it is = ap sort is
   sorted (reply.Deleted q) it is = ap sort is
   sorted reply.Done it is = ap sort is
   sorted (reply.Answer b) it is = ap sort is

@@ -73,6 +73,7 @@ module _ {K V P A : Type 0} (m : Meaning K V P) where
   sorted (reply.Refused why back) it is = ap sort is.2
   sorted (reply.Ignored piece) it is = ap sort is
   sorted (reply.Queued q) it is = ap sort is
+  sorted (reply.Dropped piece q) it is = ap sort is
   sorted (reply.Deleted q) it is = ap sort is
   sorted reply.Done it is = ap sort is
   sorted (reply.Answer b) it is = ap sort is

@@ -38,7 +38,7 @@ together_valid o s asked go =
     let room : 4096 < o.block_size = go.room in
     record {
       some_flusher = omega (arith, asked.flushers);
-      some_shard = omega (arith, asked.indexer_shards);
+      some_shard = omega (arith, asked.indexer_shards.1);
       enough_blocks = omega (arith, asked.flushers, asked.blocks, go.some);
       whole_block = rw asked.block_size even;
       offsets_fit = omega (arith, asked.block_size, below);

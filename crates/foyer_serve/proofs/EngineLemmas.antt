@@ -49,6 +49,7 @@ pub fault_not_ok : {A : Type 0} (said : Answer A) → IsFault said → said ≡ 
 fault_not_ok (answer.Fault kind) is = λ e. cc
 fault_not_ok answer.Queued is = absurd is
 fault_not_ok answer.Ignored is = absurd is
+fault_not_ok answer.Deleted is = absurd is
 fault_not_ok (answer.Entry text) is = absurd is
 fault_not_ok answer.Throttled is = absurd is
 fault_not_ok answer.Miss is = absurd is

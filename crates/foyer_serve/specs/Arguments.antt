@@ -2,6 +2,7 @@
 use Rattle.std.specs.Prelude.{◌≡◌, ℕ, ◌*◌, ◌/◌, ◌+◌, ◌^◌, ◌<◌, ◌≤◌, List, [], ◌∷◌, false, string_bytes}
 use Rattle.std.specs.declared.string.String.{String}
 use Rattle.foyer_layout.specs.Page.{page_up}
+use Rattle.foyer_rules.specs.Sizes.{IsDefaultShardCount}
 use Rattle.foyer_rules.specs.declared.settings.Settings.{Settings}
 use Rattle.foyer_serve.specs.Lines.{IsNumber}
 use Rattle.foyer_serve.specs.declared.options.Options.{Options}
@@ -33,7 +34,7 @@ pub record AreAsked (o : Options) (s : Settings) : Type 0 where
   pub blocks : s.blocks ≡ blocks_held o
   pub blob_index_size : s.blob_index_size ≡ 4096
   pub flushers : s.flushers ≡ 1
-  pub indexer_shards : s.indexer_shards ≡ 64
+  pub indexer_shards : IsDefaultShardCount s.blocks s.block_size s.indexer_shards
   pub submit_queue_size_threshold : s.submit_queue_size_threshold ≡ 2 ^ 24
   pub buffer_pool_size : s.buffer_pool_size ≡ 2 ^ 24
   pub reclaimers : s.reclaimers ≡ 1

@@ -57,6 +57,7 @@ fault_text kind = codes "fault " ++ kind_name kind
 abbrev pub text_of : {A : Type 0} → Answer A → List ℕ
 text_of answer.Queued = codes "queued"
 text_of answer.Ignored = codes "ignored"
+text_of answer.Deleted = codes "deleted"
 text_of (answer.Entry text) = codes "entry " ++ string_bytes text
 text_of answer.Throttled = codes "throttled"
 text_of answer.Miss = codes "miss"

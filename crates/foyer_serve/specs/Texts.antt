@@ -74,6 +74,7 @@ IsGot key old new old_bytes new_bytes answered = IsLoadedOrRefused key false old
 -- what an enqueue's reply is answered as
 abbrev pub put_as : {A : Type 0} → Reply ℕ (String A) NoProperties A → Answer A
 put_as (reply.Queued sequence) = answer.Queued
+put_as (reply.Dropped piece sequence) = answer.Deleted
 put_as (reply.Refused kind back) = answer.Fault kind
 put_as said = answer.Ignored
 

@@ -48,6 +48,7 @@ pub fn print<W: Write, A: Allocator>(output: &mut W, answer: &Answer<A>) -> io::
     match answer {
         Answer::Queued => output.write_all(b"queued\n"),
         Answer::Ignored => output.write_all(b"ignored\n"),
+        Answer::Deleted => output.write_all(b"deleted\n"),
         Answer::Throttled => output.write_all(b"throttled\n"),
         Answer::Miss => output.write_all(b"miss\n"),
         Answer::Ok => output.write_all(b"ok\n"),

@@ -46,8 +46,10 @@ type Key = u64;
 pub enum Answer<A: Allocator> {
     /// The text is queued until the next wait or close.
     Queued,
-    /// The text isn't taken: too much is queued.
+    /// The text isn't taken: it is young.
     Ignored,
+    /// The text isn't taken, since too much is queued, and the key is deleted.
+    Deleted,
     /// The key's text.
     Entry(String<A>),
     /// The key has a text, and the caller said that the device is throttled.
@@ -70,6 +72,7 @@ fn answer_put<A: Allocator>(last: EngineReply<A>) -> Answer<A>
 {
     match last {
         Reply::Queued(_) => Answer::Queued,
+        Reply::Dropped(_, _) => Answer::Deleted,
         Reply::Refused(kind, _) => Answer::Fault(kind),
         _ => Answer::Ignored,
     }

@@ -1,4 +1,5 @@
-//! Tests of the program and its engine over directories, and over devices whose calls fail.
+//! Tests of the programs and their engine: over directories, over devices whose calls fail, and where reclaims have records
+//! written again.
 #![tactic(auto)]
 
 #[cfg(test)]

@@ -1,14 +1,20 @@
-//! The program over directories, what it lists of them, and its engine over devices whose calls fail.
+//! Both programs over directories, engines over devices whose calls fail, reclaims that have records written again, and each
+//! fault of a script beside a log in turn.
 
+mod asked;
 mod deletes;
-mod destroys;
 mod directories;
-mod failing;
-mod listing;
-mod logged;
+mod faults;
+mod files;
 mod memories;
 mod monitored;
-mod reclaims;
-mod reopening;
+mod moves;
+mod over;
+mod own;
+mod random;
+mod rows;
 mod same;
 mod scripts;
+mod settled;
+mod steps;
+mod sweeps;

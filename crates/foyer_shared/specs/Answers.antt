@@ -34,6 +34,7 @@ IsAnswer is_key is_value key_of value_of given (reply.Refused kind back) = back 
 IsAnswer is_key is_value key_of value_of given (reply.Entry key value age) = BringsPair is_key is_value (key_of key) (value_of value) given
 IsAnswer is_key is_value key_of value_of given (reply.Ignored back) = Returns given back
 IsAnswer is_key is_value key_of value_of given (reply.Queued sequence) = IsEnqueue given
+IsAnswer is_key is_value key_of value_of given (reply.Dropped back sequence) = Returns given back
 IsAnswer is_key is_value key_of value_of given (reply.Deleted sequence) = IsDelete given
 IsAnswer is_key is_value key_of value_of given (reply.Answer answer) = IsQuestion given
 IsAnswer is_key is_value key_of value_of given (reply.Read ticket) = LooksUp given ticket

@@ -39,6 +39,7 @@ reply_brief (reply.NotNow back) = replied.NotNow
 reply_brief (reply.Refused kind back) = replied.Refused kind
 reply_brief (reply.Ignored piece) = replied.Ignored
 reply_brief (reply.Queued sequence) = replied.Queued sequence
+reply_brief (reply.Dropped piece sequence) = replied.Dropped sequence
 reply_brief (reply.Deleted sequence) = replied.Deleted sequence
 reply_brief reply.Done = replied.Done
 reply_brief (reply.Answer answer) = replied.Answer answer

@@ -4,4 +4,6 @@ pub mod Briefed
 pub mod Briefs
 pub mod Chunks
 pub mod History
+pub mod Kinds
 pub mod Noted
+pub mod Sessions

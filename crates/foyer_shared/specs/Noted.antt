@@ -1,11 +1,13 @@
 -- What lies behind the lock, and what a session has.
-use Rattle.std.specs.Prelude.{◌≡◌, ℕ, Bool, true, false, List, [], ◌∷◌, ◌++◌, length, map, Option, Some, None}
+use Rattle.std.specs.Prelude.{◌≡◌, Bool, true, false, List, [], ◌∷◌, ◌++◌, map, Option, Some, None}
 use Rattle.std.specs.Option.{option_map}
 use Rattle.foyer_core.specs.declared.state.Core.{Core}
 use Rattle.foyer_rules.specs.Content.{Meaning}
 use Rattle.foyer_shared.specs.Briefs.{brief_of}
 use Rattle.foyer_shared.specs.History.{IsLegal, Made}
+use Rattle.foyer_shared.specs.Kinds.{tallied}
 use Rattle.foyer_shared.specs.declared.brief.Brief.{Brief}
+use Rattle.foyer_tally.specs.declared.kinds.Counts.{Counts}
 
 abbrev pub noted : {K V P A : Type 0} → Made K V P A → Brief
 noted x = brief_of x.step x.reply
@@ -15,11 +17,11 @@ abbrev pub AreNotesOf : {K V P A : Type 0} → List (Made K V P A) → Option (L
 AreNotesOf run None = Unit {0}
 AreNotesOf run (Some notes) = notes ≡ map noted run
 
--- Some history leads from an opening to the core, has as many steps as were counted, and is the one of the notes.
-pub record IsNoted {K V P A : Type 0} (m : Meaning K V P) (core : Core K V P A) (notes : Option (List Brief)) (calls : ℕ) : Type 0 where
+-- Some history leads from an opening to the core, has of each kind as many steps as were counted, and is the one of the notes.
+pub record IsNoted {K V P A : Type 0} (m : Meaning K V P) (core : Core K V P A) (notes : Option (List Brief)) (calls : Counts) : Type 0 where
   pub run : List (Made K V P A)
   pub legal : IsLegal m run core
-  pub count : calls ≡ length run
+  pub count : calls ≡ tallied (map noted run)
   pub kept : AreNotesOf run notes
 
 -- one note more, where notes are kept

@@ -1,12 +1,14 @@
 //! What is noted of a step and of its reply: all but contents.
 ghost use Rattle.std.specs.Prelude.{◌≡◌};
 ghost use Rattle.foyer_shared.specs.Briefs.{brief_of, reply_brief, step_brief};
+ghost use Rattle.foyer_shared.specs.Kinds.{kind_of};
 
 use foyer_block::manager::BlockId;
 use foyer_core::reply::Reply;
 use foyer_core::step::{Step, Ticket};
 use foyer_device::error::ErrorKind;
 use foyer_format::block::serde::Sequence;
+use foyer_tally::kinds::StepKind;
 use std::alloc::Allocator;
 
 /// A step, without the piece or the bytes that it brings.
@@ -42,6 +44,7 @@ pub enum ReplyBrief {
     Refused(ErrorKind),
     Ignored,
     Queued(Sequence),
+    Dropped(Sequence),
     Deleted(Sequence),
     Done,
     Answer(bool),
@@ -121,6 +124,7 @@ impl ReplyBrief {
             Reply::Refused(kind, _) => ReplyBrief::Refused(*kind),
             Reply::Ignored(_) => ReplyBrief::Ignored,
             Reply::Queued(sequence) => ReplyBrief::Queued(*sequence),
+            Reply::Dropped(_, sequence) => ReplyBrief::Dropped(*sequence),
             Reply::Deleted(sequence) => ReplyBrief::Deleted(*sequence),
             Reply::Done => ReplyBrief::Done,
             Reply::Answer(answer) => ReplyBrief::Answer(*answer),
@@ -144,6 +148,24 @@ impl ReplyBrief {
             Reply::Destroying(sequence) => ReplyBrief::Destroying(*sequence),
             Reply::Cleared => ReplyBrief::Cleared,
             Reply::Destroyed(first) => ReplyBrief::Destroyed(*first),
+        }
+    }
+}
+
+impl Brief {
+    /// The kind that it is counted as.
+    pub fn kind(&self) -> StepKind
+        ensures { result ≡ kind_of self.now }
+    {
+        match (&self.step, &self.reply) {
+            (StepBrief::Enqueue { .. }, ReplyBrief::Queued(_)) => StepKind::Queued,
+            (StepBrief::Enqueue { .. }, ReplyBrief::Dropped(_)) => StepKind::Dropped,
+            (StepBrief::Delete { .. }, ReplyBrief::Deleted(_)) => StepKind::Deleted,
+            (StepBrief::LoadBegin { .. }, ReplyBrief::Read(_)) => StepKind::Read,
+            (StepBrief::LoadBegin { .. }, ReplyBrief::Miss) => StepKind::LookUpMiss,
+            (StepBrief::LoadEnd { .. }, ReplyBrief::Entry) => StepKind::Entry,
+            (StepBrief::LoadEnd { .. }, ReplyBrief::Miss) => StepKind::EndMiss,
+            _ => StepKind::Other,
         }
     }
 }

@@ -1,13 +1,16 @@
-//! The core, what it is lent, and what is noted of its steps, as they lie behind the lock.
+//! The core, what it is lent, and what is noted of its steps, as they lie behind the lock; and the sessions that ask it. Both
+//! stand in one module, so that a step of the core is the only way to write into either.
 ghost use Rattle.foyer_device.specs.declared.error.Error.TheVariants.{Memory};
 ghost use Rattle.foyer_rules.specs.Content.{meaning};
 ghost use Rattle.foyer_shared.specs.Behind.{HasRoom, kept_notes};
+ghost use Rattle.foyer_shared.specs.Kinds.{kind_of, tallied};
 ghost use Rattle.foyer_shared.specs.Noted.{IsNoted, and_note, notes_at_first};
-ghost use Rattle.std.specs.Prelude.{◌≡◌, ◌≢◌, IfErr, IfOk, IsOkUnless, OnOk, None};
+ghost use Rattle.foyer_tally.specs.Tally.{grown, none, both, shown, listed};
+ghost use Rattle.std.specs.Prelude.{◌≡◌, ◌≢◌, ◌+◌, ◌<◌, IfErr, IfOk, IsOkUnless, OnOk, None, Some, [], ◌∷◌};
+ghost use Rattle.std.specs.Option.{ForSome};
 
 use crate::brief::{Brief, ReplyBrief, StepBrief};
 use crate::notes::Notes;
-use crate::session::Session;
 use foyer_block::tombstone::Tombstone;
 use foyer_blockio::disk::Disk;
 use foyer_core::apply::Env;
@@ -20,14 +23,87 @@ use foyer_device::error::Result;
 use foyer_filter::StorageFilterCondition;
 use foyer_format::serde::{Code, Properties};
 use foyer_sets::block::eviction::EvictionPicker;
+use foyer_tally::book::{Blanks, Books, Kinds, Shares};
 use std::alloc::Allocator;
-use std::sync::ledger::{Blank, Book, Ledger};
+use std::marker::Model;
 
-/// A core with what it is lent at each step, the number of steps that were made, and, where they are kept, their notes.
+/// A caller's shares of the book of steps, and what it asked last. Contracts see of how many parts each share is, and how many
+/// steps of each kind were noted with it.
+#[derive(Drop)]
+pub struct Session<L: Kinds> {
+    shares: Shares<L>,
+    newest: Option<Brief>,
+    before: Option<Brief>,
+}
+
+impl<L: Kinds> Model for Session<L> {
+    ghost use Rattle.foyer_shared.specs.Sessions.{SessionState};
+
+    ghost Value = { SessionState };
+
+    ghost view = { λ s. record { shares = s.shares; newest = s.newest; before = s.before } };
+}
+
+impl<L: Kinds> Session<L> {
+    /// What it asked last and before that, each with the reply, newest first.
+    pub fn last(&self) -> [Option<Brief>; 2]
+        ensures { result ≡ self.now.newest ∷ self.now.before ∷ [] }
+    {
+        [self.newest, self.before]
+    }
+
+    /// How many steps of each kind were noted with it, in the order of the kinds; 2^64 - 1 stands for all numbers above.
+    pub fn tally(&self) -> [u64; 8]
+        ensures { result ≡ listed (shown self.now.shares.amounts) }
+    {
+        self.shares.tally()
+    }
+
+    /// Gives so many parts away, and no briefs.
+    pub fn split(&mut self, parts: u64) -> Session<L>
+        requires some { 0 < parts }
+        requires fewer { parts < self.old.shares.parts }
+        ensures given { result.shares ≡ record { parts = parts; amounts = none } }
+        ensures fresh { (result.newest ≡ None) × (result.before ≡ None) }
+        ensures left { (self.new.shares.parts + parts ≡ self.old.shares.parts) × (self.new.shares.amounts ≡ self.old.shares.amounts) }
+        ensures briefs { (self.new.newest ≡ self.old.newest) × (self.new.before ≡ self.old.before) }
+    {
+        let shares = self.shares.split(parts);
+        Session {
+            shares,
+            newest: None,
+            before: None,
+        }
+    }
+
+    /// Takes in another session's parts and steps, and keeps its own briefs.
+    pub fn join(&mut self, other: Session<L>)
+        ensures shares { self.new.shares ≡ record { parts = self.old.shares.parts + other.shares.parts; amounts = both self.old.shares.amounts other.shares.amounts } }
+        ensures briefs { (self.new.newest ≡ self.old.newest) × (self.new.before ≡ self.old.before) }
+    {
+        let Session {
+            shares,
+            newest: _,
+            before: _,
+        } = other;
+        self.shares.merge(shares);
+    }
+
+    // The newest brief is this one. `Locked::step` alone may write one, so that a session never names a step that wasn't made.
+    fn note(&mut self, brief: Brief)
+        ensures noted { (self.new.newest ≡ Some brief) × (self.new.before ≡ self.old.newest) }
+        ensures shares { self.new.shares ≡ self.old.shares }
+    {
+        self.before = self.newest;
+        self.newest = Some(brief);
+    }
+}
+
+/// A core with what it is lent at each step, the book of the steps that were made, by their kinds, and, where they are kept, their notes.
 #[derive(Drop)]
 pub struct Locked<L, K, V, P, A, E, C>
 where
-    L: Ledger,
+    L: Kinds,
     K: Code<A>,
     V: Code<A>,
     P: Properties + Drop,
@@ -35,12 +111,12 @@ where
     E: EvictionPicker,
     C: StorageFilterCondition,
 {
-    pub(crate) core: Core<K, V, P, A>,
-    pub(crate) env: Env<E, C>,
-    pub(crate) notes: Option<Notes<A>>,
-    pub(crate) calls: Book<L>,
+    core: Core<K, V, P, A>,
+    env: Env<E, C>,
+    notes: Option<Notes<A>>,
+    calls: Books<L>,
     ghost noted: { ∥ IsNoted (meaning K.encoding V.encoding K.is_encodable V.is_encodable K.is_decodable V.is_decodable P.age)
-        core (kept_notes notes) calls.total ∥₁ },
+        core (kept_notes notes) calls ∥₁ },
 }
 
 // No note yet, where notes are kept.
@@ -79,7 +155,7 @@ fn note<A: Allocator + Clone>(notes: &mut Option<Notes<A>>, brief: Brief)
 
 impl<L, K, V, P, A, E, C> Locked<L, K, V, P, A, E, C>
 where
-    L: Ledger,
+    L: Kinds,
     K: Code<A> + Drop,
     V: Code<A> + Drop,
     P: Properties + Drop,
@@ -87,7 +163,7 @@ where
     E: EvictionPicker,
     C: StorageFilterCondition,
 {
-    ghost use Rattle.std.specs.Prelude.{◌⊎◌, ◌+◌, ◌<◌, ℕ, List, [], ◌∷◌, ◌++◌, Some, Result, length, option_map};
+    ghost use Rattle.std.specs.Prelude.{◌⊎◌, ℕ, List, ◌++◌, Result, length, option_map};
     ghost use Rattle.std.specs.declared.vec.Vec.{Vec};
     ghost use Rattle.foyer_core.specs.Answered.{HandsBack, Describes, IsPicked, MayFail};
     ghost use Rattle.foyer_core.specs.Opened.{IsOpenedFrom};
@@ -103,6 +179,7 @@ where
     ghost use Rattle.foyer_rules.specs.Sizes.{AreValid, sizes_in};
     ghost use Rattle.foyer_sets.specs.Shown.{evictable_below};
     ghost use Rattle.foyer_shared.specs.Briefs.{brief_of};
+    ghost use Rattle.foyer_tally.specs.Ledgers.{AreOf};
     ghost use Rattle.foyer_shared.specs.Chunks.{all_of};
     ghost use Rattle.foyer_shared.specs.History.{IsLegal, Made};
 
@@ -116,14 +193,13 @@ where
         mode: RecoverMode,
         marks: &[Tombstone],
         keeps_notes: bool,
-        blank: Blank,
+        blanks: Blanks,
     ) -> Result<(Locked<L, K, V, P, A, E, C>, Session<L>)>
-        requires name { blank.name ≡ L.name }
-        requires parts { blank.parts ≡ L.parts }
+        requires { AreOf L.name_of L.all blanks }
         ensures opened { IfOk result (λ r. IsOpenedFrom settings (D.byte_at disk.old) (D.surely_has disk.old) mode (marks_of marks.now)
             ((mode ≡ recover_mode.None) ⊎ D.is_known disk.old) r.0.core) }
-        ensures fresh { IfOk result (λ r. (r.0.calls.total ≡ 0) × (kept_notes r.0.notes ≡ notes_at_first keeps_notes)) }
-        ensures session { IfOk result (λ r. (r.1.share.parts ≡ L.parts) × (r.1.share.amount ≡ 0) × (r.1.newest ≡ None) × (r.1.before ≡ None)) }
+        ensures fresh { IfOk result (λ r. (r.0.calls ≡ none) × (kept_notes r.0.notes ≡ notes_at_first keeps_notes)) }
+        ensures session { IfOk result (λ r. (r.1.shares ≡ record { parts = L.all; amounts = none }) × (r.1.newest ≡ None) × (r.1.before ≡ None)) }
         ensures shown { IfOk result (λ r. HaveLearned E.begins E.learns settings.blocks settings.block_size
             (evictable_below r.0.core.manager.blocks (length r.0.core.manager.blocks)) env.pickers.items r.0.env.pickers.items) }
         ensures sound { IfOk result (λ _. AreValid settings) }
@@ -138,7 +214,7 @@ where
     {
         let notes = first_notes(&alloc, keeps_notes)?;
         let core = Core::open(alloc, &mut env, settings, disk, mode, marks)?;
-        let (calls, share) = blank.open::<L>();
+        let (calls, shares) = blanks.open::<L>();
         let locked = Locked {
             core,
             env,
@@ -146,14 +222,14 @@ where
             calls,
         };
         let session = Session {
-            share,
+            shares,
             newest: None,
             before: None,
         };
         Ok((locked, session))
     }
 
-    /// Applies a step as `Core::apply` does, notes it, and counts it with the session's share; the session's newest brief is
+    /// Applies a step as `Core::apply` does, notes it, and counts it with the session's shares, as one of its kind; the session's newest brief is
     /// then that of the step and of this very reply. Where notes are kept and memory for one is refused, the step comes back
     /// and nothing changed.
     pub fn step(
@@ -161,7 +237,7 @@ where
         session: &mut Session<L>,
         step: Step<K, V, P, A>,
     ) -> std::result::Result<Reply<K, V, P, A>, Step<K, V, P, A>>
-        requires { 0 < session.old.share.parts }
+        requires { 0 < session.old.shares.parts }
         ensures back { IfOk result (λ answer. HandsBack step answer self.old.core self.new.core) }
         ensures issued { IfOk result (λ answer. Describes K.is_decodable V.is_decodable K.encoding V.encoding
             step answer self.old.core self.new.core) }
@@ -182,10 +258,10 @@ where
         ensures lent { (self.new.env.reinsertion ≡ self.old.env.reinsertion) × (self.new.env.io ≡ self.old.env.io) }
         ensures noted { IfOk result (λ answer. (kept_notes self.new.notes ≡ and_note (brief_of step answer) (kept_notes self.old.notes))
             × (session.new.newest ≡ Some (brief_of step answer)) × (session.new.before ≡ session.old.newest)) }
-        ensures counted { OnOk result ((self.new.calls.total ≡ self.old.calls.total + 1) × (session.new.share.amount ≡ session.old.share.amount + 1)
-            × (session.new.share.parts ≡ session.old.share.parts)) }
+        ensures counted { IfOk result (λ answer. (self.new.calls ≡ grown (kind_of (brief_of step answer)) self.old.calls)
+            × (session.new.shares ≡ record { parts = session.old.shares.parts; amounts = grown (kind_of (brief_of step answer)) session.old.shares.amounts })) }
         ensures roomless { IfErr result (λ given. (given ≡ step) × (session.new ≡ session.old) × (kept_notes self.old.notes ≢ None)
-            × (self.new.core ≡ self.old.core) × (self.new.env ≡ self.old.env) × (self.new.calls.total ≡ self.old.calls.total)
+            × (self.new.core ≡ self.old.core) × (self.new.env ≡ self.old.env) × (self.new.calls ≡ self.old.calls)
             × (kept_notes self.new.notes ≡ kept_notes self.old.notes)) }
     {
         if reserve(&mut self.notes).is_err() {
@@ -198,7 +274,7 @@ where
             reply: ReplyBrief::of(&reply),
         };
         note(&mut self.notes, brief);
-        self.calls.add(&mut session.share, 1);
+        self.calls.note(&mut session.shares, brief.kind());
         session.note(brief);
         Ok(reply)
     }
@@ -217,14 +293,14 @@ where
         self.notes.as_ref()
     }
 
-    /// Whoever has all parts knows how many steps were made.
+    /// Whoever has all parts knows how many steps of each kind were made; so many notes of it there are, where notes are kept.
     pub fn audit(&mut self, all: &mut Session<L>)
-        requires { all.old.share.parts ≡ L.parts }
-        ensures count { self.new.calls.total ≡ all.new.share.amount }
+        requires { all.old.shares.parts ≡ L.all }
+        ensures count { self.new.calls ≡ all.new.shares.amounts }
+        ensures notes { ForSome (kept_notes self.new.notes) (λ notes. tallied notes ≡ all.new.shares.amounts) }
         ensures same { (self.new.core ≡ self.old.core) × (self.new.env ≡ self.old.env) × (kept_notes self.new.notes ≡ kept_notes self.old.notes) }
-        ensures session { (all.new.share.parts ≡ all.old.share.parts) × (all.new.share.amount ≡ all.old.share.amount)
-            × (all.new.newest ≡ all.old.newest) × (all.new.before ≡ all.old.before) }
+        ensures session { (all.new.shares ≡ all.old.shares) × (all.new.newest ≡ all.old.newest) × (all.new.before ≡ all.old.before) }
     {
-        self.calls.audit(&mut all.share);
+        self.calls.audit(&mut all.shares);
     }
 }

@@ -6,7 +6,10 @@ ghost use Rattle.foyer_device.specs.declared.error.ErrorKind.TheVariants as kind
 ghost use Rattle.foyer_recover.specs.declared.block.recover.RecoverMode.TheVariants as recover_mode;
 ghost use Rattle.foyer_rules.specs.Sizes.{AreValid};
 ghost use Rattle.foyer_shared.specs.Answers.{IsAnswer};
+ghost use Rattle.foyer_shared.specs.Behind.{kept_notes};
 ghost use Rattle.foyer_shared.specs.Briefed.{IsNotedIn};
+ghost use Rattle.foyer_shared.specs.Kinds.{tallied};
+ghost use Rattle.std.specs.Option.{ForSome};
 
 use crate::locked::Locked;
 use crate::session::Session;
@@ -21,15 +24,15 @@ use foyer_device::error::{ErrorKind, Result};
 use foyer_filter::StorageFilterCondition;
 use foyer_format::serde::{Code, Properties};
 use foyer_sets::block::eviction::EvictionPicker;
+use foyer_tally::book::Kinds;
 use std::alloc::Allocator;
-use std::sync::ledger::{Blank, Ledger};
 use std::sync::{Mutex, Wait};
 
 /// A core behind one lock. Threads share it by reference, and each asks it with a session of its own.
 #[derive(Drop)]
 pub struct Shared<L, K, V, P, A, E, C>
 where
-    L: Ledger,
+    L: Kinds,
     K: Code<A>,
     V: Code<A>,
     P: Properties + Drop,
@@ -42,7 +45,7 @@ where
 
 impl<L, K, V, P, A, E, C> Shared<L, K, V, P, A, E, C>
 where
-    L: Ledger,
+    L: Kinds,
     K: Code<A> + Drop,
     V: Code<A> + Drop,
     P: Properties + Drop,
@@ -65,10 +68,10 @@ where
         session: &mut Session<L>,
         step: Step<K, V, P, A>,
     ) -> Reply<K, V, P, A>
-        requires { 0 < session.old.share.parts }
+        requires { 0 < session.old.shares.parts }
         ensures answer { IsAnswer K.is_decodable V.is_decodable K.encoding V.encoding step result }
         ensures noted { IsNotedIn session.old session.new step result ⊎ ((result ≡ reply.Refused kind.Memory step) × (session.new ≡ session.old)) }
-        ensures parts { session.new.share.parts ≡ session.old.share.parts }
+        ensures parts { session.new.shares.parts ≡ session.old.shares.parts }
     {
         match self.inside.lock(rt).step(session, step) {
             Ok(reply) => reply,
@@ -76,12 +79,12 @@ where
         }
     }
 
-    /// The core as the last step left it, for whoever has all parts: as many steps were made as the sessions noted.
+    /// The core as the last step left it, for whoever has all parts: of each kind as many steps were made as the sessions noted.
     pub fn close(self, all: &mut Session<L>) -> Locked<L, K, V, P, A, E, C>
-        requires { all.old.share.parts ≡ L.parts }
-        ensures count { result.calls.total ≡ all.new.share.amount }
-        ensures session { (all.new.share.parts ≡ all.old.share.parts) × (all.new.share.amount ≡ all.old.share.amount)
-            × (all.new.newest ≡ all.old.newest) × (all.new.before ≡ all.old.before) }
+        requires { all.old.shares.parts ≡ L.all }
+        ensures count { result.calls ≡ all.new.shares.amounts }
+        ensures notes { ForSome (kept_notes result.notes) (λ notes. tallied notes ≡ all.new.shares.amounts) }
+        ensures session { (all.new.shares ≡ all.old.shares) × (all.new.newest ≡ all.old.newest) × (all.new.before ≡ all.old.before) }
     {
         let Shared { inside } = self;
         let mut locked = inside.into_inner();

@@ -1,4 +1,4 @@
-//! Tests of a core behind its lock.
+//! Tests of a core behind its lock, and of an engine's calls over it.
 #![tactic(auto)]
 
 #[cfg(test)]

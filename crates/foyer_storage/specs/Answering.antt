@@ -1,5 +1,5 @@
 -- What an engine's calls answer: what their sessions' briefs say.
-use Rattle.std.specs.Prelude.{◌≡◌, ◌⊎◌, ℕ, ◌+◌, Bool, Some, Result, Ok, Err}
+use Rattle.std.specs.Prelude.{◌≡◌, ◌⊎◌, ℕ, Bool, Some, Result, Ok, Err}
 use Rattle.foyer_core.specs.declared.reply.Reply.{Reply}
 use Rattle.foyer_core.specs.declared.reply.Reply.TheVariants as reply
 use Rattle.foyer_core.specs.declared.step.Ticket.{Ticket}
@@ -14,9 +14,13 @@ use Rattle.foyer_shared.specs.declared.brief.ReplyBrief.{ReplyBrief}
 use Rattle.foyer_shared.specs.declared.brief.ReplyBrief.TheVariants as replied
 use Rattle.foyer_shared.specs.declared.brief.StepBrief.{StepBrief}
 use Rattle.foyer_shared.specs.declared.brief.StepBrief.TheVariants as asked
-use Rattle.foyer_shared.specs.declared.session.Session.{Session}
+use Rattle.foyer_shared.specs.Sessions.{SessionState}
+use Rattle.foyer_shared.specs.Kinds.{kind_in}
 use Rattle.foyer_storage.specs.declared.engine.Enqueued.{Enqueued}
 use Rattle.foyer_storage.specs.declared.engine.Enqueued.TheVariants as enqueued
+use Rattle.foyer_tally.specs.Tally.{grown}
+use Rattle.foyer_tally.specs.declared.kinds.Counts.{Counts}
+use Rattle.foyer_tally.specs.declared.kinds.StepKind.TheVariants.{Read}
 
 abbrev pub error_of : ErrorKind → Error
 error_of kind.Io = error.Io
@@ -37,6 +41,7 @@ error_of kind.SequenceEnd = error.SequenceEnd
 abbrev pub enqueued_as : ReplyBrief → Result Enqueued Error
 enqueued_as (replied.Queued sequence) = Ok enqueued.Queued
 enqueued_as replied.Ignored = Ok enqueued.Ignored
+enqueued_as (replied.Dropped sequence) = Ok enqueued.Deleted
 enqueued_as (replied.Refused kind) = Err (error_of kind)
 enqueued_as other = Err error.Unsupported
 
@@ -52,20 +57,20 @@ asked_as (replied.Answer answer) = Ok answer
 asked_as (replied.Refused kind) = Err (error_of kind)
 asked_as other = Err error.Unsupported
 
--- so many steps were noted in a session, of which this is the newest
-pub record IsNewest {L : Type 0} (old new : Session L) (steps : ℕ) (given : StepBrief) (answer : ReplyBrief) : Type 0 where
+-- a step is the newest that was noted in a session, which had counted so many of each kind before
+pub record IsNewest (new : SessionState) (had : Counts) (given : StepBrief) (answer : ReplyBrief) : Type 0 where
   pub newest : new.newest ≡ Some (record { step = given; reply = answer })
-  pub counted : new.share.amount ≡ old.share.amount + steps
+  pub counted : new.shares.amounts ≡ grown (kind_in given answer) had
 
 -- a step of this brief got a reply
-pub record IsReplied {L X : Type 0} (says : ReplyBrief → Result X Error) (old new : Session L) (given : StepBrief) (answered : Result X Error) : Type 0 where
+pub record IsReplied {X : Type 0} (says : ReplyBrief → Result X Error) (old new : SessionState) (given : StepBrief) (answered : Result X Error) : Type 0 where
   pub answer : ReplyBrief
-  pub noted : IsNewest old new 1 given answer
+  pub noted : IsNewest new old.shares.amounts given answer
   pub before : new.before ≡ old.newest
   pub said : answered ≡ says answer
 
 -- The call made one step, noted it, and answered what its brief says; or a note found no room, and nothing was noted.
-abbrev pub IsAnsweredAs : {L X : Type 0} → (ReplyBrief → Result X Error) → Session L → Session L → StepBrief → Result X Error → Type 0
+abbrev pub IsAnsweredAs : {X : Type 0} → (ReplyBrief → Result X Error) → SessionState → SessionState → StepBrief → Result X Error → Type 0
 IsAnsweredAs says old new given answered = IsReplied says old new given answered ⊎ ((answered ≡ Err error.Memory) × (new ≡ old))
 
 -- it has a ticket
@@ -101,30 +106,30 @@ module _ {K V P A : Type 0} where
   IsLoadAs other answered = answered ≡ Err error.Unsupported
 
   -- the look-up was answered at once
-  pub record IsLookedUp {L : Type 0} (old new : Session L) (hash : ℕ) (throttled : Bool) (answered : Result (Load K V P A) Error) : Type 0 where
+  pub record IsLookedUp (old new : SessionState) (hash : ℕ) (throttled : Bool) (answered : Result (Load K V P A) Error) : Type 0 where
     pub answer : ReplyBrief
-    pub noted : IsNewest old new 1 (asked.LoadBegin hash throttled) answer
+    pub noted : IsNewest new old.shares.amounts (asked.LoadBegin hash throttled) answer
     pub before : new.before ≡ old.newest
     pub unread : IsRead answer → ⊥
     pub said : IsLoadAs answer answered
 
   -- it got a ticket, but no memory to read into, or none for the note of the load's end
-  pub record IsCutShort {L : Type 0} (old new : Session L) (hash : ℕ) (throttled : Bool) (answered : Result (Load K V P A) Error) : Type 0 where
+  pub record IsCutShort (old new : SessionState) (hash : ℕ) (throttled : Bool) (answered : Result (Load K V P A) Error) : Type 0 where
     pub ticket : Ticket
-    pub noted : IsNewest old new 1 (asked.LoadBegin hash throttled) (replied.Read ticket)
+    pub noted : IsNewest new old.shares.amounts (asked.LoadBegin hash throttled) (replied.Read ticket)
     pub before : new.before ≡ old.newest
     pub said : answered ≡ Err error.Memory
 
   -- what was read for the ticket ended the load
-  pub record IsEnded {L : Type 0} (old new : Session L) (hash : ℕ) (throttled : Bool) (answered : Result (Load K V P A) Error) : Type 0 where
+  pub record IsEnded (old new : SessionState) (hash : ℕ) (throttled : Bool) (answered : Result (Load K V P A) Error) : Type 0 where
     pub ticket : Ticket
     pub answer : ReplyBrief
-    pub noted : IsNewest old new 2 (asked.LoadEnd ticket) answer
+    pub noted : IsNewest new (grown Read old.shares.amounts) (asked.LoadEnd ticket) answer
     pub before : new.before ≡ Some (record { step = asked.LoadBegin hash throttled; reply = replied.Read ticket })
     pub said : IsLoadAs answer answered
 
   -- A load makes one step, or two where it reads, and answers what their briefs say; or nothing was noted.
-  abbrev pub IsLoaded : {L : Type 0} → Session L → Session L → (hash : ℕ) → (throttled : Bool) → Result (Load K V P A) Error → Type 0
+  abbrev pub IsLoaded : SessionState → SessionState → (hash : ℕ) → (throttled : Bool) → Result (Load K V P A) Error → Type 0
   IsLoaded old new hash throttled answered =
       IsLookedUp old new hash throttled answered ⊎ (IsCutShort old new hash throttled answered
       ⊎ (IsEnded old new hash throttled answered ⊎ ((answered ≡ Err error.Memory) × (new ≡ old))))

@@ -19,8 +19,8 @@ use foyer_run::disk::do_read;
 use foyer_sets::block::eviction::EvictionPicker;
 use foyer_shared::session::Session;
 use foyer_shared::shared::Shared;
+use foyer_tally::book::Kinds;
 use std::alloc::Allocator;
-use std::sync::ledger::Ledger;
 use std::sync::{Mutex, Wait};
 
 /// What became of a piece that was handed in.
@@ -28,8 +28,10 @@ use std::sync::{Mutex, Wait};
 pub enum Enqueued {
     /// It is queued, and is written in the end.
     Queued,
-    /// It isn't taken: it is young, or too much is queued.
+    /// It isn't taken: it is young.
     Ignored,
+    /// It isn't taken, since too much is queued, and its hash is deleted.
+    Deleted,
 }
 
 // The disk that loads read from, and the memory that they read into.
@@ -99,6 +101,7 @@ fn enqueued_of<K: Drop, V: Drop, P: Drop, A: Allocator>(
     match reply {
         Reply::Queued(_) => Ok(Enqueued::Queued),
         Reply::Ignored(_) => Ok(Enqueued::Ignored),
+        Reply::Dropped(_, _) => Ok(Enqueued::Deleted),
         Reply::Refused(kind, _) => Err(error_of(kind)),
         _ => Err(Error::Unsupported),
     }
@@ -143,7 +146,7 @@ fn ticket_of<K: Drop, V: Drop, P: Drop, A: Allocator>(
 #[derive(Drop)]
 pub struct BlockEngine<L, K, V, P, A, E, C, D, G>
 where
-    L: Ledger,
+    L: Kinds,
     K: Code<A>,
     V: Code<A>,
     P: Properties + Drop,
@@ -161,7 +164,7 @@ where
 
 impl<L, K, V, P, A, E, C, D, G> BlockEngine<L, K, V, P, A, E, C, D, G>
 where
-    L: Ledger,
+    L: Kinds,
     K: Code<A> + Drop,
     V: Code<A> + Drop,
     P: Properties + Drop,
@@ -201,7 +204,7 @@ where
         piece: Piece<K, V, P, A>,
         size: usize,
     ) -> Result<Enqueued>
-        requires { 0 < session.old.share.parts }
+        requires { 0 < session.old.shares.parts }
         ensures { IsAnsweredAs enqueued_as session.old session.new (asked.Enqueue piece.hash) result }
     {
         let reply = self.shared.step(rt, session, Step::Enqueue { piece, size });
@@ -212,7 +215,7 @@ where
     /// Accepts a delete of a hash: it is a miss from then on, until a piece of it is queued and written again. `Closed`,
     /// `Memory` and `SequenceEnd` leave the engine as it was.
     pub fn delete(&self, rt: &impl Wait, session: &mut Session<L>, hash: u64) -> Result<()>
-        requires { 0 < session.old.share.parts }
+        requires { 0 < session.old.shares.parts }
         ensures { IsAnsweredAs deleted_as session.old session.new (asked.Delete hash) result }
     {
         let reply = self.shared.step(rt, session, Step::Delete { hash });
@@ -222,7 +225,7 @@ where
 
     /// Whether a hash is indexed. `Memory` only where notes are kept, and one finds no room.
     pub fn may_contains(&self, rt: &impl Wait, session: &mut Session<L>, hash: u64) -> Result<bool>
-        requires { 0 < session.old.share.parts }
+        requires { 0 < session.old.shares.parts }
         ensures { IsAnsweredAs asked_as session.old session.new (asked.MayContains hash) result }
     {
         let reply = self.shared.step(rt, session, Step::MayContains { hash });
@@ -238,7 +241,7 @@ where
         hash: u64,
         throttled: bool,
     ) -> Result<Load<K, V, P, A>>
-        requires { 0 < session.old.share.parts }
+        requires { 0 < session.old.shares.parts }
         ensures { IsLoaded session.old session.new hash throttled result }
     {
         let begin = Step::LoadBegin { hash, throttled };

@@ -1,6 +1,5 @@
-//! Tests that cross crates, and what they test with.
+//! Tests that cross crates.
 #![tactic(auto)]
 
-pub mod failing;
 #[cfg(test)]
 mod tests;

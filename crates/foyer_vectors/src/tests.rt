@@ -1,13 +1,5 @@
 mod destroys;
-mod driver;
-mod every_step;
-mod filled;
-mod flushers;
 mod program;
-mod random;
-mod reader;
+mod program_sweeps;
 mod readme;
-mod step_again;
-mod steps;
 mod sweeps;
-mod worked;

@@ -1,12 +1,12 @@
 //! Each allocation of a buffer's filling, and of its splitting, refused in turn.
 ghost use Rattle.std.specs.Prelude.{◌≡◌, ◌+◌, ◌≤◌};
 
-use crate::refusing::Refusing;
 use foyer_buffer::{Batch, BlobPart, Buffer, BufferEntryInfo, SplitCtx, Splitter};
 use foyer_checksum::Checksummer;
 use foyer_device::error::{Error, Result};
 use foyer_device::io::bytes::{IoSlice, IoSliceMut};
 use foyer_format::compress::Compression;
+use foyer_testing::refusing::Refusing;
 use std::alloc::{Allocator, Global};
 use std::test::Fail;
 

@@ -26,39 +26,63 @@ type Blocks<R, A> = Partitions<Accesses<R>, MemoryPartition, A>;
 
 pub type MemoryEngine<R, A> = Engine<A, Blocks<R, A>, Option<Log<R, A>>>;
 
-const BLOCK: usize = 16384;
+pub const BLOCK: usize = 16384;
 
-// The bytes that a failed write keeps: the first slot of the log, which has no mark at first.
-const SLOT: usize = 16;
+// The bytes that may be queued: less than a text that no block holds.
+const QUEUE: usize = 8192;
 
-/// Which access of the log, and which of the blocks, fails; with 0 none.
+/// Which access of the log, and which of the blocks, fails, with 0 none; a write after the bytes that are kept.
 #[derive(Clone, Copy)]
 pub struct Faults {
     pub log: u64,
     pub blocks: u64,
+    pub kept: usize,
 }
+
+pub const NO_FAULTS: Faults = Faults {
+    log: 0,
+    blocks: 0,
+    kept: 0,
+};
 
 #[derive(Drop)]
 pub struct Memory {
-    alloc: Global,
+    pub alloc: Global,
     config: SharedMemoryIoEngineConfig<Global>,
     log: MemoryPartition,
     blocks: Vec<MemoryPartition, Global>,
     count: u32,
 }
 
+// The bytes of a log and of so many blocks.
+fn capacity_of(count: u32) -> usize {
+    BLOCK.saturating_mul(count as usize).saturating_add(4096)
+}
+
+/// What holds a log and so many blocks, all zeros.
+pub fn memory_of(alloc: Global, count: u32) -> Result<MemoryIoEngine<Global>> {
+    let mut memory = MemoryIoEngine::new(alloc);
+    memory.add_file(alloc, capacity_of(count))?;
+    Ok(memory)
+}
+
+/// Where a log of one page lies in it, and behind that the blocks.
+pub fn partitions_of<R: Files>(
+    rt: &R,
+    alloc: Global,
+    count: u32,
+) -> Result<(MemoryPartition, Vec<MemoryPartition>)> {
+    let capacity = capacity_of(count);
+    let mut device: MemoryDevice<Global> = MemoryDeviceBuilder::new(capacity).build(rt, alloc, 0)?;
+    let log = device.create_partition(rt, 4096)?;
+    Ok((log, create_blocks(rt, alloc, &mut device, count, BLOCK)?))
+}
+
 impl Memory {
     /// A log of one page and so many blocks, all zeros.
     pub fn new<R: Files>(rt: &R, alloc: Global, count: u32) -> Result<Memory> {
-        let capacity = BLOCK.saturating_mul(count as usize).saturating_add(4096);
-        let mut engine = MemoryIoEngine::new(alloc);
-        engine.add_file(alloc, capacity)?;
-        let mut device: MemoryDevice<Global> = MemoryDeviceBuilder::new(capacity).build(
-            rt, alloc, 0,
-        )?;
-        let log = device.create_partition(rt, 4096)?;
-        let blocks = create_blocks(rt, alloc, &mut device, count, BLOCK)?;
-        let config = SharedMemoryIoEngineConfig::new(alloc, engine)?;
+        let (log, blocks) = partitions_of(rt, alloc, count)?;
+        let config = SharedMemoryIoEngineConfig::new(alloc, memory_of(alloc, count)?)?;
         Ok(Memory {
             alloc,
             config,
@@ -68,28 +92,43 @@ impl Memory {
         })
     }
 
-    fn accesses<R: Wait + Clone + Drop>(&self, rt: &R, n: u64) -> Result<Accesses<R>> {
+    fn accesses<R: Wait + Clone + Drop>(&self, rt: &R, n: u64, kept: usize) -> Result<Accesses<R>> {
         let files: Vec<String<Global>, Global> = Vec::new(self.alloc);
         let context = IoEngineBuildContext {
             files: files.as_slice(),
         };
         let engine = self.config.build(rt, &context)?;
-        Ok(FaultIoEngine::new(engine, n, SLOT, false))
+        Ok(FaultIoEngine::new(engine, n, kept, false))
     }
 
-    fn open_log<R: Wait + Clone + Drop, A: Allocator>(
+    fn open_log<R: Wait + Clone + Drop, A: Allocator + Clone>(
         &self,
         rt: &R,
-        alloc: A,
-        n: u64,
-        mut partitions: Vec<MemoryPartition, A>,
+        alloc: &A,
+        faults: Faults,
         marks: &mut Vec<Tombstone, A>,
-    ) -> Result<Log<R, A>>
-    where
-        A: Clone,
-    {
-        partitions.push(self.log)?;
-        TombstoneLog::open(alloc, partitions, self.accesses(rt, n)?, marks)
+    ) -> Result<Log<R, A>> {
+        let partitions = Vec::from_slice(alloc.clone()?, &[self.log])?;
+        let accesses = self.accesses(rt, faults.log, faults.kept)?;
+        TombstoneLog::open(alloc.clone()?, partitions, accesses, marks)
+    }
+
+    fn open_blocks<R: Wait + Clone + Drop, A: Allocator + Clone>(
+        &self,
+        rt: &R,
+        alloc: &A,
+        faults: Faults,
+    ) -> Result<Blocks<R, A>> {
+        let blocks = Vec::from_slice(alloc.clone()?, &self.blocks)?;
+        Ok(Partitions::new(self.accesses(rt, faults.blocks, faults.kept)?, blocks))
+    }
+
+    fn settings(&self, has_log: bool) -> Settings {
+        Settings {
+            buffer_pool_size: 65536,
+            submit_queue_size_threshold: QUEUE,
+            ..Settings::new(self.count, BLOCK).with_tombstone_log(has_log)
+        }
     }
 
     /// An engine over it, with the log or without it, whose memory comes from an allocator.
@@ -102,20 +141,13 @@ impl Memory {
     ) -> Result<MemoryEngine<R, A>> {
         let mut marks = Vec::new(alloc.clone()?);
         let log = if has_log {
-            let partitions = Vec::new(alloc.clone()?);
-            Some(self.open_log(rt, alloc.clone()?, faults.log, partitions, &mut marks)?)
+            Some(self.open_log(rt, &alloc, faults, &mut marks)?)
         } else {
             None
         };
-        let settings = Settings {
-            buffer_pool_size: 65536,
-            ..Settings::new(self.count, BLOCK).with_tombstone_log(has_log)
-        };
-        let disk = Partitions::new(
-            self.accesses(rt, faults.blocks)?,
-            Vec::from_slice(alloc.clone()?, &self.blocks)?,
-        );
+        let disk = self.open_blocks(rt, &alloc, faults)?;
         let env = Env::with_default_pickers(self.alloc, 0)?;
+        let settings = self.settings(has_log);
         Engine::with_log(alloc, env, settings, disk, RecoverMode::Quiet, &marks, log)
     }
 }

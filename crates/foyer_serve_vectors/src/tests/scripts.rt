@@ -1,8 +1,10 @@
 //! Random scripts of puts, deletes, waits, destroys and reopenings, with a log of deletes and without one, against what a
 //! table of the keys says.
-use crate::tests::memories::{Faults, Memory, MemoryEngine};
+use crate::tests::asked::shows;
+use crate::tests::memories::{Memory, MemoryEngine, NO_FAULTS};
 use foyer_device::error::Result;
 use foyer_serve::engine::Answer;
+use foyer_testing::said::Said;
 use rand_core::utils::NextWord;
 use rand_pcg::Pcg32;
 use std::alloc::Global;
@@ -109,89 +111,134 @@ fn draw(generator: &mut Pcg32, below: u32) -> u32 {
     if below == 0 { 0 } else { word % below }
 }
 
+fn text_of(alloc: Global, number: u32) -> Result<String> {
+    let mut said = Said::new(alloc);
+    said.number("", u64::from(number));
+    said.text()
+}
+
 // Whether the engine shows of each key the text that is known, a text being its number.
-fn shows<R: Wait + Clone + Drop>(
+fn shows_all<R: Wait + Clone + Drop>(
     alloc: Global,
     engine: &mut MemoryEngine<R, Global>,
     table: &[Known; 4],
 ) -> Result<bool> {
     for key in 0..4usize {
         let shown = known_of(table, key).shown;
-        let wanted = format!(in alloc; "{}", shown)?;
-        let is_so = match engine.get(key as u64) {
-            Answer::Entry(text) => text.as_str() == wanted.as_str(),
-            Answer::Miss => shown == 0,
-            _ => false,
-        };
-        if !is_so {
+        let wanted = text_of(alloc, shown)?;
+        if shows(engine, key as u64, wanted.as_str()) != Some(shown != 0) {
             return Ok(false);
         }
     }
     Ok(true)
 }
 
-// One step of a script: whether the engine answered it as it should.
-fn makes_step<R: Wait + Clone + Drop>(
-    alloc: Global,
-    engine: &mut MemoryEngine<R, Global>,
-    table: &mut [Known; 4],
-    drawn: u32,
-    key: usize,
-    number: u32,
-) -> Result<bool> {
-    let answer = match drawn {
-        0..=8 => {
-            let known = known_of(table, key);
-            set(table, key, after_put(known, number));
-            let text = format!(in alloc; "{}", number)?;
-            engine.put(key as u64, text.as_str())
-        }
-        9..=12 => {
-            let known = known_of(table, key);
-            set(table, key, after_delete(known));
-            engine.delete(key as u64)
-        }
-        13 => {
-            *table = [NOTHING; 4];
-            engine.destroy()
-        }
+// What is known after a step, of the step's key, and of the others.
+fn table_after(table: &mut [Known; 4], drawn: u32, key: usize, number: u32) {
+    let known = known_of(table, key);
+    match drawn {
+        0..=8 => set(table, key, after_put(known, number)),
+        9..=12 => set(table, key, after_delete(known)),
+        13 => *table = [NOTHING; 4],
         _ => {
             for known in table.iter_mut() {
                 *known = after_wait(*known);
             }
-            engine.wait()
         }
-    };
-    Ok(match answer {
+    }
+}
+
+fn answer_to<R: Wait + Clone + Drop>(
+    engine: &mut MemoryEngine<R, Global>,
+    drawn: u32,
+    key: u64,
+    text: &str,
+) -> Answer<Global> {
+    match drawn {
+        0..=8 => engine.put(key, text),
+        9..=12 => engine.delete(key),
+        13 => engine.destroy(),
+        _ => engine.wait(),
+    }
+}
+
+// A script with its generator: what is known, how many steps were made, and whether each was answered as it should be.
+#[derive(Drop)]
+struct Run {
+    generator: Pcg32,
+    table: [Known; 4],
+    number: u32,
+    is_well: bool,
+}
+
+impl Run {
+    // Makes steps until the engine is to be opened again: whether it is.
+    fn makes_steps<R: Wait + Clone + Drop>(
+        &mut self,
+        alloc: Global,
+        engine: &mut MemoryEngine<R, Global>,
+    ) -> Result<bool> {
+        self.is_well = shows_all(alloc, engine, &self.table)?;
+        for _ in 0..STEPS {
+            if self.number == STEPS || !self.is_well {
+                return Ok(false);
+            }
+            self.number = self.number.saturating_add(1);
+            let drawn = draw(&mut self.generator, 20);
+            let key = draw(&mut self.generator, KEYS) as usize;
+            if drawn == 19 {
+                return Ok(true);
+            }
+            let text = text_of(alloc, self.number)?;
+            table_after(&mut self.table, drawn, key % 4, self.number);
+            let answer = answer_to(engine, drawn, (key % 4) as u64, text.as_str());
+            self.is_well = is_taken(&answer) && shows_all(alloc, engine, &self.table)?;
+        }
+        Ok(false)
+    }
+
+    // The same over an engine that is opened now.
+    fn lives<R: Files + Wait + Clone + Drop>(
+        &mut self,
+        rt: &R,
+        memory: &Memory,
+        has_log: bool,
+    ) -> Result<bool> {
+        let mut engine = memory.open(rt, memory.alloc, has_log, NO_FAULTS)?;
+        self.makes_steps(memory.alloc, &mut engine)
+    }
+
+    fn reopens(&mut self, has_log: bool) {
+        for known in self.table.iter_mut() {
+            *known = after_reopening(*known, has_log);
+        }
+    }
+}
+
+fn is_taken(answer: &Answer<Global>) -> bool {
+    match answer {
         Answer::Queued | Answer::Ok => true,
         _ => false,
-    })
+    }
 }
 
 // Whether an engine that is opened again now and then answers the script of this seed as the table says.
 fn holds<R: Files + Wait + Clone + Drop>(rt: &R, alloc: Global, seed: u64) -> Result<bool> {
-    let mut generator = Pcg32::new(seed, 1);
-    let has_log = seed % 2 == 0;
-    let none = Faults { log: 0, blocks: 0 };
     let memory = Memory::new(rt, alloc, 28)?;
-    let mut engine = memory.open(rt, alloc, has_log, none)?;
-    let mut table = [NOTHING; 4];
-    for number in 1..=STEPS {
-        let drawn = draw(&mut generator, 20);
-        let key = draw(&mut generator, KEYS) as usize;
-        if drawn == 19 {
-            engine = memory.open(rt, alloc, has_log, none)?;
-            for known in table.iter_mut() {
-                *known = after_reopening(*known, has_log);
-            }
-        } else if !makes_step(alloc, &mut engine, &mut table, drawn, key % 4, number)? {
-            return Ok(false);
+    let has_log = seed % 2 == 0;
+    let mut run = Run {
+        generator: Pcg32::new(seed, 1),
+        table: [NOTHING; 4],
+        number: 0,
+        is_well: true,
+    };
+    for _ in 0..=STEPS {
+        if !run.lives(rt, &memory, has_log)? {
+            return Ok(run.is_well && run.number == STEPS);
         }
-        if !shows(alloc, &mut engine, &table)? {
-            return Ok(false);
-        }
+        run.reopens(has_log);
     }
-    Ok(true)
+    Ok(false)
 }
 
 #[test]

@@ -1,29 +1,26 @@
-use Rattle.std.proofs.Common.{◌≡◌, ◌+◌, ◌<◌, ◌≤◌, List, [], ◌∷◌, Option, None, length, drop, get_or, if◌then◌else◌, refl, sym, ap, subst, ◌∙◌, arith}
+use Rattle.std.proofs.Common.{◌≡◌, ◌+◌, ◌<◌, ◌≤◌, List, ◌∷◌, Option, None, length, drop, get_or, if◌then◌else◌, sym, ap, ◌∙◌, arith}
 use Rattle.foyer_block.specs.declared.indexer.EntryAddress.{EntryAddress}
 use Rattle.foyer_block.specs.declared.indexer.HashedEntryAddress.{HashedEntryAddress}
 use Rattle.foyer_block.specs.Committing.{is_put, committed_one, committed_all, put_count}
-use Rattle.foyer_block.specs.Shards.{map_of}
-use Rattle.foyer_block.proofs.Commits.{GoesIn, first_goes, rest_goes, from_here, none_from}
+use Rattle.foyer_block.specs.Shards.{map_of, PiecesSeated, AreFilledBut}
+use Rattle.std.proofs.lemmas.List.{get_or_default}
+use Rattle.foyer_block.proofs.Filling.{filled_committed, filled_end}
+use Rattle.foyer_block.proofs.Commits.{from_here, source_is}
 use Rattle.foyer_block.proofs.shards.commit_all.Goals.{then-commit_one, else-commit_one}
 use Rattle.foyer_block.proofs.shards.commit_all.Goals as goal
 
 abbrev no_entry : HashedEntryAddress
 no_entry = record { hash = 0; address = record { block = 0; offset = 0; len = 0; sequence = 0; filling = 0 } }
 
-pub commit_one-requires-clause-goes : goal.commit_one-requires-clause-goes
-commit_one-requires-clause-goes g c =
-    let old = c.each_record.shards.items in
-    let n = length c.args.shards.now.items in
+pub commit_one-requires-clause-seated : goal.commit_one-requires-clause-seated
+commit_one-requires-clause-seated g c = λ none.
     let i = c.each_record.i in
     let batch = c.args.batch.now in
     let sources : List (Option EntryAddress) = c.args.sources.now in
     let all : length sources ≡ length batch = c.each_record.invariant.all in
     let within : i < length batch = c.each_record-test.true in
     let within_sources : i < length sources = omega arith in
-    let goes : GoesIn n old (get_or batch i no_entry ∷ drop (i + 1) batch) (get_or sources i None ∷ drop (i + 1) sources) =
-    subst (λ l. GoesIn n old (get_or batch i no_entry ∷ drop (i + 1) batch) l) (from_here sources i None within_sources)
-    (subst (λ l. GoesIn n old l (drop i sources)) (from_here batch i no_entry within) c.each_record.invariant.room) in
-    first_goes n old (get_or batch i no_entry) (drop (i + 1) batch) (get_or sources i None) (drop (i + 1) sources) (sym c.each_record.invariant.len) c.requires.some goes
+    c.each_record.invariant.seated i no_entry within (source_is sources i within_sources ∙ none)
 
 pub each_record-preserved : goal.each_record-preserved
 each_record-preserved g c =
@@ -42,9 +39,10 @@ each_record-preserved g c =
     let others = drop (i + 1) sources in
     let eb : drop i batch ≡ e ∷ rest = from_here batch i no_entry within in
     let es : drop i sources ≡ o ∷ others = from_here sources i None within_sources in
-    let goes : GoesIn n old (e ∷ rest) (o ∷ others) = subst (λ l. GoesIn n old (e ∷ rest) l) es (subst (λ l. GoesIn n old l (drop i sources)) eb c.each_record.invariant.room) in
     let is : map_of new ≡ committed_one (map_of old) e o = c.commit_one.ensures.committed in
-    let room : GoesIn n new rest others = rest_goes n old new e rest o others (sym c.each_record.invariant.len) is c.commit_one.ensures.room goes in
+    let seated : PiecesSeated new batch sources = λ k d lt none. c.commit_one.ensures.kept _ (c.each_record.invariant.seated k d lt none) in
+    let here : e ≡ get_or batch i e = get_or_default batch i no_entry e within in
+    let filled : AreFilledBut new batch sources (i + 1) = filled_committed old new batch sources i e o c.commit_one.ensures.len is c.commit_one.ensures.places within here (source_is sources i within_sources) c.each_record.invariant.filled in
     let committed : committed_all (map_of new) rest others ≡ committed_all (map_of c.args.shards.now.items) batch sources =
     ap (λ m. committed_all m rest others) is ∙ sym (λ j. committed_all (map_of old) (eb j) (es j)) ∙ c.each_record.invariant.committed in
     let len : length new ≡ n = c.commit_one.ensures.len ∙ c.each_record.invariant.len in
@@ -58,12 +56,17 @@ each_record-preserved g c =
           (λ j. put_count (map_of old) (eb j) (es j))
           ∙ ap (λ t. (if t then 1 else 0) + put_count (committed_one (map_of old) e o) rest others) (sym put ∙ w.if-commit_one.true)
           ∙ ap (λ m. 1 + put_count m rest others) (sym is) in
-          record { few = omega arith; len = len; all = all; room = room; committed = committed; puts = omega arith }
+          record { few = omega arith; len = len; all = all; seated = seated; filled = filled; committed = committed; puts = omega arith }
       | else-commit_one w ↦
           let same : c.if-commit_one.puts ≡ c.each_record.puts = w.puts-is in
           let counted : put_count (map_of old) (drop i batch) (drop i sources) ≡ 0 + put_count (map_of new) rest others =
           (λ j. put_count (map_of old) (eb j) (es j))
           ∙ ap (λ t. (if t then 1 else 0) + put_count (committed_one (map_of old) e o) rest others) (sym put ∙ w.if-commit_one.false)
           ∙ ap (λ m. 0 + put_count m rest others) (sym is) in
-          record { few = omega arith; len = len; all = all; room = room; committed = committed; puts = omega arith }
+          record { few = omega arith; len = len; all = all; seated = seated; filled = filled; committed = committed; puts = omega arith }
     ]
+
+pub returns-clause-filled : goal.returns-clause-filled
+returns-clause-filled g c =
+    let end : length c.args.batch.now ≤ c.each_record.i = c.each_record-test.false in
+    filled_end c.each_record.shards.items c.args.batch.now c.args.sources.now c.each_record.i end c.each_record.invariant.filled

@@ -1,7 +1,6 @@
 use Rattle.std.proofs.Common.{◌≡◌, ◌+◌, ◌≤◌, length, drop}
 use Rattle.foyer_block.specs.Committing.{committed_all, put_count}
-use Rattle.foyer_block.specs.Shards.{map_of}
-use Rattle.foyer_block.proofs.Commits.{GoesIn}
+use Rattle.foyer_block.specs.Shards.{map_of, PiecesSeated, AreFilledBut}
 use Rattle.foyer_block.proofs.shards.commit_all.Given as goal
 
 -- what is left goes in, and makes of the index what all of it does
@@ -10,7 +9,8 @@ invariant-each_record g l = record {
   few : l.puts ≤ l.i;
   len : length l.shards.items ≡ length l.fn.shards.items;
   all : length l.sources ≡ length l.batch;
-  room : GoesIn (length l.fn.shards.items) l.shards.items (drop l.i l.batch) (drop l.i l.sources);
+  seated : PiecesSeated l.shards.items l.batch l.sources;
+  filled : AreFilledBut l.shards.items l.batch l.sources l.i;
   committed : committed_all (map_of l.shards.items) (drop l.i l.batch) (drop l.i l.sources) ≡ committed_all (map_of l.fn.shards.items) l.batch l.sources;
   puts : l.puts + put_count (map_of l.shards.items) (drop l.i l.batch) (drop l.i l.sources) ≡ put_count (map_of l.fn.shards.items) l.batch l.sources;
 }

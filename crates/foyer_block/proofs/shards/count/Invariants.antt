@@ -2,9 +2,6 @@ use Rattle.std.proofs.Common.{◌≡◌, ◌<◌, ℕ, length, take, slice_index
 use Rattle.foyer_block.specs.Index.{belonging}
 use Rattle.foyer_block.proofs.shards.count.Given as goal
 
-abbrev pub invariant-loop-count : goal.invariant-loop-count
-invariant-loop-count l = (s : ℕ) → s < l.count-index → slice_index l.counts s ≡ 0
-
 abbrev pub invariant-loop-entry : goal.invariant-loop-entry
 invariant-loop-entry l = record {
   len : length l.counts ≡ length l.fn.counts;

@@ -7,7 +7,7 @@ loop-preserved g c =
     let pushed : length c.push.new.self.items ≡ length (c.loop.made.items ++ c.new.result ∷ []) = ap length c.in_ok-push.ensures.items in
     record {
       len = omega (arith, pushed, length-append c.loop.made.items (c.new.result ∷ []), c.loop.invariant.len);
-      none = rw c.in_ok-push.ensures.items (no_entries-push c.loop.made.items c.new.result c.new.ensures.empty c.loop.invariant.none);
+      none = rw c.in_ok-push.ensures.items (no_entries-push c.loop.made.items c.new.result c.new.ensures c.loop.invariant.none);
     }
 
 pub returns-clause-empty : goal.returns-clause-empty

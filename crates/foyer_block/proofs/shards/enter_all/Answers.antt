@@ -1,45 +1,66 @@
-use Rattle.std.proofs.Common.{◌≡◌, ⊎_elim, ◌+◌, ◌<◌, OnOk, length, drop, get_or, ◌∷◌, subst, sym, arith, rules}
+use Rattle.std.proofs.Common.{◌≡◌, ◌≢◌, ℕ, ◌<◌, ◌≤◌, OnOk, None, List, [], length, get_or, slice_set, refl, ap, subst, sym, ◌∙◌, arith}
 use Rattle.std.proofs.lemmas.Grind.{common_steps}
-use Rattle.std.proofs.lemmas.List.{drop_more}
+use Rattle.std.proofs.lemmas.List.{get_or-set_other, get_or_default}
 use Rattle.foyer_block.specs.declared.indexer.HashedEntryAddress.{HashedEntryAddress}
 use Rattle.foyer_block.specs.declared.indexer.Index.TheVariants.{Address}
+use Rattle.foyer_block.specs.Committing.{committed_one}
 use Rattle.foyer_block.specs.Insertion.{inserted}
-use Rattle.foyer_block.specs.Shards.{map_of}
-use Rattle.foyer_block.proofs.Batches.{GoesIn, first_goes_in, rest_goes_in}
+use Rattle.foyer_block.specs.Shards.{map_of, Seated}
+use Rattle.foyer_block.proofs.Filling.{filled_committed, filled_end, adds_weaker}
+use Rattle.foyer_block.proofs.shards.enter_all.Goals.{in-Some, in_default}
 use Rattle.foyer_block.proofs.shards.enter_all.Goals as goal
+
+abbrev no_entry : HashedEntryAddress
+no_entry = record { hash = 0; address = record { block = 0; offset = 0; len = 0; sequence = 0; filling = 0 } }
+
+-- what stands behind a write
+read_on : (xs ys : List HashedEntryAddress) (p : ℕ) (x : HashedEntryAddress) (k : ℕ) (d : HashedEntryAddress) → ys ≡ slice_set xs p x → p < k → get_or ys k d ≡ get_or xs k d
+read_on xs ys p x k d is lt =
+    let ne : k ≢ p = omega arith in
+    ap (λ l. get_or l k d) is ∙ get_or-set_other xs p k x d ne
 
 pub loop-i-preserved : goal.loop-i-preserved
 loop-i-preserved g c =
-    let none : HashedEntryAddress = record { hash = 0; address = record { block = 0; offset = 0; len = 0; sequence = 0; filling = 0 } } in
+    let batch = c.args.batch.now in
+    let i = c.loop-i.i in
     let old = c.loop-i.shards.items in
-    let n = length c.args.shards.now.items in
-    let e = get_or c.loop-i.batch c.loop-i.i none in
-    let rest = drop (c.loop-i.i + 1) c.loop-i.batch in
-    let within : c.loop-i.i < length c.loop-i.batch = omega (arith, c.loop-i.auto.batch) in
-    let step = drop_more c.loop-i.batch c.loop-i.i none within in
-    let goes : GoesIn n old (e ∷ rest) = subst (GoesIn n old) step c.loop-i.invariant.room in
-    let is = subst (λ r. OnOk r (map_of c.enter-entered.new.shards.items ≡ inserted (map_of old) e.hash (Address e.address))) c.unwrap.ensures c.enter-entered.ensures.inserted in
-    let same : drop (c.loop-i.i + 1) c.match-unwrap.batch ≡ rest = grind (arith, common_steps) in
+    let new = c.enter-entered.new.shards.items in
+    let e : HashedEntryAddress = get_or c.loop-i.batch i no_entry in
+    let within : i < length batch = c.loop-i-test.true in
+    let here : e ≡ get_or batch i e = c.loop-i.invariant.rest i no_entry (omega arith) ∙ get_or_default batch i no_entry e within in
+    let is : map_of new ≡ committed_one (map_of old) e None = subst (λ r. OnOk r (map_of new ≡ inserted (map_of old) e.hash (Address e.address))) c.unwrap.ensures c.enter-entered.ensures.inserted in
     record {
       len = omega (arith, c.enter-entered.ensures.len, c.loop-i.invariant.len);
-      room = subst (GoesIn n c.enter-entered.new.shards.items) (sym same) (rest_goes_in n old c.enter-entered.new.shards.items e rest (sym c.loop-i.invariant.len) is c.enter-entered.ensures.room goes);
+      seated = λ k d more lt.
+          let behind : c.loop-i.answers ≤ c.loop-i.i = c.loop-i.invariant.midway.behind in
+          let within : k < length c.loop-i.batch = omega (arith, c.match-unwrap.auto.batch) in
+          let still : Seated c.enter-entered.new.shards.items (get_or c.loop-i.batch k d).hash = c.enter-entered.ensures.kept _ (c.loop-i.invariant.seated k d (omega arith) within) in
+          elim c.match-unwrap.branch [
+            | in-Some w ↦ subst (λ e. Seated c.enter-entered.new.shards.items e.hash) (sym (read_on c.loop-i.batch c.match-unwrap.batch _ _ k d w.batch-is (omega arith))) still
+            | in_default w ↦ subst (λ l. Seated c.enter-entered.new.shards.items (get_or l k d).hash) (sym w.batch-is) still
+          ];
+      rest = λ k d more.
+          let behind : c.loop-i.answers ≤ c.loop-i.i = c.loop-i.invariant.midway.behind in
+          elim c.match-unwrap.branch [
+            | in-Some w ↦ read_on c.loop-i.batch c.match-unwrap.batch _ _ k d w.batch-is (omega arith) ∙ c.loop-i.invariant.rest k d (omega arith)
+            | in_default w ↦ ap (λ l. get_or l k d) w.batch-is ∙ c.loop-i.invariant.rest k d (omega arith)
+          ];
+      filled = filled_committed old new batch [] i e None c.enter-entered.ensures.len is (adds_weaker old new e.hash _ _ (λ ok. refl) c.enter-entered.ensures.places) within here refl c.loop-i.invariant.filled;
       midway = grind (arith, common_steps);
     }
 
-pub loop-i-init : goal.loop-i-init
-loop-i-init g c = search rules depth 1
-
 pub unwrap-requires : goal.unwrap-requires
 unwrap-requires g c =
-    let none : HashedEntryAddress = record { hash = 0; address = record { block = 0; offset = 0; len = 0; sequence = 0; filling = 0 } } in
-    let old = c.loop-i.shards.items in
-    let n = length c.args.shards.now.items in
-    let within : c.loop-i.i < length c.loop-i.batch = omega (arith, c.loop-i.auto.batch) in
-    let goes = subst (GoesIn n old) (drop_more c.loop-i.batch c.loop-i.i none within) c.loop-i.invariant.room in
-    ⊎_elim c.enter-entered.ensures.succeeds c.enter-entered.ensures.held (first_goes_in n old _ _ (sym c.loop-i.invariant.len) c.requires.some goes)
+    let within : c.loop-i.i < length c.loop-i.batch = omega (arith, c.loop-i.auto.batch, c.loop-i-test.true) in
+    c.enter-entered.ensures.seated (c.loop-i.invariant.seated c.loop-i.i no_entry (omega arith) within)
 
 pub returns-clause-inserted : goal.returns-clause-inserted
 returns-clause-inserted g c = grind (arith, common_steps)
 
 pub returns-clause-answers : goal.returns-clause-answers
 returns-clause-answers g c = grind (arith, common_steps)
+
+pub returns-clause-filled : goal.returns-clause-filled
+returns-clause-filled g c =
+    let end : length c.args.batch.now ≤ c.loop-i.i = c.loop-i-test.false in
+    filled_end c.loop-i.shards.items c.args.batch.now [] c.loop-i.i end c.loop-i.invariant.filled

@@ -1,19 +1,13 @@
-use Rattle.std.proofs.Common.{◌≡◌, ◌∙◌, Option, None, Some, Bor, IsSome, refl, subst, arith}
+use Rattle.std.proofs.Common.{IsSome, refl, subst, arith}
 use Rattle.std.specs.FinMap as map
-use Rattle.std.specs.Option.{is_some, option_copied}
 use Rattle.std.proofs.lemmas.List.{take_all}
 use Rattle.std.proofs.lemmas.List.Elements.{All-more}
-use Rattle.foyer_block.specs.declared.indexer.Index.{Index}
 use Rattle.foyer_block.specs.Insertion.{AllHeld}
 use Rattle.foyer_block.specs.Shards.{map_of}
 use Rattle.foyer_block.proofs.shards.holds_all.Goals as goal
 
-copied : (o : Option (Bor Index)) → is_some (option_copied o) ≡ is_some o
-copied None = refl
-copied (Some x) = refl
-
 pub loop-entry-preserved : goal.loop-entry-preserved
-loop-entry-preserved g c = All-more (λ e. IsSome (map.get (map_of c.args.shards.now) e.hash)) c.args.batch.now c.loop-entry.entry-index _ c.loop-entry-test.true c.loop-entry.invariant (subst IsSome c.find.ensures (copied c.find.result ∙ c.if-is_none.ensures))
+loop-entry-preserved g c = All-more (λ e. IsSome (map.get (map_of c.args.shards.now) e.hash)) c.args.batch.now c.loop-entry.entry-index _ c.loop-entry-test.true c.loop-entry.invariant (subst IsSome c.find.ensures c.if-is_none.ensures)
 
 pub returns : goal.returns
 returns g c = (λ _. subst (AllHeld (map_of c.args.shards.now)) (take_all c.loop-entry.entry-index c.args.batch.now (omega arith)) c.loop-entry.invariant, λ _. refl)

@@ -1,9 +1,9 @@
-use Rattle.std.proofs.Common.{◌≡◌, ◌+◌, ◌<◌, ◌≤◌, Bool, true, false, not, IsTrue, List, ◌∷◌, Option, None, length, drop, get_or, refl, sym, ap, subst, ◌∙◌, arith}
+use Rattle.std.proofs.Common.{◌≡◌, ◌+◌, ◌<◌, true, false, List, ◌∷◌, Option, None, length, drop, get_or, sym, subst, arith}
 use Rattle.foyer_block.specs.declared.indexer.EntryAddress.{EntryAddress}
 use Rattle.foyer_block.specs.declared.indexer.HashedEntryAddress.{HashedEntryAddress}
 use Rattle.foyer_block.specs.Committing.{PiecesHeld}
 use Rattle.foyer_block.specs.Shards.{map_of}
-use Rattle.foyer_block.proofs.Commits.{from_here, none_from, piece_goes_on, piece_stops}
+use Rattle.foyer_block.proofs.Commits.{from_here, piece_goes_on, piece_stops}
 use Rattle.foyer_block.proofs.shards.holds_pieces.Goals as goal
 
 abbrev no_entry : HashedEntryAddress

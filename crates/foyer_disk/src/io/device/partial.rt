@@ -170,7 +170,6 @@ impl<D: Device> Device for PartialDevice<D> {
                 || self.device.is_out_of_space(size))
     }
 
-    #[tactic(auto, using(crate::proofs::DropLemmas::drops))]
     fn create_partition<R: Files>(
         &mut self,
         rt: &R,

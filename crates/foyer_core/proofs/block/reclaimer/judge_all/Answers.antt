@@ -1,4 +1,4 @@
-use Rattle.std.proofs.Common.{◌≡◌, ◌+◌, ◌≤◌, ◌<◌, drop, take, length, vec_len, vec_capacity, sym, subst, arith}
+use Rattle.std.proofs.Common.{◌≡◌, ◌+◌, ◌≤◌, drop, take, length, vec_len, vec_capacity, sym, subst, arith}
 use Rattle.std.specs.List.{AllZip}
 use Rattle.foyer_core.specs.Reclaiming.{IsVerdictOn}
 use Rattle.foyer_core.proofs.AdmitLemmas.{zipped_more, less_left}

@@ -1,4 +1,4 @@
-use Rattle.std.proofs.Common.{◌≡◌, ◌≤◌, ◌+◌, ◌-◌, take, drop, length, vec_len, vec_capacity}
+use Rattle.std.proofs.Common.{◌≡◌, ◌≤◌, ◌+◌, take, drop, length, vec_len, vec_capacity}
 use Rattle.std.specs.List.{AllZip}
 use Rattle.foyer_core.specs.Reclaiming.{IsVerdictOn}
 use Rattle.foyer_core.proofs.block.reclaimer.judge_all.Given as goal

@@ -1,4 +1,4 @@
-use Rattle.std.proofs.Common.{◌≡◌, List, ℕ, subst, arith}
+use Rattle.std.proofs.Common.{List, ℕ, subst, arith}
 use Rattle.std.specs.Prelude.{OnOk}
 use Rattle.foyer_sets.specs.Shown.{AreChanged}
 use Rattle.foyer_core.proofs.ShowingLemmas.{on_success, changed_back}

@@ -1,4 +1,4 @@
-use Rattle.std.proofs.Common.{◌≡◌, List, ap, subst}
+use Rattle.std.proofs.Common.{List, ap, subst}
 use Rattle.std.specs.Prelude.{OnOk}
 use Rattle.foyer_model.specs.Ids.{ids}
 use Rattle.foyer_sets.specs.Shown.{AreChanged}

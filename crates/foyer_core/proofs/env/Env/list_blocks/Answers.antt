@@ -1,4 +1,4 @@
-use Rattle.std.proofs.Common.{◌≡◌, ◌∙◌, ◌++◌, ◌∷◌, [], refl, sym, ap, add-one, arith}
+use Rattle.std.proofs.Common.{◌≡◌, ◌∙◌, ◌++◌, ◌∷◌, [], sym, ap, add-one, arith}
 use Rattle.foyer_model.specs.Ids.{ids}
 use Rattle.foyer_core.proofs.env.Env.list_blocks.Goals as goal
 

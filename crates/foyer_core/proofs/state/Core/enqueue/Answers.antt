@@ -2,23 +2,25 @@ use Rattle.std.proofs.Common.{true, false, inr, ◌≡◌, ◌+◌, ◌*◌, ◌
 use Rattle.foyer_block.proofs.Rooms.{kept_itself}
 use Rattle.foyer_device.specs.declared.error.ErrorKind.TheVariants as kind
 use Rattle.foyer_model.specs.Numbers.{put, last_number}
-use Rattle.foyer_model.specs.Queue.{IsIgnored}
+use Rattle.foyer_model.specs.Queue.{IsCrowded}
 use Rattle.foyer_model.specs.Reply as model_reply
 use Rattle.foyer_model.specs.State.{Piece}
+use Rattle.foyer_model.specs.Step.{Young}
 use Rattle.foyer_standing.proofs.SetsLemmas.{managed_kept, blocks_kept}
 use Rattle.foyer_core.specs.Asked.{known_age}
 use Rattle.foyer_rules.specs.Content.{content_of}
 use Rattle.foyer_rules.specs.CoreRules.{machine}
 use Rattle.foyer_flusher.specs.declared.submission.Submission.TheVariants.{CacheEntry}
 use Rattle.foyer_core.specs.declared.step.Step.TheVariants as step
-use Rattle.foyer_core.proofs.Enqueued.{ignored_young, ignored_full, not_ignored}
+use Rattle.foyer_core.specs.Marking.{marked}
+use Rattle.foyer_core.specs.StateOf.{IsStateOf}
+use Rattle.foyer_core.proofs.Enqueued.{known_young, crowded, has_room}
 use Rattle.foyer_core.proofs.QueueLemmas.{with_queued, queue_pushed_at, size_grown}
 use Rattle.foyer_core.proofs.StateLemmas.{flushers_count}
 use Rattle.foyer_core.proofs.TurnLemmas.{is_early, same, refused}
 use Rattle.foyer_flusher.specs.Seen.{seen}
 use Rattle.foyer_core.proofs.FlusherLists.{same_seen}
 use Rattle.foyer_core.proofs.state.Core.enqueue.Goals as goal
-use Rattle.foyer_core.proofs.state.Core.enqueue.Goals.{then-is_young-via-then-is_young, then-is_young-via-else-is_young+then-min-self}
 
 pub returns-then-is_err-clause-back : goal.returns-then-is_err-clause-back
 returns-then-is_err-clause-back g c =
@@ -50,17 +52,13 @@ returns-then-is_young-clause-meets g c = λ m ages s sound it stands few.
     let old = c.args.self.now in
     let same_age : m.age_of c.args.piece.properties ≡ g.P.Properties.age c.args.piece.properties = ap (λ f. f c.args.piece.properties) ages in
     let issued : g.P.Properties.age c.properties.result.now ≡ g.P.Properties.age c.args.piece.properties = ap g.P.Properties.age c.properties.ensures in
-    let ignored : IsIgnored (machine m s sound) it (known_age (m.age_of c.args.piece.properties)) = elim c.then-is_young.branch [
-      | then-is_young-via-then-is_young w ↦ ignored_young m s sound old it stands (m.age_of c.args.piece.properties) (same_age ∙ sym issued ∙ w.if-is_young.ensures.0 refl)
-      | then-is_young-via-else-is_young+then-min-self w ↦ ignored_full m s sound old it stands (m.age_of c.args.piece.properties)
-          (omega (arith, w.if-min-self.true, w.min.ensures))
-    ] in
+    let young : known_age (m.age_of c.args.piece.properties) ≡ Young = ap known_age (same_age ∙ sym issued ∙ c.if-is_young.ensures.0 refl) in
     record {
       after = it;
       it = model_reply.Ignored (content_of m c.args.piece);
       stands = stands;
       reply = refl;
-      turns = (tt, (refl, stands.closed ∙ c.if-self.false, ignored, refl));
+      turns = (tt, (refl, stands.closed ∙ c.if-self.false, young, refl));
     }
 
 pub returns-then-self-2-clause-meets : goal.returns-then-self-2-clause-meets
@@ -68,22 +66,63 @@ returns-then-self-2-clause-meets g c = λ m ages s sound it stands few.
     let old = c.args.self.now in
     let same_age : m.age_of c.args.piece.properties ≡ g.P.Properties.age c.args.piece.properties = ap (λ f. f c.args.piece.properties) ages in
     let issued : g.P.Properties.age c.properties.result.now ≡ g.P.Properties.age c.args.piece.properties = ap g.P.Properties.age c.properties.ensures in
-    let less : min old.queued last_number ≤ old.settings.submit_queue_size_threshold = omega (arith, c.if-min-self.false, c.min.ensures) in
-    let taken : IsIgnored (machine m s sound) it (known_age (m.age_of c.args.piece.properties)) → ⊥ =
-    not_ignored m s sound old it stands (m.age_of c.args.piece.properties) (λ young. let e : false ≡ true = c.if-is_young.ensures.1 (issued ∙ sym same_age ∙ young) in cc) less in
+    let not_young : known_age (m.age_of c.args.piece.properties) ≡ Young → ⊥ =
+    (λ young. let e : false ≡ true = c.if-is_young.ensures.1 (issued ∙ sym same_age ∙ known_young (m.age_of c.args.piece.properties) young) in cc) in
     let next : it.next ≡ old.next = stands.next in
     let full : last_number ≤ it.next = omega (arith, c.if-self-2.true) in
     refused m s sound (step.Enqueue c.args.piece c.args.size) old _ it kind.SequenceEnd model_reply.SequenceEnd refl (same old) stands
-    (inr (is_early m s old it stands few, (tt, taken, stands.closed ∙ c.if-self.false, full)))
+    (inr (is_early m s old it stands few, (tt, not_young, stands.closed ∙ c.if-self.false, full)))
+
+pub returns-in-Ok-clause-meets : goal.returns-in-Ok-clause-meets
+returns-in-Ok-clause-meets g c = λ m ages s sound it stands few.
+    let old = c.args.self.now in
+    let same_age : m.age_of c.args.piece.properties ≡ g.P.Properties.age c.args.piece.properties = ap (λ f. f c.args.piece.properties) ages in
+    let issued : g.P.Properties.age c.properties.result.now ≡ g.P.Properties.age c.args.piece.properties = ap g.P.Properties.age c.properties.ensures in
+    let not_young : known_age (m.age_of c.args.piece.properties) ≡ Young → ⊥ =
+    (λ young. let e : false ≡ true = c.if-is_young.ensures.1 (issued ∙ sym same_age ∙ known_young (m.age_of c.args.piece.properties) young) in cc) in
+    let full : old.settings.submit_queue_size_threshold < min old.queued last_number = omega (arith, c.if-min-self.true, c.min.ensures) in
+    let next : it.next ≡ old.next = stands.next in
+    let drawn : it.next < last_number = omega (arith, c.if-self-2.false) in
+    record {
+      after = marked (machine m s sound) it c.args.piece.hash c.in-Ok.sequence;
+      it = model_reply.Dropped (content_of m c.args.piece) c.in-Ok.sequence;
+      stands = subst (λ h. IsStateOf m s c.draw_mark.new.self (marked (machine m s sound) it h c.in-Ok.sequence)) c.hash.ensures (c.in-Ok.ensures.meets m s sound it stands);
+      reply = refl;
+      turns = (tt, (refl, not_young, crowded m s sound old it stands full, (c.in-Ok.ensures.drawn.0 ∙ sym next, stands.closed ∙ c.if-self.false, drawn, refl)));
+    }
+
+pub returns-in-Err-clause-meets : goal.returns-in-Err-clause-meets
+returns-in-Err-clause-meets g c = λ m ages s sound it stands few.
+    let old = c.args.self.now in
+    let same_age : m.age_of c.args.piece.properties ≡ g.P.Properties.age c.args.piece.properties = ap (λ f. f c.args.piece.properties) ages in
+    let issued : g.P.Properties.age c.properties.result.now ≡ g.P.Properties.age c.args.piece.properties = ap g.P.Properties.age c.properties.ensures in
+    let not_young : known_age (m.age_of c.args.piece.properties) ≡ Young → ⊥ =
+    (λ young. let e : false ≡ true = c.if-is_young.ensures.1 (issued ∙ sym same_age ∙ known_young (m.age_of c.args.piece.properties) young) in cc) in
+    let full : old.settings.submit_queue_size_threshold < min old.queued last_number = omega (arith, c.if-min-self.true, c.min.ensures) in
+    let next : it.next ≡ old.next = stands.next in
+    let drawn : it.next < last_number = omega (arith, c.if-self-2.false) in
+    refused m s sound (step.Enqueue c.args.piece c.args.size) old _ it kind.Memory model_reply.Memory refl c.in-Err.ensures.refused stands (
+      is_early m s old it stands few,
+      (
+        tt,
+        (
+          model_reply.Dropped (content_of m c.args.piece) it.next,
+          marked (machine m s sound) it c.args.piece.hash it.next,
+          (refl, not_young, crowded m s sound old it stands full, (refl, stands.closed ∙ c.if-self.false, drawn, refl)),
+          tt,
+        ),
+      ),
+    )
 
 pub returns-then-is_err-clause-meets : goal.returns-then-is_err-clause-meets
 returns-then-is_err-clause-meets g c = λ m ages s sound it stands few.
     let old = c.args.self.now in
     let same_age : m.age_of c.args.piece.properties ≡ g.P.Properties.age c.args.piece.properties = ap (λ f. f c.args.piece.properties) ages in
     let issued : g.P.Properties.age c.properties.result.now ≡ g.P.Properties.age c.args.piece.properties = ap g.P.Properties.age c.properties.ensures in
+    let not_young : known_age (m.age_of c.args.piece.properties) ≡ Young → ⊥ =
+    (λ young. let e : false ≡ true = c.if-is_young.ensures.1 (issued ∙ sym same_age ∙ known_young (m.age_of c.args.piece.properties) young) in cc) in
     let less : min old.queued last_number ≤ old.settings.submit_queue_size_threshold = omega (arith, c.if-min-self.false, c.min.ensures) in
-    let taken : IsIgnored (machine m s sound) it (known_age (m.age_of c.args.piece.properties)) → ⊥ =
-    not_ignored m s sound old it stands (m.age_of c.args.piece.properties) (λ young. let e : false ≡ true = c.if-is_young.ensures.1 (issued ∙ sym same_age ∙ young) in cc) less in
+    let taken : (known_age (m.age_of c.args.piece.properties) ≡ Young → ⊥) × (IsCrowded (machine m s sound) it → ⊥) = (not_young, has_room m s sound old it stands less) in
     let next : it.next ≡ old.next = stands.next in
     let drawn : it.next < last_number = omega (arith, c.if-self-2.false) in
     let f = c.args.piece.hash % s.flushers in
@@ -108,15 +147,16 @@ returns-clause-meets g c = λ m ages s sound it stands few.
     let found = c.index_mut.result.now in
     let same_age : m.age_of c.args.piece.properties ≡ g.P.Properties.age c.args.piece.properties = ap (λ f. f c.args.piece.properties) ages in
     let issued : g.P.Properties.age c.properties.result.now ≡ g.P.Properties.age c.args.piece.properties = ap g.P.Properties.age c.properties.ensures in
+    let not_young : known_age (m.age_of c.args.piece.properties) ≡ Young → ⊥ =
+    (λ young. let e : false ≡ true = c.if-is_young.ensures.1 (issued ∙ sym same_age ∙ known_young (m.age_of c.args.piece.properties) young) in cc) in
     let less : min old.queued last_number ≤ old.settings.submit_queue_size_threshold = omega (arith, c.if-min-self.false, c.min.ensures) in
-    let taken : IsIgnored (machine m s sound) it (known_age (m.age_of c.args.piece.properties)) → ⊥ =
-    not_ignored m s sound old it stands (m.age_of c.args.piece.properties) (λ young. let e : false ≡ true = c.if-is_young.ensures.1 (issued ∙ sym same_age ∙ young) in cc) less in
+    let taken : (known_age (m.age_of c.args.piece.properties) ≡ Young → ⊥) × (IsCrowded (machine m s sound) it → ⊥) = (not_young, has_room m s sound old it stands less) in
     let next : it.next ≡ old.next = stands.next in
     let drawn : it.next < last_number = omega (arith, c.if-self-2.false) in
     let count : length old.flushers.items ≡ s.flushers = flushers_count m s old.flushers.items it.flushers stands.flushers in
     let len : vec_len old.flushers ≡ length old.flushers.items = omega arith in
     let at : c.flusher_of-flusher.result ≡ c.args.piece.hash % s.flushers =
-    c.flusher_of-flusher.ensures.number ∙ ap (λ h. h % vec_len old.flushers) c.hash.ensures ∙ ap (λ n. c.args.piece.hash % n) (len ∙ count) in
+    c.flusher_of-flusher.ensures.number ∙ ap (λ h. h % vec_len old.flushers) c.hash-2.ensures ∙ ap (λ n. c.args.piece.hash % n) (len ∙ count) in
     let within : c.flusher_of-flusher.result < length old.flushers.items = omega (arith, c.flusher_of-flusher.ensures.within) in
     let there : c.args.piece.hash % s.flushers < s.flushers = subst (λ k. k < s.flushers) at (subst (λ n. c.flusher_of-flusher.result < n) count within) in
     let f = c.args.piece.hash % s.flushers in

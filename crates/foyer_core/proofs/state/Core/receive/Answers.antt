@@ -10,6 +10,7 @@ use Rattle.foyer_rules.specs.Content.{returned}
 use Rattle.foyer_flusher.specs.Taking.{IsReceivedAs, TakesFront}
 use Rattle.foyer_flusher.specs.Seen.{seen}
 use Rattle.foyer_standing.proofs.SetsLemmas.{managed_kept, blocks_kept}
+use Rattle.foyer_standing.specs.Standing.{IsIndexedAs}
 use Rattle.foyer_core.specs.declared.step.Step.TheVariants as step
 use Rattle.foyer_core.proofs.QueueLemmas.{size_shrunk}
 use Rattle.foyer_core.proofs.StateLemmas.{flushers_count, flusher_at, flusher_kept, flusher_put}
@@ -22,7 +23,7 @@ returns-in-Err-clause-back g c =
     let found = c.index_mut-found.result.now in (
       refl,
       record {
-        index = kept_itself c.args.self.now.index;
+        index = c.in-Err.ensures.kept;
         next = refl;
         steps = refl;
         closed = refl;
@@ -78,14 +79,14 @@ returns-in-Ok-Nothing-clause-meets g c = λ age_of s sound it stands few.
     let there : f < s.flushers = omega arith in
     let found = c.index_mut-found.result.now in
     let before : IsFlusherAs m s (seen found) (it.flushers f) = flusher_at m s old.flushers.items it.flushers f found stands.flushers within c.index_mut-found.ensures.value in
-    let none : ((it.flushers f).queue ≡ []) × IsFlusherAs m s (seen c.receive.new.self) (it.flushers f) =
-    subst (λ x. TakesFront m s sound it f (Ok x) c.receive.new.self) c.in-Ok-Nothing.field-0-is (c.in-Ok-Nothing.ensures.takes age_of s sound it f before stands.index) in
+    let none : ((it.flushers f).queue ≡ []) × IsFlusherAs m s (seen c.receive.new.self) (it.flushers f) × IsIndexedAs s c.receive.new.index.slots it.index =
+    subst (λ x. TakesFront m s sound it f (Ok x) c.receive.new.self c.receive.new.index.slots) c.in-Ok-Nothing.field-0-is (c.in-Ok-Nothing.ensures.takes age_of s sound it f before stands.index) in
     record {
       after = it;
       it = model_reply.Empty;
       stands = record {
         sizes = stands.sizes;
-        index = stands.index;
+        index = none.2;
         next = stands.next;
         steps = stands.steps;
         closed = stands.closed;
@@ -110,15 +111,15 @@ returns-in-Ok-Other-clause-meets g c = λ age_of s sound it stands few.
     let there : f < s.flushers = omega arith in
     let found = c.index_mut-found.result.now in
     let before : IsFlusherAs m s (seen found) (it.flushers f) = flusher_at m s old.flushers.items it.flushers f found stands.flushers within c.index_mut-found.ensures.value in
-    let taken : IsReceivedAs m s sound it f 0 None c.receive.new.self =
-    subst (λ x. TakesFront m s sound it f (Ok x) c.receive.new.self) c.in-Ok-Other.field-0-is (c.in-Ok-Other.ensures.takes age_of s sound it f before stands.index) in
+    let taken : IsReceivedAs m s sound it f 0 None c.receive.new.self c.receive.new.index.slots =
+    subst (λ x. TakesFront m s sound it f (Ok x) c.receive.new.self c.receive.new.index.slots) c.in-Ok-Other.field-0-is (c.in-Ok-Other.ensures.takes age_of s sound it f before stands.index) in
     let all : old.queued ≡ old.queued - 0 = omega arith in
     record {
-      after = turned (machine m s sound) it f taken.after;
+      after = record (turned (machine m s sound) it f taken.after) { index = taken.index };
       it = model_reply.Received None;
       stands = record {
         sizes = stands.sizes;
-        index = stands.index;
+        index = taken.indexed;
         next = stands.next;
         steps = stands.steps;
         closed = stands.closed;
@@ -143,14 +144,14 @@ returns-in-Ok-Piece-clause-meets g c = λ age_of s sound it stands few.
     let there : f < s.flushers = omega arith in
     let found = c.index_mut-found.result.now in
     let before : IsFlusherAs m s (seen found) (it.flushers f) = flusher_at m s old.flushers.items it.flushers f found stands.flushers within c.index_mut-found.ensures.value in
-    let taken : IsReceivedAs m s sound it f c.in-Ok-Piece.size (returned m c.in-Ok-Piece.back) c.receive.new.self =
-    subst (λ x. TakesFront m s sound it f (Ok x) c.receive.new.self) c.in-Ok-Piece.field-0-is (c.in-Ok-Piece.ensures.takes age_of s sound it f before stands.index) in
+    let taken : IsReceivedAs m s sound it f c.in-Ok-Piece.size (returned m c.in-Ok-Piece.back) c.receive.new.self c.receive.new.index.slots =
+    subst (λ x. TakesFront m s sound it f (Ok x) c.receive.new.self c.receive.new.index.slots) c.in-Ok-Piece.field-0-is (c.in-Ok-Piece.ensures.takes age_of s sound it f before stands.index) in
     record {
-      after = turned (machine m s sound) it f taken.after;
+      after = record (turned (machine m s sound) it f taken.after) { index = taken.index };
       it = model_reply.Received (returned m c.in-Ok-Piece.back);
       stands = record {
         sizes = stands.sizes;
-        index = stands.index;
+        index = taken.indexed;
         next = stands.next;
         steps = stands.steps;
         closed = stands.closed;

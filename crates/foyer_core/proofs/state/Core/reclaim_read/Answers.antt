@@ -1,6 +1,6 @@
-use Rattle.std.proofs.Common.{◌≡◌, [], Option, Some, None, Err, option_map, refl, sym, ap, subst, ◌∙◌}
+use Rattle.std.proofs.Common.{[], Option, Some, None, Err, option_map, refl, sym, ap, subst, ◌∙◌}
 use Rattle.foyer_model.specs.Numbers.{put}
-use Rattle.foyer_model.specs.Reclaim.{Scanned, Rereads}
+use Rattle.foyer_model.specs.Reclaim.{Rereads}
 use Rattle.foyer_model.specs.Reply as model_reply
 use Rattle.foyer_model.specs.State as model_state
 use Rattle.foyer_model.specs.Step as model_step

@@ -1,7 +1,9 @@
-use Rattle.std.proofs.Common.{◌∙◌}
+use Rattle.std.proofs.Common.{ap, ◌∙◌}
 use Rattle.foyer_rules.specs.Content.{meaning}
 use Rattle.foyer_shared.specs.Noted.{and_note}
 use Rattle.foyer_shared.specs.Behind.{kept_notes}
+use Rattle.foyer_shared.specs.Kinds.{kind_of}
+use Rattle.foyer_tally.specs.Tally.{grown}
 use Rattle.foyer_shared.proofs.HistoryLemmas.{is_longer, noted_on}
 use Rattle.foyer_shared.proofs.locked.Locked.step.Goals as goal
 
@@ -10,10 +12,10 @@ invariant_of-self-2 g c =
     let old = c.args.self.now in
     record {
       noted = noted_on (meaning g.K.Code.encoding g.V.Code.encoding g.K.Code.is_encodable g.V.Code.is_encodable g.K.Code.is_decodable g.V.Code.is_decodable g.P.Properties.age)
-          c.args.step c.apply-reply.result old.core c.apply-reply.new.self (kept_notes old.notes) (kept_notes c.note.new.notes) old.calls.total c.add.new.self.total
+          c.args.step c.apply-reply.result old.core c.apply-reply.new.self (kept_notes old.notes) (kept_notes c.note.new.notes) old.calls c.note-2.new.self
           c.apply-reply.ensures.meets
           (c.note.ensures ∙ (λ i. and_note (record { step = c.of-asked.ensures i; reply = c.of.ensures i }) (c.reserve.ensures.same i)))
-          c.add.ensures.total old.noted;
+          (c.note-2.ensures.book ∙ ap (λ k. grown k old.calls) (c.kind.ensures ∙ (λ i. kind_of (record { step = c.of-asked.ensures i; reply = c.of.ensures i })))) old.noted;
     }
 
 pub returns-clause-history : goal.returns-clause-history

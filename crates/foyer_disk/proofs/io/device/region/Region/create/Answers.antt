@@ -19,3 +19,15 @@ returns-clause-made g c =
       refl,
       omega (arith, c.if-len-ge-MAX_PARTITIONS.false, c.len.ensures, length-map d.slots.items size_of),
     )
+
+pub invariant_of-slot : goal.invariant_of-slot
+invariant_of-slot g c = search rules depth 1
+
+pub invariant_of-self : goal.invariant_of-self
+invariant_of-self g c = search rules depth 1
+
+pub returns-in_err-push-clause-kept : goal.returns-in_err-push-clause-kept
+returns-in_err-push-clause-kept g c = search rules depth 1
+
+pub returns-clause-room : goal.returns-clause-room
+returns-clause-room g c = search rules depth 1

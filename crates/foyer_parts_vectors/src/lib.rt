@@ -1,0 +1,5 @@
+//! Tests of the parts below the core: devices and I/O engines, the log of deletes, counters and limits, the keeper, loads.
+#![tactic(auto)]
+
+#[cfg(test)]
+mod tests;

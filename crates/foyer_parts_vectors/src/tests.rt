@@ -1,0 +1,5 @@
+mod engine;
+mod io;
+mod keeper;
+mod log;
+mod statistics;

@@ -1,6 +1,0 @@
-mod disk;
-mod many;
-mod opened;
-mod random;
-mod rows;
-mod slow;

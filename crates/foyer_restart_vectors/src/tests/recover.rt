@@ -1,0 +1,6 @@
+mod many;
+mod opened;
+mod random;
+mod recovering;
+mod rows;
+mod slow;

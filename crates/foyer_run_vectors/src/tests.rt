@@ -1,0 +1,13 @@
+mod destroys;
+mod driver;
+mod every_step;
+mod filled;
+mod flushers;
+mod random;
+mod reader;
+mod refusals;
+mod replies;
+mod runs;
+mod step_again;
+mod steps;
+mod worked;

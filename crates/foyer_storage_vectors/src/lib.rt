@@ -1,5 +1,0 @@
-//! Tests of an engine that threads share.
-#![tactic(auto)]
-
-#[cfg(test)]
-mod tests;

@@ -1,0 +1,2 @@
+pub mod StoreRun
+pub mod StoreLaw

@@ -1,7 +1,0 @@
-//! One script, over each fault.
-
-mod judge;
-mod memory;
-mod script;
-mod sweeps;
-mod table;

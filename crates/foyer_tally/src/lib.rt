@@ -1,0 +1,5 @@
+//! How often steps of each kind were made: a book of them, and shares of the book.
+#![tactic(auto)]
+
+pub mod book;
+pub mod kinds;

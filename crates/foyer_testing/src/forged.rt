@@ -1,0 +1,93 @@
+//! Forged blocks, some reads of which fail.
+use foyer_blob::BlobEntryIndex;
+use foyer_block::manager::BlockId;
+use foyer_blockio::disk::Disk;
+use foyer_checksum::Checksummer;
+use foyer_device::error::{Error, Result};
+use std::alloc::{Allocator, Global};
+
+pub const BLOCK_SIZE: usize = 16384;
+
+pub const INDEX_SIZE: usize = 4096;
+
+/// The blocks' bytes, one block behind another; the offsets whose reads fail; and how many reads there were.
+#[derive(Drop)]
+pub struct ForgedDisk {
+    pub bytes: Vec<u8>,
+    pub failing: Vec<usize>,
+    pub reads: u64,
+}
+
+impl ForgedDisk {
+    /// Blocks of zeros.
+    pub fn new(alloc: Global, blocks: u32) -> Result<ForgedDisk> {
+        Ok(ForgedDisk {
+            bytes: vec![in alloc; 0u8; BLOCK_SIZE * blocks as usize]?,
+            failing: Vec::new(alloc),
+            reads: 0,
+        })
+    }
+
+    /// Puts bytes at an offset of the disk, if they have room there.
+    pub fn put(&mut self, at: usize, page: &[u8; 4096]) {
+        if at < self.bytes.len() && page.len() <= self.bytes.len() - at {
+            self.bytes[at..at + 4096].copy_from_slice(page);
+        }
+    }
+}
+
+impl Disk for ForgedDisk {
+    ghost is_known = { λ _. ⊥ };
+
+    ghost byte_at = { λ _ _ _. 0 };
+
+    ghost surely_has = { λ _ _ _ _. ⊥ };
+
+    fn read<A: Allocator>(
+        &mut self,
+        block: BlockId,
+        offset: usize,
+        buffer: Vec<u8, A>,
+    ) -> (Vec<u8, A>, Result<()>) {
+        self.reads = self.reads.saturating_add(1);
+        let mut buffer = buffer;
+        let at = (block as usize * BLOCK_SIZE).saturating_add(offset);
+        if self.failing.contains(&at)
+            || at > self.bytes.len()
+            || buffer.len() > self.bytes.len() - at
+        {
+            return (buffer, Err(Error::Io));
+        }
+        let end = at + buffer.len();
+        buffer.copy_from_slice(&self.bytes[at..end]);
+        (buffer, Ok(()))
+    }
+
+    fn write(&mut self, _block: BlockId, _offset: usize, _bytes: &[u8]) -> Result<()> {
+        Err(Error::Unsupported)
+    }
+}
+
+pub fn entry(hash: u64, sequence: u64, offset: u32, len: u32) -> BlobEntryIndex {
+    BlobEntryIndex {
+        hash,
+        sequence,
+        offset,
+        len,
+    }
+}
+
+/// A page with these entries and this count, under a right checksum.
+pub fn page(entries: &[BlobEntryIndex], count: u32) -> [u8; 4096] {
+    let mut bytes = [0u8; 4096];
+    bytes[8..12].copy_from_slice(&count.to_be_bytes());
+    for (index, entry) in entries.iter().enumerate() {
+        if index < 170 {
+            let at = 12 + 24 * index;
+            entry.write(&mut bytes[at..at + 24]);
+        }
+    }
+    let checksum = Checksummer::checksum64(&bytes[8..]);
+    bytes[..8].copy_from_slice(&checksum.to_be_bytes());
+    bytes
+}
