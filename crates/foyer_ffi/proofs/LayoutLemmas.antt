@@ -3,16 +3,16 @@ use Rattle.std.proofs.Common.{◌≡◌, ℕ, ◌+◌, ◌-◌, ◌*◌, ◌<◌
 use Rattle.std.proofs.lemmas.List.{length-append}
 use Rattle.std.proofs.lemmas.Bool.{eqb-true}
 use Rattle.std.specs.Int.{w64, to_le_bytes}
-use Rattle.foyer_layout.specs.Each.{Each}
-use Rattle.foyer_code.specs.CodeLaws.{full_length, number_length}
-use Rattle.foyer_code.specs.Codes.{number_bytes, counted}
-use Rattle.foyer_buffer.specs.Entries.{Entry, Entries, FitsBuffer, with_entry, left_of, size_of}
-use Rattle.foyer_layout.specs.Page.{page_up}
-use Rattle.foyer_format.specs.Record.{record_bytes}
-use Rattle.foyer_buffer.proofs.EntriesLemmas.{size_none, size_cons}
-use Rattle.foyer_format.proofs.RecordBytes.{length-record_bytes}
-use Rattle.foyer_format.specs.declared.compress.Compression.{Compression}
-use Rattle.foyer_format.specs.declared.compress.Compression.TheVariants as compression
+use Rattle.foyer_format_layout.specs.Each.{Each}
+use Rattle.foyer_format_code.specs.CodeLaws.{full_length, number_length}
+use Rattle.foyer_format_code.specs.Codes.{number_bytes, counted}
+use Rattle.foyer_format_buffer.specs.Entries.{Entry, Entries, FitsBuffer, with_entry, left_of, size_of}
+use Rattle.foyer_format_layout.specs.Page.{page_up}
+use Rattle.foyer_format_record.specs.Record.{record_bytes}
+use Rattle.foyer_format_buffer.proofs.EntriesLemmas.{size_none, size_cons}
+use Rattle.foyer_format_record.proofs.RecordBytes.{length-record_bytes}
+use Rattle.foyer_format_record.specs.declared.compress.Compression.{Compression}
+use Rattle.foyer_format_record.specs.declared.compress.Compression.TheVariants as compression
 use Rattle.foyer_ffi.specs.LaidOut.{AreRecords, record_len, greatest}
 
 -- each entry has so many bytes

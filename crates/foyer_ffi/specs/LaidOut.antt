@@ -1,8 +1,8 @@
 -- What records of one value, with numbers as keys, take in buffers.
 use Rattle.std.specs.Prelude.{◌≡◌, ◌⊎◌, ℕ, ◌+◌, ◌*◌, ◌^◌, ◌<◌, ◌≤◌}
-use Rattle.foyer_device.specs.declared.error.Error.{Error}
-use Rattle.foyer_device.specs.declared.error.Error.TheVariants as error
-use Rattle.foyer_layout.specs.Page.{page_up}
+use Rattle.foyer_device_page.specs.declared.error.Error.{Error}
+use Rattle.foyer_device_page.specs.declared.error.Error.TheVariants as error
+use Rattle.foyer_format_layout.specs.Page.{page_up}
 
 -- the length of a record: its header, a value of n bytes behind its length, and a number
 abbrev pub record_len : ℕ → ℕ

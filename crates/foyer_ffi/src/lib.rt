@@ -2,11 +2,11 @@
 #![tactic(auto)]
 
 ghost use Rattle.std.specs.Prelude.{◌≡◌, length};
-ghost use Rattle.foyer_checksum.specs.Xxh64.{xxh64};
-ghost use Rattle.foyer_checksum.specs.Xxh32.{xxh32};
+ghost use Rattle.foyer_format_checksum.specs.Xxh64.{xxh64};
+ghost use Rattle.foyer_format_checksum.specs.Xxh32.{xxh32};
 ghost use Rattle.foyer_ffi.specs.LaidOut.{AreRecords};
 
-use foyer_checksum::Checksummer;
+use foyer_format_checksum::Checksummer;
 use std::alloc::Global;
 
 mod placing;

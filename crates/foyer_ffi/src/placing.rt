@@ -1,15 +1,15 @@
 //! Records of one value, laid out one behind another.
 ghost use Rattle.std.specs.Prelude.{◌≡◌, ◌+◌, ◌*◌, ◌^◌, ◌<◌, ◌≤◌, [], length, IfOk, IfErr, OnOk};
-ghost use Rattle.foyer_device.specs.declared.error.Error.{Error as error};
-ghost use Rattle.foyer_layout.specs.Each.{Each};
-ghost use Rattle.foyer_layout.specs.Page.{page_up};
-ghost use Rattle.foyer_buffer.specs.Entries.{left_of};
+ghost use Rattle.foyer_device_page.specs.declared.error.Error.{Error as error};
+ghost use Rattle.foyer_format_layout.specs.Each.{Each};
+ghost use Rattle.foyer_format_layout.specs.Page.{page_up};
+ghost use Rattle.foyer_format_buffer.specs.Entries.{left_of};
 ghost use Rattle.foyer_ffi.specs.LaidOut.{AreRecords, IsStop, greatest, record_len};
 
-use foyer_buffer::{Batch, Buffer, SplitCtx, Splitter};
-use foyer_device::error::{Error, Result};
-use foyer_device::io::bytes::IoSliceMut;
-use foyer_format::compress::Compression;
+use foyer_device_page::error::{Error, Result};
+use foyer_device_page::io::bytes::IoSliceMut;
+use foyer_format_buffer::{Batch, Buffer, SplitCtx, Splitter};
+use foyer_format_record::compress::Compression;
 use std::alloc::Global;
 
 /// The bytes of a block.
@@ -71,7 +71,7 @@ fn lay_out(alloc: Global, value: &[u8], records: u64, taken: &mut u64) -> Result
 }
 
 // The bytes of a buffer for values of this length, which takes a record of them if a block does.
-#[tactic(auto, unfolding(foyer_layout::specs::Page::page_up))]
+#[tactic(auto, unfolding(foyer_format_layout::specs::Page::page_up))]
 fn buffer_size(len: usize) -> usize
     ensures room { page_up (record_len len) ≤ greatest → record_len len ≤ result }
     ensures pages { page_up result ≡ result }

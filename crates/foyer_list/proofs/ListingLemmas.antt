@@ -5,20 +5,20 @@ use Rattle.std.proofs.lemmas.Bool.Decides.{nat_tests}
 use Rattle.std.proofs.lemmas.List.{map-append}
 use Rattle.std.specs.Option.{option_map}
 use Rattle.std.specs.declared.vec.Vec.{Vec}
-use Rattle.foyer_blob.specs.declared.blob.BlobEntryIndex.{BlobEntryIndex}
-use Rattle.foyer_layout.specs.BlockBytes.{read}
-use Rattle.foyer_buffer.specs.Fills.{AreSizes}
-use Rattle.foyer_buffer.specs.Holding.{all_read}
-use Rattle.foyer_buffer.specs.Listing.{IsIndex, behind, placed, Chain, rising, kept}
-use Rattle.foyer_buffer.specs.Listing.Chain.{ends, goes}
-use Rattle.foyer_layout.specs.Position.{Sizes}
-use Rattle.foyer_scan.specs.IndexBytes.{index_at, IsIndexOf}
-use Rattle.foyer_scan.specs.Scan.{next_blob, info_of, infos_of, ScanStep, scan_step, index_step}
-use Rattle.foyer_scan.specs.ScanState.{Scan}
-use Rattle.foyer_scan.specs.declared.block.scanner.EntryInfo.{EntryInfo}
-use Rattle.foyer_scan.proofs.IndexBytesLemmas.{judged}
-use Rattle.foyer_scan.proofs.WalkLemmas.{behind_far}
-use Rattle.foyer_recover.specs.Kept.{rising_infos}
+use Rattle.foyer_format_blob.specs.declared.blob.BlobEntryIndex.{BlobEntryIndex}
+use Rattle.foyer_format_layout.specs.BlockBytes.{read}
+use Rattle.foyer_format_buffer.specs.Fills.{AreSizes}
+use Rattle.foyer_format_buffer.specs.Holding.{all_read}
+use Rattle.foyer_format_buffer.specs.Listing.{IsIndex, behind, placed, Chain, rising, kept}
+use Rattle.foyer_format_buffer.specs.Listing.Chain.{ends, goes}
+use Rattle.foyer_format_layout.specs.Position.{Sizes}
+use Rattle.foyer_block_scan.specs.IndexBytes.{index_at, IsIndexOf}
+use Rattle.foyer_block_scan.specs.Scan.{next_blob, info_of, infos_of, ScanStep, scan_step, index_step}
+use Rattle.foyer_block_scan.specs.ScanState.{Scan}
+use Rattle.foyer_block_scan.specs.declared.block.scanner.EntryInfo.{EntryInfo}
+use Rattle.foyer_block_scan.proofs.IndexBytesLemmas.{judged}
+use Rattle.foyer_block_scan.proofs.WalkLemmas.{behind_far}
+use Rattle.foyer_block_recover.specs.Kept.{rising_infos}
 use Rattle.foyer_list.specs.BlockListing.{EndsBy, IsListed}
 use Rattle.foyer_list.specs.declared.listing.ChainEnd.TheVariants as end
 

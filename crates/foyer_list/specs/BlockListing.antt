@@ -1,12 +1,12 @@
 -- What a block lists, and why its chain of indices ends.
 use Rattle.std.specs.Prelude.{◌≡◌, ℕ, ◌+◌, ◌<◌, ◌≤◌, Bool, true, false, List, length}
-use Rattle.foyer_blob.specs.declared.blob.BlobEntryIndex.{BlobEntryIndex}
-use Rattle.foyer_layout.specs.BlockBytes.{read}
-use Rattle.foyer_buffer.specs.Listing.{Chain, kept}
-use Rattle.foyer_layout.specs.Position.{Sizes}
-use Rattle.foyer_scan.specs.IndexBytes.{IsIndexOf}
-use Rattle.foyer_scan.specs.Scan.{infos_of}
-use Rattle.foyer_scan.specs.declared.block.scanner.EntryInfo.{EntryInfo}
+use Rattle.foyer_format_blob.specs.declared.blob.BlobEntryIndex.{BlobEntryIndex}
+use Rattle.foyer_format_layout.specs.BlockBytes.{read}
+use Rattle.foyer_format_buffer.specs.Listing.{Chain, kept}
+use Rattle.foyer_format_layout.specs.Position.{Sizes}
+use Rattle.foyer_block_scan.specs.IndexBytes.{IsIndexOf}
+use Rattle.foyer_block_scan.specs.Scan.{infos_of}
+use Rattle.foyer_block_scan.specs.declared.block.scanner.EntryInfo.{EntryInfo}
 use Rattle.foyer_list.specs.declared.listing.ChainEnd.{ChainEnd}
 use Rattle.foyer_list.specs.declared.listing.ChainEnd.TheVariants as end
 use Rattle.foyer_list.specs.declared.listing.Listing.{Listing}

@@ -1,6 +1,6 @@
 -- The lines that a list is printed as.
 use Rattle.std.specs.Prelude.{ℕ, List, ◌++◌, codes, decimal}
-use Rattle.foyer_scan.specs.declared.block.scanner.EntryInfo.{EntryInfo}
+use Rattle.foyer_block_scan.specs.declared.block.scanner.EntryInfo.{EntryInfo}
 use Rattle.foyer_list.specs.declared.listing.ChainEnd.{ChainEnd}
 use Rattle.foyer_list.specs.declared.listing.ChainEnd.TheVariants as end
 use Rattle.foyer_list.specs.declared.verdict.Verdict.{Verdict}

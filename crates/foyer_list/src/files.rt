@@ -1,11 +1,11 @@
 //! The files of a directory's blocks, which are read and never written.
 ghost use Rattle.std.specs.Prelude.{◌≡◌, ◌⊎◌, length, IfOk, IfErr};
-ghost use Rattle.foyer_device.specs.declared.error.Error.TheVariants as error;
+ghost use Rattle.foyer_device_page.specs.declared.error.Error.TheVariants as error;
 
-use foyer_block::manager::BlockId;
-use foyer_blockio::disk::Disk;
-use foyer_device::error::{Error, Result};
-use foyer_disk::io::device::partition_path;
+use foyer_block_index::manager::BlockId;
+use foyer_device_page::error::{Error, Result};
+use foyer_device_partition::io::device::partition_path;
+use foyer_io_disk::disk::Disk;
 use std::alloc::Allocator;
 use std::fs::{File, OpenOptions};
 use std::io;

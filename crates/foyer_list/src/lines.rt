@@ -1,13 +1,13 @@
 //! The lines that a list is printed as.
 ghost use Rattle.std.specs.Prelude.{◌≡◌, IfOk, IsOkUnless, string_bytes};
-ghost use Rattle.foyer_device.specs.declared.error.Error.TheVariants.{Memory};
+ghost use Rattle.foyer_device_page.specs.declared.error.Error.TheVariants.{Memory};
 ghost use Rattle.foyer_list.specs.ListLines.{block_text, end_text, entry_text, verdict_word};
 
 use crate::listing::ChainEnd;
 use crate::verdict::Verdict;
-use foyer_block::manager::BlockId;
-use foyer_device::error::Result;
-use foyer_scan::block::scanner::EntryInfo;
+use foyer_block_index::manager::BlockId;
+use foyer_block_scan::block::scanner::EntryInfo;
+use foyer_device_page::error::Result;
 use std::alloc::Allocator;
 
 /// The word that a verdict is printed as.

@@ -1,15 +1,15 @@
 //! What a block lists, and why its chain of indices ends.
 ghost use Rattle.std.specs.Prelude.{◌≡◌, ℕ, ◌≤◌, ◌^◌, vec_len, true, false, length, Some, IfOk, IsOkUnless};
-ghost use Rattle.foyer_device.specs.declared.error.Error.TheVariants.{Memory};
-ghost use Rattle.foyer_layout.specs.BlockBytes.{read};
-ghost use Rattle.foyer_buffer.specs.Fills.{AreSizes};
-ghost use Rattle.foyer_recover.specs.Kept.{rising_infos};
+ghost use Rattle.foyer_device_page.specs.declared.error.Error.TheVariants.{Memory};
+ghost use Rattle.foyer_format_layout.specs.BlockBytes.{read};
+ghost use Rattle.foyer_format_buffer.specs.Fills.{AreSizes};
+ghost use Rattle.foyer_block_recover.specs.Kept.{rising_infos};
 ghost use Rattle.foyer_list.specs.BlockListing.{IsListed, IsListing};
 
-use foyer_block::manager::BlockId;
-use foyer_blockio::disk::Disk;
-use foyer_device::error::Result;
-use foyer_scan::block::scanner::{BlockScanner, EntryInfo};
+use foyer_block_index::manager::BlockId;
+use foyer_block_scan::block::scanner::{BlockScanner, EntryInfo};
+use foyer_device_page::error::Result;
+use foyer_io_disk::disk::Disk;
 use std::alloc::Allocator;
 
 /// Why the chain of a block's indices ends.

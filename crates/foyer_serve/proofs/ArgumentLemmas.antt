@@ -6,10 +6,10 @@ use Rattle.std.specs.Int.{div_ceil}
 use Rattle.std.proofs.Common.{◌≡◌, ℕ, ◌+◌, ◌*◌, ◌/◌, ◌%◌, ◌^◌, ◌<◌, ◌≤◌, ◌==◌, nat_lt, Bool, true, false, if◌then◌else◌, List, [], ◌∷◌, slice_index_or, Ok, Err, refl, arith}
 use Rattle.std.specs.Prelude.{string_bytes}
 use Rattle.std.specs.declared.string.String.{String}
-use Rattle.foyer_layout.specs.Page.{page_up}
-use Rattle.foyer_layout.proofs.PageLaws.{page_up-holds, even-page_up, page_up-least}
-use Rattle.foyer_rules.specs.Sizes.{AreValid}
-use Rattle.foyer_rules.specs.declared.settings.Settings.{Settings}
+use Rattle.foyer_format_layout.specs.Page.{page_up}
+use Rattle.foyer_format_layout.proofs.PageLaws.{page_up-holds, even-page_up, page_up-least}
+use Rattle.foyer_core_laws.specs.Sizes.{AreValid}
+use Rattle.foyer_core_laws.specs.declared.settings.Settings.{Settings}
 use Rattle.foyer_serve.specs.Arguments.{AreWords, AreAsked, GoTogether}
 use Rattle.foyer_serve.specs.Lines.{IsNumber}
 use Rattle.foyer_serve.specs.declared.options.Options.{Options}

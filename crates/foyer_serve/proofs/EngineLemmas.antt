@@ -2,31 +2,31 @@
 use Rattle.std.proofs.Common.{◌≡◌, ℕ, [], Bool, true, false, Option, None, Some, Ok, Err, inl, refl, sym, ap, ◌∙◌}
 use Rattle.std.specs.Prelude.{IfOk, Result}
 use Rattle.std.specs.declared.string.String.{String}
-use Rattle.foyer_rules.specs.Content.{Content}
-use Rattle.foyer_core.specs.Refines.{IsHandedBack}
-use Rattle.foyer_core.specs.declared.reply.Reply.{Reply}
-use Rattle.foyer_core.specs.declared.reply.Reply.TheVariants as reply
-use Rattle.foyer_core.specs.declared.state.Core.{Core}
-use Rattle.foyer_run.specs.AtRest.{ComesToRest, IsAtRest, IsFlusherIdle, KeepsIdle, KeepsOthers, KeepsOthersIdle, Leads, LeavesAllIdle, LeavesIdle, Without}
-use Rattle.foyer_run.specs.Destroys.{Destroys}
-use Rattle.foyer_run.specs.Waiting.{Waits}
-use Rattle.foyer_device.specs.declared.error.Error.{Error}
-use Rattle.foyer_device.specs.declared.error.ErrorKind.TheVariants as kind
-use Rattle.foyer_rules.specs.Sizes.{AreValid}
-use Rattle.foyer_rules.specs.declared.settings.Settings.{Settings}
-use Rattle.foyer_model.specs.Record.{Outcome}
-use Rattle.foyer_model.specs.State.{State}
-use Rattle.foyer_recover.specs.declared.block.recover.RecoverMode.TheVariants as recover_mode
-use Rattle.foyer_run.specs.Begun.{IsBegun, IsBegunEmpty}
-use Rattle.foyer_run.specs.Newest.{IsMissedOnly, IsNewest, IsPutOrFault}
-use Rattle.foyer_run.proofs.DestroyLemmas.{destroys_more}
-use Rattle.foyer_run.proofs.OpenedRuns.{begun_empty}
-use Rattle.foyer_run.proofs.RestLemmas.{IsAny, SaysNothing, keeps_idle, leads_more}
-use Rattle.foyer_serve.specs.Texts.{IsFault, IsMissedText, IsNewestText, IsTextOrFault, destroyed_as, done_as, got, plain}
+use Rattle.foyer_core_laws.specs.Content.{Content}
+use Rattle.foyer_core_steps.specs.Refines.{IsHandedBack}
+use Rattle.foyer_core_steps.specs.declared.reply.Reply.{Reply}
+use Rattle.foyer_core_steps.specs.declared.reply.Reply.TheVariants as reply
+use Rattle.foyer_core_steps.specs.declared.state.Core.{Core}
+use Rattle.foyer_core_run.specs.AtRest.{ComesToRest, IsAtRest, IsFlusherIdle, KeepsIdle, KeepsOthers, KeepsOthersIdle, Leads, LeavesAllIdle, LeavesIdle, Without}
+use Rattle.foyer_core_run.specs.Destroys.{Destroys}
+use Rattle.foyer_core_run.specs.Waiting.{Waits}
+use Rattle.foyer_device_page.specs.declared.error.Error.{Error}
+use Rattle.foyer_device_page.specs.declared.error.ErrorKind.TheVariants as kind
+use Rattle.foyer_core_laws.specs.Sizes.{AreValid}
+use Rattle.foyer_core_laws.specs.declared.settings.Settings.{Settings}
+use Rattle.foyer_core_model.specs.Record.{Outcome}
+use Rattle.foyer_core_model.specs.State.{State}
+use Rattle.foyer_block_recover.specs.declared.block.recover.RecoverMode.TheVariants as recover_mode
+use Rattle.foyer_core_run.specs.Begun.{IsBegun, IsBegunEmpty}
+use Rattle.foyer_core_run.specs.Newest.{IsMissedForCause, IsNewest, IsPutOrFault}
+use Rattle.foyer_core_run.proofs.DestroyLemmas.{destroys_more}
+use Rattle.foyer_core_run.proofs.OpenedRuns.{begun_empty}
+use Rattle.foyer_core_run.proofs.RestLemmas.{IsAny, SaysNothing, keeps_idle, leads_more}
+use Rattle.foyer_serve.specs.Texts.{IsFault, IsTextMissedForCause, IsNewestText, IsTextOrFault, destroyed_as, done_as, got, plain}
 use Rattle.foyer_serve.specs.declared.engine.Answer.{Answer}
 use Rattle.foyer_serve.specs.declared.engine.Answer.TheVariants as answer
 use Rattle.foyer_serve.specs.declared.engine.Engine.{Engine}
-use Rattle.foyer_serve.specs.declared.engine.NoProperties.{NoProperties}
+use Rattle.foyer_format_record.specs.declared.serde.ages.NoProperties.{NoProperties}
 
 -- a wait's steps lead from one engine to another, where the disk of the one is known
 abbrev pub Waited : {A D L E C : Type 0} → (D → Type 0) → (D → ℕ → ℕ → ℕ) → Engine A D L E C → Engine A D L E C → Type 0
@@ -84,7 +84,7 @@ put_got x (reply.Refused kind back) is = inl is
 put_got x last is = absurd is
 
 -- and it is answered of each put that is answered
-pub missed_got : {A : Type 0} (key : ℕ) (core : Core ℕ (String A) NoProperties A) (bytes : ℕ → ℕ → ℕ) (last : Reply ℕ (String A) NoProperties A) → IsMissedOnly plain key core bytes last → IsMissedText key core bytes (got last)
+pub missed_got : {A : Type 0} (key : ℕ) (core : Core ℕ (String A) NoProperties A) (bytes : ℕ → ℕ → ℕ) (last : Reply ℕ (String A) NoProperties A) → IsMissedForCause plain key core bytes last → IsTextMissedForCause key core bytes (got last)
 missed_got key core bytes last missed = λ s sound first events history few b sequence x kept newer some.
     put_got x last (missed s sound first events history few b sequence x kept newer some)
 

@@ -2,16 +2,16 @@
 use Rattle.std.proofs.Common.{◌≡◌, ◌⊎◌, ℕ, List, [], false, Option, sym, subst}
 use Rattle.std.specs.Prelude.{IfOk, IsSome, Result, ◌↔◌}
 use Rattle.std.proofs.lemmas.Result.{IfOk-weaker}
-use Rattle.foyer_block.specs.declared.tombstone.Tombstone.{Tombstone}
-use Rattle.foyer_core.specs.declared.state.Core.{Core}
-use Rattle.foyer_disk.specs.Extent.{Extent}
-use Rattle.foyer_recover.specs.Recovery.{marks_of}
-use Rattle.foyer_recover.specs.declared.block.recover.RecoverMode.{RecoverMode}
-use Rattle.foyer_recover.specs.declared.block.recover.RecoverMode.TheVariants as recover_mode
-use Rattle.foyer_rules.specs.Content.{Meaning}
-use Rattle.foyer_rules.specs.Sizes.{AreValid}
-use Rattle.foyer_rules.specs.declared.settings.Settings.{Settings}
-use Rattle.foyer_run.specs.Begun.{IsBegun}
+use Rattle.foyer_block_index.specs.declared.tombstone.Tombstone.{Tombstone}
+use Rattle.foyer_core_steps.specs.declared.state.Core.{Core}
+use Rattle.foyer_device_partition.specs.Extent.{Extent}
+use Rattle.foyer_block_recover.specs.Recovery.{marks_of}
+use Rattle.foyer_block_recover.specs.declared.block.recover.RecoverMode.{RecoverMode}
+use Rattle.foyer_block_recover.specs.declared.block.recover.RecoverMode.TheVariants as recover_mode
+use Rattle.foyer_core_laws.specs.Content.{Meaning}
+use Rattle.foyer_core_laws.specs.Sizes.{AreValid}
+use Rattle.foyer_core_laws.specs.declared.settings.Settings.{Settings}
+use Rattle.foyer_core_run.specs.Begun.{IsBegun}
 use Rattle.foyer_serve.specs.OpenedFiles.{AreBlockFiles, IsOpenedOver}
 
 -- an engine over a disk of a directory's blocks, and the marks that its log had, is one over the directory

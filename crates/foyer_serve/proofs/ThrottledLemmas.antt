@@ -1,27 +1,27 @@
 -- A load is answered Throttled only where its caller says that the device is.
 use Rattle.std.proofs.Common.{◌≡◌, ℕ, Bool, true, List, [], ◌∷◌, ◌++◌, inl, inr, Option, Some, None, refl, sym, ap, subst, ◌∙◌}
 use Rattle.std.specs.declared.string.String.{String}
-use Rattle.foyer_model.specs.Load.{Ends, Judges, Looks, judged}
-use Rattle.foyer_model.specs.Record.{Slot, Indexed, Mark, Outcome, NoRecord, NotSupported, Undecodable, Holds}
-use Rattle.foyer_model.specs.Reply as model_reply
-use Rattle.foyer_model.specs.Rules.{Rules}
-use Rattle.foyer_model.specs.State.{State}
-use Rattle.foyer_model.specs.Step as model_step
-use Rattle.foyer_model.specs.Follows.{Follows}
-use Rattle.foyer_model.specs.World.{World, Applies, ReadBegins, ReadEnds, MayAllHappen, after, after_all}
-use Rattle.foyer_rules.specs.Content.{Content}
-use Rattle.foyer_rules.specs.CoreRules.{IsEncoded, layout, machine}
-use Rattle.foyer_rules.specs.Sizes.{AreValid}
-use Rattle.foyer_rules.specs.declared.settings.Settings.{Settings}
-use Rattle.foyer_core.specs.Replied.{IsReply}
-use Rattle.foyer_core.specs.StateOf.{IsStateOf}
-use Rattle.foyer_core.specs.declared.reply.Reply.{Reply}
-use Rattle.foyer_core.specs.declared.reply.Reply.TheVariants as reply
-use Rattle.foyer_core.specs.declared.state.Core.{Core}
-use Rattle.foyer_run.specs.Accesses.{Says, load_of}
+use Rattle.foyer_core_model.specs.Load.{Ends, Judges, Looks, judged}
+use Rattle.foyer_core_model.specs.Record.{Slot, Indexed, Mark, Outcome, NoRecord, NotSupported, Undecodable, Holds}
+use Rattle.foyer_core_model.specs.Reply as model_reply
+use Rattle.foyer_core_model.specs.Rules.{Rules}
+use Rattle.foyer_core_model.specs.State.{State}
+use Rattle.foyer_core_model.specs.Step as model_step
+use Rattle.foyer_core_model.specs.Follows.{Follows}
+use Rattle.foyer_core_model.specs.World.{World, Applies, ReadBegins, ReadEnds, MayAllHappen, after, after_all}
+use Rattle.foyer_core_laws.specs.Content.{Content}
+use Rattle.foyer_core_laws.specs.CoreRules.{IsEncoded, layout, machine}
+use Rattle.foyer_core_laws.specs.Sizes.{AreValid}
+use Rattle.foyer_core_laws.specs.declared.settings.Settings.{Settings}
+use Rattle.foyer_core_steps.specs.Replied.{IsReply}
+use Rattle.foyer_core_steps.specs.StateOf.{IsStateOf}
+use Rattle.foyer_core_steps.specs.declared.reply.Reply.{Reply}
+use Rattle.foyer_core_steps.specs.declared.reply.Reply.TheVariants as reply
+use Rattle.foyer_core_steps.specs.declared.state.Core.{Core}
+use Rattle.foyer_core_run.specs.Accesses.{Says, load_of}
 use Rattle.foyer_serve.specs.Texts.{IsThrottledOnly, got, plain}
 use Rattle.foyer_serve.specs.declared.engine.Answer.TheVariants as answer
-use Rattle.foyer_serve.specs.declared.engine.NoProperties.{NoProperties}
+use Rattle.foyer_format_record.specs.declared.serde.ages.NoProperties.{NoProperties}
 
 module _ {C : Type 0} (rules : Rules C) (old new : State C) where
   looked : (h : ℕ) (throttled : Bool) (slot : Option Slot) → Looks rules old h throttled slot model_reply.Throttled new → throttled ≡ true

@@ -1,9 +1,9 @@
 -- The program's arguments.
 use Rattle.std.specs.Prelude.{◌≡◌, ℕ, ◌*◌, ◌/◌, ◌+◌, ◌^◌, ◌<◌, ◌≤◌, List, [], ◌∷◌, false, string_bytes}
 use Rattle.std.specs.declared.string.String.{String}
-use Rattle.foyer_layout.specs.Page.{page_up}
-use Rattle.foyer_rules.specs.Sizes.{IsDefaultShardCount}
-use Rattle.foyer_rules.specs.declared.settings.Settings.{Settings}
+use Rattle.foyer_format_layout.specs.Page.{page_up}
+use Rattle.foyer_core_laws.specs.Sizes.{IsDefaultShardCount}
+use Rattle.foyer_core_laws.specs.declared.settings.Settings.{Settings}
 use Rattle.foyer_serve.specs.Lines.{IsNumber}
 use Rattle.foyer_serve.specs.declared.options.Options.{Options}
 

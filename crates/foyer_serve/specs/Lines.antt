@@ -3,8 +3,8 @@ use Rattle.std.specs.Prelude.{◌≡◌, ℕ, ◌+◌, ◌-◌, ◌*◌, ◌^◌
 use Rattle.std.specs.Char.{IsAsciiDigit}
 use Rattle.std.specs.Str.{IsUtf8}
 use Rattle.std.specs.Str.Parse.{IsNumeral, digits_value}
-use Rattle.foyer_device.specs.declared.error.ErrorKind.{ErrorKind}
-use Rattle.foyer_device.specs.declared.error.ErrorKind.TheVariants as kind
+use Rattle.foyer_device_page.specs.declared.error.ErrorKind.{ErrorKind}
+use Rattle.foyer_device_page.specs.declared.error.ErrorKind.TheVariants as kind
 use Rattle.foyer_serve.specs.declared.command.Command.{Command}
 use Rattle.foyer_serve.specs.declared.command.Command.TheVariants as command
 use Rattle.foyer_serve.specs.declared.engine.Answer.{Answer}

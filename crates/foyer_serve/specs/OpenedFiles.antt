@@ -1,15 +1,15 @@
 -- What was opened over the files of a directory.
 use Rattle.std.specs.Prelude.{◌≡◌, ◌⊎◌, ℕ, List, [], false, map, replicate}
-use Rattle.foyer_block.specs.declared.tombstone.Tombstone.{Tombstone}
-use Rattle.foyer_core.specs.declared.state.Core.{Core}
-use Rattle.foyer_disk.specs.Extent.{Extent, AreDisjoint}
-use Rattle.foyer_recover.specs.Recovery.{marks_of}
-use Rattle.foyer_recover.specs.declared.block.recover.RecoverMode.{RecoverMode}
-use Rattle.foyer_recover.specs.declared.block.recover.RecoverMode.TheVariants as recover_mode
-use Rattle.foyer_rules.specs.Content.{Meaning}
-use Rattle.foyer_rules.specs.Sizes.{AreValid}
-use Rattle.foyer_rules.specs.declared.settings.Settings.{Settings}
-use Rattle.foyer_run.specs.Begun.{IsBegun}
+use Rattle.foyer_block_index.specs.declared.tombstone.Tombstone.{Tombstone}
+use Rattle.foyer_core_steps.specs.declared.state.Core.{Core}
+use Rattle.foyer_device_partition.specs.Extent.{Extent, AreDisjoint}
+use Rattle.foyer_block_recover.specs.Recovery.{marks_of}
+use Rattle.foyer_block_recover.specs.declared.block.recover.RecoverMode.{RecoverMode}
+use Rattle.foyer_block_recover.specs.declared.block.recover.RecoverMode.TheVariants as recover_mode
+use Rattle.foyer_core_laws.specs.Content.{Meaning}
+use Rattle.foyer_core_laws.specs.Sizes.{AreValid}
+use Rattle.foyer_core_laws.specs.declared.settings.Settings.{Settings}
+use Rattle.foyer_core_run.specs.Begun.{IsBegun}
 
 -- a partition of a block's size for each block, and no two share a byte
 pub record AreBlockFiles {P : Type 0} (bytes : P → ℕ) (extent : P → Extent) (s : Settings) (blocks : List P) : Type 0 where

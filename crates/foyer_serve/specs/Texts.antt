@@ -1,26 +1,26 @@
 -- What the program's engine answers, of keys that are numbers and values that are texts without an age of their own.
 use Rattle.std.specs.Prelude.{◌≡◌, ◌⊎◌, ℕ, ◌+◌, ◌-◌, ◌^◌, min, Bool, true, false, List, [], ◌∷◌, length, Option, Some, None, Result, Ok, Err, string_bytes}
 use Rattle.std.specs.declared.string.String.{String}
-use Rattle.foyer_device.specs.declared.error.ErrorKind.{ErrorKind}
-use Rattle.foyer_device.specs.declared.error.ErrorKind.TheVariants as kind
-use Rattle.foyer_format.specs.declared.serde.ages.Age.{Age}
-use Rattle.foyer_model.specs.Record.{Outcome, Holds}
-use Rattle.foyer_model.specs.World.{World, WorldEvent}
-use Rattle.foyer_policy.specs.Record.{Record}
-use Rattle.foyer_rules.specs.Content.{Content, Meaning, content}
-use Rattle.foyer_rules.specs.Sizes.{AreValid}
-use Rattle.foyer_rules.specs.declared.settings.Settings.{Settings}
-use Rattle.foyer_core.specs.declared.reply.Reply.{Reply}
-use Rattle.foyer_core.specs.declared.reply.Reply.TheVariants as reply
-use Rattle.foyer_core.specs.declared.state.Core.{Core}
-use Rattle.foyer_run.specs.Accesses.{Says, load_of}
-use Rattle.foyer_run.specs.Newest.{IsHistory, IsNewest, MayFail, OfPut}
-use Rattle.foyer_run.specs.Runs.{IsFront}
-use Rattle.foyer_run.specs.Texts.{of_texts}
-use Rattle.foyer_run.specs.declared.moves.Move.TheVariants as move
+use Rattle.foyer_device_page.specs.declared.error.ErrorKind.{ErrorKind}
+use Rattle.foyer_device_page.specs.declared.error.ErrorKind.TheVariants as kind
+use Rattle.foyer_format_record.specs.declared.serde.ages.Age.{Age}
+use Rattle.foyer_core_model.specs.Record.{Outcome, Holds}
+use Rattle.foyer_core_model.specs.World.{World, WorldEvent}
+use Rattle.foyer_policy_piece.specs.Record.{Record}
+use Rattle.foyer_core_laws.specs.Content.{Content, Meaning, content}
+use Rattle.foyer_core_laws.specs.Sizes.{AreValid}
+use Rattle.foyer_core_laws.specs.declared.settings.Settings.{Settings}
+use Rattle.foyer_core_steps.specs.declared.reply.Reply.{Reply}
+use Rattle.foyer_core_steps.specs.declared.reply.Reply.TheVariants as reply
+use Rattle.foyer_core_steps.specs.declared.state.Core.{Core}
+use Rattle.foyer_core_run.specs.Accesses.{Says, load_of}
+use Rattle.foyer_core_run.specs.Newest.{IsHistory, IsNewest, MayFail, OfPut}
+use Rattle.foyer_core_run.specs.Runs.{IsFront}
+use Rattle.foyer_core_run.specs.Texts.{of_texts}
+use Rattle.foyer_core_run.specs.declared.moves.Move.TheVariants as move
 use Rattle.foyer_serve.specs.declared.engine.Answer.{Answer}
 use Rattle.foyer_serve.specs.declared.engine.Answer.TheVariants as answer
-use Rattle.foyer_serve.specs.declared.engine.NoProperties.{NoProperties}
+use Rattle.foyer_format_record.specs.declared.serde.ages.NoProperties.{NoProperties}
 
 -- what the codes of numbers and texts mean
 abbrev pub plain : {A : Type 0} → Meaning ℕ (String A) NoProperties
@@ -39,8 +39,8 @@ IsTextOrFault x (answer.Fault why) = MayFail x why ⊎ (why ≡ kind.Memory)
 IsTextOrFault x said = ⊥
 
 -- so it is answered of the newest put of a key, in every history that led to this core and these bytes: no miss
-abbrev pub IsMissedText : {A : Type 0} → ℕ → Core ℕ (String A) NoProperties A → (ℕ → ℕ → ℕ) → Answer A → Type 0
-IsMissedText key core bytes said = OfPut plain key core bytes (λ x. IsTextOrFault x said)
+abbrev pub IsTextMissedForCause : {A : Type 0} → ℕ → Core ℕ (String A) NoProperties A → (ℕ → ℕ → ℕ) → Answer A → Type 0
+IsTextMissedForCause key core bytes said = OfPut plain key core bytes (λ x. IsTextOrFault x said)
 
 -- Throttled is answered, in every history that led to this core and these bytes, only where the device is said to be
 abbrev pub IsThrottledOnly : {A : Type 0} → Bool → Core ℕ (String A) NoProperties A → (ℕ → ℕ → ℕ) → Answer A → Type 0

@@ -4,7 +4,7 @@ ghost use Rattle.std.specs.Io.KnownBytes.{Appends};
 ghost use Rattle.foyer_serve.specs.Lines.{ended, fault_text, kind_name, text_of};
 
 use crate::engine::Answer;
-use foyer_device::error::ErrorKind;
+use foyer_device_page::error::ErrorKind;
 use std::alloc::Allocator;
 use std::io;
 use std::io::Write;

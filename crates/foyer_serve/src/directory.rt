@@ -1,29 +1,31 @@
 //! An engine over the files of a directory.
 ghost use Rattle.std.specs.Prelude.{◌≡◌, ◌⊎◌, ◌↔◌, ◌-◌, ◌/◌, ◌<◌, ◌≤◌, ◌++◌, ◌∷◌, ◌*◌, [], map, replicate, true, false, Ok, Some, None, IfOk, IfErr, IfSome, IsSome, OnErr};
-ghost use Rattle.foyer_log.specs.Pages.{log_pages, places};
-ghost use Rattle.foyer_recover.specs.Recovery.{marks_of};
-ghost use Rattle.foyer_recover.specs.declared.block.recover.RecoverMode.TheVariants as recover_mode;
-ghost use Rattle.foyer_rules.specs.Sizes.{AreValid};
-ghost use Rattle.foyer_run.specs.Begun.{IsBegun};
+ghost use Rattle.foyer_block_tombstone.specs.Pages.{log_pages, places};
+ghost use Rattle.foyer_block_recover.specs.Recovery.{marks_of};
+ghost use Rattle.foyer_block_recover.specs.declared.block.recover.RecoverMode.TheVariants as recover_mode;
+ghost use Rattle.foyer_core_laws.specs.Sizes.{AreValid};
+ghost use Rattle.foyer_core_run.specs.Begun.{IsBegun};
 ghost use Rattle.foyer_serve.specs.OpenedFiles.{AreBlockFiles, IsOpenedOver};
 ghost use Rattle.foyer_serve.specs.Texts.{plain};
 
 use crate::answer::name_of;
 use crate::engine::Engine;
 use crate::options::GENERATOR_SEED;
-use foyer_block::tombstone::Tombstone;
-use foyer_blockio::disk::Disk;
-use foyer_blockio::partitions::{Partitions, create_blocks};
-use foyer_core::apply::Env;
-use foyer_core::open::RecoverMode;
-use foyer_core::settings::Settings;
-use foyer_device::error::{Error, ErrorKind};
-use foyer_disk::io::device::{Device, DeviceBuilder, FsDeviceBuilder, FsPartition, Partition};
-use foyer_format::block::buffer::PAGE;
-use foyer_io::io::engine::{
+use foyer_block_index::tombstone::Tombstone;
+use foyer_block_tombstone::block::tombstone::{TombstoneLog, log_pages};
+use foyer_core_steps::apply::Env;
+use foyer_core_steps::open::RecoverMode;
+use foyer_core_steps::settings::Settings;
+use foyer_device_page::error::{Error, ErrorKind};
+use foyer_device_partition::io::device::{
+    Device, DeviceBuilder, FsDeviceBuilder, FsPartition, Partition,
+};
+use foyer_format_record::block::buffer::PAGE;
+use foyer_io_disk::disk::Disk;
+use foyer_io_disk::partitions::{PartitionedDisk, create_blocks};
+use foyer_io_engine::io::engine::{
     IoEngineBuildContext, IoEngineConfig, PsyncIoEngine, PsyncIoEngineConfig,
 };
-use foyer_log::block::tombstone::{TombstoneLog, log_pages};
 use std::alloc::Allocator;
 use std::fs::File;
 use std::io;
@@ -31,7 +33,7 @@ use std::io::Write;
 use std::rt::Files;
 
 /// The blocks of a directory: a file for each.
-pub type FileBlocks<B, A> = Partitions<PsyncIoEngine<B>, FsPartition, A>;
+pub type FileBlocks<B, A> = PartitionedDisk<PsyncIoEngine<B>, FsPartition, A>;
 
 /// The log of deletes of a directory: a file of its own, ahead of the blocks'.
 pub type FileLog<B, A> = TombstoneLog<PsyncIoEngine<B>, FsPartition, A>;
@@ -104,9 +106,9 @@ where
     R: Files<File = File> + AllocGlobal,
     A: Allocator + Clone,
     ensures begins { IfOk result (λ engine. (sound : AreValid settings) → IsOpenedOver plain settings sound
-        ⟦<Partitions<PsyncIoEngine<R::A>, FsPartition, A> as Disk>⟧.byte_at
-        ⟦<Partitions<PsyncIoEngine<R::A>, FsPartition, A> as Disk>⟧.surely_has
-        ⟦<Partitions<PsyncIoEngine<R::A>, FsPartition, A> as Disk>⟧.is_known
+        ⟦<PartitionedDisk<PsyncIoEngine<R::A>, FsPartition, A> as Disk>⟧.byte_at
+        ⟦<PartitionedDisk<PsyncIoEngine<R::A>, FsPartition, A> as Disk>⟧.surely_has
+        ⟦<PartitionedDisk<PsyncIoEngine<R::A>, FsPartition, A> as Disk>⟧.is_known
         (λ d. d.blocks.items) ⟦<FsPartition as Partition>⟧.bytes ⟦<FsPartition as Partition>⟧.extent
         mode engine.core engine.disk) }
     ensures log { IfOk result (λ engine. IsSome engine.log ↔ (settings.tombstone_log ≡ true)) }
@@ -118,7 +120,7 @@ where
         blocks,
         deletes,
     } = parts;
-    let disk = Partitions::new(files, blocks);
+    let disk = PartitionedDisk::new(files, blocks);
     open_engine(rt, alloc, settings, disk, deletes, mode)
 }
 

@@ -1,43 +1,31 @@
 //! The engine that the program keeps: a core over a disk, with a log of deletes or without one, driven on one thread.
 ghost use Rattle.std.specs.Prelude.{◌≡◌, ◌≢◌, ◌⊎◌, ◌≤◌, ◌*◌, ◌^◌, ℕ, [], true, false, None, IfOk, IfErr, string_bytes};
-ghost use Rattle.foyer_device.specs.declared.error.Error.TheVariants.{Config, Memory, OutOfRange, Recover, SequenceEnd};
-ghost use Rattle.foyer_recover.specs.Recovery.{marks_of};
-ghost use Rattle.foyer_recover.specs.declared.block.recover.RecoverMode.TheVariants as recover_mode;
-ghost use Rattle.foyer_rules.specs.Sizes.{AreValid};
-ghost use Rattle.foyer_run.specs.Driven.{Drives};
-ghost use Rattle.foyer_run.specs.Begun.{IsBegun, IsBegunEmpty};
-ghost use Rattle.foyer_serve.specs.Texts.{IsDeleted, IsGot, IsLoadedOrRefused, IsMissedText, IsNewestText, IsPut, IsThrottledOnly, deleted_as, done_as, got, plain, put_as, wrote_as};
+ghost use Rattle.foyer_device_page.specs.declared.error.Error.TheVariants.{Config, Memory, OutOfRange, Recover, SequenceEnd};
+ghost use Rattle.foyer_block_recover.specs.Recovery.{marks_of};
+ghost use Rattle.foyer_block_recover.specs.declared.block.recover.RecoverMode.TheVariants as recover_mode;
+ghost use Rattle.foyer_core_laws.specs.Sizes.{AreValid};
+ghost use Rattle.foyer_core_run.specs.Driven.{Drives};
+ghost use Rattle.foyer_core_run.specs.Begun.{IsBegun, IsBegunEmpty};
+ghost use Rattle.foyer_serve.specs.Texts.{IsDeleted, IsGot, IsLoadedOrRefused, IsTextMissedForCause, IsNewestText, IsPut, IsThrottledOnly, deleted_as, done_as, got, plain, put_as, wrote_as};
 
-use foyer_block::tombstone::Tombstone;
-use foyer_blockio::disk::Disk;
-use foyer_blockio::memory::MemoryDisk;
-use foyer_core::apply::Env;
-use foyer_core::open::RecoverMode;
-use foyer_core::reply::Reply;
-use foyer_core::settings::Settings;
-use foyer_core::state::Core;
-use foyer_core::step::Step;
-use foyer_device::error::{ErrorKind, Result};
-use foyer_filter::{BuiltInCondition, StorageFilter, StorageFilterCondition};
-use foyer_format::serde::{Age, EntrySerializer, Properties};
-pub use foyer_log::block::tombstone::{MarkLog, NoLog};
-use foyer_policy::keeper::Piece;
-use foyer_run::accesses::{load, step};
-use foyer_sets::block::eviction::{BuiltInPicker, EvictionPicker};
-use foyer_statistics::IoState;
+use foyer_block_index::tombstone::Tombstone;
+use foyer_block_manager::block::eviction::{BuiltInPicker, EvictionPicker};
+pub use foyer_block_tombstone::block::tombstone::{MarkLog, NoLog};
+use foyer_core_run::accesses::{load, step};
+use foyer_core_steps::apply::Env;
+use foyer_core_steps::open::RecoverMode;
+use foyer_core_steps::reply::Reply;
+use foyer_core_steps::settings::Settings;
+use foyer_core_steps::state::Core;
+use foyer_core_steps::step::Step;
+use foyer_device_page::error::{ErrorKind, Result};
+use foyer_device_statistics::IoState;
+use foyer_format_record::serde::{EntrySerializer, NoProperties};
+use foyer_io_disk::disk::Disk;
+use foyer_io_disk::memory::MemoryDisk;
+use foyer_policy_filter::{BuiltInCondition, StorageFilter, StorageFilterCondition};
+use foyer_policy_piece::keeper::Piece;
 use std::alloc::{Allocator, Global};
-
-/// Entries of this program have no age of their own.
-#[derive(Clone, Copy, Debug, PartialEq, Eq)]
-pub struct NoProperties;
-
-impl Properties for NoProperties {
-    ghost age = { λ _. None };
-
-    fn age(&self) -> Option<Age> {
-        None
-    }
-}
 
 type Key = u64;
 
@@ -300,7 +288,7 @@ where
     pub fn get(&mut self, key: u64) -> Answer<A>
         ensures waits { self.new.next_wait ≡ self.old.next_wait }
         ensures newest { D.is_known self.old.disk → IsNewestText key self.old.core (D.byte_at self.old.disk) result }
-        ensures missed { D.is_known self.old.disk → IsMissedText key self.old.core (D.byte_at self.old.disk) result }
+        ensures missed { D.is_known self.old.disk → IsTextMissedForCause key self.old.core (D.byte_at self.old.disk) result }
         ensures known { D.is_known self.old.disk → D.is_known self.new.disk }
         ensures says { D.is_known self.old.disk → IsGot key self.old.core self.new.core
             (D.byte_at self.old.disk) (D.byte_at self.new.disk) result }
@@ -316,7 +304,7 @@ where
         ensures waits { self.new.next_wait ≡ self.old.next_wait }
         ensures newest { D.is_known self.old.disk → IsNewestText key self.old.core (D.byte_at self.old.disk) result }
         ensures missed { D.is_known self.old.disk → throttled ≡ false
-            → IsMissedText key self.old.core (D.byte_at self.old.disk) result }
+            → IsTextMissedForCause key self.old.core (D.byte_at self.old.disk) result }
         ensures unread { throttled ≡ true → self.new.disk ≡ self.old.disk }
         ensures throttled { D.is_known self.old.disk
             → IsThrottledOnly throttled self.old.core (D.byte_at self.old.disk) result }

@@ -1,14 +1,14 @@
 //! The program's arguments.
 ghost use Rattle.std.specs.Prelude.{◌≡◌, ◌↔◌, IfOk, IsOk, IsOkUnless, IsTrue, MatchOption, codes};
-ghost use Rattle.foyer_device.specs.declared.error.Error.TheVariants.{Config};
-ghost use Rattle.foyer_rules.specs.Sizes.{AreValid};
+ghost use Rattle.foyer_device_page.specs.declared.error.Error.TheVariants.{Config};
+ghost use Rattle.foyer_core_laws.specs.Sizes.{AreValid};
 ghost use Rattle.foyer_serve.specs.Arguments.{AreAsked, AreWords, GoTogether};
 
 use crate::command::number;
 use crate::directory::blocks_in;
-use foyer_core::settings::{DEFAULT_TOMBSTONE_LOG, MAX_BLOCK_SIZE, Settings};
-use foyer_device::error::{Error, Result};
-use foyer_format::block::buffer::PAGE;
+use foyer_core_steps::settings::{DEFAULT_TOMBSTONE_LOG, MAX_BLOCK_SIZE, Settings};
+use foyer_device_page::error::{Error, Result};
+use foyer_format_record::block::buffer::PAGE;
 use std::alloc::Allocator;
 
 /// Printed where the arguments are bad.

@@ -1,8 +1,8 @@
 //! A disk that fails one call.
 
-use foyer_block::manager::BlockId;
-use foyer_blockio::disk::Disk;
-use foyer_device::error::{Error, Result};
+use foyer_block_index::manager::BlockId;
+use foyer_device_page::error::{Error, Result};
+use foyer_io_disk::disk::Disk;
 use std::alloc::Allocator;
 
 /// Passes each call on, but for the one that is counted down to: that read gives nothing, and that write writes a front

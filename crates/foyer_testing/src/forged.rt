@@ -1,9 +1,9 @@
 //! Forged blocks, some reads of which fail.
-use foyer_blob::BlobEntryIndex;
-use foyer_block::manager::BlockId;
-use foyer_blockio::disk::Disk;
-use foyer_checksum::Checksummer;
-use foyer_device::error::{Error, Result};
+use foyer_block_index::manager::BlockId;
+use foyer_device_page::error::{Error, Result};
+use foyer_format_blob::BlobEntryIndex;
+use foyer_format_checksum::Checksummer;
+use foyer_io_disk::disk::Disk;
 use std::alloc::{Allocator, Global};
 
 pub const BLOCK_SIZE: usize = 16384;

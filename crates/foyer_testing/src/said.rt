@@ -1,5 +1,5 @@
 //! What was answered, as one text: nothing that is noted gives an error, so that a test has one way out.
-use foyer_device::error::{Error, Result};
+use foyer_device_page::error::{Error, Result};
 use std::alloc::Global;
 use std::fmt::Write as _;
 

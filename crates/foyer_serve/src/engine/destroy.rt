@@ -1,19 +1,19 @@
 //! The destroy of all entries.
 ghost use Rattle.std.specs.Prelude.{◌≡◌};
-ghost use Rattle.foyer_run.specs.AtRest.{Leads, LeavesAllIdle};
-ghost use Rattle.foyer_run.specs.Destroys.{Destroys};
-ghost use Rattle.foyer_run.specs.Waiting.{Waits};
+ghost use Rattle.foyer_core_run.specs.AtRest.{Leads, LeavesAllIdle};
+ghost use Rattle.foyer_core_run.specs.Destroys.{Destroys};
+ghost use Rattle.foyer_core_run.specs.Waiting.{Waits};
 ghost use Rattle.foyer_serve.specs.Texts.{IsFault, IsOkOrFault, destroyed_as, kept_as, plain};
 
 use crate::engine::{Answer, Engine, EngineReply, MarkLog, answer_step};
-use foyer_blockio::disk::Disk;
-use foyer_core::reply::Reply;
-use foyer_core::step::Step;
-use foyer_device::error::ErrorKind;
-use foyer_filter::StorageFilterCondition;
-use foyer_run::accesses::step;
-use foyer_run::destroys::clear_blocks;
-use foyer_sets::block::eviction::EvictionPicker;
+use foyer_block_manager::block::eviction::EvictionPicker;
+use foyer_core_run::accesses::step;
+use foyer_core_run::destroys::clear_blocks;
+use foyer_core_steps::reply::Reply;
+use foyer_core_steps::step::Step;
+use foyer_device_page::error::ErrorKind;
+use foyer_io_disk::disk::Disk;
+use foyer_policy_filter::StorageFilterCondition;
 use std::alloc::Allocator;
 
 // Why the index wasn't cleared.

@@ -1,18 +1,18 @@
 //! What a wait and a close flush, and the reclaims that they need.
 ghost use Rattle.std.specs.Prelude.{◌≡◌, true, IfOk};
-ghost use Rattle.foyer_run.specs.AtRest.{ComesToRest, IsAtRest, KeepsIdle, KeepsOthers, KeepsOthersIdle, Leads, LeavesAllIdle, LeavesIdle, TakesQueueIf, Without};
-ghost use Rattle.foyer_run.specs.Waiting.{Closes, Waits};
+ghost use Rattle.foyer_core_run.specs.AtRest.{ComesToRest, IsAtRest, KeepsIdle, KeepsOthers, KeepsOthersIdle, Leads, LeavesAllIdle, LeavesIdle, TakesQueueIf, Without};
+ghost use Rattle.foyer_core_run.specs.Waiting.{Closes, Waits};
 ghost use Rattle.foyer_serve.specs.Texts.{IsOkOrFault, plain};
 
 use crate::engine::{Answer, Engine, MarkLog, answer_block, answer_step};
-use foyer_blockio::disk::Disk;
-use foyer_core::step::Step;
-use foyer_device::error::ErrorKind;
-use foyer_filter::StorageFilterCondition;
-use foyer_run::accesses::{step, write_block};
-use foyer_run::batches::begin_batch;
-use foyer_run::reclaims::reclaim_block;
-use foyer_sets::block::eviction::EvictionPicker;
+use foyer_block_manager::block::eviction::EvictionPicker;
+use foyer_core_run::accesses::{step, write_block};
+use foyer_core_run::batches::begin_batch;
+use foyer_core_run::reclaims::reclaim_block;
+use foyer_core_steps::step::Step;
+use foyer_device_page::error::ErrorKind;
+use foyer_io_disk::disk::Disk;
+use foyer_policy_filter::StorageFilterCondition;
 use std::alloc::Allocator;
 
 impl<A, D, L, E, C> Engine<A, D, L, E, C>

@@ -1,6 +1,6 @@
 //! Destroys of an engine, with each allocation refused in turn.
 use crate::tests::sweeps::{MOST_ALLOCATIONS, TestEngine, opened, small};
-use foyer_device::error::{ErrorKind, Result};
+use foyer_device_page::error::{ErrorKind, Result};
 use foyer_serve::engine::Answer;
 use foyer_testing::refusing::Refusing;
 use std::alloc::Global;

@@ -1,15 +1,15 @@
 //! The example of the README, word for word, and what it gives.
-use foyer_blockio::memory::MemoryDisk;
-use foyer_core::apply::Env;
-use foyer_core::open::RecoverMode;
-use foyer_core::reply::Reply;
-use foyer_core::settings::Settings;
-use foyer_core::state::Core;
-use foyer_core::step::Step;
-use foyer_device::error::Result;
-use foyer_format::serde::EntrySerializer;
-use foyer_policy::keeper::Piece;
-use foyer_serve::engine::{Answer, Engine, NoProperties};
+use foyer_core_steps::apply::Env;
+use foyer_core_steps::open::RecoverMode;
+use foyer_core_steps::reply::Reply;
+use foyer_core_steps::settings::Settings;
+use foyer_core_steps::state::Core;
+use foyer_core_steps::step::Step;
+use foyer_device_page::error::Result;
+use foyer_format_record::serde::{EntrySerializer, NoProperties};
+use foyer_io_disk::memory::MemoryDisk;
+use foyer_policy_piece::keeper::Piece;
+use foyer_serve::engine::{Answer, Engine};
 use std::alloc::Global;
 use std::test::Fail;
 

@@ -1,8 +1,8 @@
 //! Each allocation of an engine refused in turn.
-use foyer_blockio::memory::MemoryDisk;
-use foyer_core::apply::Env;
-use foyer_core::settings::Settings;
-use foyer_device::error::{Error, ErrorKind, Result};
+use foyer_core_steps::apply::Env;
+use foyer_core_steps::settings::Settings;
+use foyer_device_page::error::{Error, ErrorKind, Result};
+use foyer_io_disk::memory::MemoryDisk;
 use foyer_serve::engine::{Answer, Engine, NoLog};
 use foyer_testing::refusing::Refusing;
 use foyer_testing::said::Said;

@@ -1,8 +1,8 @@
 use Rattle.std.proofs.Common.{rules, ◌≡◌, ◌<◌, ◌^◌, true, false, true≢false, length, ◌≤◌, refl, ap, sym, subst, ◌∙◌, arith}
 use Rattle.foyer_ffi.proofs.LayoutLemmas.{pushed, not_pushed}
-use Rattle.foyer_code.specs.CodeLaws.{sized_number}
-use Rattle.foyer_buffer.specs.Entries.{Entries, left_of}
-use Rattle.foyer_layout.specs.Page.{page_up}
+use Rattle.foyer_format_code.specs.CodeLaws.{sized_number}
+use Rattle.foyer_format_buffer.specs.Entries.{Entries, left_of}
+use Rattle.foyer_format_layout.specs.Page.{page_up}
 use Rattle.foyer_ffi.specs.LaidOut.{record_len}
 use Rattle.foyer_ffi.proofs.placing.fill.Goals as goal
 

@@ -1,5 +1,5 @@
 use Rattle.std.proofs.Common.{◌≡◌, ◌+◌, ◌<◌, ◌≤◌, length}
-use Rattle.foyer_layout.specs.Page.{page_up}
+use Rattle.foyer_format_layout.specs.Page.{page_up}
 use Rattle.foyer_ffi.specs.LaidOut.{record_len}
 use Rattle.foyer_ffi.proofs.LayoutLemmas.{AreLong}
 use Rattle.foyer_ffi.proofs.placing.fill.Given as goal

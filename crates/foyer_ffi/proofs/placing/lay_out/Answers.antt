@@ -1,7 +1,7 @@
 use Rattle.std.proofs.Common.{◌≡◌, ℕ, List, length, ◌≤◌, ◌*◌, ap, sym, subst, refl, inl, inr, ◌∙◌, arith, rules}
-use Rattle.foyer_layout.specs.Position.{Sizes}
-use Rattle.foyer_buffer.specs.Entries.{left_of}
-use Rattle.foyer_layout.specs.Page.{page_up}
+use Rattle.foyer_format_layout.specs.Position.{Sizes}
+use Rattle.foyer_format_buffer.specs.Entries.{left_of}
+use Rattle.foyer_format_layout.specs.Page.{page_up}
 use Rattle.foyer_ffi.specs.LaidOut.{record_len, greatest}
 use Rattle.foyer_ffi.proofs.LayoutLemmas.{AreLong, AreTaken, not_empty, size_long, taken_more, are_records, passes, too_long}
 use Rattle.foyer_ffi.proofs.placing.lay_out.Goals as goal

@@ -1,5 +1,5 @@
 use Rattle.std.proofs.Common.{◌≡◌, ◌-◌, length}
-use Rattle.foyer_layout.specs.Page.{page_up}
+use Rattle.foyer_format_layout.specs.Page.{page_up}
 use Rattle.foyer_ffi.proofs.LayoutLemmas.{AreTaken}
 use Rattle.foyer_ffi.proofs.placing.lay_out.Given as goal
 

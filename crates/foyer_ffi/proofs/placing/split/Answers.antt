@@ -1,4 +1,4 @@
-use Rattle.foyer_buffer.proofs.HoldsLemmas.{finished_all}
+use Rattle.foyer_format_buffer.proofs.HoldsLemmas.{finished_all}
 use Rattle.foyer_ffi.proofs.placing.split.Goals as goal
 
 pub split-requires-clause-each : goal.split-requires-clause-each

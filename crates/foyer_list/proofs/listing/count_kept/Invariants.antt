@@ -1,5 +1,5 @@
 use Rattle.std.proofs.Common.{◌≡◌, ◌+◌, Some, drop, length}
-use Rattle.foyer_recover.specs.Kept.{rising_infos}
+use Rattle.foyer_block_recover.specs.Kept.{rising_infos}
 use Rattle.foyer_list.proofs.listing.count_kept.Given as goal
 
 abbrev pub invariant-each_info : goal.invariant-each_info

@@ -1,8 +1,8 @@
 use Rattle.std.proofs.Common.{◌≡◌, ℕ, ◌+◌, ◌≤◌, ◌++◌, vec_len, true, false, refl, sym, ap, subst, ◌∙◌, rules}
-use Rattle.foyer_layout.specs.BlockBytes.{read}
-use Rattle.foyer_layout.specs.Position.{Sizes}
-use Rattle.foyer_scan.specs.ScanState.{Scan}
-use Rattle.foyer_recover.proofs.ChainLemmas.{step_stays, falls}
+use Rattle.foyer_format_layout.specs.BlockBytes.{read}
+use Rattle.foyer_format_layout.specs.Position.{Sizes}
+use Rattle.foyer_block_scan.specs.ScanState.{Scan}
+use Rattle.foyer_block_recover.proofs.ChainLemmas.{step_stays, falls}
 use Rattle.foyer_list.specs.BlockListing.{IsListed}
 use Rattle.foyer_list.specs.declared.listing.ChainEnd.TheVariants as end
 use Rattle.foyer_list.proofs.ListingLemmas.{listed_start, listed_on, listed_none, listed_all, listed_failed, IsListedTo, none_listed, some_listed}

@@ -1,5 +1,5 @@
 use Rattle.std.proofs.Common.{◌≡◌, ℕ, vec_len}
-use Rattle.foyer_recover.proofs.ChainLemmas.{offsets_left}
+use Rattle.foyer_block_recover.proofs.ChainLemmas.{offsets_left}
 use Rattle.foyer_list.proofs.ListingLemmas.{IsListedTo}
 use Rattle.foyer_list.proofs.listing.list_chain.Given as goal
 

@@ -1,6 +1,6 @@
 use Rattle.std.proofs.Common.{◌≡◌, length, vec_len, ap, ◌∙◌, sym, arith}
-use Rattle.foyer_layout.specs.BlockBytes.{read}
-use Rattle.foyer_recover.proofs.ChainLemmas.{ok_holds, read_is}
+use Rattle.foyer_format_layout.specs.BlockBytes.{read}
+use Rattle.foyer_block_recover.proofs.ChainLemmas.{ok_holds, read_is}
 use Rattle.foyer_list.proofs.listing.read_index.Goals as goal
 
 pub returns-clause-bytes : goal.returns-clause-bytes

@@ -1,5 +1,5 @@
 use Rattle.std.proofs.Common.{inr, refl}
-use Rattle.foyer_recover.specs.Recovery.{opened_of}
+use Rattle.foyer_block_recover.specs.Recovery.{opened_of}
 use Rattle.foyer_list.proofs.verdict.winners.Goals as goal
 
 pub returns-clause-found : goal.returns-clause-found

@@ -1,5 +1,5 @@
 use Rattle.std.proofs.Common.{inl, inr, refl}
-use Rattle.foyer_run.proofs.OpenedRuns.{err_weakens}
+use Rattle.foyer_core_run.proofs.OpenedRuns.{err_weakens}
 use Rattle.foyer_serve.proofs.engine.Engine+A+D+NoLog+E+C.with_disk.Goals as goal
 
 pub returns-clause-refused : goal.returns-clause-refused

@@ -1,7 +1,7 @@
 use Rattle.std.proofs.Common.{◌+◌, ◌*◌, inl, inr, refl}
 use Rattle.std.specs.Prelude.{if◌then◌else◌, nat_lt, slice_index}
-use Rattle.foyer_rules.specs.Sizes.{AreValid}
-use Rattle.foyer_run.proofs.OpenedRuns.{err_weakens, none_refuses}
+use Rattle.foyer_core_laws.specs.Sizes.{AreValid}
+use Rattle.foyer_core_run.proofs.OpenedRuns.{err_weakens, none_refuses}
 use Rattle.foyer_serve.proofs.EngineLemmas.{zeroed}
 use Rattle.foyer_serve.proofs.engine.Engine+A+MemoryDisk+A+NoLog+E+C.open.Goals as goal
 

@@ -1,6 +1,6 @@
 use Rattle.std.proofs.Common.{◌≡◌}
-use Rattle.foyer_device.specs.declared.error.ErrorKind.TheVariants as kind
-use Rattle.foyer_run.proofs.DestroyLemmas.{destroys_cleared, destroys_if, destroys_kept, destroys_none}
+use Rattle.foyer_device_page.specs.declared.error.ErrorKind.TheVariants as kind
+use Rattle.foyer_core_run.proofs.DestroyLemmas.{destroys_cleared, destroys_if, destroys_kept, destroys_none}
 use Rattle.foyer_serve.specs.Texts.{plain}
 use Rattle.foyer_serve.specs.declared.engine.Answer.TheVariants as answer
 use Rattle.foyer_serve.proofs.EngineLemmas.{destroyed_ok, fault_not_ok, known_destroys}

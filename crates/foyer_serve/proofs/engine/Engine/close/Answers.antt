@@ -1,9 +1,9 @@
 use Rattle.std.proofs.Common.{refl}
-use Rattle.foyer_run.specs.AtRest.{LeavesAllIdle}
-use Rattle.foyer_run.specs.declared.moves.Move.TheVariants as move
-use Rattle.foyer_core.specs.declared.step.Step.TheVariants as step
-use Rattle.foyer_run.proofs.RestLemmas.{IsAny, comes_to_rest, leads_more, step_leads}
-use Rattle.foyer_run.proofs.WaitingLemmas.{closes_more, closes_said}
+use Rattle.foyer_core_run.specs.AtRest.{LeavesAllIdle}
+use Rattle.foyer_core_run.specs.declared.moves.Move.TheVariants as move
+use Rattle.foyer_core_steps.specs.declared.step.Step.TheVariants as step
+use Rattle.foyer_core_run.proofs.RestLemmas.{IsAny, comes_to_rest, leads_more, step_leads}
+use Rattle.foyer_core_run.proofs.WaitingLemmas.{closes_more, closes_said}
 use Rattle.foyer_serve.specs.Texts.{plain}
 use Rattle.foyer_serve.proofs.engine.Engine.close.Goals as goal
 

@@ -1,6 +1,6 @@
 use Rattle.std.proofs.Common.{◌≡◌, refl}
-use Rattle.foyer_run.specs.declared.moves.Move.TheVariants as move
-use Rattle.foyer_run.proofs.DestroyLemmas.{destroys_begun, destroys_if, destroys_waiting}
+use Rattle.foyer_core_run.specs.declared.moves.Move.TheVariants as move
+use Rattle.foyer_core_run.proofs.DestroyLemmas.{destroys_begun, destroys_if, destroys_waiting}
 use Rattle.foyer_serve.specs.Texts.{plain}
 use Rattle.foyer_serve.specs.declared.engine.Answer.TheVariants as answer
 use Rattle.foyer_serve.proofs.EngineLemmas.{known_destroys}

@@ -1,9 +1,9 @@
 use Rattle.std.proofs.Common.{◌≡◌, ◌+◌, refl, sym, ap, subst, ◌∙◌, arith}
-use Rattle.foyer_run.specs.AtRest.{Leads, LeavesIdle, LeavesIdleBelow}
-use Rattle.foyer_run.proofs.IdleLemmas.{still_idle}
+use Rattle.foyer_core_run.specs.AtRest.{Leads, LeavesIdle, LeavesIdleBelow}
+use Rattle.foyer_core_run.proofs.IdleLemmas.{still_idle}
 use Rattle.foyer_serve.proofs.EngineLemmas.{left_alone}
-use Rattle.foyer_run.proofs.RestLemmas.{all_idle, flusher_more, leads_none}
-use Rattle.foyer_run.proofs.WaitingLemmas.{known_more, known_none}
+use Rattle.foyer_core_run.proofs.RestLemmas.{all_idle, flusher_more, leads_none}
+use Rattle.foyer_core_run.proofs.WaitingLemmas.{known_more, known_none}
 use Rattle.foyer_serve.specs.Texts.{plain}
 use Rattle.foyer_serve.proofs.engine.Engine.flush_all.Goals as goal
 

@@ -1,4 +1,4 @@
-use Rattle.foyer_run.proofs.WaitingLemmas.{known_more, known_none}
+use Rattle.foyer_core_run.proofs.WaitingLemmas.{known_more, known_none}
 use Rattle.foyer_serve.specs.Texts.{plain}
 use Rattle.foyer_serve.proofs.engine.Engine.flush_until_done.Goals as goal
 

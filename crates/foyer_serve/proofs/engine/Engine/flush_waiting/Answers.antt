@@ -1,9 +1,9 @@
 use Rattle.std.proofs.Common.{◌≡◌, true, false, refl, sym, subst, ◌∙◌}
-use Rattle.foyer_run.specs.AtRest.{EndsBatchOnce, KeepsOthersIdle, Leads}
-use Rattle.foyer_run.specs.declared.moves.Move.TheVariants as move
-use Rattle.foyer_run.proofs.BatchRuns.{known_begun, nothing_begins}
-use Rattle.foyer_run.proofs.RestLemmas.{flush_more, flush_over, leads_none}
-use Rattle.foyer_run.proofs.WaitingLemmas.{known_more, known_none, known_said}
+use Rattle.foyer_core_run.specs.AtRest.{EndsBatchOnce, KeepsOthersIdle, Leads}
+use Rattle.foyer_core_run.specs.declared.moves.Move.TheVariants as move
+use Rattle.foyer_core_run.proofs.BatchRuns.{known_begun, nothing_begins}
+use Rattle.foyer_core_run.proofs.RestLemmas.{flush_more, flush_over, leads_none}
+use Rattle.foyer_core_run.proofs.WaitingLemmas.{known_more, known_none, known_said}
 use Rattle.foyer_serve.specs.Texts.{plain}
 use Rattle.foyer_serve.proofs.EngineLemmas.{done_nothing, done_something}
 use Rattle.foyer_serve.proofs.engine.Engine.flush_waiting.Goals as goal

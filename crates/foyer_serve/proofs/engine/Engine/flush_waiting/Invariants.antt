@@ -1,5 +1,5 @@
 use Rattle.std.proofs.Common.{◌≡◌}
-use Rattle.foyer_run.specs.AtRest.{EndsBatchOnce, Leads}
+use Rattle.foyer_core_run.specs.AtRest.{EndsBatchOnce, Leads}
 use Rattle.foyer_serve.specs.Texts.{plain}
 use Rattle.foyer_serve.proofs.EngineLemmas.{Waited}
 use Rattle.foyer_serve.proofs.engine.Engine.flush_waiting.Given as goal

@@ -1,7 +1,7 @@
 use Rattle.std.proofs.Common.{◌≡◌, ℕ, ◌+◌, ◌<◌, true, false, inl, inr, sym, ap, subst, ◌∙◌, arith}
 use Rattle.std.proofs.lemmas.Bool.{cases_lt}
-use Rattle.foyer_run.specs.AtRest.{IsFlusherIdle}
-use Rattle.foyer_run.proofs.IdleLemmas.{still_idle}
+use Rattle.foyer_core_run.specs.AtRest.{IsFlusherIdle}
+use Rattle.foyer_core_run.proofs.IdleLemmas.{still_idle}
 use Rattle.foyer_serve.specs.Texts.{plain}
 use Rattle.foyer_serve.proofs.engine.Engine.is_at_rest.Goals as goal
 

@@ -1,5 +1,5 @@
 use Rattle.std.proofs.Common.{ℕ, ◌<◌}
-use Rattle.foyer_run.specs.AtRest.{IsFlusherIdle}
+use Rattle.foyer_core_run.specs.AtRest.{IsFlusherIdle}
 use Rattle.foyer_serve.specs.Texts.{plain}
 use Rattle.foyer_serve.proofs.engine.Engine.is_at_rest.Given as goal
 

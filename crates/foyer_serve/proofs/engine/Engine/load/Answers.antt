@@ -1,7 +1,7 @@
 use Rattle.std.proofs.Common.{◌≡◌, inr, refl, sym, subst}
-use Rattle.foyer_device.specs.declared.error.ErrorKind.TheVariants as kind
+use Rattle.foyer_device_page.specs.declared.error.ErrorKind.TheVariants as kind
 use Rattle.foyer_serve.specs.declared.engine.Answer.TheVariants as answer
-use Rattle.foyer_serve.specs.Texts.{IsMissedText, IsNewestText, IsThrottledOnly}
+use Rattle.foyer_serve.specs.Texts.{IsTextMissedForCause, IsNewestText, IsThrottledOnly}
 use Rattle.foyer_serve.proofs.EngineLemmas.{missed_got, newest_got}
 use Rattle.foyer_serve.proofs.ThrottledLemmas.{throttled_only}
 use Rattle.foyer_serve.proofs.engine.Engine.load.Goals as goal
@@ -16,7 +16,7 @@ pub returns-in-Ok-clause-missed : goal.returns-in-Ok-clause-missed
 returns-in-Ok-clause-missed g c = λ known not.
     let core = c.args.self.now.core in
     let bytes = g.D.Disk.byte_at c.args.self.now.disk in
-    subst (λ said. IsMissedText c.args.key core bytes said) (sym c.answer_load.ensures) (missed_got c.args.key core bytes c.in-Ok.last (c.in-Ok.ensures.missed known not))
+    subst (λ said. IsTextMissedForCause c.args.key core bytes said) (sym c.answer_load.ensures) (missed_got c.args.key core bytes c.in-Ok.last (c.in-Ok.ensures.missed known not))
 
 pub returns-in-Err-clause-missed : goal.returns-in-Err-clause-missed
 returns-in-Err-clause-missed g c = λ known not s sound first events history few b sequence x kept newer some. inr refl

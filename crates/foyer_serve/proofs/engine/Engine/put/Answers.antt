@@ -1,5 +1,5 @@
 use Rattle.std.proofs.Common.{inl, refl, rules}
-use Rattle.foyer_run.specs.declared.moves.Move.TheVariants as move
+use Rattle.foyer_core_run.specs.declared.moves.Move.TheVariants as move
 use Rattle.foyer_serve.proofs.engine.Engine.put.Goals as goal
 
 pub returns-clause-says : goal.returns-clause-says

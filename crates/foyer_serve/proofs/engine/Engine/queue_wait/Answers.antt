@@ -1,7 +1,7 @@
 use Rattle.std.proofs.Common.{refl}
-use Rattle.foyer_run.specs.declared.moves.Move.TheVariants as move
-use Rattle.foyer_run.proofs.RestLemmas.{wait_keeps}
-use Rattle.foyer_run.proofs.WaitingLemmas.{known_said}
+use Rattle.foyer_core_run.specs.declared.moves.Move.TheVariants as move
+use Rattle.foyer_core_run.proofs.RestLemmas.{wait_keeps}
+use Rattle.foyer_core_run.proofs.WaitingLemmas.{known_said}
 use Rattle.foyer_serve.specs.Texts.{plain}
 use Rattle.foyer_serve.proofs.engine.Engine.queue_wait.Goals as goal
 

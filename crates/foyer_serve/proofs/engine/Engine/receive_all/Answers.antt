@@ -1,9 +1,9 @@
 use Rattle.std.proofs.Common.{refl, sym, ◌∙◌}
-use Rattle.foyer_run.specs.AtRest.{BeginsNone}
-use Rattle.foyer_run.specs.declared.moves.Move.TheVariants as move
-use Rattle.foyer_run.proofs.FlusherSteps.{begins_none_same}
-use Rattle.foyer_run.proofs.RestLemmas.{leads_none, receive_more, receive_over, takes_all, takes_some}
-use Rattle.foyer_run.proofs.WaitingLemmas.{known_more, known_none, known_said}
+use Rattle.foyer_core_run.specs.AtRest.{BeginsNone}
+use Rattle.foyer_core_run.specs.declared.moves.Move.TheVariants as move
+use Rattle.foyer_core_run.proofs.FlusherSteps.{begins_none_same}
+use Rattle.foyer_core_run.proofs.RestLemmas.{leads_none, receive_more, receive_over, takes_all, takes_some}
+use Rattle.foyer_core_run.proofs.WaitingLemmas.{known_more, known_none, known_said}
 use Rattle.foyer_serve.specs.Texts.{plain}
 use Rattle.foyer_serve.proofs.EngineLemmas.{done_nothing}
 use Rattle.foyer_serve.proofs.engine.Engine.receive_all.Goals as goal

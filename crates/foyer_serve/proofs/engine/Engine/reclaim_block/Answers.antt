@@ -1,4 +1,4 @@
-use Rattle.foyer_run.proofs.ReclaimRuns.{reclaims_wait}
+use Rattle.foyer_core_run.proofs.ReclaimRuns.{reclaims_wait}
 use Rattle.foyer_serve.specs.Texts.{plain}
 use Rattle.foyer_serve.proofs.engine.Engine.reclaim_block.Goals as goal
 

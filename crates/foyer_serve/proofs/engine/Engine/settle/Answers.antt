@@ -1,6 +1,6 @@
-use Rattle.foyer_run.specs.AtRest.{LeavesAllIdle, Without}
-use Rattle.foyer_run.proofs.RestLemmas.{any_none}
-use Rattle.foyer_run.proofs.WaitingLemmas.{known_more, known_none}
+use Rattle.foyer_core_run.specs.AtRest.{LeavesAllIdle, Without}
+use Rattle.foyer_core_run.proofs.RestLemmas.{any_none}
+use Rattle.foyer_core_run.proofs.WaitingLemmas.{known_more, known_none}
 use Rattle.foyer_serve.specs.Texts.{plain}
 use Rattle.foyer_serve.proofs.EngineLemmas.{any_then, led_to_rest}
 use Rattle.foyer_serve.proofs.engine.Engine.settle.Goals as goal

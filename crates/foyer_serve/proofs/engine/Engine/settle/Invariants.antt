@@ -1,5 +1,5 @@
-use Rattle.foyer_run.specs.AtRest.{Leads}
-use Rattle.foyer_run.proofs.RestLemmas.{IsAny}
+use Rattle.foyer_core_run.specs.AtRest.{Leads}
+use Rattle.foyer_core_run.proofs.RestLemmas.{IsAny}
 use Rattle.foyer_serve.specs.Texts.{plain}
 use Rattle.foyer_serve.proofs.EngineLemmas.{Waited}
 use Rattle.foyer_serve.proofs.engine.Engine.settle.Given as goal

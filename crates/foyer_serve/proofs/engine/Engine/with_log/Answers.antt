@@ -1,6 +1,6 @@
 use Rattle.std.proofs.Common.{sym}
-use Rattle.foyer_recover.specs.Recovery.{marks_of}
-use Rattle.foyer_run.proofs.OpenedRuns.{begun}
+use Rattle.foyer_block_recover.specs.Recovery.{marks_of}
+use Rattle.foyer_core_run.proofs.OpenedRuns.{begun}
 use Rattle.foyer_serve.specs.Texts.{plain}
 use Rattle.foyer_serve.proofs.engine.Engine.with_log.Goals as goal
 

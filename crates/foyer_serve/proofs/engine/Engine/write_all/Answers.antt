@@ -1,7 +1,7 @@
 use Rattle.std.proofs.Common.{refl, ◌∙◌}
-use Rattle.foyer_run.specs.AtRest.{KeepsOthersIdle}
-use Rattle.foyer_run.proofs.RestLemmas.{leads_none}
-use Rattle.foyer_run.proofs.WaitingLemmas.{known_more, known_none}
+use Rattle.foyer_core_run.specs.AtRest.{KeepsOthersIdle}
+use Rattle.foyer_core_run.proofs.RestLemmas.{leads_none}
+use Rattle.foyer_core_run.proofs.WaitingLemmas.{known_more, known_none}
 use Rattle.foyer_serve.specs.Texts.{plain}
 use Rattle.foyer_serve.proofs.EngineLemmas.{others_more}
 use Rattle.foyer_serve.proofs.engine.Engine.write_all.Goals as goal

@@ -1,5 +1,5 @@
 use Rattle.std.proofs.Common.{◌≡◌}
-use Rattle.foyer_run.specs.AtRest.{KeepsOthersIdle, Leads}
+use Rattle.foyer_core_run.specs.AtRest.{KeepsOthersIdle, Leads}
 use Rattle.foyer_serve.specs.Texts.{plain}
 use Rattle.foyer_serve.proofs.EngineLemmas.{Waited}
 use Rattle.foyer_serve.proofs.engine.Engine.write_all.Given as goal

@@ -1,4 +1,4 @@
-use Rattle.foyer_run.proofs.WaitingLemmas.{known_more, known_wrote}
+use Rattle.foyer_core_run.proofs.WaitingLemmas.{known_more, known_wrote}
 use Rattle.foyer_serve.specs.Texts.{plain}
 use Rattle.foyer_serve.proofs.EngineLemmas.{written_alone, written_reclaimed}
 use Rattle.foyer_serve.proofs.engine.Engine.write_next.Goals as goal

@@ -1,5 +1,0 @@
-use Rattle.foyer_block.proofs.Greatest.{greatest_stays}
-use Rattle.foyer_block.proofs.indexer.greatest_sequence_stays.Goals as goal
-
-pub returns : goal.returns
-returns c = greatest_stays

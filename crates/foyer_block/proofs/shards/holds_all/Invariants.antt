@@ -1,7 +1,0 @@
-use Rattle.std.proofs.Common.{take}
-use Rattle.foyer_block.specs.Insertion.{AllHeld}
-use Rattle.foyer_block.specs.Shards.{map_of}
-use Rattle.foyer_block.proofs.shards.holds_all.Given as goal
-
-abbrev pub invariant-loop-entry : goal.invariant-loop-entry
-invariant-loop-entry g l = AllHeld (map_of l.shards) (take l.entry-index l.batch)

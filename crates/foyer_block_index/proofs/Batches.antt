@@ -1,0 +1,48 @@
+-- A batch: counted by shard, and inserted in order.
+use Rattle.std.proofs.Common.{◌≡◌, ◌≢◌, ℕ, ◌+◌, ◌<◌, ◌≤◌, ◌%◌, ◌==◌, Bool, true, false, cond, List, [], ◌∷◌, ◌++◌, length, take, drop, get_or, slice_set, slice_index, if◌then◌else◌, refl, sym, ap, ◌∙◌, arith}
+use Rattle.std.proofs.lemmas.List.{take_more, get_or-set_same, get_or-set_other}
+use Rattle.std.proofs.lemmas.List.Sums.{sum_by-cons, sum_by_push}
+use Rattle.std.proofs.lemmas.Bool.{eqb-true, eqb-false, eq-eqb}
+use Rattle.foyer_block_index.specs.declared.indexer.HashedEntryAddress.{HashedEntryAddress}
+use Rattle.foyer_block_index.specs.Index.{IndexMap, belonging}
+use Rattle.foyer_block_index.specs.Insertion.{inserted_all, all_left_out}
+
+belonging-push : (n i : ℕ) (es : List HashedEntryAddress) (e : HashedEntryAddress) → belonging n i (es ++ e ∷ []) ≡ belonging n i es + cond (e.hash % n == i) 1 0
+belonging-push n i es e = sum_by_push (λ e. cond (e.hash % n == i) 1 0) es e
+
+belonging-cons : (n i : ℕ) (e : HashedEntryAddress) (es : List HashedEntryAddress) → belonging n i (e ∷ es) ≡ cond (e.hash % n == i) 1 0 + belonging n i es
+belonging-cons n i e es = sum_by-cons (λ e. cond (e.hash % n == i) 1 0) e es
+
+-- a count is one more where the next entry belongs
+pub counted_more : (counts : List ℕ) (n p : ℕ) (es : List HashedEntryAddress) (i : ℕ) (d : HashedEntryAddress) → i < length es
+    → p ≡ (get_or es i d).hash % n → 0 < n → length counts ≡ n
+    → ((s : ℕ) → s < n → slice_index counts s ≡ belonging n s (take i es))
+    → (s : ℕ) → s < n → slice_index (slice_set counts p (slice_index counts p + 1)) s ≡ belonging n s (take (i + 1) es)
+counted_more counts n p es i d within place some len so_far s lt = go (s == p) refl ∙ sym (ap (belonging n s) (take_more es i d within) ∙ belonging-push n s (take i es) (get_or es i d))
+  where
+    fits : p < length counts
+    fits = omega (arith, place, some, len)
+
+    here : s ≡ p → ((get_or es i d).hash % n == s) ≡ true
+    here e = eq-eqb ((get_or es i d).hash % n) s (sym place ∙ sym e)
+
+    apart : s ≢ p → ((b : Bool) → ((get_or es i d).hash % n == s) ≡ b → b ≡ false)
+    apart ne true e = absurd (ne (sym (place ∙ eqb-true ((get_or es i d).hash % n) s e)))
+    apart ne false e = refl
+
+    go : (b : Bool) → (s == p) ≡ b → slice_index (slice_set counts p (slice_index counts p + 1)) s ≡ belonging n s (take i es) + cond ((get_or es i d).hash % n == s) 1 0
+    go true e =
+        let same : s ≡ p = eqb-true s p e in
+        let read : slice_index (slice_set counts p (slice_index counts p + 1)) s ≡ slice_index counts p + 1 =
+        ap (λ k. slice_index (slice_set counts p (slice_index counts p + 1)) k) same ∙ get_or-set_same counts p (slice_index counts p + 1) 0 fits in
+        read ∙ ap (λ k. slice_index counts k + 1) (sym same) ∙ ap (λ x. x + 1) (so_far s lt) ∙ ap (λ b. belonging n s (take i es) + cond b 1 0) (sym (here same))
+    go false e =
+        let ne : s ≢ p = eqb-false s p e in
+        let still : (if (get_or es i d).hash % n == s then 1 else 0) ≡ 0 = ap (λ b. cond b 1 0) (apart ne ((get_or es i d).hash % n == s) refl) in
+        get_or-set_other counts p s (slice_index counts p + 1) 0 ne ∙ so_far s lt ∙ sym (ap (λ x. belonging n s (take i es) + x) still ∙ omega arith)
+
+-- in the midst of a batch: the answers so far stand at its front, and the rest is still to be inserted
+pub record Midway (m : IndexMap) (batch : List HashedEntryAddress) (now : IndexMap) (left : List HashedEntryAddress) (answers i : ℕ) : Type 0 where
+  pub inserted : inserted_all now (drop i left) ≡ inserted_all m batch
+  pub answered : take answers left ++ all_left_out now (drop i left) ≡ all_left_out m batch
+  pub behind : answers ≤ i

@@ -1,0 +1,271 @@
+//! The index: what each hash has, an address on the device or the mark of a delete.
+ghost use Rattle.std.specs.Prelude.{◌≡◌, ◌<◌, ◌%◌, ◌↔◌, ℕ, List, length, MatchOption, IsTrue};
+ghost use Rattle.std.specs.Prelude.{IfOk, OnOk, OnErr, IsOk, IsSome, IsOkUnless};
+ghost use Rattle.std.specs.Bool.{OnTrue, OnFalse};
+ghost use Rattle.std.specs.FinMap as map;
+ghost use Rattle.foyer_block_index.specs.Insertion.{displaced, inserted, inserted_all, all_left_out, AllHeld};
+ghost use Rattle.foyer_block_index.specs.Committing.{committed_all, put_count, PiecesHeld};
+ghost use Rattle.foyer_block_index.specs.Probe.{HasPlace};
+ghost use Rattle.foyer_block_index.specs.Removal.{without_addresses, without_marks};
+ghost use Rattle.foyer_block_index.specs.Index.{address_at, HasRoomAt, HasRoomFor, KeepsIndex};
+ghost use Rattle.foyer_block_index.specs.Greatest.{IsAbsent, HoldsNewest};
+ghost use Rattle.foyer_block_index.specs.declared.indexer.HashedEntryAddress.{HashedEntryAddress};
+
+use crate::manager::BlockId;
+pub use crate::probe::{Probe, search};
+use crate::seats::Seat;
+use crate::shard::Shard;
+use crate::tombstone::Tombstone;
+use crate::{seats, shards};
+use foyer_device_page::error::{Error, Result};
+use std::alloc::Allocator;
+use std::marker::Model;
+
+/// The number of a put or a delete, in the order in which they were accepted.
+pub type Sequence = u64;
+
+/// Where a record stands: `len` bytes from byte `offset` of a block in its filling `filling`.
+#[derive(Clone, Copy, Debug, PartialEq, Eq)]
+pub struct EntryAddress {
+    pub block: BlockId,
+    pub offset: u32,
+    pub len: u32,
+    pub sequence: Sequence,
+    pub filling: u64,
+}
+
+/// An address with the hash that it is indexed under.
+#[derive(Clone, Copy, Debug)]
+pub struct HashedEntryAddress {
+    pub hash: u64,
+    pub address: EntryAddress,
+}
+
+/// What the index holds for a hash.
+#[derive(Clone, Copy, Debug, PartialEq, Eq)]
+pub enum Index {
+    /// The record of the newest put.
+    Address(EntryAddress),
+    /// The mark of a newer delete.
+    Tombstone(Sequence),
+}
+
+/// A map from hashes to what they have, and the room of each of its shards. Of all that is inserted for a hash the greatest
+/// sequence stays, the later among equals.
+#[derive(Drop)]
+pub struct Indexer<A: Allocator> {
+    shards: Vec<Shard<A>, A>,
+    // For each shard a count, of use while a batch enters alone.
+    counts: Vec<usize, A>,
+    // The seats of a batch, of use while its hashes get their places.
+    seats: Vec<Seat, A>,
+    // Of these the hashes of one shard that have no place yet.
+    news: Vec<u64, A>,
+}
+
+impl<A: Allocator> Model for Indexer<A> {
+    ghost use Rattle.std.specs.Prelude.{◌≡◌, ◌<◌, length, vec_capacity};
+    ghost use Rattle.foyer_block_index.specs.Index.{IndexState, index_state_code};
+    ghost use Rattle.foyer_block_index.specs.Shards.{state_of, AreFilled};
+
+    ghost Value = { IndexState };
+
+    ghost coded = { index_state_code };
+
+    ghost view = { λ a. state_of a.shards.items };
+
+    ghost invariant = { λ a. (0 < length a.shards.items)
+        × (length a.counts.items ≡ length a.shards.items)
+        × (0 < vec_capacity a.seats)
+        × (0 < vec_capacity a.news)
+        × AreFilled a.shards.items };
+}
+
+impl<A: Allocator + Clone> Indexer<A> {
+    /// An index of so many shards that has nothing. Memory is the only refusal.
+    pub fn new(alloc: A, shards: usize) -> Result<Indexer<A>>
+        requires { 0 < shards }
+        ensures empty { IfOk result (λ indexer. indexer.slots ≡ map.empty) }
+        ensures shards { IfOk result (λ indexer. length indexer.rooms ≡ shards) }
+        ensures refused { IsOkUnless result Error.Memory }
+    {
+        let counts = shards::zeros(alloc.clone()?, shards)?;
+        let seats = Vec::with_capacity(alloc.clone()?, 1)?;
+        let news = Vec::with_capacity(alloc.clone()?, 1)?;
+        let shards = shards::empty(alloc, shards)?;
+        Ok(Indexer {
+            shards,
+            counts,
+            seats,
+            news,
+        })
+    }
+
+    /// Inserts a mark, and answers the address that doesn't stay. Memory is the only refusal, and comes only where the
+    /// hash has nothing yet and its shard has no room.
+    pub fn insert_tombstone(
+        &mut self,
+        hash: u64,
+        sequence: Sequence,
+    ) -> Result<Option<EntryAddress>>
+        ensures inserted { OnOk result
+            (self.new.slots ≡ inserted self.old.slots hash (Index.Tombstone sequence)) }
+        ensures answer { IfOk result (λ answer.
+            answer ≡ displaced (map.get self.old.slots hash) (Index.Tombstone sequence)) }
+        ensures err { OnErr result (KeepsIndex self.old self.new) }
+        ensures refused { IsOkUnless result Error.Memory }
+        ensures held { IsSome (map.get self.old.slots hash) → IsOk result }
+        ensures room { HasRoomAt self.old.rooms hash → IsOk result }
+    {
+        shards::enter(&mut self.shards, hash, Index::Tombstone(sequence))
+    }
+
+    /// A look at the shard of that number, with no turns yet: it has the hashes of the index that belong there.
+    pub fn probe(&self, shard: usize) -> Probe<'_>
+        requires { shard < length self.now.rooms }
+        ensures hashes { (hash : ℕ) → HasPlace result.hashes hash
+            ↔ ((hash % length self.now.rooms ≡ shard) × IsSome (map.get self.now.slots hash)) }
+        ensures turns { result.turns ≡ 0 }
+    {
+        self.shards[shard].probe()
+    }
+
+    /// The address of a hash. A mark has none.
+    pub fn get(&self, hash: u64) -> Option<EntryAddress>
+        ensures { result ≡ address_at self.now.slots hash }
+    {
+        match shards::find(&self.shards, hash) {
+            Some(Index::Address(address)) => Some(address),
+            Some(Index::Tombstone(_)) => None,
+            None => None,
+        }
+    }
+
+    /// Inserts addresses in order, and answers those that don't stay, in that order and in the
+    /// batch's memory. Memory is the only refusal, and comes only where a hash of the batch has nothing yet and a shard
+    /// lacks room.
+    pub fn insert_batch(
+        &mut self,
+        batch: Vec<HashedEntryAddress, A>,
+    ) -> Result<Vec<HashedEntryAddress, A>>
+        ensures inserted { OnOk result (self.new.slots ≡ inserted_all self.old.slots batch.items) }
+        ensures answers { IfOk result
+            (λ answers. answers.items ≡ all_left_out self.old.slots batch.items) }
+        ensures err { OnErr result (KeepsIndex self.old self.new) }
+        ensures refused { IsOkUnless result Error.Memory }
+        ensures overwrites { AllHeld self.old.slots batch.items → IsOk result }
+        ensures room { HasRoomFor self.old.rooms batch.items → IsOk result }
+    {
+        let mut batch = batch;
+        shards::count(&mut self.counts, &batch);
+        match shards::reserve(&mut self.shards, &self.counts) {
+            Ok(()) => seats::seat_all(
+                &mut self.shards,
+                &mut self.seats,
+                &mut self.news,
+                &batch,
+                &[],
+            ),
+            Err(refused) => {
+                if !shards::holds_all(&self.shards, &batch) {
+                    return Err(refused);
+                }
+            }
+        }
+        let answers = shards::enter_all(&mut self.shards, &mut batch);
+        batch.truncate(answers);
+        Ok(batch)
+    }
+
+    /// The records of a block enter the index, in order, and it says how many are puts. One without a source is inserted, and
+    /// is a put; one with a source replaces that address where its hash has just it, and is a put then. Memory is the only
+    /// refusal, and comes only where a hash of a record without a source has nothing yet and a shard lacks room.
+    pub fn commit_batch(
+        &mut self,
+        batch: &[HashedEntryAddress],
+        sources: &[Option<EntryAddress>],
+    ) -> Result<usize>
+        requires { length sources.now ≡ length batch.now }
+        ensures committed { OnOk result
+            (self.new.slots ≡ committed_all self.old.slots batch.now sources.now) }
+        ensures puts { IfOk result (λ n. n ≡ put_count self.old.slots batch.now sources.now) }
+        ensures err { OnErr result (KeepsIndex self.old self.new) }
+        ensures refused { IsOkUnless result Error.Memory }
+        ensures overwrites { PiecesHeld self.old.slots batch.now sources.now → IsOk result }
+        ensures room { HasRoomFor self.old.rooms batch.now → IsOk result }
+    {
+        shards::count(&mut self.counts, batch);
+        match shards::reserve(&mut self.shards, &self.counts) {
+            Ok(()) => seats::seat_all(
+                &mut self.shards,
+                &mut self.seats,
+                &mut self.news,
+                batch,
+                sources,
+            ),
+            Err(refused) => {
+                if !shards::holds_pieces(&self.shards, batch, sources) {
+                    return Err(refused);
+                }
+            }
+        }
+        Ok(shards::commit_all(&mut self.shards, batch, sources))
+    }
+
+    /// Moves a hash from one address to another of the same sequence, where it has the first one.
+    /// Says whether it did.
+    pub fn replace(&mut self, hash: u64, old: &EntryAddress, new: EntryAddress) -> bool
+        requires { old.now.sequence ≡ new.sequence }
+        ensures answer { IsTrue result
+            ↔ (map.get self.old.slots hash ≡ Some (Index.Address old.now)) }
+        ensures replaced { OnTrue result
+            (self.new.slots ≡ map.insert self.old.slots hash (Index.Address new)) }
+        ensures unchanged { OnFalse result (self.new.slots ≡ self.old.slots) }
+    {
+        shards::replace(
+            &mut self.shards,
+            hash,
+            Index::Address(*old),
+            Index::Address(new),
+        )
+    }
+
+    /// Removes a hash where it has that very address. Says whether it did.
+    pub fn remove(&mut self, hash: u64, address: &EntryAddress) -> bool
+        ensures answer { IsTrue result
+            ↔ (map.get self.old.slots hash ≡ Some (Index.Address address.now)) }
+        ensures removed { OnTrue result (self.new.slots ≡ map.remove self.old.slots hash) }
+        ensures unchanged { OnFalse result (self.new.slots ≡ self.old.slots) }
+    {
+        shards::remove(&mut self.shards, hash, Index::Address(*address))
+    }
+
+    /// Removes each hash of the list that has that very address.
+    pub fn remove_batch(&mut self, addresses: &[HashedEntryAddress])
+        ensures { self.new.slots ≡ without_addresses self.old.slots addresses.now }
+    {
+        shards::remove_addresses(&mut self.shards, &mut self.counts, addresses);
+    }
+
+    /// Removes each hash of the list that has a mark of that very sequence.
+    pub fn remove_marks(&mut self, marks: &[Tombstone])
+        ensures { self.new.slots ≡ without_marks self.old.slots marks.now }
+    {
+        shards::remove_marks(&mut self.shards, &mut self.counts, marks);
+    }
+
+    /// Removes everything.
+    pub fn clear(&mut self)
+        ensures { self.new.slots ≡ map.empty }
+    {
+        shards::clear(&mut self.shards);
+    }
+}
+
+/// After any insertions of addresses into an empty index a hash has the newest of its own: none of
+/// them has a greater sequence, and none behind it an equal one.
+pub fn greatest_sequence_stays()
+    ensures { (entries : List HashedEntryAddress) (hash : ℕ)
+        → MatchOption (map.get (inserted_all map.empty entries) hash)
+        (IsAbsent entries hash) (HoldsNewest entries hash) }
+{}

@@ -1,0 +1,378 @@
+//! The shards of the index: a hash lies in the shard of its number modulo the count of shards.
+ghost use Rattle.std.specs.Prelude.{◌≡◌, ◌<◌, ◌≤◌, ◌+◌, ◌%◌, ◌↔◌, ℕ, None, [], length, take, slice_index};
+ghost use Rattle.std.specs.Prelude.{EachIndex, IfOk, OnOk, OnErr, IsOk, IsSome, IsOkUnless, IsTrue, MatchOption, is_some, true};
+ghost use Rattle.std.specs.Bool.{OnTrue, OnFalse};
+ghost use Rattle.std.specs.FinMap as map;
+ghost use Rattle.foyer_block_index.specs.Index.{belonging};
+ghost use Rattle.foyer_block_index.specs.Insertion.{displaced, inserted};
+ghost use Rattle.foyer_block_index.specs.Insertion.{inserted_all, all_left_out, AllHeld};
+ghost use Rattle.foyer_block_index.specs.Committing.{is_put, committed_one, committed_all, put_count, PiecesHeld};
+ghost use Rattle.foyer_block_index.specs.Removal.{without_addresses, without_marks};
+ghost use Rattle.foyer_block_index.specs.Shards.{map_of, Seated, PiecesSeated, Placed, AddsNoPlace, AddsPlaceOf, AreFilled, AreFilledBut};
+ghost use Rattle.foyer_block_index.specs.Shards.{room, TakesOnePlace};
+
+use crate::indexer::{EntryAddress, HashedEntryAddress, Index};
+use crate::shard::Shard;
+use crate::tombstone::Tombstone;
+use foyer_device_page::error::{Error, Result};
+use std::alloc::Allocator;
+
+// A number for each shard.
+pub(crate) fn zeros<A: Allocator>(alloc: A, shards: usize) -> Result<Vec<usize, A>>
+    ensures ok { IfOk result (λ counts. length counts.items ≡ shards) }
+    ensures refused { IsOkUnless result Error.Memory }
+{
+    Ok(vec![in alloc; 0; shards]?)
+}
+
+pub(crate) fn empty<A: Allocator + Clone>(alloc: A, shards: usize) -> Result<Vec<Shard<A>, A>>
+    ensures len { IfOk result (λ made. length made.items ≡ shards) }
+    ensures empty { IfOk result (λ made. map_of made.items ≡ map.empty) }
+    ensures filled { IfOk result (λ made. AreFilled made.items) }
+    ensures refused { IsOkUnless result Error.Memory }
+{
+    let mut made = Vec::with_capacity(alloc.clone()?, shards)?;
+    for _ in 0..shards {
+        made.push(Shard::new(alloc.clone()?))?;
+    }
+    Ok(made)
+}
+
+pub(crate) fn find<A: Allocator>(shards: &[Shard<A>], hash: u64) -> Option<Index>
+    requires { 0 < length shards.now }
+    ensures { result ≡ map.get (map_of shards.now) hash }
+{
+    shards[(hash % shards.len() as u64) as usize].get(hash)
+}
+
+// An insertion.
+pub(crate) fn enter<A: Allocator + Clone>(
+    shards: &mut Vec<Shard<A>, A>,
+    hash: u64,
+    next: Index,
+) -> Result<Option<EntryAddress>>
+    requires { 0 < length shards.old.items }
+    ensures inserted { OnOk result
+        (map_of shards.new.items ≡ inserted (map_of shards.old.items) hash next) }
+    ensures answer { IfOk result
+        (λ answer. answer ≡ displaced (map.get (map_of shards.old.items) hash) next) }
+    ensures err { OnErr result (map_of shards.new.items ≡ map_of shards.old.items) }
+    ensures len { length shards.new.items ≡ length shards.old.items }
+    ensures refused { IsOkUnless result Error.Memory }
+    ensures succeeds { 0 < room shards.old.items (hash % length shards.old.items) → IsOk result }
+    ensures held { IsSome (map.get (map_of shards.old.items) hash) → IsOk result }
+    ensures seated { Seated shards.old.items hash → IsOk result }
+    ensures kept { (other : ℕ) → Seated shards.old.items other → Seated shards.new.items other }
+    ensures places { AddsPlaceOf shards.old.items shards.new.items hash (IsOk result) }
+    ensures room { TakesOnePlace shards.old.items shards.new.items hash }
+{
+    let place = (hash % shards.len() as u64) as usize;
+    shards[place].enter(hash, next)
+}
+
+// Leaves the place of the hash vacant where it has just that, and says whether it did.
+fn vacate<A: Allocator>(shards: &mut Vec<Shard<A>, A>, hash: u64, held: Index) -> bool
+    requires { 0 < length shards.old.items }
+    ensures answer { IsTrue result ↔ (map.get (map_of shards.old.items) hash ≡ Some held) }
+    ensures removed { OnTrue result
+        (map_of shards.new.items ≡ map.remove (map_of shards.old.items) hash) }
+    ensures unchanged { OnFalse result (map_of shards.new.items ≡ map_of shards.old.items) }
+    ensures len { length shards.new.items ≡ length shards.old.items }
+    ensures places { AddsNoPlace shards.old.items shards.new.items }
+{
+    let place = (hash % shards.len() as u64) as usize;
+    shards[place].vacate(hash, held)
+}
+
+// Takes the vacant places of the shard at a place away.
+fn sweep<A: Allocator>(shards: &mut Vec<Shard<A>, A>, place: usize)
+    requires { place < length shards.old.items }
+    ensures same { map_of shards.new.items ≡ map_of shards.old.items }
+    ensures len { length shards.new.items ≡ length shards.old.items }
+    ensures places { AddsNoPlace shards.old.items shards.new.items }
+    ensures filled { (hash : ℕ) → Placed shards.new.items place hash → hash % length shards.old.items ≡ place
+        → IsSome (map.get (map_of shards.new.items) hash) }
+{
+    shards[place].sweep();
+}
+
+// Takes the vacant places of the shards away whose count isn't 0.
+fn sweep_counted<A: Allocator>(shards: &mut Vec<Shard<A>, A>, counts: &[usize])
+    requires { length counts.now ≡ length shards.old.items }
+    ensures same { map_of shards.new.items ≡ map_of shards.old.items }
+    ensures len { length shards.new.items ≡ length shards.old.items }
+    ensures places { AddsNoPlace shards.old.items shards.new.items }
+    ensures filled { (i : ℕ) (hash : ℕ) → 0 < slice_index counts.now i → Placed shards.new.items i hash
+        → hash % length shards.new.items ≡ i → IsSome (map.get (map_of shards.new.items) hash) }
+{
+    for (place, count) in counts.iter().enumerate() {
+        if *count > 0 {
+            sweep(shards, place);
+        }
+    }
+}
+
+// Removes the hash where it has just that, and says whether it did.
+pub(crate) fn remove<A: Allocator>(shards: &mut Vec<Shard<A>, A>, hash: u64, held: Index) -> bool
+    requires { 0 < length shards.old.items }
+    ensures answer { IsTrue result ↔ (map.get (map_of shards.old.items) hash ≡ Some held) }
+    ensures removed { OnTrue result
+        (map_of shards.new.items ≡ map.remove (map_of shards.old.items) hash) }
+    ensures unchanged { OnFalse result (map_of shards.new.items ≡ map_of shards.old.items) }
+    ensures len { length shards.new.items ≡ length shards.old.items }
+    ensures filled { AreFilled shards.old.items → AreFilled shards.new.items }
+{
+    let is_held = vacate(shards, hash, held);
+    if is_held {
+        let place = (hash % shards.len() as u64) as usize;
+        sweep(shards, place);
+    }
+    is_held
+}
+
+// Removes each hash of the list that has that very address.
+pub(crate) fn remove_addresses<A: Allocator>(
+    shards: &mut Vec<Shard<A>, A>,
+    counts: &mut [usize],
+    addresses: &[HashedEntryAddress],
+)
+    requires some { 0 < length shards.old.items }
+    requires counts { length counts.old ≡ length shards.old.items }
+    ensures removed { map_of shards.new.items
+        ≡ without_addresses (map_of shards.old.items) addresses.now }
+    ensures len { length shards.new.items ≡ length shards.old.items }
+    ensures filled { AreFilled shards.old.items → AreFilled shards.new.items }
+{
+    if addresses.is_empty() {
+        return;
+    }
+    clear_counts(counts);
+    for entry in addresses {
+        if vacate(shards, entry.hash, Index::Address(entry.address)) {
+            let place = (entry.hash % counts.len() as u64) as usize;
+            counts[place] = 1;
+        }
+    }
+    sweep_counted(shards, counts);
+}
+
+// Removes each hash of the list that has a mark of that very sequence.
+pub(crate) fn remove_marks<A: Allocator>(
+    shards: &mut Vec<Shard<A>, A>,
+    counts: &mut [usize],
+    marks: &[Tombstone],
+)
+    requires some { 0 < length shards.old.items }
+    requires counts { length counts.old ≡ length shards.old.items }
+    ensures removed { map_of shards.new.items ≡ without_marks (map_of shards.old.items) marks.now }
+    ensures len { length shards.new.items ≡ length shards.old.items }
+    ensures filled { AreFilled shards.old.items → AreFilled shards.new.items }
+{
+    if marks.is_empty() {
+        return;
+    }
+    clear_counts(counts);
+    for mark in marks {
+        if vacate(shards, mark.hash, Index::Tombstone(mark.sequence)) {
+            let place = (mark.hash % counts.len() as u64) as usize;
+            counts[place] = 1;
+        }
+    }
+    sweep_counted(shards, counts);
+}
+
+// Writes over what the hash has where that is `old`, and says whether it did.
+pub(crate) fn replace<A: Allocator>(
+    shards: &mut Vec<Shard<A>, A>,
+    hash: u64,
+    old: Index,
+    new: Index,
+) -> bool
+    requires { 0 < length shards.old.items }
+    ensures answer { IsTrue result ↔ (map.get (map_of shards.old.items) hash ≡ Some old) }
+    ensures replaced { OnTrue result
+        (map_of shards.new.items ≡ map.insert (map_of shards.old.items) hash new) }
+    ensures unchanged { OnFalse result (map_of shards.new.items ≡ map_of shards.old.items) }
+    ensures len { length shards.new.items ≡ length shards.old.items }
+    ensures places { AddsNoPlace shards.old.items shards.new.items }
+    ensures kept { (other : ℕ) → Seated shards.old.items other → Seated shards.new.items other }
+{
+    let place = (hash % shards.len() as u64) as usize;
+    shards[place].replace(hash, old, new)
+}
+
+pub(crate) fn clear<A: Allocator>(shards: &mut [Shard<A>])
+    ensures empty { map_of shards.new ≡ map.empty }
+    ensures filled { AreFilled shards.new }
+{
+    for shard in shards.iter_mut() {
+        shard.clear();
+    }
+}
+
+fn clear_counts(counts: &mut [usize])
+    ensures { EachIndex counts.new (λ i. slice_index counts.new i ≡ 0) }
+{
+    for count in counts.iter_mut() {
+        *count = 0;
+    }
+}
+
+// Counts for each shard the entries of a batch that belong there.
+pub(crate) fn count(counts: &mut [usize], batch: &[HashedEntryAddress])
+    requires { 0 < length counts.old }
+    ensures { EachIndex counts.new (λ i.
+        slice_index counts.new i ≡ belonging (length counts.old) i batch.now) }
+{
+    clear_counts(counts);
+    for entry in batch {
+        let place = (entry.hash % counts.len() as u64) as usize;
+        counts[place] += 1;
+    }
+}
+
+// Makes room in each shard for as many entries as its count says. It succeeds where each has it already.
+pub(crate) fn reserve<A: Allocator + Clone>(
+    shards: &mut Vec<Shard<A>, A>,
+    counts: &[usize],
+) -> Result<()>
+    requires { length counts.now ≡ length shards.old.items }
+    ensures room { OnOk result (EachIndex counts.now (λ i.
+        slice_index counts.now i ≤ room shards.new.items i)) }
+    ensures fits { EachIndex counts.now (λ i. slice_index counts.now i ≤ room shards.old.items i) → IsOk result }
+    ensures kept { (i : ℕ) → room shards.old.items i ≤ room shards.new.items i }
+    ensures unchanged { map_of shards.new.items ≡ map_of shards.old.items }
+    ensures len { length shards.new.items ≡ length shards.old.items }
+    ensures places { AddsNoPlace shards.old.items shards.new.items }
+    ensures refused { IsOkUnless result Error.Memory }
+{
+    for (place, count) in counts.iter().enumerate() {
+        shards[place].reserve(*count)?;
+    }
+    Ok(())
+}
+
+// Whether each hash of a batch has something.
+pub(crate) fn holds_all<A: Allocator>(shards: &[Shard<A>], batch: &[HashedEntryAddress]) -> bool
+    requires { 0 < length shards.now }
+    ensures { IsTrue result ↔ AllHeld (map_of shards.now) batch.now }
+{
+    for entry in batch {
+        if find(shards, entry.hash).is_none() {
+            return false;
+        }
+    }
+    true
+}
+
+// Inserts a batch in order, whose hashes have their places. The addresses that don't stay are moved to its front, and counted.
+pub(crate) fn enter_all<A: Allocator + Clone>(
+    shards: &mut Vec<Shard<A>, A>,
+    batch: &mut [HashedEntryAddress],
+) -> usize
+    requires some { 0 < length shards.old.items }
+    requires seated { PiecesSeated shards.old.items batch.old [] }
+    requires filled { AreFilledBut shards.old.items batch.old [] 0 }
+    ensures inserted { map_of shards.new.items ≡ inserted_all (map_of shards.old.items) batch.old }
+    ensures answers { take result batch.new ≡ all_left_out (map_of shards.old.items) batch.old }
+    ensures len { length shards.new.items ≡ length shards.old.items }
+    ensures filled { AreFilled shards.new.items }
+{
+    let mut answers = 0;
+    for i in 0..batch.len() {
+        let HashedEntryAddress { hash, address } = batch[i];
+        let entered: Result<_> = enter(shards, hash, Index::Address(address));
+        if let Some(address) = entered.unwrap() {
+            batch[answers] = HashedEntryAddress { hash, address };
+            answers += 1;
+        }
+    }
+    answers
+}
+
+// Whether the hash of a record has something, or the record a source.
+fn holds_piece<A: Allocator>(
+    shards: &[Shard<A>],
+    record: &HashedEntryAddress,
+    source: Option<EntryAddress>,
+) -> bool
+    requires { 0 < length shards.now }
+    ensures { MatchOption source (result ≡ is_some (map.get (map_of shards.now) record.now.hash)) (λ _. result ≡ true) }
+{
+    match source {
+        None => find(shards, record.hash).is_some(),
+        Some(_) => true,
+    }
+}
+
+// Whether each hash of a batch's records without a source has something.
+pub(crate) fn holds_pieces<A: Allocator>(
+    shards: &[Shard<A>],
+    batch: &[HashedEntryAddress],
+    sources: &[Option<EntryAddress>],
+) -> bool
+    requires some { 0 < length shards.now }
+    requires all { length sources.now ≡ length batch.now }
+    ensures { IsTrue result ↔ PiecesHeld (map_of shards.now) batch.now sources.now }
+{
+    'each_record: for i in 0..batch.len() {
+        if !holds_piece(shards, &batch[i], sources[i]) {
+            return false;
+        }
+    }
+    true
+}
+
+// A record enters the index, whose hash has its place if it has no source. Whether it is a put.
+fn commit_one<A: Allocator + Clone>(
+    shards: &mut Vec<Shard<A>, A>,
+    record: &HashedEntryAddress,
+    source: Option<EntryAddress>,
+) -> bool
+    requires some { 0 < length shards.old.items }
+    requires seated { source ≡ None → Seated shards.old.items record.now.hash }
+    ensures committed { map_of shards.new.items ≡ committed_one (map_of shards.old.items) record.now source }
+    ensures put { result ≡ is_put (map.get (map_of shards.old.items) record.now.hash) source }
+    ensures len { length shards.new.items ≡ length shards.old.items }
+    ensures places { AddsPlaceOf shards.old.items shards.new.items record.now.hash (source ≡ None) }
+    ensures kept { (other : ℕ) → Seated shards.old.items other → Seated shards.new.items other }
+{
+    match source {
+        None => {
+            let entered: Result<_> = enter(shards, record.hash, Index::Address(record.address));
+            let _ = entered.unwrap();
+            true
+        }
+        Some(over) => replace(
+            shards,
+            record.hash,
+            Index::Address(over),
+            Index::Address(record.address),
+        ),
+    }
+}
+
+// The records of a batch enter the index in order, where the hashes of those without a source have their places. How many are
+// puts.
+pub(crate) fn commit_all<A: Allocator + Clone>(
+    shards: &mut Vec<Shard<A>, A>,
+    batch: &[HashedEntryAddress],
+    sources: &[Option<EntryAddress>],
+) -> usize
+    requires some { 0 < length shards.old.items }
+    requires all { length sources.now ≡ length batch.now }
+    requires seated { PiecesSeated shards.old.items batch.now sources.now }
+    requires filled { AreFilledBut shards.old.items batch.now sources.now 0 }
+    ensures committed { map_of shards.new.items ≡ committed_all (map_of shards.old.items) batch.now sources.now }
+    ensures puts { result ≡ put_count (map_of shards.old.items) batch.now sources.now }
+    ensures len { length shards.new.items ≡ length shards.old.items }
+    ensures filled { AreFilled shards.new.items }
+{
+    let mut puts = 0usize;
+    'each_record: for i in 0..batch.len() {
+        if commit_one(shards, &batch[i], sources[i]) {
+            puts += 1;
+        }
+    }
+    puts
+}

@@ -1,5 +1,0 @@
-use Rattle.foyer_buffer.proofs.HoldsLemmas.{holds_fresh}
-use Rattle.foyer_buffer.proofs.laws.fresh_holds.Goals as goal
-
-pub returns : goal.returns
-returns c = holds_fresh

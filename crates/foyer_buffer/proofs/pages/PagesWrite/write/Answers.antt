@@ -1,9 +1,0 @@
-use Rattle.std.proofs.Common.{arith}
-use Rattle.std.proofs.lemmas.Grind.{common_steps}
-use Rattle.foyer_buffer.proofs.pages.PagesWrite.write.Goals as goal
-
-pub invariant_of-self : goal.invariant_of-self
-invariant_of-self g c = grind (arith, common_steps)
-
-pub returns-clause-bytes : goal.returns-clause-bytes
-returns-clause-bytes g c = grind (arith, common_steps)

@@ -1,7 +1,0 @@
-use Rattle.std.proofs.Common.{refl}
-use Rattle.foyer_buffer.proofs.SplitLemmas.{begins_blob}
-use Rattle.foyer_buffer.proofs.splitting.Splitting.next_blob.Goals as goal
-
-pub returns-clause-going : goal.returns-clause-going
-returns-clause-going g c = λ s f all rest o.
-    begins_blob s f all rest c.args.self.now _ c.requires.full refl refl refl refl refl refl refl c.reset.ensures.empty c.requires.size refl o

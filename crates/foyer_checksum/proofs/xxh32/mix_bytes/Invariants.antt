@@ -1,6 +1,0 @@
-use Rattle.std.proofs.Common.{◌≡◌, drop}
-use Rattle.foyer_checksum.specs.Xxh32.{mix_bytes}
-use Rattle.foyer_checksum.proofs.xxh32.mix_bytes.Given as goal
-
-abbrev pub invariant-loop-byte : goal.invariant-loop-byte
-invariant-loop-byte l = mix_bytes l.h (drop l.byte-index l.bytes) ≡ mix_bytes l.fn.h l.bytes

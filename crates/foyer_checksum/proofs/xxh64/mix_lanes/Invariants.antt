@@ -1,6 +1,0 @@
-use Rattle.std.proofs.Common.{◌≡◌}
-use Rattle.foyer_checksum.specs.Xxh64.{mix_lanes}
-use Rattle.foyer_checksum.proofs.xxh64.mix_lanes.Given as goal
-
-abbrev pub invariant-lanes : goal.invariant-lanes
-invariant-lanes l = l.h ≡ mix_lanes l.fn.h l.bytes l.i

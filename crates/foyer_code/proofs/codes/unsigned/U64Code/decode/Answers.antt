@@ -1,9 +1,0 @@
--- The bytes are those of the number that was read.
-use Rattle.std.proofs.Common.{rules}
-use Rattle.std.specs.Int.{w64}
-use Rattle.foyer_code.specs.CodeLaws.{number_found}
-use Rattle.foyer_code.proofs.codes.unsigned.U64Code.decode.Goals as goal
-
-pub returns-clause-found : goal.returns-clause-found
-returns-clause-found g c =
-    number_found w64 c.args.bytes.now c.from_le_bytes.result (search rules) (λ i. search rules) (search rules) (search rules)

@@ -1,5 +1,0 @@
-use Rattle.std.proofs.Common.{rules}
-use Rattle.foyer_code.proofs.sinks.TrackedWriterWrite.write.Goals as goal
-
-pub returns-clause-written : goal.returns-clause-written
-returns-clause-written g c = search rules depth 1

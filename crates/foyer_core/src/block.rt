@@ -1,5 +1,0 @@
-//! Flushers, the blocks that they fill, and the reclaims of these.
-
-pub mod reclaimer;
-
-pub use foyer_flusher::flusher;

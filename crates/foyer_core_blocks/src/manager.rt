@@ -1,0 +1,57 @@
+//! What flushers do to the blocks of a core.
+ghost use Rattle.std.specs.Prelude.{◌≡◌, ℕ, map, None, Some};
+ghost use Rattle.foyer_core_model.specs.Flush.{released, all_invalidated};
+ghost use Rattle.foyer_core_model.specs.State as model_state;
+ghost use Rattle.foyer_block_manager.specs.BlockSets.{BlockSets, Stands, HasSameRules};
+ghost use Rattle.foyer_block_manager.specs.Managed.{filling_in};
+ghost use Rattle.foyer_block_manager.specs.Shown.{AreShownAll, written_of};
+ghost use Rattle.foyer_core_blocks.specs.Addresses.{invalid_of};
+
+use foyer_block_index::tombstone::InvalidStats;
+use foyer_block_manager::block::eviction::EvictionPicker;
+use foyer_block_manager::block::manager::{BlockId, BlockManager};
+use std::alloc::Allocator;
+
+// How often a block was handed out or destroyed; of one that isn't there the greatest number, so that no address of it
+// is of the present.
+pub fn filling_of<A: Allocator>(manager: &BlockManager<A>, block: BlockId) -> u64
+    ensures { result ≡ filling_in manager.now.blocks block }
+{
+    match manager.known(block) {
+        Some(state) => state.filling,
+        None => u64::MAX,
+    }
+}
+
+// A flusher leaves its block, which may be reclaimed from now on; the pickers are shown it.
+pub fn release<P: EvictionPicker, A: Allocator>(
+    own: &mut Option<BlockId>,
+    manager: &mut BlockManager<A>,
+    pickers: &mut [P],
+)
+    ensures left { own.new ≡ None }
+    ensures same { HasSameRules manager.old manager.new }
+    ensures released { (s : BlockSets) (f : ℕ) → Stands manager.old s
+        → ((b : ℕ) → own.old ≡ Some b → s.block_set b ≡ model_state.Writes f)
+        → Stands manager.new (record s { block_set = released own.old s.block_set }) }
+    ensures shown { AreShownAll P.learns (written_of manager.old.blocks own.old) pickers.old pickers.new }
+{
+    let Some(block) = own.take() else {
+        return;
+    };
+    if !manager.is_written(block) {
+        return;
+    }
+    manager.on_writing_finish(pickers, block);
+}
+
+// These bytes of these blocks became invalid.
+pub fn invalidate_all<A: Allocator>(manager: &mut BlockManager<A>, invalid: &[InvalidStats])
+    ensures same { HasSameRules manager.old manager.new }
+    ensures invalidated { (s : BlockSets) → Stands manager.old s
+        → Stands manager.new (record s { stats = all_invalidated (map invalid_of invalid.now) s.stats }) }
+{
+    'each_stats: for stats in invalid {
+        manager.invalidate(stats.block, stats.size);
+    }
+}

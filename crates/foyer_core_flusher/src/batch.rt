@@ -1,0 +1,144 @@
+//! A flusher's batch, its writes, and what a flusher answers of them.
+ghost use Rattle.std.specs.Prelude.{◌≡◌, [], Option, None, Some, true, false, length, MatchOption};
+ghost use Rattle.foyer_core_flusher.specs.Issuing.{written_bytes};
+ghost use Rattle.foyer_core_flusher.specs.Offsets.{BlockFits, blocks_fit_once};
+ghost use Rattle.foyer_format_layout.specs.Each.{Each};
+
+use foyer_block_index::indexer::{EntryAddress, HashedEntryAddress};
+use foyer_block_index::manager::BlockId;
+use foyer_block_index::tombstone::{InvalidStats, Tombstone};
+use foyer_device_page::io::bytes::{IoSlice, IoSliceMut};
+use foyer_format_buffer::Block;
+use foyer_policy_piece::keeper::Piece;
+use std::alloc::Allocator;
+use std::collections::VecDeque;
+
+/// The bytes of a write: records, which share the pages of their batch, or the index of a blob.
+#[derive(Drop)]
+pub enum WriteBytes<A: Allocator> {
+    Data(IoSlice<A>),
+    Index(IoSliceMut<A>),
+}
+
+impl<A: Allocator> WriteBytes<A> {
+    /// The bytes, whole pages.
+    pub fn as_slice(&self) -> &[u8]
+        ensures { result.now ≡ written_bytes self.now }
+    {
+        match self {
+            WriteBytes::Data(bytes) => bytes.as_slice(),
+            WriteBytes::Index(bytes) => bytes.as_slice(),
+        }
+    }
+}
+
+/// A write that a reply issues: these bytes, whole pages, at this offset of the block.
+#[derive(Drop)]
+pub struct Write<A: Allocator> {
+    /// In bytes from the block's start.
+    pub offset: usize,
+    pub bytes: WriteBytes<A>,
+}
+
+/// The block that a batch is writing.
+#[derive(Drop)]
+pub struct Writing<A: Allocator> {
+    pub block: BlockId,
+    /// How many issued writes have not been reported.
+    pub left: usize,
+    /// The records, each by its offset in the block.
+    pub records: Vec<HashedEntryAddress, A>,
+    /// Of each the address that it was read from, if it was.
+    pub sources: Vec<Option<EntryAddress>, A>,
+    ghost paired: { length sources.items ≡ length records.items },
+}
+
+/// What a flusher is writing.
+#[derive(Drop)]
+pub struct Batch<K, V, P, A: Allocator> {
+    /// The blocks that are not yet issued, in order.
+    pub blocks: Vec<Block<A>, A>,
+    /// The pages of all records, to be filled again once they are written.
+    pub pages: IoSlice<A>,
+    /// Of the records of these blocks, in order, the address that each was read from, if it was.
+    pub sources: VecDeque<Option<EntryAddress>, A>,
+    /// Whether the first of the blocks is the flusher's own.
+    pub continues_own_block: bool,
+    pub writing: Option<Writing<A>>,
+    pub marks: Vec<Tombstone, A>,
+    pub invalid: Vec<InvalidStats, A>,
+    pub pieces: Vec<Piece<K, V, P, A>, A>,
+    pub waits: Vec<u64, A>,
+    /// Whether the log of deletes took the marks, once it has answered.
+    pub logged: Option<bool>,
+    ghost fits: { Each BlockFits blocks.items } by { blocks_fit_once blocks.items },
+}
+
+/// The next block of a batch.
+#[derive(Drop)]
+pub enum Next<A: Allocator> {
+    /// None is clean.
+    NoBlock,
+    /// This one, with its writes.
+    Block(BlockId, Vec<Write<A>, A>),
+}
+
+/// What a write's result led to.
+#[derive(Clone, Copy, Debug, PartialEq, Eq)]
+pub enum Wrote {
+    /// The block has another write.
+    Next,
+    /// The block's records entered the index: so many are puts.
+    Committed(usize),
+    /// The batch failed.
+    Failed,
+}
+
+/// What a batch gives back.
+#[derive(Drop)]
+pub struct Ended<K, V, P, A: Allocator> {
+    pub pieces: Vec<Piece<K, V, P, A>, A>,
+    pub waits: Vec<u64, A>,
+}
+
+impl<K, V, P, A: Allocator> Batch<K, V, P, A> {
+    // The flusher's own block, if the next block of the batch is that.
+    pub(crate) fn goes_on_with(&self, own: Option<BlockId>) -> Option<BlockId>
+        ensures { MatchOption result (self.now.continues_own_block ≡ true → own ≡ None)
+            (λ b. (self.now.continues_own_block ≡ true) × (own ≡ Some b)) }
+    {
+        if self.continues_own_block { own } else { None }
+    }
+
+    // The block that is being written.
+    pub(crate) fn take_writing(&mut self) -> Option<Writing<A>>
+        ensures taken { result ≡ self.old.writing }
+        ensures idle { self.new.writing ≡ None }
+        ensures rest { self.new ≡ record self.old { writing = None } }
+    {
+        self.writing.take()
+    }
+
+    // This block is being written.
+    pub(crate) fn put_writing(&mut self, writing: Writing<A>)
+        requires { self.old.writing ≡ None }
+        ensures put { self.new.writing ≡ Some writing }
+        ensures rest { self.new ≡ record self.old { writing = Some writing } }
+    {
+        match self.writing.replace(writing) {
+            None => {}
+            Some(_) => unreachable!(),
+        }
+    }
+
+    // What isn't issued yet will not be written.
+    pub(crate) fn drop_rest(&mut self)
+        ensures none { self.new.blocks.items ≡ [] }
+        ensures no_sources { self.new.sources.items ≡ [] }
+        ensures rest { self.new ≡ record self.old { blocks = self.new.blocks; sources = self.new.sources; continues_own_block = false; fits = self.new.fits } }
+    {
+        self.blocks.clear();
+        self.sources.clear();
+        self.continues_own_block = false;
+    }
+}

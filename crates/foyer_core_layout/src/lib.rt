@@ -1,0 +1,36 @@
+//! The splitter's placing as the plain machine sees it: a way of placing, what it keeps, and that a split batch is one.
+#![tactic(auto)]
+
+ghost use Rattle.foyer_core_layout.specs.Laws.{KeepsAll, PlacesEach, GoesOn, BatchIsLaidOut, FitsAgree, AllWithin};
+
+use std::alloc::Allocator;
+
+/// After its writes, over any bytes, each record stands where it was placed, and no later write falls into its pages.
+pub fn keeps_records<C>()
+    ensures { KeepsAll C }
+{}
+
+/// Records that fit into a block can be placed from wherever a batch may begin.
+pub fn places_all<C>()
+    ensures { PlacesEach C }
+{}
+
+/// A placing leaves a filling from which another may go on.
+pub fn goes_on<C>()
+    ensures { GoesOn C }
+{}
+
+/// A buffer's batch that was split is a placing of the buffer's records, block by block and part by part.
+pub fn batch_is_laid_out<C, A: Allocator>()
+    ensures { BatchIsLaidOut C A }
+{}
+
+/// A record fits into the buffer just where the plain machine says so.
+pub fn fits_agree<C>()
+    ensures { FitsAgree C }
+{}
+
+/// What goes into a block lies within it.
+pub fn all_within<C>()
+    ensures { AllWithin C }
+{}

@@ -1,0 +1,6 @@
+use Rattle.std.proofs.Common.{◌≡◌, true}
+use Rattle.foyer_core_model.proofs.Widths.{widths_stay_lem}
+use Rattle.foyer_core_model.proofs.widths_stay.Goals as goal
+
+pub returns : goal.returns
+returns g c = λ rules splits is_value. widths_stay_lem rules (λ f rs ss. splits f rs ss ≡ true) (λ v. is_value v ≡ true)

@@ -1,0 +1,16 @@
+use Rattle.std.proofs.Common.{◌≡◌}
+use Rattle.foyer_core_laws.specs.Content.{meaning}
+use Rattle.foyer_core_run.specs.AtRest.{KeepsOthers, Leads}
+use Rattle.foyer_core_run.proofs.AccessLemmas.{AreWritten}
+use Rattle.foyer_core_run.proofs.accesses.write_block.Given as goal
+
+abbrev pub invariant-writes : goal.invariant-writes
+invariant-writes g l = record {
+  known : g.D.Disk.is_known l.fn.disk → g.D.Disk.is_known l.disk;
+  written : g.D.Disk.is_known l.fn.disk
+      → AreWritten (meaning g.K.Code.encoding g.V.Code.encoding g.K.Code.is_encodable g.V.Code.is_encodable g.K.Code.is_decodable g.V.Code.is_decodable g.P.Properties.age)
+      l.flusher l.block l.write-index l.write-items l.fn.core l.core (g.D.Disk.byte_at l.fn.disk) (g.D.Disk.byte_at l.disk);
+  leads : Leads (meaning g.K.Code.encoding g.V.Code.encoding g.K.Code.is_encodable g.V.Code.is_encodable g.K.Code.is_decodable g.V.Code.is_decodable g.P.Properties.age)
+      (KeepsOthers l.flusher) l.fn.core l.core;
+  lent : (l.env.reinsertion ≡ l.fn.env.reinsertion) × (l.env.io ≡ l.fn.env.io);
+}

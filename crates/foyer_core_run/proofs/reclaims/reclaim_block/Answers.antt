@@ -1,0 +1,96 @@
+use Rattle.std.proofs.Common.{◌≡◌, refl, sym, ap, subst, ◌∙◌}
+use Rattle.foyer_core_laws.specs.Content.{meaning}
+use Rattle.foyer_core_steps.specs.Asked.{went_well}
+use Rattle.foyer_core_steps.specs.Refines.{Refines}
+use Rattle.foyer_core_steps.specs.declared.step.Step.TheVariants as step
+use Rattle.foyer_core_run.specs.AtRest.{KeepsIdle, Without}
+use Rattle.foyer_core_run.specs.Reclaims.{Reclaims}
+use Rattle.foyer_core_run.specs.declared.reclaims.Part.{Part}
+use Rattle.foyer_core_run.proofs.ReclaimIdle.{begin_over, cleaned_over, forget_over, idle_kept, idle_more, over_behind, unread_picked}
+use Rattle.foyer_core_run.proofs.ReclaimRuns.{IsCleanDone, clean_done, reclaims_kept, reclaims_none, reclaims_whole}
+use Rattle.foyer_core_run.proofs.reclaims.reclaim_block.Goals as goal
+
+pub returns-in_default : goal.returns-in_default
+returns-in_default g c =
+    let m = meaning g.K.Code.encoding g.V.Code.encoding g.K.Code.is_encodable g.V.Code.is_encodable g.K.Code.is_decodable g.V.Code.is_decodable g.P.Properties.age in
+    let bytes = g.D.Disk.byte_at c.args.disk.now in record {
+      reclaims = λ known. reclaims_none m c.apply.result c.args.core.now c.apply.new.self bytes c.apply.ensures.meets;
+      ends = begin_over m c.apply.result c.args.core.now c.apply.new.self c.in_default.not-Picked c.apply.ensures.meets;
+      leads = idle_kept m c.args.env.now.reinsertion step.ReclaimBegin c.apply.result c.args.core.now c.apply.new.self tt c.apply.ensures.meets;
+      lent = c.apply.ensures.lent;
+      known = λ known. known;
+    }
+
+pub returns-in_default-apply : goal.returns-in_default-apply
+returns-in_default-apply g c =
+    let m = meaning g.K.Code.encoding g.V.Code.encoding g.K.Code.is_encodable g.V.Code.is_encodable g.K.Code.is_decodable g.V.Code.is_decodable g.P.Properties.age in
+    let bytes = g.D.Disk.byte_at c.args.disk.now in
+    let b = c.in-Picked.block in
+    let first : Part = record { offset = 0; len = c.settings.result.blob_index_size } in
+    let begun = c.apply.new.self in
+    let read = c.read_block.new.core in
+    let begins = subst (λ r. Refines m step.ReclaimBegin r c.args.core.now begun) c.in-Picked.is c.apply.ensures.meets in
+    let size : c.settings.result.blob_index_size ≡ begun.settings.blob_index_size = ap (λ k. k.blob_index_size) c.settings.ensures in
+    let filter = c.args.env.now.reinsertion in
+    let led = unread_picked m filter c.apply.new.env.reinsertion b c.in-Picked.answers c.in-Picked.probation c.args.core.now c.apply.new.self read c.apply.ensures.lent.0
+    (subst (λ r. Refines m step.ReclaimBegin r c.args.core.now c.apply.new.self) c.in-Picked.is c.apply.ensures.meets) c.read_block.ensures.leads in
+    record {
+      reclaims = λ known.
+          subst (λ z. Reclaims m c.apply-2.result c.args.core.now c.apply-2.new.self bytes z) (sym c.read_block.ensures.same)
+          (reclaims_kept m b c.in-Picked.answers c.in-Picked.probation first refl c.args.core.now begun read size bytes begins (c.read_block.ensures.reads known)
+          c.apply-2.result c.apply-2.new.self c.apply-2.ensures.meets);
+      ends = over_behind m (Without filter KeepsIdle) c.args.core.now read c.apply-2.result led (forget_over m b c.apply-2.result read c.apply-2.new.self c.in_default-apply.not-Clean c.apply-2.ensures.meets);
+      leads = idle_more m filter c.args.core.now read c.apply-2.new.self led (idle_kept m filter (step.ReclaimForget b) c.apply-2.result read c.apply-2.new.self tt c.apply-2.ensures.meets);
+      lent = (c.apply-2.ensures.lent.0 ∙ c.read_block.ensures.lent.0 ∙ c.apply.ensures.lent.0, c.apply-2.ensures.lent.1 ∙ c.read_block.ensures.lent.1 ∙ c.apply.ensures.lent.1);
+      known = c.read_block.ensures.known;
+    }
+
+pub returns-clause-reclaims : goal.returns-clause-reclaims
+returns-clause-reclaims g c = λ known.
+    let m = meaning g.K.Code.encoding g.V.Code.encoding g.K.Code.is_encodable g.V.Code.is_encodable g.K.Code.is_decodable g.V.Code.is_decodable g.P.Properties.age in
+    let bytes = g.D.Disk.byte_at c.args.disk.now in
+    let b = c.in-Picked.block in
+    let first : Part = record { offset = 0; len = c.settings.result.blob_index_size } in
+    let begun = c.apply.new.self in
+    let read = c.read_block.new.core in
+    let begins = subst (λ r. Refines m step.ReclaimBegin r c.args.core.now begun) c.in-Picked.is c.apply.ensures.meets in
+    let size : c.settings.result.blob_index_size ≡ begun.settings.blob_index_size = ap (λ k. k.blob_index_size) c.settings.ensures in
+    let outcome = c.clean_block-cleaned.result in
+    let after = g.D.Disk.byte_at c.clean_block-cleaned.new.disk in
+    let still = c.read_block.ensures.known known in
+    reclaims_whole m b c.in-Picked.answers c.in-Picked.probation first refl c.args.core.now begun read size bytes begins (c.read_block.ensures.reads known)
+    c.in-Clean.field-0 outcome c.apply-3.result c.apply-2.new.self c.apply-3.new.self after
+    (subst (λ r. Refines m (step.ReclaimForget b) r read c.apply-2.new.self) c.in-Clean.is c.apply-2.ensures.meets)
+    (subst (λ z. IsCleanDone z after b (went_well outcome)) c.read_block.ensures.same
+    (clean_done (g.D.Disk.byte_at c.read_block.new.disk) after b outcome (c.clean_block-cleaned.ensures.cleaned still) (c.clean_block-cleaned.ensures.torn still)))
+    c.apply-3.ensures.meets
+
+pub returns-clause-ends : goal.returns-clause-ends
+returns-clause-ends g c =
+    let m = meaning g.K.Code.encoding g.V.Code.encoding g.K.Code.is_encodable g.V.Code.is_encodable g.K.Code.is_decodable g.V.Code.is_decodable g.P.Properties.age in
+    let b = c.in-Picked.block in
+    let read = c.read_block.new.core in
+    let filter = c.args.env.now.reinsertion in
+    let led = unread_picked m filter c.apply.new.env.reinsertion b c.in-Picked.answers c.in-Picked.probation c.args.core.now c.apply.new.self read c.apply.ensures.lent.0
+    (subst (λ r. Refines m step.ReclaimBegin r c.args.core.now c.apply.new.self) c.in-Picked.is c.apply.ensures.meets) c.read_block.ensures.leads in
+    over_behind m (Without filter KeepsIdle) c.args.core.now c.apply-2.new.self c.apply-3.result
+    (idle_more m filter c.args.core.now read c.apply-2.new.self led (idle_kept m filter (step.ReclaimForget b) c.apply-2.result read c.apply-2.new.self tt c.apply-2.ensures.meets))
+    (cleaned_over m b c.clean_block-cleaned.result c.apply-3.result c.apply-2.new.self c.apply-3.new.self c.apply-3.ensures.meets)
+
+pub returns-clause-leads : goal.returns-clause-leads
+returns-clause-leads g c =
+    let m = meaning g.K.Code.encoding g.V.Code.encoding g.K.Code.is_encodable g.V.Code.is_encodable g.K.Code.is_decodable g.V.Code.is_decodable g.P.Properties.age in
+    let b = c.in-Picked.block in
+    let read = c.read_block.new.core in
+    let filter = c.args.env.now.reinsertion in
+    let led = unread_picked m filter c.apply.new.env.reinsertion b c.in-Picked.answers c.in-Picked.probation c.args.core.now c.apply.new.self read c.apply.ensures.lent.0
+    (subst (λ r. Refines m step.ReclaimBegin r c.args.core.now c.apply.new.self) c.in-Picked.is c.apply.ensures.meets) c.read_block.ensures.leads in
+    idle_more m filter c.args.core.now c.apply-2.new.self c.apply-3.new.self
+    (idle_more m filter c.args.core.now read c.apply-2.new.self led (idle_kept m filter (step.ReclaimForget b) c.apply-2.result read c.apply-2.new.self tt c.apply-2.ensures.meets))
+    (idle_kept m filter (step.ReclaimCleaned b c.clean_block-cleaned.result) c.apply-3.result c.apply-2.new.self c.apply-3.new.self tt c.apply-3.ensures.meets)
+
+pub returns-clause-lent : goal.returns-clause-lent
+returns-clause-lent g c = (
+  c.apply-3.ensures.lent.0 ∙ c.apply-2.ensures.lent.0 ∙ c.read_block.ensures.lent.0 ∙ c.apply.ensures.lent.0,
+  c.apply-3.ensures.lent.1 ∙ c.apply-2.ensures.lent.1 ∙ c.read_block.ensures.lent.1 ∙ c.apply.ensures.lent.1,
+)

@@ -1,0 +1,180 @@
+//! A load and a block's writes, each with its accesses in their place.
+ghost use Rattle.std.specs.Prelude.{ℕ, List, ◌++◌, ◌≡◌, ◌∷◌, [], true, false, OnErr, IfOk, IfSome, IfNone};
+ghost use Rattle.foyer_core_model.specs.World.{World, WorldEvent};
+ghost use Rattle.foyer_core_laws.specs.Content.{Content, Meaning, meaning};
+ghost use Rattle.foyer_core_laws.specs.Sizes.{AreValid};
+ghost use Rattle.foyer_core_laws.specs.declared.settings.Settings.{Settings};
+ghost use Rattle.foyer_core_steps.specs.Refines.{Refines};
+ghost use Rattle.foyer_core_steps.specs.declared.state.Core.{Core};
+ghost use Rattle.foyer_core_run.specs.Accesses.{AsksNoMore, Says, Writes, load_of};
+ghost use Rattle.foyer_core_run.specs.AtRest.{KeepsOthers, Leads};
+ghost use Rattle.foyer_core_run.specs.Driven.{Drives};
+ghost use Rattle.foyer_core_run.specs.Moves.{asked};
+ghost use Rattle.foyer_core_run.specs.Newest.{IsHistory, IsMissedForCause, IsNewest};
+ghost use Rattle.foyer_core_run.specs.declared.moves.Asked.TheVariants as asks;
+ghost use Rattle.foyer_core_run.specs.declared.moves.Move.{Move};
+ghost use Rattle.foyer_core_run.specs.Running.{IsFree};
+ghost use Rattle.foyer_core_run.specs.Runs.{IsFront};
+
+use crate::disk::{do_read, do_write};
+use crate::moves::writes::wants_next_write;
+use foyer_block_manager::block::eviction::EvictionPicker;
+use foyer_core_steps::apply::Env;
+use foyer_core_steps::reply::Reply;
+use foyer_core_steps::state::Core;
+use foyer_core_steps::step::Step;
+use foyer_format_record::serde::{Code, Properties};
+use foyer_io_disk::disk::Disk;
+use foyer_policy_filter::StorageFilterCondition;
+use std::alloc::{AllocError, Allocator};
+
+/// Applies a step that brings no result of an access and issues no write: a run of the move that is this step.
+pub fn step<K, V, P, A, E, C>(
+    core: &mut Core<K, V, P, A>,
+    env: &mut Env<E, C>,
+    given: Step<K, V, P, A>,
+) -> Reply<K, V, P, A>
+where
+    K: Code<A> + Drop,
+    V: Code<A> + Drop,
+    P: Properties + Drop,
+    A: Allocator + Clone,
+    E: EvictionPicker,
+    C: StorageFilterCondition,
+    requires free { IsFree given }
+    ensures runs { (x : Move K V P A) → asked x ≡ asks.Step given → (bytes : ℕ → ℕ → ℕ) → Says
+        (meaning K.encoding V.encoding K.is_encodable V.is_encodable K.is_decodable V.is_decodable P.age)
+        (x ∷ []) result core.old core.new bytes bytes }
+    ensures drives { (bytes : ℕ → ℕ → ℕ) → Drives
+        (meaning K.encoding V.encoding K.is_encodable V.is_encodable K.is_decodable V.is_decodable P.age)
+        core.old core.new bytes bytes }
+    ensures meets { Refines
+        (meaning K.encoding V.encoding K.is_encodable V.is_encodable K.is_decodable V.is_decodable P.age)
+        given result core.old core.new }
+    ensures lent { (env.new.reinsertion ≡ env.old.reinsertion) × (env.new.io ≡ env.old.io) }
+{
+    core.apply(env, given)
+}
+
+// Puts back the buffer that was read into, if it came back.
+fn put_back<A: Allocator>(spare: &mut Vec<u8, A>, buffer: Option<Vec<u8, A>>)
+    ensures back { IfSome buffer (λ bytes. spare.new ≡ bytes) }
+    ensures stays { IfNone buffer (spare.new ≡ spare.old) }
+{
+    if let Some(bytes) = buffer {
+        *spare = bytes;
+    }
+}
+
+/// Looks a hash up, does the read that this issues, and brings what came of it: what the load answers. An entry is the
+/// newest put of the hash, whatever led here. Where the newest event is a put, it is answered, or `Refused` for a
+/// failed read or for memory, unless the caller throttles, a reclaim of its block or a destroy began, or under two
+/// steps are left. `Err` is a refused allocation: then nothing was read, and the load never ends. The read goes into the
+/// memory of `spare`, whatever it holds, and only a step that is handed back keeps that memory. Of a disk whose bytes
+/// aren't known nothing is claimed but that the load returns.
+pub fn load<K, V, P, A, D, E, C>(
+    core: &mut Core<K, V, P, A>,
+    env: &mut Env<E, C>,
+    disk: &mut D,
+    spare: &mut Vec<u8, A>,
+    hash: u64,
+    throttled: bool,
+) -> std::result::Result<Reply<K, V, P, A>, AllocError>
+where
+    K: Code<A> + Drop,
+    V: Code<A> + Drop,
+    P: Properties + Drop,
+    A: Allocator + Clone,
+    D: Disk,
+    E: EvictionPicker,
+    C: StorageFilterCondition,
+    ensures runs { D.is_known disk.old → IfOk result (λ last. Says
+        (meaning K.encoding V.encoding K.is_encodable V.is_encodable K.is_decodable V.is_decodable P.age)
+        (load_of hash throttled) last core.old core.new (D.byte_at disk.old) (D.byte_at disk.new)) }
+    ensures drives { D.is_known disk.old → Drives
+        (meaning K.encoding V.encoding K.is_encodable V.is_encodable K.is_decodable V.is_decodable P.age)
+        core.old core.new (D.byte_at disk.old) (D.byte_at disk.new) }
+    ensures newest { D.is_known disk.old → IfOk result (IsNewest
+        (meaning K.encoding V.encoding K.is_encodable V.is_encodable K.is_decodable V.is_decodable P.age)
+        hash core.old (D.byte_at disk.old)) }
+    ensures missed { D.is_known disk.old → IfOk result (λ last. throttled ≡ false → IsMissedForCause
+        (meaning K.encoding V.encoding K.is_encodable V.is_encodable K.is_decodable V.is_decodable P.age)
+        hash core.old (D.byte_at disk.old) last) }
+    ensures front { D.is_known disk.old → OnErr result (IsFront
+        (meaning K.encoding V.encoding K.is_encodable V.is_encodable K.is_decodable V.is_decodable P.age)
+        (load_of hash throttled) core.old core.new (D.byte_at disk.old) (D.byte_at disk.new)) }
+    ensures unread { throttled ≡ true → disk.new ≡ disk.old }
+    ensures known { D.is_known disk.old → D.is_known disk.new }
+    ensures same { D.byte_at disk.new ≡ D.byte_at disk.old }
+{
+    let ticket = match core.apply(env, Step::LoadBegin { hash, throttled }) {
+        Reply::Read(ticket) => ticket,
+        other => return Ok(other),
+    };
+    let came = do_read(core.allocator().clone()?, disk, &ticket, spare)?;
+    let (reply, buffer) = core.apply_load(env, ticket, came);
+    put_back(spare, buffer);
+    Ok(reply)
+}
+
+/// Asks a flusher for a block, does the writes that this issues in their order, and reports each: what was answered last,
+/// which never asks for another write, `None` where the block has no write or none that ended it. After a write that failed, and after a report that didn't
+/// ask for the next, the block's others aren't done. Of a disk whose bytes aren't known it is only claimed that the other
+/// flushers keep what they have.
+pub fn write_block<K, V, P, A, D, E, C>(
+    core: &mut Core<K, V, P, A>,
+    env: &mut Env<E, C>,
+    disk: &mut D,
+    flusher: u32,
+) -> Option<Reply<K, V, P, A>>
+where
+    K: Code<A> + Drop,
+    V: Code<A> + Drop,
+    P: Properties + Drop,
+    A: Allocator + Clone,
+    D: Disk,
+    E: EvictionPicker,
+    C: StorageFilterCondition,
+    ensures writes { D.is_known disk.old → Writes
+        (meaning K.encoding V.encoding K.is_encodable V.is_encodable K.is_decodable V.is_decodable P.age)
+        flusher result core.old core.new (D.byte_at disk.old) (D.byte_at disk.new) }
+    ensures drives { D.is_known disk.old → Drives
+        (meaning K.encoding V.encoding K.is_encodable V.is_encodable K.is_decodable V.is_decodable P.age)
+        core.old core.new (D.byte_at disk.old) (D.byte_at disk.new) }
+    ensures ends { IfSome result (AsksNoMore
+        (meaning K.encoding V.encoding K.is_encodable V.is_encodable K.is_decodable V.is_decodable P.age)
+        core.old) }
+    ensures leads { Leads
+        (meaning K.encoding V.encoding K.is_encodable V.is_encodable K.is_decodable V.is_decodable P.age)
+        (KeepsOthers flusher) core.old core.new }
+    ensures lent { (env.new.reinsertion ≡ env.old.reinsertion) × (env.new.io ≡ env.old.io) }
+    ensures known { D.is_known disk.old → D.is_known disk.new }
+{
+    let (block, writes) = match core.apply(env, Step::FlushBlock { flusher }) {
+        Reply::Write { block, writes } => (block, writes),
+        other => return Some(other),
+    };
+    'writes: for write in &writes {
+        let wrote = do_write(disk, block, write);
+        let went_well = wrote.is_ok();
+        let reply = core.apply(
+            env,
+            Step::FlushWrote {
+                flusher,
+                result: wrote,
+            },
+        );
+        if !wants_next_write(went_well, &reply) {
+            return Some(reply);
+        }
+    }
+    None
+}
+
+/// A history that led to a core and bytes goes on to those that they are driven to: so it does from an opening on, over
+/// any calls that drive a core, one after the other.
+pub fn histories_go_on<K, V, P, A>()
+    ensures { (m : Meaning K V P) (s : Settings) (sound : AreValid s) (first : World Content) (events : List (WorldEvent Content))
+        (old new : Core K V P A) (bytes bytes' : ℕ → ℕ → ℕ) → IsHistory m s sound first events old bytes → Drives m old new bytes bytes'
+        → (more : List (WorldEvent Content)) × IsHistory m s sound first (events ++ more) new bytes' }
+{}

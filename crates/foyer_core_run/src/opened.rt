@@ -1,0 +1,88 @@
+//! Runs that begin with an opened core, and what the laws say of them.
+ghost use Rattle.std.specs.Prelude.{◌≡◌, ◌≢◌, ◌⊎◌, ◌≤◌, ◌*◌, ◌^◌, ℕ, [], Err, IfOk, IfErr};
+ghost use Rattle.foyer_device_page.specs.declared.error.Error.TheVariants.{Config, Memory, OutOfRange, Recover, SequenceEnd};
+ghost use Rattle.foyer_block_recover.specs.Recovery.{marks_of};
+ghost use Rattle.foyer_block_recover.specs.declared.block.recover.RecoverMode.TheVariants as recover_mode;
+ghost use Rattle.foyer_core_laws.specs.Content.{meaning};
+ghost use Rattle.foyer_core_laws.specs.Sizes.{AreValid};
+ghost use Rattle.foyer_core_run.specs.Lawful.{IsLawfulEmpty, IsLawfulFrom};
+ghost use Rattle.foyer_core_run.specs.Texts.{of_texts};
+
+use crate::moves::{Move, run};
+use foyer_block_index::tombstone::Tombstone;
+use foyer_block_manager::block::eviction::EvictionPicker;
+use foyer_core_steps::apply::Env;
+use foyer_core_steps::open::RecoverMode;
+use foyer_core_steps::reply::Reply;
+use foyer_core_steps::settings::Settings;
+use foyer_core_steps::state::Core;
+use foyer_device_page::error::Result;
+use foyer_format_record::serde::{Code, Properties};
+use foyer_io_disk::disk::Disk;
+use foyer_io_disk::memory::MemoryDisk;
+use foyer_policy_filter::StorageFilterCondition;
+use std::alloc::{Allocator, Global};
+
+/// Opens a core with what a disk's blocks give in the mode, and with the marks of deletes, runs the moves over it with what
+/// is lent, and gives their replies. `Config` where the settings don't go together; `Recover` where a read failed in
+/// `Strict`; `SequenceEnd` where what was found, or a mark, has the last sequence; `Memory` at any time.
+///
+/// The replies are those of events of a world that began with what was found over the disk's bytes: what a load answers
+/// was newest of its hash at its look-up; what was newest is answered, or missed for a named cause; and what was put was
+/// found, or is what was enqueued.
+pub fn open_and_run<K, V, P, A, D, E, C>(
+    alloc: A,
+    env: &mut Env<E, C>,
+    settings: Settings,
+    disk: &mut D,
+    mode: RecoverMode,
+    marks: &[Tombstone],
+    moves: Vec<Move<K, V, P, A>, A>,
+) -> Result<Vec<Reply<K, V, P, A>, A>>
+where
+    K: Code<A> + Drop,
+    V: Code<A> + Drop,
+    P: Properties + Drop,
+    A: Allocator + Clone,
+    D: Disk,
+    E: EvictionPicker,
+    C: StorageFilterCondition,
+    ensures sound { IfOk result (λ _. AreValid settings) }
+    ensures refused { IfErr result (λ e. (e ≡ Memory) ⊎ ((e ≡ Config) × (AreValid settings → ⊥))
+        ⊎ ((e ≡ Recover) × (mode ≡ recover_mode.Strict)) ⊎ ((e ≡ SequenceEnd) × (mode ≡ recover_mode.None → marks.now ≢ []))) }
+    ensures unsound { (AreValid settings → ⊥) → result ≡ Err Config }
+    ensures lawful { D.is_known disk.old → IfOk result (λ replies. (sound : AreValid settings) (bytes : ℕ → ℕ → ℕ)
+        → ((b o : ℕ) → bytes b o ≡ D.byte_at disk.old b o) → IsLawfulFrom
+        (meaning K.encoding V.encoding K.is_encodable V.is_encodable K.is_decodable V.is_decodable P.age)
+        settings sound bytes (D.byte_at disk.old) (D.surely_has disk.old) mode (marks_of marks.now) moves.items replies.items) }
+{
+    let mut core = Core::open(alloc, env, settings, disk, mode, marks)?;
+    let replies = run(&mut core, env, disk, moves)?;
+    Ok(replies)
+}
+
+/// The same over zeroed memory, of which nothing is read at first, with the default pickers, for keys that are numbers and
+/// values that are texts. `Memory`, `Config`, or `OutOfRange`, where the sizes' product passes the type's end.
+pub fn run_texts<P: Properties + Drop>(
+    alloc: Global,
+    settings: Settings,
+    moves: Vec<Move<u64, String<Global>, P, Global>, Global>,
+) -> Result<Vec<Reply<u64, String<Global>, P, Global>, Global>>
+    ensures sound { IfOk result (λ _. AreValid settings) }
+    ensures refused { IfErr result (λ e. (e ≡ Memory) ⊎ ((e ≡ Config) × (AreValid settings → ⊥))
+        ⊎ ((e ≡ OutOfRange) × (2 ^ 64 ≤ settings.blocks * settings.block_size))) }
+    ensures lawful { IfOk result (λ replies. (sound : AreValid settings)
+        → IsLawfulEmpty (of_texts P.age) settings sound (λ b o. 0) moves.items replies.items) }
+{
+    let mut disk = MemoryDisk::new(alloc, settings.blocks, settings.block_size)?;
+    let mut env = Env::with_default_pickers(alloc, 0)?;
+    open_and_run(
+        alloc,
+        &mut env,
+        settings,
+        &mut disk,
+        RecoverMode::None,
+        &[],
+        moves,
+    )
+}

@@ -1,0 +1,216 @@
+//! A reclaim of a block, with its accesses in their place.
+ghost use Rattle.std.specs.Prelude.{◌≡◌, ℕ, vec_len, Some, None, IfOk, OnOk, OnErr};
+ghost use Rattle.foyer_core_model.specs.Numbers.{page};
+ghost use Rattle.foyer_core_laws.specs.Content.{meaning};
+ghost use Rattle.foyer_io_disk.specs.Disk.{IsRead, IsTorn};
+ghost use Rattle.foyer_core_run.specs.AtRest.{KeepsIdle, Leads, Without};
+ghost use Rattle.foyer_core_run.specs.Reclaims.{IsCleaned, IsOver, KeepsUnread, Reads, Reclaims, part_in};
+
+use foyer_block_index::manager::BlockId;
+use foyer_block_manager::block::eviction::EvictionPicker;
+use foyer_core_steps::apply::Env;
+use foyer_core_steps::reply::Reply;
+use foyer_core_steps::state::Core;
+use foyer_core_steps::step::Step;
+use foyer_device_page::error::{Error, Result};
+use foyer_format_record::block::buffer::PAGE;
+use foyer_format_record::serde::{Code, Properties};
+use foyer_io_disk::disk::Disk;
+use foyer_policy_filter::StorageFilterCondition;
+use std::alloc::Allocator;
+
+// What a reclaim reads of its block.
+#[derive(Clone, Copy, Debug)]
+pub(crate) struct Part {
+    pub(crate) offset: usize,
+    pub(crate) len: usize,
+}
+
+// What a reply has a reclaim read next.
+pub(crate) fn next_part<K, V, P, A: Allocator>(reply: &Reply<K, V, P, A>) -> Option<Part>
+    ensures { result ≡ part_in reply.now }
+{
+    match reply {
+        Reply::Scan {
+            block: _,
+            offset,
+            len,
+            verdicts: _,
+        } => Some(Part {
+            offset: *offset,
+            len: *len,
+        }),
+        _ => None,
+    }
+}
+
+// Reads a part of a block. Memory that is refused for it is a fault too.
+pub(crate) fn read_bytes<A: Allocator + Clone, D: Disk>(
+    alloc: &A,
+    disk: &mut D,
+    block: BlockId,
+    part: Part,
+) -> Result<Vec<u8, A>>
+    ensures read { D.is_known disk.old → IfOk result (λ bytes. IsRead (D.byte_at disk.old) block part.offset bytes.items) }
+    ensures len { IfOk result (λ bytes. vec_len bytes ≡ part.len) }
+    ensures known { D.is_known disk.old → D.is_known disk.new }
+    ensures same { D.byte_at disk.new ≡ D.byte_at disk.old }
+{
+    let mut buffer = Vec::new(alloc.clone()?);
+    buffer.resize(part.len, 0)?;
+    let (buffer, outcome) = disk.read(block, part.offset, buffer);
+    match outcome {
+        Ok(()) => Ok(buffer),
+        Err(error) => Err(error),
+    }
+}
+
+// Reads a part for the reclaim of a block and brings it, or a fault where memory is refused for it: what is to be read
+// next, if anything is.
+fn read_part<K, V, P, A, D, E, C>(
+    core: &mut Core<K, V, P, A>,
+    env: &mut Env<E, C>,
+    disk: &mut D,
+    block: BlockId,
+    part: Part,
+) -> Option<Part>
+where
+    K: Code<A> + Drop,
+    V: Code<A> + Drop,
+    P: Properties + Drop,
+    A: Allocator + Clone,
+    D: Disk,
+    E: EvictionPicker,
+    C: StorageFilterCondition,
+    ensures reads { D.is_known disk.old → Reads
+        (meaning K.encoding V.encoding K.is_encodable V.is_encodable K.is_decodable V.is_decodable P.age)
+        block (Some part) result core.old core.new (D.byte_at disk.old) }
+    ensures leads { Leads
+        (meaning K.encoding V.encoding K.is_encodable V.is_encodable K.is_decodable V.is_decodable P.age)
+        (Without env.old.reinsertion (KeepsUnread block)) core.old core.new }
+    ensures lent { (env.new.reinsertion ≡ env.old.reinsertion) × (env.new.io ≡ env.old.io) }
+    ensures known { D.is_known disk.old → D.is_known disk.new }
+    ensures same { D.byte_at disk.new ≡ D.byte_at disk.old }
+{
+    let outcome = read_bytes(core.allocator(), disk, block, part);
+    let brought = core.apply(
+        env,
+        Step::ReclaimRead {
+            block,
+            result: outcome,
+        },
+    );
+    if let Reply::Refused(_, _) = &brought {
+        let reply = core.apply(
+            env,
+            Step::ReclaimRead {
+                block,
+                result: Err(Error::Memory),
+            },
+        );
+        return next_part(&reply);
+    }
+    next_part(&brought)
+}
+
+// Reads for the reclaim of a block what it asks for, from this part on.
+fn read_block<K, V, P, A, D, E, C>(
+    core: &mut Core<K, V, P, A>,
+    env: &mut Env<E, C>,
+    disk: &mut D,
+    block: BlockId,
+    first: Part,
+)
+where
+    K: Code<A> + Drop,
+    V: Code<A> + Drop,
+    P: Properties + Drop,
+    A: Allocator + Clone,
+    D: Disk,
+    E: EvictionPicker,
+    C: StorageFilterCondition,
+    ensures reads { D.is_known disk.old → Reads
+        (meaning K.encoding V.encoding K.is_encodable V.is_encodable K.is_decodable V.is_decodable P.age)
+        block (Some first) None core.old core.new (D.byte_at disk.old) }
+    ensures leads { Leads
+        (meaning K.encoding V.encoding K.is_encodable V.is_encodable K.is_decodable V.is_decodable P.age)
+        (Without env.old.reinsertion (KeepsUnread block)) core.old core.new }
+    ensures lent { (env.new.reinsertion ≡ env.old.reinsertion) × (env.new.io ≡ env.old.io) }
+    ensures known { D.is_known disk.old → D.is_known disk.new }
+    ensures same { D.byte_at disk.new ≡ D.byte_at disk.old }
+{
+    let mut part = first;
+    'parts: for _ in 0..u64::MAX {
+        match read_part(core, env, disk, block, part) {
+            Some(next) => part = next,
+            None => return,
+        }
+    }
+}
+
+// Cleans a block: its first page becomes zeros.
+pub(crate) fn clean_block<D: Disk>(disk: &mut D, block: BlockId) -> Result<()>
+    ensures cleaned { D.is_known disk.old → OnOk result (IsCleaned (D.byte_at disk.old) block (D.byte_at disk.new)) }
+    ensures torn { D.is_known disk.old → OnErr result (IsTorn (D.byte_at disk.old) block 0 page (D.byte_at disk.new)) }
+    ensures known { D.is_known disk.old → D.is_known disk.new }
+{
+    let zeros = [0u8; PAGE];
+    disk.write(block, 0, &zeros)
+}
+
+/// Reclaims a block: begins where a reclaim may, reads each index of the picked block and each record that is to be
+/// written again, and brings them, forgets the other entries, and cleans the block. What was answered last: `Done` once the
+/// block may be written again, or the step that was out of turn or refused. A read or a clean that fails ends no reclaim.
+/// Of a disk whose bytes aren't known it is only claimed that, without a filter of reinsertions, idle flushers stay idle;
+/// with one, records are queued at flushers in turn.
+pub fn reclaim_block<K, V, P, A, D, E, C>(
+    core: &mut Core<K, V, P, A>,
+    env: &mut Env<E, C>,
+    disk: &mut D,
+) -> Reply<K, V, P, A>
+where
+    K: Code<A> + Drop,
+    V: Code<A> + Drop,
+    P: Properties + Drop,
+    A: Allocator + Clone,
+    D: Disk,
+    E: EvictionPicker,
+    C: StorageFilterCondition,
+    ensures reclaims { D.is_known disk.old → Reclaims
+        (meaning K.encoding V.encoding K.is_encodable V.is_encodable K.is_decodable V.is_decodable P.age)
+        result core.old core.new (D.byte_at disk.old) (D.byte_at disk.new) }
+    ensures ends { IsOver
+        (meaning K.encoding V.encoding K.is_encodable V.is_encodable K.is_decodable V.is_decodable P.age)
+        core.old result }
+    ensures leads { Leads
+        (meaning K.encoding V.encoding K.is_encodable V.is_encodable K.is_decodable V.is_decodable P.age)
+        (Without env.old.reinsertion KeepsIdle) core.old core.new }
+    ensures lent { (env.new.reinsertion ≡ env.old.reinsertion) × (env.new.io ≡ env.old.io) }
+    ensures known { D.is_known disk.old → D.is_known disk.new }
+{
+    let block = match core.apply(env, Step::ReclaimBegin) {
+        Reply::Picked {
+            block,
+            answers: _,
+            probation: _,
+        } => block,
+        other => return other,
+    };
+    let first = Part {
+        offset: 0,
+        len: core.settings().blob_index_size,
+    };
+    read_block(core, env, disk, block, first);
+    match core.apply(env, Step::ReclaimForget { block }) {
+        Reply::Clean(_) => {}
+        other => return other,
+    }
+    let cleaned = clean_block(disk, block);
+    core.apply(
+        env,
+        Step::ReclaimCleaned {
+            block,
+            result: cleaned,
+        },
+    )
+}

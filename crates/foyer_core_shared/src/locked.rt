@@ -1,0 +1,306 @@
+//! The core, what it is lent, and what is noted of its steps, as they lie behind the lock; and the sessions that ask it. Both
+//! stand in one module, so that a step of the core is the only way to write into either.
+ghost use Rattle.foyer_device_page.specs.declared.error.Error.TheVariants.{Memory};
+ghost use Rattle.foyer_core_laws.specs.Content.{meaning};
+ghost use Rattle.foyer_core_shared.specs.Behind.{HasRoom, kept_notes};
+ghost use Rattle.foyer_core_shared.specs.Kinds.{kind_of, tallied};
+ghost use Rattle.foyer_core_shared.specs.Noted.{IsNoted, and_note, notes_at_first};
+ghost use Rattle.foyer_core_tally.specs.Tally.{grown, none, both, shown, listed};
+ghost use Rattle.std.specs.Prelude.{◌≡◌, ◌≢◌, ◌+◌, ◌<◌, IfErr, IfOk, IsOkUnless, OnOk, None, Some, [], ◌∷◌};
+ghost use Rattle.std.specs.Option.{ForSome};
+
+use crate::brief::{Brief, ReplyBrief, StepBrief};
+use crate::notes::Notes;
+use foyer_block_index::tombstone::Tombstone;
+use foyer_block_manager::block::eviction::EvictionPicker;
+use foyer_core_steps::apply::Env;
+use foyer_core_steps::open::RecoverMode;
+use foyer_core_steps::reply::Reply;
+use foyer_core_steps::settings::Settings;
+use foyer_core_steps::state::Core;
+use foyer_core_steps::step::Step;
+use foyer_core_tally::book::{Blanks, Books, Kinds, Shares};
+use foyer_device_page::error::Result;
+use foyer_format_record::serde::{Code, Properties};
+use foyer_io_disk::disk::Disk;
+use foyer_policy_filter::StorageFilterCondition;
+use std::alloc::Allocator;
+use std::marker::Model;
+
+/// A caller's shares of the book of steps, and what it asked last. Contracts see of how many parts each share is, and how many
+/// steps of each kind were noted with it.
+#[derive(Drop)]
+pub struct Session<L: Kinds> {
+    shares: Shares<L>,
+    newest: Option<Brief>,
+    before: Option<Brief>,
+}
+
+impl<L: Kinds> Model for Session<L> {
+    ghost use Rattle.foyer_core_shared.specs.Sessions.{SessionState};
+
+    ghost Value = { SessionState };
+
+    ghost view = { λ s. record { shares = s.shares; newest = s.newest; before = s.before } };
+}
+
+impl<L: Kinds> Session<L> {
+    /// What it asked last and before that, each with the reply, newest first.
+    pub fn last(&self) -> [Option<Brief>; 2]
+        ensures { result ≡ self.now.newest ∷ self.now.before ∷ [] }
+    {
+        [self.newest, self.before]
+    }
+
+    /// How many steps of each kind were noted with it, in the order of the kinds; 2^64 - 1 stands for all numbers above.
+    pub fn tally(&self) -> [u64; 8]
+        ensures { result ≡ listed (shown self.now.shares.amounts) }
+    {
+        self.shares.tally()
+    }
+
+    /// Gives so many parts away, and no briefs.
+    pub fn split(&mut self, parts: u64) -> Session<L>
+        requires some { 0 < parts }
+        requires fewer { parts < self.old.shares.parts }
+        ensures given { result.shares ≡ record { parts = parts; amounts = none } }
+        ensures fresh { (result.newest ≡ None) × (result.before ≡ None) }
+        ensures left { (self.new.shares.parts + parts ≡ self.old.shares.parts) × (self.new.shares.amounts ≡ self.old.shares.amounts) }
+        ensures briefs { (self.new.newest ≡ self.old.newest) × (self.new.before ≡ self.old.before) }
+    {
+        let shares = self.shares.split(parts);
+        Session {
+            shares,
+            newest: None,
+            before: None,
+        }
+    }
+
+    /// Takes in another session's parts and steps, and keeps its own briefs.
+    pub fn join(&mut self, other: Session<L>)
+        ensures shares { self.new.shares ≡ record { parts = self.old.shares.parts + other.shares.parts; amounts = both self.old.shares.amounts other.shares.amounts } }
+        ensures briefs { (self.new.newest ≡ self.old.newest) × (self.new.before ≡ self.old.before) }
+    {
+        let Session {
+            shares,
+            newest: _,
+            before: _,
+        } = other;
+        self.shares.merge(shares);
+    }
+
+    // The newest brief is this one. `Locked::step` alone may write one, so that a session never names a step that wasn't made.
+    fn note(&mut self, brief: Brief)
+        ensures noted { (self.new.newest ≡ Some brief) × (self.new.before ≡ self.old.newest) }
+        ensures shares { self.new.shares ≡ self.old.shares }
+    {
+        self.before = self.newest;
+        self.newest = Some(brief);
+    }
+}
+
+/// A core with what it is lent at each step, the book of the steps that were made, by their kinds, and, where they are kept, their notes.
+#[derive(Drop)]
+pub struct Locked<L, K, V, P, A, E, C>
+where
+    L: Kinds,
+    K: Code<A>,
+    V: Code<A>,
+    P: Properties + Drop,
+    A: Allocator,
+    E: EvictionPicker,
+    C: StorageFilterCondition,
+{
+    core: Core<K, V, P, A>,
+    env: Env<E, C>,
+    notes: Option<Notes<A>>,
+    calls: Books<L>,
+    ghost noted: { ∥ IsNoted (meaning K.encoding V.encoding K.is_encodable V.is_encodable K.is_decodable V.is_decodable P.age)
+        core (kept_notes notes) calls ∥₁ },
+}
+
+// No note yet, where notes are kept.
+fn first_notes<A: Allocator + Clone>(alloc: &A, keeps_notes: bool) -> Result<Option<Notes<A>>>
+    ensures none { IfOk result (λ notes. kept_notes notes ≡ notes_at_first keeps_notes) }
+    ensures refused { IsOkUnless result Memory }
+{
+    if !keeps_notes {
+        return Ok(None);
+    }
+    let notes = Notes::new(alloc.clone()?)?;
+    Ok(Some(notes))
+}
+
+// Makes room for one note more, where notes are kept.
+fn reserve<A: Allocator + Clone>(notes: &mut Option<Notes<A>>) -> Result<()>
+    ensures room { OnOk result (HasRoom notes.new) }
+    ensures same { kept_notes notes.new ≡ kept_notes notes.old }
+    ensures kept { IfErr result (λ e. (e ≡ Memory) × (kept_notes notes.old ≢ None)) }
+{
+    match notes {
+        Some(notes) => notes.reserve(),
+        None => Ok(()),
+    }
+}
+
+// Keeps one note more, where notes are kept.
+fn note<A: Allocator + Clone>(notes: &mut Option<Notes<A>>, brief: Brief)
+    requires { HasRoom notes.old }
+    ensures { kept_notes notes.new ≡ and_note brief (kept_notes notes.old) }
+{
+    if let Some(notes) = notes {
+        notes.push(brief);
+    }
+}
+
+impl<L, K, V, P, A, E, C> Locked<L, K, V, P, A, E, C>
+where
+    L: Kinds,
+    K: Code<A> + Drop,
+    V: Code<A> + Drop,
+    P: Properties + Drop,
+    A: Allocator + Clone,
+    E: EvictionPicker,
+    C: StorageFilterCondition,
+{
+    ghost use Rattle.std.specs.Prelude.{◌⊎◌, ℕ, List, ◌++◌, Result, length, option_map};
+    ghost use Rattle.std.specs.declared.vec.Vec.{Vec};
+    ghost use Rattle.foyer_core_steps.specs.Answered.{HandsBack, Describes, IsPicked, MayFail};
+    ghost use Rattle.foyer_core_steps.specs.Opened.{IsOpenedFrom};
+    ghost use Rattle.foyer_core_steps.specs.Refines.{Refines};
+    ghost use Rattle.foyer_core_steps.specs.Scanning.{IsJudged};
+    ghost use Rattle.foyer_core_steps.specs.Showing.{HaveLearned, IsShown};
+    ghost use Rattle.foyer_core_steps.specs.declared.reply.Reply.TheVariants as reply;
+    ghost use Rattle.foyer_core_steps.specs.declared.step.Step.TheVariants as steps;
+    ghost use Rattle.foyer_device_page.specs.declared.error.Error.{Error};
+    ghost use Rattle.foyer_device_page.specs.declared.error.Error.TheVariants.{Config, Recover, SequenceEnd};
+    ghost use Rattle.foyer_block_recover.specs.Recovery.{IsRefused, marks_of};
+    ghost use Rattle.foyer_block_recover.specs.declared.block.recover.RecoverMode.TheVariants as recover_mode;
+    ghost use Rattle.foyer_core_laws.specs.Sizes.{AreValid, sizes_in};
+    ghost use Rattle.foyer_block_manager.specs.Shown.{evictable_below};
+    ghost use Rattle.foyer_core_shared.specs.Briefs.{brief_of};
+    ghost use Rattle.foyer_core_tally.specs.Ledgers.{AreOf};
+    ghost use Rattle.foyer_core_shared.specs.Chunks.{all_of};
+    ghost use Rattle.foyer_core_shared.specs.History.{IsLegal, Made};
+
+    /// Opens a core as `Core::open` does, with the session that has all parts. Where `keeps_notes` is set the notes of all
+    /// steps are kept, which take memory as long as the core is there. `Memory` also where an allocator's clone is refused.
+    pub fn open<D: Disk>(
+        alloc: A,
+        mut env: Env<E, C>,
+        settings: Settings,
+        disk: &mut D,
+        mode: RecoverMode,
+        marks: &[Tombstone],
+        keeps_notes: bool,
+        blanks: Blanks,
+    ) -> Result<(Locked<L, K, V, P, A, E, C>, Session<L>)>
+        requires { AreOf L.name_of L.all blanks }
+        ensures opened { IfOk result (λ r. IsOpenedFrom settings (D.byte_at disk.old) (D.surely_has disk.old) mode (marks_of marks.now)
+            ((mode ≡ recover_mode.None) ⊎ D.is_known disk.old) r.0.core) }
+        ensures fresh { IfOk result (λ r. (r.0.calls ≡ none) × (kept_notes r.0.notes ≡ notes_at_first keeps_notes)) }
+        ensures session { IfOk result (λ r. (r.1.shares ≡ record { parts = L.all; amounts = none }) × (r.1.newest ≡ None) × (r.1.before ≡ None)) }
+        ensures shown { IfOk result (λ r. HaveLearned E.begins E.learns settings.blocks settings.block_size
+            (evictable_below r.0.core.manager.blocks (length r.0.core.manager.blocks)) env.pickers.items r.0.env.pickers.items) }
+        ensures sound { IfOk result (λ _. AreValid settings) }
+        ensures refused { IfErr result (λ e. (e ≡ Memory) ⊎ ((e ≡ Config) × (AreValid settings → ⊥))
+            ⊎ ((e ≡ Recover) × (mode ≡ recover_mode.Strict)) ⊎ ((e ≡ SequenceEnd) × (mode ≡ recover_mode.None → marks.now ≢ []))) }
+        ensures cause { AreValid settings → (mode ≡ recover_mode.None) ⊎ D.is_known disk.old → IfErr result
+            (IsRefused (sizes_in settings) settings.blocks (D.byte_at disk.old) (D.surely_has disk.old) mode (marks_of marks.now)) }
+        ensures unread { mode ≡ recover_mode.None → disk.new ≡ disk.old }
+        ensures known { D.is_known disk.old → D.is_known disk.new }
+        ensures same { D.byte_at disk.new ≡ D.byte_at disk.old }
+        ensures has { (b o n : ℕ) → D.surely_has disk.old b o n → D.surely_has disk.new b o n }
+    {
+        let notes = first_notes(&alloc, keeps_notes)?;
+        let core = Core::open(alloc, &mut env, settings, disk, mode, marks)?;
+        let (calls, shares) = blanks.open::<L>();
+        let locked = Locked {
+            core,
+            env,
+            notes,
+            calls,
+        };
+        let session = Session {
+            shares,
+            newest: None,
+            before: None,
+        };
+        Ok((locked, session))
+    }
+
+    /// Applies a step as `Core::apply` does, notes it, and counts it with the session's shares, as one of its kind; the session's newest brief is
+    /// then that of the step and of this very reply. Where notes are kept and memory for one is refused, the step comes back
+    /// and nothing changed.
+    pub fn step(
+        &mut self,
+        session: &mut Session<L>,
+        step: Step<K, V, P, A>,
+    ) -> std::result::Result<Reply<K, V, P, A>, Step<K, V, P, A>>
+        requires { 0 < session.old.shares.parts }
+        ensures back { IfOk result (λ answer. HandsBack step answer self.old.core self.new.core) }
+        ensures issued { IfOk result (λ answer. Describes K.is_decodable V.is_decodable K.encoding V.encoding
+            step answer self.old.core self.new.core) }
+        ensures meets { IfOk result (λ answer. Refines
+            (meaning K.encoding V.encoding K.is_encodable V.is_encodable K.is_decodable V.is_decodable P.age)
+            step answer self.old.core self.new.core) }
+        ensures history { IfOk result (λ answer. (run : List (Made K V P A))
+            → IsLegal (meaning K.encoding V.encoding K.is_encodable V.is_encodable K.is_decodable V.is_decodable P.age) run self.old.core
+            → IsLegal (meaning K.encoding V.encoding K.is_encodable V.is_encodable K.is_decodable V.is_decodable P.age)
+            (run ++ record { step = step; reply = answer } ∷ []) self.new.core) }
+        ensures failed { IfOk result (λ answer. answer ≡ reply.Failed → MayFail step self.old.core) }
+        ensures picks { step ≡ steps.ReclaimBegin → IfOk result (λ answer.
+            IsPicked E.answer E.marks self.old.env.pickers.items answer self.old.core self.new.core) }
+        ensures judged { (block : ℕ) (came : Result (Vec ℕ A) Error) → step ≡ steps.ReclaimRead block came
+            → IfOk result (λ answer. IsJudged C.may_answer self.old.env.reinsertion self.old.env.io block came answer self.old.core) }
+        ensures shown { IfOk result (λ answer. IsShown E.learns E.forgets step answer self.old.core self.new.core.manager
+            self.old.env.pickers.items self.new.env.pickers.items) }
+        ensures lent { (self.new.env.reinsertion ≡ self.old.env.reinsertion) × (self.new.env.io ≡ self.old.env.io) }
+        ensures noted { IfOk result (λ answer. (kept_notes self.new.notes ≡ and_note (brief_of step answer) (kept_notes self.old.notes))
+            × (session.new.newest ≡ Some (brief_of step answer)) × (session.new.before ≡ session.old.newest)) }
+        ensures counted { IfOk result (λ answer. (self.new.calls ≡ grown (kind_of (brief_of step answer)) self.old.calls)
+            × (session.new.shares ≡ record { parts = session.old.shares.parts; amounts = grown (kind_of (brief_of step answer)) session.old.shares.amounts })) }
+        ensures roomless { IfErr result (λ given. (given ≡ step) × (session.new ≡ session.old) × (kept_notes self.old.notes ≢ None)
+            × (self.new.core ≡ self.old.core) × (self.new.env ≡ self.old.env) × (self.new.calls ≡ self.old.calls)
+            × (kept_notes self.new.notes ≡ kept_notes self.old.notes)) }
+    {
+        if reserve(&mut self.notes).is_err() {
+            return Err(step);
+        }
+        let asked = StepBrief::of(&step);
+        let reply = self.core.apply(&mut self.env, step);
+        let brief = Brief {
+            step: asked,
+            reply: ReplyBrief::of(&reply),
+        };
+        note(&mut self.notes, brief);
+        self.calls.note(&mut session.shares, brief.kind());
+        session.note(brief);
+        Ok(reply)
+    }
+
+    /// The core, which its steps alone change.
+    pub fn core(&self) -> &Core<K, V, P, A>
+        ensures { result.now ≡ self.now.core }
+    {
+        &self.core
+    }
+
+    /// The notes of all steps, where they are kept.
+    pub fn notes(&self) -> Option<&Notes<A>>
+        ensures { option_map (λ n. all_of n.now.full.items n.now.last.items) result ≡ kept_notes self.now.notes }
+    {
+        self.notes.as_ref()
+    }
+
+    /// Whoever has all parts knows how many steps of each kind were made; so many notes of it there are, where notes are kept.
+    pub fn audit(&mut self, all: &mut Session<L>)
+        requires { all.old.shares.parts ≡ L.all }
+        ensures count { self.new.calls ≡ all.new.shares.amounts }
+        ensures notes { ForSome (kept_notes self.new.notes) (λ notes. tallied notes ≡ all.new.shares.amounts) }
+        ensures same { (self.new.core ≡ self.old.core) × (self.new.env ≡ self.old.env) × (kept_notes self.new.notes ≡ kept_notes self.old.notes) }
+        ensures session { (all.new.shares ≡ all.old.shares) × (all.new.newest ≡ all.old.newest) × (all.new.before ≡ all.old.before) }
+    {
+        self.calls.audit(&mut all.shares);
+    }
+}

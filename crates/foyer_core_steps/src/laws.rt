@@ -1,0 +1,29 @@
+//! What holds of every run of a core: the laws of the model, for every code and all sizes that go together.
+//!
+//! `Core::apply` says which step of this machine each call is, and `Core::open` where it begins.
+ghost use Rattle.std.specs.Prelude.{◌≡◌, ℕ, Bool, List, []};
+ghost use Rattle.foyer_core_steps.specs.Opened.{IsOpened};
+ghost use Rattle.foyer_core_steps.specs.StateOf.{IsStateOf};
+ghost use Rattle.foyer_core_steps.specs.declared.state.Core.{Core};
+ghost use Rattle.foyer_block_recover.specs.Opening.{Opened};
+ghost use Rattle.foyer_block_recover.specs.Placed.{IsOpening};
+ghost use Rattle.foyer_core_laws.specs.Begins.{opened_state};
+ghost use Rattle.foyer_core_laws.specs.Content.{Meaning};
+ghost use Rattle.foyer_core_laws.specs.CoreRules.{rules_of};
+ghost use Rattle.foyer_core_laws.specs.Headline.{Begins};
+ghost use Rattle.foyer_core_laws.specs.Sizes.{AreValid, sizes_in};
+ghost use Rattle.foyer_core_laws.specs.declared.settings.Settings.{Settings};
+
+pub use foyer_core_laws::laws::{
+    answers_only, demands_are_met, headline, missed_only, puts_are_queued, steps_keep_their_clauses,
+};
+pub use foyer_core_laws::restart::{restart, restart_idle, restart_keeps_newest};
+
+/// An opened core stands for the state that has what was found, with some marks, and the world with that state, over any bytes, is one that
+/// the laws begin with.
+pub fn opening_begins<K, V, P, A>()
+    ensures stands { (m : Meaning K V P) (s : Settings) (sound : AreValid s) (marks : List (ℕ × ℕ)) (o : Opened) (core : Core K V P A)
+        → IsOpening (sizes_in s) s.blocks marks o → IsOpened s o core
+        → IsStateOf m s core (opened_state (rules_of m.is_key m.is_value s sound) o) }
+    ensures opened { (is_key is_value : List ℕ → Bool) (s : Settings) (sound : AreValid s) → Begins is_key is_value s sound }
+{}

@@ -1,0 +1,142 @@
+//! Opening.
+ghost use Rattle.std.specs.Prelude.{◌≡◌, ◌≢◌, ◌⊎◌, ◌<◌, ℕ, [], Err, IfOk, IfErr, IsOkUnless, length, map, replicate, true, vec_len};
+ghost use Rattle.foyer_device_page.specs.declared.error.Error.TheVariants.{Memory, Config, Recover, SequenceEnd};
+ghost use Rattle.foyer_core_steps.specs.Opened.{IsOpenedFrom, opened_sets};
+ghost use Rattle.foyer_core_flusher.specs.Idle.{idle};
+ghost use Rattle.foyer_core_flusher.specs.Seen.{seen};
+ghost use Rattle.foyer_core_model.specs.Ids.{is_id_in, AreDistinct};
+ghost use Rattle.foyer_block_recover.specs.Recovery.{IsRefused, marks_of};
+ghost use Rattle.foyer_core_laws.specs.Sizes.{AreValid, sizes_in};
+ghost use Rattle.foyer_core_steps.specs.Showing.{HaveLearned};
+ghost use Rattle.foyer_block_manager.specs.Shown.{evictable_below};
+ghost use Rattle.foyer_core_blocks.specs.Standing.{IsManagedAs};
+
+use crate::destroy::Destroy;
+use crate::env::Env;
+use crate::settings::Settings;
+use crate::state::Core;
+use foyer_block_index::manager::BlockId;
+use foyer_block_index::tombstone::Tombstone;
+use foyer_block_manager::block::eviction::EvictionPicker;
+use foyer_block_manager::block::manager::{BlockManager, ManagerConfig};
+pub use foyer_block_recover::block::recover::RecoverMode;
+use foyer_block_recover::block::recover::{RecoverRunner, Recovered};
+use foyer_core_flusher::flusher::Flusher;
+use foyer_device_page::error::Result;
+use foyer_io_disk::disk::Disk;
+use foyer_policy_filter::StorageFilterCondition;
+use std::alloc::Allocator;
+use std::collections::HashMap;
+
+// So many flushers that have nothing.
+fn idle_flushers<K: Drop, V: Drop, P: Drop, A: Allocator + Clone>(
+    alloc: &A,
+    settings: &Settings,
+) -> Result<Vec<Flusher<K, V, P, A>, A>>
+    requires { AreValid settings.now }
+    ensures idle { IfOk result (λ φs. map seen φs.items ≡ replicate settings.now.flushers (idle settings.now)) }
+    ensures count { IfOk result (λ φs. vec_len φs ≡ settings.now.flushers) }
+    ensures refused { IsOkUnless result Memory }
+{
+    let mut flushers = Vec::with_capacity(alloc.clone()?, settings.flushers as usize)?;
+    'each_flusher: for _ in 0..settings.flushers {
+        flushers.push(Flusher::new(alloc, settings)?)?;
+    }
+    Ok(flushers)
+}
+
+// The manager of blocks that were never handed out: these are clean, in this order, all others are evictable, and the
+// pickers know them.
+fn place_blocks<A: Allocator + Clone, E: EvictionPicker, C: StorageFilterCondition>(
+    alloc: &A,
+    env: &mut Env<E, C>,
+    settings: &Settings,
+    clean: &[BlockId],
+) -> Result<BlockManager<A>>
+    requires once { AreDistinct clean.now }
+    requires there { (b : ℕ) → is_id_in b clean.now ≡ true → b < settings.now.blocks }
+    ensures placed { IfOk result (λ manager. IsManagedAs settings.now manager (opened_sets settings.now.blocks clean.now)) }
+    ensures shown { IfOk result (λ manager. HaveLearned E.begins E.learns settings.now.blocks settings.now.block_size
+        (evictable_below manager.blocks (length manager.blocks)) env.old.pickers.items env.new.pickers.items) }
+    ensures refused { IsOkUnless result Memory }
+{
+    let mut manager = BlockManager::open(
+        alloc,
+        ManagerConfig {
+            blocks: settings.blocks,
+            flushers: settings.flushers,
+            reclaimers: settings.reclaimers as usize,
+            clean_threshold: settings.clean_block_threshold,
+        },
+    )?;
+    env.init(settings.blocks, settings.block_size)?;
+    match manager.init(alloc, &mut env.pickers, clean) {
+        Ok(()) => Ok(manager),
+        Err(error) => Err(error),
+    }
+}
+
+impl<K: Drop, V: Drop, P: Drop, A: Allocator + Clone> Core<K, V, P, A> {
+    ghost use Rattle.foyer_block_recover.specs.declared.block.recover.RecoverMode.TheVariants as recover_mode;
+
+    /// Opens a core with what is found in the disk's blocks and with the marks of deletes: the newest entry of each hash,
+    /// unless a mark of the hash is as new; the sequence behind the greatest of entries and marks; and as clean blocks
+    /// those that keep nothing, in the order of their ids. In `None` no block is read, and all are clean; marks count in
+    /// every mode. The pickers learn of the blocks. Nothing is written.
+    ///
+    /// `Config` where the settings don't go together, before anything is read; `Recover` where a read failed in
+    /// `Strict`; `SequenceEnd` where what was found, or a mark, has the last sequence; `Memory` at any time. No bytes
+    /// refuse it.
+    pub fn open<D: Disk, E: EvictionPicker, C: StorageFilterCondition>(
+        alloc: A,
+        env: &mut Env<E, C>,
+        settings: Settings,
+        disk: &mut D,
+        mode: RecoverMode,
+        marks: &[Tombstone],
+    ) -> Result<Core<K, V, P, A>>
+        ensures opened { IfOk result (IsOpenedFrom settings (D.byte_at disk.old) (D.surely_has disk.old) mode (marks_of marks.now)
+            ((mode ≡ recover_mode.None) ⊎ D.is_known disk.old)) }
+        ensures shown { IfOk result (λ core. HaveLearned E.begins E.learns settings.blocks settings.block_size
+            (evictable_below core.manager.blocks (length core.manager.blocks)) env.old.pickers.items env.new.pickers.items) }
+        ensures sound { IfOk result (λ _. AreValid settings) }
+        ensures refused { IfErr result (λ e. (e ≡ Memory) ⊎ ((e ≡ Config) × (AreValid settings → ⊥))
+            ⊎ ((e ≡ Recover) × (mode ≡ recover_mode.Strict)) ⊎ ((e ≡ SequenceEnd) × (mode ≡ recover_mode.None → marks.now ≢ []))) }
+        ensures cause { AreValid settings → (mode ≡ recover_mode.None) ⊎ D.is_known disk.old → IfErr result
+            (IsRefused (sizes_in settings) settings.blocks (D.byte_at disk.old) (D.surely_has disk.old) mode (marks_of marks.now)) }
+        ensures unsound { (AreValid settings → ⊥) → result ≡ Err Config }
+        ensures unread { mode ≡ recover_mode.None → disk.new ≡ disk.old }
+        ensures known { D.is_known disk.old → D.is_known disk.new }
+        ensures same { D.byte_at disk.new ≡ D.byte_at disk.old }
+        ensures has { (b o n : ℕ) → D.surely_has disk.old b o n → D.surely_has disk.new b o n }
+    {
+        settings.check()?;
+        let runner = RecoverRunner {
+            mode,
+            blocks: settings.blocks,
+            block_size: settings.block_size,
+            blob_index_size: settings.blob_index_size,
+        };
+        let recovered = match runner.run(&alloc, disk, settings.indexer_shards, marks) {
+            Ok(recovered) => recovered,
+            Err(error) => return Err(error),
+        };
+        let Recovered { index, next, clean } = recovered;
+        let flushers = idle_flushers(&alloc, &settings)?;
+        let manager = place_blocks(&alloc, env, &settings, &clean)?;
+        let reclaims = HashMap::new(alloc.clone()?);
+        Ok(Core {
+            alloc,
+            settings,
+            index,
+            next,
+            steps: 0,
+            closed: false,
+            queued: 0,
+            flushers,
+            manager,
+            reclaims,
+            destroy: Destroy::Absent,
+        })
+    }
+}

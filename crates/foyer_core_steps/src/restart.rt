@@ -1,0 +1,35 @@
+//! What a core finds that is opened on the bytes that a run of one left.
+ghost use Rattle.std.specs.Prelude.{◌≡◌, ◌⊎◌, ℕ, Bool, List, Some};
+ghost use Rattle.foyer_core_steps.specs.Reopened.{IsReopened, HasAgain, HasNewer, BeginsWithNewest};
+ghost use Rattle.foyer_core_steps.specs.declared.state.Core.{Core};
+ghost use Rattle.foyer_core_model.specs.Record.{Address, Indexed};
+ghost use Rattle.foyer_core_model.specs.State.{Writing};
+ghost use Rattle.foyer_core_model.specs.World.{World};
+ghost use Rattle.foyer_block_recover.specs.declared.block.recover.RecoverMode.{RecoverMode};
+ghost use Rattle.foyer_core_restart.specs.Restart.{IsWriting, IsBeingWritten};
+ghost use Rattle.foyer_core_laws.specs.Content.{Content};
+ghost use Rattle.foyer_core_laws.specs.Sizes.{AreValid};
+ghost use Rattle.foyer_core_laws.specs.declared.settings.Settings.{Settings};
+
+use foyer_io_disk::disk::Disk;
+
+/// A core that `Core::open` gave on the bytes that a run of a core left at a stop has in its index each address that the
+/// run's index had, or a newer record of its hash, unless its block was being written; and each of them where no flush was
+/// under way. What it has again is what was newest at the stop. The opening is strict, or no read of an index can fail.
+pub fn reopening_finds<K, V, P, A, D: Disk>()
+    ensures again { (is_key is_value : List ℕ → Bool) (s : Settings) (sound : AreValid s) (w : World Content) (disk : D)
+        (mode : RecoverMode) (core : Core K V P A) (h : ℕ) (a : Address)
+        → IsReopened is_key is_value s sound w (D.byte_at disk) (D.surely_has disk) (D.is_known disk) mode core
+        → w.core.index h ≡ Some (Indexed a) → (IsBeingWritten w.core a.block → ⊥)
+        → HasAgain core h a ⊎ HasNewer w (D.byte_at disk) core h a }
+    ensures all { (is_key is_value : List ℕ → Bool) (s : Settings) (sound : AreValid s) (w : World Content) (disk : D)
+        (mode : RecoverMode) (core : Core K V P A) (h : ℕ) (a : Address)
+        → IsReopened is_key is_value s sound w (D.byte_at disk) (D.surely_has disk) (D.is_known disk) mode core
+        → w.core.index h ≡ Some (Indexed a) → ((f : ℕ) (r : Writing Content) → IsWriting w.core f r → ⊥)
+        → HasAgain core h a }
+    ensures newest { (is_key is_value : List ℕ → Bool) (s : Settings) (sound : AreValid s) (w : World Content) (disk : D)
+        (mode : RecoverMode) (core : Core K V P A) (h : ℕ) (a : Address)
+        (is : IsReopened is_key is_value s sound w (D.byte_at disk) (D.surely_has disk) (D.is_known disk) mode core)
+        → w.core.index h ≡ Some (Indexed a) → HasAgain core h a
+        → BeginsWithNewest is_key is_value s sound w (D.byte_at disk) (is.opened).found h }
+{}

@@ -1,0 +1,50 @@
+//! The state of the core.
+ghost use Rattle.std.specs.Prelude.{◌≡◌, ◌<◌, ◌≤◌, ◌^◌, length, vec_len};
+
+use crate::block::reclaimer::Reclaims;
+use crate::destroy::Destroy;
+use crate::settings::Settings;
+use foyer_block_index::indexer::Indexer;
+use foyer_block_manager::block::manager::BlockManager;
+use foyer_core_flusher::flusher::Flusher;
+use std::alloc::Allocator;
+
+/// The engine's state. `Core::apply` changes it.
+#[derive(Drop)]
+pub struct Core<K, V, P, A: Allocator> {
+    pub(crate) alloc: A,
+    pub(crate) settings: Settings,
+    pub(crate) index: Indexer<A>,
+    /// The sequence that is drawn next.
+    pub(crate) next: u64,
+    /// How many steps were applied, those handed back aside.
+    pub(crate) steps: u64,
+    pub(crate) closed: bool,
+    /// The sizes of all queued pieces together, in bytes.
+    pub(crate) queued: u128,
+    pub(crate) flushers: Vec<Flusher<K, V, P, A>, A>,
+    /// The blocks, and the flushers that wait for one.
+    pub(crate) manager: BlockManager<A>,
+    /// The reclaims that run, by their blocks.
+    pub(crate) reclaims: Reclaims<A>,
+    pub(crate) destroy: Destroy<A>,
+    ghost some_flusher: { 0 < vec_len flushers },
+    ghost all_flushers: { length manager.ready ≡ vec_len flushers },
+    ghost small_blocks: { settings.block_size ≤ 2 ^ 32 },
+}
+
+impl<K, V, P, A: Allocator> Core<K, V, P, A> {
+    /// The sizes that it was opened with.
+    pub fn settings(&self) -> Settings
+        ensures { result ≡ self.now.settings }
+    {
+        self.settings
+    }
+
+    /// Where its memory comes from.
+    pub fn allocator(&self) -> &A
+        ensures { result.now ≡ self.now.alloc }
+    {
+        &self.alloc
+    }
+}

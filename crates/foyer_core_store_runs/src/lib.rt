@@ -1,0 +1,15 @@
+//! What a store's loads answer while pieces are queued: a law of every run.
+#![tactic(auto)]
+
+ghost use Rattle.std.specs.Prelude.{◌≡◌, ℕ, Bool, true, List};
+ghost use Rattle.foyer_core_model.specs.Record.{Record};
+ghost use Rattle.foyer_core_model.specs.Position.{Position, BlockLayout};
+ghost use Rattle.foyer_core_model.specs.Rules.{Rules};
+ghost use Rattle.foyer_core_store_runs.specs.StoreLaw.{QueuedAreFound};
+
+/// While a piece of a key is queued and not released, a load answers it, a newer piece of the key, or no older entry.
+pub fn queued_are_found<C, Q>()
+    ensures { (same : Q → Q → Bool) (key_of : C → Q) (hash_of : Q → ℕ)
+        (rules : Rules C) (splits : Position → List (Record C) → List (BlockLayout C) → Bool) (is_value : C → Bool)
+        → QueuedAreFound same key_of hash_of rules (λ f rs ss. splits f rs ss ≡ true) (λ c. is_value c ≡ true) }
+{}

@@ -1,5 +1,0 @@
-use Rattle.std.proofs.Common.{rules}
-use Rattle.foyer_device.proofs.error.ErrorFromIoError.from.Goals as goal
-
-pub returns-in-WriteZero : goal.returns-in-WriteZero
-returns-in-WriteZero c = search rules depth 1

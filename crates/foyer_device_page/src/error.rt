@@ -1,0 +1,124 @@
+//! What a call answers in place of its result.
+ghost use Rattle.std.specs.Prelude.{◌≡◌};
+ghost use Rattle.foyer_device_page.specs.Error.{kind_of, IsFaultOf};
+ghost use Rattle.foyer_device_page.specs.declared.error.Error.TheVariants.{Memory};
+
+use std::alloc::{AllocError, AllocFailed};
+use std::io;
+use thiserror::Error;
+
+/// The kind of an error, as the program names it.
+#[derive(Clone, Copy, Debug, PartialEq, Eq)]
+pub enum ErrorKind {
+    Io,
+    Memory,
+    Config,
+    Parse,
+    MagicMismatch,
+    ChecksumMismatch,
+    OutOfRange,
+    BufferSizeLimit,
+    NoSpace,
+    Recover,
+    Closed,
+    Unsupported,
+    SequenceEnd,
+}
+
+/// What a call answers in place of its result. A refused call leaves its object as it was, unless it says otherwise.
+#[derive(Clone, Copy, Debug, PartialEq, Eq, Error)]
+pub enum Error {
+    /// The device, or the writer that a code or a serializer was given, failed during the call.
+    #[error("I/O error")]
+    Io,
+    /// An allocation was refused.
+    #[error("out of memory")]
+    Memory,
+    /// Settings that don't go together.
+    #[error("invalid configuration")]
+    Config,
+    /// Bytes that decode to no value, or a text that names none.
+    #[error("malformed data")]
+    Parse,
+    /// A header that begins with another magic.
+    #[error("bad magic number")]
+    MagicMismatch,
+    /// Bytes that have another checksum than the one that was given.
+    #[error("checksum mismatch")]
+    ChecksumMismatch,
+    /// An id, a page or a range that isn't there, or a size that can't be rounded up to whole pages.
+    #[error("out of range")]
+    OutOfRange,
+    /// A writer that has no room for all the bytes.
+    #[error("buffer size limit exceeded")]
+    BufferSizeLimit,
+    /// A size that exceeds what the device has free.
+    #[error("no space left on the device")]
+    NoSpace,
+    /// A block that could not be read while opening strictly.
+    #[error("recovery failed")]
+    Recover,
+    /// The engine takes no more entries or deletes.
+    #[error("closed")]
+    Closed,
+    /// A compression that this engine reads past and doesn't undo, or a part that isn't built.
+    #[error("not supported")]
+    Unsupported,
+    /// The last sequence, or the last step, was reached.
+    #[error("sequence numbers exhausted")]
+    SequenceEnd,
+}
+
+/// The result of a call.
+pub type Result<T> = std::result::Result<T, Error>;
+
+impl Error {
+    /// The kind of this error.
+    pub fn kind(&self) -> ErrorKind
+        ensures { result ≡ kind_of self.now }
+    {
+        match self {
+            Error::Io => ErrorKind::Io,
+            Error::Memory => ErrorKind::Memory,
+            Error::Config => ErrorKind::Config,
+            Error::Parse => ErrorKind::Parse,
+            Error::MagicMismatch => ErrorKind::MagicMismatch,
+            Error::ChecksumMismatch => ErrorKind::ChecksumMismatch,
+            Error::OutOfRange => ErrorKind::OutOfRange,
+            Error::BufferSizeLimit => ErrorKind::BufferSizeLimit,
+            Error::NoSpace => ErrorKind::NoSpace,
+            Error::Recover => ErrorKind::Recover,
+            Error::Closed => ErrorKind::Closed,
+            Error::Unsupported => ErrorKind::Unsupported,
+            Error::SequenceEnd => ErrorKind::SequenceEnd,
+        }
+    }
+}
+
+impl From<AllocError> for Error {
+    ghost from_gives = { λ _ e. e ≡ Memory };
+
+    fn from(_e: AllocError) -> Error {
+        Error::Memory
+    }
+}
+
+impl<T: Drop> From<AllocFailed<T>> for Error {
+    ghost from_gives = { λ _ e. e ≡ Memory };
+
+    fn from(_e: AllocFailed<T>) -> Error {
+        Error::Memory
+    }
+}
+
+// A writer that takes nothing more is full; every other failure is the writer's own.
+impl From<io::Error> for Error {
+    ghost from_gives = { λ io e. IsFaultOf io e };
+
+    fn from(e: io::Error) -> Error {
+        match e.kind() {
+            io::ErrorKind::WriteZero => Error::BufferSizeLimit,
+            _ => Error::Io,
+        }
+    }
+}

@@ -1,0 +1,37 @@
+//! The files of a device.
+ghost use Rattle.std.specs.Prelude.{◌≡◌, ◌⊎◌, IfErr, IfOk, OnErr, vec_len};
+ghost use Rattle.foyer_device_page.specs.declared.error.Error.TheVariants as error;
+
+use foyer_device_page::error::{Error, Result};
+use std::alloc::Allocator;
+use std::fs::{OpenFile, OpenOptions};
+use std::rt::Files;
+
+// Gives the file at a path, which is made where it is missing, that many bytes. What it gains are zeros.
+pub(super) fn lay_file<R: Files>(rt: &R, path: &str, len: usize) -> Result<()>
+    ensures { IfErr result (λ e. e ≡ error.Io) }
+{
+    let opened = OpenOptions::new()
+        .read(true)
+        .write(true)
+        .create(true)
+        .open(rt, path);
+    let Ok(file) = opened else {
+        return Err(Error::Io);
+    };
+    match file.set_len(len as u64) {
+        Ok(()) => Ok(()),
+        Err(_) => Err(Error::Io),
+    }
+}
+
+// A list of one path.
+pub(super) fn one_path<B: Allocator + Clone>(alloc: B, path: &str) -> Result<Vec<String<B>, B>>
+    ensures count { IfOk result (λ paths. vec_len paths ≡ 1) }
+    ensures memory { OnErr result (result ≡ Err error.Memory) }
+{
+    let path = String::from_str(alloc.clone()?, path)?;
+    let mut paths = Vec::new(alloc);
+    paths.push(path)?;
+    Ok(paths)
+}

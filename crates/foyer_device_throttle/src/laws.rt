@@ -1,0 +1,19 @@
+//! What holds of quotas and of texts.
+ghost use Rattle.foyer_device_throttle.specs.Quota.{LastPollCounts};
+ghost use Rattle.foyer_device_throttle.specs.Meter.{RecordingsCount};
+ghost use Rattle.foyer_device_throttle.specs.Text.{TextsReadBack};
+
+/// Polls without a record between them leave what the last one alone leaves.
+pub fn last_poll_counts()
+    ensures { LastPollCounts }
+{}
+
+/// What is recorded between two polls lessens the quota, though a meter sees it only at the later one.
+pub fn recordings_count()
+    ensures { RecordingsCount }
+{}
+
+/// What is printed of a way to count calls is read back as that one.
+pub fn texts_read_back()
+    ensures { TextsReadBack }
+{}

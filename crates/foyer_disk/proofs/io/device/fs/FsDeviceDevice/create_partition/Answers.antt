@@ -1,8 +1,0 @@
-use Rattle.std.proofs.Common.{refl}
-use Rattle.foyer_disk.proofs.FilesLemmas.{files_next}
-use Rattle.foyer_disk.proofs.io.device.fs.FsDeviceDevice.create_partition.Goals as goal
-
-pub returns-clause-made : goal.returns-clause-made
-returns-clause-made g c =
-    let count = c.len-id.ensures.count in
-    rw c.in_ok-push.ensures.pushed (refl, files_next _ _ _ count, count, refl)

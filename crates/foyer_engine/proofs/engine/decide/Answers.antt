@@ -1,5 +1,0 @@
-use Rattle.std.proofs.Common.{rules}
-use Rattle.foyer_engine.proofs.engine.decide.Goals as goal
-
-pub returns-in-None-2 : goal.returns-in-None-2
-returns-in-None-2 g c = search rules depth 1

@@ -1,8 +1,0 @@
-use Rattle.std.proofs.Common.{arith}
-use Rattle.std.proofs.lemmas.Grind.{common_steps}
-use Rattle.foyer_format.specs.Header.{header_bytes}
-use Rattle.foyer_format.proofs.block.serde.EntryHeader.write.Goals as goal
-
-pub returns : goal.returns
-unfolding header_bytes
-returns c = grind (arith, common_steps)

@@ -1,6 +1,0 @@
-//! The bytes of entries: headers and records. The codes of keys and values are `foyer_code`'s.
-#![tactic(auto)]
-
-pub mod block;
-pub mod compress;
-pub mod serde;

@@ -1,0 +1,5 @@
+//! What the block engine keeps on its device, by the paths under which users look for it.
+
+pub mod buffer;
+
+pub use foyer_format_record::block::serde;

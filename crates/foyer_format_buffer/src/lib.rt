@@ -1,0 +1,39 @@
+//! A flush's records in memory and over blocks: the buffer that they are written into, and the splitter that lays them
+//! out over blocks, blobs and parts. A blob's index is `foyer_format_blob`'s, under its names here too.
+#![tactic(auto)]
+
+ghost use Rattle.std.specs.Prelude.{◌≡◌, ◌<◌, ◌^◌};
+ghost use Rattle.foyer_format_layout.specs.Page.{page_up};
+
+use foyer_format_record::block::buffer::whole_pages;
+use foyer_format_record::block::serde::Sequence;
+
+pub mod block;
+mod entries;
+pub mod laws;
+mod pages;
+mod split;
+mod splitting;
+
+pub use entries::Buffer;
+pub use foyer_format_blob::{BlobEntryIndex, BlobIndex, BlobIndexReader};
+pub use split::{Batch, BlobPart, Block, SplitCtx, Splitter};
+
+/// Where a record stands in a buffer: its first byte, and its length without the padding.
+#[derive(Clone, Copy, Debug)]
+pub struct BufferEntryInfo {
+    pub hash: u64,
+    pub sequence: Sequence,
+    pub offset: usize,
+    pub len: usize,
+}
+
+impl BufferEntryInfo {
+    /// The bytes that the record takes with its padding.
+    pub fn aligned(&self) -> usize
+        requires { page_up self.now.len < 2 ^ 64 }
+        ensures { result ≡ page_up self.now.len }
+    {
+        whole_pages(self.len)
+    }
+}

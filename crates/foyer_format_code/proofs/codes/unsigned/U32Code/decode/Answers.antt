@@ -1,0 +1,9 @@
+-- The bytes are those of the number that was read.
+use Rattle.std.proofs.Common.{rules}
+use Rattle.std.specs.Int.{w32}
+use Rattle.foyer_format_code.specs.CodeLaws.{number_found}
+use Rattle.foyer_format_code.proofs.codes.unsigned.U32Code.decode.Goals as goal
+
+pub returns-clause-found : goal.returns-clause-found
+returns-clause-found g c =
+    number_found w32 c.args.bytes.now c.from_le_bytes.result (search rules) (λ i. search rules) (search rules) (search rules)

@@ -1,0 +1,15 @@
+use Rattle.std.proofs.Common.{arith, rules}
+use Rattle.foyer_format_code.specs.CodeLaws.{numbers}
+use Rattle.foyer_format_code.proofs.codes.unsigned.U64Code.encode_into.Goals as goal
+
+pub returns-clause-bytes : goal.returns-clause-bytes
+returns-clause-bytes g c = search (rules, numbers) depth 1
+
+pub returns-clause-room : goal.returns-clause-room
+returns-clause-room g c = grind (arith, numbers)
+
+pub returns-clause-taken : goal.returns-clause-taken
+returns-clause-taken g c = grind (arith, numbers)
+
+pub returns-clause-refused : goal.returns-clause-refused
+returns-clause-refused g c = grind (arith, numbers)

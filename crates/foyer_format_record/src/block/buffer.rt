@@ -1,0 +1,14 @@
+//! Whole pages: what a record takes in a buffer of entries and on a device.
+ghost use Rattle.std.specs.Prelude.{◌≡◌, ◌+◌, ◌^◌, ◌<◌};
+ghost use Rattle.foyer_format_layout.specs.Page.{page_up};
+
+pub use foyer_device_page::io::bytes::PAGE;
+
+/// The least whole number of pages that has so many bytes, in bytes.
+#[tactic(auto, unfolding(foyer_format_layout::specs::Page::page_up))]
+pub fn whole_pages(len: usize) -> usize
+    requires { page_up len < 2 ^ 64 }
+    ensures { result ≡ page_up len }
+{
+    (len + (PAGE - 1)) / PAGE * PAGE
+}

@@ -1,0 +1,45 @@
+//! What an entry's properties say of it.
+ghost use Rattle.std.specs.Prelude.{◌≡◌, None, Option};
+ghost use Rattle.foyer_format_record.specs.declared.serde.ages.Age.{Age};
+ghost use Rattle.foyer_format_record.specs.declared.serde.ages.Age.TheVariants as age_of;
+
+/// How long an entry has been on its way through the cache.
+#[derive(Clone, Copy, Debug, PartialEq, Eq)]
+pub enum Age {
+    /// It was never on the disk.
+    Fresh,
+    /// It came from the disk, and stands there in a block that stays.
+    Young,
+    /// It came from the disk, from a block that will soon be reclaimed.
+    Old,
+}
+
+impl Default for Age {
+    ghost is_default = { λ age. age ≡ age_of.Fresh };
+
+    fn default() -> Age {
+        Age::Fresh
+    }
+}
+
+/// What a memory cache keeps beside a key and a value.
+pub trait Properties {
+    // The answer of `age`.
+    ghost age: { Self → Option Age };
+
+    /// The entry's age, if it is known.
+    fn age(&self) -> Option<Age>
+        ensures { result ≡ age self.now };
+}
+
+/// Properties of entries that have no age of their own.
+#[derive(Clone, Copy, Debug, PartialEq, Eq)]
+pub struct NoProperties;
+
+impl Properties for NoProperties {
+    ghost age = { λ _. None };
+
+    fn age(&self) -> Option<Age> {
+        None
+    }
+}

@@ -1,6 +1,0 @@
-mod batches;
-mod buffers;
-mod codes;
-mod errors;
-mod formats;
-mod indices;

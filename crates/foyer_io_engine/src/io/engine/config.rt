@@ -1,0 +1,31 @@
+//! What makes an engine.
+
+use super::IoEngine;
+use foyer_device_page::error::Result;
+use std::alloc::{AllocError, Allocator};
+
+/// What an engine is built for: the path of each file of the device, as `Device::files` gives them.
+#[derive(Clone, Copy)]
+pub struct IoEngineBuildContext<'a, A: Allocator> {
+    pub files: &'a [String<A>],
+}
+
+/// Builds engines over a runtime R.
+pub trait IoEngineConfig<R> {
+    type Engine: IoEngine + Drop;
+
+    /// An engine over the files of the context. Io where one couldn't be opened, Memory.
+    fn build<A: Allocator>(
+        &self,
+        rt: &R,
+        context: &IoEngineBuildContext<'_, A>,
+    ) -> Result<Self::Engine>;
+
+    /// The config in a box. AllocError where that was refused.
+    fn boxed<A: Allocator>(self, alloc: A) -> std::result::Result<Box<Self, A>, AllocError>
+    where
+        Self: Sized + Drop,
+    {
+        Ok(Box::new(alloc, self)?)
+    }
+}

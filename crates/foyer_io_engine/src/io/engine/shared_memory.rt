@@ -1,0 +1,73 @@
+//! One memory for several engines.
+ghost use Rattle.std.specs.Prelude.{None};
+
+use super::memory::MemoryIoEngine;
+use super::{IoEngine, IoEngineBuildContext, IoEngineConfig, IoHandle};
+use foyer_device_page::error::Result;
+use foyer_device_page::io::bytes::{IoBuf, IoBufMut};
+use foyer_device_partition::io::device::Partition;
+use std::alloc::Allocator;
+use std::sync::{Arc, Mutex, Wait};
+
+/// Builds engines over one memory.
+#[derive(Drop)]
+pub struct SharedMemoryIoEngineConfig<A: Allocator> {
+    memory: Arc<Mutex<MemoryIoEngine<A>>, A>,
+}
+
+impl<A: Allocator> SharedMemoryIoEngineConfig<A> {
+    /// Engines over this memory. Memory.
+    pub fn new(alloc: A, memory: MemoryIoEngine<A>) -> Result<SharedMemoryIoEngineConfig<A>> {
+        let memory = Arc::new(alloc, Mutex::new(memory))?;
+        Ok(SharedMemoryIoEngineConfig { memory })
+    }
+}
+
+impl<R: Wait + Clone + Drop, A: Allocator> IoEngineConfig<R> for SharedMemoryIoEngineConfig<A> {
+    type Engine = SharedMemoryIoEngine<R, A>;
+
+    fn build<B: Allocator>(
+        &self,
+        rt: &R,
+        _context: &IoEngineBuildContext<'_, B>,
+    ) -> Result<SharedMemoryIoEngine<R, A>> {
+        let rt = rt.clone()?;
+        let memory = Arc::try_clone(&self.memory)?;
+        Ok(SharedMemoryIoEngine { rt, memory })
+    }
+}
+
+/// An engine over memory that others read and write too, which it locks for each call.
+#[derive(Drop)]
+pub struct SharedMemoryIoEngine<R: Wait + Drop, A: Allocator> {
+    rt: R,
+    memory: Arc<Mutex<MemoryIoEngine<A>>, A>,
+}
+
+impl<R: Wait + Drop, A: Allocator> IoEngine for SharedMemoryIoEngine<R, A> {
+    ghost disk = { λ _. None };
+
+    ghost faults = { λ _. 0 };
+
+    fn read<B: IoBufMut, P: Partition>(
+        &mut self,
+        buffer: B,
+        partition: &P,
+        offset: u64,
+    ) -> IoHandle<B> {
+        self.memory.lock(&self.rt).read(buffer, partition, offset)
+    }
+
+    fn write<B: IoBuf, P: Partition>(
+        &mut self,
+        buffer: B,
+        partition: &P,
+        offset: u64,
+    ) -> IoHandle<B> {
+        self.memory.lock(&self.rt).write(buffer, partition, offset)
+    }
+
+    fn failures(&self) -> u64 {
+        0
+    }
+}

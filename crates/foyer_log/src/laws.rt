@@ -1,7 +1,0 @@
-//! What holds of every log.
-ghost use Rattle.foyer_log.specs.Writes.{TouchedAreCounted};
-
-/// What is said to be the number of the pages that marks come into, is the number of these pages.
-pub fn touched_are_counted()
-    ensures { TouchedAreCounted }
-{}

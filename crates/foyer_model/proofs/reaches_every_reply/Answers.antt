@@ -1,5 +1,0 @@
-use Rattle.foyer_model.proofs.Witness.{reaches_lem}
-use Rattle.foyer_model.proofs.reaches_every_reply.Goals as goal
-
-pub returns : goal.returns
-returns c = reaches_lem

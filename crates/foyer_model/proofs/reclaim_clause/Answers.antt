@@ -1,6 +1,0 @@
-use Rattle.std.proofs.Common.{◌≡◌, true}
-use Rattle.foyer_model.proofs.Companions.{reclaim_keeps_lem}
-use Rattle.foyer_model.proofs.reclaim_clause.Goals as goal
-
-pub returns : goal.returns
-returns g c = λ rules splits. reclaim_keeps_lem rules (λ f rs ss. splits f rs ss ≡ true)

@@ -1,5 +1,0 @@
-mod engine;
-mod io;
-mod keeper;
-mod log;
-mod statistics;

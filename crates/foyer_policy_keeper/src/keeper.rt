@@ -1,0 +1,142 @@
+//! The keeper: a map from a key to its piece, in shards that are locked one at a time.
+ghost use Rattle.std.specs.Prelude.{◌≡◌, ◌≢◌, ◌<◌, ◌%◌, ◌⊎◌, length, IfOk, IfErr, IfSome, IsOkUnless};
+ghost use Rattle.foyer_policy_keeper.specs.PieceMap.{IsOf};
+
+mod bucket;
+pub mod shard;
+
+use self::shard::Shard;
+use foyer_device_page::error::{Error, Result};
+use foyer_policy_piece::keeper::Piece;
+use std::alloc::Allocator;
+use std::marker::Model;
+use std::ops::Deref;
+use std::sync::{Mutex, Wait};
+
+/// A piece that a keeper may have. One that is dropped releases nothing.
+#[derive(Drop)]
+pub struct PieceRef<K, V, P, A: Allocator> {
+    piece: Piece<K, V, P, A>,
+    number: u64,
+}
+
+impl<K, V, P, A: Allocator> Model for PieceRef<K, V, P, A> {
+    ghost use Rattle.foyer_policy_keeper.specs.Referred.{Referred};
+
+    ghost Value = { Referred K V P };
+
+    ghost view = { λ r. record { piece = r.piece; number = r.number } };
+}
+
+impl<K, V, P, A: Allocator> PieceRef<K, V, P, A> {
+    /// The number of its insertion into a keeper, from 1 up; 0, where it was made of a piece.
+    pub fn number(&self) -> u64
+        ensures { result ≡ self.now.number }
+    {
+        self.number
+    }
+}
+
+impl<K, V, P, A: Allocator> Deref for PieceRef<K, V, P, A> {
+    type Target = Piece<K, V, P, A>;
+
+    ghost deref_gives = { λ r piece. piece ≡ r.piece };
+
+    fn deref(&self) -> &Piece<K, V, P, A> {
+        &self.piece
+    }
+}
+
+/// A piece that no keeper was given, so that its release removes nothing.
+impl<K, V, P, A: Allocator> From<Piece<K, V, P, A>> for PieceRef<K, V, P, A> {
+    ghost from_gives = { λ piece r. (r.piece ≡ piece) × (r.number ≡ 0) };
+
+    fn from(piece: Piece<K, V, P, A>) -> PieceRef<K, V, P, A> {
+        PieceRef { piece, number: 0 }
+    }
+}
+
+/// The pieces that aren't flushed yet, by hash and key. Contracts see how many shards it has. Threads share it by
+/// reference; each call takes the lock of one shard, and holds no other.
+#[derive(Drop)]
+pub struct Keeper<K: Eq, V, P, A: Allocator> {
+    shards: Vec<Mutex<Shard<K, V, P, A>>, A>,
+}
+
+impl<K: Eq, V, P, A: Allocator> Model for Keeper<K, V, P, A> {
+    ghost use Rattle.std.specs.Prelude.{ℕ, ◌<◌, length};
+
+    ghost Value = { ℕ };
+
+    ghost view = { λ k. length k.shards.items };
+
+    ghost invariant = { λ k. 0 < length k.shards.items };
+}
+
+// Which of so many shards a hash lies in.
+fn place_of(hash: u64, shards: usize) -> usize
+    requires { 0 < shards }
+    ensures { result ≡ hash % shards }
+{
+    (hash % shards as u64) as usize
+}
+
+// The shard of a hash. Contracts tell no lock from another, so that `place_of` says which one it is.
+fn shard_of<K: Eq, V, P, A: Allocator>(
+    shards: &[Mutex<Shard<K, V, P, A>>],
+    hash: u64,
+) -> &Mutex<Shard<K, V, P, A>>
+    requires { 0 < length shards.now }
+{
+    &shards[place_of(hash, shards.len())]
+}
+
+impl<K: Eq + Drop, V: Drop, P: Drop, A: Allocator + Clone> Keeper<K, V, P, A> {
+    /// A keeper of so many shards that has nothing. Memory is the only refusal.
+    pub fn new(alloc: A, shards: usize) -> Result<Keeper<K, V, P, A>>
+        requires { shards ≢ 0 }
+        ensures shards { IfOk result (λ keeper. keeper ≡ shards) }
+        ensures refused { IsOkUnless result Error.Memory }
+    {
+        let mut made = Vec::with_capacity(alloc.clone()?, shards)?;
+        for _ in 0..shards {
+            made.push(Mutex::new(Shard::new(alloc.clone()?)?))?;
+        }
+        Ok(Keeper { shards: made })
+    }
+
+    /// Keeps one more owner of the piece under its hash and its key, in place of what is there, under the next number of its
+    /// shard. `SequenceEnd`, where the shard's numbers are used up; `Memory`. Then all is kept as before.
+    pub fn insert(&self, rt: &impl Wait, piece: &Piece<K, V, P, A>) -> Result<PieceRef<K, V, P, A>>
+        ensures piece { IfOk result (λ kept. (kept.piece ≡ piece.now) × (0 < kept.number)) }
+        ensures refused { IfErr result (λ e. (e ≡ Error.Memory) ⊎ (e ≡ Error.SequenceEnd)) }
+    {
+        shard_of(&self.shards, piece.hash()).lock(rt).insert(piece)
+    }
+
+    /// One more owner of the piece that is kept under a hash and a key. Memory, where the piece has 2^63 - 1 owners.
+    pub fn get(&self, rt: &impl Wait, hash: u64, key: &K) -> Result<Option<Piece<K, V, P, A>>>
+        ensures own { IfOk result (λ held. IfSome held (IsOf K.eq hash key.now)) }
+        ensures refused { IsOkUnless result Error.Memory }
+    {
+        shard_of(&self.shards, hash).lock(rt).get(hash, key)
+    }
+
+    /// Whether a piece is kept under a hash and a key.
+    pub fn contains(&self, rt: &impl Wait, hash: u64, key: &K) -> bool {
+        shard_of(&self.shards, hash).lock(rt).contains(hash, key)
+    }
+
+    /// Removes the piece that this keeper has under the hash and the key, if it has this very number. So a reference that was
+    /// made of a piece removes nothing, nor does one whose piece was replaced. It takes no memory.
+    pub fn release(&self, rt: &impl Wait, piece: PieceRef<K, V, P, A>) {
+        shard_of(&self.shards, piece.hash())
+            .lock(rt)
+            .release(&piece);
+    }
+
+    /// The lock of the shard that a hash lies in.
+    pub fn shard(&self, hash: u64) -> &Mutex<Shard<K, V, P, A>> {
+        shard_of(&self.shards, hash)
+    }
+}

@@ -1,0 +1,94 @@
+//! Pieces: entries in memory, shared between the store and the engine's queues.
+ghost use Rattle.std.specs.Prelude.{◌≡◌, IfOk, IsOkUnless};
+ghost use Rattle.foyer_policy_piece.specs.Record.{record_of};
+
+use foyer_device_page::error::{Error, Result};
+use std::alloc::{AllocError, Allocator};
+use std::marker::Model;
+use std::sync::Arc;
+
+// What a piece consists of.
+#[derive(Drop)]
+struct Parts<K, V, P> {
+    key: K,
+    value: V,
+    hash: u64,
+    properties: P,
+}
+
+/// An entry in memory: key, value, the key's hash, and the properties that it was put with. It is
+/// one allocation, which its clones share, and never changes.
+#[derive(Drop)]
+pub struct Piece<K, V, P, A: Allocator> {
+    shared: Arc<Parts<K, V, P>, A>,
+}
+
+impl<K, V, P, A: Allocator> Model for Piece<K, V, P, A> {
+    ghost use Rattle.foyer_policy_piece.specs.Record.{Record};
+    ghost use Rattle.foyer_policy_piece.specs.Parts.{record_of_parts};
+    ghost use Rattle.std.specs.Arc.{arc_value};
+
+    ghost Value = { Record K V P };
+
+    ghost view = { λ a. record_of_parts (arc_value a.shared) };
+}
+
+impl<K: Drop, V: Drop, P: Drop, A: Allocator> Piece<K, V, P, A> {
+    /// A piece of its own. Memory is the only refusal; the arguments are dropped then.
+    pub fn new(alloc: A, key: K, value: V, hash: u64, properties: P) -> Result<Piece<K, V, P, A>>
+        ensures ok { IfOk result (λ piece. piece ≡ record_of key value hash properties) }
+        ensures refused { IsOkUnless result Error.Memory }
+    {
+        let shared = Arc::new(
+            alloc,
+            Parts {
+                key,
+                value,
+                hash,
+                properties,
+            },
+        )?;
+        Ok(Piece { shared })
+    }
+}
+
+impl<K, V, P, A: Allocator> Piece<K, V, P, A> {
+    /// The key.
+    pub fn key(&self) -> &K
+        ensures { result.now ≡ self.now.key }
+    {
+        &self.shared.key
+    }
+
+    /// The value.
+    pub fn value(&self) -> &V
+        ensures { result.now ≡ self.now.value }
+    {
+        &self.shared.value
+    }
+
+    /// The key's hash.
+    pub fn hash(&self) -> u64
+        ensures { result ≡ self.now.hash }
+    {
+        self.shared.hash
+    }
+
+    /// The properties.
+    pub fn properties(&self) -> &P
+        ensures { result.now ≡ self.now.properties }
+    {
+        &self.shared.properties
+    }
+}
+
+/// One more owner of the same piece. AllocError comes only where 2^63 - 1 owners are there.
+impl<K: Drop, V: Drop, P: Drop, A: Allocator> Clone for Piece<K, V, P, A> {
+    ghost is_clone = { λ piece clone. clone ≡ piece };
+
+    fn clone(&self) -> std::result::Result<Piece<K, V, P, A>, AllocError> {
+        Ok(Piece {
+            shared: Arc::try_clone(&self.shared)?,
+        })
+    }
+}

@@ -1,5 +1,0 @@
-use Rattle.foyer_scan.proofs.IndexBytesLemmas.{judged}
-use Rattle.foyer_scan.proofs.laws.index_is_judged.Goals as goal
-
-pub returns : goal.returns
-returns c = judged

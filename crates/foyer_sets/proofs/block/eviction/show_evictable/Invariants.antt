@@ -1,7 +1,0 @@
-use Rattle.foyer_sets.specs.Pickers.{picker_info}
-use Rattle.foyer_sets.proofs.ShownLemmas.{ChangedBefore}
-use Rattle.foyer_sets.proofs.block.eviction.show_evictable.Given as goal
-
-abbrev pub invariant-each_picker : goal.invariant-each_picker
-invariant-each_picker g l =
-    ChangedBefore (λ p q. g.P.EvictionPicker.learns p (picker_info l.info.blocks.now l.info.evictable.now l.info.clean) l.id q) l.picker-index l.fn.pickers l.pickers

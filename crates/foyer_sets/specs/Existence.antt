@@ -1,7 +1,0 @@
--- Sets that a manager stands for.
-use Rattle.foyer_sets.specs.BlockSets.{BlockSets, Stands}
-use Rattle.foyer_sets.specs.Managed.{Managed}
-
--- each manager stands for some sets
-abbrev pub StandsForSome : Type 0
-StandsForSome = (m : Managed) → (s : BlockSets) × Stands m s

@@ -1,5 +1,0 @@
-use Rattle.foyer_tally.specs.Ledgers.{names_in}
-use Rattle.foyer_shared_vectors.proofs.tests.shared.scripts.a_session_has_its_last_two_steps_with_their_replies.Given as goal
-
-abbrev pub ghosts-has_wanted : goal.ghosts-has_wanted
-ghosts-has_wanted g a = record { name_of = names_in a.blanks; all = a.blanks.queued.parts }

@@ -1,6 +1,0 @@
-use Rattle.std.proofs.Common.{◌≡◌}
-use Rattle.foyer_shared_vectors.proofs.tests.shared.threads.enqueue_all.Given as goal
-
--- the session keeps its parts
-abbrev pub invariant-times : goal.invariant-times
-invariant-times g l = l.session.shares.parts ≡ l.fn.session.shares.parts

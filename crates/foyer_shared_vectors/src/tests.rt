@@ -1,2 +1,0 @@
-mod shared;
-mod storage;

@@ -1,0 +1,135 @@
+-- What an engine's calls answer: what their sessions' briefs say.
+use Rattle.std.specs.Prelude.{◌≡◌, ◌⊎◌, ℕ, Bool, Some, Result, Ok, Err}
+use Rattle.foyer_core_steps.specs.declared.reply.Reply.{Reply}
+use Rattle.foyer_core_steps.specs.declared.reply.Reply.TheVariants as reply
+use Rattle.foyer_core_steps.specs.declared.step.Ticket.{Ticket}
+use Rattle.foyer_device_page.specs.declared.error.Error.{Error}
+use Rattle.foyer_device_page.specs.declared.error.Error.TheVariants as error
+use Rattle.foyer_device_page.specs.declared.error.ErrorKind.{ErrorKind}
+use Rattle.foyer_device_page.specs.declared.error.ErrorKind.TheVariants as kind
+use Rattle.foyer_storage_engine.specs.declared.load.Load.{Load}
+use Rattle.foyer_storage_engine.specs.declared.load.Load.TheVariants as load
+use Rattle.foyer_core_shared.specs.Briefs.{reply_brief}
+use Rattle.foyer_core_shared.specs.declared.brief.ReplyBrief.{ReplyBrief}
+use Rattle.foyer_core_shared.specs.declared.brief.ReplyBrief.TheVariants as replied
+use Rattle.foyer_core_shared.specs.declared.brief.StepBrief.{StepBrief}
+use Rattle.foyer_core_shared.specs.declared.brief.StepBrief.TheVariants as asked
+use Rattle.foyer_core_shared.specs.Sessions.{SessionState}
+use Rattle.foyer_core_shared.specs.Kinds.{kind_in}
+use Rattle.foyer_storage_engine.specs.declared.engine.Enqueued.{Enqueued}
+use Rattle.foyer_storage_engine.specs.declared.engine.Enqueued.TheVariants as enqueued
+use Rattle.foyer_core_tally.specs.Tally.{grown}
+use Rattle.foyer_core_tally.specs.declared.kinds.Counts.{Counts}
+use Rattle.foyer_core_tally.specs.declared.kinds.StepKind.TheVariants.{Read}
+
+abbrev pub error_of : ErrorKind → Error
+error_of kind.Io = error.Io
+error_of kind.Memory = error.Memory
+error_of kind.Config = error.Config
+error_of kind.Parse = error.Parse
+error_of kind.MagicMismatch = error.MagicMismatch
+error_of kind.ChecksumMismatch = error.ChecksumMismatch
+error_of kind.OutOfRange = error.OutOfRange
+error_of kind.BufferSizeLimit = error.BufferSizeLimit
+error_of kind.NoSpace = error.NoSpace
+error_of kind.Recover = error.Recover
+error_of kind.Closed = error.Closed
+error_of kind.Unsupported = error.Unsupported
+error_of kind.SequenceEnd = error.SequenceEnd
+
+-- an enqueue that was replied so
+abbrev pub enqueued_as : ReplyBrief → Result Enqueued Error
+enqueued_as (replied.Queued sequence) = Ok enqueued.Queued
+enqueued_as replied.Ignored = Ok enqueued.Ignored
+enqueued_as (replied.Dropped sequence) = Ok enqueued.Deleted
+enqueued_as (replied.Refused kind) = Err (error_of kind)
+enqueued_as other = Err error.Unsupported
+
+-- a delete
+abbrev pub deleted_as : ReplyBrief → Result (Unit {0}) Error
+deleted_as (replied.Deleted sequence) = Ok tt
+deleted_as (replied.Refused kind) = Err (error_of kind)
+deleted_as other = Err error.Unsupported
+
+-- a question
+abbrev pub asked_as : ReplyBrief → Result Bool Error
+asked_as (replied.Answer answer) = Ok answer
+asked_as (replied.Refused kind) = Err (error_of kind)
+asked_as other = Err error.Unsupported
+
+-- a step is the newest that was noted in a session, which had counted so many of each kind before
+pub record IsNewest (new : SessionState) (had : Counts) (given : StepBrief) (answer : ReplyBrief) : Type 0 where
+  pub newest : new.newest ≡ Some (record { step = given; reply = answer })
+  pub counted : new.shares.amounts ≡ grown (kind_in given answer) had
+
+-- a step of this brief got a reply
+pub record IsReplied {X : Type 0} (says : ReplyBrief → Result X Error) (old new : SessionState) (given : StepBrief) (answered : Result X Error) : Type 0 where
+  pub answer : ReplyBrief
+  pub noted : IsNewest new old.shares.amounts given answer
+  pub before : new.before ≡ old.newest
+  pub said : answered ≡ says answer
+
+-- The call made one step, noted it, and answered what its brief says; or a note found no room, and nothing was noted.
+abbrev pub IsAnsweredAs : {X : Type 0} → (ReplyBrief → Result X Error) → SessionState → SessionState → StepBrief → Result X Error → Type 0
+IsAnsweredAs says old new given answered = IsReplied says old new given answered ⊎ ((answered ≡ Err error.Memory) × (new ≡ old))
+
+-- it has a ticket
+abbrev pub IsRead : ReplyBrief → Type 0
+IsRead (replied.Read ticket) = Unit {0}
+IsRead other = ⊥
+
+module _ {K V P A : Type 0} where
+  -- what the last step of a load, with its contents, is answered as
+  abbrev pub IsLoadOf : Reply K V P A → Result (Load K V P A) Error → Type 0
+  IsLoadOf (reply.Entry key value age) answered = answered ≡ Ok (load.Entry key value (record { age = age }))
+  IsLoadOf reply.Throttled answered = answered ≡ Ok load.Throttled
+  IsLoadOf reply.Miss answered = answered ≡ Ok load.Miss
+  IsLoadOf (reply.Refused kind back) answered = answered ≡ Err (error_of kind)
+  IsLoadOf other answered = answered ≡ Err error.Unsupported
+
+  -- a look-up's ticket, or its reply where it has none
+  abbrev pub IsTicketOf : Reply K V P A → Result Ticket (Reply K V P A) → Type 0
+  IsTicketOf given (Ok ticket) = given ≡ reply.Read ticket
+  IsTicketOf given (Err answer) = (answer ≡ given) × (IsRead (reply_brief given) → ⊥)
+
+  -- an answer that has an entry
+  abbrev pub IsEntry : Result (Load K V P A) Error → Type 0
+  IsEntry (Ok (load.Entry key value populated)) = Unit {0}
+  IsEntry answered = ⊥
+
+  -- what its brief is answered as
+  abbrev pub IsLoadAs : ReplyBrief → Result (Load K V P A) Error → Type 0
+  IsLoadAs replied.Entry answered = IsEntry answered
+  IsLoadAs replied.Throttled answered = answered ≡ Ok load.Throttled
+  IsLoadAs replied.Miss answered = answered ≡ Ok load.Miss
+  IsLoadAs (replied.Refused kind) answered = answered ≡ Err (error_of kind)
+  IsLoadAs other answered = answered ≡ Err error.Unsupported
+
+  -- the look-up was answered at once
+  pub record IsLookedUp (old new : SessionState) (hash : ℕ) (throttled : Bool) (answered : Result (Load K V P A) Error) : Type 0 where
+    pub answer : ReplyBrief
+    pub noted : IsNewest new old.shares.amounts (asked.LoadBegin hash throttled) answer
+    pub before : new.before ≡ old.newest
+    pub unread : IsRead answer → ⊥
+    pub said : IsLoadAs answer answered
+
+  -- it got a ticket, but no memory to read into, or none for the note of the load's end
+  pub record IsCutShort (old new : SessionState) (hash : ℕ) (throttled : Bool) (answered : Result (Load K V P A) Error) : Type 0 where
+    pub ticket : Ticket
+    pub noted : IsNewest new old.shares.amounts (asked.LoadBegin hash throttled) (replied.Read ticket)
+    pub before : new.before ≡ old.newest
+    pub said : answered ≡ Err error.Memory
+
+  -- what was read for the ticket ended the load
+  pub record IsEnded (old new : SessionState) (hash : ℕ) (throttled : Bool) (answered : Result (Load K V P A) Error) : Type 0 where
+    pub ticket : Ticket
+    pub answer : ReplyBrief
+    pub noted : IsNewest new (grown Read old.shares.amounts) (asked.LoadEnd ticket) answer
+    pub before : new.before ≡ Some (record { step = asked.LoadBegin hash throttled; reply = replied.Read ticket })
+    pub said : IsLoadAs answer answered
+
+  -- A load makes one step, or two where it reads, and answers what their briefs say; or nothing was noted.
+  abbrev pub IsLoaded : SessionState → SessionState → (hash : ℕ) → (throttled : Bool) → Result (Load K V P A) Error → Type 0
+  IsLoaded old new hash throttled answered =
+      IsLookedUp old new hash throttled answered ⊎ (IsCutShort old new hash throttled answered
+      ⊎ (IsEnded old new hash throttled answered ⊎ ((answered ≡ Err error.Memory) × (new ≡ old))))

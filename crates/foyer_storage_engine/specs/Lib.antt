@@ -1,0 +1,4 @@
+pub mod Answering
+pub mod Loading
+pub mod Decided
+pub mod Ringing

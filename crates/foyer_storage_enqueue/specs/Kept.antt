@@ -1,0 +1,11 @@
+-- What an enqueue makes of a keeper's shard.
+use Rattle.std.specs.Prelude.{Bool, Some}
+use Rattle.foyer_core_steps.specs.declared.reply.Reply.{Reply}
+use Rattle.foyer_core_steps.specs.declared.reply.Reply.TheVariants as reply
+use Rattle.foyer_policy_keeper.specs.PieceMap.{PieceMap, ChangesAt, HoldsSame}
+use Rattle.foyer_policy_keeper.specs.Referred.{Referred}
+
+-- The piece is put into the map under its number where it is queued, and else the map stays.
+abbrev pub IsPutWhereQueued : {K V P A : Type 0} → (K → K → Bool) → PieceMap K V P → PieceMap K V P → Referred K V P → Reply K V P A → Type 0
+IsPutWhereQueued eq old new held (reply.Queued sequence) = ChangesAt eq old new held.piece.hash held.piece.key (Some held)
+IsPutWhereQueued eq old new held answer = HoldsSame eq old new

@@ -1,0 +1,107 @@
+//! The enqueue.
+ghost use Rattle.foyer_core_steps.specs.Refines.{Refines};
+ghost use Rattle.foyer_core_steps.specs.declared.reply.Reply.TheVariants as reply;
+ghost use Rattle.foyer_core_steps.specs.declared.step.Step.TheVariants as steps;
+ghost use Rattle.foyer_device_page.specs.declared.error.ErrorKind.TheVariants as kind;
+ghost use Rattle.foyer_storage_enqueue.specs.Kept.{IsPutWhereQueued};
+ghost use Rattle.foyer_policy_keeper.specs.PieceMap.{HasRoomFor, HoldsSame};
+ghost use Rattle.foyer_core_laws.specs.Content.{meaning};
+ghost use Rattle.foyer_core_shared.specs.Briefed.{IsNotedIn};
+ghost use Rattle.std.specs.Prelude.{◌≡◌, ◌⊎◌, ◌+◌, ◌<◌, ◌≤◌, IfOk, OnErr, IfErr};
+
+use foyer_block_manager::block::eviction::EvictionPicker;
+use foyer_core_shared::locked::Locked;
+use foyer_core_shared::session::Session;
+use foyer_core_steps::reply::Reply;
+use foyer_core_steps::step::Step;
+use foyer_core_tally::book::Kinds;
+use foyer_device_page::error::{Error, ErrorKind, Result};
+use foyer_format_record::serde::{Code, Properties};
+use foyer_policy_filter::StorageFilterCondition;
+use foyer_policy_keeper::keeper::PieceRef;
+use foyer_policy_keeper::keeper::shard::{Reserved, Shard};
+use foyer_policy_piece::keeper::Piece;
+use std::alloc::Allocator;
+
+/// What an enqueue answers, and the reference that releases the piece.
+#[derive(Drop)]
+pub struct Enqueued<K, V, P, A: Allocator> {
+    pub reply: Reply<K, V, P, A>,
+    pub reference: PieceRef<K, V, P, A>,
+}
+
+// Puts the piece where the reply says that it is queued.
+fn put_where_queued<K: Eq + Drop, V: Drop, P: Drop, A: Allocator + Clone>(
+    shard: &mut Shard<K, V, P, A>,
+    reserved: Reserved<K, V, P, A>,
+    reply: &Reply<K, V, P, A>,
+)
+    requires room { HasRoomFor K.eq shard.old reserved.piece.hash reserved.piece.key }
+    requires number { (0 < reserved.number) × (reserved.number ≤ shard.old.last) }
+    ensures { IsPutWhereQueued K.eq shard.old.map shard.new.map reserved reply.now }
+{
+    if let Reply::Queued(_) = reply {
+        shard.put(reserved);
+    }
+}
+
+// The step, or a refusal where its note found no room.
+fn step<L, K, V, P, A, E, C>(
+    locked: &mut Locked<L, K, V, P, A, E, C>,
+    session: &mut Session<L>,
+    step: Step<K, V, P, A>,
+) -> Reply<K, V, P, A>
+where
+    L: Kinds,
+    K: Code<A> + Drop,
+    V: Code<A> + Drop,
+    P: Properties + Drop,
+    A: Allocator + Clone,
+    E: EvictionPicker,
+    C: StorageFilterCondition,
+    requires { 0 < session.old.shares.parts }
+    ensures core { Refines (meaning K.encoding V.encoding K.is_encodable V.is_encodable K.is_decodable V.is_decodable P.age) step result locked.old.core locked.new.core
+        ⊎ ((result ≡ reply.Refused kind.Memory step) × (locked.new.core ≡ locked.old.core)) }
+    ensures noted { IsNotedIn session.old session.new step result ⊎ ((result ≡ reply.Refused kind.Memory step) × (session.new ≡ session.old)) }
+    ensures parts { session.new.shares.parts ≡ session.old.shares.parts }
+{
+    match locked.step(session, step) {
+        Ok(reply) => reply,
+        Err(step) => Reply::Refused(ErrorKind::Memory, step),
+    }
+}
+
+/// Queues a piece in the core, and puts it into the keeper's shard where it is queued, under the shard's next number. Room and
+/// number are made first: `Memory` and `SequenceEnd` leave the core, the session and what is kept as they were. The caller holds
+/// the shard's lock from before the core's until after it, so that no look-up and no release comes between.
+pub fn enqueue<L, K, V, P, A, E, C>(
+    shard: &mut Shard<K, V, P, A>,
+    locked: &mut Locked<L, K, V, P, A, E, C>,
+    session: &mut Session<L>,
+    piece: Piece<K, V, P, A>,
+    size: usize,
+) -> Result<Enqueued<K, V, P, A>>
+where
+    L: Kinds,
+    K: Code<A> + Eq + Drop,
+    V: Code<A> + Drop,
+    P: Properties + Drop,
+    A: Allocator + Clone,
+    E: EvictionPicker,
+    C: StorageFilterCondition,
+    requires { 0 < session.old.shares.parts }
+    ensures kept { IfOk result (λ r. IsPutWhereQueued K.eq shard.old.map shard.new.map r.reference r.reply) }
+    ensures reference { IfOk result (λ r. r.reference ≡ record { piece = piece; number = shard.old.last + 1 }) }
+    ensures core { IfOk result (λ r. Refines (meaning K.encoding V.encoding K.is_encodable V.is_encodable K.is_decodable V.is_decodable P.age)
+        (steps.Enqueue piece size) r.reply locked.old.core locked.new.core
+        ⊎ ((r.reply ≡ reply.Refused kind.Memory (steps.Enqueue piece size)) × (locked.new.core ≡ locked.old.core))) }
+    ensures noted { IfOk result (λ r. IsNotedIn session.old session.new (steps.Enqueue piece size) r.reply
+        ⊎ ((r.reply ≡ reply.Refused kind.Memory (steps.Enqueue piece size)) × (session.new ≡ session.old))) }
+    ensures err { OnErr result (HoldsSame K.eq shard.old.map shard.new.map × (locked.new.core ≡ locked.old.core) × (session.new ≡ session.old)) }
+    ensures refused { IfErr result (λ e. (e ≡ Error.Memory) ⊎ (e ≡ Error.SequenceEnd)) }
+{
+    let (reference, reserved) = shard.reserve(&piece)?;
+    let reply = step(locked, session, Step::Enqueue { piece, size });
+    put_where_queued(shard, reserved, &reply);
+    Ok(Enqueued { reply, reference })
+}

@@ -1,5 +1,0 @@
-use Rattle.foyer_throttle.proofs.QuotaLemmas.{last_poll}
-use Rattle.foyer_throttle.proofs.laws.last_poll_counts.Goals as goal
-
-pub returns : goal.returns
-returns c = last_poll

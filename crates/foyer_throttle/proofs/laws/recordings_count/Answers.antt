@@ -1,5 +1,0 @@
-use Rattle.foyer_throttle.proofs.QuotaLemmas.{recorded_more}
-use Rattle.foyer_throttle.proofs.laws.recordings_count.Goals as goal
-
-pub returns : goal.returns
-returns c = recorded_more

@@ -1,0 +1,7 @@
+mod batches;
+mod buffers;
+mod codes;
+mod errors;
+mod formats;
+mod hashes;
+mod indices;

@@ -1,0 +1,4 @@
+mod io;
+mod keeper;
+mod log;
+mod statistics;

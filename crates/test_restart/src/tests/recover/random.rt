@@ -1,0 +1,154 @@
+//! Random blocks, failed reads and marks.
+use crate::tests::recover::recovering::runner;
+use crate::tests::recover::slow;
+use foyer_block_index::tombstone::Tombstone;
+use foyer_block_recover::block::recover::RecoverMode;
+use foyer_device_page::error::Error;
+use foyer_format_blob::BlobEntryIndex;
+use foyer_testing::forged::{ForgedDisk, entry, page};
+use rand_core::utils::NextWord;
+use rand_pcg::Pcg32;
+use std::alloc::Global;
+use std::process::Abort;
+use std::test::Fail;
+
+const BLOCKS: u32 = 3;
+
+// Below the bound.
+fn draw(generator: &mut Pcg32, below: u32) -> u32 {
+    let word = generator.next_word();
+    if below == 0 { 0 } else { word % below }
+}
+
+// Small, but now and then the last one.
+fn draw_sequence(generator: &mut Pcg32) -> u64 {
+    if draw(generator, 200) == 0 {
+        return u64::MAX;
+    }
+    u64::from(draw(generator, 9))
+}
+
+fn draw_index(alloc: Global, generator: &mut Pcg32) -> Result<[u8; 4096], Fail> {
+    let mut entries: Vec<BlobEntryIndex> = Vec::new(alloc);
+    let mut least = draw_sequence(generator);
+    let drawn = draw(generator, 4);
+    for _ in 0..drawn {
+        if draw(generator, 4) == 0 {
+            least = draw_sequence(generator);
+        }
+        let offset = match draw(generator, 20) {
+            0 => 0,
+            1 => 4097,
+            2..=9 => 8192,
+            _ => 4096,
+        };
+        let len = match draw(generator, 20) {
+            0 => 0,
+            1 => 12289,
+            2..=5 => 4097,
+            _ => 53,
+        };
+        let hash = u64::from(draw(generator, 5));
+        entries.push(entry(hash, least, offset, len))?;
+    }
+    let count = match draw(generator, 30) {
+        0 => 171,
+        1 => 170,
+        _ => drawn,
+    };
+    let mut bytes = page(&entries, count);
+    if draw(generator, 16) == 0 {
+        let place = draw(generator, 4096) as usize;
+        if let Some(byte) = bytes.get_mut(place) {
+            *byte ^= 1;
+        }
+    }
+    Ok(bytes)
+}
+
+fn draw_disk(alloc: Global, generator: &mut Pcg32) -> Result<ForgedDisk, Fail> {
+    let mut disk = ForgedDisk::new(alloc, BLOCKS)?;
+    for place in 0..12usize {
+        if draw(generator, 8) != 0 {
+            disk.put(4096 * place, &draw_index(alloc, generator)?);
+        }
+        if draw(generator, 20) == 0 {
+            disk.failing.push(4096 * place)?;
+        }
+    }
+    Ok(disk)
+}
+
+fn draw_marks(alloc: Global, generator: &mut Pcg32) -> Result<Vec<Tombstone>, Fail> {
+    let mut marks = Vec::new(alloc);
+    for _ in 0..draw(generator, 3) {
+        let hash = u64::from(draw(generator, 5));
+        let sequence = draw_sequence(generator);
+        marks.push(Tombstone { hash, sequence })?;
+    }
+    Ok(marks)
+}
+
+// Recovers, and compares with what the slow reader has; gives what it was refused as.
+fn compare(
+    rt: &impl Abort,
+    alloc: Global,
+    disk: &mut ForgedDisk,
+    mode: RecoverMode,
+    marks: &[Tombstone],
+) -> Result<Option<Error>, Fail> {
+    let expected = slow::open_slowly(alloc, disk, BLOCKS, mode, marks)?;
+    let recovered = match runner(mode, BLOCKS).run(&alloc, disk, 4, marks) {
+        Ok(recovered) => recovered,
+        Err(error) => {
+            assert_eq!(rt; Some(error), expected.refused);
+            return Ok(Some(error));
+        }
+    };
+    assert_eq!(rt; expected.refused, None);
+    assert_eq!(rt; recovered.next, expected.next);
+    assert_eq!(rt; recovered.clean.as_slice(), expected.clean.as_slice());
+    for hash in 0..6u64 {
+        match (
+            recovered.index.get(hash),
+            slow::winner(&expected.found, hash),
+        ) {
+            (Some(address), Some(found)) => {
+                assert_eq!(rt; address.block, found.block);
+                assert_eq!(rt; address.offset as usize, found.offset);
+                assert_eq!(rt; address.len, found.len);
+                assert_eq!(rt; address.sequence, found.sequence);
+                assert_eq!(rt; address.filling, 0);
+            }
+            (address, found) => {
+                assert!(rt; address.is_none());
+                assert!(rt; found.is_none());
+            }
+        }
+    }
+    Ok(None)
+}
+
+#[test]
+fn random_blocks_are_what_a_slow_reader_has(rt: HostRuntime) -> Result<(), Fail> {
+    let alloc = rt.alloc();
+    let mut generator = Pcg32::new(1, 54);
+    let mut cut = 0u32;
+    let mut ended = 0u32;
+    let mut opened = 0u32;
+    for _ in 0..1000 {
+        let mut disk = draw_disk(alloc, &mut generator)?;
+        let marks = draw_marks(alloc, &mut generator)?;
+        for mode in [RecoverMode::None, RecoverMode::Quiet, RecoverMode::Strict] {
+            match compare(&rt, alloc, &mut disk, mode, &marks)? {
+                None => opened = opened.saturating_add(1),
+                Some(Error::Recover) => cut = cut.saturating_add(1),
+                Some(_) => ended = ended.saturating_add(1),
+            }
+        }
+    }
+    assert!(rt; opened > 100);
+    assert!(rt; cut > 100);
+    assert!(rt; ended > 10);
+    Ok(())
+}

@@ -1,0 +1,5 @@
+use Rattle.foyer_core_tally.specs.Ledgers.{names_in}
+use Rattle.test_shared.proofs.tests.shared.scripts.a_session_has_its_last_two_steps_with_their_replies.Given as goal
+
+abbrev pub ghosts-has_wanted : goal.ghosts-has_wanted
+ghosts-has_wanted g a = record { name_of = names_in a.blanks; all = a.blanks.queued.parts }

@@ -1,0 +1,3 @@
+mod engine;
+mod shared;
+mod storage;
