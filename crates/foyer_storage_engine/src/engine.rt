@@ -5,6 +5,8 @@ ghost use Rattle.foyer_core_shared.specs.Briefs.{reply_brief};
 ghost use Rattle.foyer_core_shared.specs.declared.brief.StepBrief.TheVariants as asked;
 ghost use Rattle.foyer_storage_engine.specs.Answering.{IsAnsweredAs, IsLoaded, asked_as, deleted_as, enqueued_as, IsLoadOf, IsTicketOf, error_of};
 
+use crate::bell::Bell;
+use crate::load::{Load, Populated};
 use foyer_block_manager::block::eviction::EvictionPicker;
 use foyer_block_recover::gate::{Gate, Point};
 use foyer_core_run::disk::do_read;
@@ -18,8 +20,6 @@ use foyer_format_record::serde::{Code, Properties};
 use foyer_io_disk::disk::Disk;
 use foyer_policy_filter::StorageFilterCondition;
 use foyer_policy_piece::keeper::Piece;
-use foyer_storage_engine::bell::Bell;
-use foyer_storage_engine::load::{Load, Populated};
 use std::alloc::Allocator;
 use std::sync::{Mutex, Wait};
 

@@ -1,0 +1,3 @@
+//! Recovery, and the gate that threads of an engine pass.
+pub use foyer_block_recover::block::recover::{RecoverMode, RecoverRunner, Recovered};
+pub use foyer_block_recover::gate::{Gate, OpenGate, Point};

@@ -1,0 +1,3 @@
+//! How partitions are read and written.
+pub mod disk;
+pub mod engine;

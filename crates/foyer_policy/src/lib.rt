@@ -1,0 +1,8 @@
+//! What is admitted, and what is kept until it is written.
+//!
+//! A door: it passes on what its parts have, `foyer_policy_filter`, `foyer_policy_piece` and `foyer_policy_keeper`, and has no
+//! code of its own.
+#![tactic(auto)]
+
+pub mod filter;
+pub mod keeper;

@@ -1,0 +1,3 @@
+mod by_module;
+mod by_root;
+mod readme;
