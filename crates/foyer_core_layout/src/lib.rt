@@ -1,4 +1,4 @@
-//! The splitter's placing as the plain machine sees it: a way of placing, what it keeps, and that a split batch is one.
+//! The splitter's layout as the model sees it: a way of laying records out, what it keeps, and that a split batch is one.
 #![tactic(auto)]
 
 ghost use Rattle.foyer_core_layout.specs.Laws.{KeepsAll, PlacesEach, GoesOn, BatchIsLaidOut, FitsAgree, AllWithin};
@@ -25,7 +25,7 @@ pub fn batch_is_laid_out<C, A: Allocator>()
     ensures { BatchIsLaidOut C A }
 {}
 
-/// A record fits into the buffer just where the plain machine says so.
+/// A record fits into the buffer just where the model says so.
 pub fn fits_agree<C>()
     ensures { FitsAgree C }
 {}

@@ -2,7 +2,7 @@
 //!
 //! A step is applied by `Core::apply`; reads and writes of the device lie between the steps. A reply issues the access
 //! that is due, and a later step brings its result. So the core can be driven by one loop, by worker threads, or by a
-//! list of moves (`moves::run`), and what it does is the same.
+//! list of moves (`foyer_core_run::moves::run`), and what it does is the same.
 #![tactic(auto)]
 
 pub mod apply;

@@ -1,4 +1,4 @@
-//! Errors, and the page buffers that devices read into and write from; devices come here.
+//! Errors with their kinds, and the page buffers that devices read into and write from.
 #![tactic(auto)]
 
 pub mod error;

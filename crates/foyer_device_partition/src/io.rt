@@ -1,3 +1,3 @@
-//! What the engine's disk is made of.
+//! Devices that are cut into partitions.
 
 pub mod device;

@@ -1,3 +1,3 @@
-//! What the engine's disk is made of.
+//! How an I/O engine reads and writes partitions.
 
 pub mod engine;
