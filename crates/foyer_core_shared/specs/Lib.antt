@@ -6,4 +6,5 @@ pub mod Chunks
 pub mod History
 pub mod Kinds
 pub mod Noted
+pub mod Replies
 pub mod Sessions

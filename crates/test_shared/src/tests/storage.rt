@@ -52,9 +52,10 @@ type Numbers<L, G> = BlockEngine<
     BuiltInCondition,
     MemoryDisk<Global>,
     G,
+    false,
 >;
 
-type Inside<L> = Locked<L, u64, u64, Plain, Global, BuiltInPicker, BuiltInCondition>;
+type Inside<L> = Locked<L, u64, u64, Plain, Global, BuiltInPicker, BuiltInCondition, false>;
 
 fn piece_of(alloc: Global, hash: u64, value: u64) -> Result<Piece<u64, u64, Plain, Global>> {
     Piece::new(alloc, hash, value, hash, Plain)
@@ -105,7 +106,6 @@ fn opened<L: Kinds, G: Gate>(
         &mut disk,
         mode,
         &[],
-        false,
         blanks,
     );
     let (locked, session) = made?;

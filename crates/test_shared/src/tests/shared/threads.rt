@@ -18,7 +18,7 @@ use std::thread::Threads;
 fn enqueue_all<L: Kinds>(
     rt: &impl Wait,
     alloc: Global,
-    shared: &Numbers<L, Global>,
+    shared: &Numbers<L, Global, true>,
     mut session: Session<L>,
 ) -> Result<Session<L>>
     requires { 0 < session.shares.parts }
@@ -38,7 +38,7 @@ fn are_noted<L: Kinds + Send + Sync, R: Threads + Wait + Sync>(
 ) -> Result<bool>
     requires { AreOf L.name_of L.all blanks × (L.all ≡ 2 ^ 32) }
 {
-    let (locked, mut one) = opened::<L, Global>(&alloc, alloc, true, blanks)?;
+    let (locked, mut one) = opened::<L, Global, true>(&alloc, alloc, blanks)?;
     let shared = Shared::new(locked);
     let two = one.split(1);
     let lent = &shared;
