@@ -2,6 +2,7 @@
 use Rattle.std.proofs.Common.{◌≡◌, ℕ, ◌+◌, Bool, true, false, List, [], ◌∷◌, ◌++◌, map, Option, None, Some, refl, sym, ap, subst, ◌∙◌, arith}
 use Rattle.std.proofs.lemmas.List.{map-append}
 use Rattle.std.proofs.Math.Logic.{∥∥₁_map, ∥∥₁_elim}
+use Rattle.std.specs.Option.{is_some}
 use Rattle.std.specs.Coded.{Coded-set, coded_ℕ, coded_bool}
 use Rattle.foyer_core_steps.proofs.OpenedLemmas.{opened_stands}
 use Rattle.foyer_core_steps.specs.Opened.{IsOpenedFrom}
@@ -54,6 +55,15 @@ with_one Other c = λ i. record { queued = plus_none c.queued i; dropped = plus_
 
 pub tallied_more : (notes : List Brief) (note : Brief) → tallied (notes ++ note ∷ []) ≡ grown (kind_of note) (tallied notes)
 tallied_more notes note = (λ i. record { queued = count_more Queued notes note i; dropped = count_more Dropped notes note i; deleted = count_more Deleted notes note i; read = count_more Read notes note i; look_up_miss = count_more LookUpMiss notes note i; entry = count_more Entry notes note i; end_miss = count_more EndMiss notes note i; other = count_more Other notes note i }) ∙ with_one (kind_of note) (tallied notes)
+
+-- notes are there before the first step where they are kept, and after each one more
+pub some_first : (keeps : Bool) → is_some (notes_at_first keeps) ≡ keeps
+some_first false = refl
+some_first true = refl
+
+pub some_note : (note : Brief) (notes : Option (List Brief)) → is_some (and_note note notes) ≡ is_some notes
+some_note note None = refl
+some_note note (Some ns) = refl
 
 first_notes : (K V P A : Type 0) (keeps : Bool) → AreNotesOf {K = K} {V = V} {P = P} {A = A} [] (notes_at_first keeps)
 first_notes K V P A false = tt

@@ -22,7 +22,7 @@ some_same : (k j : model_reply.Kind) → ◌≡◌ {A = Option model_reply.Kind}
 some_same k j is = cc
 
 -- what a look-up may be replied
-is_look : model_reply.Reply Content → Bool
+abbrev is_look : model_reply.Reply Content → Bool
 is_look model_reply.Miss = true
 is_look model_reply.Throttled = true
 is_look (model_reply.Read t) = true
@@ -116,19 +116,19 @@ module _ (rules : Rules Content) (Splits : Splitting Content) (old : State Conte
   looked h throttled (Some (Indexed a)) (model_reply.Destroyed first) new is = absurd is
 
   enqueue_refused : (h n : ℕ) (age : model_step.Age) (c : Content) (why : ErrorKind) (k : model_reply.Kind) → kind_of why ≡ Some k → MayRefuse rules Splits old k (model_step.Enqueue h n age c) → is_draw_refusal why ≡ true
-  enqueue_refused h n age c kind.Io k is may = absurd ((subst (λ j. MayRefuse rules Splits old j (model_step.Enqueue h n age c)) (sym (some_same model_reply.Io k is)) may).1)
-  enqueue_refused h n age c kind.Memory k is may = refl
-  enqueue_refused h n age c kind.Config k is may = absurd cc
-  enqueue_refused h n age c kind.Parse k is may = absurd ((subst (λ j. MayRefuse rules Splits old j (model_step.Enqueue h n age c)) (sym (some_same model_reply.Parse k is)) may).1)
-  enqueue_refused h n age c kind.MagicMismatch k is may = absurd cc
-  enqueue_refused h n age c kind.ChecksumMismatch k is may = absurd cc
-  enqueue_refused h n age c kind.OutOfRange k is may = absurd cc
-  enqueue_refused h n age c kind.BufferSizeLimit k is may = absurd cc
-  enqueue_refused h n age c kind.NoSpace k is may = absurd cc
-  enqueue_refused h n age c kind.Recover k is may = absurd cc
-  enqueue_refused h n age c kind.Closed k is may = refl
-  enqueue_refused h n age c kind.Unsupported k is may = absurd ((subst (λ j. MayRefuse rules Splits old j (model_step.Enqueue h n age c)) (sym (some_same model_reply.Unsupported k is)) may).1)
-  enqueue_refused h n age c kind.SequenceEnd k is may = refl
+  enqueue_refused h n a c kind.Io k is may = absurd ((subst (λ j. MayRefuse rules Splits old j (model_step.Enqueue h n a c)) (sym (some_same model_reply.Io k is)) may).1)
+  enqueue_refused h n a c kind.Memory k is may = refl
+  enqueue_refused h n a c kind.Config k is may = absurd cc
+  enqueue_refused h n a c kind.Parse k is may = absurd ((subst (λ j. MayRefuse rules Splits old j (model_step.Enqueue h n a c)) (sym (some_same model_reply.Parse k is)) may).1)
+  enqueue_refused h n a c kind.MagicMismatch k is may = absurd cc
+  enqueue_refused h n a c kind.ChecksumMismatch k is may = absurd cc
+  enqueue_refused h n a c kind.OutOfRange k is may = absurd cc
+  enqueue_refused h n a c kind.BufferSizeLimit k is may = absurd cc
+  enqueue_refused h n a c kind.NoSpace k is may = absurd cc
+  enqueue_refused h n a c kind.Recover k is may = absurd cc
+  enqueue_refused h n a c kind.Closed k is may = refl
+  enqueue_refused h n a c kind.Unsupported k is may = absurd ((subst (λ j. MayRefuse rules Splits old j (model_step.Enqueue h n a c)) (sym (some_same model_reply.Unsupported k is)) may).1)
+  enqueue_refused h n a c kind.SequenceEnd k is may = refl
 
   delete_refused : (h : ℕ) (why : ErrorKind) (k : model_reply.Kind) → kind_of why ≡ Some k → MayRefuse rules Splits old k (model_step.Delete h) → is_draw_refusal why ≡ true
   delete_refused h kind.Io k is may = absurd ((subst (λ j. MayRefuse rules Splits old j (model_step.Delete h)) (sym (some_same model_reply.Io k is)) may).1)
@@ -147,7 +147,7 @@ module _ (rules : Rules Content) (Splits : Splitting Content) (old : State Conte
 
   question_refused : (h : ℕ) (why : ErrorKind) (k : model_reply.Kind) → kind_of why ≡ Some k → MayRefuse rules Splits old k (model_step.MayContains h) → is_question_refusal why ≡ true
   question_refused h kind.Io k is may = absurd ((subst (λ j. MayRefuse rules Splits old j (model_step.MayContains h)) (sym (some_same model_reply.Io k is)) may).1)
-  question_refused h kind.Memory k is may = absurd ((subst (λ j. MayRefuse rules Splits old j (model_step.MayContains h)) (sym (some_same model_reply.Memory k is)) may).5)
+  question_refused h kind.Memory k is may = absurd ((subst (λ j. MayRefuse rules Splits old j (model_step.MayContains h)) (sym (some_same model_reply.Memory k is)) may).1.1.3)
   question_refused h kind.Config k is may = absurd cc
   question_refused h kind.Parse k is may = absurd ((subst (λ j. MayRefuse rules Splits old j (model_step.MayContains h)) (sym (some_same model_reply.Parse k is)) may).1)
   question_refused h kind.MagicMismatch k is may = absurd cc
@@ -156,13 +156,13 @@ module _ (rules : Rules Content) (Splits : Splitting Content) (old : State Conte
   question_refused h kind.BufferSizeLimit k is may = absurd cc
   question_refused h kind.NoSpace k is may = absurd cc
   question_refused h kind.Recover k is may = absurd cc
-  question_refused h kind.Closed k is may = absurd ((subst (λ j. MayRefuse rules Splits old j (model_step.MayContains h)) (sym (some_same model_reply.Closed k is)) may).1)
+  question_refused h kind.Closed k is may = absurd ((subst (λ j. MayRefuse rules Splits old j (model_step.MayContains h)) (sym (some_same model_reply.Closed k is)) may).1.0)
   question_refused h kind.Unsupported k is may = absurd ((subst (λ j. MayRefuse rules Splits old j (model_step.MayContains h)) (sym (some_same model_reply.Unsupported k is)) may).1)
   question_refused h kind.SequenceEnd k is may = refl
 
   look_up_refused : (h : ℕ) (throttled : Bool) (why : ErrorKind) (k : model_reply.Kind) → kind_of why ≡ Some k → MayRefuse rules Splits old k (model_step.LoadBegin h throttled) → is_question_refusal why ≡ true
   look_up_refused h throttled kind.Io k is may = absurd ((subst (λ j. MayRefuse rules Splits old j (model_step.LoadBegin h throttled)) (sym (some_same model_reply.Io k is)) may).1)
-  look_up_refused h throttled kind.Memory k is may = absurd ((subst (λ j. MayRefuse rules Splits old j (model_step.LoadBegin h throttled)) (sym (some_same model_reply.Memory k is)) may).5)
+  look_up_refused h throttled kind.Memory k is may = absurd ((subst (λ j. MayRefuse rules Splits old j (model_step.LoadBegin h throttled)) (sym (some_same model_reply.Memory k is)) may).1.1.3)
   look_up_refused h throttled kind.Config k is may = absurd cc
   look_up_refused h throttled kind.Parse k is may = absurd ((subst (λ j. MayRefuse rules Splits old j (model_step.LoadBegin h throttled)) (sym (some_same model_reply.Parse k is)) may).1)
   look_up_refused h throttled kind.MagicMismatch k is may = absurd cc
@@ -171,7 +171,7 @@ module _ (rules : Rules Content) (Splits : Splitting Content) (old : State Conte
   look_up_refused h throttled kind.BufferSizeLimit k is may = absurd cc
   look_up_refused h throttled kind.NoSpace k is may = absurd cc
   look_up_refused h throttled kind.Recover k is may = absurd cc
-  look_up_refused h throttled kind.Closed k is may = absurd ((subst (λ j. MayRefuse rules Splits old j (model_step.LoadBegin h throttled)) (sym (some_same model_reply.Closed k is)) may).1)
+  look_up_refused h throttled kind.Closed k is may = absurd ((subst (λ j. MayRefuse rules Splits old j (model_step.LoadBegin h throttled)) (sym (some_same model_reply.Closed k is)) may).1.0)
   look_up_refused h throttled kind.Unsupported k is may = absurd ((subst (λ j. MayRefuse rules Splits old j (model_step.LoadBegin h throttled)) (sym (some_same model_reply.Unsupported k is)) may).1)
   look_up_refused h throttled kind.SequenceEnd k is may = refl
 
@@ -186,130 +186,130 @@ module _ (rules : Rules Content) (Splits : Splitting Content) (old : State Conte
   end_refused t came kind.BufferSizeLimit k is may = absurd cc
   end_refused t came kind.NoSpace k is may = absurd cc
   end_refused t came kind.Recover k is may = absurd cc
-  end_refused t came kind.Closed k is may = absurd ((subst (λ j. MayRefuse rules Splits old j (model_step.LoadEnd t came)) (sym (some_same model_reply.Closed k is)) may).1)
+  end_refused t came kind.Closed k is may = absurd ((subst (λ j. MayRefuse rules Splits old j (model_step.LoadEnd t came)) (sym (some_same model_reply.Closed k is)) may).1.0)
   end_refused t came kind.Unsupported k is may = refl
   end_refused t came kind.SequenceEnd k is may = refl
 
   module _ {K V P A : Type 0} (m : Meaning K V P) where
     pub enqueue_replied : (h n : ℕ) (age : model_step.Age) (c : Content) (new : State Content) (answer : Reply K V P A) (it : model_reply.Reply Content) → IsReply m answer it → Follows rules Splits old (model_step.Enqueue h n age c) it new → is_enqueue_reply answer ≡ true
-    enqueue_replied h n age c new (reply.NotNow back) it is follows = absurd ((subst (λ r. Follows rules Splits old (model_step.Enqueue h n age c) r new) is follows).1.2 tt)
-    enqueue_replied h n age c new (reply.Refused why back) it is follows = enqueue_refused h n age c why is.0 is.1 (subst (λ r. Follows rules Splits old (model_step.Enqueue h n age c) r new) is.2 follows).1
-    enqueue_replied h n age c new (reply.Ignored piece) it is follows = refl
-    enqueue_replied h n age c new (reply.Queued sequence) it is follows = refl
-    enqueue_replied h n age c new (reply.Dropped piece sequence) it is follows = refl
-    enqueue_replied h n age c new (reply.Deleted sequence) it is follows = absurd (subst (λ r. Follows rules Splits old (model_step.Enqueue h n age c) r new) is follows).3
-    enqueue_replied h n age c new reply.Done it is follows = absurd (subst (λ r. Follows rules Splits old (model_step.Enqueue h n age c) r new) is follows).3
-    enqueue_replied h n age c new (reply.Answer answer) it is follows = absurd (subst (λ r. Follows rules Splits old (model_step.Enqueue h n age c) r new) is follows).3
-    enqueue_replied h n age c new reply.Miss it is follows = absurd (subst (λ r. Follows rules Splits old (model_step.Enqueue h n age c) r new) is follows).3
-    enqueue_replied h n age c new reply.Throttled it is follows = absurd (subst (λ r. Follows rules Splits old (model_step.Enqueue h n age c) r new) is follows).3
-    enqueue_replied h n age c new (reply.Read ticket) it is follows = absurd (subst (λ r. Follows rules Splits old (model_step.Enqueue h n age c) r new) is follows).3
-    enqueue_replied h n age c new (reply.Entry key value age) it is follows = absurd (subst (λ r. Follows rules Splits old (model_step.Enqueue h n age c) r new) is follows).3
-    enqueue_replied h n age c new reply.Empty it is follows = absurd (subst (λ r. Follows rules Splits old (model_step.Enqueue h n age c) r new) is follows).3
-    enqueue_replied h n age c new (reply.Received back) it is follows = absurd (subst (λ r. Follows rules Splits old (model_step.Enqueue h n age c) r new) is follows).3
-    enqueue_replied h n age c new (reply.Began blocks marks) it is follows = absurd (subst (λ r. Follows rules Splits old (model_step.Enqueue h n age c) r new) is.2 follows).3
-    enqueue_replied h n age c new (reply.Write block writes) it is follows = absurd (subst (λ r. Follows rules Splits old (model_step.Enqueue h n age c) r new) is follows).3
-    enqueue_replied h n age c new reply.NoBlock it is follows = absurd (subst (λ r. Follows rules Splits old (model_step.Enqueue h n age c) r new) is follows).3
-    enqueue_replied h n age c new reply.Next it is follows = absurd (subst (λ r. Follows rules Splits old (model_step.Enqueue h n age c) r new) is follows).3
-    enqueue_replied h n age c new (reply.Committed puts) it is follows = absurd (subst (λ r. Follows rules Splits old (model_step.Enqueue h n age c) r new) is follows).3
-    enqueue_replied h n age c new reply.Failed it is follows = absurd (subst (λ r. Follows rules Splits old (model_step.Enqueue h n age c) r new) is follows).3
-    enqueue_replied h n age c new (reply.Ended pieces waits) it is follows = absurd (subst (λ r. Follows rules Splits old (model_step.Enqueue h n age c) r new) is.2 follows).3
-    enqueue_replied h n age c new (reply.Picked block answers probation) it is follows = absurd (subst (λ r. Follows rules Splits old (model_step.Enqueue h n age c) r new) is follows).3
-    enqueue_replied h n age c new (reply.Scan block offset len verdicts) it is follows = absurd (subst (λ r. Follows rules Splits old (model_step.Enqueue h n age c) r new) is follows).3
-    enqueue_replied h n age c new (reply.Listed verdicts) it is follows = absurd (subst (λ r. Follows rules Splits old (model_step.Enqueue h n age c) r new) is follows).3
-    enqueue_replied h n age c new (reply.Clean block) it is follows = absurd (subst (λ r. Follows rules Splits old (model_step.Enqueue h n age c) r new) is follows).3
-    enqueue_replied h n age c new (reply.Destroying sequence) it is follows = absurd (subst (λ r. Follows rules Splits old (model_step.Enqueue h n age c) r new) is follows).3
-    enqueue_replied h n age c new reply.Cleared it is follows = absurd (subst (λ r. Follows rules Splits old (model_step.Enqueue h n age c) r new) is.1 follows).3
-    enqueue_replied h n age c new (reply.Destroyed first) it is follows = absurd (subst (λ r. Follows rules Splits old (model_step.Enqueue h n age c) r new) is.2 follows).3
+    enqueue_replied h n a c new (reply.NotNow back) it is follows = absurd ((subst (λ r. Follows rules Splits old (model_step.Enqueue h n a c) r new) is follows).1.2 tt)
+    enqueue_replied h n a c new (reply.Refused why back) it is follows = enqueue_refused h n a c why is.0 is.1 (subst (λ r. Follows rules Splits old (model_step.Enqueue h n a c) r new) is.2 follows).1
+    enqueue_replied h n a c new (reply.Ignored piece) it is follows = refl
+    enqueue_replied h n a c new (reply.Queued sequence) it is follows = refl
+    enqueue_replied h n a c new (reply.Dropped piece sequence) it is follows = refl
+    enqueue_replied h n a c new (reply.Deleted sequence) it is follows = absurd (subst (λ r. Follows rules Splits old (model_step.Enqueue h n a c) r new) is follows).2.1
+    enqueue_replied h n a c new reply.Done it is follows = absurd (subst (λ r. Follows rules Splits old (model_step.Enqueue h n a c) r new) is follows).2.1
+    enqueue_replied h n a c new (reply.Answer answer) it is follows = absurd (subst (λ r. Follows rules Splits old (model_step.Enqueue h n a c) r new) is follows).2.1
+    enqueue_replied h n a c new reply.Miss it is follows = absurd (subst (λ r. Follows rules Splits old (model_step.Enqueue h n a c) r new) is follows).2.1
+    enqueue_replied h n a c new reply.Throttled it is follows = absurd (subst (λ r. Follows rules Splits old (model_step.Enqueue h n a c) r new) is follows).2.1
+    enqueue_replied h n a c new (reply.Read ticket) it is follows = absurd (subst (λ r. Follows rules Splits old (model_step.Enqueue h n a c) r new) is follows).2.1
+    enqueue_replied h n a c new (reply.Entry key value age) it is follows = absurd (subst (λ r. Follows rules Splits old (model_step.Enqueue h n a c) r new) is follows).2.1
+    enqueue_replied h n a c new reply.Empty it is follows = absurd (subst (λ r. Follows rules Splits old (model_step.Enqueue h n a c) r new) is follows).2.1
+    enqueue_replied h n a c new (reply.Received back) it is follows = absurd (subst (λ r. Follows rules Splits old (model_step.Enqueue h n a c) r new) is follows).2.1
+    enqueue_replied h n a c new (reply.Began blocks marks) it is follows = absurd (subst (λ r. Follows rules Splits old (model_step.Enqueue h n a c) r new) is.2 follows).2.1
+    enqueue_replied h n a c new (reply.Write block writes) it is follows = absurd (subst (λ r. Follows rules Splits old (model_step.Enqueue h n a c) r new) is follows).2.1
+    enqueue_replied h n a c new reply.NoBlock it is follows = absurd (subst (λ r. Follows rules Splits old (model_step.Enqueue h n a c) r new) is follows).2.1
+    enqueue_replied h n a c new reply.Next it is follows = absurd (subst (λ r. Follows rules Splits old (model_step.Enqueue h n a c) r new) is follows).2.1
+    enqueue_replied h n a c new (reply.Committed puts) it is follows = absurd (subst (λ r. Follows rules Splits old (model_step.Enqueue h n a c) r new) is follows).2.1
+    enqueue_replied h n a c new reply.Failed it is follows = absurd (subst (λ r. Follows rules Splits old (model_step.Enqueue h n a c) r new) is follows).2.1
+    enqueue_replied h n a c new (reply.Ended pieces waits) it is follows = absurd (subst (λ r. Follows rules Splits old (model_step.Enqueue h n a c) r new) is.2 follows).2.1
+    enqueue_replied h n a c new (reply.Picked block answers probation) it is follows = absurd (subst (λ r. Follows rules Splits old (model_step.Enqueue h n a c) r new) is follows).2.1
+    enqueue_replied h n a c new (reply.Scan block offset len verdicts) it is follows = absurd (subst (λ r. Follows rules Splits old (model_step.Enqueue h n a c) r new) is follows).2.1
+    enqueue_replied h n a c new (reply.Listed verdicts) it is follows = absurd (subst (λ r. Follows rules Splits old (model_step.Enqueue h n a c) r new) is follows).2.1
+    enqueue_replied h n a c new (reply.Clean block) it is follows = absurd (subst (λ r. Follows rules Splits old (model_step.Enqueue h n a c) r new) is follows).2.1
+    enqueue_replied h n a c new (reply.Destroying sequence) it is follows = absurd (subst (λ r. Follows rules Splits old (model_step.Enqueue h n a c) r new) is follows).2.1
+    enqueue_replied h n a c new reply.Cleared it is follows = absurd (subst (λ r. Follows rules Splits old (model_step.Enqueue h n a c) r new) is.1 follows).2.1
+    enqueue_replied h n a c new (reply.Destroyed first) it is follows = absurd (subst (λ r. Follows rules Splits old (model_step.Enqueue h n a c) r new) is.2 follows).2.1
 
     pub delete_replied : (h : ℕ) (new : State Content) (answer : Reply K V P A) (it : model_reply.Reply Content) → IsReply m answer it → Follows rules Splits old (model_step.Delete h) it new → is_delete_reply answer ≡ true
     delete_replied h new (reply.NotNow back) it is follows = absurd ((subst (λ r. Follows rules Splits old (model_step.Delete h) r new) is follows).1.2 tt)
     delete_replied h new (reply.Refused why back) it is follows = delete_refused h why is.0 is.1 (subst (λ r. Follows rules Splits old (model_step.Delete h) r new) is.2 follows).1
-    delete_replied h new (reply.Ignored piece) it is follows = absurd (subst (λ r. Follows rules Splits old (model_step.Delete h) r new) is follows).3
-    delete_replied h new (reply.Queued sequence) it is follows = absurd (subst (λ r. Follows rules Splits old (model_step.Delete h) r new) is follows).3
-    delete_replied h new (reply.Dropped piece sequence) it is follows = absurd (subst (λ r. Follows rules Splits old (model_step.Delete h) r new) is follows).3
+    delete_replied h new (reply.Ignored piece) it is follows = absurd (subst (λ r. Follows rules Splits old (model_step.Delete h) r new) is follows).2.1
+    delete_replied h new (reply.Queued sequence) it is follows = absurd (subst (λ r. Follows rules Splits old (model_step.Delete h) r new) is follows).2.1
+    delete_replied h new (reply.Dropped piece sequence) it is follows = absurd (subst (λ r. Follows rules Splits old (model_step.Delete h) r new) is follows).2.1
     delete_replied h new (reply.Deleted sequence) it is follows = refl
-    delete_replied h new reply.Done it is follows = absurd (subst (λ r. Follows rules Splits old (model_step.Delete h) r new) is follows).3
-    delete_replied h new (reply.Answer answer) it is follows = absurd (subst (λ r. Follows rules Splits old (model_step.Delete h) r new) is follows).3
-    delete_replied h new reply.Miss it is follows = absurd (subst (λ r. Follows rules Splits old (model_step.Delete h) r new) is follows).3
-    delete_replied h new reply.Throttled it is follows = absurd (subst (λ r. Follows rules Splits old (model_step.Delete h) r new) is follows).3
-    delete_replied h new (reply.Read ticket) it is follows = absurd (subst (λ r. Follows rules Splits old (model_step.Delete h) r new) is follows).3
-    delete_replied h new (reply.Entry key value age) it is follows = absurd (subst (λ r. Follows rules Splits old (model_step.Delete h) r new) is follows).3
-    delete_replied h new reply.Empty it is follows = absurd (subst (λ r. Follows rules Splits old (model_step.Delete h) r new) is follows).3
-    delete_replied h new (reply.Received back) it is follows = absurd (subst (λ r. Follows rules Splits old (model_step.Delete h) r new) is follows).3
-    delete_replied h new (reply.Began blocks marks) it is follows = absurd (subst (λ r. Follows rules Splits old (model_step.Delete h) r new) is.2 follows).3
-    delete_replied h new (reply.Write block writes) it is follows = absurd (subst (λ r. Follows rules Splits old (model_step.Delete h) r new) is follows).3
-    delete_replied h new reply.NoBlock it is follows = absurd (subst (λ r. Follows rules Splits old (model_step.Delete h) r new) is follows).3
-    delete_replied h new reply.Next it is follows = absurd (subst (λ r. Follows rules Splits old (model_step.Delete h) r new) is follows).3
-    delete_replied h new (reply.Committed puts) it is follows = absurd (subst (λ r. Follows rules Splits old (model_step.Delete h) r new) is follows).3
-    delete_replied h new reply.Failed it is follows = absurd (subst (λ r. Follows rules Splits old (model_step.Delete h) r new) is follows).3
-    delete_replied h new (reply.Ended pieces waits) it is follows = absurd (subst (λ r. Follows rules Splits old (model_step.Delete h) r new) is.2 follows).3
-    delete_replied h new (reply.Picked block answers probation) it is follows = absurd (subst (λ r. Follows rules Splits old (model_step.Delete h) r new) is follows).3
-    delete_replied h new (reply.Scan block offset len verdicts) it is follows = absurd (subst (λ r. Follows rules Splits old (model_step.Delete h) r new) is follows).3
-    delete_replied h new (reply.Listed verdicts) it is follows = absurd (subst (λ r. Follows rules Splits old (model_step.Delete h) r new) is follows).3
-    delete_replied h new (reply.Clean block) it is follows = absurd (subst (λ r. Follows rules Splits old (model_step.Delete h) r new) is follows).3
-    delete_replied h new (reply.Destroying sequence) it is follows = absurd (subst (λ r. Follows rules Splits old (model_step.Delete h) r new) is follows).3
-    delete_replied h new reply.Cleared it is follows = absurd (subst (λ r. Follows rules Splits old (model_step.Delete h) r new) is.1 follows).3
-    delete_replied h new (reply.Destroyed first) it is follows = absurd (subst (λ r. Follows rules Splits old (model_step.Delete h) r new) is.2 follows).3
+    delete_replied h new reply.Done it is follows = absurd (subst (λ r. Follows rules Splits old (model_step.Delete h) r new) is follows).2.1
+    delete_replied h new (reply.Answer answer) it is follows = absurd (subst (λ r. Follows rules Splits old (model_step.Delete h) r new) is follows).2.1
+    delete_replied h new reply.Miss it is follows = absurd (subst (λ r. Follows rules Splits old (model_step.Delete h) r new) is follows).2.1
+    delete_replied h new reply.Throttled it is follows = absurd (subst (λ r. Follows rules Splits old (model_step.Delete h) r new) is follows).2.1
+    delete_replied h new (reply.Read ticket) it is follows = absurd (subst (λ r. Follows rules Splits old (model_step.Delete h) r new) is follows).2.1
+    delete_replied h new (reply.Entry key value age) it is follows = absurd (subst (λ r. Follows rules Splits old (model_step.Delete h) r new) is follows).2.1
+    delete_replied h new reply.Empty it is follows = absurd (subst (λ r. Follows rules Splits old (model_step.Delete h) r new) is follows).2.1
+    delete_replied h new (reply.Received back) it is follows = absurd (subst (λ r. Follows rules Splits old (model_step.Delete h) r new) is follows).2.1
+    delete_replied h new (reply.Began blocks marks) it is follows = absurd (subst (λ r. Follows rules Splits old (model_step.Delete h) r new) is.2 follows).2.1
+    delete_replied h new (reply.Write block writes) it is follows = absurd (subst (λ r. Follows rules Splits old (model_step.Delete h) r new) is follows).2.1
+    delete_replied h new reply.NoBlock it is follows = absurd (subst (λ r. Follows rules Splits old (model_step.Delete h) r new) is follows).2.1
+    delete_replied h new reply.Next it is follows = absurd (subst (λ r. Follows rules Splits old (model_step.Delete h) r new) is follows).2.1
+    delete_replied h new (reply.Committed puts) it is follows = absurd (subst (λ r. Follows rules Splits old (model_step.Delete h) r new) is follows).2.1
+    delete_replied h new reply.Failed it is follows = absurd (subst (λ r. Follows rules Splits old (model_step.Delete h) r new) is follows).2.1
+    delete_replied h new (reply.Ended pieces waits) it is follows = absurd (subst (λ r. Follows rules Splits old (model_step.Delete h) r new) is.2 follows).2.1
+    delete_replied h new (reply.Picked block answers probation) it is follows = absurd (subst (λ r. Follows rules Splits old (model_step.Delete h) r new) is follows).2.1
+    delete_replied h new (reply.Scan block offset len verdicts) it is follows = absurd (subst (λ r. Follows rules Splits old (model_step.Delete h) r new) is follows).2.1
+    delete_replied h new (reply.Listed verdicts) it is follows = absurd (subst (λ r. Follows rules Splits old (model_step.Delete h) r new) is follows).2.1
+    delete_replied h new (reply.Clean block) it is follows = absurd (subst (λ r. Follows rules Splits old (model_step.Delete h) r new) is follows).2.1
+    delete_replied h new (reply.Destroying sequence) it is follows = absurd (subst (λ r. Follows rules Splits old (model_step.Delete h) r new) is follows).2.1
+    delete_replied h new reply.Cleared it is follows = absurd (subst (λ r. Follows rules Splits old (model_step.Delete h) r new) is.1 follows).2.1
+    delete_replied h new (reply.Destroyed first) it is follows = absurd (subst (λ r. Follows rules Splits old (model_step.Delete h) r new) is.2 follows).2.1
 
     pub question_replied : (h : ℕ) (new : State Content) (answer : Reply K V P A) (it : model_reply.Reply Content) → IsReply m answer it → Follows rules Splits old (model_step.MayContains h) it new → is_question_reply answer ≡ true
     question_replied h new (reply.NotNow back) it is follows = absurd ((subst (λ r. Follows rules Splits old (model_step.MayContains h) r new) is follows).1.2 tt)
     question_replied h new (reply.Refused why back) it is follows = question_refused h why is.0 is.1 (subst (λ r. Follows rules Splits old (model_step.MayContains h) r new) is.2 follows).1
-    question_replied h new (reply.Ignored piece) it is follows = let same = (subst (λ r. Follows rules Splits old (model_step.MayContains h) r new) is follows).3.0 in absurd cc
-    question_replied h new (reply.Queued sequence) it is follows = let same = (subst (λ r. Follows rules Splits old (model_step.MayContains h) r new) is follows).3.0 in absurd cc
-    question_replied h new (reply.Dropped piece sequence) it is follows = let same = (subst (λ r. Follows rules Splits old (model_step.MayContains h) r new) is follows).3.0 in absurd cc
-    question_replied h new (reply.Deleted sequence) it is follows = let same = (subst (λ r. Follows rules Splits old (model_step.MayContains h) r new) is follows).3.0 in absurd cc
-    question_replied h new reply.Done it is follows = let same = (subst (λ r. Follows rules Splits old (model_step.MayContains h) r new) is follows).3.0 in absurd cc
+    question_replied h new (reply.Ignored piece) it is follows = let same = (subst (λ r. Follows rules Splits old (model_step.MayContains h) r new) is follows).2.1.0 in absurd cc
+    question_replied h new (reply.Queued sequence) it is follows = let same = (subst (λ r. Follows rules Splits old (model_step.MayContains h) r new) is follows).2.1.0 in absurd cc
+    question_replied h new (reply.Dropped piece sequence) it is follows = let same = (subst (λ r. Follows rules Splits old (model_step.MayContains h) r new) is follows).2.1.0 in absurd cc
+    question_replied h new (reply.Deleted sequence) it is follows = let same = (subst (λ r. Follows rules Splits old (model_step.MayContains h) r new) is follows).2.1.0 in absurd cc
+    question_replied h new reply.Done it is follows = let same = (subst (λ r. Follows rules Splits old (model_step.MayContains h) r new) is follows).2.1.0 in absurd cc
     question_replied h new (reply.Answer answer) it is follows = refl
-    question_replied h new reply.Miss it is follows = let same = (subst (λ r. Follows rules Splits old (model_step.MayContains h) r new) is follows).3.0 in absurd cc
-    question_replied h new reply.Throttled it is follows = let same = (subst (λ r. Follows rules Splits old (model_step.MayContains h) r new) is follows).3.0 in absurd cc
-    question_replied h new (reply.Read ticket) it is follows = let same = (subst (λ r. Follows rules Splits old (model_step.MayContains h) r new) is follows).3.0 in absurd cc
-    question_replied h new (reply.Entry key value age) it is follows = let same = (subst (λ r. Follows rules Splits old (model_step.MayContains h) r new) is follows).3.0 in absurd cc
-    question_replied h new reply.Empty it is follows = let same = (subst (λ r. Follows rules Splits old (model_step.MayContains h) r new) is follows).3.0 in absurd cc
-    question_replied h new (reply.Received back) it is follows = let same = (subst (λ r. Follows rules Splits old (model_step.MayContains h) r new) is follows).3.0 in absurd cc
-    question_replied h new (reply.Began blocks marks) it is follows = let same = (subst (λ r. Follows rules Splits old (model_step.MayContains h) r new) is.2 follows).3.0 in absurd cc
-    question_replied h new (reply.Write block writes) it is follows = let same = (subst (λ r. Follows rules Splits old (model_step.MayContains h) r new) is follows).3.0 in absurd cc
-    question_replied h new reply.NoBlock it is follows = let same = (subst (λ r. Follows rules Splits old (model_step.MayContains h) r new) is follows).3.0 in absurd cc
-    question_replied h new reply.Next it is follows = let same = (subst (λ r. Follows rules Splits old (model_step.MayContains h) r new) is follows).3.0 in absurd cc
-    question_replied h new (reply.Committed puts) it is follows = let same = (subst (λ r. Follows rules Splits old (model_step.MayContains h) r new) is follows).3.0 in absurd cc
-    question_replied h new reply.Failed it is follows = let same = (subst (λ r. Follows rules Splits old (model_step.MayContains h) r new) is follows).3.0 in absurd cc
-    question_replied h new (reply.Ended pieces waits) it is follows = let same = (subst (λ r. Follows rules Splits old (model_step.MayContains h) r new) is.2 follows).3.0 in absurd cc
-    question_replied h new (reply.Picked block answers probation) it is follows = let same = (subst (λ r. Follows rules Splits old (model_step.MayContains h) r new) is follows).3.0 in absurd cc
-    question_replied h new (reply.Scan block offset len verdicts) it is follows = let same = (subst (λ r. Follows rules Splits old (model_step.MayContains h) r new) is follows).3.0 in absurd cc
-    question_replied h new (reply.Listed verdicts) it is follows = let same = (subst (λ r. Follows rules Splits old (model_step.MayContains h) r new) is follows).3.0 in absurd cc
-    question_replied h new (reply.Clean block) it is follows = let same = (subst (λ r. Follows rules Splits old (model_step.MayContains h) r new) is follows).3.0 in absurd cc
-    question_replied h new (reply.Destroying sequence) it is follows = let same = (subst (λ r. Follows rules Splits old (model_step.MayContains h) r new) is follows).3.0 in absurd cc
-    question_replied h new reply.Cleared it is follows = let same = (subst (λ r. Follows rules Splits old (model_step.MayContains h) r new) is.1 follows).3.0 in absurd cc
-    question_replied h new (reply.Destroyed first) it is follows = let same = (subst (λ r. Follows rules Splits old (model_step.MayContains h) r new) is.2 follows).3.0 in absurd cc
+    question_replied h new reply.Miss it is follows = let same = (subst (λ r. Follows rules Splits old (model_step.MayContains h) r new) is follows).2.1.0 in absurd cc
+    question_replied h new reply.Throttled it is follows = let same = (subst (λ r. Follows rules Splits old (model_step.MayContains h) r new) is follows).2.1.0 in absurd cc
+    question_replied h new (reply.Read ticket) it is follows = let same = (subst (λ r. Follows rules Splits old (model_step.MayContains h) r new) is follows).2.1.0 in absurd cc
+    question_replied h new (reply.Entry key value age) it is follows = let same = (subst (λ r. Follows rules Splits old (model_step.MayContains h) r new) is follows).2.1.0 in absurd cc
+    question_replied h new reply.Empty it is follows = let same = (subst (λ r. Follows rules Splits old (model_step.MayContains h) r new) is follows).2.1.0 in absurd cc
+    question_replied h new (reply.Received back) it is follows = let same = (subst (λ r. Follows rules Splits old (model_step.MayContains h) r new) is follows).2.1.0 in absurd cc
+    question_replied h new (reply.Began blocks marks) it is follows = let same = (subst (λ r. Follows rules Splits old (model_step.MayContains h) r new) is.2 follows).2.1.0 in absurd cc
+    question_replied h new (reply.Write block writes) it is follows = let same = (subst (λ r. Follows rules Splits old (model_step.MayContains h) r new) is follows).2.1.0 in absurd cc
+    question_replied h new reply.NoBlock it is follows = let same = (subst (λ r. Follows rules Splits old (model_step.MayContains h) r new) is follows).2.1.0 in absurd cc
+    question_replied h new reply.Next it is follows = let same = (subst (λ r. Follows rules Splits old (model_step.MayContains h) r new) is follows).2.1.0 in absurd cc
+    question_replied h new (reply.Committed puts) it is follows = let same = (subst (λ r. Follows rules Splits old (model_step.MayContains h) r new) is follows).2.1.0 in absurd cc
+    question_replied h new reply.Failed it is follows = let same = (subst (λ r. Follows rules Splits old (model_step.MayContains h) r new) is follows).2.1.0 in absurd cc
+    question_replied h new (reply.Ended pieces waits) it is follows = let same = (subst (λ r. Follows rules Splits old (model_step.MayContains h) r new) is.2 follows).2.1.0 in absurd cc
+    question_replied h new (reply.Picked block answers probation) it is follows = let same = (subst (λ r. Follows rules Splits old (model_step.MayContains h) r new) is follows).2.1.0 in absurd cc
+    question_replied h new (reply.Scan block offset len verdicts) it is follows = let same = (subst (λ r. Follows rules Splits old (model_step.MayContains h) r new) is follows).2.1.0 in absurd cc
+    question_replied h new (reply.Listed verdicts) it is follows = let same = (subst (λ r. Follows rules Splits old (model_step.MayContains h) r new) is follows).2.1.0 in absurd cc
+    question_replied h new (reply.Clean block) it is follows = let same = (subst (λ r. Follows rules Splits old (model_step.MayContains h) r new) is follows).2.1.0 in absurd cc
+    question_replied h new (reply.Destroying sequence) it is follows = let same = (subst (λ r. Follows rules Splits old (model_step.MayContains h) r new) is follows).2.1.0 in absurd cc
+    question_replied h new reply.Cleared it is follows = let same = (subst (λ r. Follows rules Splits old (model_step.MayContains h) r new) is.1 follows).2.1.0 in absurd cc
+    question_replied h new (reply.Destroyed first) it is follows = let same = (subst (λ r. Follows rules Splits old (model_step.MayContains h) r new) is.2 follows).2.1.0 in absurd cc
 
     pub look_up_replied : (h : ℕ) (throttled : Bool) (new : State Content) (answer : Reply K V P A) (it : model_reply.Reply Content) → IsReply m answer it → Follows rules Splits old (model_step.LoadBegin h throttled) it new → is_look_up_reply answer ≡ true
     look_up_replied h throttled new (reply.NotNow back) it is follows = absurd ((subst (λ r. Follows rules Splits old (model_step.LoadBegin h throttled) r new) is follows).1.2 tt)
     look_up_replied h throttled new (reply.Refused why back) it is follows = look_up_refused h throttled why is.0 is.1 (subst (λ r. Follows rules Splits old (model_step.LoadBegin h throttled) r new) is.2 follows).1
-    look_up_replied h throttled new (reply.Ignored piece) it is follows = let same = looked h throttled (old.index h) _ _ (subst (λ r. Follows rules Splits old (model_step.LoadBegin h throttled) r new) is follows).3 in absurd cc
-    look_up_replied h throttled new (reply.Queued sequence) it is follows = let same = looked h throttled (old.index h) _ _ (subst (λ r. Follows rules Splits old (model_step.LoadBegin h throttled) r new) is follows).3 in absurd cc
-    look_up_replied h throttled new (reply.Dropped piece sequence) it is follows = let same = looked h throttled (old.index h) _ _ (subst (λ r. Follows rules Splits old (model_step.LoadBegin h throttled) r new) is follows).3 in absurd cc
-    look_up_replied h throttled new (reply.Deleted sequence) it is follows = let same = looked h throttled (old.index h) _ _ (subst (λ r. Follows rules Splits old (model_step.LoadBegin h throttled) r new) is follows).3 in absurd cc
-    look_up_replied h throttled new reply.Done it is follows = let same = looked h throttled (old.index h) _ _ (subst (λ r. Follows rules Splits old (model_step.LoadBegin h throttled) r new) is follows).3 in absurd cc
-    look_up_replied h throttled new (reply.Answer answer) it is follows = let same = looked h throttled (old.index h) _ _ (subst (λ r. Follows rules Splits old (model_step.LoadBegin h throttled) r new) is follows).3 in absurd cc
+    look_up_replied h throttled new (reply.Ignored piece) it is follows = let same = looked h throttled (old.index h) _ _ (subst (λ r. Follows rules Splits old (model_step.LoadBegin h throttled) r new) is follows).2.1 in absurd cc
+    look_up_replied h throttled new (reply.Queued sequence) it is follows = let same = looked h throttled (old.index h) _ _ (subst (λ r. Follows rules Splits old (model_step.LoadBegin h throttled) r new) is follows).2.1 in absurd cc
+    look_up_replied h throttled new (reply.Dropped piece sequence) it is follows = let same = looked h throttled (old.index h) _ _ (subst (λ r. Follows rules Splits old (model_step.LoadBegin h throttled) r new) is follows).2.1 in absurd cc
+    look_up_replied h throttled new (reply.Deleted sequence) it is follows = let same = looked h throttled (old.index h) _ _ (subst (λ r. Follows rules Splits old (model_step.LoadBegin h throttled) r new) is follows).2.1 in absurd cc
+    look_up_replied h throttled new reply.Done it is follows = let same = looked h throttled (old.index h) _ _ (subst (λ r. Follows rules Splits old (model_step.LoadBegin h throttled) r new) is follows).2.1 in absurd cc
+    look_up_replied h throttled new (reply.Answer answer) it is follows = let same = looked h throttled (old.index h) _ _ (subst (λ r. Follows rules Splits old (model_step.LoadBegin h throttled) r new) is follows).2.1 in absurd cc
     look_up_replied h throttled new reply.Miss it is follows = refl
     look_up_replied h throttled new reply.Throttled it is follows = refl
     look_up_replied h throttled new (reply.Read ticket) it is follows = refl
-    look_up_replied h throttled new (reply.Entry key value age) it is follows = let same = looked h throttled (old.index h) _ _ (subst (λ r. Follows rules Splits old (model_step.LoadBegin h throttled) r new) is follows).3 in absurd cc
-    look_up_replied h throttled new reply.Empty it is follows = let same = looked h throttled (old.index h) _ _ (subst (λ r. Follows rules Splits old (model_step.LoadBegin h throttled) r new) is follows).3 in absurd cc
-    look_up_replied h throttled new (reply.Received back) it is follows = let same = looked h throttled (old.index h) _ _ (subst (λ r. Follows rules Splits old (model_step.LoadBegin h throttled) r new) is follows).3 in absurd cc
-    look_up_replied h throttled new (reply.Began blocks marks) it is follows = let same = looked h throttled (old.index h) _ _ (subst (λ r. Follows rules Splits old (model_step.LoadBegin h throttled) r new) is.2 follows).3 in absurd cc
-    look_up_replied h throttled new (reply.Write block writes) it is follows = let same = looked h throttled (old.index h) _ _ (subst (λ r. Follows rules Splits old (model_step.LoadBegin h throttled) r new) is follows).3 in absurd cc
-    look_up_replied h throttled new reply.NoBlock it is follows = let same = looked h throttled (old.index h) _ _ (subst (λ r. Follows rules Splits old (model_step.LoadBegin h throttled) r new) is follows).3 in absurd cc
-    look_up_replied h throttled new reply.Next it is follows = let same = looked h throttled (old.index h) _ _ (subst (λ r. Follows rules Splits old (model_step.LoadBegin h throttled) r new) is follows).3 in absurd cc
-    look_up_replied h throttled new (reply.Committed puts) it is follows = let same = looked h throttled (old.index h) _ _ (subst (λ r. Follows rules Splits old (model_step.LoadBegin h throttled) r new) is follows).3 in absurd cc
-    look_up_replied h throttled new reply.Failed it is follows = let same = looked h throttled (old.index h) _ _ (subst (λ r. Follows rules Splits old (model_step.LoadBegin h throttled) r new) is follows).3 in absurd cc
-    look_up_replied h throttled new (reply.Ended pieces waits) it is follows = let same = looked h throttled (old.index h) _ _ (subst (λ r. Follows rules Splits old (model_step.LoadBegin h throttled) r new) is.2 follows).3 in absurd cc
-    look_up_replied h throttled new (reply.Picked block answers probation) it is follows = let same = looked h throttled (old.index h) _ _ (subst (λ r. Follows rules Splits old (model_step.LoadBegin h throttled) r new) is follows).3 in absurd cc
-    look_up_replied h throttled new (reply.Scan block offset len verdicts) it is follows = let same = looked h throttled (old.index h) _ _ (subst (λ r. Follows rules Splits old (model_step.LoadBegin h throttled) r new) is follows).3 in absurd cc
-    look_up_replied h throttled new (reply.Listed verdicts) it is follows = let same = looked h throttled (old.index h) _ _ (subst (λ r. Follows rules Splits old (model_step.LoadBegin h throttled) r new) is follows).3 in absurd cc
-    look_up_replied h throttled new (reply.Clean block) it is follows = let same = looked h throttled (old.index h) _ _ (subst (λ r. Follows rules Splits old (model_step.LoadBegin h throttled) r new) is follows).3 in absurd cc
-    look_up_replied h throttled new (reply.Destroying sequence) it is follows = let same = looked h throttled (old.index h) _ _ (subst (λ r. Follows rules Splits old (model_step.LoadBegin h throttled) r new) is follows).3 in absurd cc
-    look_up_replied h throttled new reply.Cleared it is follows = let same = looked h throttled (old.index h) _ _ (subst (λ r. Follows rules Splits old (model_step.LoadBegin h throttled) r new) is.1 follows).3 in absurd cc
-    look_up_replied h throttled new (reply.Destroyed first) it is follows = let same = looked h throttled (old.index h) _ _ (subst (λ r. Follows rules Splits old (model_step.LoadBegin h throttled) r new) is.2 follows).3 in absurd cc
+    look_up_replied h throttled new (reply.Entry key value age) it is follows = let same = looked h throttled (old.index h) _ _ (subst (λ r. Follows rules Splits old (model_step.LoadBegin h throttled) r new) is follows).2.1 in absurd cc
+    look_up_replied h throttled new reply.Empty it is follows = let same = looked h throttled (old.index h) _ _ (subst (λ r. Follows rules Splits old (model_step.LoadBegin h throttled) r new) is follows).2.1 in absurd cc
+    look_up_replied h throttled new (reply.Received back) it is follows = let same = looked h throttled (old.index h) _ _ (subst (λ r. Follows rules Splits old (model_step.LoadBegin h throttled) r new) is follows).2.1 in absurd cc
+    look_up_replied h throttled new (reply.Began blocks marks) it is follows = let same = looked h throttled (old.index h) _ _ (subst (λ r. Follows rules Splits old (model_step.LoadBegin h throttled) r new) is.2 follows).2.1 in absurd cc
+    look_up_replied h throttled new (reply.Write block writes) it is follows = let same = looked h throttled (old.index h) _ _ (subst (λ r. Follows rules Splits old (model_step.LoadBegin h throttled) r new) is follows).2.1 in absurd cc
+    look_up_replied h throttled new reply.NoBlock it is follows = let same = looked h throttled (old.index h) _ _ (subst (λ r. Follows rules Splits old (model_step.LoadBegin h throttled) r new) is follows).2.1 in absurd cc
+    look_up_replied h throttled new reply.Next it is follows = let same = looked h throttled (old.index h) _ _ (subst (λ r. Follows rules Splits old (model_step.LoadBegin h throttled) r new) is follows).2.1 in absurd cc
+    look_up_replied h throttled new (reply.Committed puts) it is follows = let same = looked h throttled (old.index h) _ _ (subst (λ r. Follows rules Splits old (model_step.LoadBegin h throttled) r new) is follows).2.1 in absurd cc
+    look_up_replied h throttled new reply.Failed it is follows = let same = looked h throttled (old.index h) _ _ (subst (λ r. Follows rules Splits old (model_step.LoadBegin h throttled) r new) is follows).2.1 in absurd cc
+    look_up_replied h throttled new (reply.Ended pieces waits) it is follows = let same = looked h throttled (old.index h) _ _ (subst (λ r. Follows rules Splits old (model_step.LoadBegin h throttled) r new) is.2 follows).2.1 in absurd cc
+    look_up_replied h throttled new (reply.Picked block answers probation) it is follows = let same = looked h throttled (old.index h) _ _ (subst (λ r. Follows rules Splits old (model_step.LoadBegin h throttled) r new) is follows).2.1 in absurd cc
+    look_up_replied h throttled new (reply.Scan block offset len verdicts) it is follows = let same = looked h throttled (old.index h) _ _ (subst (λ r. Follows rules Splits old (model_step.LoadBegin h throttled) r new) is follows).2.1 in absurd cc
+    look_up_replied h throttled new (reply.Listed verdicts) it is follows = let same = looked h throttled (old.index h) _ _ (subst (λ r. Follows rules Splits old (model_step.LoadBegin h throttled) r new) is follows).2.1 in absurd cc
+    look_up_replied h throttled new (reply.Clean block) it is follows = let same = looked h throttled (old.index h) _ _ (subst (λ r. Follows rules Splits old (model_step.LoadBegin h throttled) r new) is follows).2.1 in absurd cc
+    look_up_replied h throttled new (reply.Destroying sequence) it is follows = let same = looked h throttled (old.index h) _ _ (subst (λ r. Follows rules Splits old (model_step.LoadBegin h throttled) r new) is follows).2.1 in absurd cc
+    look_up_replied h throttled new reply.Cleared it is follows = let same = looked h throttled (old.index h) _ _ (subst (λ r. Follows rules Splits old (model_step.LoadBegin h throttled) r new) is.1 follows).2.1 in absurd cc
+    look_up_replied h throttled new (reply.Destroyed first) it is follows = let same = looked h throttled (old.index h) _ _ (subst (λ r. Follows rules Splits old (model_step.LoadBegin h throttled) r new) is.2 follows).2.1 in absurd cc
 
     pub end_replied : (t : model_step.Ticket) (came : model_step.ReadResult) (new : State Content) (answer : Reply K V P A) (it : model_reply.Reply Content) → IsReply m answer it → Follows rules Splits old (model_step.LoadEnd t came) it new → is_end_reply answer ≡ true
     end_replied t came new (reply.NotNow back) it is follows = refl

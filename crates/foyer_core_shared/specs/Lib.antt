@@ -2,6 +2,7 @@ pub mod Answers
 pub mod Behind
 pub mod Briefed
 pub mod Briefs
+pub mod Codes
 pub mod Chunks
 pub mod History
 pub mod Kinds

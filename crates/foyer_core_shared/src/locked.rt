@@ -10,7 +10,7 @@ ghost use Rattle.std.specs.Prelude.{◌≡◌, ◌≢◌, ◌+◌, ◌<◌, IfEr
 ghost use Rattle.std.specs.Option.{ForSome};
 
 use crate::brief::{Brief, ReplyBrief, StepBrief};
-use crate::notes::Notes;
+use crate::notes::{Notes, Noting};
 use foyer_block_index::tombstone::Tombstone;
 use foyer_block_manager::block::eviction::EvictionPicker;
 use foyer_core_steps::apply::Env;
@@ -26,7 +26,7 @@ use foyer_format_record::serde::{Code, Properties};
 use foyer_io_disk::disk::Disk;
 use foyer_policy_filter::{StorageFilter, StorageFilterCondition};
 use std::alloc::{Allocator, Global};
-use std::marker::Model;
+use std::marker::{Model, PhantomData};
 
 /// A caller's shares of the book of steps, and what it asked last. Contracts see of how many parts each share is, and how many
 /// steps of each kind were noted with it.
@@ -110,42 +110,51 @@ impl<L: Kinds> Session<L> {
 /// A core, the book of the steps that were made of it, by their kinds, and, where `N` says so, their notes. Some history of such
 /// steps leads from an opening to the core.
 #[derive(Drop)]
-pub struct NotedCore<L, K, V, P, A, const N: bool>
+pub struct NotedCore<L, K, V, P, A, N>
 where
     L: Kinds,
     K: Code<A>,
     V: Code<A>,
     P: Properties + Drop,
     A: Allocator,
+    N: Noting,
 {
     core: Core<K, V, P, A>,
     notes: Option<Notes<A>>,
     calls: Books<L>,
+    noting: PhantomData<N>,
 }
 
-impl<L, K, V, P, A, const N: bool> Model for NotedCore<L, K, V, P, A, N>
+impl<L, K, V, P, A, N> Model for NotedCore<L, K, V, P, A, N>
 where
     L: Kinds,
     K: Code<A>,
     V: Code<A>,
     P: Properties + Drop,
     A: Allocator,
+    N: Noting,
 {
     ghost use Rattle.foyer_core_laws.specs.Content.{meaning};
+    ghost use Rattle.std.specs.Coded.{codes};
+    ghost use Rattle.std_collections.specs.Layout.HashMap.{hash_map_code};
+    ghost use Rattle.foyer_block_index.specs.Index.{index_map_code};
+    ghost use Rattle.foyer_core_shared.specs.Codes.{fits_code};
     ghost use Rattle.foyer_core_shared.specs.Behind.{kept_notes};
     ghost use Rattle.foyer_core_shared.specs.Noted.{NotedState, IsNotedCore};
 
     ghost Value = { NotedState K V P A };
 
+    ghost coded = { Prim.hlevel (codes, index_map_code, fits_code, hash_map_code) };
+
     ghost view = { λ n. record { core = n.core; notes = kept_notes n.notes; calls = n.calls } };
 
-    ghost invariant = { λ n. IsNotedCore N (meaning K.encoding V.encoding K.is_encodable V.is_encodable K.is_decodable V.is_decodable P.age)
+    ghost invariant = { λ n. IsNotedCore N.keeps (meaning K.encoding V.encoding K.is_encodable V.is_encodable K.is_decodable V.is_decodable P.age)
         n.core (kept_notes n.notes) n.calls };
 }
 
 /// A noted core with what it is lent at each step.
 #[derive(Drop)]
-pub struct Locked<L, K, V, P, A, E, C, const N: bool>
+pub struct Locked<L, K, V, P, A, E, C, N>
 where
     L: Kinds,
     K: Code<A>,
@@ -154,6 +163,7 @@ where
     A: Allocator,
     E: EvictionPicker,
     C: StorageFilterCondition,
+    N: Noting,
 {
     noted: NotedCore<L, K, V, P, A, N>,
     env: Env<E, C>,
@@ -193,7 +203,7 @@ fn note<A: Allocator + Clone>(notes: &mut Option<Notes<A>>, brief: Brief)
     }
 }
 
-impl<L, K, V, P, A, E, C, const N: bool> Locked<L, K, V, P, A, E, C, N>
+impl<L, K, V, P, A, E, C, N> Locked<L, K, V, P, A, E, C, N>
 where
     L: Kinds,
     K: Code<A> + Drop,
@@ -202,6 +212,7 @@ where
     A: Allocator + Clone,
     E: EvictionPicker,
     C: StorageFilterCondition,
+    N: Noting,
 {
     ghost use Rattle.std.specs.Prelude.{◌⊎◌, ℕ, List, ◌++◌, Result, Err, length, option_map, true};
     ghost use Rattle.std.specs.declared.vec.Vec.{Vec};
@@ -224,7 +235,7 @@ where
     ghost use Rattle.foyer_core_shared.specs.History.{IsLegal, Made};
     ghost use Rattle.foyer_core_shared.specs.Replies.{may_reply};
 
-    /// Opens a core as `Core::open` does, with the session that has all parts. Where `N` is true the notes of all steps are
+    /// Opens a core as `Core::open` does, with the session that has all parts. Where `N` says so the notes of all steps are
     /// kept, which take memory as long as the core is there. `Memory` also where an allocator's clone is refused.
     pub fn open<D: Disk>(
         alloc: A,
@@ -238,7 +249,7 @@ where
         requires { AreOf L.name_of L.all blanks }
         ensures opened { IfOk result (λ r. IsOpenedFrom settings (D.byte_at disk.old) (D.surely_has disk.old) mode (marks_of marks.now)
             ((mode ≡ recover_mode.None) ⊎ D.is_known disk.old) r.0.noted.core) }
-        ensures fresh { IfOk result (λ r. (r.0.noted.calls ≡ none) × (r.0.noted.notes ≡ notes_at_first N)) }
+        ensures fresh { IfOk result (λ r. (r.0.noted.calls ≡ none) × (r.0.noted.notes ≡ notes_at_first N.keeps)) }
         ensures session { IfOk result (λ r. (r.1.shares ≡ record { parts = L.all; amounts = none }) × (r.1.newest ≡ None) × (r.1.before ≡ None)) }
         ensures shown { IfOk result (λ r. HaveLearned E.begins E.learns settings.blocks settings.block_size
             (evictable_below r.0.noted.core.manager.blocks (length r.0.noted.core.manager.blocks)) env.pickers.items r.0.env.pickers.items) }
@@ -255,10 +266,15 @@ where
         ensures has { (b o n : ℕ) → D.surely_has disk.old b o n → D.surely_has disk.new b o n }
     {
         settings.check()?;
-        let notes = first_notes(&alloc, N)?;
+        let notes = first_notes(&alloc, N::keeps())?;
         let core = Core::open(alloc, &mut env, settings, disk, mode, marks)?;
         let (calls, shares) = blanks.open::<L>();
-        let noted = NotedCore { core, notes, calls };
+        let noted = NotedCore {
+            core,
+            notes,
+            calls,
+            noting: PhantomData,
+        };
         let locked = Locked { noted, env };
         let session = Session {
             shares,
@@ -301,7 +317,7 @@ where
             × (session.new.newest ≡ Some (brief_of step answer)) × (session.new.before ≡ session.old.newest)) }
         ensures counted { IfOk result (λ answer. (self.new.noted.calls ≡ grown (kind_of (brief_of step answer)) self.old.noted.calls)
             × (session.new.shares ≡ record { parts = session.old.shares.parts; amounts = grown (kind_of (brief_of step answer)) session.old.shares.amounts })) }
-        ensures roomless { IfErr result (λ given. (given ≡ step) × (session.new ≡ session.old) × (N ≡ true)
+        ensures roomless { IfErr result (λ given. (given ≡ step) × (session.new ≡ session.old) × (N.keeps ≡ true)
             × (self.new.noted ≡ self.old.noted) × (self.new.env ≡ self.old.env)) }
     {
         if reserve(&mut self.noted.notes).is_err() {

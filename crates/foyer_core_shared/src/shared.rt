@@ -9,6 +9,7 @@ ghost use Rattle.foyer_core_shared.specs.Replies.{may_reply};
 ghost use Rattle.std.specs.Option.{ForSome};
 
 use crate::locked::Locked;
+use crate::notes::Noting;
 use crate::session::Session;
 use foyer_block_manager::block::eviction::EvictionPicker;
 use foyer_core_steps::reply::Reply;
@@ -23,7 +24,7 @@ use std::sync::{Mutex, Wait};
 
 /// A core behind one lock. Threads share it by reference, and each asks it with a session of its own.
 #[derive(Drop)]
-pub struct Shared<L, K, V, P, A, E, C, const N: bool>
+pub struct Shared<L, K, V, P, A, E, C, N>
 where
     L: Kinds,
     K: Code<A>,
@@ -32,11 +33,12 @@ where
     A: Allocator,
     E: EvictionPicker,
     C: StorageFilterCondition,
+    N: Noting,
 {
     inside: Mutex<Locked<L, K, V, P, A, E, C, N>>,
 }
 
-impl<L, K, V, P, A, E, C, const N: bool> Shared<L, K, V, P, A, E, C, N>
+impl<L, K, V, P, A, E, C, N> Shared<L, K, V, P, A, E, C, N>
 where
     L: Kinds,
     K: Code<A> + Drop,
@@ -45,6 +47,7 @@ where
     A: Allocator + Clone,
     E: EvictionPicker,
     C: StorageFilterCondition,
+    N: Noting,
 {
     /// An opened core behind its lock (`Locked::open`), before its first step.
     pub fn new(locked: Locked<L, K, V, P, A, E, C, N>) -> Shared<L, K, V, P, A, E, C, N> {
@@ -65,8 +68,8 @@ where
     ) -> Reply<K, V, P, A>
         requires { 0 < session.old.shares.parts }
         ensures answer { IsAnswer K.is_decodable V.is_decodable K.encoding V.encoding step result }
-        ensures noted { IsNotedIn session.old session.new step result ⊎ ((N ≡ true) × (result ≡ reply.Refused kind.Memory step) × (session.new ≡ session.old)) }
-        ensures replied { (may_reply step result ≡ true) ⊎ ((N ≡ true) × (result ≡ reply.Refused kind.Memory step)) }
+        ensures noted { IsNotedIn session.old session.new step result ⊎ ((N.keeps ≡ true) × (result ≡ reply.Refused kind.Memory step) × (session.new ≡ session.old)) }
+        ensures replied { (may_reply step result ≡ true) ⊎ ((N.keeps ≡ true) × (result ≡ reply.Refused kind.Memory step)) }
         ensures parts { session.new.shares.parts ≡ session.old.shares.parts }
     {
         match self.inside.lock(rt).step(session, io, step) {

@@ -14,6 +14,7 @@ use crate::load::{Load, Populated};
 use foyer_block_manager::block::eviction::EvictionPicker;
 use foyer_block_recover::gate::{Gate, Point};
 use foyer_core_run::disk::do_read;
+use foyer_core_shared::notes::Noting;
 use foyer_core_shared::session::Session;
 use foyer_core_shared::shared::Shared;
 use foyer_core_steps::apply::no_io;
@@ -162,7 +163,7 @@ fn ticket_of<K: Drop, V: Drop, P: Drop, A: Allocator>(
 /// An engine that threads share by reference: a core behind one lock, a disk that all loads read from behind another, a bell
 /// that is rung where a step may let a worker go on, and a gate that each read passes before it.
 #[derive(Drop)]
-pub struct BlockEngine<L, K, V, P, A, E, C, D, G, const N: bool>
+pub struct BlockEngine<L, K, V, P, A, E, C, D, G, N>
 where
     L: Kinds,
     K: Code<A>,
@@ -173,6 +174,7 @@ where
     C: StorageFilterCondition,
     D: Disk + Drop,
     G: Gate,
+    N: Noting,
 {
     shared: Shared<L, K, V, P, A, E, C, N>,
     reader: Mutex<Reader<D, A>>,
@@ -180,7 +182,7 @@ where
     gate: G,
 }
 
-impl<L, K, V, P, A, E, C, D, G, const N: bool> BlockEngine<L, K, V, P, A, E, C, D, G, N>
+impl<L, K, V, P, A, E, C, D, G, N> BlockEngine<L, K, V, P, A, E, C, D, G, N>
 where
     L: Kinds,
     K: Code<A> + Drop,
@@ -191,6 +193,7 @@ where
     C: StorageFilterCondition,
     D: Disk + Drop,
     G: Gate,
+    N: Noting,
 {
     /// An engine over this core, whose loads read from this disk.
     pub fn new(
@@ -223,7 +226,7 @@ where
         size: usize,
     ) -> Result<Enqueued>
         requires { 0 < session.old.shares.parts }
-        ensures answer { IsAnsweredAs N enqueued_as session.old session.new (asked.Enqueue piece.hash size) result }
+        ensures answer { IsAnsweredAs N.keeps enqueued_as session.old session.new (asked.Enqueue piece.hash size) result }
         ensures refused { IfErr result (λ e. is_draw_error e ≡ true) }
         ensures parts { session.new.shares.parts ≡ session.old.shares.parts }
     {
@@ -237,7 +240,7 @@ where
     /// `Memory` and `SequenceEnd` leave the engine as it was.
     pub fn delete(&self, rt: &impl Wait, session: &mut Session<L>, hash: u64) -> Result<()>
         requires { 0 < session.old.shares.parts }
-        ensures answer { IsAnsweredAs N deleted_as session.old session.new (asked.Delete hash) result }
+        ensures answer { IsAnsweredAs N.keeps deleted_as session.old session.new (asked.Delete hash) result }
         ensures refused { IfErr result (λ e. is_draw_error e ≡ true) }
         ensures parts { session.new.shares.parts ≡ session.old.shares.parts }
     {
@@ -250,8 +253,8 @@ where
     /// Whether a hash is indexed. `SequenceEnd` where no step is left; `Memory` only where notes are kept, and one finds no room.
     pub fn may_contains(&self, rt: &impl Wait, session: &mut Session<L>, hash: u64) -> Result<bool>
         requires { 0 < session.old.shares.parts }
-        ensures answer { IsAnsweredAs N asked_as session.old session.new (asked.MayContains hash) result }
-        ensures refused { IfErr result (λ e. is_question_error N e ≡ true) }
+        ensures answer { IsAnsweredAs N.keeps asked_as session.old session.new (asked.MayContains hash) result }
+        ensures refused { IfErr result (λ e. is_question_error N.keeps e ≡ true) }
         ensures parts { session.new.shares.parts ≡ session.old.shares.parts }
     {
         let step = Step::MayContains { hash };
@@ -270,7 +273,7 @@ where
         throttled: bool,
     ) -> Result<Load<K, V, P, A>>
         requires { 0 < session.old.shares.parts }
-        ensures answer { IsLoaded N session.old session.new hash throttled result }
+        ensures answer { IsLoaded N.keeps session.old session.new hash throttled result }
         ensures refused { IfErr result (λ e. is_load_error e ≡ true) }
         ensures parts { session.new.shares.parts ≡ session.old.shares.parts }
     {

@@ -11,6 +11,7 @@ ghost use Rattle.std.specs.Prelude.{◌≡◌, ◌⊎◌, ◌+◌, ◌<◌, ◌�
 
 use foyer_block_manager::block::eviction::EvictionPicker;
 use foyer_core_shared::locked::Locked;
+use foyer_core_shared::notes::Noting;
 use foyer_core_shared::session::Session;
 use foyer_core_steps::reply::Reply;
 use foyer_core_steps::step::Step;
@@ -47,7 +48,7 @@ fn put_where_queued<K: Eq + Drop, V: Drop, P: Drop, A: Allocator + Clone>(
 }
 
 // The step, or a refusal where its note found no room.
-fn step<L, K, V, P, A, E, C, const N: bool>(
+fn step<L, K, V, P, A, E, C, N>(
     locked: &mut Locked<L, K, V, P, A, E, C, N>,
     session: &mut Session<L>,
     io: IoState,
@@ -61,10 +62,11 @@ where
     A: Allocator + Clone,
     E: EvictionPicker,
     C: StorageFilterCondition,
+    N: Noting,
     requires { 0 < session.old.shares.parts }
     ensures core { Refines (meaning K.encoding V.encoding K.is_encodable V.is_encodable K.is_decodable V.is_decodable P.age) step result locked.old.noted.core locked.new.noted.core
-        ⊎ ((N ≡ true) × (result ≡ reply.Refused kind.Memory step) × (locked.new.noted.core ≡ locked.old.noted.core)) }
-    ensures noted { IsNotedIn session.old session.new step result ⊎ ((N ≡ true) × (result ≡ reply.Refused kind.Memory step) × (session.new ≡ session.old)) }
+        ⊎ ((N.keeps ≡ true) × (result ≡ reply.Refused kind.Memory step) × (locked.new.noted.core ≡ locked.old.noted.core)) }
+    ensures noted { IsNotedIn session.old session.new step result ⊎ ((N.keeps ≡ true) × (result ≡ reply.Refused kind.Memory step) × (session.new ≡ session.old)) }
     ensures parts { session.new.shares.parts ≡ session.old.shares.parts }
 {
     match locked.step(session, io, step) {
@@ -76,7 +78,7 @@ where
 /// Queues a piece in the core, and puts it into the keeper's shard where it is queued, under the shard's next number. Room and
 /// number are made first: `Memory` and `SequenceEnd` leave the core, the session and what is kept as they were. The caller holds
 /// the shard's lock from before the core's until after it, so that no look-up and no release comes between.
-pub fn enqueue<L, K, V, P, A, E, C, const N: bool>(
+pub fn enqueue<L, K, V, P, A, E, C, N>(
     shard: &mut Shard<K, V, P, A>,
     locked: &mut Locked<L, K, V, P, A, E, C, N>,
     session: &mut Session<L>,
@@ -92,14 +94,15 @@ where
     A: Allocator + Clone,
     E: EvictionPicker,
     C: StorageFilterCondition,
+    N: Noting,
     requires { 0 < session.old.shares.parts }
     ensures kept { IfOk result (λ r. IsPutWhereQueued K.eq shard.old.map shard.new.map r.reference r.reply) }
     ensures reference { IfOk result (λ r. r.reference ≡ record { piece = piece; number = shard.old.last + 1 }) }
     ensures core { IfOk result (λ r. Refines (meaning K.encoding V.encoding K.is_encodable V.is_encodable K.is_decodable V.is_decodable P.age)
         (steps.Enqueue piece size) r.reply locked.old.noted.core locked.new.noted.core
-        ⊎ ((N ≡ true) × (r.reply ≡ reply.Refused kind.Memory (steps.Enqueue piece size)) × (locked.new.noted.core ≡ locked.old.noted.core))) }
+        ⊎ ((N.keeps ≡ true) × (r.reply ≡ reply.Refused kind.Memory (steps.Enqueue piece size)) × (locked.new.noted.core ≡ locked.old.noted.core))) }
     ensures noted { IfOk result (λ r. IsNotedIn session.old session.new (steps.Enqueue piece size) r.reply
-        ⊎ ((N ≡ true) × (r.reply ≡ reply.Refused kind.Memory (steps.Enqueue piece size)) × (session.new ≡ session.old))) }
+        ⊎ ((N.keeps ≡ true) × (r.reply ≡ reply.Refused kind.Memory (steps.Enqueue piece size)) × (session.new ≡ session.old))) }
     ensures err { OnErr result (HoldsSame K.eq shard.old.map shard.new.map × (locked.new.noted.core ≡ locked.old.noted.core) × (session.new ≡ session.old)) }
     ensures refused { IfErr result (λ e. (e ≡ Error.Memory) ⊎ (e ≡ Error.SequenceEnd)) }
 {

@@ -4,6 +4,7 @@ ghost use Rattle.foyer_core_tally.specs.Ledgers.{AreOf};
 
 use foyer_block_manager::block::eviction::BuiltInPicker;
 use foyer_core_shared::locked::Locked;
+use foyer_core_shared::notes::Noting;
 use foyer_core_shared::session::Session;
 use foyer_core_shared::shared::Shared;
 use foyer_core_steps::apply::{Env, no_io};
@@ -39,30 +40,12 @@ impl Properties for Plain {
 
 type Given<A> = Step<u64, u64, Plain, A>;
 
-type Numbers<L, A, const N: bool> = Shared<
-    L,
-    u64,
-    u64,
-    Plain,
-    A,
-    BuiltInPicker,
-    BuiltInCondition,
-    N,
->;
+type Numbers<L, A, N> = Shared<L, u64, u64, Plain, A, BuiltInPicker, BuiltInCondition, N>;
 
-type Inside<L, A, const N: bool> = Locked<
-    L,
-    u64,
-    u64,
-    Plain,
-    A,
-    BuiltInPicker,
-    BuiltInCondition,
-    N,
->;
+type Inside<L, A, N> = Locked<L, u64, u64, Plain, A, BuiltInPicker, BuiltInCondition, N>;
 
 // A core over two blocks in memory.
-fn opened<L: Kinds, A: Allocator + Clone, const N: bool>(
+fn opened<L: Kinds, A: Allocator + Clone, N: Noting>(
     alloc: &A,
     global: Global,
     blanks: Blanks,
@@ -102,7 +85,7 @@ fn step_of<A: Allocator + Clone>(alloc: &A, word: u8, digit: u8) -> Result<Given
 }
 
 // Asks, and forgets the reply: the session's briefs have it.
-fn ask<L: Kinds, A: Allocator + Clone, const N: bool>(
+fn ask<L: Kinds, A: Allocator + Clone, N: Noting>(
     rt: &impl Wait,
     shared: &Numbers<L, A, N>,
     session: &mut Session<L>,

@@ -3,6 +3,7 @@ ghost use Rattle.std.specs.Prelude.{◌≡◌, ◌^◌};
 ghost use Rattle.foyer_core_tally.specs.Ledgers.{AreOf};
 
 use super::{opened, step_of};
+use foyer_core_shared::notes::KeepsNotes;
 use foyer_core_shared::shared::Shared;
 use foyer_core_steps::apply::no_io;
 use foyer_core_steps::reply::Reply;
@@ -24,7 +25,7 @@ fn is_note_refused<L: Kinds>(
 ) -> Result<bool>
     requires { AreOf L.name_of L.all blanks × (L.all ≡ 2 ^ 32) }
 {
-    let (locked, mut session) = opened::<L, &Refusing<Global>, true>(&heap, global, blanks)?;
+    let (locked, mut session) = opened::<L, &Refusing<Global>, KeepsNotes>(&heap, global, blanks)?;
     let shared = Shared::new(locked);
     let step = step_of(&heap, b'm', b'1')?;
     let is_refused = match shared.step(rt, &mut session, no_io(), step) {
