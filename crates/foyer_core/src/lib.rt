@@ -10,7 +10,7 @@ pub mod block;
 pub use foyer_core_run::moves::{Move, run};
 pub use foyer_core_shared::brief::{Brief, ReplyBrief, StepBrief};
 pub use foyer_core_shared::locked::Locked;
-pub use foyer_core_shared::notes::Notes;
+pub use foyer_core_shared::notes::{KeepsNotes, NoNotes, Notes, Noting};
 pub use foyer_core_shared::session::Session;
 pub use foyer_core_shared::shared::Shared;
 pub use foyer_core_steps::apply::Env;

@@ -35,6 +35,7 @@ where
         (meaning K.encoding V.encoding K.is_encodable V.is_encodable K.is_decodable V.is_decodable P.age)
         block result core.old core.new (D.byte_at disk.old) (D.byte_at disk.new) }
     ensures known { D.is_known disk.old → D.is_known disk.new }
+    ensures lent { (env.new.reinsertion ≡ env.old.reinsertion) × (env.new.io ≡ env.old.io) }
 {
     let cleaned = clean_block(disk, block);
     core.apply(
@@ -72,6 +73,7 @@ where
         (meaning K.encoding V.encoding K.is_encodable V.is_encodable K.is_decodable V.is_decodable P.age)
         core.old core.new (D.byte_at disk.old) (D.byte_at disk.new)) }
     ensures known { D.is_known disk.old → D.is_known disk.new }
+    ensures lent { (env.new.reinsertion ≡ env.old.reinsertion) × (env.new.io ≡ env.old.io) }
 {
     let blocks = core.settings().blocks;
     match core.apply(env, Step::DestroyClear) {

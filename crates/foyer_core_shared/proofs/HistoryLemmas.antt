@@ -2,20 +2,22 @@
 use Rattle.std.proofs.Common.{◌≡◌, ℕ, ◌+◌, Bool, true, false, List, [], ◌∷◌, ◌++◌, map, Option, None, Some, refl, sym, ap, subst, ◌∙◌, arith}
 use Rattle.std.proofs.lemmas.List.{map-append}
 use Rattle.std.proofs.Math.Logic.{∥∥₁_map, ∥∥₁_elim}
-use Rattle.std.specs.Coded.{Coded-set, coded_ℕ}
+use Rattle.std.specs.Option.{is_some}
+use Rattle.std.specs.Coded.{Coded-set, coded_ℕ, coded_bool}
 use Rattle.foyer_core_steps.proofs.OpenedLemmas.{opened_stands}
 use Rattle.foyer_core_steps.specs.Opened.{IsOpenedFrom}
 use Rattle.foyer_core_steps.specs.declared.reply.Reply.{Reply}
 use Rattle.foyer_core_steps.specs.declared.state.Core.{Core}
 use Rattle.foyer_core_steps.specs.declared.step.Step.{Step}
-use Rattle.foyer_core_steps.specs.Asked.{step_of}
+use Rattle.foyer_core_steps.specs.declared.step.Step.TheVariants as step
+use Rattle.foyer_core_steps.specs.Asked.{came_of, known_age, step_of, ticket_of}
 use Rattle.foyer_core_steps.specs.Refines.{Refines}
 use Rattle.foyer_core_steps.specs.Replied.{IsReply}
 use Rattle.foyer_core_model.specs.Follows.{Follows}
 use Rattle.foyer_core_model.specs.Reply as model_reply
 use Rattle.foyer_core_model.specs.State.{State}
 use Rattle.foyer_core_laws.specs.Begins.{opened_state}
-use Rattle.foyer_core_laws.specs.Content.{Content, Meaning}
+use Rattle.foyer_core_laws.specs.Content.{Content, Meaning, content_of}
 use Rattle.foyer_core_laws.specs.CoreRules.{layout, machine}
 use Rattle.foyer_core_laws.specs.Sizes.{AreValid}
 use Rattle.foyer_core_laws.specs.declared.settings.Settings.{Settings}
@@ -29,6 +31,8 @@ use Rattle.foyer_core_tally.specs.declared.kinds.StepKind.TheVariants.{Queued, D
 use Rattle.foyer_core_shared.specs.Noted.{AreNotesOf, IsNoted, and_note, noted, notes_at_first}
 use Rattle.foyer_core_shared.specs.declared.brief.Brief.{Brief}
 use Rattle.foyer_core_shared.specs.History.{IsLegal, LeadsTo, Made}
+use Rattle.foyer_core_shared.specs.Replies.{may_reply}
+use Rattle.foyer_core_shared.proofs.ReplyLemmas.{delete_replied, end_replied, enqueue_replied, look_up_replied, question_replied}
 
 -- one note more of a kind
 count_more : (kind : StepKind) (notes : List Brief) (note : Brief) → count_of kind (notes ++ note ∷ []) ≡ count_of kind notes + one_if kind (kind_of note)
@@ -51,6 +55,15 @@ with_one Other c = λ i. record { queued = plus_none c.queued i; dropped = plus_
 
 pub tallied_more : (notes : List Brief) (note : Brief) → tallied (notes ++ note ∷ []) ≡ grown (kind_of note) (tallied notes)
 tallied_more notes note = (λ i. record { queued = count_more Queued notes note i; dropped = count_more Dropped notes note i; deleted = count_more Deleted notes note i; read = count_more Read notes note i; look_up_miss = count_more LookUpMiss notes note i; entry = count_more Entry notes note i; end_miss = count_more EndMiss notes note i; other = count_more Other notes note i }) ∙ with_one (kind_of note) (tallied notes)
+
+-- notes are there before the first step where they are kept, and after each one more
+pub some_first : (keeps : Bool) → is_some (notes_at_first keeps) ≡ keeps
+some_first false = refl
+some_first true = refl
+
+pub some_note : (note : Brief) (notes : Option (List Brief)) → is_some (and_note note notes) ≡ is_some notes
+some_note note None = refl
+some_note note (Some ns) = refl
 
 first_notes : (K V P A : Type 0) (keeps : Bool) → AreNotesOf {K = K} {V = V} {P = P} {A = A} [] (notes_at_first keeps)
 first_notes K V P A false = tt
@@ -135,3 +148,43 @@ module _ {K V P A : Type 0} (m : Meaning K V P) where
 
       same : (f : Counts → ℕ) → f (tallied notes) ≡ f calls
       same f = ∥∥₁_elim whole (Coded-set coded_ℕ _ _) (λ k. ap f (notes_tallied core notes calls k))
+
+  -- a caller's step is replied as it may be, whatever history led to the core
+  pub replied : (given : Step K V P A) (answer : Reply K V P A) (old new : Core K V P A) (notes : Option (List Brief)) (calls : Counts)
+      → ∥ IsNoted m old notes calls ∥₁ → Refines m given answer old new → may_reply given answer ≡ true
+  replied (step.Enqueue piece size) answer old new notes calls noted refines =
+      ∥∥₁_elim noted (Coded-set coded_bool _ _) (λ (n : IsNoted m old notes calls).
+      let it = refines n.legal.settings n.legal.sound n.legal.state n.legal.stands in
+      enqueue_replied (machine m n.legal.settings n.legal.sound) (layout n.legal.settings) n.legal.state m piece.hash size (known_age (m.age_of piece.properties)) (content_of m piece) it.after answer it.it it.reply it.follows)
+  replied (step.Delete hash) answer old new notes calls noted refines =
+      ∥∥₁_elim noted (Coded-set coded_bool _ _) (λ (n : IsNoted m old notes calls).
+      let it = refines n.legal.settings n.legal.sound n.legal.state n.legal.stands in
+      delete_replied (machine m n.legal.settings n.legal.sound) (layout n.legal.settings) n.legal.state m hash it.after answer it.it it.reply it.follows)
+  replied (step.MayContains hash) answer old new notes calls noted refines =
+      ∥∥₁_elim noted (Coded-set coded_bool _ _) (λ (n : IsNoted m old notes calls).
+      let it = refines n.legal.settings n.legal.sound n.legal.state n.legal.stands in
+      question_replied (machine m n.legal.settings n.legal.sound) (layout n.legal.settings) n.legal.state m hash it.after answer it.it it.reply it.follows)
+  replied (step.LoadBegin hash throttled) answer old new notes calls noted refines =
+      ∥∥₁_elim noted (Coded-set coded_bool _ _) (λ (n : IsNoted m old notes calls).
+      let it = refines n.legal.settings n.legal.sound n.legal.state n.legal.stands in
+      look_up_replied (machine m n.legal.settings n.legal.sound) (layout n.legal.settings) n.legal.state m hash throttled it.after answer it.it it.reply it.follows)
+  replied (step.LoadEnd ticket outcome) answer old new notes calls noted refines =
+      ∥∥₁_elim noted (Coded-set coded_bool _ _) (λ (n : IsNoted m old notes calls).
+      let it = refines n.legal.settings n.legal.sound n.legal.state n.legal.stands in
+      end_replied (machine m n.legal.settings n.legal.sound) (layout n.legal.settings) n.legal.state m (ticket_of ticket) (came_of outcome) it.after answer it.it it.reply it.follows)
+  replied (step.Wait flusher id) answer old new notes calls noted refines = refl
+  replied (step.Receive flusher) answer old new notes calls noted refines = refl
+  replied (step.FlushBegin flusher) answer old new notes calls noted refines = refl
+  replied (step.FlushBlock flusher) answer old new notes calls noted refines = refl
+  replied (step.FlushWrote flusher outcome) answer old new notes calls noted refines = refl
+  replied (step.LogWrote flusher outcome) answer old new notes calls noted refines = refl
+  replied (step.FlushEnd flusher) answer old new notes calls noted refines = refl
+  replied step.ReclaimBegin answer old new notes calls noted refines = refl
+  replied (step.ReclaimRead block outcome) answer old new notes calls noted refines = refl
+  replied (step.ReclaimForget block) answer old new notes calls noted refines = refl
+  replied (step.ReclaimCleaned block outcome) answer old new notes calls noted refines = refl
+  replied step.ReclaimIdle answer old new notes calls noted refines = refl
+  replied step.DestroyBegin answer old new notes calls noted refines = refl
+  replied step.DestroyClear answer old new notes calls noted refines = refl
+  replied (step.DestroyCleaned block outcome) answer old new notes calls noted refines = refl
+  replied step.Close answer old new notes calls noted refines = refl

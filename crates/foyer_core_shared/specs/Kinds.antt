@@ -11,13 +11,13 @@ use Rattle.foyer_core_tally.specs.declared.kinds.StepKind.TheVariants.{Queued, D
 
 -- the kind of a step and what it got
 abbrev pub kind_in : StepBrief → ReplyBrief → StepKind
-kind_in (asked.Enqueue hash) (replied.Queued sequence) = Queued
-kind_in (asked.Enqueue hash) (replied.Dropped sequence) = Dropped
+kind_in (asked.Enqueue hash size) (replied.Queued sequence) = Queued
+kind_in (asked.Enqueue hash size) (replied.Dropped sequence) = Dropped
 kind_in (asked.Delete hash) (replied.Deleted sequence) = Deleted
 kind_in (asked.LoadBegin hash throttled) (replied.Read ticket) = Read
 kind_in (asked.LoadBegin hash throttled) replied.Miss = LookUpMiss
-kind_in (asked.LoadEnd ticket) replied.Entry = Entry
-kind_in (asked.LoadEnd ticket) replied.Miss = EndMiss
+kind_in (asked.LoadEnd ticket outcome) replied.Entry = Entry
+kind_in (asked.LoadEnd ticket outcome) replied.Miss = EndMiss
 kind_in given answer = Other
 
 abbrev pub kind_of : Brief → StepKind

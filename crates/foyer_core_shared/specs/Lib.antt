@@ -2,8 +2,10 @@ pub mod Answers
 pub mod Behind
 pub mod Briefed
 pub mod Briefs
+pub mod Codes
 pub mod Chunks
 pub mod History
 pub mod Kinds
 pub mod Noted
+pub mod Replies
 pub mod Sessions

@@ -1,5 +1,5 @@
 -- What lies behind the lock, and what a session has.
-use Rattle.std.specs.Prelude.{◌≡◌, Bool, true, false, List, [], ◌∷◌, ◌++◌, map, Option, Some, None}
+use Rattle.std.specs.Prelude.{◌≡◌, Bool, true, false, List, [], ◌∷◌, ◌++◌, map, Option, Some, None, is_some}
 use Rattle.std.specs.Option.{option_map}
 use Rattle.foyer_core_steps.specs.declared.state.Core.{Core}
 use Rattle.foyer_core_laws.specs.Content.{Meaning}
@@ -32,3 +32,13 @@ and_note x notes = option_map (λ xs. xs ++ x ∷ []) notes
 abbrev pub notes_at_first : Bool → Option (List Brief)
 notes_at_first false = None
 notes_at_first true = Some []
+
+-- what contracts see of a core with its book and its notes
+pub record NotedState (K V P A : Type 0) : Type 0 where
+  pub core : Core K V P A
+  pub notes : Option (List Brief)
+  pub calls : Counts
+
+-- What holds of it whenever nobody is at a step: there is such a history, and notes are kept just where they are to be.
+abbrev pub IsNotedCore : {K V P A : Type 0} → Bool → Meaning K V P → Core K V P A → Option (List Brief) → Counts → Type 0
+IsNotedCore keeps m core notes calls = ∥ IsNoted m core notes calls ∥₁ × (is_some notes ≡ keeps)

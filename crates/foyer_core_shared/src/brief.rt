@@ -1,43 +1,116 @@
 //! What is noted of a step and of its reply: all but contents.
 ghost use Rattle.std.specs.Prelude.{◌≡◌};
-ghost use Rattle.foyer_core_shared.specs.Briefs.{brief_of, reply_brief, step_brief};
+ghost use Rattle.foyer_core_shared.specs.Briefs.{len_of, listed_in, outcome_of, reply_brief, step_brief};
 ghost use Rattle.foyer_core_shared.specs.Kinds.{kind_of};
 
 use foyer_block_index::manager::BlockId;
 use foyer_core_steps::reply::Reply;
 use foyer_core_steps::step::{Step, Ticket};
 use foyer_core_tally::kinds::StepKind;
-use foyer_device_page::error::ErrorKind;
+use foyer_device_page::error::{Error, ErrorKind};
 use foyer_format_record::block::serde::Sequence;
 use std::alloc::Allocator;
 
-/// A step, without the piece or the bytes that it brings.
+// How many bytes a read gave, or the kind of its fault.
+fn len_of<A: Allocator>(outcome: &Result<Vec<u8, A>, Error>) -> Result<usize, ErrorKind>
+    ensures { result ≡ len_of outcome.now }
+{
+    match outcome {
+        Ok(bytes) => Ok(bytes.len()),
+        Err(e) => Err(e.kind()),
+    }
+}
+
+// The kind of a write's fault, where it failed.
+fn outcome_of(outcome: &Result<(), Error>) -> Result<(), ErrorKind>
+    ensures { result ≡ outcome_of outcome.now }
+{
+    match outcome {
+        Ok(()) => Ok(()),
+        Err(e) => Err(e.kind()),
+    }
+}
+
+// How many entries were listed, each with a verdict; none where what was read is no index.
+fn listed_in<A: Allocator>(verdicts: &Option<Vec<bool, A>>) -> Option<usize>
+    ensures { result ≡ listed_in verdicts.now }
+{
+    match verdicts {
+        Some(verdicts) => Some(verdicts.len()),
+        None => None,
+    }
+}
+
+/// A step, without the piece or the bytes that it brings. Sizes are in bytes, and an outcome is how many bytes were read, or the
+/// kind of the fault.
 #[derive(Clone, Copy, Debug, PartialEq, Eq)]
 pub enum StepBrief {
-    Enqueue { hash: u64 },
-    Delete { hash: u64 },
-    Wait { flusher: u32, id: u64 },
-    MayContains { hash: u64 },
-    LoadBegin { hash: u64, throttled: bool },
-    LoadEnd { ticket: Ticket },
-    Receive { flusher: u32 },
-    FlushBegin { flusher: u32 },
-    FlushBlock { flusher: u32 },
-    FlushWrote { flusher: u32 },
-    LogWrote { flusher: u32 },
-    FlushEnd { flusher: u32 },
+    Enqueue {
+        hash: u64,
+        size: usize,
+    },
+    Delete {
+        hash: u64,
+    },
+    Wait {
+        flusher: u32,
+        id: u64,
+    },
+    MayContains {
+        hash: u64,
+    },
+    LoadBegin {
+        hash: u64,
+        throttled: bool,
+    },
+    LoadEnd {
+        ticket: Ticket,
+        outcome: Result<usize, ErrorKind>,
+    },
+    Receive {
+        flusher: u32,
+    },
+    FlushBegin {
+        flusher: u32,
+    },
+    FlushBlock {
+        flusher: u32,
+    },
+    FlushWrote {
+        flusher: u32,
+        outcome: Result<(), ErrorKind>,
+    },
+    LogWrote {
+        flusher: u32,
+        outcome: Result<(), ErrorKind>,
+    },
+    FlushEnd {
+        flusher: u32,
+    },
     ReclaimBegin,
-    ReclaimRead { block: BlockId },
-    ReclaimForget { block: BlockId },
-    ReclaimCleaned { block: BlockId },
+    ReclaimRead {
+        block: BlockId,
+        outcome: Result<usize, ErrorKind>,
+    },
+    ReclaimForget {
+        block: BlockId,
+    },
+    ReclaimCleaned {
+        block: BlockId,
+        outcome: Result<(), ErrorKind>,
+    },
     ReclaimIdle,
     DestroyBegin,
     DestroyClear,
-    DestroyCleaned { block: BlockId },
+    DestroyCleaned {
+        block: BlockId,
+        outcome: Result<(), ErrorKind>,
+    },
     Close,
 }
 
-/// A reply, without the pieces, pairs and lists that it has.
+/// A reply, without the pieces, pairs and lists that it has, but with how long these are. `HandedBack` is a `Received` with a
+/// piece; `listed` is how many entries of an index were judged.
 #[derive(Clone, Copy, Debug, PartialEq, Eq)]
 pub enum ReplyBrief {
     NotNow,
@@ -54,16 +127,37 @@ pub enum ReplyBrief {
     Entry,
     Empty,
     Received,
-    Began { blocks: usize },
-    Write { block: BlockId },
+    HandedBack,
+    Began {
+        blocks: usize,
+        marks: usize,
+    },
+    Write {
+        block: BlockId,
+        writes: usize,
+    },
     NoBlock,
     Next,
     Committed(usize),
     Failed,
-    Ended,
-    Picked { block: BlockId },
-    Scan { block: BlockId },
-    Listed,
+    Ended {
+        pieces: usize,
+        waits: usize,
+    },
+    Picked {
+        block: BlockId,
+        asked: usize,
+        probation: usize,
+    },
+    Scan {
+        block: BlockId,
+        offset: usize,
+        len: usize,
+        listed: Option<usize>,
+    },
+    Listed {
+        listed: Option<usize>,
+    },
     Clean(BlockId),
     Destroying(Sequence),
     Cleared,
@@ -83,7 +177,10 @@ impl StepBrief {
         ensures { result ≡ step_brief step.now }
     {
         match step {
-            Step::Enqueue { piece, .. } => StepBrief::Enqueue { hash: piece.hash() },
+            Step::Enqueue { piece, size } => StepBrief::Enqueue {
+                hash: piece.hash(),
+                size: *size,
+            },
             Step::Delete { hash } => StepBrief::Delete { hash: *hash },
             Step::Wait { flusher, id } => StepBrief::Wait {
                 flusher: *flusher,
@@ -94,21 +191,57 @@ impl StepBrief {
                 hash: *hash,
                 throttled: *throttled,
             },
-            Step::LoadEnd { ticket, .. } => StepBrief::LoadEnd { ticket: *ticket },
+            Step::LoadEnd {
+                ticket,
+                result: outcome,
+            } => StepBrief::LoadEnd {
+                ticket: *ticket,
+                outcome: len_of(outcome),
+            },
             Step::Receive { flusher } => StepBrief::Receive { flusher: *flusher },
             Step::FlushBegin { flusher } => StepBrief::FlushBegin { flusher: *flusher },
             Step::FlushBlock { flusher } => StepBrief::FlushBlock { flusher: *flusher },
-            Step::FlushWrote { flusher, .. } => StepBrief::FlushWrote { flusher: *flusher },
-            Step::LogWrote { flusher, .. } => StepBrief::LogWrote { flusher: *flusher },
+            Step::FlushWrote {
+                flusher,
+                result: outcome,
+            } => StepBrief::FlushWrote {
+                flusher: *flusher,
+                outcome: outcome_of(outcome),
+            },
+            Step::LogWrote {
+                flusher,
+                result: outcome,
+            } => StepBrief::LogWrote {
+                flusher: *flusher,
+                outcome: outcome_of(outcome),
+            },
             Step::FlushEnd { flusher } => StepBrief::FlushEnd { flusher: *flusher },
             Step::ReclaimBegin => StepBrief::ReclaimBegin,
-            Step::ReclaimRead { block, .. } => StepBrief::ReclaimRead { block: *block },
+            Step::ReclaimRead {
+                block,
+                result: outcome,
+            } => StepBrief::ReclaimRead {
+                block: *block,
+                outcome: len_of(outcome),
+            },
             Step::ReclaimForget { block } => StepBrief::ReclaimForget { block: *block },
-            Step::ReclaimCleaned { block, .. } => StepBrief::ReclaimCleaned { block: *block },
+            Step::ReclaimCleaned {
+                block,
+                result: outcome,
+            } => StepBrief::ReclaimCleaned {
+                block: *block,
+                outcome: outcome_of(outcome),
+            },
             Step::ReclaimIdle => StepBrief::ReclaimIdle,
             Step::DestroyBegin => StepBrief::DestroyBegin,
             Step::DestroyClear => StepBrief::DestroyClear,
-            Step::DestroyCleaned { block, .. } => StepBrief::DestroyCleaned { block: *block },
+            Step::DestroyCleaned {
+                block,
+                result: outcome,
+            } => StepBrief::DestroyCleaned {
+                block: *block,
+                outcome: outcome_of(outcome),
+            },
             Step::Close => StepBrief::Close,
         }
     }
@@ -133,17 +266,47 @@ impl ReplyBrief {
             Reply::Read(ticket) => ReplyBrief::Read(*ticket),
             Reply::Entry { .. } => ReplyBrief::Entry,
             Reply::Empty => ReplyBrief::Empty,
-            Reply::Received(_) => ReplyBrief::Received,
-            Reply::Began { blocks, .. } => ReplyBrief::Began { blocks: *blocks },
-            Reply::Write { block, .. } => ReplyBrief::Write { block: *block },
+            Reply::Received(None) => ReplyBrief::Received,
+            Reply::Received(Some(_)) => ReplyBrief::HandedBack,
+            Reply::Began { blocks, marks } => ReplyBrief::Began {
+                blocks: *blocks,
+                marks: marks.len(),
+            },
+            Reply::Write { block, writes } => ReplyBrief::Write {
+                block: *block,
+                writes: writes.len(),
+            },
             Reply::NoBlock => ReplyBrief::NoBlock,
             Reply::Next => ReplyBrief::Next,
             Reply::Committed(puts) => ReplyBrief::Committed(*puts),
             Reply::Failed => ReplyBrief::Failed,
-            Reply::Ended { .. } => ReplyBrief::Ended,
-            Reply::Picked { block, .. } => ReplyBrief::Picked { block: *block },
-            Reply::Scan { block, .. } => ReplyBrief::Scan { block: *block },
-            Reply::Listed { .. } => ReplyBrief::Listed,
+            Reply::Ended { pieces, waits } => ReplyBrief::Ended {
+                pieces: pieces.len(),
+                waits: waits.len(),
+            },
+            Reply::Picked {
+                block,
+                answers,
+                probation,
+            } => ReplyBrief::Picked {
+                block: *block,
+                asked: answers.len(),
+                probation: probation.len(),
+            },
+            Reply::Scan {
+                block,
+                offset,
+                len,
+                verdicts,
+            } => ReplyBrief::Scan {
+                block: *block,
+                offset: *offset,
+                len: *len,
+                listed: listed_in(verdicts),
+            },
+            Reply::Listed { verdicts } => ReplyBrief::Listed {
+                listed: listed_in(verdicts),
+            },
             Reply::Clean(block) => ReplyBrief::Clean(*block),
             Reply::Destroying(sequence) => ReplyBrief::Destroying(*sequence),
             Reply::Cleared => ReplyBrief::Cleared,

@@ -4,13 +4,13 @@ ghost use Rattle.foyer_device_page.specs.declared.error.Error.TheVariants.{Memor
 ghost use Rattle.foyer_core_laws.specs.Content.{meaning};
 ghost use Rattle.foyer_core_shared.specs.Behind.{HasRoom, kept_notes};
 ghost use Rattle.foyer_core_shared.specs.Kinds.{kind_of, tallied};
-ghost use Rattle.foyer_core_shared.specs.Noted.{IsNoted, and_note, notes_at_first};
+ghost use Rattle.foyer_core_shared.specs.Noted.{and_note, notes_at_first};
 ghost use Rattle.foyer_core_tally.specs.Tally.{grown, none, both, shown, listed};
 ghost use Rattle.std.specs.Prelude.{◌≡◌, ◌≢◌, ◌+◌, ◌<◌, IfErr, IfOk, IsOkUnless, OnOk, None, Some, [], ◌∷◌};
 ghost use Rattle.std.specs.Option.{ForSome};
 
 use crate::brief::{Brief, ReplyBrief, StepBrief};
-use crate::notes::Notes;
+use crate::notes::{Notes, Noting};
 use foyer_block_index::tombstone::Tombstone;
 use foyer_block_manager::block::eviction::EvictionPicker;
 use foyer_core_steps::apply::Env;
@@ -21,11 +21,12 @@ use foyer_core_steps::state::Core;
 use foyer_core_steps::step::Step;
 use foyer_core_tally::book::{Blanks, Books, Kinds, Shares};
 use foyer_device_page::error::Result;
+use foyer_device_statistics::IoState;
 use foyer_format_record::serde::{Code, Properties};
 use foyer_io_disk::disk::Disk;
-use foyer_policy_filter::StorageFilterCondition;
-use std::alloc::Allocator;
-use std::marker::Model;
+use foyer_policy_filter::{StorageFilter, StorageFilterCondition};
+use std::alloc::{Allocator, Global};
+use std::marker::{Model, PhantomData};
 
 /// A caller's shares of the book of steps, and what it asked last. Contracts see of how many parts each share is, and how many
 /// steps of each kind were noted with it.
@@ -57,6 +58,13 @@ impl<L: Kinds> Session<L> {
         ensures { result ≡ listed (shown self.now.shares.amounts) }
     {
         self.shares.tally()
+    }
+
+    /// How many parts of the book it has.
+    pub fn parts(&self) -> u64
+        ensures { result ≡ self.now.shares.parts }
+    {
+        self.shares.parts()
     }
 
     /// Gives so many parts away, and no briefs.
@@ -99,9 +107,54 @@ impl<L: Kinds> Session<L> {
     }
 }
 
-/// A core with what it is lent at each step, the book of the steps that were made, by their kinds, and, where they are kept, their notes.
+/// A core, the book of the steps that were made of it, by their kinds, and, where `N` says so, their notes. Some history of such
+/// steps leads from an opening to the core.
 #[derive(Drop)]
-pub struct Locked<L, K, V, P, A, E, C>
+pub struct NotedCore<L, K, V, P, A, N>
+where
+    L: Kinds,
+    K: Code<A>,
+    V: Code<A>,
+    P: Properties + Drop,
+    A: Allocator,
+    N: Noting,
+{
+    core: Core<K, V, P, A>,
+    notes: Option<Notes<A>>,
+    calls: Books<L>,
+    noting: PhantomData<N>,
+}
+
+impl<L, K, V, P, A, N> Model for NotedCore<L, K, V, P, A, N>
+where
+    L: Kinds,
+    K: Code<A>,
+    V: Code<A>,
+    P: Properties + Drop,
+    A: Allocator,
+    N: Noting,
+{
+    ghost use Rattle.foyer_core_laws.specs.Content.{meaning};
+    ghost use Rattle.std.specs.Coded.{codes};
+    ghost use Rattle.std_collections.specs.Layout.HashMap.{hash_map_code};
+    ghost use Rattle.foyer_block_index.specs.Index.{index_map_code};
+    ghost use Rattle.foyer_core_shared.specs.Codes.{fits_code};
+    ghost use Rattle.foyer_core_shared.specs.Behind.{kept_notes};
+    ghost use Rattle.foyer_core_shared.specs.Noted.{NotedState, IsNotedCore};
+
+    ghost Value = { NotedState K V P A };
+
+    ghost coded = { Prim.hlevel (codes, index_map_code, fits_code, hash_map_code) };
+
+    ghost view = { λ n. record { core = n.core; notes = kept_notes n.notes; calls = n.calls } };
+
+    ghost invariant = { λ n. IsNotedCore N.keeps (meaning K.encoding V.encoding K.is_encodable V.is_encodable K.is_decodable V.is_decodable P.age)
+        n.core (kept_notes n.notes) n.calls };
+}
+
+/// A noted core with what it is lent at each step.
+#[derive(Drop)]
+pub struct Locked<L, K, V, P, A, E, C, N>
 where
     L: Kinds,
     K: Code<A>,
@@ -110,13 +163,10 @@ where
     A: Allocator,
     E: EvictionPicker,
     C: StorageFilterCondition,
+    N: Noting,
 {
-    core: Core<K, V, P, A>,
+    noted: NotedCore<L, K, V, P, A, N>,
     env: Env<E, C>,
-    notes: Option<Notes<A>>,
-    calls: Books<L>,
-    ghost noted: { ∥ IsNoted (meaning K.encoding V.encoding K.is_encodable V.is_encodable K.is_decodable V.is_decodable P.age)
-        core (kept_notes notes) calls ∥₁ },
 }
 
 // No note yet, where notes are kept.
@@ -153,7 +203,7 @@ fn note<A: Allocator + Clone>(notes: &mut Option<Notes<A>>, brief: Brief)
     }
 }
 
-impl<L, K, V, P, A, E, C> Locked<L, K, V, P, A, E, C>
+impl<L, K, V, P, A, E, C, N> Locked<L, K, V, P, A, E, C, N>
 where
     L: Kinds,
     K: Code<A> + Drop,
@@ -162,8 +212,9 @@ where
     A: Allocator + Clone,
     E: EvictionPicker,
     C: StorageFilterCondition,
+    N: Noting,
 {
-    ghost use Rattle.std.specs.Prelude.{◌⊎◌, ℕ, List, ◌++◌, Result, length, option_map};
+    ghost use Rattle.std.specs.Prelude.{◌⊎◌, ℕ, List, ◌++◌, Result, Err, length, option_map, true};
     ghost use Rattle.std.specs.declared.vec.Vec.{Vec};
     ghost use Rattle.foyer_core_steps.specs.Answered.{HandsBack, Describes, IsPicked, MayFail};
     ghost use Rattle.foyer_core_steps.specs.Opened.{IsOpenedFrom};
@@ -182,9 +233,10 @@ where
     ghost use Rattle.foyer_core_tally.specs.Ledgers.{AreOf};
     ghost use Rattle.foyer_core_shared.specs.Chunks.{all_of};
     ghost use Rattle.foyer_core_shared.specs.History.{IsLegal, Made};
+    ghost use Rattle.foyer_core_shared.specs.Replies.{may_reply};
 
-    /// Opens a core as `Core::open` does, with the session that has all parts. Where `keeps_notes` is set the notes of all
-    /// steps are kept, which take memory as long as the core is there. `Memory` also where an allocator's clone is refused.
+    /// Opens a core as `Core::open` does, with the session that has all parts. Where `N` says so the notes of all steps are
+    /// kept, which take memory as long as the core is there. `Memory` also where an allocator's clone is refused.
     pub fn open<D: Disk>(
         alloc: A,
         mut env: Env<E, C>,
@@ -192,17 +244,18 @@ where
         disk: &mut D,
         mode: RecoverMode,
         marks: &[Tombstone],
-        keeps_notes: bool,
         blanks: Blanks,
-    ) -> Result<(Locked<L, K, V, P, A, E, C>, Session<L>)>
+    ) -> Result<(Locked<L, K, V, P, A, E, C, N>, Session<L>)>
         requires { AreOf L.name_of L.all blanks }
         ensures opened { IfOk result (λ r. IsOpenedFrom settings (D.byte_at disk.old) (D.surely_has disk.old) mode (marks_of marks.now)
-            ((mode ≡ recover_mode.None) ⊎ D.is_known disk.old) r.0.core) }
-        ensures fresh { IfOk result (λ r. (r.0.calls ≡ none) × (kept_notes r.0.notes ≡ notes_at_first keeps_notes)) }
+            ((mode ≡ recover_mode.None) ⊎ D.is_known disk.old) r.0.noted.core) }
+        ensures fresh { IfOk result (λ r. (r.0.noted.calls ≡ none) × (r.0.noted.notes ≡ notes_at_first N.keeps)) }
         ensures session { IfOk result (λ r. (r.1.shares ≡ record { parts = L.all; amounts = none }) × (r.1.newest ≡ None) × (r.1.before ≡ None)) }
         ensures shown { IfOk result (λ r. HaveLearned E.begins E.learns settings.blocks settings.block_size
-            (evictable_below r.0.core.manager.blocks (length r.0.core.manager.blocks)) env.pickers.items r.0.env.pickers.items) }
+            (evictable_below r.0.noted.core.manager.blocks (length r.0.noted.core.manager.blocks)) env.pickers.items r.0.env.pickers.items) }
+        ensures lent { IfOk result (λ r. (r.0.env.reinsertion ≡ env.reinsertion) × (r.0.env.io ≡ env.io)) }
         ensures sound { IfOk result (λ _. AreValid settings) }
+        ensures unsound { (AreValid settings → ⊥) → result ≡ Err Config }
         ensures refused { IfErr result (λ e. (e ≡ Memory) ⊎ ((e ≡ Config) × (AreValid settings → ⊥))
             ⊎ ((e ≡ Recover) × (mode ≡ recover_mode.Strict)) ⊎ ((e ≡ SequenceEnd) × (mode ≡ recover_mode.None → marks.now ≢ []))) }
         ensures cause { AreValid settings → (mode ≡ recover_mode.None) ⊎ D.is_known disk.old → IfErr result
@@ -212,15 +265,17 @@ where
         ensures same { D.byte_at disk.new ≡ D.byte_at disk.old }
         ensures has { (b o n : ℕ) → D.surely_has disk.old b o n → D.surely_has disk.new b o n }
     {
-        let notes = first_notes(&alloc, keeps_notes)?;
+        settings.check()?;
+        let notes = first_notes(&alloc, N::keeps())?;
         let core = Core::open(alloc, &mut env, settings, disk, mode, marks)?;
         let (calls, shares) = blanks.open::<L>();
-        let locked = Locked {
+        let noted = NotedCore {
             core,
-            env,
             notes,
             calls,
+            noting: PhantomData,
         };
+        let locked = Locked { noted, env };
         let session = Session {
             shares,
             newest: None,
@@ -229,78 +284,92 @@ where
         Ok((locked, session))
     }
 
-    /// Applies a step as `Core::apply` does, notes it, and counts it with the session's shares, as one of its kind; the session's newest brief is
-    /// then that of the step and of this very reply. Where notes are kept and memory for one is refused, the step comes back
-    /// and nothing changed.
+    /// Applies a step as `Core::apply` does, notes it, and counts it with the session's shares, as one of its kind; the session's
+    /// newest brief is then that of the step and of this very reply. A filter that is asked is shown `io`. Where notes are kept
+    /// and memory for one is refused, the step comes back and nothing changed; else no step is refused so.
     pub fn step(
         &mut self,
         session: &mut Session<L>,
+        io: IoState,
         step: Step<K, V, P, A>,
     ) -> std::result::Result<Reply<K, V, P, A>, Step<K, V, P, A>>
         requires { 0 < session.old.shares.parts }
-        ensures back { IfOk result (λ answer. HandsBack step answer self.old.core self.new.core) }
+        ensures back { IfOk result (λ answer. HandsBack step answer self.old.noted.core self.new.noted.core) }
         ensures issued { IfOk result (λ answer. Describes K.is_decodable V.is_decodable K.encoding V.encoding
-            step answer self.old.core self.new.core) }
+            step answer self.old.noted.core self.new.noted.core) }
         ensures meets { IfOk result (λ answer. Refines
             (meaning K.encoding V.encoding K.is_encodable V.is_encodable K.is_decodable V.is_decodable P.age)
-            step answer self.old.core self.new.core) }
+            step answer self.old.noted.core self.new.noted.core) }
         ensures history { IfOk result (λ answer. (run : List (Made K V P A))
-            → IsLegal (meaning K.encoding V.encoding K.is_encodable V.is_encodable K.is_decodable V.is_decodable P.age) run self.old.core
+            → IsLegal (meaning K.encoding V.encoding K.is_encodable V.is_encodable K.is_decodable V.is_decodable P.age) run self.old.noted.core
             → IsLegal (meaning K.encoding V.encoding K.is_encodable V.is_encodable K.is_decodable V.is_decodable P.age)
-            (run ++ record { step = step; reply = answer } ∷ []) self.new.core) }
-        ensures failed { IfOk result (λ answer. answer ≡ reply.Failed → MayFail step self.old.core) }
+            (run ++ record { step = step; reply = answer } ∷ []) self.new.noted.core) }
+        ensures replied { IfOk result (λ answer. may_reply step answer ≡ true) }
+        ensures failed { IfOk result (λ answer. answer ≡ reply.Failed → MayFail step self.old.noted.core) }
         ensures picks { step ≡ steps.ReclaimBegin → IfOk result (λ answer.
-            IsPicked E.answer E.marks self.old.env.pickers.items answer self.old.core self.new.core) }
+            IsPicked E.answer E.marks self.old.env.pickers.items answer self.old.noted.core self.new.noted.core) }
         ensures judged { (block : ℕ) (came : Result (Vec ℕ A) Error) → step ≡ steps.ReclaimRead block came
-            → IfOk result (λ answer. IsJudged C.may_answer self.old.env.reinsertion self.old.env.io block came answer self.old.core) }
-        ensures shown { IfOk result (λ answer. IsShown E.learns E.forgets step answer self.old.core self.new.core.manager
+            → IfOk result (λ answer. IsJudged C.may_answer self.old.env.reinsertion io block came answer self.old.noted.core) }
+        ensures shown { IfOk result (λ answer. IsShown E.learns E.forgets step answer self.old.noted.core self.new.noted.core.manager
             self.old.env.pickers.items self.new.env.pickers.items) }
-        ensures lent { (self.new.env.reinsertion ≡ self.old.env.reinsertion) × (self.new.env.io ≡ self.old.env.io) }
-        ensures noted { IfOk result (λ answer. (kept_notes self.new.notes ≡ and_note (brief_of step answer) (kept_notes self.old.notes))
+        ensures lent { (self.new.env.reinsertion ≡ self.old.env.reinsertion) × OnOk result (self.new.env.io ≡ io) }
+        ensures noted { IfOk result (λ answer. (self.new.noted.notes ≡ and_note (brief_of step answer) self.old.noted.notes)
             × (session.new.newest ≡ Some (brief_of step answer)) × (session.new.before ≡ session.old.newest)) }
-        ensures counted { IfOk result (λ answer. (self.new.calls ≡ grown (kind_of (brief_of step answer)) self.old.calls)
+        ensures counted { IfOk result (λ answer. (self.new.noted.calls ≡ grown (kind_of (brief_of step answer)) self.old.noted.calls)
             × (session.new.shares ≡ record { parts = session.old.shares.parts; amounts = grown (kind_of (brief_of step answer)) session.old.shares.amounts })) }
-        ensures roomless { IfErr result (λ given. (given ≡ step) × (session.new ≡ session.old) × (kept_notes self.old.notes ≢ None)
-            × (self.new.core ≡ self.old.core) × (self.new.env ≡ self.old.env) × (self.new.calls ≡ self.old.calls)
-            × (kept_notes self.new.notes ≡ kept_notes self.old.notes)) }
+        ensures roomless { IfErr result (λ given. (given ≡ step) × (session.new ≡ session.old) × (N.keeps ≡ true)
+            × (self.new.noted ≡ self.old.noted) × (self.new.env ≡ self.old.env)) }
     {
-        if reserve(&mut self.notes).is_err() {
+        if reserve(&mut self.noted.notes).is_err() {
             return Err(step);
         }
+        self.env.set_io(io);
         let asked = StepBrief::of(&step);
-        let reply = self.core.apply(&mut self.env, step);
+        let reply = self.noted.core.apply(&mut self.env, step);
         let brief = Brief {
             step: asked,
             reply: ReplyBrief::of(&reply),
         };
-        note(&mut self.notes, brief);
-        self.calls.note(&mut session.shares, brief.kind());
+        note(&mut self.noted.notes, brief);
+        self.noted.calls.note(&mut session.shares, brief.kind());
         session.note(brief);
         Ok(reply)
     }
 
+    /// The filter of what a reclaim has written again, or none, from now on; the one before comes back.
+    pub fn replace_reinsertion(
+        &mut self,
+        filter: Option<StorageFilter<C, Global>>,
+    ) -> Option<StorageFilter<C, Global>>
+        ensures before { result ≡ self.old.env.reinsertion }
+        ensures filter { self.new.env ≡ record self.old.env { reinsertion = filter } }
+        ensures same { self.new.noted ≡ self.old.noted }
+    {
+        self.env.replace_reinsertion(filter)
+    }
+
     /// The core, which its steps alone change.
     pub fn core(&self) -> &Core<K, V, P, A>
-        ensures { result.now ≡ self.now.core }
+        ensures { result.now ≡ self.now.noted.core }
     {
-        &self.core
+        &self.noted.core
     }
 
     /// The notes of all steps, where they are kept.
     pub fn notes(&self) -> Option<&Notes<A>>
-        ensures { option_map (λ n. all_of n.now.full.items n.now.last.items) result ≡ kept_notes self.now.notes }
+        ensures { option_map (λ n. all_of n.now.full.items n.now.last.items) result ≡ self.now.noted.notes }
     {
-        self.notes.as_ref()
+        self.noted.notes.as_ref()
     }
 
     /// Whoever has all parts knows how many steps of each kind were made; so many notes of it there are, where notes are kept.
     pub fn audit(&mut self, all: &mut Session<L>)
         requires { all.old.shares.parts ≡ L.all }
-        ensures count { self.new.calls ≡ all.new.shares.amounts }
-        ensures notes { ForSome (kept_notes self.new.notes) (λ notes. tallied notes ≡ all.new.shares.amounts) }
-        ensures same { (self.new.core ≡ self.old.core) × (self.new.env ≡ self.old.env) × (kept_notes self.new.notes ≡ kept_notes self.old.notes) }
+        ensures count { self.new.noted.calls ≡ all.new.shares.amounts }
+        ensures notes { ForSome self.new.noted.notes (λ notes. tallied notes ≡ all.new.shares.amounts) }
+        ensures same { (self.new.noted ≡ self.old.noted) × (self.new.env ≡ self.old.env) }
         ensures session { (all.new.shares ≡ all.old.shares) × (all.new.newest ≡ all.old.newest) × (all.new.before ≡ all.old.before) }
     {
-        self.calls.audit(&mut all.shares);
+        self.noted.calls.audit(&mut all.shares);
     }
 }

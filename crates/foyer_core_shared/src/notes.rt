@@ -1,5 +1,5 @@
 //! The notes of all steps, where they are kept.
-ghost use Rattle.std.specs.Prelude.{◌≡◌, ◌<◌, [], ◌∷◌, ◌++◌, IfOk, OnOk, IsOkUnless, slice_get, vec_len, vec_capacity};
+ghost use Rattle.std.specs.Prelude.{◌≡◌, ◌<◌, Bool, true, false, [], ◌∷◌, ◌++◌, IfOk, OnOk, IsOkUnless, slice_get, vec_len, vec_capacity};
 ghost use Rattle.foyer_device_page.specs.declared.error.Error.TheVariants.{Memory};
 ghost use Rattle.foyer_core_shared.specs.Chunks.{all_of};
 
@@ -16,6 +16,37 @@ fn note_at(chunk: &[Brief], place: usize) -> Option<Brief>
     ensures { result ≡ slice_get chunk.now place }
 {
     chunk.get(place).copied()
+}
+
+/// Whether the notes of all steps are kept.
+pub trait Noting {
+    ghost keeps: { Bool };
+
+    /// Whether they are.
+    fn keeps() -> bool
+        ensures { result ≡ keeps };
+}
+
+/// All notes are kept, as long as the core is there.
+pub struct KeepsNotes;
+
+impl Noting for KeepsNotes {
+    ghost keeps = { true };
+
+    fn keeps() -> bool {
+        true
+    }
+}
+
+/// No note is kept.
+pub struct NoNotes;
+
+impl Noting for NoNotes {
+    ghost keeps = { false };
+
+    fn keeps() -> bool {
+        false
+    }
 }
 
 /// Notes, in the order of their steps. They lie in chunks, so that making room copies none of them.

@@ -10,7 +10,7 @@ ghost use Rattle.foyer_core_steps.specs.Refines.{IsHandedBack, RefinesUncounted,
 ghost use Rattle.foyer_core_steps.specs.declared.reply.Reply.TheVariants as reply;
 ghost use Rattle.foyer_core_steps.specs.declared.step.Step.TheVariants as steps;
 
-pub use crate::env::Env;
+pub use crate::env::{Env, no_io};
 use crate::reply::Reply;
 use crate::state::Core;
 use crate::step::Step;

@@ -34,8 +34,8 @@ pub struct Env<E: EvictionPicker = BuiltInPicker, C: StorageFilterCondition = Bu
     pub(crate) io: IoState,
 }
 
-// Nothing was done, and nothing is to be waited for.
-fn no_io() -> IoState
+/// Of a device that did nothing, and where nothing is to be waited for: what a filter is shown that nobody showed another.
+pub fn no_io() -> IoState
     ensures { IsNoIo result }
 {
     IoState {

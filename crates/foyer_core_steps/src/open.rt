@@ -58,6 +58,7 @@ fn place_blocks<A: Allocator + Clone, E: EvictionPicker, C: StorageFilterConditi
     ensures placed { IfOk result (λ manager. IsManagedAs settings.now manager (opened_sets settings.now.blocks clean.now)) }
     ensures shown { IfOk result (λ manager. HaveLearned E.begins E.learns settings.now.blocks settings.now.block_size
         (evictable_below manager.blocks (length manager.blocks)) env.old.pickers.items env.new.pickers.items) }
+    ensures lent { (env.new.reinsertion ≡ env.old.reinsertion) × (env.new.io ≡ env.old.io) }
     ensures refused { IsOkUnless result Memory }
 {
     let mut manager = BlockManager::open(
@@ -99,6 +100,7 @@ impl<K: Drop, V: Drop, P: Drop, A: Allocator + Clone> Core<K, V, P, A> {
             ((mode ≡ recover_mode.None) ⊎ D.is_known disk.old)) }
         ensures shown { IfOk result (λ core. HaveLearned E.begins E.learns settings.blocks settings.block_size
             (evictable_below core.manager.blocks (length core.manager.blocks)) env.old.pickers.items env.new.pickers.items) }
+        ensures lent { (env.new.reinsertion ≡ env.old.reinsertion) × (env.new.io ≡ env.old.io) }
         ensures sound { IfOk result (λ _. AreValid settings) }
         ensures refused { IfErr result (λ e. (e ≡ Memory) ⊎ ((e ≡ Config) × (AreValid settings → ⊥))
             ⊎ ((e ≡ Recover) × (mode ≡ recover_mode.Strict)) ⊎ ((e ≡ SequenceEnd) × (mode ≡ recover_mode.None → marks.now ≢ []))) }

@@ -1,6 +1,6 @@
 -- The eight ledgers, one for each kind.
 use Rattle.std.specs.Prelude.{◌≡◌, ℕ, ◌==◌, if◌then◌else◌}
-use Rattle.foyer_core_tally.specs.declared.book.Blanks.{Blanks}
+use Rattle.foyer_core_tally.specs.declared.blanks.Blanks.{Blanks}
 
 -- the blanks are of these names, by their numbers, and have so many parts each
 pub record AreOf (name_of : ℕ → ℕ) (all : ℕ) (blanks : Blanks) : Type 0 where

@@ -3,9 +3,10 @@ ghost use Rattle.std.specs.Prelude.{◌≡◌, ℕ, ◌+◌, ◌<◌, ◌≤◌}
 ghost use Rattle.foyer_core_tally.specs.Ledgers.{AreOf};
 ghost use Rattle.foyer_core_tally.specs.Tally.{saturated, none, grown, both, shown, listed};
 
+pub use crate::blanks::Blanks;
 use crate::kinds::{Counts, StepKind};
 use std::marker::{Brand, Model, PhantomData};
-use std::sync::ledger::{Blank, Book, Ledger, Share};
+use std::sync::ledger::{Book, Ledger, Share};
 
 /// The names of the ledgers, by the numbers of their kinds, and how many parts each has.
 pub trait Kinds {
@@ -29,19 +30,6 @@ impl<L: Kinds, const N: u8> Ledger for Kind<L, N> {
     ghost name = { L.name_of N };
 
     ghost parts = { L.all };
-}
-
-/// Eight new ledgers, of which no type stands for one yet.
-#[derive(Drop)]
-pub struct Blanks {
-    pub(crate) queued: Blank,
-    pub(crate) dropped: Blank,
-    pub(crate) deleted: Blank,
-    pub(crate) read: Blank,
-    pub(crate) look_up_miss: Blank,
-    pub(crate) entry: Blank,
-    pub(crate) end_miss: Blank,
-    pub(crate) other: Blank,
 }
 
 /// The book: how many steps of each kind were noted with any share.
@@ -77,10 +65,11 @@ pub struct Shares<L: Kinds> {
     end_miss: Share<Kind<L, 6>>,
     other: Share<Kind<L, 7>>,
     counts: Counts,
+    parts: u64,
 }
 
 impl<L: Kinds> Model for Shares<L> {
-    ghost use Rattle.std.specs.Prelude.{◌≡◌};
+    ghost use Rattle.std.specs.Prelude.{◌≡◌, ◌<◌, ◌^◌};
     ghost use Rattle.foyer_core_tally.specs.Tally.{Held, saturated};
 
     ghost Value = { Held };
@@ -88,7 +77,8 @@ impl<L: Kinds> Model for Shares<L> {
     ghost view = { λ s. record { parts = s.queued.parts; amounts = record { queued = s.queued.amount; dropped = s.dropped.amount; deleted = s.deleted.amount; read = s.read.amount; look_up_miss = s.look_up_miss.amount; entry = s.entry.amount; end_miss = s.end_miss.amount; other = s.other.amount } } };
 
     ghost invariant = { λ s. (s.dropped.parts ≡ s.queued.parts) × (s.deleted.parts ≡ s.queued.parts) × (s.read.parts ≡ s.queued.parts) × (s.look_up_miss.parts ≡ s.queued.parts) × (s.entry.parts ≡ s.queued.parts) × (s.end_miss.parts ≡ s.queued.parts) × (s.other.parts ≡ s.queued.parts)
-        × (s.counts.queued ≡ saturated s.queued.amount) × (s.counts.dropped ≡ saturated s.dropped.amount) × (s.counts.deleted ≡ saturated s.deleted.amount) × (s.counts.read ≡ saturated s.read.amount) × (s.counts.look_up_miss ≡ saturated s.look_up_miss.amount) × (s.counts.entry ≡ saturated s.entry.amount) × (s.counts.end_miss ≡ saturated s.end_miss.amount) × (s.counts.other ≡ saturated s.other.amount) };
+        × (s.counts.queued ≡ saturated s.queued.amount) × (s.counts.dropped ≡ saturated s.dropped.amount) × (s.counts.deleted ≡ saturated s.deleted.amount) × (s.counts.read ≡ saturated s.read.amount) × (s.counts.look_up_miss ≡ saturated s.look_up_miss.amount) × (s.counts.entry ≡ saturated s.entry.amount) × (s.counts.end_miss ≡ saturated s.end_miss.amount) × (s.counts.other ≡ saturated s.other.amount)
+        × (s.parts ≡ s.queued.parts) × (L.all < 2 ^ 64) };
 }
 
 // One more step, in one ledger.
@@ -110,6 +100,7 @@ fn merge<L: Ledger>(share: &mut Share<L>, other: Share<L>, count: &mut u64, more
     requires others { more ≡ saturated other.amount }
     ensures amount { share.new.amount ≡ share.old.amount + other.amount }
     ensures parts { share.new.parts ≡ share.old.parts + other.parts }
+    ensures apart { share.new.parts ≤ L.parts }
     ensures shown { count.new ≡ saturated share.new.amount }
 {
     share.merge(other);
@@ -117,28 +108,13 @@ fn merge<L: Ledger>(share: &mut Share<L>, other: Share<L>, count: &mut u64, more
 }
 
 impl Blanks {
-    /// Of so many parts each.
-    pub fn new(parts: u64) -> Blanks
-        ensures { (result.queued.parts ≡ parts) × (result.dropped.parts ≡ parts) × (result.deleted.parts ≡ parts) × (result.read.parts ≡ parts) × (result.look_up_miss.parts ≡ parts) × (result.entry.parts ≡ parts) × (result.end_miss.parts ≡ parts) × (result.other.parts ≡ parts) }
-    {
-        Blanks {
-            queued: Blank::new(parts),
-            dropped: Blank::new(parts),
-            deleted: Blank::new(parts),
-            read: Blank::new(parts),
-            look_up_miss: Blank::new(parts),
-            entry: Blank::new(parts),
-            end_miss: Blank::new(parts),
-            other: Blank::new(parts),
-        }
-    }
-
     /// The book, and the share that has all parts.
     pub fn open<L: Kinds>(self) -> (Books<L>, Shares<L>)
         requires { AreOf L.name_of L.all self }
         ensures book { result.0 ≡ none }
         ensures share { result.1 ≡ record { parts = L.all; amounts = none } }
     {
+        let parts = self.parts;
         let (queued_book, queued) = self.queued.open::<Kind<L, 0>>();
         let (dropped_book, dropped) = self.dropped.open::<Kind<L, 1>>();
         let (deleted_book, deleted) = self.deleted.open::<Kind<L, 2>>();
@@ -167,6 +143,7 @@ impl Blanks {
             end_miss,
             other,
             counts: Counts::new(),
+            parts,
         };
         (books, shares)
     }
@@ -237,6 +214,13 @@ impl<L: Kinds> Shares<L> {
         self.counts.to_array()
     }
 
+    /// How many parts of each ledger it has.
+    pub fn parts(&self) -> u64
+        ensures { result ≡ self.now.parts }
+    {
+        self.parts
+    }
+
     /// Gives so many parts of each ledger away, and no step.
     pub fn split(&mut self, parts: u64) -> Shares<L>
         requires some { 0 < parts }
@@ -245,7 +229,9 @@ impl<L: Kinds> Shares<L> {
         ensures parts { self.new.parts + parts ≡ self.old.parts }
         ensures amounts { self.new.amounts ≡ self.old.amounts }
     {
+        self.parts -= parts;
         Shares {
+            parts,
             queued: self.queued.split_off(parts, 0),
             dropped: self.dropped.split_off(parts, 0),
             deleted: self.deleted.split_off(parts, 0),
@@ -262,6 +248,7 @@ impl<L: Kinds> Shares<L> {
     pub fn merge(&mut self, other: Shares<L>)
         ensures { self.new ≡ record { parts = self.old.parts + other.parts; amounts = both self.old.amounts other.amounts } }
     {
+        let parts = other.parts;
         merge(
             &mut self.queued,
             other.queued,
@@ -310,5 +297,6 @@ impl<L: Kinds> Shares<L> {
             &mut self.counts.other,
             other.counts.other,
         );
+        self.parts += parts;
     }
 }

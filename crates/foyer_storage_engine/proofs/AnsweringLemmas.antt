@@ -1,5 +1,5 @@
 -- What the briefs of a session say of its calls.
-use Rattle.std.proofs.Common.{◌≡◌, ◌⊎◌, ℕ, Bool, Some, Result, Ok, Err, inl, inr, sym, ap, subst, ◌∙◌}
+use Rattle.std.proofs.Common.{◌≡◌, ◌⊎◌, ℕ, Bool, true, None, Some, Result, Ok, Err, inl, inr, sym, ap, subst, ◌∙◌}
 use Rattle.std.specs.declared.vec.Vec.{Vec}
 use Rattle.foyer_core_steps.specs.declared.reply.Reply.{Reply}
 use Rattle.foyer_core_steps.specs.declared.reply.Reply.TheVariants as reply
@@ -11,7 +11,7 @@ use Rattle.foyer_device_page.specs.declared.error.Error.TheVariants as error
 use Rattle.foyer_device_page.specs.declared.error.ErrorKind.TheVariants as kind
 use Rattle.foyer_storage_engine.specs.declared.load.Load.{Load}
 use Rattle.foyer_core_shared.specs.Briefed.{IsNotedIn}
-use Rattle.foyer_core_shared.specs.Briefs.{brief_of, reply_brief}
+use Rattle.foyer_core_shared.specs.Briefs.{brief_of, len_of, reply_brief}
 use Rattle.foyer_core_shared.specs.declared.brief.ReplyBrief.{ReplyBrief}
 use Rattle.foyer_core_shared.specs.declared.brief.ReplyBrief.TheVariants as replied
 use Rattle.foyer_core_shared.specs.declared.brief.StepBrief.TheVariants as asked
@@ -36,7 +36,8 @@ module _ {K V P A : Type 0} where
   load_as reply.Throttled result is = is
   load_as (reply.Read ticket) result is = is
   load_as reply.Empty result is = is
-  load_as (reply.Received back) result is = is
+  load_as (reply.Received None) result is = is
+  load_as (reply.Received (Some piece)) result is = is
   load_as (reply.Began blocks marks) result is = is
   load_as (reply.Write block writes) result is = is
   load_as reply.NoBlock result is = is
@@ -58,14 +59,14 @@ module _ {K V P A : Type 0} where
 abbrev begin : {K V P A : Type 0} → ℕ → Bool → Step K V P A
 begin hash throttled = step.LoadBegin hash throttled
 
-module _ {K V P A : Type 0} where
+module _ {K V P A : Type 0} (keeps : Bool) where
   -- the session has the step with this reply, or the step was refused for its note
   abbrev IsMade : SessionState → SessionState → Step K V P A → Reply K V P A → Type 0
-  IsMade old new given answer = IsNotedIn old new given answer ⊎ ((answer ≡ reply.Refused kind.Memory given) × (new ≡ old))
+  IsMade old new given answer = IsNotedIn old new given answer ⊎ ((keeps ≡ true) × (answer ≡ reply.Refused kind.Memory given) × (new ≡ old))
 
   -- a look-up without a ticket
   pub looked_up : (old new : SessionState) (hash : ℕ) (throttled : Bool) (answer : Reply K V P A) (result : Result (Load K V P A) Error)
-      → IsMade old new (step.LoadBegin hash throttled) answer → (IsRead (reply_brief answer) → ⊥) → IsLoadOf answer result → IsLoaded old new hash throttled result
+      → IsMade old new (step.LoadBegin hash throttled) answer → (IsRead (reply_brief answer) → ⊥) → IsLoadOf answer result → IsLoaded keeps old new hash throttled result
   looked_up old new hash throttled answer result (inl noted) unread is = inl (record {
     answer = reply_brief answer;
     noted = record { newest = noted.newest; counted = noted.counted };
@@ -74,25 +75,26 @@ module _ {K V P A : Type 0} where
     said = load_as answer result is;
   })
   looked_up old new hash throttled answer result (inr none) unread is =
-      inr (inr (inr ((refused_load answer (step.LoadBegin hash throttled) result none.0 is, none.1))))
+      inr (inr (inr ((none.0, refused_load answer (step.LoadBegin hash throttled) result none.1 is, none.2))))
 
   -- one that got a ticket was noted
   got_ticket : (old new : SessionState) (hash : ℕ) (throttled : Bool) (ticket : Ticket) (answer : Reply K V P A) → answer ≡ reply.Read ticket
       → IsMade old new (step.LoadBegin hash throttled) answer → IsNotedIn old new (begin {K = K} {V = V} {P = P} {A = A} hash throttled) answer
   got_ticket old new hash throttled ticket answer is (inl noted) = noted
   got_ticket old new hash throttled ticket answer is (inr none) =
-      let clash : ◌≡◌ {A = Reply K V P A} (reply.Read ticket) (reply.Refused kind.Memory (begin {K = K} {V = V} {P = P} {A = A} hash throttled)) = sym is ∙ none.0 in absurd cc
+      let clash : ◌≡◌ {A = Reply K V P A} (reply.Read ticket) (reply.Refused kind.Memory (begin {K = K} {V = V} {P = P} {A = A} hash throttled)) = sym is ∙ none.1 in absurd cc
 
   -- a load that was ended, or whose end found no room for its note
   pub ended : (old between new : SessionState) (hash : ℕ) (throttled : Bool) (ticket : Ticket) (came : Result (Vec ℕ A) Error) (first last : Reply K V P A)
       (result : Result (Load K V P A) Error) → first ≡ reply.Read ticket → IsMade old between (step.LoadBegin hash throttled) first
-      → IsMade between new (step.LoadEnd ticket came) last → IsLoadOf last result → IsLoaded old new hash throttled result
+      → IsMade between new (step.LoadEnd ticket came) last → IsLoadOf last result → IsLoaded keeps old new hash throttled result
   ended old between new hash throttled ticket came first last result is made (inl noted) load =
       let begun = got_ticket old between hash throttled ticket first is made in
       inr (inr (inl (record {
         ticket = ticket;
+        outcome = len_of came;
         answer = reply_brief last;
-        noted = record { newest = noted.newest; counted = noted.counted ∙ ap (grown (kind_in (asked.LoadEnd ticket) (reply_brief last))) (begun.counted ∙ ap (λ r. grown (kind_in (asked.LoadBegin hash throttled) (reply_brief r)) old.shares.amounts) is) };
+        noted = record { newest = noted.newest; counted = noted.counted ∙ ap (grown (kind_in (asked.LoadEnd ticket (len_of came)) (reply_brief last))) (begun.counted ∙ ap (λ r. grown (kind_in (asked.LoadBegin hash throttled) (reply_brief r)) old.shares.amounts) is) };
         before = noted.before ∙ begun.newest ∙ ap (λ r. Some (brief_of (begin {K = K} {V = V} {P = P} {A = A} hash throttled) r)) is;
         said = load_as last result load;
       })))
@@ -101,9 +103,9 @@ module _ {K V P A : Type 0} where
       inr (inl (record {
         ticket = ticket;
         noted = record {
-          newest = ap (λ (s : SessionState). s.newest) none.1 ∙ begun.newest ∙ ap (λ r. Some (brief_of (begin {K = K} {V = V} {P = P} {A = A} hash throttled) r)) is;
-          counted = ap (λ (s : SessionState). s.shares.amounts) none.1 ∙ begun.counted ∙ ap (λ r. grown (kind_in (asked.LoadBegin hash throttled) (reply_brief r)) old.shares.amounts) is;
+          newest = ap (λ (s : SessionState). s.newest) none.2 ∙ begun.newest ∙ ap (λ r. Some (brief_of (begin {K = K} {V = V} {P = P} {A = A} hash throttled) r)) is;
+          counted = ap (λ (s : SessionState). s.shares.amounts) none.2 ∙ begun.counted ∙ ap (λ r. grown (kind_in (asked.LoadBegin hash throttled) (reply_brief r)) old.shares.amounts) is;
         };
-        before = ap (λ (s : SessionState). s.before) none.1 ∙ begun.before;
-        said = refused_load last (step.LoadEnd ticket came) result none.0 load;
+        before = ap (λ (s : SessionState). s.before) none.2 ∙ begun.before;
+        said = refused_load last (step.LoadEnd ticket came) result none.1 load;
       }))

@@ -1,5 +1,5 @@
 -- What an engine's calls answer: what their sessions' briefs say.
-use Rattle.std.specs.Prelude.{◌≡◌, ◌⊎◌, ℕ, Bool, Some, Result, Ok, Err}
+use Rattle.std.specs.Prelude.{◌≡◌, ◌⊎◌, ℕ, Bool, true, false, Some, Result, Ok, Err}
 use Rattle.foyer_core_steps.specs.declared.reply.Reply.{Reply}
 use Rattle.foyer_core_steps.specs.declared.reply.Reply.TheVariants as reply
 use Rattle.foyer_core_steps.specs.declared.step.Ticket.{Ticket}
@@ -37,6 +37,28 @@ error_of kind.Closed = error.Closed
 error_of kind.Unsupported = error.Unsupported
 error_of kind.SequenceEnd = error.SequenceEnd
 
+-- why a put or a delete is refused
+abbrev pub is_draw_error : Error → Bool
+is_draw_error error.Closed = true
+is_draw_error error.Memory = true
+is_draw_error error.SequenceEnd = true
+is_draw_error other = false
+
+-- why a question is refused: no step is left, or a note that is to be kept finds no room
+abbrev pub is_question_error : (keeps : Bool) → Error → Bool
+is_question_error keeps error.SequenceEnd = true
+is_question_error keeps error.Memory = keeps
+is_question_error keeps other = false
+
+-- why a load is refused
+abbrev pub is_load_error : Error → Bool
+is_load_error error.Io = true
+is_load_error error.Memory = true
+is_load_error error.Parse = true
+is_load_error error.Unsupported = true
+is_load_error error.SequenceEnd = true
+is_load_error other = false
+
 -- an enqueue that was replied so
 abbrev pub enqueued_as : ReplyBrief → Result Enqueued Error
 enqueued_as (replied.Queued sequence) = Ok enqueued.Queued
@@ -69,9 +91,10 @@ pub record IsReplied {X : Type 0} (says : ReplyBrief → Result X Error) (old ne
   pub before : new.before ≡ old.newest
   pub said : answered ≡ says answer
 
--- The call made one step, noted it, and answered what its brief says; or a note found no room, and nothing was noted.
-abbrev pub IsAnsweredAs : {X : Type 0} → (ReplyBrief → Result X Error) → SessionState → SessionState → StepBrief → Result X Error → Type 0
-IsAnsweredAs says old new given answered = IsReplied says old new given answered ⊎ ((answered ≡ Err error.Memory) × (new ≡ old))
+-- The call made one step, noted it, and answered what its brief says; or, where notes are kept, one found no room, and nothing was
+-- noted.
+abbrev pub IsAnsweredAs : {X : Type 0} → (keeps : Bool) → (ReplyBrief → Result X Error) → SessionState → SessionState → StepBrief → Result X Error → Type 0
+IsAnsweredAs keeps says old new given answered = IsReplied says old new given answered ⊎ ((keeps ≡ true) × (answered ≡ Err error.Memory) × (new ≡ old))
 
 -- it has a ticket
 abbrev pub IsRead : ReplyBrief → Type 0
@@ -123,13 +146,14 @@ module _ {K V P A : Type 0} where
   -- what was read for the ticket ended the load
   pub record IsEnded (old new : SessionState) (hash : ℕ) (throttled : Bool) (answered : Result (Load K V P A) Error) : Type 0 where
     pub ticket : Ticket
+    pub outcome : Result ℕ ErrorKind
     pub answer : ReplyBrief
-    pub noted : IsNewest new (grown Read old.shares.amounts) (asked.LoadEnd ticket) answer
+    pub noted : IsNewest new (grown Read old.shares.amounts) (asked.LoadEnd ticket outcome) answer
     pub before : new.before ≡ Some (record { step = asked.LoadBegin hash throttled; reply = replied.Read ticket })
     pub said : IsLoadAs answer answered
 
-  -- A load makes one step, or two where it reads, and answers what their briefs say; or nothing was noted.
-  abbrev pub IsLoaded : SessionState → SessionState → (hash : ℕ) → (throttled : Bool) → Result (Load K V P A) Error → Type 0
-  IsLoaded old new hash throttled answered =
+  -- A load makes one step, or two where it reads, and answers what their briefs say; or, where notes are kept, nothing was noted.
+  abbrev pub IsLoaded : (keeps : Bool) → SessionState → SessionState → (hash : ℕ) → (throttled : Bool) → Result (Load K V P A) Error → Type 0
+  IsLoaded keeps old new hash throttled answered =
       IsLookedUp old new hash throttled answered ⊎ (IsCutShort old new hash throttled answered
-      ⊎ (IsEnded old new hash throttled answered ⊎ ((answered ≡ Err error.Memory) × (new ≡ old))))
+      ⊎ (IsEnded old new hash throttled answered ⊎ ((keeps ≡ true) × (answered ≡ Err error.Memory) × (new ≡ old))))

@@ -1,17 +1,23 @@
 //! The calls of an engine, made by any thread with a session of its own.
-ghost use Rattle.std.specs.Prelude.{◌≡◌, ◌<◌, IfErr};
+ghost use Rattle.std.specs.Prelude.{◌≡◌, ◌<◌, IfErr, IfOk, IsOk, true, false, vec_len};
+ghost use Rattle.foyer_format_layout.specs.Page.{page_up};
+ghost use Rattle.foyer_io_disk.specs.Disk.{IsRead};
 ghost use Rattle.foyer_device_page.specs.declared.error.Error.{Error as error};
 ghost use Rattle.foyer_core_shared.specs.Briefs.{reply_brief};
 ghost use Rattle.foyer_core_shared.specs.declared.brief.StepBrief.TheVariants as asked;
+ghost use Rattle.foyer_core_shared.specs.Replies.{is_delete_reply, is_end_reply, is_enqueue_reply, is_question_reply};
 ghost use Rattle.foyer_storage_engine.specs.Answering.{IsAnsweredAs, IsLoaded, asked_as, deleted_as, enqueued_as, IsLoadOf, IsTicketOf, error_of};
+ghost use Rattle.foyer_storage_engine.specs.Answering.{is_draw_error, is_load_error, is_question_error};
 
 use crate::bell::Bell;
 use crate::load::{Load, Populated};
 use foyer_block_manager::block::eviction::EvictionPicker;
 use foyer_block_recover::gate::{Gate, Point};
 use foyer_core_run::disk::do_read;
+use foyer_core_shared::notes::Noting;
 use foyer_core_shared::session::Session;
 use foyer_core_shared::shared::Shared;
+use foyer_core_steps::apply::no_io;
 use foyer_core_steps::reply::Reply;
 use foyer_core_steps::step::{Step, Ticket};
 use foyer_core_tally::book::Kinds;
@@ -43,9 +49,18 @@ struct Reader<D: Disk + Drop, A: Allocator> {
 }
 
 impl<D: Disk + Drop, A: Allocator + Clone> Reader<D, A> {
-    // Does the read of a ticket. `Err` is a refused allocation.
+    // Does the read of a ticket, as `do_read` does. `Err` is a refused allocation.
     fn read(&mut self, ticket: &Ticket) -> Result<Result<Vec<u8, A>>>
-        ensures { IfErr result (λ e. e ≡ error.Memory) }
+        ensures read { D.is_known self.old.disk → IfOk result (λ outcome. IfOk outcome (λ bytes.
+            IsRead (D.byte_at self.old.disk) ticket.now.address.block ticket.now.address.offset bytes.items)) }
+        ensures len { IfOk result (λ outcome. IfOk outcome (λ bytes. vec_len bytes ≡ page_up ticket.now.address.len)) }
+        ensures succeeds { D.surely_has self.old.disk ticket.now.address.block ticket.now.address.offset (page_up ticket.now.address.len)
+            → IfOk result IsOk }
+        ensures fault { IfOk result (λ outcome. IfErr outcome (D.may_answer self.old.disk ticket.now.address.block
+            ticket.now.address.offset (page_up ticket.now.address.len))) }
+        ensures known { D.is_known self.old.disk → D.is_known self.new.disk }
+        ensures same { D.byte_at self.new.disk ≡ D.byte_at self.old.disk }
+        ensures refused { IfErr result (λ e. e ≡ error.Memory) }
     {
         let alloc = self.alloc.clone()?;
         Ok(do_read(alloc, &mut self.disk, ticket, &mut self.spare)?)
@@ -77,7 +92,8 @@ pub fn error_of(kind: ErrorKind) -> Error
 fn load_of<K: Drop, V: Drop, P: Drop, A: Allocator>(
     reply: Reply<K, V, P, A>,
 ) -> Result<Load<K, V, P, A>>
-    ensures { IsLoadOf reply result }
+    ensures answer { IsLoadOf reply result }
+    ensures refused { is_end_reply reply ≡ true → IfErr result (λ e. is_load_error e ≡ true) }
 {
     match reply {
         Reply::Entry { key, value, age } => Ok(Load::Entry {
@@ -96,7 +112,8 @@ fn load_of<K: Drop, V: Drop, P: Drop, A: Allocator>(
 fn enqueued_of<K: Drop, V: Drop, P: Drop, A: Allocator>(
     reply: Reply<K, V, P, A>,
 ) -> Result<Enqueued>
-    ensures { result ≡ enqueued_as (reply_brief reply) }
+    ensures answer { result ≡ enqueued_as (reply_brief reply) }
+    ensures refused { is_enqueue_reply reply ≡ true → IfErr result (λ e. is_draw_error e ≡ true) }
 {
     match reply {
         Reply::Queued(_) => Ok(Enqueued::Queued),
@@ -109,7 +126,8 @@ fn enqueued_of<K: Drop, V: Drop, P: Drop, A: Allocator>(
 
 // What a delete's reply is answered as.
 fn deleted_of<K: Drop, V: Drop, P: Drop, A: Allocator>(reply: Reply<K, V, P, A>) -> Result<()>
-    ensures { result ≡ deleted_as (reply_brief reply) }
+    ensures answer { result ≡ deleted_as (reply_brief reply) }
+    ensures refused { is_delete_reply reply ≡ true → IfErr result (λ e. is_draw_error e ≡ true) }
 {
     match reply {
         Reply::Deleted(_) => Ok(()),
@@ -120,7 +138,8 @@ fn deleted_of<K: Drop, V: Drop, P: Drop, A: Allocator>(reply: Reply<K, V, P, A>)
 
 // What a question's reply is answered as.
 fn answer_of<K: Drop, V: Drop, P: Drop, A: Allocator>(reply: Reply<K, V, P, A>) -> Result<bool>
-    ensures { result ≡ asked_as (reply_brief reply) }
+    ensures answer { result ≡ asked_as (reply_brief reply) }
+    ensures refused { is_question_reply reply ≡ true → IfErr result (λ e. is_question_error false e ≡ true) }
 {
     match reply {
         Reply::Answer(answer) => Ok(answer),
@@ -144,7 +163,7 @@ fn ticket_of<K: Drop, V: Drop, P: Drop, A: Allocator>(
 /// An engine that threads share by reference: a core behind one lock, a disk that all loads read from behind another, a bell
 /// that is rung where a step may let a worker go on, and a gate that each read passes before it.
 #[derive(Drop)]
-pub struct BlockEngine<L, K, V, P, A, E, C, D, G>
+pub struct BlockEngine<L, K, V, P, A, E, C, D, G, N>
 where
     L: Kinds,
     K: Code<A>,
@@ -155,14 +174,15 @@ where
     C: StorageFilterCondition,
     D: Disk + Drop,
     G: Gate,
+    N: Noting,
 {
-    shared: Shared<L, K, V, P, A, E, C>,
+    shared: Shared<L, K, V, P, A, E, C, N>,
     reader: Mutex<Reader<D, A>>,
     bell: Bell,
     gate: G,
 }
 
-impl<L, K, V, P, A, E, C, D, G> BlockEngine<L, K, V, P, A, E, C, D, G>
+impl<L, K, V, P, A, E, C, D, G, N> BlockEngine<L, K, V, P, A, E, C, D, G, N>
 where
     L: Kinds,
     K: Code<A> + Drop,
@@ -173,14 +193,15 @@ where
     C: StorageFilterCondition,
     D: Disk + Drop,
     G: Gate,
+    N: Noting,
 {
     /// An engine over this core, whose loads read from this disk.
     pub fn new(
         alloc: A,
-        shared: Shared<L, K, V, P, A, E, C>,
+        shared: Shared<L, K, V, P, A, E, C, N>,
         disk: D,
         gate: G,
-    ) -> Result<BlockEngine<L, K, V, P, A, E, C, D, G>>
+    ) -> Result<BlockEngine<L, K, V, P, A, E, C, D, G, N>>
         ensures { IfErr result (λ e. e ≡ error.Memory) }
     {
         let reader = Reader {
@@ -205,9 +226,12 @@ where
         size: usize,
     ) -> Result<Enqueued>
         requires { 0 < session.old.shares.parts }
-        ensures { IsAnsweredAs enqueued_as session.old session.new (asked.Enqueue piece.hash) result }
+        ensures answer { IsAnsweredAs N.keeps enqueued_as session.old session.new (asked.Enqueue piece.hash size) result }
+        ensures refused { IfErr result (λ e. is_draw_error e ≡ true) }
+        ensures parts { session.new.shares.parts ≡ session.old.shares.parts }
     {
-        let reply = self.shared.step(rt, session, Step::Enqueue { piece, size });
+        let step = Step::Enqueue { piece, size };
+        let reply = self.shared.step(rt, session, no_io(), step);
         self.bell.ring(rt);
         enqueued_of(reply)
     }
@@ -216,24 +240,31 @@ where
     /// `Memory` and `SequenceEnd` leave the engine as it was.
     pub fn delete(&self, rt: &impl Wait, session: &mut Session<L>, hash: u64) -> Result<()>
         requires { 0 < session.old.shares.parts }
-        ensures { IsAnsweredAs deleted_as session.old session.new (asked.Delete hash) result }
+        ensures answer { IsAnsweredAs N.keeps deleted_as session.old session.new (asked.Delete hash) result }
+        ensures refused { IfErr result (λ e. is_draw_error e ≡ true) }
+        ensures parts { session.new.shares.parts ≡ session.old.shares.parts }
     {
-        let reply = self.shared.step(rt, session, Step::Delete { hash });
+        let step = Step::Delete { hash };
+        let reply = self.shared.step(rt, session, no_io(), step);
         self.bell.ring(rt);
         deleted_of(reply)
     }
 
-    /// Whether a hash is indexed. `Memory` only where notes are kept, and one finds no room.
+    /// Whether a hash is indexed. `SequenceEnd` where no step is left; `Memory` only where notes are kept, and one finds no room.
     pub fn may_contains(&self, rt: &impl Wait, session: &mut Session<L>, hash: u64) -> Result<bool>
         requires { 0 < session.old.shares.parts }
-        ensures { IsAnsweredAs asked_as session.old session.new (asked.MayContains hash) result }
+        ensures answer { IsAnsweredAs N.keeps asked_as session.old session.new (asked.MayContains hash) result }
+        ensures refused { IfErr result (λ e. is_question_error N.keeps e ≡ true) }
+        ensures parts { session.new.shares.parts ≡ session.old.shares.parts }
     {
-        let reply = self.shared.step(rt, session, Step::MayContains { hash });
+        let step = Step::MayContains { hash };
+        let reply = self.shared.step(rt, session, no_io(), step);
         answer_of(reply)
     }
 
     /// Looks a hash up, reads what it stands for, and gives what came of it. The caller says whether the device is throttled:
-    /// then nothing is read. The core's lock is free during the read. `Memory` also where the read finds no memory.
+    /// then nothing is read. The core's lock is free during the read. `Io` where the read failed, `Memory` where it or the entry
+    /// finds no memory, `Parse` and `Unsupported` where the entry isn't readable, `SequenceEnd` where no step is left.
     pub fn load(
         &self,
         rt: &impl Wait,
@@ -242,10 +273,12 @@ where
         throttled: bool,
     ) -> Result<Load<K, V, P, A>>
         requires { 0 < session.old.shares.parts }
-        ensures { IsLoaded session.old session.new hash throttled result }
+        ensures answer { IsLoaded N.keeps session.old session.new hash throttled result }
+        ensures refused { IfErr result (λ e. is_load_error e ≡ true) }
+        ensures parts { session.new.shares.parts ≡ session.old.shares.parts }
     {
         let begin = Step::LoadBegin { hash, throttled };
-        let ticket = match ticket_of(self.shared.step(rt, session, begin)) {
+        let ticket = match ticket_of(self.shared.step(rt, session, no_io(), begin)) {
             Ok(ticket) => ticket,
             Err(reply) => return load_of(reply),
         };
@@ -255,7 +288,7 @@ where
             ticket,
             result: came,
         };
-        let reply = self.shared.step(rt, session, end);
+        let reply = self.shared.step(rt, session, no_io(), end);
         load_of(reply)
     }
 }

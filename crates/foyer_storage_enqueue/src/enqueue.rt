@@ -7,15 +7,17 @@ ghost use Rattle.foyer_storage_enqueue.specs.Kept.{IsPutWhereQueued};
 ghost use Rattle.foyer_policy_keeper.specs.PieceMap.{HasRoomFor, HoldsSame};
 ghost use Rattle.foyer_core_laws.specs.Content.{meaning};
 ghost use Rattle.foyer_core_shared.specs.Briefed.{IsNotedIn};
-ghost use Rattle.std.specs.Prelude.{◌≡◌, ◌⊎◌, ◌+◌, ◌<◌, ◌≤◌, IfOk, OnErr, IfErr};
+ghost use Rattle.std.specs.Prelude.{◌≡◌, ◌⊎◌, ◌+◌, ◌<◌, ◌≤◌, IfOk, OnErr, IfErr, true};
 
 use foyer_block_manager::block::eviction::EvictionPicker;
 use foyer_core_shared::locked::Locked;
+use foyer_core_shared::notes::Noting;
 use foyer_core_shared::session::Session;
 use foyer_core_steps::reply::Reply;
 use foyer_core_steps::step::Step;
 use foyer_core_tally::book::Kinds;
 use foyer_device_page::error::{Error, ErrorKind, Result};
+use foyer_device_statistics::IoState;
 use foyer_format_record::serde::{Code, Properties};
 use foyer_policy_filter::StorageFilterCondition;
 use foyer_policy_keeper::keeper::PieceRef;
@@ -46,9 +48,10 @@ fn put_where_queued<K: Eq + Drop, V: Drop, P: Drop, A: Allocator + Clone>(
 }
 
 // The step, or a refusal where its note found no room.
-fn step<L, K, V, P, A, E, C>(
-    locked: &mut Locked<L, K, V, P, A, E, C>,
+fn step<L, K, V, P, A, E, C, N>(
+    locked: &mut Locked<L, K, V, P, A, E, C, N>,
     session: &mut Session<L>,
+    io: IoState,
     step: Step<K, V, P, A>,
 ) -> Reply<K, V, P, A>
 where
@@ -59,13 +62,14 @@ where
     A: Allocator + Clone,
     E: EvictionPicker,
     C: StorageFilterCondition,
+    N: Noting,
     requires { 0 < session.old.shares.parts }
-    ensures core { Refines (meaning K.encoding V.encoding K.is_encodable V.is_encodable K.is_decodable V.is_decodable P.age) step result locked.old.core locked.new.core
-        ⊎ ((result ≡ reply.Refused kind.Memory step) × (locked.new.core ≡ locked.old.core)) }
-    ensures noted { IsNotedIn session.old session.new step result ⊎ ((result ≡ reply.Refused kind.Memory step) × (session.new ≡ session.old)) }
+    ensures core { Refines (meaning K.encoding V.encoding K.is_encodable V.is_encodable K.is_decodable V.is_decodable P.age) step result locked.old.noted.core locked.new.noted.core
+        ⊎ ((N.keeps ≡ true) × (result ≡ reply.Refused kind.Memory step) × (locked.new.noted.core ≡ locked.old.noted.core)) }
+    ensures noted { IsNotedIn session.old session.new step result ⊎ ((N.keeps ≡ true) × (result ≡ reply.Refused kind.Memory step) × (session.new ≡ session.old)) }
     ensures parts { session.new.shares.parts ≡ session.old.shares.parts }
 {
-    match locked.step(session, step) {
+    match locked.step(session, io, step) {
         Ok(reply) => reply,
         Err(step) => Reply::Refused(ErrorKind::Memory, step),
     }
@@ -74,10 +78,11 @@ where
 /// Queues a piece in the core, and puts it into the keeper's shard where it is queued, under the shard's next number. Room and
 /// number are made first: `Memory` and `SequenceEnd` leave the core, the session and what is kept as they were. The caller holds
 /// the shard's lock from before the core's until after it, so that no look-up and no release comes between.
-pub fn enqueue<L, K, V, P, A, E, C>(
+pub fn enqueue<L, K, V, P, A, E, C, N>(
     shard: &mut Shard<K, V, P, A>,
-    locked: &mut Locked<L, K, V, P, A, E, C>,
+    locked: &mut Locked<L, K, V, P, A, E, C, N>,
     session: &mut Session<L>,
+    io: IoState,
     piece: Piece<K, V, P, A>,
     size: usize,
 ) -> Result<Enqueued<K, V, P, A>>
@@ -89,19 +94,20 @@ where
     A: Allocator + Clone,
     E: EvictionPicker,
     C: StorageFilterCondition,
+    N: Noting,
     requires { 0 < session.old.shares.parts }
     ensures kept { IfOk result (λ r. IsPutWhereQueued K.eq shard.old.map shard.new.map r.reference r.reply) }
     ensures reference { IfOk result (λ r. r.reference ≡ record { piece = piece; number = shard.old.last + 1 }) }
     ensures core { IfOk result (λ r. Refines (meaning K.encoding V.encoding K.is_encodable V.is_encodable K.is_decodable V.is_decodable P.age)
-        (steps.Enqueue piece size) r.reply locked.old.core locked.new.core
-        ⊎ ((r.reply ≡ reply.Refused kind.Memory (steps.Enqueue piece size)) × (locked.new.core ≡ locked.old.core))) }
+        (steps.Enqueue piece size) r.reply locked.old.noted.core locked.new.noted.core
+        ⊎ ((N.keeps ≡ true) × (r.reply ≡ reply.Refused kind.Memory (steps.Enqueue piece size)) × (locked.new.noted.core ≡ locked.old.noted.core))) }
     ensures noted { IfOk result (λ r. IsNotedIn session.old session.new (steps.Enqueue piece size) r.reply
-        ⊎ ((r.reply ≡ reply.Refused kind.Memory (steps.Enqueue piece size)) × (session.new ≡ session.old))) }
-    ensures err { OnErr result (HoldsSame K.eq shard.old.map shard.new.map × (locked.new.core ≡ locked.old.core) × (session.new ≡ session.old)) }
+        ⊎ ((N.keeps ≡ true) × (r.reply ≡ reply.Refused kind.Memory (steps.Enqueue piece size)) × (session.new ≡ session.old))) }
+    ensures err { OnErr result (HoldsSame K.eq shard.old.map shard.new.map × (locked.new.noted.core ≡ locked.old.noted.core) × (session.new ≡ session.old)) }
     ensures refused { IfErr result (λ e. (e ≡ Error.Memory) ⊎ (e ≡ Error.SequenceEnd)) }
 {
     let (reference, reserved) = shard.reserve(&piece)?;
-    let reply = step(locked, session, Step::Enqueue { piece, size });
+    let reply = step(locked, session, io, Step::Enqueue { piece, size });
     put_where_queued(shard, reserved, &reply);
     Ok(Enqueued { reply, reference })
 }

@@ -4,9 +4,10 @@ ghost use Rattle.foyer_core_tally.specs.Ledgers.{AreOf};
 
 use foyer_block_manager::block::eviction::BuiltInPicker;
 use foyer_core_shared::locked::Locked;
+use foyer_core_shared::notes::Noting;
 use foyer_core_shared::session::Session;
 use foyer_core_shared::shared::Shared;
-use foyer_core_steps::apply::Env;
+use foyer_core_steps::apply::{Env, no_io};
 use foyer_core_steps::open::RecoverMode;
 use foyer_core_steps::settings::Settings;
 use foyer_core_steps::step::Step;
@@ -39,17 +40,16 @@ impl Properties for Plain {
 
 type Given<A> = Step<u64, u64, Plain, A>;
 
-type Numbers<L, A> = Shared<L, u64, u64, Plain, A, BuiltInPicker, BuiltInCondition>;
+type Numbers<L, A, N> = Shared<L, u64, u64, Plain, A, BuiltInPicker, BuiltInCondition, N>;
 
-type Inside<L, A> = Locked<L, u64, u64, Plain, A, BuiltInPicker, BuiltInCondition>;
+type Inside<L, A, N> = Locked<L, u64, u64, Plain, A, BuiltInPicker, BuiltInCondition, N>;
 
 // A core over two blocks in memory.
-fn opened<L: Kinds, A: Allocator + Clone>(
+fn opened<L: Kinds, A: Allocator + Clone, N: Noting>(
     alloc: &A,
     global: Global,
-    keeps_notes: bool,
     blanks: Blanks,
-) -> Result<(Inside<L, A>, Session<L>)>
+) -> Result<(Inside<L, A, N>, Session<L>)>
     requires { AreOf L.name_of L.all blanks × (L.all ≡ 2 ^ 32) }
     ensures { IfOk result (λ r. r.1.shares.parts ≡ L.all) }
 {
@@ -58,16 +58,7 @@ fn opened<L: Kinds, A: Allocator + Clone>(
     let mut disk = MemoryDisk::new(alloc.clone()?, settings.blocks, settings.block_size)?;
     let handle = alloc.clone()?;
     let mode = RecoverMode::None;
-    Locked::open(
-        handle,
-        env,
-        settings,
-        &mut disk,
-        mode,
-        &[],
-        keeps_notes,
-        blanks,
-    )
+    Locked::open(handle, env, settings, &mut disk, mode, &[], blanks)
 }
 
 // The step of a word: `e1` enqueues, `b1` too, with more than may be queued, `d1` deletes, `m1` asks for, `l1` looks up, `f0` ends a batch of a flusher.
@@ -94,14 +85,14 @@ fn step_of<A: Allocator + Clone>(alloc: &A, word: u8, digit: u8) -> Result<Given
 }
 
 // Asks, and forgets the reply: the session's briefs have it.
-fn ask<L: Kinds, A: Allocator + Clone>(
+fn ask<L: Kinds, A: Allocator + Clone, N: Noting>(
     rt: &impl Wait,
-    shared: &Numbers<L, A>,
+    shared: &Numbers<L, A, N>,
     session: &mut Session<L>,
     step: Given<A>,
 )
     requires { 0 < session.old.shares.parts }
     ensures { session.new.shares.parts ≡ session.old.shares.parts }
 {
-    let _ = shared.step(rt, session, step);
+    let _ = shared.step(rt, session, no_io(), step);
 }

@@ -6,6 +6,7 @@ use foyer_block_manager::block::eviction::BuiltInPicker;
 use foyer_block_recover::gate::Gate;
 use foyer_core_run::accesses::{step, write_block};
 use foyer_core_shared::locked::Locked;
+use foyer_core_shared::notes::NoNotes;
 use foyer_core_shared::session::Session;
 use foyer_core_shared::shared::Shared;
 use foyer_core_steps::apply::Env;
@@ -52,9 +53,10 @@ type Numbers<L, G> = BlockEngine<
     BuiltInCondition,
     MemoryDisk<Global>,
     G,
+    NoNotes,
 >;
 
-type Inside<L> = Locked<L, u64, u64, Plain, Global, BuiltInPicker, BuiltInCondition>;
+type Inside<L> = Locked<L, u64, u64, Plain, Global, BuiltInPicker, BuiltInCondition, NoNotes>;
 
 fn piece_of(alloc: Global, hash: u64, value: u64) -> Result<Piece<u64, u64, Plain, Global>> {
     Piece::new(alloc, hash, value, hash, Plain)
@@ -105,7 +107,6 @@ fn opened<L: Kinds, G: Gate>(
         &mut disk,
         mode,
         &[],
-        false,
         blanks,
     );
     let (locked, session) = made?;

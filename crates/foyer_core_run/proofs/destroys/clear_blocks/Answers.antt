@@ -1,4 +1,4 @@
-use Rattle.std.proofs.Common.{◌≡◌, ◌+◌, ◌<◌, ap, subst, arith}
+use Rattle.std.proofs.Common.{◌≡◌, ◌+◌, ◌<◌, ap, subst, ◌∙◌, arith}
 use Rattle.foyer_core_laws.specs.Content.{meaning}
 use Rattle.foyer_core_steps.specs.Refines.{Refines}
 use Rattle.foyer_core_steps.specs.declared.step.Step.TheVariants as step
@@ -12,12 +12,14 @@ returns-in_default g c =
       clears = λ known. tt;
       kept = clears_nothing m c.apply.result c.args.core.now c.apply.new.self (g.D.Disk.byte_at c.args.disk.now) c.apply.ensures.meets;
       known = λ known. known;
+      lent = c.apply.ensures.lent;
     }
 
 pub each_block-init : goal.each_block-init
 each_block-init g c =
     let m = meaning g.K.Code.encoding g.V.Code.encoding g.K.Code.is_encodable g.V.Code.is_encodable g.K.Code.is_decodable g.V.Code.is_decodable g.P.Properties.age in
     record {
+      lent = c.apply.ensures.lent;
       known = λ known. known;
       clears = λ known. clears_first m c.args.core.now c.apply.new.self (g.D.Disk.byte_at c.args.disk.now)
           (subst (λ r. Refines m step.DestroyClear r c.args.core.now c.apply.new.self) c.in-Cleared.is c.apply.ensures.meets);
@@ -29,6 +31,7 @@ each_block-preserved g c =
     let same : c.settings-blocks.result.blocks ≡ c.args.core.now.settings.blocks = ap (λ s. s.blocks) c.settings-blocks.ensures in
     let there : c.each_block.block < c.args.core.now.settings.blocks = omega (arith, c.each_block-test.true, same) in
     record {
+      lent = (c.clean-last.ensures.lent.0 ∙ c.each_block.invariant.lent.0, c.clean-last.ensures.lent.1 ∙ c.each_block.invariant.lent.1);
       known = λ known. c.clean-last.ensures.known (c.each_block.invariant.known known);
       clears = λ known. clears_more m c.each_block.block c.each_block.last c.clean-last.result c.args.core.now c.each_block.core c.clean-last.new.core
           (g.D.Disk.byte_at c.args.disk.now) (g.D.Disk.byte_at c.each_block.disk) (g.D.Disk.byte_at c.clean-last.new.disk) there
@@ -45,3 +48,6 @@ returns-clause-clears g c = λ known.
 
 pub returns-clause-known : goal.returns-clause-known
 returns-clause-known g c = c.each_block.invariant.known
+
+pub returns-clause-lent : goal.returns-clause-lent
+returns-clause-lent g c = c.each_block.invariant.lent

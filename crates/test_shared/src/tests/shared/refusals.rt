@@ -3,7 +3,9 @@ ghost use Rattle.std.specs.Prelude.{◌≡◌, ◌^◌};
 ghost use Rattle.foyer_core_tally.specs.Ledgers.{AreOf};
 
 use super::{opened, step_of};
+use foyer_core_shared::notes::KeepsNotes;
 use foyer_core_shared::shared::Shared;
+use foyer_core_steps::apply::no_io;
 use foyer_core_steps::reply::Reply;
 use foyer_core_tally::book::{Blanks, Kinds};
 use foyer_device_page::error::{Error, ErrorKind, Result};
@@ -23,10 +25,10 @@ fn is_note_refused<L: Kinds>(
 ) -> Result<bool>
     requires { AreOf L.name_of L.all blanks × (L.all ≡ 2 ^ 32) }
 {
-    let (locked, mut session) = opened::<L, &Refusing<Global>>(&heap, global, true, blanks)?;
+    let (locked, mut session) = opened::<L, &Refusing<Global>, KeepsNotes>(&heap, global, blanks)?;
     let shared = Shared::new(locked);
     let step = step_of(&heap, b'm', b'1')?;
-    let is_refused = match shared.step(rt, &mut session, step) {
+    let is_refused = match shared.step(rt, &mut session, no_io(), step) {
         Reply::Answer(false) => false,
         Reply::Refused(ErrorKind::Memory, _) => true,
         _ => return Err(Error::Config),

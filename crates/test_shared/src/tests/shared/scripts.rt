@@ -4,6 +4,7 @@ ghost use Rattle.foyer_core_tally.specs.Ledgers.{AreOf};
 
 use super::{Inside, Numbers, ask, opened, step_of};
 use foyer_core_shared::brief::{Brief, ReplyBrief, StepBrief};
+use foyer_core_shared::notes::{KeepsNotes, NoNotes, Noting};
 use foyer_core_shared::session::Session;
 use foyer_core_shared::shared::Shared;
 use foyer_core_tally::book::{Blanks, Kinds};
@@ -22,10 +23,10 @@ struct Wanted {
 }
 
 // Makes the steps of a script, those of words behind a dash by the second session.
-fn make_all<L: Kinds>(
+fn make_all<L: Kinds, N: Noting>(
     rt: &impl Wait,
     alloc: Global,
-    shared: &Numbers<L, Global>,
+    shared: &Numbers<L, Global, N>,
     first: &mut Session<L>,
     second: &mut Session<L>,
     script: &str,
@@ -44,7 +45,10 @@ fn make_all<L: Kinds>(
     Ok(())
 }
 
-fn all_notes<L: Kinds>(alloc: Global, locked: &Inside<L, Global>) -> Result<Vec<Brief>> {
+fn all_notes<L: Kinds, N: Noting>(
+    alloc: Global,
+    locked: &Inside<L, Global, N>,
+) -> Result<Vec<Brief>> {
     let mut all = Vec::new(alloc);
     let Some(notes) = locked.notes() else {
         return Ok(all);
@@ -59,11 +63,15 @@ fn all_notes<L: Kinds>(alloc: Global, locked: &Inside<L, Global>) -> Result<Vec<
 }
 
 // Whether the sessions and the notes have what is wanted of them.
-fn has_wanted<L: Kinds, R: Wait>(rt: &R, alloc: Global, case: Case, blanks: Blanks) -> Result<bool>
+fn has_wanted<L: Kinds, R: Wait, N: Noting>(
+    rt: &R,
+    alloc: Global,
+    case: Case,
+    blanks: Blanks,
+) -> Result<bool>
     requires { AreOf L.name_of L.all blanks × (L.all ≡ 2 ^ 32) }
 {
-    let keeps_notes = case != Case::LastTwo;
-    let (locked, mut first) = opened::<L, Global>(&alloc, alloc, keeps_notes, blanks)?;
+    let (locked, mut first) = opened::<L, Global, N>(&alloc, alloc, blanks)?;
     let shared = Shared::new(locked);
     let mut second = first.split(5);
     make_all(rt, alloc, &shared, &mut first, &mut second, script_of(case))?;
@@ -101,7 +109,10 @@ fn script_of(case: Case) -> &'static str {
 }
 
 fn wanted_of(alloc: Global, case: Case) -> Result<Wanted> {
-    let enqueue = brief(StepBrief::Enqueue { hash: 1 }, ReplyBrief::Queued(1));
+    let enqueue = brief(
+        StepBrief::Enqueue { hash: 1, size: 16 },
+        ReplyBrief::Queued(1),
+    );
     let delete = brief(StepBrief::Delete { hash: 1 }, ReplyBrief::Deleted(2));
     let miss = brief(BEGIN, ReplyBrief::Miss);
     let asked = brief(
@@ -133,14 +144,16 @@ fn a_session_has_its_last_two_steps_with_their_replies(
     rt: HostRuntime,
 ) -> std::result::Result<(), Fail> {
     let blanks = Blanks::new(1 << 32);
-    assert!(rt; has_wanted::<Brand, HostRuntime>(&rt, rt.alloc(), Case::LastTwo, blanks)?);
+    assert!(rt; has_wanted::<Brand, HostRuntime, NoNotes>(&rt, rt.alloc(), Case::LastTwo, blanks)?);
     Ok(())
 }
 
 #[test]
 fn a_step_that_comes_back_is_noted_too(rt: HostRuntime) -> std::result::Result<(), Fail> {
     let blanks = Blanks::new(1 << 32);
-    assert!(rt; has_wanted::<Brand, HostRuntime>(&rt, rt.alloc(), Case::ComesBack, blanks)?);
+    assert!(rt;
+        has_wanted::<Brand, HostRuntime, KeepsNotes>(&rt, rt.alloc(), Case::ComesBack, blanks)?
+    );
     Ok(())
 }
 
@@ -149,7 +162,9 @@ fn the_notes_are_the_steps_of_all_sessions_in_order(
     rt: HostRuntime,
 ) -> std::result::Result<(), Fail> {
     let blanks = Blanks::new(1 << 32);
-    assert!(rt; has_wanted::<Brand, HostRuntime>(&rt, rt.alloc(), Case::AllNotes, blanks)?);
+    assert!(rt;
+        has_wanted::<Brand, HostRuntime, KeepsNotes>(&rt, rt.alloc(), Case::AllNotes, blanks)?
+    );
     Ok(())
 }
 
@@ -157,7 +172,7 @@ fn the_notes_are_the_steps_of_all_sessions_in_order(
 fn are_tallied<L: Kinds, R: Wait>(rt: &R, alloc: Global, blanks: Blanks) -> Result<bool>
     requires { AreOf L.name_of L.all blanks × (L.all ≡ 2 ^ 32) }
 {
-    let (locked, mut first) = opened::<L, Global>(&alloc, alloc, true, blanks)?;
+    let (locked, mut first) = opened::<L, Global, KeepsNotes>(&alloc, alloc, blanks)?;
     let shared = Shared::new(locked);
     let mut second = first.split(5);
     make_all(
@@ -188,7 +203,7 @@ fn each_session_counts_its_replies_by_kind(rt: HostRuntime) -> std::result::Resu
 fn is_dropped_apart<L: Kinds, R: Wait>(rt: &R, alloc: Global, blanks: Blanks) -> Result<bool>
     requires { AreOf L.name_of L.all blanks × (L.all ≡ 2 ^ 32) }
 {
-    let (locked, mut first) = opened::<L, Global>(&alloc, alloc, false, blanks)?;
+    let (locked, mut first) = opened::<L, Global, NoNotes>(&alloc, alloc, blanks)?;
     let shared = Shared::new(locked);
     let mut second = first.split(5);
     make_all(rt, alloc, &shared, &mut first, &mut second, "b1 e2 d1")?;

@@ -3,6 +3,7 @@ ghost use Rattle.std.specs.Prelude.{◌≡◌, ◌-◌, ◌<◌, ◌^◌, IfOk};
 ghost use Rattle.foyer_core_tally.specs.Ledgers.{AreOf};
 
 use super::{Numbers, ask, opened, step_of};
+use foyer_core_shared::notes::KeepsNotes;
 use foyer_core_shared::session::Session;
 use foyer_core_shared::shared::Shared;
 use foyer_core_tally::book::{Blanks, Kinds};
@@ -18,7 +19,7 @@ use std::thread::Threads;
 fn enqueue_all<L: Kinds>(
     rt: &impl Wait,
     alloc: Global,
-    shared: &Numbers<L, Global>,
+    shared: &Numbers<L, Global, KeepsNotes>,
     mut session: Session<L>,
 ) -> Result<Session<L>>
     requires { 0 < session.shares.parts }
@@ -38,7 +39,7 @@ fn are_noted<L: Kinds + Send + Sync, R: Threads + Wait + Sync>(
 ) -> Result<bool>
     requires { AreOf L.name_of L.all blanks × (L.all ≡ 2 ^ 32) }
 {
-    let (locked, mut one) = opened::<L, Global>(&alloc, alloc, true, blanks)?;
+    let (locked, mut one) = opened::<L, Global, KeepsNotes>(&alloc, alloc, blanks)?;
     let shared = Shared::new(locked);
     let two = one.split(1);
     let lent = &shared;

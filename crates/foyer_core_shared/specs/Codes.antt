@@ -1,0 +1,9 @@
+-- That values which have facts beside them can be told apart.
+use Rattle.std.specs.Prelude.{List}
+use Rattle.std.specs.Coded.{Coded, prop_coded}
+use Rattle.foyer_core_flusher.specs.Offsets.{BlockFits, blocks_fit_once}
+use Rattle.foyer_format_layout.specs.Each.{Each}
+use Rattle.foyer_format_buffer.specs.declared.split.Block.{Block}
+
+abbrev pub fits_code : {A : Type 0} (blocks : List (Block A)) → Coded (Each BlockFits blocks)
+fits_code blocks = prop_coded (blocks_fit_once blocks)
