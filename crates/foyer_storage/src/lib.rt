@@ -1,6 +1,7 @@
 //! The disk half of a hybrid cache: every public name of the product, under its module's path and here at the root.
 //!
-//! A door: it passes on what the six doors below it have, and the engine of `foyer_storage_engine`; it has no code of its own.
+//! A door: it passes on what the six doors below it have, the engine of `foyer_storage_engine` and the sizes of
+//! `foyer_storage_plan`; it has no code of its own.
 //! Types with one name in two modules stand here once: `Batch` is the buffer's, `Sequence` the one of `block::serde`. A user who
 //! cites definitions lists the crate that has them too.
 #![tactic(auto)]
@@ -63,6 +64,7 @@ pub use crate::block::tombstone::TombstoneLog;
 pub use crate::compress::Compression;
 pub use crate::engine::Bell;
 pub use crate::engine::BlockEngine;
+pub use crate::engine::EngineSizes;
 pub use crate::engine::Enqueued;
 pub use crate::engine::Load;
 pub use crate::engine::Populated;

@@ -1,4 +1,5 @@
 mod io;
 mod keeper;
 mod log;
+mod plan;
 mod statistics;

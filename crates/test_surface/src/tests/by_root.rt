@@ -34,6 +34,7 @@ use foyer_storage::Core;
 use foyer_storage::Device;
 use foyer_storage::DeviceBuilder;
 use foyer_storage::Disk;
+use foyer_storage::EngineSizes;
 use foyer_storage::Enqueued;
 use foyer_storage::EntryAddress;
 use foyer_storage::EntryDeserializer;

@@ -1,0 +1,136 @@
+//! The sizes of an engine, as its config gives them.
+ghost use Rattle.std.specs.Prelude.{◌≡◌, ◌⊎◌, ◌↔◌, ◌<◌, ◌≤◌, ◌^◌, None, Err, IsOk, IfErr, IfOk, IsOkUnless, OnErr, false};
+ghost use Rattle.foyer_storage_plan.specs.Plans.{ArePlanned, AreSizes, HasRoom, IsFirstCause, blocks_held};
+
+use foyer_core_laws::settings::{
+    DEFAULT_BLOB_INDEX_SIZE, DEFAULT_BUFFER_POOL_SIZE, DEFAULT_CLEAN_BLOCK_THRESHOLD,
+    DEFAULT_FLUSHERS, DEFAULT_RECLAIMERS, DEFAULT_SUBMIT_QUEUE_SIZE_THRESHOLD,
+    DEFAULT_TOMBSTONE_LOG, MAX_BLOCK_SIZE, Settings, default_indexer_shards,
+};
+use foyer_device_page::error::{Error, Result};
+use foyer_format_record::block::buffer::whole_pages;
+
+/// The bytes of a block where none are given: 16 MiB.
+pub const DEFAULT_BLOCK_SIZE: usize = 16 * 1024 * 1024;
+
+/// The workers that read the blocks at an opening where none are given.
+pub const DEFAULT_RECOVER_CONCURRENCY: usize = 8;
+
+/// The sizes of an engine, as its config gives them: any numbers, of which `check` tells whether they go together.
+#[derive(Clone, Copy, Debug, PartialEq, Eq)]
+pub struct EngineSizes {
+    /// The bytes of a block, which are rounded up to whole pages.
+    pub block_size: usize,
+    /// The bytes of a blob index, which are rounded up to whole pages.
+    pub blob_index_size: usize,
+    /// Into how many shards the index is divided; `None`: into `default_indexer_shards` of the blocks that are planned.
+    pub indexer_shards: Option<usize>,
+    /// How many workers read the blocks at an opening.
+    pub recover_concurrency: usize,
+    /// How many flushers there are.
+    pub flushers: u32,
+    /// How many reclaims may run at a time.
+    pub reclaimers: u32,
+    /// The bytes of all flushers' buffers together, of which each has an equal share of whole pages.
+    pub buffer_pool_size: usize,
+    /// A piece isn't taken, and its hash is deleted, where the sizes of those queued sum to more than this, in bytes.
+    pub submit_queue_size_threshold: usize,
+    /// A reclaim may begin where fewer blocks than this are clean, and also where a flusher waits for one.
+    pub clean_block_threshold: usize,
+    /// Whether deletes are logged.
+    pub tombstone_log: bool,
+}
+
+impl EngineSizes {
+    /// Every size at its default.
+    pub fn new() -> EngineSizes
+        ensures { result ≡ record {
+          block_size = 2 ^ 24;
+          blob_index_size = 4096;
+          indexer_shards = None;
+          recover_concurrency = 8;
+          flushers = 1;
+          reclaimers = 1;
+          buffer_pool_size = 2 ^ 24;
+          submit_queue_size_threshold = 2 ^ 24;
+          clean_block_threshold = 1;
+          tombstone_log = false;
+        } }
+    {
+        EngineSizes {
+            block_size: DEFAULT_BLOCK_SIZE,
+            blob_index_size: DEFAULT_BLOB_INDEX_SIZE,
+            indexer_shards: None,
+            recover_concurrency: DEFAULT_RECOVER_CONCURRENCY,
+            flushers: DEFAULT_FLUSHERS,
+            reclaimers: DEFAULT_RECLAIMERS,
+            buffer_pool_size: DEFAULT_BUFFER_POOL_SIZE,
+            submit_queue_size_threshold: DEFAULT_SUBMIT_QUEUE_SIZE_THRESHOLD,
+            clean_block_threshold: DEFAULT_CLEAN_BLOCK_THRESHOLD,
+            tombstone_log: DEFAULT_TOMBSTONE_LOG,
+        }
+    }
+
+    // A core of so many blocks of these sizes.
+    #[tactic(auto, unfolding(foyer_format_layout::specs::Page::page_up))]
+    fn settings(&self, blocks: u32) -> Settings
+        requires block { self.now.block_size ≤ 2 ^ 32 }
+        requires index { self.now.blob_index_size ≤ 2 ^ 32 }
+        ensures { ArePlanned self.now blocks result }
+    {
+        let block_size = whole_pages(self.block_size);
+        Settings {
+            blocks,
+            block_size,
+            blob_index_size: whole_pages(self.blob_index_size),
+            flushers: self.flushers,
+            indexer_shards: self
+                .indexer_shards
+                .unwrap_or_else(|| default_indexer_shards(blocks, block_size)),
+            submit_queue_size_threshold: self.submit_queue_size_threshold,
+            buffer_pool_size: self.buffer_pool_size,
+            reclaimers: self.reclaimers,
+            clean_block_threshold: self.clean_block_threshold,
+            tombstone_log: self.tombstone_log,
+        }
+    }
+
+    /// `Config` where the sizes don't go together, whatever the device: a block or an index of no bytes, a block of more than
+    /// 2^32 bytes, an index that isn't smaller than a block, both in whole pages, no flusher, a share of the pool for each
+    /// flusher of less than a page, no reclaimer, 2^32 flushers and reclaimers together, no shard where a number is given, or
+    /// no worker at an opening.
+    pub fn check(&self) -> Result<()>
+        ensures sound { IsOk result ↔ AreSizes self.now }
+        ensures refused { IsOkUnless result Error.Config }
+    {
+        if self.recover_concurrency == 0
+            || self.block_size > MAX_BLOCK_SIZE
+            || self.blob_index_size > MAX_BLOCK_SIZE
+        {
+            return Err(Error::Config);
+        }
+        // With the fewest blocks that these flushers need.
+        self.settings(self.flushers).check()
+    }
+
+    /// The settings of a core on a device that has `free` bytes free, of which the log of deletes takes `log`, 0 where there is
+    /// none; what is less than a block at their end stays free. Refused in this order: `Config` as by `check`; `NoSpace` where
+    /// the log takes more than is free, and nowhere else; `Config` where there are fewer blocks than flushers, or 2^32 or more.
+    pub fn plan(&self, free: usize, log: usize) -> Result<Settings>
+        ensures plan { IfOk result (ArePlanned self.now (blocks_held self.now free log)) }
+        ensures sound { IsOk result ↔ (AreSizes self.now × HasRoom self.now free log) }
+        ensures space { (result ≡ Err Error.NoSpace) ↔ (AreSizes self.now × (free < log)) }
+        ensures refused { OnErr result ((result ≡ Err Error.Config) ⊎ (result ≡ Err Error.NoSpace)) }
+        ensures order { IfErr result (IsFirstCause self.now free log) }
+    {
+        self.check()?;
+        if log > free {
+            return Err(Error::NoSpace);
+        }
+        let blocks = (free - log) / whole_pages(self.block_size);
+        if blocks < self.flushers as usize || blocks > u32::MAX as usize {
+            return Err(Error::Config);
+        }
+        Ok(self.settings(blocks as u32))
+    }
+}
