@@ -53,7 +53,7 @@ module _ {K V P A : Type 0} where
   load_as reply.Cleared result is = is
   load_as (reply.Destroyed first) result is = is
 
-  refused_load : (answer : Reply K V P A) (given : Step K V P A) (result : Result (Load K V P A) Error) → answer ≡ reply.Refused kind.Memory given → IsLoadOf answer result → result ≡ Err error.Memory
+  pub refused_load : (answer : Reply K V P A) (given : Step K V P A) (result : Result (Load K V P A) Error) → answer ≡ reply.Refused kind.Memory given → IsLoadOf answer result → result ≡ Err error.Memory
   refused_load answer given result is load = subst (λ r. IsLoadOf r result) is load
 
 abbrev begin : {K V P A : Type 0} → ℕ → Bool → Step K V P A

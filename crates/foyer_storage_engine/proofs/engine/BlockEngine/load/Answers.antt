@@ -1,15 +1,30 @@
-use Rattle.std.proofs.Common.{◌≡◌, sym, subst}
+use Rattle.std.proofs.Common.{◌≡◌, true, subst}
+use Rattle.foyer_core_steps.specs.declared.step.Step.TheVariants as step
 use Rattle.foyer_core_shared.specs.Briefs.{reply_brief}
-use Rattle.foyer_storage_engine.specs.Answering.{IsLoadOf, IsRead}
+use Rattle.foyer_storage_engine.specs.Answering.{IsLoadOf, IsRead, is_load_error}
+use Rattle.foyer_core_shared.specs.Replies.{is_end_reply}
+use Rattle.std.specs.Result.{IfErr}
 use Rattle.foyer_storage_engine.proofs.AnsweringLemmas.{ended, looked_up}
+use Rattle.foyer_storage_engine.proofs.RefusalLemmas.{end_refused, look_up_refused}
 use Rattle.foyer_storage_engine.proofs.engine.BlockEngine.load.Goals as goal
 
-pub returns-in-Err : goal.returns-in-Err
-returns-in-Err g c =
+pub returns-in-Err-clause-answer : goal.returns-in-Err-clause-answer
+returns-in-Err-clause-answer g c =
     looked_up g.N.Noting.keeps c.args.session.now c.step.new.session c.args.hash c.args.throttled c.step.result c.load_of.result c.step.ensures.noted
-    c.in-Err.ensures.1 (subst (λ r. IsLoadOf r c.load_of.result) c.in-Err.ensures.0 c.load_of.ensures)
+    c.in-Err.ensures.1 (subst (λ r. IsLoadOf r c.load_of.result) c.in-Err.ensures.0 c.load_of.ensures.answer)
 
-pub returns : goal.returns
-returns g c =
+pub returns-in-Err-clause-refused : goal.returns-in-Err-clause-refused
+returns-in-Err-clause-refused g c =
+    look_up_refused g.N.Noting.keeps (step.LoadBegin c.args.hash c.args.throttled) c.step.result c.load_of.result c.step.ensures.replied
+    (subst (λ r. is_end_reply r ≡ true → IfErr c.load_of.result (λ e. is_load_error e ≡ true)) c.in-Err.ensures.0 c.load_of.ensures.refused)
+    (subst (λ r. IsLoadOf r c.load_of.result) c.in-Err.ensures.0 c.load_of.ensures.answer)
+
+pub returns-clause-answer : goal.returns-clause-answer
+returns-clause-answer g c =
     ended g.N.Noting.keeps c.args.session.now c.step.new.session c.step-reply.new.session c.args.hash c.args.throttled c.in-Ok.ticket c.in_ok-came.came
-    c.step.result c.step-reply.result c.load_of-2.result c.in-Ok.ensures c.step.ensures.noted c.step-reply.ensures.noted c.load_of-2.ensures
+    c.step.result c.step-reply.result c.load_of-2.result c.in-Ok.ensures c.step.ensures.noted c.step-reply.ensures.noted c.load_of-2.ensures.answer
+
+pub returns-clause-refused : goal.returns-clause-refused
+returns-clause-refused g c =
+    end_refused g.N.Noting.keeps (step.LoadEnd c.in-Ok.ticket c.in_ok-came.came) c.step-reply.result c.load_of-2.result
+    c.step-reply.ensures.replied c.load_of-2.ensures.refused c.load_of-2.ensures.answer
