@@ -1,4 +1,4 @@
-//! A boxed picker and a boxed condition behind the lock.
+//! A boxed picker behind the lock.
 ghost use Rattle.std.specs.Prelude.{◌≡◌, ◌^◌};
 ghost use Rattle.foyer_core_tally.specs.Ledgers.{AreOf};
 
@@ -16,28 +16,27 @@ use foyer_core_steps::step::Step;
 use foyer_core_tally::book::{Blanks, Kinds};
 use foyer_device_page::error::Result;
 use foyer_io_disk::memory::MemoryDisk;
-use foyer_policy_filter::{AdmitAll, AnyCondition, StorageFilter, StorageFilterCondition};
+use foyer_policy_filter::{AdmitAll, BuiltInCondition, StorageFilter};
 use std::alloc::Global;
 use std::marker::Brand;
 use std::sync::Wait;
 use std::test::Fail;
 
-type Boxed<L> = Locked<L, u64, u64, Plain, Global, AnyPicker, AnyCondition, NoNotes>;
+type Boxed<L> = Locked<L, u64, u64, Plain, Global, AnyPicker, BuiltInCondition, NoNotes>;
 
-fn boxed_env(alloc: Global) -> Result<Env<AnyPicker, AnyCondition>> {
+fn boxed_picker(alloc: Global) -> Result<Vec<AnyPicker>> {
     let own: Box<dyn EvictionPicker + Send> = Box::new(alloc, FifoPicker::default())?;
     let mut pickers = Vec::new(alloc);
     pickers.push(AnyPicker::Boxed(own))?;
-    let admits: Box<dyn StorageFilterCondition + Send> = Box::new(alloc, AdmitAll)?;
-    let filter = StorageFilter::new(alloc).with_condition(AnyCondition::Boxed(admits))?;
-    Ok(Env::new(alloc, pickers, 0).with_reinsertion(filter))
+    Ok(pickers)
 }
 
 // Whether the filter comes back that the core was opened with, and a question is answered.
 fn is_answered<L: Kinds, R: Wait>(rt: &R, alloc: Global, blanks: Blanks) -> Result<bool>
     requires { AreOf L.name_of L.all blanks × (L.all ≡ 2 ^ 32) }
 {
-    let env = boxed_env(alloc)?;
+    let filter = StorageFilter::new(alloc).with_condition(BuiltInCondition::AdmitAll(AdmitAll))?;
+    let env = Env::new(alloc, boxed_picker(alloc)?, 0).with_reinsertion(filter);
     let settings = Settings::new(2, 16384);
     let mut disk = MemoryDisk::new(alloc, settings.blocks, settings.block_size)?;
     let mode = RecoverMode::None;
@@ -58,9 +57,7 @@ fn is_answered<L: Kinds, R: Wait>(rt: &R, alloc: Global, blanks: Blanks) -> Resu
 }
 
 #[test]
-fn a_boxed_picker_and_a_boxed_condition_lie_behind_the_lock(
-    rt: HostRuntime,
-) -> std::result::Result<(), Fail> {
+fn a_boxed_picker_lies_behind_the_lock(rt: HostRuntime) -> std::result::Result<(), Fail> {
     let blanks = Blanks::new(1 << 32);
     assert!(rt; is_answered::<Brand, HostRuntime>(&rt, rt.alloc(), blanks)?);
     Ok(())
