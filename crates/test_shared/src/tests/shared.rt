@@ -20,7 +20,6 @@ use foyer_policy_piece::keeper::Piece;
 use std::alloc::{Allocator, Global};
 use std::sync::Wait;
 
-mod boxed;
 mod refusals;
 mod scripts;
 mod threads;
