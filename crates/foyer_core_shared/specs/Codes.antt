@@ -1,4 +1,4 @@
--- That values which have facts beside them can be told apart.
+-- Codes of facts, by which values that have them beside them are compared.
 use Rattle.std.specs.Prelude.{List}
 use Rattle.std.specs.Coded.{Coded, prop_coded}
 use Rattle.foyer_core_flusher.specs.Offsets.{BlockFits, blocks_fit_once}

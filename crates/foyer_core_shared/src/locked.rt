@@ -308,8 +308,8 @@ where
         ensures failed { IfOk result (λ answer. answer ≡ reply.Failed → MayFail step self.old.noted.core) }
         ensures picks { step ≡ steps.ReclaimBegin → IfOk result (λ answer.
             IsPicked E.answer E.marks self.old.env.pickers.items answer self.old.noted.core self.new.noted.core) }
-        ensures judged { (block : ℕ) (came : Result (Vec ℕ A) Error) → step ≡ steps.ReclaimRead block came
-            → IfOk result (λ answer. IsJudged C.may_answer self.old.env.reinsertion io block came answer self.old.noted.core) }
+        ensures judged { (block : ℕ) (outcome : Result (Vec ℕ A) Error) → step ≡ steps.ReclaimRead block outcome
+            → IfOk result (λ answer. IsJudged C.may_answer self.old.env.reinsertion io block outcome answer self.old.noted.core) }
         ensures shown { IfOk result (λ answer. IsShown E.learns E.forgets step answer self.old.noted.core self.new.noted.core.manager
             self.old.env.pickers.items self.new.env.pickers.items) }
         ensures lent { (self.new.env.reinsertion ≡ self.old.env.reinsertion) × OnOk result (self.new.env.io ≡ io) }

@@ -1,4 +1,4 @@
-//! The disk half of a hybrid cache: every public name of the product, under its module's path and here at the root.
+//! The disk half of a hybrid cache: the engine's public names, under their modules' paths and here at the root.
 //!
 //! A door: it passes on what the six doors below it have, the engine of `foyer_storage_engine` and the sizes of
 //! `foyer_storage_plan`; it has no code of its own.

@@ -262,7 +262,7 @@ where
         answer_of(reply)
     }
 
-    /// Looks a hash up, reads what it stands for, and gives what came of it. The caller says whether the device is throttled:
+    /// Looks a hash up, reads what it stands for, and gives its outcome. The caller says whether the device is throttled:
     /// then nothing is read. The core's lock is free during the read. `Io` where the read failed, `Memory` where it or the entry
     /// finds no memory, `Parse` and `Unsupported` where the entry isn't readable, `SequenceEnd` where no step is left.
     pub fn load(
@@ -283,10 +283,10 @@ where
             Err(reply) => return load_of(reply),
         };
         self.gate.pass(Point::LoadRead);
-        let came = self.reader.lock(rt).read(&ticket)?;
+        let outcome = self.reader.lock(rt).read(&ticket)?;
         let end = Step::LoadEnd {
             ticket,
-            result: came,
+            result: outcome,
         };
         let reply = self.shared.step(rt, session, no_io(), end);
         load_of(reply)

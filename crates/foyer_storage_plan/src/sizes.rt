@@ -16,7 +16,7 @@ pub const DEFAULT_BLOCK_SIZE: usize = 16 * 1024 * 1024;
 /// The workers that read the blocks at an opening where none are given.
 pub const DEFAULT_RECOVER_CONCURRENCY: usize = 8;
 
-/// The sizes of an engine, as its config gives them: any numbers, of which `check` tells whether they go together.
+/// The sizes of an engine, as its config gives them: any numbers; `check` refuses those that don't go together.
 #[derive(Clone, Copy, Debug, PartialEq, Eq)]
 pub struct EngineSizes {
     /// The bytes of a block, which are rounded up to whole pages.
@@ -79,6 +79,7 @@ impl EngineSizes {
         ensures { ArePlanned self.now blocks result }
     {
         let block_size = whole_pages(self.block_size);
+        let queued = self.submit_queue_size_threshold;
         Settings {
             blocks,
             block_size,
@@ -87,7 +88,7 @@ impl EngineSizes {
             indexer_shards: self
                 .indexer_shards
                 .unwrap_or_else(|| default_indexer_shards(blocks, block_size)),
-            submit_queue_size_threshold: self.submit_queue_size_threshold,
+            submit_queue_size_threshold: queued,
             buffer_pool_size: self.buffer_pool_size,
             reclaimers: self.reclaimers,
             clean_block_threshold: self.clean_block_threshold,
