@@ -6,7 +6,7 @@ use Rattle.foyer_block_index.specs.declared.tombstone.Tombstone.{Tombstone}
 use Rattle.foyer_format_buffer.specs.Layout.{parts_of}
 use Rattle.foyer_format_buffer.specs.declared.split.BlobPart.{BlobPart}
 use Rattle.foyer_format_buffer.specs.declared.split.Block.{Block}
-use Rattle.foyer_policy_piece.specs.Record.{Record}
+use Rattle.foyer_policy_piece.specs.Referred.{Referred}
 use Rattle.foyer_core_model.specs.Position.{BlockLayout, records_of, last_end}
 use Rattle.foyer_core_model.specs.Flush.{is_some as has}
 use Rattle.foyer_core_model.specs.Receive.{pieces_of}
@@ -41,7 +41,7 @@ same_some (Some x) = refl
 
 module _ {K V P : Type 0} (m : Meaning K V P) where
   -- the contents of what was received
-  pieces_are : (os : List (Option EntryAddress)) (rs : List (model_record.Record Content)) (ps : List (Record K V P)) → AreReceived m os rs ps → contents_of (pieces_of rs) ≡ map (content_of m) ps
+  pieces_are : (os : List (Option EntryAddress)) (rs : List (model_record.Record Content)) (ps : List (Referred K V P)) → AreReceived m os rs ps → contents_of (pieces_of rs) ≡ map (content_of m) ps
   pieces_are [] [] ps given = ap (map (content_of m)) (sym given)
   pieces_are [] (r ∷ rs) ps given = absurd given
   pieces_are (o ∷ os) [] ps given = absurd (go o given)
@@ -61,7 +61,7 @@ module _ {K V P : Type 0} (m : Meaning K V P) where
       with_source : model_record.Source Content → List (model_record.Record Content) → List Content
       with_source x rest = contents_of (pieces_of (record { hash = r.hash; sequence = r.sequence; bytes = r.bytes; source = x } ∷ rest))
 
-  all_from : (os : List (Option EntryAddress)) (rs : List (model_record.Record Content)) (ps : List (Record K V P)) → AreReceived m os rs ps → AreSome (map kept_of rs) → AreFrom os rs
+  all_from : (os : List (Option EntryAddress)) (rs : List (model_record.Record Content)) (ps : List (Referred K V P)) → AreReceived m os rs ps → AreSome (map kept_of rs) → AreFrom os rs
   all_from [] [] ps given some = tt
   all_from [] (r ∷ rs) ps given some = absurd given
   all_from (None ∷ os) [] ps given some = absurd given

@@ -9,7 +9,7 @@ use Rattle.foyer_format_record.specs.Record.{record_bytes}
 use Rattle.foyer_format_record.specs.declared.compress.Compression.TheVariants as compression
 use Rattle.foyer_format_layout.proofs.PageLaws.{page_up-holds}
 use Rattle.foyer_format_record.proofs.RecordBytes.{length-record_bytes}
-use Rattle.foyer_policy_piece.specs.Record.{Record}
+use Rattle.foyer_policy_piece.specs.Referred.{Referred}
 use Rattle.foyer_core_model.specs.Receive.{Fits, TakesFront as TakesOne, bytes_taken, turned}
 use Rattle.foyer_core_model.specs.Numbers.{put}
 use Rattle.foyer_core_model.specs.Queue.{invalidated_by}
@@ -73,7 +73,7 @@ whole_room s = go (s.flushers == 0)
     go false = omega arith
 
 module _ {K V P : Type 0} (m : Meaning K V P) where
-  given_end : (os : List (Option EntryAddress)) (rs : List (model_record.Record Content)) (ps : List (Record K V P)) (p : Record K V P) (r : model_record.Record Content)
+  given_end : (os : List (Option EntryAddress)) (rs : List (model_record.Record Content)) (ps : List (Referred K V P)) (p : Referred K V P) (r : model_record.Record Content)
       → AreReceived m os rs ps → r.source ≡ model_record.Given (content_of m p) → AreReceived m (os ++ None ∷ []) (rs ++ r ∷ []) (ps ++ p ∷ [])
   given_end [] [] ps p r are is = subst (λ qs. AreReceived m (None ∷ []) (r ∷ []) (qs ++ p ∷ [])) (sym are) (is, refl)
   given_end [] (t ∷ rs) ps p r are is = absurd are
@@ -83,7 +83,7 @@ module _ {K V P : Type 0} (m : Meaning K V P) where
   given_end (None ∷ os) (t ∷ rs) (q ∷ ps) p r are is = (are.0, given_end os rs ps p r are.1 is)
   given_end (Some a ∷ os) (t ∷ rs) ps p r are is = (are.0, given_end os rs ps p r are.1 is)
 
-  reread_end : (os : List (Option EntryAddress)) (rs : List (model_record.Record Content)) (ps : List (Record K V P)) (a : EntryAddress) (r : model_record.Record Content)
+  reread_end : (os : List (Option EntryAddress)) (rs : List (model_record.Record Content)) (ps : List (Referred K V P)) (a : EntryAddress) (r : model_record.Record Content)
       → AreReceived m os rs ps → r.source ≡ model_record.Reread (address_of a) → AreReceived m (os ++ Some a ∷ []) (rs ++ r ∷ []) ps
   reread_end [] [] ps a r are is = (is, are)
   reread_end [] (t ∷ rs) ps a r are is = absurd are
@@ -313,27 +313,27 @@ module _ {K V P A : Type 0} (m : Meaning K V P) (s : Settings) (sound : AreValid
   agrees n bytes len = fits_agree (machine m s sound) st (st.flushers f) φ.filled n bytes (are_rules m.is_key m.is_value s sound) stands.room
       (ap (λ r. r % 4096) stands.room ∙ whole_room s) stands.greatest stands.buffer len
 
-  module _ (p : Record K V P) (size sequence : ℕ) (a b : Bool) (rest : List (Submission K V P A)) (is : φ.queue ≡ submission.CacheEntry p size sequence ∷ rest)
-      (flag : m.is_encodable p.key p.value ≡ (a && b)) where
+  module _ (p : Referred K V P) (size sequence : ℕ) (a b : Bool) (rest : List (Submission K V P A)) (is : φ.queue ≡ submission.CacheEntry p size sequence ∷ rest)
+      (flag : m.is_encodable p.piece.key p.piece.value ≡ (a && b)) where
     abbrev pub whole : List ℕ
-    whole = record_bytes p.hash sequence (m.key_of p.key) (m.value_of p.value)
+    whole = record_bytes p.piece.hash sequence (m.key_of p.piece.key) (m.value_of p.piece.value)
 
     abbrev pub n : ℕ
-    n = length (m.value_of p.value) + length (m.key_of p.key)
+    n = length (m.value_of p.piece.value) + length (m.key_of p.piece.key)
 
     len : length whole ≡ 36 + n
-    len = length-record_bytes p.hash sequence (m.key_of p.key) (m.value_of p.value)
+    len = length-record_bytes p.piece.hash sequence (m.key_of p.piece.key) (m.value_of p.piece.value)
 
-    queue : (st.flushers f).queue ≡ model_state.Piece p.hash sequence size (content_of m p) ∷ map (submission_of m) rest
+    queue : (st.flushers f).queue ≡ model_state.Piece p.piece.hash sequence size (content_of m p) ∷ map (submission_of m) rest
     queue = stands.queue ∙ ap (map (submission_of m)) is
 
     -- what is encoded is so by both codes, to these bytes
-    codes : (bytes : List ℕ) → encoded p.hash sequence (content_of m p) ≡ Some bytes → (a ≡ true) × (b ≡ true) × (whole ≡ bytes)
+    codes : (bytes : List ℕ) → encoded p.piece.hash sequence (content_of m p) ≡ Some bytes → (a ≡ true) × (b ≡ true) × (whole ≡ bytes)
     codes bytes some = go (has_record (content_of m p)) refl some
       where
         go : (t : Bool) → has_record (content_of m p) ≡ t → (if t then Some whole else None) ≡ Some bytes → (a ≡ true) × (b ≡ true) × (whole ≡ bytes)
         go true has e =
-            let both : (a && b) ≡ true = sym flag ∙ left (m.is_encodable p.key p.value) _ has in
+            let both : (a && b) ≡ true = sym flag ∙ left (m.is_encodable p.piece.key p.piece.value) _ has in
             (left a b both, right a b both, some_is e)
         go false has e = absurd (cc)
 
@@ -343,7 +343,7 @@ module _ {K V P A : Type 0} (m : Meaning K V P) (s : Settings) (sound : AreValid
 
     -- it is put into the buffer
     pub piece_kept : (new : Flusher K V P A) → FitsBuffer φ.filled compression.None ((a ≡ true) × (b ≡ true)) n
-        → seen new ≡ record φ { queue = rest; filled = with_entry φ.filled p.hash sequence whole; sources = φ.sources ++ None ∷ []; pieces = φ.pieces ++ p ∷ [] }
+        → seen new ≡ record φ { queue = rest; filled = with_entry φ.filled p.piece.hash sequence whole; sources = φ.sources ++ None ∷ []; pieces = φ.pieces ++ p ∷ [] }
         → IsReceivedAs m s sound st f size None new index
     piece_kept new fits now = record {
       after = after;
@@ -365,48 +365,48 @@ module _ {K V P A : Type 0} (m : Meaning K V P) (s : Settings) (sound : AreValid
         goes_on = stands.goes_on;
         batch = stands.batch;
       });
-      receives = at_queue (model_reply.Received None) (turned (machine m s sound) st f after) (model_state.Piece p.hash sequence size (content_of m p) ∷ map (submission_of m) rest)
+      receives = at_queue (model_reply.Received None) (turned (machine m s sound) st f after) (model_state.Piece p.piece.hash sequence size (content_of m p) ∷ map (submission_of m) rest)
           queue (whole, is_encoded, (agrees n whole len).0 (fits.room, fits.greatest), refl);
       keeps = record { own = refl; ready = refl };
       size_is = size_front (submission.CacheEntry p size sequence) rest is;
     }
       where
         r : model_record.Record Content
-        r = record { hash = p.hash; sequence = sequence; bytes = whole; source = model_record.Given (content_of m p) }
+        r = record { hash = p.piece.hash; sequence = sequence; bytes = whole; source = model_record.Given (content_of m p) }
 
         after : model_state.Flusher Content
         after = record (st.flushers f) { queue = map (submission_of m) rest; buffer = (st.flushers f).buffer ++ r ∷ [] }
 
-        is_encoded : encoded p.hash sequence (content_of m p) ≡ Some whole
+        is_encoded : encoded p.piece.hash sequence (content_of m p) ≡ Some whole
         is_encoded =
             let above : 36 + n ≤ page_up (36 + n) = page_up-holds (36 + n) in
             let greatest : page_up (36 + n) ≤ φ.filled.greatest = fits.greatest in
             let block : s.blob_index_size + φ.filled.greatest ≡ s.block_size = stands.greatest in
             let offsets : s.block_size ≤ 2 ^ 32 = sound.offsets_fit in
-            let short_key : nat_lt (length (m.key_of p.key)) (2 ^ 32) ≡ true = lt-ltb (length (m.key_of p.key)) (2 ^ 32) (omega arith) in
-            let short_value : nat_lt (length (m.value_of p.value)) (2 ^ 32) ≡ true = lt-ltb (length (m.value_of p.value)) (2 ^ 32) (omega arith) in
+            let short_key : nat_lt (length (m.key_of p.piece.key)) (2 ^ 32) ≡ true = lt-ltb (length (m.key_of p.piece.key)) (2 ^ 32) (omega arith) in
+            let short_value : nat_lt (length (m.value_of p.piece.value)) (2 ^ 32) ≡ true = lt-ltb (length (m.value_of p.piece.value)) (2 ^ 32) (omega arith) in
             let has : has_record (content_of m p) ≡ true = both_true (flag ∙ both_true fits.encoded.0 fits.encoded.1) (both_true short_key short_value) in
             ap (λ t. if t then Some whole else None) has
 
     -- or it doesn't fit, and is handed back: its mark is kept
     pub piece_back : (new : Flusher K V P A) (marks : List Tombstone) (invalid : List InvalidStats) (entered : IndexMap)
         → (FitsBuffer φ.filled compression.None ((a ≡ true) × (b ≡ true)) n → ⊥)
-        → map mark_of marks ≡ map mark_of φ.marks ++ (p.hash, sequence) ∷ []
-        → map invalid_of invalid ≡ map invalid_of φ.invalid ++ bytes_of (displaced (finite.get index p.hash) (Mark sequence))
-        → entered ≡ inserted index p.hash (Mark sequence)
+        → map mark_of marks ≡ map mark_of φ.marks ++ (p.piece.hash, sequence) ∷ []
+        → map invalid_of invalid ≡ map invalid_of φ.invalid ++ bytes_of (displaced (finite.get index p.piece.hash) (Mark sequence))
+        → entered ≡ inserted index p.piece.hash (Mark sequence)
         → seen new ≡ record φ { queue = rest; marks = marks; invalid = invalid } → IsReceivedAs m s sound st f size (Some (content_of m p)) new entered
     piece_back new marks invalid entered lacks marked issued is_entered now = record {
       after = after;
       index = slots;
-      indexed = subst (λ k. IsIndexedAs s k slots) (sym is_entered) (index_inserted s index st.index p.hash (Mark sequence) tt indexed);
+      indexed = subst (λ k. IsIndexedAs s k slots) (sym is_entered) (index_inserted s index st.index p.piece.hash (Mark sequence) tt indexed);
       stands = subst (λ x. IsFlusherAs m s x after) (sym now) (record {
         queue = refl;
         buffer = stands.buffer;
         room = stands.room;
         greatest = stands.greatest;
         given = stands.given;
-        marks = ap (λ xs. xs ++ (p.hash, sequence) ∷ []) stands.marks ∙ sym marked;
-        invalidated = ap (λ xs. xs ++ invalidated_by (machine m s sound) sequence (st.index p.hash)) stands.invalidated
+        marks = ap (λ xs. xs ++ (p.piece.hash, sequence) ∷ []) stands.marks ∙ sym marked;
+        invalidated = ap (λ xs. xs ++ invalidated_by (machine m s sound) sequence (st.index p.piece.hash)) stands.invalidated
             ∙ ap (λ xs. map invalid_of φ.invalid ++ xs) (sym bytes) ∙ sym issued;
         waits = stands.waits;
         own = stands.own;
@@ -416,7 +416,7 @@ module _ {K V P A : Type 0} (m : Meaning K V P) (s : Settings) (sound : AreValid
         goes_on = stands.goes_on;
         batch = stands.batch;
       });
-      receives = at_queue (model_reply.Received (Some (content_of m p))) (record (turned (machine m s sound) st f after) { index = slots }) (model_state.Piece p.hash sequence size (content_of m p) ∷ map (submission_of m) rest)
+      receives = at_queue (model_reply.Received (Some (content_of m p))) (record (turned (machine m s sound) st f after) { index = slots }) (model_state.Piece p.piece.hash sequence size (content_of m p) ∷ map (submission_of m) rest)
           queue (refl, not_fitting, refl);
       keeps = record { own = refl; ready = refl };
       size_is = size_front (submission.CacheEntry p size sequence) rest is;
@@ -425,17 +425,17 @@ module _ {K V P A : Type 0} (m : Meaning K V P) (s : Settings) (sound : AreValid
         after : model_state.Flusher Content
         after = record (st.flushers f) {
           queue = map (submission_of m) rest;
-          marks = (st.flushers f).marks ++ (p.hash, sequence) ∷ [];
-          invalidated = (st.flushers f).invalidated ++ invalidated_by (machine m s sound) sequence (st.index p.hash);
+          marks = (st.flushers f).marks ++ (p.piece.hash, sequence) ∷ [];
+          invalidated = (st.flushers f).invalidated ++ invalidated_by (machine m s sound) sequence (st.index p.piece.hash);
         }
 
         slots : ℕ → Option model_record.Slot
-        slots = put st.index p.hash (model_index.inserted (st.index p.hash) (model_record.Mark sequence))
+        slots = put st.index p.piece.hash (model_index.inserted (st.index p.piece.hash) (model_record.Mark sequence))
 
-        bytes : bytes_of (displaced (finite.get index p.hash) (Mark sequence)) ≡ invalidated_by (machine m s sound) sequence (st.index p.hash)
-        bytes = pushed_out m s sound (finite.get index p.hash) sequence ∙ ap (invalidated_by (machine m s sound) sequence) (sym (indexed.slot p.hash))
+        bytes : bytes_of (displaced (finite.get index p.piece.hash) (Mark sequence)) ≡ invalidated_by (machine m s sound) sequence (st.index p.piece.hash)
+        bytes = pushed_out m s sound (finite.get index p.piece.hash) sequence ∙ ap (invalidated_by (machine m s sound) sequence) (sym (indexed.slot p.piece.hash))
 
-        not_fitting : (bytes : List ℕ) → encoded p.hash sequence (content_of m p) ≡ Some bytes → Fits (machine m s sound) st (st.flushers f) bytes → ⊥
+        not_fitting : (bytes : List ℕ) → encoded p.piece.hash sequence (content_of m p) ≡ Some bytes → Fits (machine m s sound) st (st.flushers f) bytes → ⊥
         not_fitting bytes some fits =
             let how = codes bytes some in
             let room = (agrees n whole len).1 (subst (Fits (machine m s sound) st (st.flushers f)) (sym how.2) fits) in

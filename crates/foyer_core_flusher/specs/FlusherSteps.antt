@@ -8,7 +8,7 @@ use Rattle.foyer_core_model.specs.Reply as model_reply
 use Rattle.foyer_core_model.specs.Rules.{first_position}
 use Rattle.foyer_core_model.specs.State as model_state
 use Rattle.foyer_core_model.specs.Step as model_step
-use Rattle.foyer_policy_piece.specs.Record.{Record}
+use Rattle.foyer_policy_piece.specs.Referred.{Referred}
 use Rattle.foyer_core_laws.specs.Content.{Content, Meaning, content_of, contents_of}
 use Rattle.foyer_core_laws.specs.CoreRules.{layout, machine}
 use Rattle.foyer_core_laws.specs.Sizes.{AreValid}
@@ -66,7 +66,7 @@ issued_wrote wrote.Failed = model_reply.Failed
 
 -- the batch ended with this reply, and the rest is left so: the model's pieces have their sequences
 abbrev pub HasEnded : {K V P A : Type 0} → Meaning K V P → (s : Settings) → AreValid s → ℕ → model_state.State Content
-    → (pieces : List (Record K V P)) → (waits : List ℕ) → Seen K V P A → IndexMap → Managed → Type 0
+    → (pieces : List (Referred K V P)) → (waits : List ℕ) → Seen K V P A → IndexMap → Managed → Type 0
 HasEnded m s sound f it pieces waits φ slots blocks =
     (ps : List (ℕ × Content)) × (contents_of ps ≡ map (content_of m) pieces)
     × FlusherStep m s sound (model_step.FlushEnd f) f it (model_reply.Ended ps waits) φ slots blocks

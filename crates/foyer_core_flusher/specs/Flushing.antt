@@ -4,7 +4,7 @@ use Rattle.foyer_block_index.specs.declared.indexer.EntryAddress.{EntryAddress}
 use Rattle.foyer_block_index.specs.declared.indexer.HashedEntryAddress.{HashedEntryAddress}
 use Rattle.foyer_format_layout.specs.Each.{Each}
 use Rattle.foyer_format_buffer.specs.Layout.{parts_of}
-use Rattle.foyer_policy_piece.specs.Record.{Record}
+use Rattle.foyer_policy_piece.specs.Referred.{Referred}
 use Rattle.foyer_core_model.specs.Position.{records_of}
 use Rattle.foyer_core_model.specs.Record as model_record
 use Rattle.foyer_core_model.specs.State as model_state
@@ -26,7 +26,7 @@ invalid_of_all None = []
 invalid_of_all (Some stats) = invalid_of stats ∷ []
 
 abbrev pub submission_of : {K V P A : Type 0} → Meaning K V P → Submission K V P A → model_state.Submission Content
-submission_of m (submission.CacheEntry piece size sequence) = model_state.Piece piece.hash sequence size (content_of m piece)
+submission_of m (submission.CacheEntry piece size sequence) = model_state.Piece piece.piece.hash sequence size (content_of m piece)
 submission_of m (submission.Tombstone info) = model_state.Remove info.tombstone.hash info.tombstone.sequence (invalid_of_all info.stats)
 submission_of m (submission.Reinsertion r) = model_state.Reinsert r.hash r.slice.items (address_of r.address)
 submission_of m (submission.Wait id) = model_state.Await id
@@ -47,7 +47,7 @@ AreFrom (o ∷ os) (r ∷ rs) = IsFrom o r × AreFrom os rs
 AreFrom os rs = ⊥
 
 -- records of these sources, in order, and of these pieces where they have none
-abbrev pub AreReceived : {K V P : Type 0} → Meaning K V P → List (Option EntryAddress) → List (model_record.Record Content) → List (Record K V P) → Type 0
+abbrev pub AreReceived : {K V P : Type 0} → Meaning K V P → List (Option EntryAddress) → List (model_record.Record Content) → List (Referred K V P) → Type 0
 AreReceived m [] [] ps = ps ≡ []
 AreReceived m (Some over ∷ os) (r ∷ rs) ps = (r.source ≡ model_record.Reread (address_of over)) × AreReceived m os rs ps
 AreReceived m (None ∷ os) (r ∷ rs) [] = ⊥

@@ -5,7 +5,7 @@ use Rattle.foyer_block_index.specs.declared.indexer.EntryAddress.{EntryAddress}
 use Rattle.foyer_block_index.specs.declared.tombstone.Tombstone.{Tombstone}
 use Rattle.foyer_format_buffer.specs.Entries.{Entries}
 use Rattle.foyer_format_buffer.specs.Position.{Context}
-use Rattle.foyer_policy_piece.specs.Record.{Record}
+use Rattle.foyer_policy_piece.specs.Referred.{Referred}
 use Rattle.foyer_core_flusher.specs.declared.batch.Batch.{Batch}
 use Rattle.foyer_core_flusher.specs.declared.flusher.Flusher.{Flusher}
 use Rattle.foyer_block_index.specs.declared.tombstone.InvalidStats.{InvalidStats}
@@ -17,7 +17,7 @@ pub record Seen (K V P A : Type 0) : Type 0 where
   pub sources : List (Option EntryAddress)
   pub marks : List Tombstone
   pub invalid : List InvalidStats
-  pub pieces : List (Record K V P)
+  pub pieces : List (Referred K V P)
   pub waits : List ℕ
   pub context : Context
   pub own : Option ℕ

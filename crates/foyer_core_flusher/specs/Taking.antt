@@ -18,6 +18,9 @@ use Rattle.foyer_core_flusher.specs.Filled.{HasRoomFor}
 use Rattle.foyer_core_flusher.specs.Flushing.{IsFlusherAs}
 use Rattle.foyer_core_flusher.specs.Seen.{seen}
 use Rattle.foyer_core_flusher.specs.declared.flusher.Flusher.{Flusher}
+use Rattle.foyer_policy_piece.specs.Referred.{Referred}
+use Rattle.foyer_core_flusher.specs.declared.submission.Submission.{Submission}
+use Rattle.foyer_core_flusher.specs.declared.submission.Submission.TheVariants as submission
 use Rattle.foyer_core_flusher.specs.declared.submission.Reinsertion.{Reinsertion}
 use Rattle.foyer_core_flusher.specs.declared.receive.Taken.{Taken}
 use Rattle.foyer_core_flusher.specs.declared.receive.Taken.TheVariants as taken
@@ -58,3 +61,19 @@ TakesFront m s sound st f (Ok taken.Nothing) new slots = ((st.flushers f).queue 
 TakesFront m s sound st f (Ok taken.Other) new slots = IsReceivedAs m s sound st f 0 None new slots
 TakesFront m s sound st f (Ok (taken.Piece size back)) new slots = IsReceivedAs m s sound st f size (returned m back) new slots
 TakesFront m s sound st f (Err e) new slots = TakesMemory (machine m s sound) st (st.flushers f) (st.flushers f).queue
+
+-- the piece in front of a queue, if one is
+abbrev pub front_piece : {K V P A : Type 0} → List (Submission K V P A) → Option (Referred K V P)
+front_piece (submission.CacheEntry piece size sequence ∷ rest) = Some piece
+front_piece queue = None
+
+abbrev pub and_piece : {K V P : Type 0} → Option (Referred K V P) → List (Referred K V P) → List (Referred K V P)
+and_piece None pieces = pieces
+and_piece (Some piece) pieces = pieces ++ piece ∷ []
+
+-- The very piece in front of the queue is handed back, or comes to those that were received; what else is taken leaves these as
+-- they were.
+abbrev pub MovesPiece : {K V P A : Type 0} → List (Submission K V P A) → (old new : List (Referred K V P)) → Result (Taken K V P A) Error → Type 0
+MovesPiece queue old new (Ok (taken.Piece size (Some back))) = (front_piece queue ≡ Some back) × (new ≡ old)
+MovesPiece queue old new (Ok (taken.Piece size None)) = new ≡ and_piece (front_piece queue) old
+MovesPiece queue old new answer = new ≡ old

@@ -9,7 +9,7 @@ use foyer_block_index::manager::BlockId;
 use foyer_block_index::tombstone::{InvalidStats, Tombstone};
 use foyer_device_page::io::bytes::{IoSlice, IoSliceMut};
 use foyer_format_buffer::Block;
-use foyer_policy_piece::keeper::Piece;
+use foyer_policy_piece::keeper::PieceRef;
 use std::alloc::Allocator;
 use std::collections::VecDeque;
 
@@ -67,7 +67,7 @@ pub struct Batch<K, V, P, A: Allocator> {
     pub writing: Option<Writing<A>>,
     pub marks: Vec<Tombstone, A>,
     pub invalid: Vec<InvalidStats, A>,
-    pub pieces: Vec<Piece<K, V, P, A>, A>,
+    pub pieces: Vec<PieceRef<K, V, P, A>, A>,
     pub waits: Vec<u64, A>,
     /// Whether the log of deletes took the marks, once it has answered.
     pub logged: Option<bool>,
@@ -97,7 +97,7 @@ pub enum Wrote {
 /// What a batch gives back.
 #[derive(Drop)]
 pub struct Ended<K, V, P, A: Allocator> {
-    pub pieces: Vec<Piece<K, V, P, A>, A>,
+    pub pieces: Vec<PieceRef<K, V, P, A>, A>,
     pub waits: Vec<u64, A>,
 }
 

@@ -1,30 +1,28 @@
 //! A flusher: what waits in its queue, what it received, and the batch that it writes.
-ghost use Rattle.std.specs.Prelude.{◌≡◌, ◌≢◌, ◌+◌, ◌*◌, ◌^◌, ◌↔◌, ◌<◌, ◌≤◌, ℕ, Option, None, Some, IsSomeAnd, IsTrue, true, false, length, MatchOption, IsOkUnless};
+ghost use Rattle.std.specs.Prelude.{◌≡◌, ◌+◌, ◌*◌, ◌^◌, ◌↔◌, ◌<◌, ◌≤◌, ℕ, Option, None, Some, IsTrue, true, false, length, MatchOption, IsOkUnless};
 ghost use Rattle.std.specs.Prelude.{IfErr, IfOk, OnErr, OnOk};
 ghost use Rattle.foyer_block_index.specs.Index.{IndexMap, KeepsIndex};
 ghost use Rattle.foyer_format_buffer.specs.Entries.{left_of};
 ghost use Rattle.foyer_device_page.specs.declared.error.Error.{Error as error};
 ghost use Rattle.foyer_device_page.specs.declared.error.Error.TheVariants.{Memory};
 ghost use Rattle.foyer_format_record.specs.declared.serde.ages.Age.{Age as age};
-ghost use Rattle.foyer_core_model.specs.Flush.{released};
 ghost use Rattle.foyer_core_model.specs.Reply as model_reply;
-ghost use Rattle.foyer_core_model.specs.State as model_state;
 ghost use Rattle.foyer_core_model.specs.State.{State};
 ghost use Rattle.foyer_core_model.specs.Step as model_step;
 ghost use Rattle.foyer_core_laws.specs.Content.{Content, Meaning, meaning};
 ghost use Rattle.foyer_core_laws.specs.Sizes.{AreValid};
 ghost use Rattle.foyer_core_laws.specs.declared.settings.Settings.{Settings};
-ghost use Rattle.foyer_block_manager.specs.BlockSets.{BlockSets, Stands, HasSameRules};
+ghost use Rattle.foyer_block_manager.specs.BlockSets.{HasSameRules};
 ghost use Rattle.foyer_block_manager.specs.Managed.{Managed};
 ghost use Rattle.foyer_block_manager.specs.Shown.{AreShownAll, written_of};
 ghost use Rattle.foyer_core_blocks.specs.Standing.{IsIndexedAs};
 
+mod reports;
+
 pub use crate::batch::{Batch, Write, WriteBytes, Writing};
-use crate::batch::{Ended, Next, Wrote};
+use crate::batch::Next;
 use crate::begin::handles;
-use crate::committing::commit;
-use crate::filled::{Filled, keep_pages};
-use crate::logged::invalidate_unless;
+use crate::filled::Filled;
 use crate::receive::{Taken, put_mark, put_piece, put_reinsertion, put_returned, put_wait};
 pub use crate::submission::{Reinsertion, Submission, TombstoneInfo};
 use foyer_block_index::indexer::{EntryAddress, Indexer};
@@ -32,13 +30,13 @@ use foyer_block_index::manager::BlockId;
 use foyer_block_index::tombstone::{InvalidStats, Tombstone};
 use foyer_block_manager::block::eviction::EvictionPicker;
 use foyer_block_manager::block::manager::BlockManager;
-use foyer_core_blocks::manager::{filling_of, release};
+use foyer_core_blocks::manager::release;
 use foyer_core_laws::settings::Settings;
 use foyer_device_page::error::Result;
 use foyer_device_page::io::bytes::IoSliceMut;
 use foyer_format_buffer::{Batch as Split, SplitCtx};
 use foyer_format_record::serde::Code;
-use foyer_policy_piece::keeper::Piece;
+use foyer_policy_piece::keeper::PieceRef;
 use std::alloc::Allocator;
 use std::collections::VecDeque;
 use std::mem;
@@ -55,7 +53,7 @@ pub struct Flusher<K, V, P, A: Allocator> {
     pub spare: Option<IoSliceMut<A>>,
     pub marks: Vec<Tombstone, A>,
     pub invalid: Vec<InvalidStats, A>,
-    pub pieces: Vec<Piece<K, V, P, A>, A>,
+    pub pieces: Vec<PieceRef<K, V, P, A>, A>,
     pub waits: Vec<u64, A>,
     /// Where the next batch's data go.
     pub context: SplitCtx<A>,
@@ -175,14 +173,12 @@ impl<K, V, P, A: Allocator> Flusher<K, V, P, A> {
 
 impl<K, V, P, A: Allocator + Clone> Flusher<K, V, P, A> {
     ghost use Rattle.foyer_core_flusher.specs.Begun.{IsBegun};
-    ghost use Rattle.foyer_core_flusher.specs.Failing.{MustGrowFor};
-    ghost use Rattle.foyer_core_flusher.specs.FlushInTurn.{MayBegin, HasBlock, IsWriting, IsWritten};
-    ghost use Rattle.foyer_core_flusher.specs.FlusherSteps.{StandsAt, FlusherStep, issued_next, issued_wrote, HasEnded, failed_batch};
+    ghost use Rattle.foyer_core_flusher.specs.FlushInTurn.{MayBegin, HasBlock};
+    ghost use Rattle.foyer_core_flusher.specs.FlusherSteps.{StandsAt, FlusherStep, issued_next};
     ghost use Rattle.foyer_core_flusher.specs.Flushing.{IsFlusherAs};
-    ghost use Rattle.foyer_core_flusher.specs.Leaving.{left_after, left_by};
+    ghost use Rattle.foyer_core_flusher.specs.Leaving.{left_by};
     ghost use Rattle.foyer_core_flusher.specs.Seen.{seen};
-    ghost use Rattle.foyer_core_flusher.specs.Taking.{TakesFront};
-    ghost use Rattle.foyer_core_flusher.specs.declared.batch.Wrote.TheVariants as wrote;
+    ghost use Rattle.foyer_core_flusher.specs.Taking.{MovesPiece, TakesFront};
 
     /// Takes the front of the queue. A piece that has no room, or whose code fails, is handed back, and a mark of its sequence
     /// enters the index and is kept in its place; a record that was read back is dropped where it has no room, and where the
@@ -199,6 +195,7 @@ impl<K, V, P, A: Allocator + Clone> Flusher<K, V, P, A> {
             → IsFlusherAs (meaning K.encoding V.encoding K.is_encodable V.is_encodable K.is_decodable V.is_decodable age_of) s (seen self.old) (st.flushers f)
             → IsIndexedAs s index.old.slots st.index
             → TakesFront (meaning K.encoding V.encoding K.is_encodable V.is_encodable K.is_decodable V.is_decodable age_of) s sound st f result self.new index.new.slots }
+        ensures pieces { MovesPiece self.old.queue.items self.old.pieces.items self.new.pieces.items result }
     {
         match self.queue.pop_front() {
             None => Ok(Taken::Nothing),
@@ -372,138 +369,5 @@ impl<K, V, P, A: Allocator + Clone> Flusher<K, V, P, A> {
                 Ok(Next::Block(block, batch.issue(block, prepared)))
             }
         }
-    }
-
-    /// Whether an issued write is to be reported.
-    pub fn is_writing(&self) -> bool
-        ensures { IsTrue result ↔ IsWriting self.now }
-    {
-        match &self.batch {
-            Some(batch) => batch.writing.is_some(),
-            None => false,
-        }
-    }
-
-    /// Takes the result of the next issued write. After the block's last one its records enter the index. After a fault,
-    /// or where the index has to grow and can't, nothing of the batch's rest is written, and the block isn't written again
-    /// in this filling; it is evictable then, and the pickers learn of it.
-    pub fn wrote<E: EvictionPicker>(
-        &mut self,
-        is_done: bool,
-        index: &mut Indexer<A>,
-        manager: &mut BlockManager<A>,
-        pickers: &mut [E],
-    ) -> Wrote
-        requires { IsWriting self.old }
-        ensures same { HasSameRules manager.old manager.new }
-        ensures done { (m : Meaning K V P) (s : Settings) (sound : AreValid s) (f : ℕ) (it : State Content)
-            → StandsAt m s f it (seen self.old) index.old.slots manager.old
-            → FlusherStep m s sound (model_step.FlushWrote f is_done) f it (issued_wrote result)
-            (seen self.new) index.new.slots manager.new }
-        ensures failed { is_done ≡ true → result ≡ wrote.Failed → MustGrowFor index.old self.old }
-        ensures shown { AreShownAll E.learns (written_of manager.old.blocks (left_after result self.old.own)) pickers.old pickers.new }
-    {
-        let Some(batch) = &mut self.batch else {
-            unreachable!()
-        };
-        let Some(writing) = batch.take_writing() else {
-            unreachable!()
-        };
-        if !is_done {
-            return self.fail(manager, pickers);
-        }
-        let Writing {
-            block,
-            left,
-            records,
-            sources,
-        } = writing;
-        if left > 1 {
-            batch.put_writing(Writing {
-                block,
-                left: left - 1,
-                records,
-                sources,
-            });
-            return Wrote::Next;
-        }
-        match commit(records, &sources, block, filling_of(manager, block), index) {
-            Some(count) => Wrote::Committed(count),
-            None => self.fail(manager, pickers),
-        }
-    }
-
-    // Nothing of the batch's rest is written, the block isn't written again in this filling, and the splitter is fresh.
-    fn fail<E: EvictionPicker>(&mut self, manager: &mut BlockManager<A>, pickers: &mut [E]) -> Wrote
-        requires { IsSomeAnd self.old.batch (λ batch. batch.writing ≡ None) }
-        ensures failed { result ≡ wrote.Failed }
-        ensures shown { AreShownAll E.learns (written_of manager.old.blocks self.old.own) pickers.old pickers.new }
-        ensures left { (m : Meaning K V P) (s : Settings) (sound : AreValid s) (it : model_state.Flusher Content)
-            (batch : model_state.Batch Content)
-            → IsFlusherAs m s (seen self.old) it → it.batch ≡ Some batch
-            → IsFlusherAs m s (seen self.new) (failed_batch m s sound it batch) }
-        ensures same { HasSameRules manager.old manager.new }
-        ensures released { (s : BlockSets) (f : ℕ) → Stands manager.old s
-            → ((b : ℕ) → self.old.own ≡ Some b → s.block_set b ≡ model_state.Writes f)
-            → Stands manager.new (record s { block_set = released self.old.own s.block_set }) }
-    {
-        let Some(batch) = &mut self.batch else {
-            unreachable!()
-        };
-        batch.drop_rest();
-        release(&mut self.own, manager, pickers);
-        self.context.reset(); // nothing goes on in that block
-        Wrote::Failed
-    }
-
-    /// Whether the batch has nothing left to write, and the log of deletes has answered, where there is one.
-    pub fn is_written(&self, has_log: bool) -> bool
-        ensures { IsTrue result ↔ IsWritten has_log self.now }
-    {
-        match &self.batch {
-            Some(batch) => {
-                batch.writing.is_none()
-                    && batch.blocks.is_empty()
-                    && (!has_log || batch.logged.is_some())
-            }
-            None => false,
-        }
-    }
-
-    /// Ends the batch: its marks leave the index, what they made invalid counts unless the log of deletes failed, and
-    /// what it has is given back. Its pages are kept, to be filled again, unless somebody still has a part of them. It
-    /// doesn't allocate.
-    pub fn end(
-        &mut self,
-        index: &mut Indexer<A>,
-        manager: &mut BlockManager<A>,
-    ) -> Ended<K, V, P, A>
-        requires { IsWritten false self.old }
-        ensures ended { self.new.batch ≡ None }
-        ensures same { HasSameRules manager.old manager.new }
-        ensures done { (m : Meaning K V P) (s : Settings) (sound : AreValid s) (f : ℕ) (it : State Content)
-            → StandsAt m s f it (seen self.old) index.old.slots manager.old
-            → HasEnded m s sound f it result.pieces.items result.waits.items
-            (seen self.new) index.new.slots manager.new }
-    {
-        let Some(batch) = self.batch.take() else {
-            unreachable!()
-        };
-        let Batch {
-            blocks: _,
-            pages,
-            sources: _,
-            continues_own_block: _,
-            writing: _,
-            marks,
-            invalid,
-            pieces,
-            waits,
-            logged,
-        } = batch;
-        index.remove_marks(marks.as_slice());
-        invalidate_unless(logged, manager, invalid.as_slice());
-        keep_pages(&mut self.spare, pages);
-        Ended { pieces, waits }
     }
 }

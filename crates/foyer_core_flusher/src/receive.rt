@@ -33,7 +33,7 @@ use foyer_device_page::error::Result;
 use foyer_device_page::io::bytes::IoSliceMut;
 use foyer_format_record::block::serde::Sequence;
 use foyer_format_record::serde::Code;
-use foyer_policy_piece::keeper::Piece;
+use foyer_policy_piece::keeper::PieceRef;
 use std::alloc::Allocator;
 use std::collections::VecDeque;
 
@@ -45,7 +45,7 @@ pub enum Taken<K, V, P, A: Allocator> {
     /// A mark, a record that was read back, or a wait.
     Other,
     /// A piece that stood in the queue with this size in bytes, handed back where it doesn't fit.
-    Piece(usize, Option<Piece<K, V, P, A>>),
+    Piece(usize, Option<PieceRef<K, V, P, A>>),
 }
 
 // Whether the index has a hash at the very address that a record of it was read from.
@@ -63,24 +63,24 @@ pub(crate) fn put_piece<K: Code<A>, V: Code<A>, P, A: Allocator + Clone>(
     alloc: &A,
     filled: &mut Filled<A>,
     spare: &mut Option<IoSliceMut<A>>,
-    pieces: &mut Vec<Piece<K, V, P, A>, A>,
+    pieces: &mut Vec<PieceRef<K, V, P, A>, A>,
     sources: &mut VecDeque<Option<EntryAddress>, A>,
-    piece: &Piece<K, V, P, A>,
+    piece: &PieceRef<K, V, P, A>,
     sequence: Sequence,
 ) -> Result<bool>
-    ensures pushed { IfOk result (λ done. OnTrue done (filled.new ≡ with_entry filled.old piece.now.hash
-        sequence (record_bytes piece.now.hash sequence (K.encoding piece.now.key) (V.encoding piece.now.value)))) }
+    ensures pushed { IfOk result (λ done. OnTrue done (filled.new ≡ with_entry filled.old piece.now.piece.hash
+        sequence (record_bytes piece.now.piece.hash sequence (K.encoding piece.now.piece.key) (V.encoding piece.now.piece.value)))) }
     ensures list { pieces.new.items ≡ pieces.old.items }
     ensures room { IfOk result (λ done. OnTrue done (vec_len pieces.new < vec_capacity pieces.new)) }
     ensures sources { sources.new.items ≡ sources.old.items }
     ensures place { IfOk result (λ done. OnTrue done (deque_len sources.new < deque_capacity sources.new)) }
     ensures fits { IfOk result (λ done. IsTrue done ↔ FitsBuffer filled.old compression.None
-        ((K.is_encodable piece.now.key ≡ true) × (V.is_encodable piece.now.value ≡ true))
-        (length (V.encoding piece.now.value) + length (K.encoding piece.now.key))) }
+        ((K.is_encodable piece.now.piece.key ≡ true) × (V.is_encodable piece.now.piece.value ≡ true))
+        (length (V.encoding piece.now.piece.value) + length (K.encoding piece.now.piece.key))) }
     ensures kept { IfOk result (λ done. OnFalse done (filled.new ≡ filled.old)) }
     ensures memory { IfErr result (λ e. e ≡ error.Memory) }
-    ensures due { OnErr result (K.is_encodable piece.now.key ≡ true → V.is_encodable piece.now.value ≡ true
-        → HasRoom filled.old (length (V.encoding piece.now.value) + length (K.encoding piece.now.key))) }
+    ensures due { OnErr result (K.is_encodable piece.now.piece.key ≡ true → V.is_encodable piece.now.piece.value ≡ true
+        → HasRoom filled.old (length (V.encoding piece.now.piece.value) + length (K.encoding piece.now.piece.key))) }
     ensures refused { OnErr result (filled.new ≡ filled.old) }
     ensures greatest { filled.new.greatest ≡ filled.old.greatest }
 {

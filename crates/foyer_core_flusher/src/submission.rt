@@ -2,7 +2,7 @@
 use foyer_block_index::indexer::EntryAddress;
 use foyer_block_index::tombstone::{InvalidStats, Tombstone};
 use foyer_format_record::block::serde::Sequence;
-use foyer_policy_piece::keeper::Piece;
+use foyer_policy_piece::keeper::PieceRef;
 use std::alloc::Allocator;
 
 /// A mark, and what it made invalid.
@@ -26,7 +26,7 @@ pub struct Reinsertion<A: Allocator> {
 pub enum Submission<K, V, P, A: Allocator> {
     /// A piece to be written, with its estimated size in bytes.
     CacheEntry {
-        piece: Piece<K, V, P, A>,
+        piece: PieceRef<K, V, P, A>,
         estimated_size: usize,
         sequence: Sequence,
     },

@@ -1,7 +1,7 @@
 -- What a core sees of keys and values: their encodings.
 use Rattle.std.specs.Prelude.{ℕ, Bool, ◌&&◌, List, Option, [], ◌∷◌, None, Some}
 use Rattle.foyer_format_record.specs.declared.serde.ages.Age.{Age}
-use Rattle.foyer_policy_piece.specs.Record.{Record}
+use Rattle.foyer_policy_piece.specs.Referred.{Referred}
 
 -- a key and a value, encoded, and whether both can be encoded
 pub record Content : Type 0 where
@@ -39,10 +39,10 @@ contents_of [] = []
 contents_of (p ∷ ps) = p.1 ∷ contents_of ps
 
 -- of a piece
-abbrev pub content_of : {K V P : Type 0} → Meaning K V P → Record K V P → Content
-content_of m piece = content m piece.key piece.value
+abbrev pub content_of : {K V P : Type 0} → Meaning K V P → Referred K V P → Content
+content_of m piece = content m piece.piece.key piece.piece.value
 
 -- of a piece that is handed back, if one is
-abbrev pub returned : {K V P : Type 0} → Meaning K V P → Option (Record K V P) → Option Content
+abbrev pub returned : {K V P : Type 0} → Meaning K V P → Option (Referred K V P) → Option Content
 returned m None = None
 returned m (Some piece) = Some (content_of m piece)

@@ -99,7 +99,7 @@ module _ {K V P A : Type 0} (m : Meaning K V P) where
 
   module _ (s : Settings) (sound : AreValid s) (encodes : Encodes m) where
     fed : (w : World Content) (given : Step K V P A) → IsFree given → IsFed (machine m s sound) (layout s) (IsEncoded m.is_key m.is_value) w (step_of m given)
-    fed w (step.Enqueue piece size) free = (free, encodes piece.key piece.value)
+    fed w (step.Enqueue piece size) free = (free, encodes piece.piece.key piece.piece.value)
     fed w (step.Delete hash) free = free
     fed w (step.LoadEnd ticket outcome) free = absurd free
     fed w (step.FlushWrote f outcome) free = absurd free

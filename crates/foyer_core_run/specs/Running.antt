@@ -68,7 +68,7 @@ pub record IsIssued {K V P A : Type 0} (said : List (Reply K V P A)) (x : Issued
 
 -- a step that brings no result of an access, and whose hash has 64 bits
 abbrev pub IsFree : {K V P A : Type 0} → Step K V P A → Type 0
-IsFree (step.Enqueue piece size) = piece.hash ≤ last_number
+IsFree (step.Enqueue piece size) = piece.piece.hash ≤ last_number
 IsFree (step.Delete hash) = hash ≤ last_number
 IsFree (step.LoadEnd ticket outcome) = ⊥
 IsFree (step.FlushBlock flusher) = ⊥

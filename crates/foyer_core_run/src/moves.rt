@@ -23,7 +23,7 @@ use foyer_device_page::error::Result;
 use foyer_format_record::serde::{Code, Properties};
 use foyer_io_disk::disk::Disk;
 use foyer_policy_filter::StorageFilterCondition;
-use foyer_policy_piece::keeper::Piece;
+use foyer_policy_piece::keeper::PieceRef;
 use kept::{Kept, begin};
 use loads::load_end;
 use std::alloc::{AllocError, Allocator};
@@ -34,7 +34,7 @@ use writes::{flush_block, flush_wrote};
 #[derive(Drop)]
 pub enum Move<K, V, P, A: Allocator> {
     Enqueue {
-        piece: Piece<K, V, P, A>,
+        piece: PieceRef<K, V, P, A>,
         size: usize,
     },
     Delete {

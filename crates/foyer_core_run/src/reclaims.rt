@@ -19,15 +19,15 @@ use foyer_io_disk::disk::Disk;
 use foyer_policy_filter::StorageFilterCondition;
 use std::alloc::Allocator;
 
-// What a reclaim reads of its block.
-#[derive(Clone, Copy, Debug)]
-pub(crate) struct Part {
-    pub(crate) offset: usize,
-    pub(crate) len: usize,
+/// What a reclaim reads of its block: so many bytes from an offset on.
+#[derive(Clone, Copy, Debug, PartialEq, Eq)]
+pub struct Part {
+    pub offset: usize,
+    pub len: usize,
 }
 
-// What a reply has a reclaim read next.
-pub(crate) fn next_part<K, V, P, A: Allocator>(reply: &Reply<K, V, P, A>) -> Option<Part>
+/// What a reply has a reclaim read next.
+pub fn next_part<K, V, P, A: Allocator>(reply: &Reply<K, V, P, A>) -> Option<Part>
     ensures { result ≡ part_in reply.now }
 {
     match reply {
@@ -44,8 +44,8 @@ pub(crate) fn next_part<K, V, P, A: Allocator>(reply: &Reply<K, V, P, A>) -> Opt
     }
 }
 
-// Reads a part of a block. Memory that is refused for it is a fault too.
-pub(crate) fn read_bytes<A: Allocator + Clone, D: Disk>(
+/// Reads a part of a block. Memory that is refused for it is a fault too.
+pub fn read_bytes<A: Allocator + Clone, D: Disk>(
     alloc: &A,
     disk: &mut D,
     block: BlockId,
@@ -148,8 +148,8 @@ where
     }
 }
 
-// Cleans a block: its first page becomes zeros.
-pub(crate) fn clean_block<D: Disk>(disk: &mut D, block: BlockId) -> Result<()>
+/// Cleans a block: its first page becomes zeros.
+pub fn clean_block<D: Disk>(disk: &mut D, block: BlockId) -> Result<()>
     ensures cleaned { D.is_known disk.old → OnOk result (IsCleaned (D.byte_at disk.old) block (D.byte_at disk.new)) }
     ensures torn { D.is_known disk.old → OnErr result (IsTorn (D.byte_at disk.old) block 0 page (D.byte_at disk.new)) }
     ensures known { D.is_known disk.old → D.is_known disk.new }

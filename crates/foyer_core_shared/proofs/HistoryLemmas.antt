@@ -155,7 +155,7 @@ module _ {K V P A : Type 0} (m : Meaning K V P) where
   replied (step.Enqueue piece size) answer old new notes calls noted refines =
       ∥∥₁_elim noted (Coded-set coded_bool _ _) (λ (n : IsNoted m old notes calls).
       let it = refines n.legal.settings n.legal.sound n.legal.state n.legal.stands in
-      enqueue_replied (machine m n.legal.settings n.legal.sound) (layout n.legal.settings) n.legal.state m piece.hash size (known_age (m.age_of piece.properties)) (content_of m piece) it.after answer it.it it.reply it.follows)
+      enqueue_replied (machine m n.legal.settings n.legal.sound) (layout n.legal.settings) n.legal.state m piece.piece.hash size (known_age (m.age_of piece.piece.properties)) (content_of m piece) it.after answer it.it it.reply it.follows)
   replied (step.Delete hash) answer old new notes calls noted refines =
       ∥∥₁_elim noted (Coded-set coded_bool _ _) (λ (n : IsNoted m old notes calls).
       let it = refines n.legal.settings n.legal.sound n.legal.state n.legal.stands in

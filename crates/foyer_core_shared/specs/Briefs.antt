@@ -31,7 +31,7 @@ listed_in (Some verdicts) = Some (vec_len verdicts)
 
 -- a step without the piece or the bytes that it brings
 abbrev pub step_brief : {K V P A : Type 0} → Step K V P A → StepBrief
-step_brief (step.Enqueue piece size) = asked.Enqueue piece.hash size
+step_brief (step.Enqueue piece size) = asked.Enqueue piece.piece.hash size
 step_brief (step.Delete hash) = asked.Delete hash
 step_brief (step.Wait flusher id) = asked.Wait flusher id
 step_brief (step.MayContains hash) = asked.MayContains hash

@@ -5,6 +5,7 @@ ghost use Rattle.foyer_core_laws.specs.Content.{meaning};
 ghost use Rattle.foyer_core_shared.specs.Behind.{HasRoom, kept_notes};
 ghost use Rattle.foyer_core_shared.specs.Kinds.{kind_of, tallied};
 ghost use Rattle.foyer_core_shared.specs.Noted.{and_note, notes_at_first};
+ghost use Rattle.foyer_core_tally.specs.Ledgers.{AreOf};
 ghost use Rattle.foyer_core_tally.specs.Tally.{grown, none, both, shown, listed};
 ghost use Rattle.std.specs.Prelude.{◌≡◌, ◌≢◌, ◌+◌, ◌<◌, IfErr, IfOk, IsOkUnless, OnOk, None, Some, [], ◌∷◌};
 ghost use Rattle.std.specs.Option.{ForSome};
@@ -46,6 +47,22 @@ impl<L: Kinds> Model for Session<L> {
 }
 
 impl<L: Kinds> Session<L> {
+    /// The session that has all parts, and the book: for an engine without a core, of which no step is noted.
+    pub fn first(blanks: Blanks) -> (Books<L>, Session<L>)
+        requires { AreOf L.name_of L.all blanks }
+        ensures none { result.0 ≡ none }
+        ensures all { result.1.shares ≡ record { parts = L.all; amounts = none } }
+        ensures fresh { (result.1.newest ≡ None) × (result.1.before ≡ None) }
+    {
+        let (books, shares) = blanks.open::<L>();
+        let session = Session {
+            shares,
+            newest: None,
+            before: None,
+        };
+        (books, session)
+    }
+
     /// What it asked last and before that, each with the reply, newest first.
     pub fn last(&self) -> [Option<Brief>; 2]
         ensures { result ≡ self.now.newest ∷ self.now.before ∷ [] }
@@ -230,7 +247,6 @@ where
     ghost use Rattle.foyer_core_laws.specs.Sizes.{AreValid, sizes_in};
     ghost use Rattle.foyer_block_manager.specs.Shown.{evictable_below};
     ghost use Rattle.foyer_core_shared.specs.Briefs.{brief_of};
-    ghost use Rattle.foyer_core_tally.specs.Ledgers.{AreOf};
     ghost use Rattle.foyer_core_shared.specs.Chunks.{all_of};
     ghost use Rattle.foyer_core_shared.specs.History.{IsLegal, Made};
     ghost use Rattle.foyer_core_shared.specs.Replies.{may_reply};

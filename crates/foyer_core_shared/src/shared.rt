@@ -78,6 +78,11 @@ where
         }
     }
 
+    /// The lock of the core itself, for who makes a step beside another lock. No device is called under it.
+    pub fn locked(&self) -> &Mutex<Locked<L, K, V, P, A, E, C, N>> {
+        &self.inside
+    }
+
     /// The filter of what reclaims have written again, or none, from now on; the one before comes back.
     pub fn replace_reinsertion(
         &self,

@@ -14,7 +14,7 @@ use Rattle.foyer_core_flusher.specs.Flushing.{AreBatched, AreReceived, IsFlusher
 use Rattle.foyer_core_flusher.specs.Seen.{is_still, seen}
 use Rattle.foyer_core_flusher.specs.declared.batch.Batch.{Batch}
 use Rattle.foyer_core_flusher.specs.declared.flusher.Flusher.{Flusher}
-use Rattle.foyer_policy_piece.specs.Record.{Record}
+use Rattle.foyer_policy_piece.specs.Referred.{Referred}
 use Rattle.foyer_core_blocks.specs.Addresses.{mark_of}
 
 pub and_both : (a b : Bool) → (a && b) ≡ true → (a ≡ true) × (b ≡ true)
@@ -36,12 +36,12 @@ no_one None e = refl
 no_one (Some x) e = absurd (let f : false ≡ true = e in cc)
 
 -- without sources nothing is in a buffer, and the other way round
-none_given : {K V P : Type 0} (m : Meaning K V P) (os : List (Option EntryAddress)) (rs : List (model_record.Record Content)) (ps : List (Record K V P)) → os ≡ [] → AreReceived m os rs ps → rs ≡ []
+none_given : {K V P : Type 0} (m : Meaning K V P) (os : List (Option EntryAddress)) (rs : List (model_record.Record Content)) (ps : List (Referred K V P)) → os ≡ [] → AreReceived m os rs ps → rs ≡ []
 none_given m [] [] ps is are = refl
 none_given m [] (r ∷ rs) ps is are = absurd are
 none_given m (o ∷ os) rs ps is are = absurd (let clash : o ∷ os ≡ [] = is in cc)
 
-given_none : {K V P : Type 0} (m : Meaning K V P) (os : List (Option EntryAddress)) (rs : List (model_record.Record Content)) (ps : List (Record K V P)) → rs ≡ [] → AreReceived m os rs ps → os ≡ []
+given_none : {K V P : Type 0} (m : Meaning K V P) (os : List (Option EntryAddress)) (rs : List (model_record.Record Content)) (ps : List (Referred K V P)) → rs ≡ [] → AreReceived m os rs ps → os ≡ []
 given_none m [] rs ps is are = refl
 given_none m (None ∷ os) [] ps is are = absurd are
 given_none m (Some a ∷ os) [] ps is are = absurd are

@@ -6,7 +6,7 @@ use Rattle.foyer_block_index.specs.declared.indexer.Index.TheVariants as index
 use Rattle.foyer_device_page.specs.declared.error.Error.{Error}
 use Rattle.foyer_format_record.specs.Record.{pair_of}
 use Rattle.foyer_format_record.specs.Record.Outcome.{Pair}
-use Rattle.foyer_policy_piece.specs.Record.{Record}
+use Rattle.foyer_policy_piece.specs.Referred.{Referred}
 use Rattle.foyer_core_flusher.specs.Failing.{MustGrowFor}
 use Rattle.foyer_block_manager.specs.BlockSets.{BlockSets, Stands, MayReclaim, reclaim_count}
 use Rattle.foyer_block_manager.specs.Pickers.{Info, answers_of, picker_info}
@@ -46,8 +46,8 @@ Marks hash sequence old new =
     × (new.index.slots ≡ inserted old.index.slots hash (index.Tombstone sequence))
 
 -- the piece of an enqueue to a core that isn't closed comes back, and its hash is deleted
-abbrev pub Drops : {K V P A : Type 0} → Step K V P A → Record K V P → ℕ → Core K V P A → Core K V P A → Type 0
-Drops (step.Enqueue piece size) back sequence old new = (back ≡ piece) × (old.closed ≡ false) × Marks piece.hash sequence old new
+abbrev pub Drops : {K V P A : Type 0} → Step K V P A → Referred K V P → ℕ → Core K V P A → Core K V P A → Type 0
+Drops (step.Enqueue piece size) back sequence old new = (back ≡ piece) × (old.closed ≡ false) × Marks piece.piece.hash sequence old new
 Drops given back sequence old new = ⊥
 
 -- a delete got the next sequence, from a core that isn't closed, and its mark is in the index
@@ -69,7 +69,7 @@ Looks (step.LoadBegin hash throttled) ticket old =
 Looks given ticket old = ⊥
 
 -- the piece that an enqueue handed in comes back
-abbrev pub Returns : {K V P A : Type 0} → Step K V P A → Record K V P → Type 0
+abbrev pub Returns : {K V P A : Type 0} → Step K V P A → Referred K V P → Type 0
 Returns (step.Enqueue piece size) back = back ≡ piece
 Returns given back = ⊥
 

@@ -41,7 +41,7 @@ fault_of (Err error.Memory) = Some Memory
 fault_of (Err e) = Some Io
 
 abbrev pub step_of : {K V P A : Type 0} → Meaning K V P → Step K V P A → model_step.Step Content
-step_of m (step.Enqueue piece size) = model_step.Enqueue piece.hash size (known_age (m.age_of piece.properties)) (content_of m piece)
+step_of m (step.Enqueue piece size) = model_step.Enqueue piece.piece.hash size (known_age (m.age_of piece.piece.properties)) (content_of m piece)
 step_of m (step.Delete hash) = model_step.Delete hash
 step_of m (step.Wait flusher id) = model_step.Wait flusher id
 step_of m (step.MayContains hash) = model_step.MayContains hash

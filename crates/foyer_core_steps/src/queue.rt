@@ -23,7 +23,7 @@ use foyer_core_flusher::marking::enter_mark;
 use foyer_device_page::error::{ErrorKind, Result};
 use foyer_format_record::block::serde::Sequence;
 use foyer_format_record::serde::{Age, Properties};
-use foyer_policy_piece::keeper::Piece;
+use foyer_policy_piece::keeper::PieceRef;
 use std::alloc::Allocator;
 
 fn is_young<P: Properties>(properties: &P) -> bool
@@ -64,7 +64,7 @@ impl<K, V, P, A: Allocator + Clone> Core<K, V, P, A> {
         Ok(sequence)
     }
 
-    pub(crate) fn enqueue(&mut self, piece: Piece<K, V, P, A>, size: usize) -> Reply<K, V, P, A>
+    pub(crate) fn enqueue(&mut self, piece: PieceRef<K, V, P, A>, size: usize) -> Reply<K, V, P, A>
     where
         P: Properties,
         ensures back { HandsBack (step.Enqueue piece size) result self.old self.new }

@@ -6,7 +6,7 @@ pub use foyer_core_flusher::flusher::{Write, WriteBytes};
 use foyer_device_page::error::ErrorKind;
 use foyer_format_record::block::serde::Sequence;
 use foyer_format_record::serde::Age;
-use foyer_policy_piece::keeper::Piece;
+use foyer_policy_piece::keeper::PieceRef;
 use std::alloc::Allocator;
 
 /// The answer to a step.
@@ -17,11 +17,11 @@ pub enum Reply<K, V, P, A: Allocator> {
     /// The step is refused: nothing changed.
     Refused(ErrorKind, Step<K, V, P, A>),
     /// The piece isn't taken: it is young.
-    Ignored(Piece<K, V, P, A>),
+    Ignored(PieceRef<K, V, P, A>),
     /// The piece is queued under this sequence.
     Queued(Sequence),
     /// The piece isn't taken, since too much is queued. Its hash is deleted under this sequence.
-    Dropped(Piece<K, V, P, A>, Sequence),
+    Dropped(PieceRef<K, V, P, A>, Sequence),
     /// The delete is accepted under this sequence.
     Deleted(Sequence),
     /// A wait is queued, the log's outcome is noted, a clean is noted, or the core is closed.
@@ -43,7 +43,7 @@ pub enum Reply<K, V, P, A: Allocator> {
     /// Nothing is queued.
     Empty,
     /// The front of the queue was taken. A piece that doesn't fit is handed back, and its hash is deleted under its sequence.
-    Received(Option<Piece<K, V, P, A>>),
+    Received(Option<PieceRef<K, V, P, A>>),
     /// A batch of so many blocks began; these are its marks, in order.
     Began {
         blocks: usize,
@@ -64,7 +64,7 @@ pub enum Reply<K, V, P, A: Allocator> {
     Failed,
     /// The batch ended: its pieces in order, and the waits that it answers.
     Ended {
-        pieces: Vec<Piece<K, V, P, A>, A>,
+        pieces: Vec<PieceRef<K, V, P, A>, A>,
         waits: Vec<u64, A>,
     },
     /// The reclaim of this block began: read its first index, from 0 on, and bring it by `ReclaimRead`. What the pickers

@@ -6,7 +6,7 @@ use foyer_block_index::indexer::EntryAddress;
 use foyer_block_index::manager::BlockId;
 use foyer_device_page::error::Result;
 use foyer_format_record::block::buffer::PAGE;
-use foyer_policy_piece::keeper::Piece;
+use foyer_policy_piece::keeper::PieceRef;
 use std::alloc::Allocator;
 
 /// What a load reads: `page_up(address.len)` bytes at its address. The entry is judged by the first `address.len`.
@@ -37,7 +37,7 @@ impl Ticket {
 pub enum Step<K, V, P, A: Allocator> {
     /// Queues a piece; `size` is its estimated size in bytes.
     Enqueue {
-        piece: Piece<K, V, P, A>,
+        piece: PieceRef<K, V, P, A>,
         size: usize,
     },
     /// Accepts a delete.

@@ -14,7 +14,7 @@ use Rattle.std.proofs.lemmas.List.Folds.{find_at, find-set, find_past, find-appe
 use Rattle.std.proofs.lemmas.List.Sums.{position_or_len_is}
 use Rattle.std.proofs.lemmas.List.Quantifiers.{position-Some}
 use Rattle.foyer_policy_piece.specs.Record.{Record}
-use Rattle.foyer_policy_keeper.specs.Referred.{Referred}
+use Rattle.foyer_policy_piece.specs.Referred.{Referred}
 use Rattle.foyer_policy_keeper.specs.PieceMap.{Pieces, Roomy, PieceMap, pieces_in, pieces_at, piece_of, piece_at, without, Enters, ChangesAt, HoldsSame, HasPlace, AreOwn, IsOf}
 
 past : (n m : ℕ) → cond (nat_lt n m) (Some n) None ≡ None → m ≤ n

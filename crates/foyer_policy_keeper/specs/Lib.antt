@@ -1,2 +1,1 @@
 pub mod PieceMap
-pub mod Referred

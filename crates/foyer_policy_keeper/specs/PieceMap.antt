@@ -3,7 +3,7 @@ use Rattle.std.specs.Prelude.{◌≡◌, ℕ, ◌<◌, ◌≤◌, ◌==◌, Bool
 use Rattle.std.specs.Option.{ForSome}
 use Rattle.std.specs.Map.{lookup}
 use Rattle.foyer_policy_piece.specs.Record.{Record}
-use Rattle.foyer_policy_keeper.specs.Referred.{Referred}
+use Rattle.foyer_policy_piece.specs.Referred.{Referred}
 
 -- the pieces of one hash
 abbrev pub Pieces : Type 0 → Type 0 → Type 0 → Type 0

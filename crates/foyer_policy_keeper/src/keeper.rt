@@ -7,54 +7,10 @@ pub mod shard;
 
 use self::shard::Shard;
 use foyer_device_page::error::{Error, Result};
-use foyer_policy_piece::keeper::Piece;
+use foyer_policy_piece::keeper::{Piece, PieceRef};
 use std::alloc::Allocator;
 use std::marker::Model;
-use std::ops::Deref;
 use std::sync::{Mutex, Wait};
-
-/// A piece that a keeper may have. One that is dropped releases nothing.
-#[derive(Drop)]
-pub struct PieceRef<K, V, P, A: Allocator> {
-    piece: Piece<K, V, P, A>,
-    number: u64,
-}
-
-impl<K, V, P, A: Allocator> Model for PieceRef<K, V, P, A> {
-    ghost use Rattle.foyer_policy_keeper.specs.Referred.{Referred};
-
-    ghost Value = { Referred K V P };
-
-    ghost view = { λ r. record { piece = r.piece; number = r.number } };
-}
-
-impl<K, V, P, A: Allocator> PieceRef<K, V, P, A> {
-    /// The number of its insertion into a keeper, from 1 up; 0, where it was made of a piece.
-    pub fn number(&self) -> u64
-        ensures { result ≡ self.now.number }
-    {
-        self.number
-    }
-}
-
-impl<K, V, P, A: Allocator> Deref for PieceRef<K, V, P, A> {
-    type Target = Piece<K, V, P, A>;
-
-    ghost deref_gives = { λ r piece. piece ≡ r.piece };
-
-    fn deref(&self) -> &Piece<K, V, P, A> {
-        &self.piece
-    }
-}
-
-/// A piece that no keeper was given, so that its release removes nothing.
-impl<K, V, P, A: Allocator> From<Piece<K, V, P, A>> for PieceRef<K, V, P, A> {
-    ghost from_gives = { λ piece r. (r.piece ≡ piece) × (r.number ≡ 0) };
-
-    fn from(piece: Piece<K, V, P, A>) -> PieceRef<K, V, P, A> {
-        PieceRef { piece, number: 0 }
-    }
-}
 
 /// The pieces that aren't flushed yet, by hash and key. Contracts see how many shards it has. Threads share it by
 /// reference; each call takes the lock of one shard, and holds no other.

@@ -6,7 +6,7 @@ use Rattle.foyer_device_page.specs.declared.error.ErrorKind.TheVariants as kind
 use Rattle.foyer_format_record.specs.declared.serde.ages.Age.{Age}
 use Rattle.foyer_core_model.specs.Record.{Outcome, Holds}
 use Rattle.foyer_core_model.specs.World.{World, WorldEvent}
-use Rattle.foyer_policy_piece.specs.Record.{Record}
+use Rattle.foyer_policy_piece.specs.Referred.{Referred}
 use Rattle.foyer_core_laws.specs.Content.{Content, Meaning, content}
 use Rattle.foyer_core_laws.specs.Sizes.{AreValid}
 use Rattle.foyer_core_laws.specs.declared.settings.Settings.{Settings}
@@ -80,13 +80,13 @@ put_as said = answer.Ignored
 
 -- an Enqueue of this key and text, with the size of both codes, was answered so, and nothing else happened
 pub record IsEnqueued {A : Type 0} (key : ℕ) (text : List ℕ) (old new : Core ℕ (String A) NoProperties A) (old_bytes new_bytes : ℕ → ℕ → ℕ) (answered : Answer A) : Type 0 where
-  pub piece : Record ℕ (String A) NoProperties
+  pub piece : Referred ℕ (String A) NoProperties
   pub size : ℕ
   pub last : Reply ℕ (String A) NoProperties A
-  pub key_is : piece.key ≡ key
-  pub hash_is : piece.hash ≡ key
-  pub value_is : string_bytes piece.value ≡ text
-  pub size_is : (plain {A = A}).is_encodable piece.key piece.value ≡ true → size ≡ min (length ((plain {A = A}).value_of piece.value) + length ((plain {A = A}).key_of piece.key)) (2 ^ 64 - 1)
+  pub key_is : piece.piece.key ≡ key
+  pub hash_is : piece.piece.hash ≡ key
+  pub value_is : string_bytes piece.piece.value ≡ text
+  pub size_is : (plain {A = A}).is_encodable piece.piece.key piece.piece.value ≡ true → size ≡ min (length ((plain {A = A}).value_of piece.piece.value) + length ((plain {A = A}).key_of piece.piece.key)) (2 ^ 64 - 1)
   pub is : answered ≡ put_as last
   pub says : Says plain (move.Enqueue piece size ∷ []) last old new old_bytes new_bytes
 

@@ -24,7 +24,7 @@ use foyer_format_record::serde::{EntrySerializer, NoProperties};
 use foyer_io_disk::disk::Disk;
 use foyer_io_disk::memory::MemoryDisk;
 use foyer_policy_filter::{BuiltInCondition, StorageFilter, StorageFilterCondition};
-use foyer_policy_piece::keeper::Piece;
+use foyer_policy_piece::keeper::{Piece, PieceRef};
 use std::alloc::{Allocator, Global};
 
 type Key = u64;
@@ -256,12 +256,13 @@ where
         self.env.set_io(io);
     }
 
-    fn piece(&self, key: u64, text: &str) -> Result<Piece<Key, String<A>, NoProperties, A>>
+    fn piece(&self, key: u64, text: &str) -> Result<PieceRef<Key, String<A>, NoProperties, A>>
         ensures memory { IfErr result (λ e. e ≡ Memory) }
-        ensures ok { IfOk result (λ piece. (piece.key ≡ key) × (piece.hash ≡ key) × (string_bytes piece.value ≡ text.now)) }
+        ensures ok { IfOk result (λ piece. (piece.piece.key ≡ key) × (piece.piece.hash ≡ key) × (string_bytes piece.piece.value ≡ text.now)) }
     {
         let value = String::from_str(self.alloc.clone()?, text)?;
-        Piece::new(self.alloc.clone()?, key, value, key, NoProperties)
+        let piece = Piece::new(self.alloc.clone()?, key, value, key, NoProperties)?;
+        Ok(PieceRef::from(piece))
     }
 
     /// Queues a text under a key.

@@ -5,10 +5,10 @@
 #![tactic(auto)]
 
 pub mod answer;
-mod command;
+pub mod command;
 pub mod directory;
 pub mod engine;
-mod lines;
+pub mod lines;
 pub mod monitored;
 pub mod options;
 pub mod serve;

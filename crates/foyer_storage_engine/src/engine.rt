@@ -1,7 +1,11 @@
 //! The calls of an engine, made by any thread with a session of its own.
-ghost use Rattle.std.specs.Prelude.{◌≡◌, ◌<◌, IfErr, IfOk, IsOk, true, false, vec_len};
+ghost use Rattle.std.specs.Prelude.{◌≡◌, ◌+◌, ◌<◌, IfErr, IfOk, IsOk, OnOk, OnErr, None, true, false, vec_len};
 ghost use Rattle.foyer_format_layout.specs.Page.{page_up};
-ghost use Rattle.foyer_io_disk.specs.Disk.{IsRead};
+ghost use Rattle.foyer_io_disk.specs.Disk.{IsRead, IsTorn};
+ghost use Rattle.foyer_core_model.specs.Numbers.{page};
+ghost use Rattle.foyer_core_run.specs.Reclaims.{IsCleaned};
+ghost use Rattle.foyer_storage_engine.specs.Kept.{reference_of};
+ghost use Rattle.foyer_storage_engine.specs.Keeping.{IsAnsweredUnlessFull, IsKeptWhereQueued};
 ghost use Rattle.foyer_device_page.specs.declared.error.Error.{Error as error};
 ghost use Rattle.foyer_core_shared.specs.Briefs.{reply_brief};
 ghost use Rattle.foyer_core_shared.specs.declared.brief.StepBrief.TheVariants as asked;
@@ -9,25 +13,35 @@ ghost use Rattle.foyer_core_shared.specs.Replies.{is_delete_reply, is_end_reply,
 ghost use Rattle.foyer_storage_engine.specs.Answering.{IsAnsweredAs, IsLoaded, asked_as, deleted_as, enqueued_as, IsLoadOf, IsTicketOf, error_of};
 ghost use Rattle.foyer_storage_engine.specs.Answering.{is_draw_error, is_load_error, is_question_error};
 
-use crate::bell::Bell;
+mod ends;
+pub mod signals;
+pub mod waits;
+
+use self::signals::Signals;
+use crate::enqueue::enqueue;
 use crate::load::{Load, Populated};
+use foyer_block_index::manager::BlockId;
 use foyer_block_manager::block::eviction::EvictionPicker;
 use foyer_block_recover::gate::{Gate, Point};
 use foyer_core_run::disk::do_read;
+use foyer_core_run::reclaims::clean_block;
 use foyer_core_shared::notes::Noting;
 use foyer_core_shared::session::Session;
 use foyer_core_shared::shared::Shared;
 use foyer_core_steps::apply::no_io;
 use foyer_core_steps::reply::Reply;
+use foyer_core_steps::settings::Settings;
 use foyer_core_steps::step::{Step, Ticket};
 use foyer_core_tally::book::Kinds;
 use foyer_device_page::error::{Error, ErrorKind, Result};
 use foyer_format_record::serde::{Code, Properties};
 use foyer_io_disk::disk::Disk;
 use foyer_policy_filter::StorageFilterCondition;
-use foyer_policy_piece::keeper::Piece;
+use foyer_policy_keeper::keeper::Keeper;
+use foyer_policy_keeper::keeper::shard::Shard;
+use foyer_policy_piece::keeper::{Piece, PieceRef};
 use std::alloc::Allocator;
-use std::sync::{Mutex, Wait};
+use std::sync::{Arc, Mutex, Wait};
 
 /// What became of a piece that was handed in.
 #[derive(Clone, Copy, Debug, PartialEq, Eq)]
@@ -64,6 +78,15 @@ impl<D: Disk + Drop, A: Allocator + Clone> Reader<D, A> {
     {
         let alloc = self.alloc.clone()?;
         Ok(do_read(alloc, &mut self.disk, ticket, &mut self.spare)?)
+    }
+
+    // Cleans a block: its first page becomes zeros.
+    fn clean(&mut self, block: BlockId) -> Result<()>
+        ensures cleaned { D.is_known self.old.disk → OnOk result (IsCleaned (D.byte_at self.old.disk) block (D.byte_at self.new.disk)) }
+        ensures torn { D.is_known self.old.disk → OnErr result (IsTorn (D.byte_at self.old.disk) block 0 page (D.byte_at self.new.disk)) }
+        ensures known { D.is_known self.old.disk → D.is_known self.new.disk }
+    {
+        clean_block(&mut self.disk, block)
     }
 }
 
@@ -160,8 +183,8 @@ fn ticket_of<K: Drop, V: Drop, P: Drop, A: Allocator>(
     }
 }
 
-/// An engine that threads share by reference: a core behind one lock, a disk that all loads read from behind another, a bell
-/// that is rung where a step may let a worker go on, and a gate that each read passes before it.
+/// An engine that threads share by reference: a core behind one lock, a disk that all loads read from behind another, bells
+/// that are rung where a step may let another thread go on, and a gate that each access passes before it.
 #[derive(Drop)]
 pub struct BlockEngine<L, K, V, P, A, E, C, D, G, N>
 where
@@ -178,8 +201,10 @@ where
 {
     shared: Shared<L, K, V, P, A, E, C, N>,
     reader: Mutex<Reader<D, A>>,
-    bell: Bell,
+    signals: Arc<Signals<A>, A>,
+    settings: Settings,
     gate: G,
+    alloc: A,
 }
 
 impl<L, K, V, P, A, E, C, D, G, N> BlockEngine<L, K, V, P, A, E, C, D, G, N>
@@ -195,45 +220,139 @@ where
     G: Gate,
     N: Noting,
 {
-    /// An engine over this core, whose loads read from this disk.
+    /// An engine over this core, which was opened with these settings. Its loads read from this disk.
     pub fn new(
         alloc: A,
         shared: Shared<L, K, V, P, A, E, C, N>,
+        settings: Settings,
         disk: D,
         gate: G,
     ) -> Result<BlockEngine<L, K, V, P, A, E, C, D, G, N>>
-        ensures { IfErr result (λ e. e ≡ error.Memory) }
+        ensures settings { IfOk result (λ engine. engine.settings ≡ settings) }
+        ensures refused { IfErr result (λ e. e ≡ error.Memory) }
     {
         let reader = Reader {
             disk,
             spare: Vec::new(alloc.clone()?),
-            alloc,
+            alloc: alloc.clone()?,
         };
+        let signals = Arc::new(alloc.clone()?, Signals::new(alloc.clone()?))?;
         Ok(BlockEngine {
             shared,
             reader: Mutex::new(reader),
-            bell: Bell::new(),
+            signals,
+            settings,
             gate,
+            alloc,
         })
     }
 
-    /// Queues a piece; `size` is its estimated size in bytes. `Closed`, `Memory` and `SequenceEnd` leave the engine as it was.
+    /// The settings that its core was opened with.
+    pub fn settings(&self) -> &Settings
+        ensures { result.now ≡ self.now.settings }
+    {
+        &self.settings
+    }
+
+    /// The core behind its lock.
+    pub fn shared(&self) -> &Shared<L, K, V, P, A, E, C, N>
+        ensures { result.now ≡ self.now.shared }
+    {
+        &self.shared
+    }
+
+    /// What its workers and its callers tell one another.
+    pub fn signals(&self) -> &Arc<Signals<A>, A>
+        ensures { result.now ≡ self.now.signals }
+    {
+        &self.signals
+    }
+
+    /// What threads pass before an access.
+    pub fn gate(&self) -> &G
+        ensures { result.now ≡ self.now.gate }
+    {
+        &self.gate
+    }
+
+    /// What its workers take their memory from.
+    pub fn allocator(&self) -> &A
+        ensures { result.now ≡ self.now.alloc }
+    {
+        &self.alloc
+    }
+
+    /// Queues a piece that a keeper has, or that none has; `size` is its estimated size in bytes. `Closed`, `Memory` and
+    /// `SequenceEnd` leave the engine as it was.
     pub fn enqueue(
         &self,
         rt: &impl Wait,
         session: &mut Session<L>,
-        piece: Piece<K, V, P, A>,
+        piece: PieceRef<K, V, P, A>,
         size: usize,
     ) -> Result<Enqueued>
         requires { 0 < session.old.shares.parts }
-        ensures answer { IsAnsweredAs N.keeps enqueued_as session.old session.new (asked.Enqueue piece.hash size) result }
+        ensures answer { IsAnsweredAs N.keeps enqueued_as session.old session.new (asked.Enqueue piece.piece.hash size) result }
         ensures refused { IfErr result (λ e. is_draw_error e ≡ true) }
         ensures parts { session.new.shares.parts ≡ session.old.shares.parts }
     {
         let step = Step::Enqueue { piece, size };
         let reply = self.shared.step(rt, session, no_io(), step);
-        self.bell.ring(rt);
+        self.signals.queued.ring(rt);
         enqueued_of(reply)
+    }
+
+    // Queues a piece, and puts it into a keeper's shard where it is queued, under the shard's next number. A piece that isn't queued
+    // replaces nothing.
+    fn enqueue_into(
+        &self,
+        rt: &impl Wait,
+        session: &mut Session<L>,
+        shard: &mut Shard<K, V, P, A>,
+        piece: &Piece<K, V, P, A>,
+        size: usize,
+    ) -> Result<Enqueued>
+    where
+        K: Eq,
+        requires { 0 < session.old.shares.parts }
+        ensures answer { IsAnsweredUnlessFull N.keeps session.old session.new (asked.Enqueue piece.now.hash size) result }
+        ensures kept { IsKeptWhereQueued K.eq shard.old.map shard.new.map (reference_of piece.now (shard.old.last + 1)) result }
+        ensures refused { IfErr result (λ e. is_draw_error e ≡ true) }
+        ensures parts { session.new.shares.parts ≡ session.old.shares.parts }
+    {
+        let reply = enqueue(
+            shard,
+            &mut self.shared.locked().lock(rt),
+            session,
+            no_io(),
+            piece,
+            size,
+        )?;
+        enqueued_of(reply)
+    }
+
+    /// Queues a piece, and keeps it in this keeper where it is queued; `size` is its estimated size in bytes. The keeper's shard
+    /// is locked from before the core's step until after it: no look-up and no release comes between. `Closed`, `Memory` and
+    /// `SequenceEnd` leave the engine as it was, and a piece that isn't queued replaces none in the keeper.
+    pub fn enqueue_kept(
+        &self,
+        rt: &impl Wait,
+        session: &mut Session<L>,
+        keeper: &Keeper<K, V, P, A>,
+        piece: &Piece<K, V, P, A>,
+        size: usize,
+    ) -> Result<Enqueued>
+    where
+        K: Eq,
+        requires { 0 < session.old.shares.parts }
+        ensures answer { IsAnsweredUnlessFull N.keeps session.old session.new (asked.Enqueue piece.now.hash size) result }
+        ensures refused { IfErr result (λ e. is_draw_error e ≡ true) }
+        ensures parts { session.new.shares.parts ≡ session.old.shares.parts }
+    {
+        let shard = keeper.shard(piece.hash());
+        let answer = self.enqueue_into(rt, session, &mut shard.lock(rt), piece, size);
+        self.signals.queued.ring(rt);
+        answer
     }
 
     /// Accepts a delete of a hash: it is a miss from then on, until a piece of it is queued and written again. `Closed`,
@@ -246,7 +365,7 @@ where
     {
         let step = Step::Delete { hash };
         let reply = self.shared.step(rt, session, no_io(), step);
-        self.bell.ring(rt);
+        self.signals.queued.ring(rt);
         deleted_of(reply)
     }
 

@@ -3,8 +3,8 @@ ghost use Rattle.std.specs.Prelude.{◌≡◌, ◌≤◌, [], ◌∷◌, if◌th
 ghost use Rattle.std.specs.Option.{option_copied};
 ghost use Rattle.foyer_policy_keeper.specs.PieceMap.{piece_of, without, Enters, HasPlace};
 
-use super::PieceRef;
 use foyer_device_page::error::{Error, Result};
+use foyer_policy_piece::keeper::PieceRef;
 use std::alloc::Allocator;
 use std::marker::Model;
 

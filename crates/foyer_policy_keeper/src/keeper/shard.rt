@@ -5,10 +5,9 @@ ghost use Rattle.std.specs.Map.{lookup};
 ghost use Rattle.std.specs.Option.{option_copied, option_map};
 ghost use Rattle.foyer_policy_keeper.specs.PieceMap.{piece_at, without_number, ChangesAt, HoldsSame, HasPlaceIn, HasRoomFor, IsOf};
 
-use super::PieceRef;
 use super::bucket::Bucket;
 use foyer_device_page::error::{Error, Result};
-use foyer_policy_piece::keeper::Piece;
+use foyer_policy_piece::keeper::{Piece, PieceRef};
 use std::alloc::Allocator;
 use std::collections::HashMap;
 use std::hash::{BuildHasherDefault, FoldHasher};
@@ -32,7 +31,7 @@ pub struct Reserved<K, V, P, A: Allocator> {
 }
 
 impl<K, V, P, A: Allocator> Model for Reserved<K, V, P, A> {
-    ghost use Rattle.foyer_policy_keeper.specs.Referred.{Referred};
+    ghost use Rattle.foyer_policy_piece.specs.Referred.{Referred};
 
     ghost Value = { Referred K V P };
 
@@ -131,14 +130,8 @@ impl<K: Eq + Drop, V: Drop, P: Drop, A: Allocator + Clone> Shard<K, V, P, A> {
             return Err(Error::SequenceEnd);
         }
         let number = self.last + 1;
-        let given = PieceRef {
-            piece: piece.clone()?,
-            number,
-        };
-        let kept = PieceRef {
-            piece: piece.clone()?,
-            number,
-        };
+        let given = PieceRef::numbered(piece.clone()?, number);
+        let kept = PieceRef::numbered(piece.clone()?, number);
         let alloc = self.alloc.clone()?;
         make_room(&mut self.buckets, piece.hash(), piece.key())?;
         self.last = number;
@@ -186,7 +179,7 @@ impl<K: Eq + Drop, V: Drop, P: Drop, A: Allocator + Clone> Shard<K, V, P, A> {
         ensures refused { IsOkUnless result Error.Memory }
     {
         match self.find(hash, key) {
-            Some(held) => Ok(Some(held.piece.clone()?)),
+            Some(held) => Ok(Some((**held).clone()?)),
             None => Ok(None),
         }
     }
@@ -206,7 +199,7 @@ impl<K: Eq + Drop, V: Drop, P: Drop, A: Allocator + Clone> Shard<K, V, P, A> {
         ensures last { self.new.last ≡ self.old.last }
     {
         let is_it = match self.find(piece.hash(), piece.key()) {
-            Some(held) => held.number == piece.number,
+            Some(held) => held.number() == piece.number(),
             None => false,
         };
         if is_it {

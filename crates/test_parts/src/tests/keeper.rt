@@ -1,7 +1,7 @@
 //! A keeper of bytes, driven by a text of words. A digit names a hash, a key, a value or a reference.
 use foyer_device_page::error::{Error, Result};
-use foyer_policy_keeper::keeper::{Keeper, PieceRef};
-use foyer_policy_piece::keeper::Piece;
+use foyer_policy_keeper::keeper::Keeper;
+use foyer_policy_piece::keeper::{Piece, PieceRef};
 use std::alloc::{Allocator, Global};
 use std::sync::Wait;
 

@@ -8,7 +8,7 @@ use foyer_core_steps::reply::{Reply, Write, WriteBytes};
 use foyer_core_steps::state::Core;
 use foyer_device_page::error::{ErrorKind, Result};
 use foyer_format_record::serde::{Age, Properties};
-use foyer_policy_piece::keeper::Piece;
+use foyer_policy_piece::keeper::{Piece, PieceRef};
 use foyer_testing::said::Said;
 use std::alloc::{AllocError, Allocator, Global};
 use std::fmt::Write as _;
@@ -31,7 +31,7 @@ pub type TestReply<A> = Reply<u64, Value<A>, TestAge, A>;
 
 pub type TestCore<A> = Core<u64, Value<A>, TestAge, A>;
 
-type TestPiece<A> = Piece<u64, Value<A>, TestAge, A>;
+type TestPiece<A> = PieceRef<u64, Value<A>, TestAge, A>;
 
 // A piece of a key, which is its hash.
 pub fn piece_of<A: Allocator + Clone>(
@@ -41,7 +41,8 @@ pub fn piece_of<A: Allocator + Clone>(
     is_young: bool,
 ) -> Result<TestPiece<A>> {
     let value = String::from_str(heap.clone()?, text)?;
-    Ok(Piece::new(heap.clone()?, key, value, key, TestAge(is_young))?)
+    let piece = Piece::new(heap.clone()?, key, value, key, TestAge(is_young))?;
+    Ok(PieceRef::from(piece))
 }
 
 // The text of a key: its number and a filling up to the length, or in a short one a letter over and over.

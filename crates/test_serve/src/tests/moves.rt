@@ -9,7 +9,7 @@ use foyer_core_steps::state::Core;
 use foyer_device_page::error::{Error, ErrorKind, Result};
 use foyer_format_record::serde::NoProperties;
 use foyer_io_disk::disk::Disk;
-use foyer_policy_piece::keeper::Piece;
+use foyer_policy_piece::keeper::{Piece, PieceRef};
 use foyer_serve::answer::name_of;
 use foyer_testing::refusing::Refusing;
 use foyer_testing::said::Said;
@@ -75,6 +75,7 @@ fn push_line<A: Allocator + Clone>(
     }
     let value = String::from_str(heap.clone()?, text)?;
     let piece = Piece::new(heap.clone()?, key, value, key, NoProperties)?;
+    let piece = PieceRef::from(piece);
     moves.push(Move::Enqueue { piece, size: 1 })?;
     Ok(())
 }

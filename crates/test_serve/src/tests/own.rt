@@ -24,7 +24,7 @@ use foyer_io_disk::memory::MemoryDisk;
 use foyer_policy_filter::{
     BuiltInCondition, StorageFilter, StorageFilterCondition, StorageFilterResult,
 };
-use foyer_policy_piece::keeper::Piece;
+use foyer_policy_piece::keeper::{Piece, PieceRef};
 use foyer_serve::engine::Engine;
 use foyer_testing::said::Said;
 use std::alloc::Global;
@@ -160,6 +160,7 @@ fn opened(alloc: Global, over: Over) -> Result<Driven> {
 impl Driven {
     fn enqueue(&mut self, alloc: Global, key: u64) -> Result<()> {
         let piece = Piece::new(alloc, key, String::from_str(alloc, "a")?, key, NoProperties)?;
+        let piece = PieceRef::from(piece);
         let _ = step(
             &mut self.core,
             &mut self.env,

@@ -13,7 +13,7 @@ use foyer_core_steps::step::Step;
 use foyer_device_page::error::Result;
 use foyer_format_record::serde::NoProperties;
 use foyer_io_disk::memory::MemoryDisk;
-use foyer_policy_piece::keeper::Piece;
+use foyer_policy_piece::keeper::{Piece, PieceRef};
 use foyer_testing::said::Said;
 use std::alloc::Global;
 use std::test::Fail;
@@ -39,6 +39,7 @@ impl Driven {
     fn say_queued(&mut self, alloc: Global, said: &mut Said, key: u64, text: &str) -> Result<()> {
         let value = String::from_str(alloc, text)?;
         let piece = Piece::new(alloc, key, value, key, NoProperties)?;
+        let piece = PieceRef::from(piece);
         match step(
             &mut self.core,
             &mut self.env,

@@ -3,20 +3,20 @@ ghost use Rattle.std.specs.Prelude.{◌≡◌, ◌<◌, ◌^◌, IfOk};
 ghost use Rattle.foyer_core_tally.specs.Ledgers.{AreOf};
 
 use foyer_block_manager::block::eviction::BuiltInPicker;
-use foyer_core_shared::locked::Locked;
-use foyer_core_shared::notes::Noting;
-use foyer_core_shared::session::Session;
-use foyer_core_shared::shared::Shared;
-use foyer_core_steps::apply::{Env, no_io};
-use foyer_core_steps::open::RecoverMode;
-use foyer_core_steps::settings::Settings;
-use foyer_core_steps::step::Step;
 use foyer_core_tally::book::{Blanks, Kinds};
 use foyer_device_page::error::{Error, Result};
 use foyer_format_record::serde::{Age, Properties};
 use foyer_io_disk::memory::MemoryDisk;
 use foyer_policy_filter::BuiltInCondition;
-use foyer_policy_piece::keeper::Piece;
+use foyer_policy_piece::keeper::{Piece, PieceRef};
+use foyer_storage_engine::core_shared::locked::Locked;
+use foyer_storage_engine::core_shared::notes::Noting;
+use foyer_storage_engine::core_shared::session::Session;
+use foyer_storage_engine::core_shared::shared::Shared;
+use foyer_storage_engine::core_steps::apply::{Env, no_io};
+use foyer_storage_engine::core_steps::open::RecoverMode;
+use foyer_storage_engine::core_steps::settings::Settings;
+use foyer_storage_engine::core_steps::step::Step;
 use std::alloc::{Allocator, Global};
 use std::sync::Wait;
 
@@ -66,11 +66,11 @@ fn step_of<A: Allocator + Clone>(alloc: &A, word: u8, digit: u8) -> Result<Given
     let hash = u64::from(digit.saturating_sub(b'0'));
     match word {
         b'e' => Ok(Step::Enqueue {
-            piece: Piece::new(alloc.clone()?, hash, hash, hash, Plain)?,
+            piece: PieceRef::from(Piece::new(alloc.clone()?, hash, hash, hash, Plain)?),
             size: 16,
         }),
         b'b' => Ok(Step::Enqueue {
-            piece: Piece::new(alloc.clone()?, hash, hash, hash, Plain)?,
+            piece: PieceRef::from(Piece::new(alloc.clone()?, hash, hash, hash, Plain)?),
             size: 1 << 25,
         }),
         b'd' => Ok(Step::Delete { hash }),

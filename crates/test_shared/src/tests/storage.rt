@@ -4,23 +4,23 @@ ghost use Rattle.foyer_core_tally.specs.Ledgers.{AreOf};
 
 use foyer_block_manager::block::eviction::BuiltInPicker;
 use foyer_block_recover::gate::Gate;
-use foyer_core_run::accesses::{step, write_block};
-use foyer_core_shared::locked::Locked;
-use foyer_core_shared::notes::NoNotes;
-use foyer_core_shared::session::Session;
-use foyer_core_shared::shared::Shared;
-use foyer_core_steps::apply::Env;
-use foyer_core_steps::open::RecoverMode;
-use foyer_core_steps::reply::Reply;
-use foyer_core_steps::settings::Settings;
-use foyer_core_steps::state::Core;
-use foyer_core_steps::step::Step;
 use foyer_core_tally::book::{Blanks, Kinds};
 use foyer_device_page::error::{Error, Result};
 use foyer_format_record::serde::{Age, Properties};
 use foyer_io_disk::memory::MemoryDisk;
 use foyer_policy_filter::BuiltInCondition;
-use foyer_policy_piece::keeper::Piece;
+use foyer_policy_piece::keeper::{Piece, PieceRef};
+use foyer_storage_engine::core_run::accesses::{step, write_block};
+use foyer_storage_engine::core_shared::locked::Locked;
+use foyer_storage_engine::core_shared::notes::NoNotes;
+use foyer_storage_engine::core_shared::session::Session;
+use foyer_storage_engine::core_shared::shared::Shared;
+use foyer_storage_engine::core_steps::apply::Env;
+use foyer_storage_engine::core_steps::open::RecoverMode;
+use foyer_storage_engine::core_steps::reply::Reply;
+use foyer_storage_engine::core_steps::settings::Settings;
+use foyer_storage_engine::core_steps::state::Core;
+use foyer_storage_engine::core_steps::step::Step;
 use foyer_storage_engine::engine::BlockEngine;
 use std::alloc::Global;
 
@@ -58,8 +58,9 @@ type Numbers<L, G> = BlockEngine<
 
 type Inside<L> = Locked<L, u64, u64, Plain, Global, BuiltInPicker, BuiltInCondition, NoNotes>;
 
-fn piece_of(alloc: Global, hash: u64, value: u64) -> Result<Piece<u64, u64, Plain, Global>> {
-    Piece::new(alloc, hash, value, hash, Plain)
+fn piece_of(alloc: Global, hash: u64, value: u64) -> Result<PieceRef<u64, u64, Plain, Global>> {
+    let piece = Piece::new(alloc, hash, value, hash, Plain)?;
+    Ok(PieceRef::from(piece))
 }
 
 // A disk of two blocks, in which the record stands.
@@ -110,6 +111,6 @@ fn opened<L: Kinds, G: Gate>(
         blanks,
     );
     let (locked, session) = made?;
-    let engine = BlockEngine::new(alloc, Shared::new(locked), disk, gate)?;
+    let engine = BlockEngine::new(alloc, Shared::new(locked), settings, disk, gate)?;
     Ok((engine, session))
 }

@@ -1,7 +1,8 @@
 //! The README's first example, word for word, and what it gives.
 use foyer_storage::error::Result;
 use foyer_storage::{
-    Core, EntrySerializer, Env, MemoryDisk, NoProperties, Piece, RecoverMode, Reply, Settings, Step,
+    Core, EntrySerializer, Env, MemoryDisk, NoProperties, Piece, PieceRef, RecoverMode, Reply,
+    Settings, Step,
 };
 use std::alloc::Global;
 use std::test::Fail;
@@ -16,6 +17,7 @@ fn first_sequence(alloc: Global) -> Result<Option<u64>> {
     let value = String::from_str(alloc, "a")?;
     let piece = Piece::new(alloc, 1u64, value, 1, NoProperties)?;
     let size = EntrySerializer::estimated_size::<Global, u64, String>(piece.key(), piece.value());
+    let piece = PieceRef::from(piece);
     match core.apply(&mut env, Step::Enqueue { piece, size }) {
         Reply::Queued(sequence) => Ok(Some(sequence)),
         _ => Ok(None),

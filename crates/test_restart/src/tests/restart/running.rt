@@ -13,7 +13,7 @@ use foyer_core_steps::step::Step;
 use foyer_device_page::error::Result;
 use foyer_format_record::serde::{Age, Properties};
 use foyer_io_disk::memory::MemoryDisk;
-use foyer_policy_piece::keeper::Piece;
+use foyer_policy_piece::keeper::{Piece, PieceRef};
 use std::alloc::{AllocError, Global};
 use std::fmt::Write as _;
 
@@ -121,10 +121,11 @@ pub(crate) fn apply(run: &mut Running, step: TextStep) -> TextReply {
 }
 
 /// The piece of the n-th put.
-pub(crate) fn piece_of(alloc: Global, put: u64) -> Result<Piece<u64, String, Plain, Global>> {
+pub(crate) fn piece_of(alloc: Global, put: u64) -> Result<PieceRef<u64, String, Plain, Global>> {
     let key = key_of(put);
     let text = text_of(alloc, put)?;
-    Ok(Piece::new(alloc, key, text, key, Plain)?)
+    let piece = Piece::new(alloc, key, text, key, Plain)?;
+    Ok(PieceRef::from(piece))
 }
 
 /// Puts the next number's text. Whether it was queued under that number.

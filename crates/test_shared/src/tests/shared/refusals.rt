@@ -3,12 +3,12 @@ ghost use Rattle.std.specs.Prelude.{◌≡◌, ◌^◌};
 ghost use Rattle.foyer_core_tally.specs.Ledgers.{AreOf};
 
 use super::{opened, step_of};
-use foyer_core_shared::notes::KeepsNotes;
-use foyer_core_shared::shared::Shared;
-use foyer_core_steps::apply::no_io;
-use foyer_core_steps::reply::Reply;
 use foyer_core_tally::book::{Blanks, Kinds};
 use foyer_device_page::error::{Error, ErrorKind, Result};
+use foyer_storage_engine::core_shared::notes::KeepsNotes;
+use foyer_storage_engine::core_shared::shared::Shared;
+use foyer_storage_engine::core_steps::apply::no_io;
+use foyer_storage_engine::core_steps::reply::Reply;
 use foyer_testing::refusing::Refusing;
 use std::alloc::Global;
 use std::marker::Brand;

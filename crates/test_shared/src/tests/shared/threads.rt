@@ -3,11 +3,11 @@ ghost use Rattle.std.specs.Prelude.{◌≡◌, ◌-◌, ◌<◌, ◌^◌, IfOk};
 ghost use Rattle.foyer_core_tally.specs.Ledgers.{AreOf};
 
 use super::{Numbers, ask, opened, step_of};
-use foyer_core_shared::notes::KeepsNotes;
-use foyer_core_shared::session::Session;
-use foyer_core_shared::shared::Shared;
 use foyer_core_tally::book::{Blanks, Kinds};
 use foyer_device_page::error::{Error, Result};
+use foyer_storage_engine::core_shared::notes::KeepsNotes;
+use foyer_storage_engine::core_shared::session::Session;
+use foyer_storage_engine::core_shared::shared::Shared;
 use std::alloc::Global;
 use std::marker::Brand;
 use std::sync::Wait;

@@ -21,13 +21,13 @@ returns-in-Ok-true-clause-takes g c = λ age_of s sound st f stands indexed.
     let sequence = c.in-Some-CacheEntry.sequence in
     let rest = c.pop_front.new.self.items in
     let is : φ.queue ≡ CacheEntry p c.in-Some-CacheEntry.estimated_size sequence ∷ rest = c.in-Some-CacheEntry.ensures.items ∙ ap (λ x. x ∷ rest) c.in-Some-CacheEntry.field-0-is in
-    let fits : FitsBuffer φ.filled compression.None ((g.K.Code.is_encodable p.key ≡ true) × (g.V.Code.is_encodable p.value ≡ true)) (length (g.V.Code.encoding p.value) + length (g.K.Code.encoding p.key)) = search rules in
-    let pushed : c.put_piece.new.filled ≡ with_entry φ.filled p.hash sequence (record_bytes p.hash sequence (g.K.Code.encoding p.key) (g.V.Code.encoding p.value)) = search rules in
-    piece_kept m s sound st f φ stands c.args.index.now.slots indexed p c.in-Some-CacheEntry.estimated_size sequence (g.K.Code.is_encodable p.key) (g.V.Code.is_encodable p.value) rest is refl _ fits
+    let fits : FitsBuffer φ.filled compression.None ((g.K.Code.is_encodable p.piece.key ≡ true) × (g.V.Code.is_encodable p.piece.value ≡ true)) (length (g.V.Code.encoding p.piece.value) + length (g.K.Code.encoding p.piece.key)) = search rules in
+    let pushed : c.put_piece.new.filled ≡ with_entry φ.filled p.piece.hash sequence (record_bytes p.piece.hash sequence (g.K.Code.encoding p.piece.key) (g.V.Code.encoding p.piece.value)) = search rules in
+    piece_kept m s sound st f φ stands c.args.index.now.slots indexed p c.in-Some-CacheEntry.estimated_size sequence (g.K.Code.is_encodable p.piece.key) (g.V.Code.is_encodable p.piece.value) rest is refl _ fits
     ((λ i. record φ { queue = rest; filled = pushed i; sources = c.push_back_reserved.new.self.items; pieces = c.push_reserved.new.self.items })
-    ∙ ap (λ ps. record φ { queue = rest; filled = with_entry φ.filled p.hash sequence (record_bytes p.hash sequence (g.K.Code.encoding p.key) (g.V.Code.encoding p.value)); sources = c.push_back_reserved.new.self.items; pieces = ps })
+    ∙ ap (λ ps. record φ { queue = rest; filled = with_entry φ.filled p.piece.hash sequence (record_bytes p.piece.hash sequence (g.K.Code.encoding p.piece.key) (g.V.Code.encoding p.piece.value)); sources = c.push_back_reserved.new.self.items; pieces = ps })
     (c.push_reserved.ensures.items ∙ ap (λ ps. ps ++ p ∷ []) c.in-Ok-true.ensures.list)
-    ∙ ap (λ os. record φ { queue = rest; filled = with_entry φ.filled p.hash sequence (record_bytes p.hash sequence (g.K.Code.encoding p.key) (g.V.Code.encoding p.value)); sources = os; pieces = φ.pieces ++ p ∷ [] })
+    ∙ ap (λ os. record φ { queue = rest; filled = with_entry φ.filled p.piece.hash sequence (record_bytes p.piece.hash sequence (g.K.Code.encoding p.piece.key) (g.V.Code.encoding p.piece.value)); sources = os; pieces = φ.pieces ++ p ∷ [] })
     (c.push_back_reserved.ensures.items ∙ ap (λ os. os ++ None ∷ []) c.in-Ok-true.ensures.sources))
 
 pub returns-in-Ok-clause-takes : goal.returns-in-Ok-clause-takes
@@ -40,10 +40,10 @@ returns-in-Ok-clause-takes g c = λ age_of s sound st f stands indexed.
     let rest = c.pop_front.new.self.items in
     let is : φ.queue ≡ CacheEntry p c.in-Some-CacheEntry.estimated_size sequence ∷ rest = c.in-Some-CacheEntry.ensures.items ∙ ap (λ x. x ∷ rest) c.in-Some-CacheEntry.field-0-is in
     let kept : c.put_piece.new.filled ≡ φ.filled = search rules in
-    let lacks : FitsBuffer φ.filled compression.None ((g.K.Code.is_encodable p.key ≡ true) × (g.V.Code.is_encodable p.value ≡ true)) (length (g.V.Code.encoding p.value) + length (g.K.Code.encoding p.key)) → ⊥ =
+    let lacks : FitsBuffer φ.filled compression.None ((g.K.Code.is_encodable p.piece.key ≡ true) × (g.V.Code.is_encodable p.piece.value ≡ true)) (length (g.V.Code.encoding p.piece.value) + length (g.K.Code.encoding p.piece.key)) → ⊥ =
     (λ fits. let clash : c.in-Ok-false.field-0 ≡ true = c.in-Ok-false.ensures.fits.1 fits in let e : false ≡ true = sym c.in-Ok-false.field-0-test ∙ clash in cc) in
-    let hash : c.hash.result ≡ p.hash = c.hash.ensures in
-    piece_back m s sound st f φ stands slots indexed p c.in-Some-CacheEntry.estimated_size sequence (g.K.Code.is_encodable p.key) (g.V.Code.is_encodable p.value) rest is refl _
+    let hash : c.hash.result ≡ p.piece.hash = c.hash.ensures ∙ ap (λ r. r.hash) c.deref.ensures in
+    piece_back m s sound st f φ stands slots indexed p c.in-Some-CacheEntry.estimated_size sequence (g.K.Code.is_encodable p.piece.key) (g.V.Code.is_encodable p.piece.value) rest is refl _
     c.put_returned.new.marks.items c.put_returned.new.invalid.items c.put_returned.new.index.slots lacks
     (c.in-Ok.ensures.marks ∙ ap (λ h. map mark_of φ.marks ++ (h, sequence) ∷ []) hash)
     (c.in-Ok.ensures.invalid ∙ ap (λ h. map invalid_of φ.invalid ++ bytes_of (displaced (finite.get slots h) (Mark sequence))) hash)
@@ -58,7 +58,7 @@ returns-in-Err-clause-takes g c = λ age_of s sound st f stands indexed.
     let sequence = c.in-Some-CacheEntry.sequence in
     let rest = c.pop_front.new.self.items in
     let is : φ.queue ≡ CacheEntry p c.in-Some-CacheEntry.estimated_size sequence ∷ rest = c.in-Some-CacheEntry.ensures.items ∙ ap (λ x. x ∷ rest) c.in-Some-CacheEntry.field-0-is in
-    piece_takes m s sound st f φ stands c.args.index.now.slots indexed p c.in-Some-CacheEntry.estimated_size sequence (g.K.Code.is_encodable p.key) (g.V.Code.is_encodable p.value) rest is refl
+    piece_takes m s sound st f φ stands c.args.index.now.slots indexed p c.in-Some-CacheEntry.estimated_size sequence (g.K.Code.is_encodable p.piece.key) (g.V.Code.is_encodable p.piece.value) rest is refl
 
 pub returns-in-Ok-put_mark-clause-takes : goal.returns-in-Ok-put_mark-clause-takes
 returns-in-Ok-put_mark-clause-takes g c = λ age_of s sound st f stands indexed.

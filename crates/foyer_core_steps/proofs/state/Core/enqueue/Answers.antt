@@ -50,9 +50,9 @@ returns-then-self-clause-meets g c = λ m ages s sound it stands few.
 pub returns-then-is_young-clause-meets : goal.returns-then-is_young-clause-meets
 returns-then-is_young-clause-meets g c = λ m ages s sound it stands few.
     let old = c.args.self.now in
-    let same_age : m.age_of c.args.piece.properties ≡ g.P.Properties.age c.args.piece.properties = ap (λ f. f c.args.piece.properties) ages in
-    let issued : g.P.Properties.age c.properties.result.now ≡ g.P.Properties.age c.args.piece.properties = ap g.P.Properties.age c.properties.ensures in
-    let young : known_age (m.age_of c.args.piece.properties) ≡ Young = ap known_age (same_age ∙ sym issued ∙ c.if-is_young.ensures.0 refl) in
+    let same_age : m.age_of c.args.piece.piece.properties ≡ g.P.Properties.age c.args.piece.piece.properties = ap (λ f. f c.args.piece.piece.properties) ages in
+    let issued : g.P.Properties.age c.properties.result.now ≡ g.P.Properties.age c.args.piece.piece.properties = ap g.P.Properties.age c.properties.ensures ∙ ap (λ r. g.P.Properties.age r.properties) c.deref.ensures in
+    let young : known_age (m.age_of c.args.piece.piece.properties) ≡ Young = ap known_age (same_age ∙ sym issued ∙ c.if-is_young.ensures.0 refl) in
     record {
       after = it;
       it = model_reply.Ignored (content_of m c.args.piece);
@@ -64,10 +64,10 @@ returns-then-is_young-clause-meets g c = λ m ages s sound it stands few.
 pub returns-then-self-2-clause-meets : goal.returns-then-self-2-clause-meets
 returns-then-self-2-clause-meets g c = λ m ages s sound it stands few.
     let old = c.args.self.now in
-    let same_age : m.age_of c.args.piece.properties ≡ g.P.Properties.age c.args.piece.properties = ap (λ f. f c.args.piece.properties) ages in
-    let issued : g.P.Properties.age c.properties.result.now ≡ g.P.Properties.age c.args.piece.properties = ap g.P.Properties.age c.properties.ensures in
-    let not_young : known_age (m.age_of c.args.piece.properties) ≡ Young → ⊥ =
-    (λ young. let e : false ≡ true = c.if-is_young.ensures.1 (issued ∙ sym same_age ∙ known_young (m.age_of c.args.piece.properties) young) in cc) in
+    let same_age : m.age_of c.args.piece.piece.properties ≡ g.P.Properties.age c.args.piece.piece.properties = ap (λ f. f c.args.piece.piece.properties) ages in
+    let issued : g.P.Properties.age c.properties.result.now ≡ g.P.Properties.age c.args.piece.piece.properties = ap g.P.Properties.age c.properties.ensures ∙ ap (λ r. g.P.Properties.age r.properties) c.deref.ensures in
+    let not_young : known_age (m.age_of c.args.piece.piece.properties) ≡ Young → ⊥ =
+    (λ young. let e : false ≡ true = c.if-is_young.ensures.1 (issued ∙ sym same_age ∙ known_young (m.age_of c.args.piece.piece.properties) young) in cc) in
     let next : it.next ≡ old.next = stands.next in
     let full : last_number ≤ it.next = omega (arith, c.if-self-2.true) in
     refused m s sound (step.Enqueue c.args.piece c.args.size) old _ it kind.SequenceEnd model_reply.SequenceEnd refl (same old) stands
@@ -76,17 +76,17 @@ returns-then-self-2-clause-meets g c = λ m ages s sound it stands few.
 pub returns-in-Ok-clause-meets : goal.returns-in-Ok-clause-meets
 returns-in-Ok-clause-meets g c = λ m ages s sound it stands few.
     let old = c.args.self.now in
-    let same_age : m.age_of c.args.piece.properties ≡ g.P.Properties.age c.args.piece.properties = ap (λ f. f c.args.piece.properties) ages in
-    let issued : g.P.Properties.age c.properties.result.now ≡ g.P.Properties.age c.args.piece.properties = ap g.P.Properties.age c.properties.ensures in
-    let not_young : known_age (m.age_of c.args.piece.properties) ≡ Young → ⊥ =
-    (λ young. let e : false ≡ true = c.if-is_young.ensures.1 (issued ∙ sym same_age ∙ known_young (m.age_of c.args.piece.properties) young) in cc) in
+    let same_age : m.age_of c.args.piece.piece.properties ≡ g.P.Properties.age c.args.piece.piece.properties = ap (λ f. f c.args.piece.piece.properties) ages in
+    let issued : g.P.Properties.age c.properties.result.now ≡ g.P.Properties.age c.args.piece.piece.properties = ap g.P.Properties.age c.properties.ensures ∙ ap (λ r. g.P.Properties.age r.properties) c.deref.ensures in
+    let not_young : known_age (m.age_of c.args.piece.piece.properties) ≡ Young → ⊥ =
+    (λ young. let e : false ≡ true = c.if-is_young.ensures.1 (issued ∙ sym same_age ∙ known_young (m.age_of c.args.piece.piece.properties) young) in cc) in
     let full : old.settings.submit_queue_size_threshold < min old.queued last_number = omega (arith, c.if-min-self.true, c.min.ensures) in
     let next : it.next ≡ old.next = stands.next in
     let drawn : it.next < last_number = omega (arith, c.if-self-2.false) in
     record {
-      after = marked (machine m s sound) it c.args.piece.hash c.in-Ok.sequence;
+      after = marked (machine m s sound) it c.args.piece.piece.hash c.in-Ok.sequence;
       it = model_reply.Dropped (content_of m c.args.piece) c.in-Ok.sequence;
-      stands = subst (λ h. IsStateOf m s c.draw_mark.new.self (marked (machine m s sound) it h c.in-Ok.sequence)) c.hash.ensures (c.in-Ok.ensures.meets m s sound it stands);
+      stands = subst (λ h. IsStateOf m s c.draw_mark.new.self (marked (machine m s sound) it h c.in-Ok.sequence)) (c.hash.ensures ∙ ap (λ r. r.hash) c.deref-then-min-self.ensures) (c.in-Ok.ensures.meets m s sound it stands);
       reply = refl;
       turns = (tt, (refl, not_young, crowded m s sound old it stands full, (c.in-Ok.ensures.drawn.0 ∙ sym next, stands.closed ∙ c.if-self.false, drawn, refl)));
     }
@@ -94,10 +94,10 @@ returns-in-Ok-clause-meets g c = λ m ages s sound it stands few.
 pub returns-in-Err-clause-meets : goal.returns-in-Err-clause-meets
 returns-in-Err-clause-meets g c = λ m ages s sound it stands few.
     let old = c.args.self.now in
-    let same_age : m.age_of c.args.piece.properties ≡ g.P.Properties.age c.args.piece.properties = ap (λ f. f c.args.piece.properties) ages in
-    let issued : g.P.Properties.age c.properties.result.now ≡ g.P.Properties.age c.args.piece.properties = ap g.P.Properties.age c.properties.ensures in
-    let not_young : known_age (m.age_of c.args.piece.properties) ≡ Young → ⊥ =
-    (λ young. let e : false ≡ true = c.if-is_young.ensures.1 (issued ∙ sym same_age ∙ known_young (m.age_of c.args.piece.properties) young) in cc) in
+    let same_age : m.age_of c.args.piece.piece.properties ≡ g.P.Properties.age c.args.piece.piece.properties = ap (λ f. f c.args.piece.piece.properties) ages in
+    let issued : g.P.Properties.age c.properties.result.now ≡ g.P.Properties.age c.args.piece.piece.properties = ap g.P.Properties.age c.properties.ensures ∙ ap (λ r. g.P.Properties.age r.properties) c.deref.ensures in
+    let not_young : known_age (m.age_of c.args.piece.piece.properties) ≡ Young → ⊥ =
+    (λ young. let e : false ≡ true = c.if-is_young.ensures.1 (issued ∙ sym same_age ∙ known_young (m.age_of c.args.piece.piece.properties) young) in cc) in
     let full : old.settings.submit_queue_size_threshold < min old.queued last_number = omega (arith, c.if-min-self.true, c.min.ensures) in
     let next : it.next ≡ old.next = stands.next in
     let drawn : it.next < last_number = omega (arith, c.if-self-2.false) in
@@ -107,7 +107,7 @@ returns-in-Err-clause-meets g c = λ m ages s sound it stands few.
         tt,
         (
           model_reply.Dropped (content_of m c.args.piece) it.next,
-          marked (machine m s sound) it c.args.piece.hash it.next,
+          marked (machine m s sound) it c.args.piece.piece.hash it.next,
           (refl, not_young, crowded m s sound old it stands full, (refl, stands.closed ∙ c.if-self.false, drawn, refl)),
           tt,
         ),
@@ -117,16 +117,16 @@ returns-in-Err-clause-meets g c = λ m ages s sound it stands few.
 pub returns-then-is_err-clause-meets : goal.returns-then-is_err-clause-meets
 returns-then-is_err-clause-meets g c = λ m ages s sound it stands few.
     let old = c.args.self.now in
-    let same_age : m.age_of c.args.piece.properties ≡ g.P.Properties.age c.args.piece.properties = ap (λ f. f c.args.piece.properties) ages in
-    let issued : g.P.Properties.age c.properties.result.now ≡ g.P.Properties.age c.args.piece.properties = ap g.P.Properties.age c.properties.ensures in
-    let not_young : known_age (m.age_of c.args.piece.properties) ≡ Young → ⊥ =
-    (λ young. let e : false ≡ true = c.if-is_young.ensures.1 (issued ∙ sym same_age ∙ known_young (m.age_of c.args.piece.properties) young) in cc) in
+    let same_age : m.age_of c.args.piece.piece.properties ≡ g.P.Properties.age c.args.piece.piece.properties = ap (λ f. f c.args.piece.piece.properties) ages in
+    let issued : g.P.Properties.age c.properties.result.now ≡ g.P.Properties.age c.args.piece.piece.properties = ap g.P.Properties.age c.properties.ensures ∙ ap (λ r. g.P.Properties.age r.properties) c.deref.ensures in
+    let not_young : known_age (m.age_of c.args.piece.piece.properties) ≡ Young → ⊥ =
+    (λ young. let e : false ≡ true = c.if-is_young.ensures.1 (issued ∙ sym same_age ∙ known_young (m.age_of c.args.piece.piece.properties) young) in cc) in
     let less : min old.queued last_number ≤ old.settings.submit_queue_size_threshold = omega (arith, c.if-min-self.false, c.min.ensures) in
-    let taken : (known_age (m.age_of c.args.piece.properties) ≡ Young → ⊥) × (IsCrowded (machine m s sound) it → ⊥) = (not_young, has_room m s sound old it stands less) in
+    let taken : (known_age (m.age_of c.args.piece.piece.properties) ≡ Young → ⊥) × (IsCrowded (machine m s sound) it → ⊥) = (not_young, has_room m s sound old it stands less) in
     let next : it.next ≡ old.next = stands.next in
     let drawn : it.next < last_number = omega (arith, c.if-self-2.false) in
-    let f = c.args.piece.hash % s.flushers in
-    let x = Piece c.args.piece.hash it.next c.args.size (content_of m c.args.piece) in
+    let f = c.args.piece.piece.hash % s.flushers in
+    let x = Piece c.args.piece.piece.hash it.next c.args.size (content_of m c.args.piece) in
     refused m s sound (step.Enqueue c.args.piece c.args.size) old _ it kind.Memory model_reply.Memory refl
     (returns-then-is_err-clause-back g c).1 stands (
       is_early m s old it stands few,
@@ -145,22 +145,22 @@ pub returns-clause-meets : goal.returns-clause-meets
 returns-clause-meets g c = λ m ages s sound it stands few.
     let old = c.args.self.now in
     let found = c.index_mut.result.now in
-    let same_age : m.age_of c.args.piece.properties ≡ g.P.Properties.age c.args.piece.properties = ap (λ f. f c.args.piece.properties) ages in
-    let issued : g.P.Properties.age c.properties.result.now ≡ g.P.Properties.age c.args.piece.properties = ap g.P.Properties.age c.properties.ensures in
-    let not_young : known_age (m.age_of c.args.piece.properties) ≡ Young → ⊥ =
-    (λ young. let e : false ≡ true = c.if-is_young.ensures.1 (issued ∙ sym same_age ∙ known_young (m.age_of c.args.piece.properties) young) in cc) in
+    let same_age : m.age_of c.args.piece.piece.properties ≡ g.P.Properties.age c.args.piece.piece.properties = ap (λ f. f c.args.piece.piece.properties) ages in
+    let issued : g.P.Properties.age c.properties.result.now ≡ g.P.Properties.age c.args.piece.piece.properties = ap g.P.Properties.age c.properties.ensures ∙ ap (λ r. g.P.Properties.age r.properties) c.deref.ensures in
+    let not_young : known_age (m.age_of c.args.piece.piece.properties) ≡ Young → ⊥ =
+    (λ young. let e : false ≡ true = c.if-is_young.ensures.1 (issued ∙ sym same_age ∙ known_young (m.age_of c.args.piece.piece.properties) young) in cc) in
     let less : min old.queued last_number ≤ old.settings.submit_queue_size_threshold = omega (arith, c.if-min-self.false, c.min.ensures) in
-    let taken : (known_age (m.age_of c.args.piece.properties) ≡ Young → ⊥) × (IsCrowded (machine m s sound) it → ⊥) = (not_young, has_room m s sound old it stands less) in
+    let taken : (known_age (m.age_of c.args.piece.piece.properties) ≡ Young → ⊥) × (IsCrowded (machine m s sound) it → ⊥) = (not_young, has_room m s sound old it stands less) in
     let next : it.next ≡ old.next = stands.next in
     let drawn : it.next < last_number = omega (arith, c.if-self-2.false) in
     let count : length old.flushers.items ≡ s.flushers = flushers_count m s old.flushers.items it.flushers stands.flushers in
     let len : vec_len old.flushers ≡ length old.flushers.items = omega arith in
-    let at : c.flusher_of-flusher.result ≡ c.args.piece.hash % s.flushers =
-    c.flusher_of-flusher.ensures.number ∙ ap (λ h. h % vec_len old.flushers) c.hash-2.ensures ∙ ap (λ n. c.args.piece.hash % n) (len ∙ count) in
+    let at : c.flusher_of-flusher.result ≡ c.args.piece.piece.hash % s.flushers =
+    c.flusher_of-flusher.ensures.number ∙ ap (λ h. h % vec_len old.flushers) (c.hash-2.ensures ∙ ap (λ r. r.hash) c.deref-2.ensures) ∙ ap (λ n. c.args.piece.piece.hash % n) (len ∙ count) in
     let within : c.flusher_of-flusher.result < length old.flushers.items = omega (arith, c.flusher_of-flusher.ensures.within) in
-    let there : c.args.piece.hash % s.flushers < s.flushers = subst (λ k. k < s.flushers) at (subst (λ n. c.flusher_of-flusher.result < n) count within) in
-    let f = c.args.piece.hash % s.flushers in
-    let x = Piece c.args.piece.hash old.next c.args.size (content_of m c.args.piece) in
+    let there : c.args.piece.piece.hash % s.flushers < s.flushers = subst (λ k. k < s.flushers) at (subst (λ n. c.flusher_of-flusher.result < n) count within) in
+    let f = c.args.piece.piece.hash % s.flushers in
+    let x = Piece c.args.piece.piece.hash old.next c.args.size (content_of m c.args.piece) in
     let bound : old.queued ≤ old.next * 2 ^ 64 = stands.queued.bound in
     let more : c.saturating_add-self.result ≡ old.queued + (c.args.size + 0) = omega (arith, c.saturating_add-self.ensures, c.ranges.size.fits) in
     record {

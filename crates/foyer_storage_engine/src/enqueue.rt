@@ -3,7 +3,8 @@ ghost use Rattle.foyer_core_steps.specs.Refines.{Refines};
 ghost use Rattle.foyer_core_steps.specs.declared.reply.Reply.TheVariants as reply;
 ghost use Rattle.foyer_core_steps.specs.declared.step.Step.TheVariants as steps;
 ghost use Rattle.foyer_device_page.specs.declared.error.ErrorKind.TheVariants as kind;
-ghost use Rattle.foyer_storage_enqueue.specs.Kept.{IsPutWhereQueued};
+ghost use Rattle.foyer_storage_engine.specs.Kept.{IsPutWhereQueued, reference_of};
+ghost use Rattle.foyer_core_shared.specs.Replies.{may_reply};
 ghost use Rattle.foyer_policy_keeper.specs.PieceMap.{HasRoomFor, HoldsSame};
 ghost use Rattle.foyer_core_laws.specs.Content.{meaning};
 ghost use Rattle.foyer_core_shared.specs.Briefed.{IsNotedIn};
@@ -20,17 +21,9 @@ use foyer_device_page::error::{Error, ErrorKind, Result};
 use foyer_device_statistics::IoState;
 use foyer_format_record::serde::{Code, Properties};
 use foyer_policy_filter::StorageFilterCondition;
-use foyer_policy_keeper::keeper::PieceRef;
 use foyer_policy_keeper::keeper::shard::{Reserved, Shard};
 use foyer_policy_piece::keeper::Piece;
 use std::alloc::Allocator;
-
-/// What an enqueue answers, and the reference that releases the piece.
-#[derive(Drop)]
-pub struct Enqueued<K, V, P, A: Allocator> {
-    pub reply: Reply<K, V, P, A>,
-    pub reference: PieceRef<K, V, P, A>,
-}
 
 // Puts the piece where the reply says that it is queued.
 fn put_where_queued<K: Eq + Drop, V: Drop, P: Drop, A: Allocator + Clone>(
@@ -67,6 +60,7 @@ where
     ensures core { Refines (meaning K.encoding V.encoding K.is_encodable V.is_encodable K.is_decodable V.is_decodable P.age) step result locked.old.noted.core locked.new.noted.core
         ⊎ ((N.keeps ≡ true) × (result ≡ reply.Refused kind.Memory step) × (locked.new.noted.core ≡ locked.old.noted.core)) }
     ensures noted { IsNotedIn session.old session.new step result ⊎ ((N.keeps ≡ true) × (result ≡ reply.Refused kind.Memory step) × (session.new ≡ session.old)) }
+    ensures replied { (may_reply step result ≡ true) ⊎ ((N.keeps ≡ true) × (result ≡ reply.Refused kind.Memory step)) }
     ensures parts { session.new.shares.parts ≡ session.old.shares.parts }
 {
     match locked.step(session, io, step) {
@@ -75,17 +69,18 @@ where
     }
 }
 
-/// Queues a piece in the core, and puts it into the keeper's shard where it is queued, under the shard's next number. Room and
-/// number are made first: `Memory` and `SequenceEnd` leave the core, the session and what is kept as they were. The caller holds
-/// the shard's lock from before the core's until after it, so that no look-up and no release comes between.
+/// Queues a piece in the core, and puts it into the keeper's shard where it is queued, under the shard's next number; the step
+/// carries the reference of that number. Room and number are made first: `Memory` and `SequenceEnd` leave the core, the session
+/// and what is kept as they were. The caller holds the shard's lock from before the core's until after it, so that no look-up and
+/// no release comes between.
 pub fn enqueue<L, K, V, P, A, E, C, N>(
     shard: &mut Shard<K, V, P, A>,
     locked: &mut Locked<L, K, V, P, A, E, C, N>,
     session: &mut Session<L>,
     io: IoState,
-    piece: Piece<K, V, P, A>,
+    piece: &Piece<K, V, P, A>,
     size: usize,
-) -> Result<Enqueued<K, V, P, A>>
+) -> Result<Reply<K, V, P, A>>
 where
     L: Kinds,
     K: Code<A> + Eq + Drop,
@@ -96,18 +91,20 @@ where
     C: StorageFilterCondition,
     N: Noting,
     requires { 0 < session.old.shares.parts }
-    ensures kept { IfOk result (λ r. IsPutWhereQueued K.eq shard.old.map shard.new.map r.reference r.reply) }
-    ensures reference { IfOk result (λ r. r.reference ≡ record { piece = piece; number = shard.old.last + 1 }) }
-    ensures core { IfOk result (λ r. Refines (meaning K.encoding V.encoding K.is_encodable V.is_encodable K.is_decodable V.is_decodable P.age)
-        (steps.Enqueue piece size) r.reply locked.old.noted.core locked.new.noted.core
-        ⊎ ((N.keeps ≡ true) × (r.reply ≡ reply.Refused kind.Memory (steps.Enqueue piece size)) × (locked.new.noted.core ≡ locked.old.noted.core))) }
-    ensures noted { IfOk result (λ r. IsNotedIn session.old session.new (steps.Enqueue piece size) r.reply
-        ⊎ ((N.keeps ≡ true) × (r.reply ≡ reply.Refused kind.Memory (steps.Enqueue piece size)) × (session.new ≡ session.old))) }
+    ensures kept { IfOk result (IsPutWhereQueued K.eq shard.old.map shard.new.map (reference_of piece.now (shard.old.last + 1))) }
+    ensures core { IfOk result (λ answer. Refines (meaning K.encoding V.encoding K.is_encodable V.is_encodable K.is_decodable V.is_decodable P.age)
+        (steps.Enqueue (reference_of piece.now (shard.old.last + 1)) size) answer locked.old.noted.core locked.new.noted.core
+        ⊎ ((N.keeps ≡ true) × (answer ≡ reply.Refused kind.Memory (steps.Enqueue (reference_of piece.now (shard.old.last + 1)) size)) × (locked.new.noted.core ≡ locked.old.noted.core))) }
+    ensures noted { IfOk result (λ answer. IsNotedIn session.old session.new (steps.Enqueue (reference_of piece.now (shard.old.last + 1)) size) answer
+        ⊎ ((N.keeps ≡ true) × (answer ≡ reply.Refused kind.Memory (steps.Enqueue (reference_of piece.now (shard.old.last + 1)) size)) × (session.new ≡ session.old))) }
+    ensures replied { IfOk result (λ answer. (may_reply (steps.Enqueue (reference_of piece.now (shard.old.last + 1)) size) answer ≡ true)
+        ⊎ ((N.keeps ≡ true) × (answer ≡ reply.Refused kind.Memory (steps.Enqueue (reference_of piece.now (shard.old.last + 1)) size)))) }
+    ensures parts { session.new.shares.parts ≡ session.old.shares.parts }
     ensures err { OnErr result (HoldsSame K.eq shard.old.map shard.new.map × (locked.new.noted.core ≡ locked.old.noted.core) × (session.new ≡ session.old)) }
     ensures refused { IfErr result (λ e. (e ≡ Error.Memory) ⊎ (e ≡ Error.SequenceEnd)) }
 {
-    let (reference, reserved) = shard.reserve(&piece)?;
+    let (piece, reserved) = shard.reserve(piece)?;
     let reply = step(locked, session, io, Step::Enqueue { piece, size });
     put_where_queued(shard, reserved, &reply);
-    Ok(Enqueued { reply, reference })
+    Ok(reply)
 }

@@ -1,9 +1,14 @@
 -- What an enqueue makes of a keeper's shard.
-use Rattle.std.specs.Prelude.{Bool, Some}
+use Rattle.std.specs.Prelude.{ℕ, Bool, Some}
 use Rattle.foyer_core_steps.specs.declared.reply.Reply.{Reply}
 use Rattle.foyer_core_steps.specs.declared.reply.Reply.TheVariants as reply
 use Rattle.foyer_policy_keeper.specs.PieceMap.{PieceMap, ChangesAt, HoldsSame}
-use Rattle.foyer_policy_keeper.specs.Referred.{Referred}
+use Rattle.foyer_policy_piece.specs.Record.{Record}
+use Rattle.foyer_policy_piece.specs.Referred.{Referred}
+
+-- a piece under a number
+abbrev pub reference_of : {K V P : Type 0} → Record K V P → ℕ → Referred K V P
+reference_of piece number = record { piece = piece; number = number }
 
 -- The piece is put into the map under its number where it is queued, and else the map stays.
 abbrev pub IsPutWhereQueued : {K V P A : Type 0} → (K → K → Bool) → PieceMap K V P → PieceMap K V P → Referred K V P → Reply K V P A → Type 0

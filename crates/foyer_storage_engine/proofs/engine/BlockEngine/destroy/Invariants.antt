@@ -1,0 +1,5 @@
+use Rattle.std.specs.Prelude.{◌≡◌}
+use Rattle.foyer_storage_engine.proofs.engine.BlockEngine.destroy.Given as goal
+
+abbrev pub invariant-loop-block : goal.invariant-loop-block
+invariant-loop-block g l = l.session.shares.parts ≡ l.fn.session.shares.parts

@@ -1,0 +1,209 @@
+//! The calls of an engine that wait for its workers.
+ghost use Rattle.std.specs.Prelude.{◌≡◌, ◌<◌};
+
+use super::{BlockEngine, error_of};
+use foyer_block_index::manager::BlockId;
+use foyer_block_manager::block::eviction::EvictionPicker;
+use foyer_block_recover::gate::Gate;
+use foyer_core_shared::notes::Noting;
+use foyer_core_shared::session::Session;
+use foyer_core_steps::apply::no_io;
+use foyer_core_steps::reply::Reply;
+use foyer_core_steps::step::Step;
+use foyer_core_tally::book::Kinds;
+use foyer_device_page::error::{Error, ErrorKind, Result};
+use foyer_device_statistics::IoState;
+use foyer_format_record::serde::{Code, Properties};
+use foyer_io_disk::disk::Disk;
+use foyer_policy_filter::StorageFilterCondition;
+use std::alloc::Allocator;
+use std::sync::Wait;
+use std::thread;
+
+impl<L, K, V, P, A, E, C, D, G, N> BlockEngine<L, K, V, P, A, E, C, D, G, N>
+where
+    L: Kinds,
+    K: Code<A> + Drop,
+    V: Code<A> + Drop,
+    P: Properties + Drop,
+    A: Allocator + Clone,
+    E: EvictionPicker,
+    C: StorageFilterCondition,
+    D: Disk + Drop,
+    G: Gate,
+    N: Noting,
+{
+    /// One step, at which a filter that is asked is shown `io`, made again while memory is refused for it.
+    pub fn step_again(
+        &self,
+        rt: &impl Wait,
+        session: &mut Session<L>,
+        io: IoState,
+        step: Step<K, V, P, A>,
+    ) -> Reply<K, V, P, A>
+        requires { 0 < session.old.shares.parts }
+        ensures parts { session.new.shares.parts ≡ session.old.shares.parts }
+    {
+        let mut given = step;
+        for _ in rt.forever() {
+            match self.shared.step(rt, session, io, given) {
+                Reply::Refused(ErrorKind::Memory, back) => {
+                    given = back;
+                    thread::yield_now();
+                }
+                reply => return reply,
+            }
+        }
+        unreachable!()
+    }
+
+    // Queues a wait at each flusher. Where one is refused the wait is given up, and those that are queued stay.
+    fn queue_waits(&self, rt: &impl Wait, session: &mut Session<L>) -> Result<u64>
+        requires { 0 < session.old.shares.parts }
+        ensures parts { session.new.shares.parts ≡ session.old.shares.parts }
+    {
+        let id = self.signals.waits.begin(rt, self.settings.flushers)?;
+        for flusher in 0..self.settings.flushers {
+            let reply = self
+                .shared
+                .step(rt, session, no_io(), Step::Wait { flusher, id });
+            if let Reply::Refused(kind, _) = reply {
+                self.signals.waits.forget(rt, id);
+                self.signals.queued.ring(rt);
+                return Err(error_of(kind));
+            }
+        }
+        self.signals.queued.ring(rt);
+        Ok(id)
+    }
+
+    // Waits until no reclaim runs.
+    fn wait_for_reclaims(&self, rt: &impl Wait, session: &mut Session<L>) -> Result<()>
+        requires { 0 < session.old.shares.parts }
+        ensures parts { session.new.shares.parts ≡ session.old.shares.parts }
+    {
+        for _ in rt.forever() {
+            let seen = self.signals.done.count(rt);
+            match self.shared.step(rt, session, no_io(), Step::ReclaimIdle) {
+                Reply::Answer(false) => {
+                    if self.signals.done.wait_past(rt, seen) {
+                        return Ok(());
+                    }
+                }
+                Reply::Refused(kind, _) => return Err(error_of(kind)),
+                _ => return Ok(()),
+            }
+        }
+        unreachable!()
+    }
+
+    /// Waits until all that was queued before is written, and then until no reclaim runs. `Memory` where a step is refused it:
+    /// what the steps before it did stays.
+    pub fn wait(&self, rt: &impl Wait, session: &mut Session<L>) -> Result<()>
+        requires { 0 < session.old.shares.parts }
+        ensures parts { session.new.shares.parts ≡ session.old.shares.parts }
+    {
+        let id = self.queue_waits(rt, session)?;
+        self.signals.waits.wait_for(rt, id);
+        self.wait_for_reclaims(rt, session)
+    }
+
+    /// Takes no more enqueues, deletes and destroys, and waits as `wait` does.
+    pub fn close(&self, rt: &impl Wait, session: &mut Session<L>) -> Result<()>
+        requires { 0 < session.old.shares.parts }
+        ensures parts { session.new.shares.parts ≡ session.old.shares.parts }
+    {
+        if let Reply::Refused(kind, _) = self.shared.step(rt, session, no_io(), Step::Close) {
+            return Err(error_of(kind));
+        }
+        self.wait(rt, session)
+    }
+
+    // Begins a destroy, once none is under way.
+    fn begin_destroy(&self, rt: &impl Wait, session: &mut Session<L>) -> Result<()>
+        requires { 0 < session.old.shares.parts }
+        ensures parts { session.new.shares.parts ≡ session.old.shares.parts }
+    {
+        for _ in rt.forever() {
+            let seen = self.signals.done.count(rt);
+            match self.shared.step(rt, session, no_io(), Step::DestroyBegin) {
+                Reply::NotNow(_) => {
+                    if self.signals.done.wait_past(rt, seen) {
+                        return Err(Error::Closed);
+                    }
+                }
+                Reply::Refused(kind, _) => return Err(error_of(kind)),
+                _ => return Ok(()),
+            }
+        }
+        unreachable!()
+    }
+
+    // Waits as `wait` does, again while memory is refused.
+    fn wait_again(&self, rt: &impl Wait, session: &mut Session<L>) -> Result<()>
+        requires { 0 < session.old.shares.parts }
+        ensures parts { session.new.shares.parts ≡ session.old.shares.parts }
+    {
+        for _ in rt.forever() {
+            match self.wait(rt, session) {
+                Err(Error::Memory) => thread::yield_now(),
+                answer => return answer,
+            }
+        }
+        unreachable!()
+    }
+
+    // Clears the index, once nothing is under way.
+    fn clear(&self, rt: &impl Wait, session: &mut Session<L>) -> Result<()>
+        requires { 0 < session.old.shares.parts }
+        ensures parts { session.new.shares.parts ≡ session.old.shares.parts }
+    {
+        for _ in rt.forever() {
+            let seen = self.signals.done.count(rt);
+            match self.step_again(rt, session, no_io(), Step::DestroyClear) {
+                Reply::NotNow(_) => {
+                    if self.signals.done.wait_past(rt, seen) {
+                        return Err(Error::Closed);
+                    }
+                }
+                Reply::Refused(kind, _) => return Err(error_of(kind)),
+                _ => return Ok(()),
+            }
+        }
+        unreachable!()
+    }
+
+    // Cleans a block for a destroy: the outcome of all cleans, where this was the last.
+    fn clean(&self, rt: &impl Wait, session: &mut Session<L>, block: BlockId) -> Option<Result<()>>
+        requires { 0 < session.old.shares.parts }
+        ensures parts { session.new.shares.parts ≡ session.old.shares.parts }
+    {
+        let result = self.reader.lock(rt).clean(block);
+        match self.step_again(rt, session, no_io(), Step::DestroyCleaned { block, result }) {
+            Reply::Destroyed(None) => Some(Ok(())),
+            Reply::Destroyed(Some(kind)) => Some(Err(error_of(kind))),
+            Reply::Refused(kind, _) => Some(Err(error_of(kind))),
+            _ => None,
+        }
+    }
+
+    /// Destroys all entries: waits as `wait` does, clears the index, and cleans each block. Once it has begun it tries again
+    /// what is refused memory. `Io`, or another kind, is that of the first clean that failed: the others were done.
+    pub fn destroy(&self, rt: &impl Wait, session: &mut Session<L>) -> Result<()>
+        requires { 0 < session.old.shares.parts }
+        ensures parts { session.new.shares.parts ≡ session.old.shares.parts }
+    {
+        self.begin_destroy(rt, session)?;
+        self.wait_again(rt, session)?;
+        self.clear(rt, session)?;
+        let mut answer = Ok(());
+        for block in 0..self.settings.blocks {
+            if let Some(outcome) = self.clean(rt, session, block) {
+                answer = outcome;
+            }
+        }
+        self.signals.done.ring(rt);
+        self.signals.reclaims.ring(rt);
+        answer
+    }
+}

@@ -1,0 +1,36 @@
+//! What the workers of an engine and its callers tell one another.
+use super::waits::Waits;
+use crate::bell::Bell;
+use std::alloc::Allocator;
+use std::sync::Wait;
+
+/// The bells of an engine, and the waits of its callers. No call holds one of their locks while it takes another.
+#[derive(Drop)]
+pub struct Signals<A: Allocator> {
+    /// Rung where something may be queued at a flusher.
+    pub queued: Bell,
+    /// Rung where a reclaim may begin.
+    pub reclaims: Bell,
+    /// Rung where a batch, a reclaim or a destroy ended: a block may be clean, or nothing is under way.
+    pub done: Bell,
+    /// The waits that flushers have yet to answer.
+    pub waits: Waits<A>,
+}
+
+impl<A: Allocator> Signals<A> {
+    /// Bells that nobody rang, and no wait.
+    pub fn new(alloc: A) -> Signals<A> {
+        Signals {
+            queued: Bell::new(),
+            reclaims: Bell::new(),
+            done: Bell::new(),
+            waits: Waits::new(alloc),
+        }
+    }
+
+    /// Once no worker runs: who waits goes on, and who begins to wait doesn't.
+    pub fn close(&self, rt: &impl Wait) {
+        self.waits.close(rt);
+        self.done.close(rt);
+    }
+}

@@ -1,0 +1,126 @@
+//! Waits of callers, which workers answer.
+ghost use Rattle.std.specs.Prelude.{◌≡◌, ◌++◌, ◌∷◌, [], IfOk, IsOkUnless, OnErr};
+ghost use Rattle.foyer_device_page.specs.declared.error.Error.TheVariants.{Memory};
+
+use foyer_device_page::error::Result;
+use std::alloc::Allocator;
+use std::sync::{Condvar, Mutex, Wait};
+
+// A wait that flushers have yet to answer, and how many of them.
+#[derive(Clone, Copy, Debug, PartialEq, Eq)]
+struct OpenWait {
+    id: u64,
+    left: u32,
+}
+
+// What stands behind the lock: the waits that aren't answered, and whether none is answered any more.
+#[derive(Drop)]
+struct WaitTable<A: Allocator> {
+    next: u64,
+    waiting: Vec<OpenWait, A>,
+    is_closed: bool,
+}
+
+// Where a wait stands in a list.
+fn place_of(open: &[OpenWait], id: u64) -> Option<usize> {
+    open.iter().position(|wait| wait.id == id)
+}
+
+impl<A: Allocator> WaitTable<A> {
+    fn new(alloc: A) -> WaitTable<A> {
+        WaitTable {
+            next: 0,
+            waiting: Vec::new(alloc),
+            is_closed: false,
+        }
+    }
+
+    // A new wait, that so many flushers are to answer. Memory.
+    fn begin(&mut self, flushers: u32) -> Result<u64>
+        ensures refused { IsOkUnless result Memory }
+        ensures id { IfOk result (λ id. id ≡ self.old.next) }
+        ensures added { IfOk result (λ id. self.new.waiting.items ≡ self.old.waiting.items ++ record { id = id; left = flushers } ∷ []) }
+        ensures same { OnErr result ((self.new.waiting.items ≡ self.old.waiting.items) × (self.new.next ≡ self.old.next)) }
+    {
+        let id = self.next;
+        self.waiting.push(OpenWait { id, left: flushers })?;
+        self.next = id.wrapping_add(1);
+        Ok(id)
+    }
+
+    // One flusher answers a wait. A wait that isn't there, since its caller gave it up, is left alone.
+    fn answer(&mut self, id: u64) {
+        let Some(place) = place_of(&self.waiting, id) else {
+            return;
+        };
+        if place < self.waiting.len() {
+            let left = self.waiting[place].left;
+            if left > 1 {
+                self.waiting[place].left = left - 1;
+            } else {
+                let _ = self.waiting.swap_remove(place);
+            }
+        }
+    }
+
+    // Gives a wait up.
+    fn forget(&mut self, id: u64) {
+        if let Some(place) = place_of(&self.waiting, id) {
+            if place < self.waiting.len() {
+                let _ = self.waiting.swap_remove(place);
+            }
+        }
+    }
+
+    fn is_over(&self, id: u64) -> bool {
+        self.is_closed || place_of(&self.waiting, id).is_none()
+    }
+}
+
+/// Waits of callers, each of which all flushers answer. Threads share it by reference; each call takes its lock, and no other.
+#[derive(Drop)]
+pub struct Waits<A: Allocator> {
+    table: Mutex<WaitTable<A>>,
+    answered: Condvar,
+}
+
+impl<A: Allocator> Waits<A> {
+    /// None.
+    pub fn new(alloc: A) -> Waits<A> {
+        Waits {
+            table: Mutex::new(WaitTable::new(alloc)),
+            answered: Condvar::new(),
+        }
+    }
+
+    /// A new wait, by its number, that so many flushers are to answer. Memory.
+    pub fn begin(&self, rt: &impl Wait, flushers: u32) -> Result<u64>
+        ensures refused { IsOkUnless result Memory }
+    {
+        self.table.lock(rt).begin(flushers)
+    }
+
+    /// One flusher answers a wait.
+    pub fn answer(&self, rt: &impl Wait, id: u64) {
+        self.table.lock(rt).answer(id);
+        self.answered.notify_all();
+    }
+
+    /// Gives a wait up: who answers it later answers nothing.
+    pub fn forget(&self, rt: &impl Wait, id: u64) {
+        self.table.lock(rt).forget(id);
+    }
+
+    /// Says that nobody answers any more, and lets all go on who wait.
+    pub fn close(&self, rt: &impl Wait) {
+        self.table.lock(rt).is_closed = true;
+        self.answered.notify_all();
+    }
+
+    /// Waits until all flushers have answered a wait, or nobody answers any more.
+    pub fn wait_for(&self, rt: &impl Wait, id: u64) {
+        let _table = self
+            .answered
+            .wait_while(rt, self.table.lock(rt), |table| !table.is_over(id));
+    }
+}

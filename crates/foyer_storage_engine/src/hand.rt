@@ -1,0 +1,40 @@
+//! A session that goes through a thread.
+ghost use Rattle.std.specs.Prelude.{◌≡◌, ◌+◌, ◌<◌};
+
+use foyer_core_shared::session::Session;
+use foyer_core_tally::book::Kinds;
+
+/// A session with one part, which a thread takes along and gives back.
+#[derive(Drop)]
+pub struct Hand<L: Kinds> {
+    session: Session<L>,
+    ghost one_part: { session.shares.parts ≡ 1 },
+}
+
+impl<L: Kinds> Hand<L> {
+    /// One part of a session's.
+    pub fn of(session: &mut Session<L>) -> Hand<L>
+        requires { 1 < session.old.shares.parts }
+        ensures { session.new.shares.parts + 1 ≡ session.old.shares.parts }
+    {
+        Hand {
+            session: session.split(1),
+        }
+    }
+
+    /// The session, for a call that keeps its parts.
+    pub fn into_session(self) -> Session<L>
+        ensures { result.shares.parts ≡ 1 }
+    {
+        let Hand { session } = self;
+        session
+    }
+
+    /// What the thread gives back.
+    pub fn from_session(session: Session<L>) -> Hand<L>
+        requires { session.shares.parts ≡ 1 }
+        ensures { result.session ≡ session }
+    {
+        Hand { session }
+    }
+}
