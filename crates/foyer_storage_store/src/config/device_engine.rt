@@ -1,0 +1,215 @@
+//! An engine over the blocks of a device, with its admission filter.
+ghost use Rattle.std.specs.Prelude.{◌≡◌, None, false};
+
+use super::{DeviceSummary, Engine};
+use crate::session::StoreSession;
+use foyer_block_manager::block::eviction::EvictionPicker;
+use foyer_block_recover::gate::Gate;
+use foyer_block_tombstone::block::tombstone::TombstoneLog;
+use foyer_core_tally::book::Kinds;
+use foyer_device_page::error::Result;
+use foyer_device_partition::io::device::Partition;
+use foyer_device_statistics::{IoState, Recorder};
+use foyer_device_throttle::Throttle;
+use foyer_format_record::serde::{Code, Properties};
+use foyer_io_disk::partitions::PartitionedDisk;
+use foyer_io_engine::io::engine::IoEngine;
+use foyer_io_monitor::MonitoredIoEngine;
+use foyer_policy_filter::{StorageFilter, StorageFilterCondition, StorageFilterResult};
+use foyer_policy_keeper::keeper::Keeper;
+use foyer_policy_piece::keeper::Piece;
+use foyer_storage_engine::core_shared::notes::NoNotes;
+use foyer_storage_engine::engine::{BlockEngine, Enqueued};
+use foyer_storage_engine::load::Load;
+use foyer_storage_engine::workers::{FlusherWorker, ReclaimerWorker};
+use std::alloc::Global;
+use std::sync::{Arc, Mutex, Wait};
+
+/// The blocks of a device, whose reads and writes are recorded.
+pub type DeviceBlocks<N, Q> = PartitionedDisk<MonitoredIoEngine<N, Global>, Q, Global>;
+
+/// The log of deletes of a device, where there is one.
+pub type DeviceLog<N, Q> = Option<TombstoneLog<N, Q, Global>>;
+
+/// The engine over them, whose core keeps no notes.
+pub type DeviceEngine<L, K, V, P, E, C, N, Q, G> = BlockEngine<
+    L,
+    K,
+    V,
+    P,
+    Global,
+    E,
+    C,
+    DeviceBlocks<N, Q>,
+    G,
+    NoNotes,
+>;
+
+/// A flusher's worker over them.
+pub type BlockFlusher<L, K, V, P, E, C, N, Q, G> = FlusherWorker<
+    L,
+    K,
+    V,
+    P,
+    E,
+    C,
+    DeviceBlocks<N, Q>,
+    G,
+    NoNotes,
+    DeviceBlocks<N, Q>,
+    DeviceLog<N, Q>,
+>;
+
+/// A reclaimer's worker over them.
+pub type BlockReclaimer<L, K, V, P, E, C, N, Q, G, T> = ReclaimerWorker<
+    L,
+    K,
+    V,
+    P,
+    E,
+    C,
+    DeviceBlocks<N, Q>,
+    G,
+    NoNotes,
+    DeviceBlocks<N, Q>,
+    T,
+>;
+
+/// An engine over the blocks of a device, with its admission filter, and what asks the device's counters for all callers.
+#[derive(Drop)]
+pub struct BuiltEngine<L, K, V, P, E, C, N, Q, G>
+where
+    L: Kinds,
+    K: Code<Global>,
+    V: Code<Global>,
+    P: Properties + Drop,
+    E: EvictionPicker,
+    C: StorageFilterCondition,
+    N: IoEngine + Drop,
+    Q: Partition + Copy,
+    G: Gate,
+{
+    pub(super) engine: Arc<DeviceEngine<L, K, V, P, E, C, N, Q, G>, Global>,
+    pub(super) admission: Option<StorageFilter<C, Global>>,
+    pub(super) recorder: Mutex<Recorder<Global>>,
+    pub(super) throttle: Throttle,
+    pub(super) device: DeviceSummary,
+}
+
+impl<L, K, V, P, E, C, N, Q, G> BuiltEngine<L, K, V, P, E, C, N, Q, G>
+where
+    L: Kinds,
+    K: Code<Global> + Drop,
+    V: Code<Global> + Drop,
+    P: Properties + Drop,
+    E: EvictionPicker,
+    C: StorageFilterCondition,
+    N: IoEngine + Drop,
+    Q: Partition + Copy,
+    G: Gate,
+{
+    // Whether a read is to wait at a moment. Without a limit of reads nothing is asked.
+    fn is_read_throttled(&self, rt: &impl Wait, now: u64) -> bool
+        ensures { self.now.throttle.read_throughput ≡ None → self.now.throttle.read_iops ≡ None → result ≡ false }
+    {
+        let limits = &self.throttle;
+        if limits.read_throughput.is_none() && limits.read_iops.is_none() {
+            return false;
+        }
+        self.recorder.lock(rt).is_read_throttled(rt, now)
+    }
+}
+
+impl<L, K, V, P, E, C, N, Q, G> Engine<StoreSession<L>, K, V, P>
+    for BuiltEngine<L, K, V, P, E, C, N, Q, G>
+where
+    L: Kinds,
+    K: Code<Global> + Eq + Drop,
+    V: Code<Global> + Drop,
+    P: Properties + Drop,
+    E: EvictionPicker,
+    C: StorageFilterCondition,
+    N: IoEngine + Drop,
+    Q: Partition + Copy,
+    G: Gate,
+{
+    ghost use Rattle.std.specs.Prelude.{◌≡◌};
+    ghost use Rattle.foyer_storage_engine.specs.Calls.{IsDeleteAnswer, IsEnqueueAnswer, IsQuestionAnswer};
+    ghost use Rattle.foyer_storage_store.specs.Storing.{IsLoadedUnder};
+
+    ghost may_enqueue = { λ _ old new hash size answer. IsEnqueueAnswer old.steps new.steps hash size answer × (new.steps.shares.parts ≡ old.steps.shares.parts) };
+
+    ghost may_load = { λ b old new hash answer. IsLoadedUnder b.throttle old.steps new.steps hash answer × (new.steps.shares.parts ≡ old.steps.shares.parts) };
+
+    ghost may_delete = { λ _ old new hash answer. IsDeleteAnswer old.steps new.steps hash answer × (new.steps.shares.parts ≡ old.steps.shares.parts) };
+
+    ghost may_ask = { λ _ old new hash answer. IsQuestionAnswer old.steps new.steps hash answer × (new.steps.shares.parts ≡ old.steps.shares.parts) };
+
+    ghost may_end = { λ _ old new. new.steps.shares.parts ≡ old.steps.shares.parts };
+
+    fn device(&self) -> DeviceSummary {
+        self.device
+    }
+
+    fn io_state(&self, rt: &impl Wait, now: u64) -> IoState {
+        self.recorder.lock(rt).io_state(rt, now)
+    }
+
+    fn filter(&self, rt: &impl Wait, hash: u64, size: usize, now: u64) -> StorageFilterResult {
+        match &self.admission {
+            Some(filter) => {
+                let io = self.recorder.lock(rt).io_state(rt, now);
+                filter.filter(&io, hash, size)
+            }
+            None => StorageFilterResult::Admit,
+        }
+    }
+
+    fn enqueue(
+        &self,
+        rt: &impl Wait,
+        session: &mut StoreSession<L>,
+        keeper: &Keeper<K, V, P, Global>,
+        piece: &Piece<K, V, P, Global>,
+        size: usize,
+    ) -> Result<Enqueued> {
+        self.engine
+            .enqueue_kept(rt, &mut session.steps, keeper, piece, size)
+    }
+
+    fn load(
+        &self,
+        rt: &impl Wait,
+        session: &mut StoreSession<L>,
+        hash: u64,
+        now: u64,
+    ) -> Result<Load<K, V, P, Global>> {
+        let throttled = self.is_read_throttled(rt, now);
+        self.engine.load(rt, &mut session.steps, hash, throttled)
+    }
+
+    fn delete(&self, rt: &impl Wait, session: &mut StoreSession<L>, hash: u64) -> Result<()> {
+        self.engine.delete(rt, &mut session.steps, hash)
+    }
+
+    fn may_contains(
+        &self,
+        rt: &impl Wait,
+        session: &mut StoreSession<L>,
+        hash: u64,
+    ) -> Result<bool> {
+        self.engine.may_contains(rt, &mut session.steps, hash)
+    }
+
+    fn destroy(&self, rt: &impl Wait, session: &mut StoreSession<L>) -> Result<()> {
+        self.engine.destroy(rt, &mut session.steps)
+    }
+
+    fn wait(&self, rt: &impl Wait, session: &mut StoreSession<L>) -> Result<()> {
+        self.engine.wait(rt, &mut session.steps)
+    }
+
+    fn close(&self, rt: &impl Wait, session: &mut StoreSession<L>) -> Result<()> {
+        self.engine.close(rt, &mut session.steps)
+    }
+}

@@ -1,0 +1,12 @@
+//! The store: a keeper of the pieces that aren't written yet, before an engine; and what both are built of.
+//!
+//! It passes on the engine's crate, so that whoever stands on the store lists it alone.
+#![tactic(auto)]
+
+pub mod builder;
+pub mod config;
+pub mod session;
+pub mod store;
+pub mod whole;
+
+pub use foyer_storage_engine as engine;

@@ -1,0 +1,76 @@
+//! The sessions that a store is asked with, and what they are made of: facts about their parts lie in their types.
+ghost use Rattle.std.specs.Prelude.{◌≡◌, ◌+◌, ◌<◌, ◌∷◌, []};
+ghost use Rattle.foyer_core_tally.specs.Tally.{both, none, shown, listed};
+
+use foyer_core_tally::book::Kinds;
+use foyer_storage_engine::core_shared::brief::Brief;
+use foyer_storage_engine::core_shared::session::Session;
+
+/// A caller's share of the count of steps, of one part at least, with the last two steps that it made. Each thread asks with its
+/// own.
+#[derive(Drop)]
+pub struct StoreSession<L: Kinds> {
+    pub(crate) steps: Session<L>,
+    ghost some_part: { 0 < steps.shares.parts },
+}
+
+impl<L: Kinds> StoreSession<L> {
+    /// A session that has some parts.
+    pub fn new(steps: Session<L>) -> StoreSession<L>
+        requires { 0 < steps.shares.parts }
+        ensures { result.steps ≡ steps }
+    {
+        StoreSession { steps }
+    }
+
+    /// The session itself, as `Workers::join` takes it.
+    pub fn into_steps(self) -> Session<L>
+        ensures { result ≡ self.steps }
+    {
+        let StoreSession { steps } = self;
+        steps
+    }
+
+    /// How many parts it has.
+    pub fn parts(&self) -> u64
+        ensures { result ≡ self.now.steps.shares.parts }
+    {
+        self.steps.parts()
+    }
+
+    /// How many steps of each kind were noted with it, in the order of the kinds; 2^64 - 1 stands for all numbers above.
+    pub fn tally(&self) -> [u64; 8]
+        ensures { result ≡ listed (shown self.now.steps.shares.amounts) }
+    {
+        self.steps.tally()
+    }
+
+    /// What it asked last and before that, each with the reply, newest first.
+    pub fn last(&self) -> [Option<Brief>; 2]
+        ensures { result ≡ self.now.steps.newest ∷ self.now.steps.before ∷ [] }
+    {
+        self.steps.last()
+    }
+
+    /// Gives so many parts away, and no briefs.
+    pub fn split(&mut self, parts: u64) -> StoreSession<L>
+        requires some { 0 < parts }
+        requires fewer { parts < self.old.steps.shares.parts }
+        ensures given { result.steps.shares ≡ record { parts = parts; amounts = none } }
+        ensures left { (self.new.steps.shares.parts + parts ≡ self.old.steps.shares.parts) × (self.new.steps.shares.amounts ≡ self.old.steps.shares.amounts) }
+    {
+        StoreSession {
+            steps: self.steps.split(parts),
+        }
+    }
+
+    /// Takes in another session's parts and steps, and keeps its own briefs.
+    pub fn join(&mut self, other: StoreSession<L>)
+        ensures { self.new.steps.shares ≡ record {
+          parts = self.old.steps.shares.parts + other.steps.shares.parts;
+          amounts = both self.old.steps.shares.amounts other.steps.shares.amounts;
+        } }
+    {
+        self.steps.join(other.into_steps());
+    }
+}

@@ -1,0 +1,263 @@
+//! The store: a keeper of the pieces that aren't written yet, before an engine.
+ghost use Rattle.std.specs.Arc.{arc_value};
+ghost use Rattle.std.specs.declared.alloc.Global.{Global};
+ghost use Rattle.std.specs.Prelude.{◌≡◌, ◌⊎◌, ◌<◌, ℕ, Result, Ok, true, IsOkUnless};
+ghost use Rattle.foyer_device_page.specs.declared.error.Error.{Error};
+ghost use Rattle.foyer_device_page.specs.declared.error.Error.TheVariants as error;
+ghost use Rattle.foyer_storage_engine.specs.declared.load.Load.{Load};
+ghost use Rattle.foyer_storage_store.specs.Storing.{IsDecided, IsKept, IsStored};
+
+use crate::config::{DeviceSummary, Engine};
+use foyer_device_page::error::Result;
+use foyer_device_statistics::{IoState, Statistics};
+use foyer_device_throttle::Throttle;
+use foyer_format_record::serde::{Code, EntrySerializer, HashBuilder};
+use foyer_policy_filter::StorageFilterResult;
+use foyer_policy_keeper::keeper::Keeper;
+use foyer_policy_piece::keeper::Piece;
+use foyer_storage_engine::engine::Enqueued;
+use foyer_storage_engine::load::{Load, decide_load};
+use std::alloc::{AllocError, Global};
+use std::sync::{Arc, Wait};
+
+// What the clones of a store share.
+#[derive(Drop)]
+struct Inner<N: Drop, K: Eq, V, P, H: Drop> {
+    name: &'static str,
+    hasher: H,
+    is_enabled: bool,
+    keeper: Arc<Keeper<K, V, P, Global>, Global>,
+    engine: N,
+    statistics: Arc<Statistics<Global>, Global>,
+    throttle: Throttle,
+}
+
+/// A store. Its clones are the same store; threads may share one by reference as well, each with a session of its own.
+#[derive(Drop)]
+pub struct Store<N: Drop, K: Eq, V, P, H: Drop> {
+    shared: Arc<Inner<N, K, V, P, H>, Global>,
+}
+
+/// The same store. AllocError comes only where 2^63 - 1 clones are there.
+impl<N: Drop, K: Eq + Drop, V: Drop, P: Drop, H: Drop> Clone for Store<N, K, V, P, H> {
+    ghost is_clone = { λ store clone. arc_value clone.shared ≡ arc_value store.shared };
+
+    fn clone(&self) -> std::result::Result<Store<N, K, V, P, H>, AllocError> {
+        Ok(Store {
+            shared: Arc::try_clone(&self.shared)?,
+        })
+    }
+}
+
+impl<N: Drop, K: Eq + Drop, V: Drop, P: Drop, H: Drop> Store<N, K, V, P, H> {
+    // A store over an engine that is built. Memory.
+    pub(crate) fn new(
+        alloc: Global,
+        name: &'static str,
+        hasher: H,
+        is_enabled: bool,
+        keeper: Arc<Keeper<K, V, P, Global>, Global>,
+        engine: N,
+        statistics: Arc<Statistics<Global>, Global>,
+        throttle: Throttle,
+    ) -> Result<Store<N, K, V, P, H>>
+        ensures { IsOkUnless result error.Memory }
+    {
+        let inner = Inner {
+            name,
+            hasher,
+            is_enabled,
+            keeper,
+            engine,
+            statistics,
+            throttle,
+        };
+        Ok(Store {
+            shared: Arc::new(alloc, inner)?,
+        })
+    }
+
+    /// Its name.
+    pub fn name(&self) -> &'static str
+        ensures { result ≡ (arc_value self.now.shared).name }
+    {
+        self.shared.name
+    }
+
+    /// Whether it keeps anything.
+    pub fn is_enabled(&self) -> bool
+        ensures { result ≡ (arc_value self.now.shared).is_enabled }
+    {
+        self.shared.is_enabled
+    }
+
+    /// The counters of its device.
+    pub fn statistics(&self) -> &Statistics<Global>
+        ensures { result.now ≡ arc_value (arc_value self.now.shared).statistics }
+    {
+        &self.shared.statistics
+    }
+
+    /// The limits of its device.
+    pub fn throttle(&self) -> Throttle
+        ensures { result ≡ (arc_value self.now.shared).throttle }
+    {
+        self.shared.throttle
+    }
+
+    /// How many bytes an entry is estimated to take, saturating: both codes together.
+    pub fn entry_estimated_size(&self, key: &K, value: &V) -> usize
+    where
+        K: Code<Global>,
+        V: Code<Global>,
+    {
+        EntrySerializer::estimated_size::<Global, K, V>(key, value)
+    }
+
+    /// What its device has.
+    pub fn device<S: Drop>(&self) -> DeviceSummary
+    where
+        N: Engine<S, K, V, P>,
+    {
+        self.shared.engine.device()
+    }
+
+    /// What its device did and has callers wait for, at a moment in nanoseconds.
+    pub fn io_state<S: Drop>(&self, rt: &impl Wait, now: u64) -> IoState
+    where
+        N: Engine<S, K, V, P>,
+    {
+        self.shared.engine.io_state(rt, now)
+    }
+
+    /// What the admission filter says of a key and an estimated size in bytes, at a moment in nanoseconds.
+    pub fn filter<S: Drop>(
+        &self,
+        rt: &impl Wait,
+        key: &K,
+        size: usize,
+        now: u64,
+    ) -> StorageFilterResult
+    where
+        N: Engine<S, K, V, P>,
+        H: HashBuilder<K>,
+    {
+        let hash = self.shared.hasher.hash_one(key);
+        self.shared.engine.filter(rt, hash, size, now)
+    }
+
+    /// Hands a piece in, whose hash is the hasher's of its key: where it is forced or admitted it is queued at the engine, and
+    /// kept until it is written; else its key is deleted. A piece that isn't queued isn't kept, and replaces none that is.
+    /// `Closed`, `Memory` and `SequenceEnd` leave the store as it was.
+    pub fn enqueue<S: Drop>(
+        &self,
+        rt: &impl Wait,
+        session: &mut S,
+        piece: &Piece<K, V, P, Global>,
+        force: bool,
+        now: u64,
+    ) -> Result<Enqueued>
+    where
+        N: Engine<S, K, V, P>,
+        K: Code<Global>,
+        V: Code<Global>,
+        ensures answered { (size : ℕ) × IsStored
+            (N.may_enqueue (arc_value self.now.shared).engine session.old session.new piece.now.hash size)
+            (N.may_delete (arc_value self.now.shared).engine session.old session.new piece.now.hash) force result }
+    {
+        let inner = &self.shared;
+        let size = EntrySerializer::estimated_size::<Global, K, V>(piece.key(), piece.value());
+        if force
+            || inner
+                .engine
+                .filter(rt, piece.hash(), size, now)
+                .is_admitted()
+        {
+            return inner
+                .engine
+                .enqueue(rt, session, &inner.keeper, piece, size);
+        }
+        inner.engine.delete(rt, session, piece.hash())?;
+        Ok(Enqueued::Deleted)
+    }
+
+    /// What a key has, at a moment in nanoseconds: the keeper's piece, else what the engine reads; another key's is a miss.
+    pub fn load<S: Drop>(
+        &self,
+        rt: &impl Wait,
+        session: &mut S,
+        key: &K,
+        now: u64,
+    ) -> Result<Load<K, V, P, Global>>
+    where
+        N: Engine<S, K, V, P>,
+        H: HashBuilder<K>,
+        ensures answered { ((session.new ≡ session.old) × IsKept K.eq key.now result)
+            ⊎ ((answer : Result (Load K V P Global) Error)
+            × N.may_load (arc_value self.now.shared).engine session.old session.new (H.hash_of (arc_value self.now.shared).hasher key.now) answer
+            × IsDecided K.eq key.now answer result) }
+    {
+        let inner = &self.shared;
+        let hash = inner.hasher.hash_one(key);
+        let kept = inner.keeper.get(rt, hash, key)?;
+        if kept.is_some() {
+            return Ok(decide_load(key, kept, Load::Miss));
+        }
+        let answer = inner.engine.load(rt, session, hash, now)?;
+        Ok(decide_load(key, None, answer))
+    }
+
+    /// Deletes a key. A piece that is still kept stays until it is written.
+    pub fn delete<S: Drop>(&self, rt: &impl Wait, session: &mut S, key: &K) -> Result<()>
+    where
+        N: Engine<S, K, V, P>,
+        H: HashBuilder<K>,
+        ensures answered { N.may_delete (arc_value self.now.shared).engine session.old session.new (H.hash_of (arc_value self.now.shared).hasher key.now) result }
+    {
+        let hash = self.shared.hasher.hash_one(key);
+        self.shared.engine.delete(rt, session, hash)
+    }
+
+    /// Whether the keeper has the key, or the engine has its hash.
+    pub fn may_contains<S: Drop>(&self, rt: &impl Wait, session: &mut S, key: &K) -> Result<bool>
+    where
+        N: Engine<S, K, V, P>,
+        H: HashBuilder<K>,
+        ensures answered { ((session.new ≡ session.old) × (result ≡ Ok true))
+            ⊎ N.may_ask (arc_value self.now.shared).engine session.old session.new (H.hash_of (arc_value self.now.shared).hasher key.now) result }
+    {
+        let hash = self.shared.hasher.hash_one(key);
+        if self.shared.keeper.contains(rt, hash, key) {
+            return Ok(true);
+        }
+        self.shared.engine.may_contains(rt, session, hash)
+    }
+
+    /// Destroys all entries: what was put before is gone, on the device too. Once it has begun it tries again what is refused
+    /// memory. `Io`, or another kind, is that of the first clean that failed: the others were done.
+    pub fn destroy<S: Drop>(&self, rt: &impl Wait, session: &mut S) -> Result<()>
+    where
+        N: Engine<S, K, V, P>,
+        ensures { N.may_end (arc_value self.now.shared).engine session.old session.new }
+    {
+        self.shared.engine.destroy(rt, session)
+    }
+
+    /// Waits until all that was queued before is written, and no reclaim runs.
+    pub fn wait<S: Drop>(&self, rt: &impl Wait, session: &mut S) -> Result<()>
+    where
+        N: Engine<S, K, V, P>,
+        ensures { N.may_end (arc_value self.now.shared).engine session.old session.new }
+    {
+        self.shared.engine.wait(rt, session)
+    }
+
+    /// Takes no more enqueues, deletes and destroys, and waits. Loads go on.
+    pub fn close<S: Drop>(&self, rt: &impl Wait, session: &mut S) -> Result<()>
+    where
+        N: Engine<S, K, V, P>,
+        ensures { N.may_end (arc_value self.now.shared).engine session.old session.new }
+    {
+        self.shared.engine.close(rt, session)
+    }
+}

@@ -1,0 +1,31 @@
+//! The session of an engine that was opened.
+ghost use Rattle.std.specs.Prelude.{◌≡◌, ◌^◌};
+
+use foyer_core_tally::book::Kinds;
+use foyer_storage_engine::core_shared::session::Session;
+
+/// A session that has all parts.
+#[derive(Drop)]
+pub struct WholeSession<L: Kinds> {
+    steps: Session<L>,
+    ghost whole: { steps.shares.parts ≡ 2 ^ 32 },
+}
+
+impl<L: Kinds> WholeSession<L> {
+    /// Of a session that has all.
+    pub fn new(steps: Session<L>) -> WholeSession<L>
+        requires { steps.shares.parts ≡ 2 ^ 32 }
+        ensures { result.steps ≡ steps }
+    {
+        WholeSession { steps }
+    }
+
+    /// The session.
+    pub fn into_steps(self) -> Session<L>
+        ensures is { result ≡ self.steps }
+        ensures whole { result.shares.parts ≡ 2 ^ 32 }
+    {
+        let WholeSession { steps } = self;
+        steps
+    }
+}
