@@ -19,8 +19,8 @@ ghost use Rattle.foyer_core_blocks.specs.Standing.{IsIndexedAs};
 
 mod reports;
 
-pub use crate::batch::{Batch, Write, WriteBytes, Writing};
 use crate::batch::Next;
+pub use crate::batch::{Batch, Write, WriteBytes, Writing};
 use crate::begin::handles;
 use crate::filled::Filled;
 use crate::receive::{Taken, put_mark, put_piece, put_reinsertion, put_returned, put_wait};
