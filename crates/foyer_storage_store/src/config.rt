@@ -3,6 +3,8 @@ ghost use Rattle.std.specs.Prelude.{◌+◌, ◌<◌, ◌^◌, IfOk, vec_len};
 
 mod block;
 mod device_engine;
+mod disks;
+mod dividing;
 mod making;
 mod noop;
 mod pickers;

@@ -1,0 +1,310 @@
+//! The disks over a device's blocks, and what is opened and made with each.
+ghost use Rattle.std.specs.Prelude.{◌≡◌, ◌+◌, ◌*◌, ◌<◌, ◌^◌, IfOk, OnOk, vec_len};
+ghost use Rattle.foyer_core_tally.specs.Ledgers.{AreOf};
+
+use super::device_engine::{BlockFlusher, BlockReclaimer, DeviceBlocks, DeviceEngine, DeviceLog};
+use crate::whole::WholeSession;
+use foyer_block_index::tombstone::Tombstone;
+use foyer_block_manager::block::eviction::EvictionPicker;
+use foyer_block_recover::gate::Gate;
+use foyer_block_tombstone::block::tombstone::TombstoneLog;
+use foyer_core_tally::book::{Blanks, Kinds};
+use foyer_device_page::error::Result;
+use foyer_device_partition::io::device::Partition;
+use foyer_device_statistics::Recorder;
+use foyer_format_record::serde::{Code, Properties};
+use foyer_io_disk::partitions::PartitionedDisk;
+use foyer_io_engine::io::engine::{IoEngine, IoEngineBuildContext, IoEngineConfig};
+use foyer_io_monitor::MonitoredIoEngine;
+use foyer_policy_filter::StorageFilterCondition;
+use foyer_policy_keeper::keeper::Keeper;
+use foyer_storage_engine::core_shared::locked::Locked;
+use foyer_storage_engine::core_shared::notes::NoNotes;
+use foyer_storage_engine::core_shared::session::Session;
+use foyer_storage_engine::core_shared::shared::Shared;
+use foyer_storage_engine::core_steps::apply::Env;
+use foyer_storage_engine::core_steps::open::RecoverMode;
+use foyer_storage_engine::core_steps::settings::Settings;
+use foyer_storage_engine::engine::BlockEngine;
+use foyer_storage_engine::workers::{
+    Clock, FlusherParts, FlusherWorker, ReclaimerParts, ReclaimerWorker,
+};
+use std::alloc::Global;
+use std::sync::{Arc, Mutex};
+
+// Disks over the same blocks, each with an I/O engine of its own.
+#[derive(Drop)]
+pub(super) struct Disks<'a, R, I, Q> {
+    pub(super) rt: &'a R,
+    pub(super) config: &'a I,
+    pub(super) paths: &'a [String],
+    pub(super) blocks: &'a [Q],
+}
+
+impl<R, I: IoEngineConfig<R>, Q: Partition + Copy> Disks<'_, R, I, Q> {
+    fn engine(&self) -> Result<I::Engine> {
+        self.config
+            .build(self.rt, &IoEngineBuildContext { files: self.paths })
+    }
+
+    // A disk whose accesses this one's parts record.
+    fn disk(
+        &self,
+        alloc: Global,
+        recorder: &mut Recorder<Global>,
+    ) -> Result<DeviceBlocks<I::Engine, Q>>
+        requires { 1 < recorder.old.view.parts }
+        ensures { OnOk result (recorder.new.view.parts + 1 ≡ recorder.old.view.parts) }
+    {
+        let engine = MonitoredIoEngine::new(self.engine()?, recorder.split(1)?);
+        let mut blocks = Vec::with_capacity(alloc, self.blocks.len())?;
+        for block in self.blocks {
+            blocks.push(*block)?;
+        }
+        Ok(PartitionedDisk::new(engine, blocks))
+    }
+
+    // The log in its partition, and the marks that it has.
+    fn log(
+        &self,
+        alloc: Global,
+        partition: Option<Q>,
+        marks: &mut Vec<Tombstone>,
+    ) -> Result<DeviceLog<I::Engine, Q>>
+    where
+        Q: Drop,
+    {
+        let Some(partition) = partition else {
+            return Ok(None);
+        };
+        let mut partitions = Vec::new(alloc);
+        partitions.push(partition)?;
+        let log = TombstoneLog::open(alloc, partitions, self.engine()?, marks)?;
+        Ok(Some(log))
+    }
+
+    // A flusher's worker.
+    fn flusher<L, K, V, P, E, C, G>(
+        &self,
+        alloc: Global,
+        recorder: &mut Recorder<Global>,
+        engine: &Arc<DeviceEngine<L, K, V, P, E, C, I::Engine, Q, G>, Global>,
+        keeper: &Arc<Keeper<K, V, P, Global>, Global>,
+        log: &Arc<Mutex<DeviceLog<I::Engine, Q>>, Global>,
+        flusher: u32,
+    ) -> Result<BlockFlusher<L, K, V, P, E, C, I::Engine, Q, G>>
+    where
+        L: Kinds,
+        K: Code<Global> + Eq + Drop,
+        V: Code<Global> + Drop,
+        P: Properties + Drop,
+        E: EvictionPicker,
+        C: StorageFilterCondition,
+        G: Gate,
+        Q: Drop,
+        requires { 1 < recorder.old.view.parts }
+        ensures { OnOk result (recorder.new.view.parts + 1 ≡ recorder.old.view.parts) }
+    {
+        let engine = Arc::try_clone(engine)?;
+        let log = Arc::try_clone(log)?;
+        let keeper = Arc::try_clone(keeper)?;
+        let disk = self.disk(alloc, recorder)?;
+        let parts = FlusherParts {
+            flusher,
+            disk,
+            log,
+            keeper,
+        };
+        Ok(FlusherWorker { engine, parts })
+    }
+
+    // A worker for each flusher.
+    pub(super) fn flushers<L, K, V, P, E, C, G>(
+        &self,
+        alloc: Global,
+        recorder: &mut Recorder<Global>,
+        engine: &Arc<DeviceEngine<L, K, V, P, E, C, I::Engine, Q, G>, Global>,
+        keeper: &Arc<Keeper<K, V, P, Global>, Global>,
+        log: DeviceLog<I::Engine, Q>,
+        count: u32,
+    ) -> Result<Vec<BlockFlusher<L, K, V, P, E, C, I::Engine, Q, G>>>
+    where
+        L: Kinds,
+        K: Code<Global> + Eq + Drop,
+        V: Code<Global> + Drop,
+        P: Properties + Drop,
+        E: EvictionPicker,
+        C: StorageFilterCondition,
+        G: Gate,
+        Q: Drop,
+        requires { count < recorder.old.view.parts }
+        ensures count { IfOk result (λ workers. vec_len workers ≡ count) }
+        ensures seats { OnOk result (recorder.new.view.parts + count ≡ recorder.old.view.parts) }
+    {
+        let log = Arc::new(alloc, Mutex::new(log))?;
+        let mut workers = Vec::with_capacity(alloc, count as usize)?;
+        for flusher in 0..count {
+            workers.push(self.flusher(alloc, recorder, engine, keeper, &log, flusher)?)?;
+        }
+        Ok(workers)
+    }
+
+    // A reclaimer's worker.
+    fn reclaimer<L, K, V, P, E, C, G, T>(
+        &self,
+        alloc: Global,
+        recorder: &mut Recorder<Global>,
+        engine: &Arc<DeviceEngine<L, K, V, P, E, C, I::Engine, Q, G>, Global>,
+        clock: T,
+    ) -> Result<BlockReclaimer<L, K, V, P, E, C, I::Engine, Q, G, T>>
+    where
+        L: Kinds,
+        K: Code<Global> + Drop,
+        V: Code<Global> + Drop,
+        P: Properties + Drop,
+        E: EvictionPicker,
+        C: StorageFilterCondition,
+        G: Gate,
+        T: Clock + Copy,
+        requires { 2 < recorder.old.view.parts }
+        ensures { OnOk result (recorder.new.view.parts + 2 ≡ recorder.old.view.parts) }
+    {
+        let engine = Arc::try_clone(engine)?;
+        let disk = self.disk(alloc, recorder)?;
+        let recorder = recorder.split(1)?;
+        let parts = ReclaimerParts {
+            disk,
+            recorder,
+            clock,
+        };
+        Ok(ReclaimerWorker { engine, parts })
+    }
+
+    // A worker for each reclaimer.
+    pub(super) fn reclaimers<L, K, V, P, E, C, G, T>(
+        &self,
+        alloc: Global,
+        recorder: &mut Recorder<Global>,
+        engine: &Arc<DeviceEngine<L, K, V, P, E, C, I::Engine, Q, G>, Global>,
+        clock: T,
+        count: u32,
+    ) -> Result<Vec<BlockReclaimer<L, K, V, P, E, C, I::Engine, Q, G, T>>>
+    where
+        L: Kinds,
+        K: Code<Global> + Drop,
+        V: Code<Global> + Drop,
+        P: Properties + Drop,
+        E: EvictionPicker,
+        C: StorageFilterCondition,
+        G: Gate,
+        T: Clock + Copy,
+        requires { 2 * count < recorder.old.view.parts }
+        ensures count { IfOk result (λ workers. vec_len workers ≡ count) }
+        ensures seats { OnOk result (recorder.new.view.parts + 2 * count ≡ recorder.old.view.parts) }
+    {
+        let mut workers = Vec::with_capacity(alloc, count as usize)?;
+        for _ in 0..count {
+            workers.push(self.reclaimer(alloc, recorder, engine, clock)?)?;
+        }
+        Ok(workers)
+    }
+
+    // Opens the core and the engine over it: the log's marks are read first.
+    pub(super) fn open<L, K, V, P, E, C, G>(
+        &self,
+        alloc: Global,
+        recorder: &mut Recorder<Global>,
+        settings: Settings,
+        log: Option<Q>,
+        mode: RecoverMode,
+        env: Env<E, C>,
+        gate: G,
+        blanks: Blanks,
+    ) -> Result<Opened<L, K, V, P, E, C, I::Engine, Q, G>>
+    where
+        L: Kinds,
+        K: Code<Global> + Drop,
+        V: Code<Global> + Drop,
+        P: Properties + Drop,
+        E: EvictionPicker,
+        C: StorageFilterCondition,
+        G: Gate,
+        Q: Drop,
+        requires seat { 1 < recorder.old.view.parts }
+        requires ledgers { AreOf L.name_of L.all blanks × (L.all ≡ 2 ^ 32) }
+        ensures { OnOk result (recorder.new.view.parts + 1 ≡ recorder.old.view.parts) }
+    {
+        let mut marks = Vec::new(alloc);
+        let log = self.log(alloc, log, &mut marks)?;
+        let reader = self.disk(alloc, recorder)?;
+        let (engine, session) = open_engine(
+            alloc, settings, reader, mode, &marks, env, gate, blanks,
+        )?;
+        Ok(Opened {
+            engine,
+            session,
+            log,
+        })
+    }
+}
+
+// An opened engine, with the session that has all parts, and the log of deletes.
+#[derive(Drop)]
+pub(super) struct Opened<L, K, V, P, E, C, N, Q, G>
+where
+    L: Kinds,
+    K: Code<Global>,
+    V: Code<Global>,
+    P: Properties + Drop,
+    E: EvictionPicker,
+    C: StorageFilterCondition,
+    N: IoEngine + Drop,
+    Q: Partition + Copy + Drop,
+    G: Gate,
+{
+    pub(super) engine: Arc<DeviceEngine<L, K, V, P, E, C, N, Q, G>, Global>,
+    pub(super) session: WholeSession<L>,
+    pub(super) log: DeviceLog<N, Q>,
+}
+
+// Opens a core over a disk, and gives the engine that reads from it.
+fn open_engine<L, K, V, P, E, C, N, Q, G>(
+    alloc: Global,
+    settings: Settings,
+    mut reader: DeviceBlocks<N, Q>,
+    mode: RecoverMode,
+    marks: &[Tombstone],
+    env: Env<E, C>,
+    gate: G,
+    blanks: Blanks,
+) -> Result<
+    (
+        Arc<DeviceEngine<L, K, V, P, E, C, N, Q, G>, Global>,
+        WholeSession<L>,
+    ),
+>
+where
+    L: Kinds,
+    K: Code<Global> + Drop,
+    V: Code<Global> + Drop,
+    P: Properties + Drop,
+    E: EvictionPicker,
+    C: StorageFilterCondition,
+    N: IoEngine + Drop,
+    Q: Partition + Copy,
+    G: Gate,
+    requires { AreOf L.name_of L.all blanks × (L.all ≡ 2 ^ 32) }
+{
+    let (locked, session): (Locked<L, K, V, P, Global, E, C, NoNotes>, Session<L>) = Locked::open(
+        alloc,
+        env,
+        settings,
+        &mut reader,
+        mode,
+        marks,
+        blanks,
+    )?;
+    let engine = BlockEngine::new(alloc, Shared::new(locked), settings, reader, gate)?;
+    let engine = Arc::new(alloc, engine)?;
+    Ok((engine, WholeSession::new(session)))
+}

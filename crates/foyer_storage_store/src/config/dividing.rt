@@ -1,0 +1,177 @@
+//! How a device is divided, and gets its counters.
+ghost use Rattle.std.specs.Prelude.{◌≡◌, ◌+◌, ◌*◌, ◌<◌, ◌^◌, IfOk, OnOk};
+
+use super::DeviceSummary;
+use foyer_block_tombstone::block::tombstone::log_pages;
+use foyer_device_page::error::{Error, Result};
+use foyer_device_page::io::bytes::PAGE;
+use foyer_device_partition::io::device::{Device, Partition};
+use foyer_device_statistics::{Recorder, Statistics};
+use foyer_device_throttle::Throttle;
+use foyer_storage_engine::core_steps::settings::Settings;
+use foyer_storage_plan::sizes::EngineSizes;
+use std::alloc::Global;
+use std::rt::Files;
+use std::sync::Arc;
+
+// The bytes of the log of deletes of a device of so many bytes, 0 where there is to be none.
+fn log_size(capacity: usize, tombstone_log: bool) -> Result<usize> {
+    if !tombstone_log {
+        return Ok(0);
+    }
+    match log_pages(capacity).checked_mul(PAGE) {
+        Some(size) => Ok(size),
+        None => Err(Error::OutOfRange),
+    }
+}
+
+// The partition of the log of deletes, where there is to be one.
+fn make_log<D: Device, R: Files>(
+    rt: &R,
+    device: &mut D,
+    tombstone_log: bool,
+    size: usize,
+) -> Result<Option<D::Partition>> {
+    if !tombstone_log {
+        return Ok(None);
+    }
+    Ok(Some(device.create_partition(rt, size)?))
+}
+
+// Makes a partition of that many bytes for each block, as many as there is room for, but no more than were planned.
+fn make_blocks<D: Device, R: Files>(
+    rt: &R,
+    alloc: Global,
+    device: &mut D,
+    planned: &Settings,
+) -> Result<Vec<D::Partition>> {
+    let mut blocks = Vec::with_capacity(alloc, planned.blocks as usize)?;
+    for _ in 0..planned.blocks {
+        match device.create_partition(rt, planned.block_size) {
+            Ok(partition) => blocks.push(partition)?,
+            Err(Error::NoSpace) => break,
+            Err(error) => return Err(error),
+        }
+    }
+    Ok(blocks)
+}
+
+// A device that was divided: the partition of its log, if it has one, those of its blocks, and what the core is opened with.
+#[derive(Drop)]
+pub(super) struct Divided<D: Device> {
+    pub(super) device: D,
+    pub(super) log: Option<D::Partition>,
+    pub(super) blocks: Vec<D::Partition>,
+    pub(super) settings: Settings,
+}
+
+// What a core that has so many blocks is opened with.
+fn settings_of(planned: Settings, blocks: usize) -> Result<Settings>
+    ensures { IfOk result (λ s. (s.flushers ≡ planned.flushers) × (s.reclaimers ≡ planned.reclaimers)) }
+{
+    let Ok(blocks) = u32::try_from(blocks) else {
+        return Err(Error::Config);
+    };
+    let settings = Settings { blocks, ..planned };
+    settings.check()?;
+    Ok(settings)
+}
+
+// Each worker has a seat at the counters, a reclaimer two, the loads one, and all callers one.
+fn check_seats(settings: &Settings) -> Result<()>
+    ensures { OnOk result (settings.now.flushers + 2 * settings.now.reclaimers + 2 < 2 ^ 32) }
+{
+    let seats = settings.flushers as u64 + 2 * (settings.reclaimers as u64) + 2;
+    if seats > u32::MAX as u64 {
+        return Err(Error::Config);
+    }
+    Ok(())
+}
+
+// Divides a device: the log comes before the blocks.
+pub(super) fn divide<D: Device, R: Files>(
+    rt: &R,
+    alloc: Global,
+    mut device: D,
+    sizes: &EngineSizes,
+) -> Result<Divided<D>>
+    ensures { IfOk result (λ d. d.settings.flushers + 2 * d.settings.reclaimers + 2 < 2 ^ 32) }
+{
+    sizes.check()?;
+    let log_size = log_size(device.capacity(), sizes.tombstone_log)?;
+    let planned = sizes.plan(device.free(), log_size)?;
+    check_seats(&planned)?;
+    let log = make_log(rt, &mut device, sizes.tombstone_log, log_size)?;
+    let blocks = make_blocks(rt, alloc, &mut device, &planned)?;
+    let settings = settings_of(planned, blocks.len())?;
+    Ok(Divided {
+        device,
+        log,
+        blocks,
+        settings,
+    })
+}
+
+// Counters of 0, and a recorder that has all their parts.
+fn recorder_of(
+    alloc: Global,
+    throttle: Throttle,
+    now: u64,
+) -> Result<(Recorder<Global>, Arc<Statistics<Global>, Global>)>
+    ensures { IfOk result (λ r. r.0.view.parts ≡ 2 ^ 32) }
+{
+    let (statistics, seat) = Statistics::new(alloc, throttle, now)?;
+    let statistics = Arc::new(alloc, statistics)?;
+    let own = Arc::try_clone(&statistics)?;
+    Ok((Recorder::new(seat, own), statistics))
+}
+
+// What is left of a divided device, with its counters.
+#[derive(Drop)]
+pub(super) struct Counted<Q: Drop> {
+    pub(super) log: Option<Q>,
+    pub(super) blocks: Vec<Q>,
+    pub(super) settings: Settings,
+    pub(super) summary: DeviceSummary,
+    pub(super) throttle: Throttle,
+    pub(super) paths: Vec<String>,
+    pub(super) recorder: Recorder<Global>,
+    pub(super) statistics: Arc<Statistics<Global>, Global>,
+}
+
+// Gives a divided device counters.
+pub(super) fn count<D: Device>(
+    alloc: Global,
+    divided: Divided<D>,
+    now: u64,
+) -> Result<Counted<D::Partition>>
+where
+    D::Partition: Drop,
+    ensures settings { IfOk result (λ c. c.settings ≡ divided.settings) }
+    ensures parts { IfOk result (λ c. c.recorder.view.parts ≡ 2 ^ 32) }
+{
+    let paths = divided.device.files(alloc)?;
+    let throttle = *divided.device.throttle();
+    let (recorder, statistics) = recorder_of(alloc, throttle, now)?;
+    let Divided {
+        device,
+        log,
+        blocks,
+        settings,
+    } = divided;
+    let summary = DeviceSummary {
+        capacity: device.capacity(),
+        allocated: device.allocated(),
+        partitions: device.partitions(),
+    };
+    Ok(Counted {
+        log,
+        blocks,
+        settings,
+        summary,
+        throttle,
+        paths,
+        recorder,
+        statistics,
+    })
+}
