@@ -1,6 +1,6 @@
 //! The disk half of a hybrid cache: the engine's public names, under their modules' paths and here at the root.
 //!
-//! A door: it passes on what the six doors below it have, the engine of `foyer_storage_engine` and the sizes of
+//! A door: it passes on what the six doors below it have, the store of `foyer_storage_store` with its engine, and the sizes of
 //! `foyer_storage_plan`; it has no code of its own.
 //! Types with one name in two modules stand here once: `Batch` is the buffer's, `Sequence` the one of `block::serde`. A user who
 //! cites definitions lists the crate that has them too.
@@ -9,6 +9,7 @@
 pub mod block;
 pub mod engine;
 pub mod io;
+pub mod store;
 
 pub use crate::block::buffer::Batch;
 pub use crate::block::buffer::BlobEntryIndex;
@@ -64,15 +65,27 @@ pub use crate::block::tombstone::TombstoneLog;
 pub use crate::compress::Compression;
 pub use crate::engine::Bell;
 pub use crate::engine::BlockEngine;
+pub use crate::engine::BlockEngineConfig;
+pub use crate::engine::Built;
+pub use crate::engine::BuiltEngine;
 pub use crate::engine::Clock;
+pub use crate::engine::DefaultPickers;
+pub use crate::engine::DeviceSummary;
+pub use crate::engine::Engine;
+pub use crate::engine::EngineBuildContext;
+pub use crate::engine::EngineConfig;
 pub use crate::engine::EngineSizes;
 pub use crate::engine::Enqueued;
 pub use crate::engine::FlusherParts;
 pub use crate::engine::FlusherWorker;
+pub use crate::engine::GivenPickers;
 pub use crate::engine::Hand;
 pub use crate::engine::Load;
 pub use crate::engine::Moment;
 pub use crate::engine::NoWorker;
+pub use crate::engine::NoopEngine;
+pub use crate::engine::NoopEngineConfig;
+pub use crate::engine::PickerSource;
 pub use crate::engine::Populated;
 pub use crate::engine::ReclaimerParts;
 pub use crate::engine::ReclaimerWorker;
@@ -174,6 +187,10 @@ pub use crate::serde::StdHashBuilder;
 pub use crate::serde::StorageKey;
 pub use crate::serde::StorageValue;
 pub use crate::serde::TrackedWriter;
+pub use crate::store::Store;
+pub use crate::store::StoreBuilder;
+pub use crate::store::StoreSession;
+pub use crate::store::WholeSession;
 pub use foyer_core::Blanks;
 pub use foyer_core::Brief;
 pub use foyer_core::Core;

@@ -1,0 +1,1 @@
+pub use Rattle.foyer_core_tally.specs.Ledgers

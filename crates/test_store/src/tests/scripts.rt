@@ -1,0 +1,295 @@
+//! Scripts of a store's calls, with their answers. Keys have 128 bits, and their low 64 bits as hash: `1+` is the key 2^64 + 1.
+ghost use Rattle.std.specs.Prelude.{◌≡◌, ◌^◌};
+ghost use Rattle.foyer_core_tally.specs.Ledgers.{AreOf};
+
+use super::gates::HoldingGate;
+use foyer_block_recover::gate::Point;
+use foyer_core_tally::book::{Blanks, Kinds};
+use foyer_device_page::error::{Error, Result};
+use foyer_device_partition::io::device::{DeviceBuilder, MemoryDeviceBuilder};
+use foyer_format_record::serde::{HashBuilder, NoProperties};
+use foyer_io_engine::io::engine::{MemoryIoEngine, SharedMemoryIoEngineConfig};
+use foyer_policy_filter::{BuiltInCondition, RejectAll, StorageFilter};
+use foyer_policy_piece::keeper::Piece;
+use foyer_program::store::builder::StoreBuilder;
+use foyer_program::store::config::{BlockEngineConfig, Engine};
+use foyer_program::store::engine::engine::Enqueued;
+use foyer_program::store::engine::load::Load;
+use foyer_program::store::engine::workers::Moment;
+use foyer_program::store::store::Store;
+use std::alloc::Global;
+use std::marker::Brand;
+use std::process::Abort;
+use std::rt::Files;
+use std::sync::Wait;
+use std::test::Fail;
+use std::thread::Threads;
+
+/// The hash of a key is its low 64 bits.
+#[derive(Clone, Copy, Debug, PartialEq, Eq)]
+pub(crate) struct LowBits;
+
+impl HashBuilder<u128> for LowBits {
+    ghost use Rattle.std.specs.Prelude.{◌%◌, ◌^◌};
+
+    ghost hash_of = { λ _ key. key % 2 ^ 64 };
+
+    fn hash_one(&self, key: &u128) -> u64 {
+        (*key % (1 << 64)) as u64
+    }
+}
+
+type Texts<N> = Store<N, u128, String, NoProperties, LowBits>;
+
+/// A store's sizes in bytes, where its threads are held, whether it admits what isn't forced, and a script with its answers.
+#[derive(Clone, Copy)]
+struct Case {
+    capacity: usize,
+    block: usize,
+    point: Option<Point>,
+    admits: bool,
+    script: &'static str,
+    answers: &'static str,
+}
+
+fn key_of(word: &str) -> u128 {
+    match word.strip_suffix('+') {
+        Some(low) => u128::from(low.parse::<u64>().unwrap_or(0)) + (1 << 64),
+        None => u128::from(word.parse::<u64>().unwrap_or(0)),
+    }
+}
+
+fn say_put(answer: Result<Enqueued>) -> &'static str {
+    match answer {
+        Ok(Enqueued::Queued) => "queued",
+        Ok(Enqueued::Ignored) => "ignored",
+        Ok(Enqueued::Deleted) => "deleted",
+        Err(_) => "fault",
+    }
+}
+
+fn say_done(answer: Result<()>) -> &'static str {
+    match answer {
+        Ok(()) => "ok",
+        Err(Error::Closed) => "closed",
+        Err(_) => "fault",
+    }
+}
+
+fn say_whether(answer: bool) -> &'static str {
+    if answer { "yes" } else { "no" }
+}
+
+// What a load answered, in words.
+fn push_load(
+    said: &mut String,
+    answer: Result<Load<u128, String, NoProperties, Global>>,
+) -> Result<()> {
+    match answer {
+        Ok(Load::Entry { value, .. }) => {
+            said.push_str("entry ")?;
+            said.push_str(value.as_str())?;
+        }
+        Ok(Load::Piece { piece, .. }) => {
+            said.push_str("piece ")?;
+            said.push_str(piece.value().as_str())?;
+        }
+        Ok(Load::Throttled) => said.push_str("throttled")?,
+        Ok(Load::Miss) => said.push_str("miss")?,
+        Err(_) => said.push_str("fault")?,
+    }
+    Ok(())
+}
+
+fn put<S: Drop, N: Engine<S, u128, String, NoProperties>>(
+    rt: &impl Wait,
+    alloc: Global,
+    store: &Texts<N>,
+    session: &mut S,
+    key: u128,
+    text: &str,
+    force: bool,
+) -> Result<Enqueued> {
+    let value = String::from_str(alloc, text)?;
+    let piece = Piece::new(alloc, key, value, LowBits.hash_one(&key), NoProperties)?;
+    store.enqueue(rt, session, &piece, force, 0)
+}
+
+// One line: a call's answer in words, or what became of the thread that is held.
+fn answer_line<S: Drop, N: Engine<S, u128, String, NoProperties>>(
+    rt: &impl Wait,
+    alloc: Global,
+    store: &Texts<N>,
+    gate: &HoldingGate,
+    session: &mut S,
+    line: &str,
+    said: &mut String,
+) -> Result<()> {
+    let (word, rest) = line.split_once(' ').unwrap_or((line, ""));
+    let (first, text) = rest.split_once(' ').unwrap_or((rest, ""));
+    let key = key_of(first);
+    match word {
+        "put" => said.push_str(say_put(put(rt, alloc, store, session, key, text, false)))?,
+        "force" => said.push_str(say_put(put(rt, alloc, store, session, key, text, true)))?,
+        "get" => push_load(said, store.load(rt, session, &key, 0))?,
+        "has" => said.push_str(say_whether(store.may_contains(rt, session, &key)?))?,
+        "del" => said.push_str(say_done(store.delete(rt, session, &key)))?,
+        "wait" => said.push_str(say_done(store.wait(rt, session)))?,
+        "destroy" => said.push_str(say_done(store.destroy(rt, session)))?,
+        "close" => said.push_str(say_done(store.close(rt, session)))?,
+        "come" => said.push_str(say_whether(gate.has_come()))?,
+        "held" => said.push_str(say_whether(gate.is_holding()))?,
+        "open" => {
+            gate.open();
+            said.push_str("open")?;
+        }
+        _ => said.push_str("?")?,
+    }
+    said.push(';')?;
+    Ok(())
+}
+
+// The answers to a script, each behind the other.
+fn answer_all<S: Drop, N: Engine<S, u128, String, NoProperties>>(
+    rt: &impl Wait,
+    alloc: Global,
+    store: &Texts<N>,
+    gate: &HoldingGate,
+    session: &mut S,
+    script: &str,
+) -> Result<String> {
+    let mut said = String::new(alloc);
+    'lines: for line in script.split(';') {
+        answer_line(rt, alloc, store, gate, session, line, &mut said)?;
+    }
+    Ok(said)
+}
+
+// Builds a case's store, asks it, closes it and joins its workers.
+fn answers_of<L: Kinds + Send + Sync + 'static, R: Threads + Wait + Files + Copy + Send + 'static>(
+    rt: R,
+    alloc: Global,
+    blanks: Blanks,
+    case: Case,
+) -> Result<String>
+    requires { AreOf L.name_of L.all blanks × (L.all ≡ 2 ^ 32) }
+{
+    let device = MemoryDeviceBuilder::new(case.capacity).build(&rt, alloc, 0)?;
+    let mut memory = MemoryIoEngine::new(alloc);
+    memory.add_file(alloc, case.capacity)?;
+    let mut filter = StorageFilter::new(alloc);
+    if !case.admits {
+        filter = filter.with_condition(BuiltInCondition::RejectAll(RejectAll))?;
+    }
+    let gate = HoldingGate::new(alloc, case.point)?;
+    let config = BlockEngineConfig::new(device)
+        .with_block_size(case.block)
+        .with_admission_filter(filter)
+        .with_gate(gate.share()?);
+    let builder = StoreBuilder::new("scripts", LowBits, 4)
+        .with_engine_config(config)
+        .with_io_engine_config(SharedMemoryIoEngineConfig::new(alloc, memory)?);
+    let (store, mut session, workers) = builder.build::<R, Moment, L, u128, String, NoProperties>(
+        rt,
+        alloc,
+        blanks,
+        Moment(0),
+        0,
+    )?;
+    let said = answer_all(&rt, alloc, &store, &gate, &mut session, case.script);
+    gate.open();
+    let _ = store.close(&rt, &mut session);
+    let _ = workers.join(&rt, session.into_steps());
+    said
+}
+
+fn check<
+    L: Kinds + Send + Sync + 'static,
+    R: Threads + Wait + Files + Abort + Copy + Send + 'static,
+>(rt: R, alloc: Global, blanks: Blanks, case: Case) -> std::result::Result<(), Fail>
+    requires { AreOf L.name_of L.all blanks × (L.all ≡ 2 ^ 32) }
+{
+    let said = answers_of::<L, R>(rt, alloc, blanks, case)?;
+    assert_eq!(rt; said.as_str(), case.answers);
+    Ok(())
+}
+
+// Four blocks of 16K, which admit all, and hold nobody.
+const PLAIN: Case = Case {
+    capacity: 65536,
+    block: 16384,
+    point: None,
+    admits: true,
+    script: "",
+    answers: "",
+};
+
+#[test]
+fn of_two_keys_with_one_hash_the_newest_is_found(rt: HostRuntime) -> std::result::Result<(), Fail> {
+    let case = Case {
+        script: "force 1 foo;force 1+ bar;wait;get 1;get 1+",
+        answers: "queued;queued;ok;miss;entry bar;",
+        ..PLAIN
+    };
+    check::<Brand, HostRuntime>(rt, rt.alloc(), Blanks::new(1 << 32), case)
+}
+
+#[test]
+fn a_piece_that_is_not_admitted_deletes_its_key(rt: HostRuntime) -> std::result::Result<(), Fail> {
+    let case = Case {
+        admits: false,
+        script: "force 1 v1;wait;get 1;put 1 v2;wait;get 1;has 1",
+        answers: "queued;ok;entry v1;deleted;ok;miss;no;",
+        ..PLAIN
+    };
+    check::<Brand, HostRuntime>(rt, rt.alloc(), Blanks::new(1 << 32), case)
+}
+
+#[test]
+fn calls_are_answered_while_the_flusher_is_held(rt: HostRuntime) -> std::result::Result<(), Fail> {
+    let case = Case {
+        point: Some(Point::FlushWrite),
+        script: "force 1 v1;come;get 1;has 1;has 2;del 1;get 1;held;open;wait;get 1;has 1",
+        answers: "queued;yes;piece v1;yes;no;ok;piece v1;yes;open;ok;miss;no;",
+        ..PLAIN
+    };
+    check::<Brand, HostRuntime>(rt, rt.alloc(), Blanks::new(1 << 32), case)
+}
+
+#[test]
+fn a_newer_piece_outlives_the_release_of_an_older_one(
+    rt: HostRuntime,
+) -> std::result::Result<(), Fail> {
+    let case = Case {
+        point: Some(Point::FlushWrite),
+        script: "force 1 v1;come;force 1 v2;get 1;held;open;wait;get 1",
+        answers: "queued;yes;queued;piece v2;yes;open;ok;entry v2;",
+        ..PLAIN
+    };
+    check::<Brand, HostRuntime>(rt, rt.alloc(), Blanks::new(1 << 32), case)
+}
+
+#[test]
+fn the_oldest_of_twelve_puts_make_room_for_the_newest(
+    rt: HostRuntime,
+) -> std::result::Result<(), Fail> {
+    let case = Case {
+        capacity: 32768,
+        script: "put 1 x;wait;put 2 x;wait;put 3 x;wait;put 4 x;wait;put 5 x;wait;put 6 x;wait;put 7 x;wait;put 8 x;wait;put 9 x;wait;put 10 x;wait;put 11 x;wait;put 12 x;wait;get 1;get 2;get 3;get 4;get 5;get 6;get 10;get 11;get 12",
+        answers: "queued;ok;queued;ok;queued;ok;queued;ok;queued;ok;queued;ok;queued;ok;queued;ok;queued;ok;queued;ok;queued;ok;queued;ok;miss;miss;miss;miss;miss;miss;entry x;entry x;entry x;",
+        ..PLAIN
+    };
+    check::<Brand, HostRuntime>(rt, rt.alloc(), Blanks::new(1 << 32), case)
+}
+
+#[test]
+fn a_destroy_leaves_nothing_and_a_close_refuses_what_comes(
+    rt: HostRuntime,
+) -> std::result::Result<(), Fail> {
+    let case = Case {
+        script: "put 1 a;put 2 b;wait;destroy;get 1;get 2;put 3 c;wait;get 3;close;put 4 d;del 3;get 3;wait;destroy",
+        answers: "queued;queued;ok;ok;miss;miss;queued;ok;entry c;ok;fault;closed;entry c;ok;closed;",
+        ..PLAIN
+    };
+    check::<Brand, HostRuntime>(rt, rt.alloc(), Blanks::new(1 << 32), case)
+}
