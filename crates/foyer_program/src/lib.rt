@@ -3,5 +3,6 @@
 
 mod lines;
 pub mod serve;
+pub mod soak;
 
 pub use foyer_storage_store as store;

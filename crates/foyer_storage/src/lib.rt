@@ -154,6 +154,7 @@ pub use crate::io::disk::PartitionedDisk;
 pub use crate::io::disk::create_blocks;
 pub use crate::io::disk::open_in_memory;
 pub use crate::io::engine::FaultIoEngine;
+pub use crate::io::engine::FaultIoEngineConfig;
 pub use crate::io::engine::IoEngine;
 pub use crate::io::engine::IoEngineBuildContext;
 pub use crate::io::engine::IoEngineConfig;

@@ -3,4 +3,3 @@ mod gates;
 mod lines;
 mod refusals;
 mod scripts;
-mod threads;

@@ -15,7 +15,7 @@ mod shared_memory;
 
 pub use buffers::{ReadBuffer, WriteBuffer};
 pub use config::{IoEngineBuildContext, IoEngineConfig};
-pub use fault::FaultIoEngine;
+pub use fault::{FaultIoEngine, FaultIoEngineConfig};
 use foyer_device_page::io::bytes::{IoBuf, IoBufMut};
 use foyer_device_partition::io::device::Partition;
 pub use handle::IoHandle;

@@ -8,7 +8,9 @@ use foyer_core_tally::book::{Blanks, Kinds};
 use foyer_device_page::error::{Error, Result};
 use foyer_device_partition::io::device::{DeviceBuilder, MemoryDeviceBuilder};
 use foyer_format_record::serde::{HashBuilder, NoProperties};
-use foyer_io_engine::io::engine::{MemoryIoEngine, SharedMemoryIoEngineConfig};
+use foyer_io_engine::io::engine::{
+    FaultIoEngineConfig, MemoryIoEngine, SharedMemoryIoEngineConfig,
+};
 use foyer_policy_filter::{BuiltInCondition, RejectAll, StorageFilter};
 use foyer_policy_piece::keeper::Piece;
 use foyer_program::store::builder::StoreBuilder;
@@ -41,13 +43,17 @@ impl HashBuilder<u128> for LowBits {
 
 type Texts<N> = Store<N, u128, String, NoProperties, LowBits>;
 
-/// A store's sizes in bytes, where its threads are held, whether it admits what isn't forced, and a script with its answers.
+/// A store's sizes in bytes, where its threads are held, whether it admits what isn't forced, which access of each I/O engine fails
+/// (0: none), how many bytes a failed write has written, whether all later accesses fail, and a script with its answers.
 #[derive(Clone, Copy)]
 struct Case {
     capacity: usize,
     block: usize,
     point: Option<Point>,
     admits: bool,
+    failed: u64,
+    kept: usize,
+    stops: bool,
     script: &'static str,
     answers: &'static str,
 }
@@ -186,9 +192,11 @@ fn answers_of<L: Kinds + Send + Sync + 'static, R: Threads + Wait + Files + Copy
         .with_block_size(case.block)
         .with_admission_filter(filter)
         .with_gate(gate.share()?);
+    let io_engine = SharedMemoryIoEngineConfig::new(alloc, memory)?;
+    let io_engine = FaultIoEngineConfig::new(io_engine, case.failed, case.kept, case.stops);
     let builder = StoreBuilder::new("scripts", LowBits, 4)
         .with_engine_config(config)
-        .with_io_engine_config(SharedMemoryIoEngineConfig::new(alloc, memory)?);
+        .with_io_engine_config(io_engine);
     let (store, mut session, workers) = builder.build::<R, Moment, L, u128, String, NoProperties>(
         rt,
         alloc,
@@ -220,6 +228,9 @@ const PLAIN: Case = Case {
     block: 16384,
     point: None,
     admits: true,
+    failed: 0,
+    kept: 0,
+    stops: false,
     script: "",
     answers: "",
 };
@@ -292,4 +303,64 @@ fn a_destroy_leaves_nothing_and_a_close_refuses_what_comes(
         ..PLAIN
     };
     check::<Brand, HostRuntime>(rt, rt.alloc(), Blanks::new(1 << 32), case)
+}
+
+// Ten lines, and of each the answers that it may get where accesses fail: what was deleted is gone whatever fails.
+const FAILING: &str = "put 1 a;wait;put 2 b;wait;get 1;get 2;del 1;get 1;destroy;get 2";
+
+const MAY_ANSWER: &str =
+    "queued;ok;queued;ok;entry a|miss|fault;entry b|miss|fault;ok;miss;ok|fault;miss;";
+
+// Whether each answer is one of those that its line may get.
+fn may_be_answered(said: &str) -> bool {
+    let mut answers = said.split(';');
+    for allowed in MAY_ANSWER.split(';') {
+        let answer = answers.next().unwrap_or("?");
+        if !allowed.split('|').any(|it| it == answer) {
+            return false;
+        }
+    }
+    answers.next().is_none()
+}
+
+// Whether the ten lines are answered as they may be, where access n of each I/O engine fails, in each way.
+fn may_fail<L: Kinds + Send + Sync + 'static, R: Threads + Wait + Files + Copy + Send + 'static>(
+    rt: R,
+    alloc: Global,
+    blanks: Blanks,
+    failed: u64,
+    kept: usize,
+    stops: bool,
+) -> Result<bool>
+    requires { AreOf L.name_of L.all blanks × (L.all ≡ 2 ^ 32) }
+{
+    let case = Case {
+        failed,
+        kept,
+        stops,
+        script: FAILING,
+        ..PLAIN
+    };
+    let said = answers_of::<L, R>(rt, alloc, blanks, case)?;
+    Ok(may_be_answered(said.as_str()))
+}
+
+#[test]
+fn whatever_access_fails_no_answer_is_wrong(rt: HostRuntime) -> std::result::Result<(), Fail> {
+    for failed in 0..15 {
+        for stops in [false, true] {
+            let kept = if stops { 0 } else { 4096 };
+            let blanks = Blanks::new(1 << 32);
+            let is_right = may_fail::<Brand, HostRuntime>(
+                rt,
+                rt.alloc(),
+                blanks,
+                failed,
+                kept,
+                stops,
+            )?;
+            assert!(rt; is_right, "{failed} {stops}");
+        }
+    }
+    Ok(())
 }

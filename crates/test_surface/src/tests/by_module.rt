@@ -171,6 +171,7 @@ use foyer_storage::io::disk::PartitionedDisk;
 use foyer_storage::io::disk::create_blocks;
 use foyer_storage::io::disk::open_in_memory;
 use foyer_storage::io::engine::FaultIoEngine;
+use foyer_storage::io::engine::FaultIoEngineConfig;
 use foyer_storage::io::engine::IoEngine;
 use foyer_storage::io::engine::IoEngineBuildContext;
 use foyer_storage::io::engine::IoEngineConfig;

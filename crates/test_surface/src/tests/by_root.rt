@@ -57,6 +57,7 @@ use foyer_storage::EstimatedSize;
 use foyer_storage::EvictionInfo;
 use foyer_storage::EvictionPicker;
 use foyer_storage::FaultIoEngine;
+use foyer_storage::FaultIoEngineConfig;
 use foyer_storage::FifoPicker;
 use foyer_storage::FileDevice;
 use foyer_storage::FileDeviceBuilder;

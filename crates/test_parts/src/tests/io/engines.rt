@@ -164,13 +164,14 @@ fn a_failed_write_keeps_its_first_bytes(rt: HostRuntime) -> Result<(), Fail> {
 fn a_stopped_engine_fails_for_good(rt: HostRuntime) -> Result<(), Fail> {
     let mut device = device(&rt)?;
     let first = device.create_partition(&rt, 8192)?;
-    let mut engine = FaultIoEngine::new(engine(rt.alloc())?, 2, 0, true);
+    let mut engine = FaultIoEngine::new(engine(rt.alloc())?, 2, 4096, true);
     write_page(rt.alloc(), &mut engine, &first, 0, 1)?;
     for _ in 0..3 {
         let read = read_page(rt.alloc(), &mut engine, &first, 0);
         assert!(rt; kind_of(read) == Some(ErrorKind::Io));
     }
-    assert!(rt; engine.failures() == 3);
+    let written = write_page(rt.alloc(), &mut engine, &first, 0, 2);
+    assert!(rt; kind_of(written) == Some(ErrorKind::Io) && engine.failures() == 4);
     let mut inner = engine.into_inner();
     assert!(rt; read_page(rt.alloc(), &mut inner, &first, 0)? == 1);
     Ok(())
