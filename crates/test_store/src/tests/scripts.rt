@@ -305,6 +305,18 @@ fn a_destroy_leaves_nothing_and_a_close_refuses_what_comes(
     check::<Brand, HostRuntime>(rt, rt.alloc(), Blanks::new(1 << 32), case)
 }
 
+#[test]
+fn calls_are_answered_while_a_reclaim_is_held(rt: HostRuntime) -> std::result::Result<(), Fail> {
+    let case = Case {
+        capacity: 32768,
+        point: Some(Point::Reclaim),
+        script: "put 1 x;wait;put 2 x;wait;put 3 x;wait;put 4 x;come;has 4;del 2;has 2;held;open;wait;get 1;get 4",
+        answers: "queued;ok;queued;ok;queued;ok;queued;yes;yes;ok;no;yes;open;ok;miss;entry x;",
+        ..PLAIN
+    };
+    check::<Brand, HostRuntime>(rt, rt.alloc(), Blanks::new(1 << 32), case)
+}
+
 // Ten lines, and of each the answers that it may get where accesses fail: what was deleted is gone whatever fails.
 const FAILING: &str = "put 1 a;wait;put 2 b;wait;get 1;get 2;del 1;get 1;destroy;get 2";
 
