@@ -13,6 +13,7 @@ use Rattle.foyer_core_steps.specs.declared.step.Step.TheVariants as step
 use Rattle.foyer_core_steps.specs.Asked.{came_of, known_age, step_of, ticket_of}
 use Rattle.foyer_core_steps.specs.Refines.{Refines}
 use Rattle.foyer_core_steps.specs.Replied.{IsReply}
+use Rattle.foyer_core_steps.specs.StateOf.{IsStateOf}
 use Rattle.foyer_core_model.specs.Follows.{Follows}
 use Rattle.foyer_core_model.specs.Reply as model_reply
 use Rattle.foyer_core_model.specs.State.{State}
@@ -30,7 +31,7 @@ use Rattle.foyer_core_tally.specs.declared.kinds.StepKind.{StepKind}
 use Rattle.foyer_core_tally.specs.declared.kinds.StepKind.TheVariants.{Queued, Dropped, Deleted, Read, LookUpMiss, Entry, EndMiss, Other}
 use Rattle.foyer_core_shared.specs.Noted.{AreNotesOf, IsNoted, and_note, noted, notes_at_first}
 use Rattle.foyer_core_shared.specs.declared.brief.Brief.{Brief}
-use Rattle.foyer_core_shared.specs.History.{IsLegal, LeadsTo, Made}
+use Rattle.foyer_core_shared.specs.History.{BeginAlike, BeginsWith, IsLegal, LeadsTo, Made}
 use Rattle.foyer_core_shared.specs.Replies.{may_reply}
 use Rattle.foyer_core_shared.proofs.ReplyLemmas.{delete_replied, end_replied, enqueue_replied, look_up_replied, question_replied}
 
@@ -93,6 +94,24 @@ module _ {K V P A : Type 0} (m : Meaning K V P) where
         stands = it.stands;
       }
 
+  -- and begins with the same opening
+  pub goes_on : (xs : List (Made K V P A)) (x : Made K V P A) (held old new : Core K V P A) → held ≡ old → Refines m x.step x.reply old new
+      → (legal : IsLegal m xs held) → (after : IsLegal m (xs ++ x ∷ []) new) × BeginAlike m xs (xs ++ x ∷ []) held new legal after
+  goes_on xs x held old new is refines legal =
+      let it = refines legal.settings legal.sound legal.state (subst (λ c. IsStateOf m legal.settings c legal.state) is legal.stands) in (
+        record {
+          settings = legal.settings;
+          sound = legal.sound;
+          marks = legal.marks;
+          found = legal.found;
+          state = it.after;
+          opening = legal.opening;
+          led = leads_on legal.settings legal.sound (opened_state (machine m legal.settings legal.sound) legal.found) legal.state it.after xs x it.it legal.led it.reply it.follows;
+          stands = it.stands;
+        },
+        record { settings = refl; marks = refl; found = refl },
+      )
+
   notes_longer : (xs : List (Made K V P A)) (x : Made K V P A) (notes : Option (List Brief)) → AreNotesOf xs notes → AreNotesOf (xs ++ x ∷ []) (and_note (noted x) notes)
   notes_longer xs x None are = tt
   notes_longer xs x (Some ns) are = ap (λ l. l ++ noted x ∷ []) are ∙ sym (map-append noted xs (x ∷ []))
@@ -135,6 +154,25 @@ module _ {K V P A : Type 0} (m : Meaning K V P) where
         count = none;
         kept = subst (AreNotesOf {K = K} {V = V} {P = P} {A = A} []) (sym first) (first_notes K V P A keeps);
       } ∣₁
+
+  -- the empty history of a core that was opened begins with its opening
+  pub begins_with : (s : Settings) (bytes : ℕ → ℕ → ℕ) (surely_has : ℕ → ℕ → ℕ → Type 0) (mode : RecoverMode) (marks : List (ℕ × ℕ)) (is_seen : Type 0) (core : Core K V P A)
+      → AreValid s → IsOpenedFrom s bytes surely_has mode marks is_seen core → BeginsWith m s bytes surely_has mode marks is_seen core
+  begins_with s bytes surely_has mode marks is_seen core sound from = record {
+    first = record {
+      settings = s;
+      sound = sound;
+      marks = marks;
+      found = from.found;
+      state = opened_state (machine m s sound) from.found;
+      opening = from.opening;
+      led = refl;
+      stands = opened_stands m s sound marks from.found core from.opening from.opened;
+    };
+    sizes = refl;
+    deleted = refl;
+    recovered = from.recovered;
+  }
 
   notes_tallied : (core : Core K V P A) (notes : List Brief) (calls : Counts) → IsNoted m core (Some notes) calls → tallied notes ≡ calls
   notes_tallied core notes calls is = ap tallied is.kept ∙ sym is.count

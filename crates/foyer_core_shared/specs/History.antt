@@ -11,6 +11,8 @@ use Rattle.foyer_core_model.specs.Reply as model_reply
 use Rattle.foyer_core_model.specs.State.{State}
 use Rattle.foyer_block_recover.specs.Opening.{Opened}
 use Rattle.foyer_block_recover.specs.Placed.{IsOpening}
+use Rattle.foyer_block_recover.specs.Recovery.{IsRecovered}
+use Rattle.foyer_block_recover.specs.declared.block.recover.RecoverMode.{RecoverMode}
 use Rattle.foyer_core_laws.specs.Begins.{opened_state}
 use Rattle.foyer_core_laws.specs.Content.{Content, Meaning}
 use Rattle.foyer_core_laws.specs.CoreRules.{layout, machine}
@@ -39,3 +41,16 @@ pub record IsLegal {K V P A : Type 0} (m : Meaning K V P) (run : List (Made K V 
   pub opening : IsOpening (sizes_in settings) settings.blocks marks found
   pub led : LeadsTo m settings sound (opened_state (machine m settings sound) found) run state
   pub stands : IsStateOf m settings core state
+
+-- Both histories begin with the same settings, the same marks, and what the same opening found.
+pub record BeginAlike {K V P A : Type 0} (m : Meaning K V P) (run longer : List (Made K V P A)) (old new : Core K V P A) (before : IsLegal m run old) (after : IsLegal m longer new) : Type 0 where
+  pub settings : after.settings ≡ before.settings
+  pub marks : after.marks ≡ before.marks
+  pub found : after.found ≡ before.found
+
+-- The empty history begins with this very opening: its settings, its marks, and what its bytes gave where they are seen.
+pub record BeginsWith {K V P A : Type 0} (m : Meaning K V P) (settings : Settings) (bytes : ℕ → ℕ → ℕ) (surely_has : ℕ → ℕ → ℕ → Type 0) (mode : RecoverMode) (marks : List (ℕ × ℕ)) (is_seen : Type 0) (core : Core K V P A) : Type 0 where
+  pub first : IsLegal {A = A} m [] core
+  pub sizes : first.settings ≡ settings
+  pub deleted : first.marks ≡ marks
+  pub recovered : is_seen → IsRecovered (sizes_in settings) settings.blocks bytes surely_has mode marks first.found

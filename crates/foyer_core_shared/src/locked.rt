@@ -248,7 +248,7 @@ where
     ghost use Rattle.foyer_block_manager.specs.Shown.{evictable_below};
     ghost use Rattle.foyer_core_shared.specs.Briefs.{brief_of};
     ghost use Rattle.foyer_core_shared.specs.Chunks.{all_of};
-    ghost use Rattle.foyer_core_shared.specs.History.{IsLegal, Made};
+    ghost use Rattle.foyer_core_shared.specs.History.{BeginAlike, BeginsWith, IsLegal, Made};
     ghost use Rattle.foyer_core_shared.specs.Replies.{may_reply};
 
     /// Opens a core as `Core::open` does, with the session that has all parts. Where `N` says so the notes of all steps are
@@ -264,6 +264,10 @@ where
     ) -> Result<(Locked<L, K, V, P, A, E, C, N>, Session<L>)>
         requires { AreOf L.name_of L.all blanks }
         ensures opened { IfOk result (λ r. IsOpenedFrom settings (D.byte_at disk.old) (D.surely_has disk.old) mode (marks_of marks.now)
+            ((mode ≡ recover_mode.None) ⊎ D.is_known disk.old) r.0.noted.core) }
+        ensures begins { IfOk result (λ r. BeginsWith
+            (meaning K.encoding V.encoding K.is_encodable V.is_encodable K.is_decodable V.is_decodable P.age)
+            settings (D.byte_at disk.old) (D.surely_has disk.old) mode (marks_of marks.now)
             ((mode ≡ recover_mode.None) ⊎ D.is_known disk.old) r.0.noted.core) }
         ensures fresh { IfOk result (λ r. (r.0.noted.calls ≡ none) × (r.0.noted.notes ≡ notes_at_first N.keeps)) }
         ensures session { IfOk result (λ r. (r.1.shares ≡ record { parts = L.all; amounts = none }) × (r.1.newest ≡ None) × (r.1.before ≡ None)) }
@@ -301,7 +305,8 @@ where
     }
 
     /// Applies a step as `Core::apply` does, notes it, and counts it with the session's shares, as one of its kind; the session's
-    /// newest brief is then that of the step and of this very reply. A filter that is asked is shown `io`. Where notes are kept
+    /// newest brief is then that of the step and of this very reply. A history that led to the core goes on by this step, and keeps
+    /// the opening that it began with. A filter that is asked is shown `io`. Where notes are kept
     /// and memory for one is refused, the step comes back and nothing changed; else no step is refused so.
     pub fn step(
         &mut self,
@@ -317,9 +322,11 @@ where
             (meaning K.encoding V.encoding K.is_encodable V.is_encodable K.is_decodable V.is_decodable P.age)
             step answer self.old.noted.core self.new.noted.core) }
         ensures history { IfOk result (λ answer. (run : List (Made K V P A))
-            → IsLegal (meaning K.encoding V.encoding K.is_encodable V.is_encodable K.is_decodable V.is_decodable P.age) run self.old.noted.core
-            → IsLegal (meaning K.encoding V.encoding K.is_encodable V.is_encodable K.is_decodable V.is_decodable P.age)
-            (run ++ record { step = step; reply = answer } ∷ []) self.new.noted.core) }
+            (before : IsLegal (meaning K.encoding V.encoding K.is_encodable V.is_encodable K.is_decodable V.is_decodable P.age) run self.old.noted.core)
+            → (after : IsLegal (meaning K.encoding V.encoding K.is_encodable V.is_encodable K.is_decodable V.is_decodable P.age)
+            (run ++ record { step = step; reply = answer } ∷ []) self.new.noted.core)
+            × BeginAlike (meaning K.encoding V.encoding K.is_encodable V.is_encodable K.is_decodable V.is_decodable P.age)
+            run (run ++ record { step = step; reply = answer } ∷ []) self.old.noted.core self.new.noted.core before after) }
         ensures replied { IfOk result (λ answer. may_reply step answer ≡ true) }
         ensures failed { IfOk result (λ answer. answer ≡ reply.Failed → MayFail step self.old.noted.core) }
         ensures picks { step ≡ steps.ReclaimBegin → IfOk result (λ answer.

@@ -1,12 +1,11 @@
-use Rattle.std.proofs.Common.{ap, subst, sym, ◌∙◌}
+use Rattle.std.proofs.Common.{ap, sym, ◌∙◌}
 use Rattle.std.specs.Option.{is_some}
 use Rattle.foyer_core_laws.specs.Content.{meaning}
 use Rattle.foyer_core_shared.specs.Noted.{and_note}
 use Rattle.foyer_core_shared.specs.Behind.{kept_notes}
-use Rattle.foyer_core_shared.specs.History.{IsLegal}
 use Rattle.foyer_core_shared.specs.Kinds.{kind_of}
 use Rattle.foyer_core_tally.specs.Tally.{grown}
-use Rattle.foyer_core_shared.proofs.HistoryLemmas.{is_longer, noted_on, replied, some_note}
+use Rattle.foyer_core_shared.proofs.HistoryLemmas.{goes_on, noted_on, replied, some_note}
 use Rattle.foyer_core_shared.proofs.locked.Locked.step.Goals as goal
 
 pub invariant_of-self-2 : goal.invariant_of-self-2
@@ -22,9 +21,8 @@ invariant_of-self-2 g c =
 
 pub returns-clause-history : goal.returns-clause-history
 returns-clause-history g c = λ run legal.
-    is_longer (meaning g.K.Code.encoding g.V.Code.encoding g.K.Code.is_encodable g.V.Code.is_encodable g.K.Code.is_decodable g.V.Code.is_decodable g.P.Properties.age)
-    run (record { step = c.args.step; reply = c.apply-reply.result }) c.self.inside.0.0.core c.apply-reply.new.self c.apply-reply.ensures.meets
-    (subst (IsLegal (meaning g.K.Code.encoding g.V.Code.encoding g.K.Code.is_encodable g.V.Code.is_encodable g.K.Code.is_decodable g.V.Code.is_decodable g.P.Properties.age) run) (ap (λ l. l.noted.core) (sym c.self.view_is)) legal)
+    goes_on (meaning g.K.Code.encoding g.V.Code.encoding g.K.Code.is_encodable g.V.Code.is_encodable g.K.Code.is_decodable g.V.Code.is_decodable g.P.Properties.age)
+    run (record { step = c.args.step; reply = c.apply-reply.result }) _ c.self.inside.0.0.core c.apply-reply.new.self (ap (λ l. l.noted.core) (sym c.self.view_is)) c.apply-reply.ensures.meets legal
 
 pub returns-clause-replied : goal.returns-clause-replied
 returns-clause-replied g c =
