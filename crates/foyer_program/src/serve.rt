@@ -1,5 +1,7 @@
 //! The whole program, over any reader and writers.
 ghost use Rattle.std.specs.Prelude.{◌≡◌, ◌^◌};
+ghost use Rattle.foyer_serve.specs.Arguments.{AreWords};
+ghost use Rattle.foyer_serve.specs.declared.options.Options.{Options};
 ghost use Rattle.foyer_core_tally.specs.Ledgers.{AreOf};
 
 use crate::lines::{Texts, answer_all};
@@ -189,6 +191,7 @@ where
     W: Write + Drop,
     E: Write + Drop,
     requires { AreOf L.name_of L.all blanks × (L.all ≡ 2 ^ 32) }
+    ensures usage { ((o : Options) → ¬ AreWords words.now o) → result ≡ 2 }
 {
     let Some(options) = Options::parse(words) else {
         let _ = errors.write_all(USAGE.as_bytes());

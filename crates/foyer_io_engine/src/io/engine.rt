@@ -6,6 +6,7 @@ ghost use Rattle.foyer_device_page.specs.declared.error.Error.TheVariants as err
 mod buffers;
 mod config;
 mod fault;
+mod fault_config;
 mod handle;
 mod memory;
 mod memory_file;
@@ -15,7 +16,8 @@ mod shared_memory;
 
 pub use buffers::{ReadBuffer, WriteBuffer};
 pub use config::{IoEngineBuildContext, IoEngineConfig};
-pub use fault::{FaultIoEngine, FaultIoEngineConfig};
+pub use fault::FaultIoEngine;
+pub use fault_config::FaultIoEngineConfig;
 use foyer_device_page::io::bytes::{IoBuf, IoBufMut};
 use foyer_device_partition::io::device::Partition;
 pub use handle::IoHandle;
