@@ -4,5 +4,6 @@ pub mod Decided
 pub mod Ringing
 pub mod Keeping
 pub mod Kept
+pub mod Entering
 pub mod Calls
 pub use Rattle.foyer_core_shared.specs.Sessions

@@ -3,6 +3,7 @@ ghost use Rattle.foyer_core_steps.specs.Refines.{Refines};
 ghost use Rattle.foyer_core_steps.specs.declared.reply.Reply.TheVariants as reply;
 ghost use Rattle.foyer_core_steps.specs.declared.step.Step.TheVariants as steps;
 ghost use Rattle.foyer_device_page.specs.declared.error.ErrorKind.TheVariants as kind;
+ghost use Rattle.foyer_storage_engine.specs.Entering.{EntersRun};
 ghost use Rattle.foyer_storage_engine.specs.Kept.{IsPutWhereQueued, reference_of};
 ghost use Rattle.foyer_core_shared.specs.Replies.{may_reply};
 ghost use Rattle.foyer_policy_keeper.specs.PieceMap.{HasRoomFor, HoldsSame};
@@ -95,6 +96,8 @@ where
     ensures core { IfOk result (λ answer. Refines (meaning K.encoding V.encoding K.is_encodable V.is_encodable K.is_decodable V.is_decodable P.age)
         (steps.Enqueue (reference_of piece.now (shard.old.last + 1)) size) answer locked.old.noted.core locked.new.noted.core
         ⊎ ((N.keeps ≡ true) × (answer ≡ reply.Refused kind.Memory (steps.Enqueue (reference_of piece.now (shard.old.last + 1)) size)) × (locked.new.noted.core ≡ locked.old.noted.core))) }
+    ensures enters { IfOk result (EntersRun (meaning K.encoding V.encoding K.is_encodable V.is_encodable K.is_decodable V.is_decodable P.age)
+        K.eq shard.old.map shard.new.map (reference_of piece.now (shard.old.last + 1))) }
     ensures noted { IfOk result (λ answer. IsNotedIn session.old session.new (steps.Enqueue (reference_of piece.now (shard.old.last + 1)) size) answer
         ⊎ ((N.keeps ≡ true) × (answer ≡ reply.Refused kind.Memory (steps.Enqueue (reference_of piece.now (shard.old.last + 1)) size)) × (session.new ≡ session.old))) }
     ensures replied { IfOk result (λ answer. (may_reply (steps.Enqueue (reference_of piece.now (shard.old.last + 1)) size) answer ≡ true)
