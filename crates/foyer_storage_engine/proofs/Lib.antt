@@ -1,3 +1,2 @@
 pub mod AnsweringLemmas
 pub mod RefusalLemmas
-pub mod EnteringLemmas
