@@ -2,6 +2,7 @@ pub mod AnyPicks
 pub mod BlockSets
 pub mod BuiltIn
 pub mod Clearing
+pub mod Drawing
 pub mod Existence
 pub mod IdList
 pub mod Initial

@@ -7,3 +7,4 @@ pub mod MarkLemmas
 pub mod OpeningLemmas
 pub mod EmptyLemmas
 mod RisingLemmas
+pub mod ForgottenLemmas

@@ -4,3 +4,4 @@ pub mod Chained
 pub mod BlocksKept
 pub mod Placed
 pub mod Recovery
+pub mod Forgotten

@@ -6,3 +6,4 @@ pub mod PageLemmas
 pub mod StageLemmas
 pub mod MemoryLemmas
 pub mod WriteLemmas
+pub mod LastingLemmas

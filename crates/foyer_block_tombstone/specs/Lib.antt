@@ -1,4 +1,5 @@
 pub mod Appended
+pub mod Lasting
 pub mod Mark
 pub mod Pages
 pub mod PageBytes

@@ -1,5 +1,5 @@
 //! The blocks of a device: a partition for each, read and written by an engine.
-ghost use Rattle.std.specs.Prelude.{◌≡◌, ℕ, ◌+◌, ◌<◌, ◌≤◌, ◌⊎◌, ◌++◌, length, map, replicate, vec_len, slice_get, Some, IfOk, IfErr, IfSome, IfNone, OnOk, OnErr};
+ghost use Rattle.std.specs.Prelude.{◌≡◌, ℕ, ◌+◌, ◌*◌, ◌^◌, ◌<◌, ◌≤◌, ◌⊎◌, ◌++◌, length, map, replicate, vec_len, slice_get, Some, Err, IfOk, IfErr, IfSome, IfNone, OnOk, OnErr};
 ghost use Rattle.foyer_device_partition.specs.Extent.{AreDisjoint, IsPartitionSize};
 ghost use Rattle.foyer_io_disk.specs.Disk.{IsRead, IsWritten, IsTorn};
 ghost use Rattle.foyer_io_disk.specs.Partitions.{Shows, byte_in, lies_in, may_fail, AreWhole};
@@ -98,6 +98,9 @@ pub fn open_in_memory<R: Files, A: Allocator + Clone>(
     ensures count { IfOk result (λ d. vec_len d.blocks ≡ count) }
     ensures sizes { IfOk result (λ d. map ⟦<MemoryPartition as Partition>⟧.bytes d.blocks.items ≡ replicate count size) }
     ensures zeros { IfOk result (λ d. (b o : ℕ) → ⟦<PartitionedDisk<MemoryIoEngine<A>, MemoryPartition, A> as Disk>⟧.byte_at d b o ≡ 0) }
+    ensures beyond { 2 ^ 64 ≤ count * size → result ≡ Err error.OutOfRange }
+    ensures refused { IfErr result (λ e. (e ≡ error.Config) ⊎ (e ≡ error.NoSpace) ⊎ (e ≡ error.Io)
+        ⊎ (e ≡ error.Memory) ⊎ ((e ≡ error.OutOfRange) × (2 ^ 64 ≤ count * size))) }
 {
     let Some(capacity) = (count as usize).checked_mul(size) else {
         return Err(Error::OutOfRange);

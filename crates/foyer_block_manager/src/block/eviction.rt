@@ -1,7 +1,8 @@
 //! Pickers: who chooses the block that is reclaimed.
-ghost use Rattle.std.specs.Prelude.{◌≡◌, ◌≤◌, ◌<◌, ℕ, List, [], ◌++◌, ◌↔◌, Option, length, map, vec_capacity, IfOk, IfSome, OnOk, OnErr, IsOkUnless, MatchOption, true, ◌==◌};
+ghost use Rattle.std.specs.Prelude.{◌≡◌, ◌≤◌, ◌<◌, ℕ, List, [], ◌++◌, ◌↔◌, Option, Some, None, length, map, slice_get, vec_capacity, IfOk, IfSome, OnOk, OnErr, IsOkUnless, MatchOption, true, ◌==◌};
 ghost use Rattle.foyer_device_page.specs.declared.error.Error.TheVariants.{Memory};
 ghost use Rattle.foyer_core_model.specs.Ids.{is_id_in};
+ghost use Rattle.foyer_block_manager.specs.Drawing.{IsDrawn};
 ghost use Rattle.foyer_block_manager.specs.Managed.{is_evictable, is_writing_set, is_reclaiming_set};
 ghost use Rattle.foyer_block_manager.specs.Shown.{AreChanged, AreShown};
 ghost use Rattle.foyer_block_manager.specs.Pickers.{Info, picker_info, answers_of, is_pick, answers_given, marks_given, pick_of};
@@ -183,7 +184,8 @@ pub(crate) fn show_evict<P: EvictionPicker>(pickers: &mut [P], info: EvictionInf
 
 fn nth(ids: &[BlockId], at: usize) -> BlockId
     requires { at < length ids.now }
-    ensures { is_id_in result ids.now ≡ true }
+    ensures there { is_id_in result ids.now ≡ true }
+    ensures at { slice_get ids.now at ≡ Some result }
 {
     ids[at]
 }
@@ -191,7 +193,8 @@ fn nth(ids: &[BlockId], at: usize) -> BlockId
 // One of the ids, by the generator.
 fn draw<G: Rng>(generator: &mut G, ids: &[BlockId]) -> BlockId
     requires { 0 < length ids.now }
-    ensures { is_id_in result ids.now ≡ true }
+    ensures there { is_id_in result ids.now ≡ true }
+    ensures drawn { IsDrawn ids.now (G.stream generator.old) result (G.stream generator.new) }
 {
     let at = generator.random_range(0..ids.len());
     nth(ids, at)
@@ -204,7 +207,9 @@ pub(crate) fn choose<G: Rng>(
     ids: &[BlockId],
 ) -> BlockId
     requires { 0 < length ids.now }
-    ensures { MatchOption first_pick (is_id_in result ids.now ≡ true) (λ b. result ≡ b) }
+    ensures chosen { MatchOption first_pick (is_id_in result ids.now ≡ true) (λ b. result ≡ b) }
+    ensures drawn { first_pick ≡ None → IsDrawn ids.now (G.stream generator.old) result (G.stream generator.new) }
+    ensures unasked { IfSome first_pick (λ _. generator.new ≡ generator.old) }
 {
     match first_pick {
         Some(block) => block,

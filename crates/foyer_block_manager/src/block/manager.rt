@@ -5,6 +5,7 @@ ghost use Rattle.foyer_core_model.specs.Flush.{first_usable};
 ghost use Rattle.foyer_core_model.specs.Ids.{is_id_in, with_id, without_id};
 ghost use Rattle.std.specs.VecDeque.{deque_capacity};
 ghost use Rattle.foyer_core_model.specs.Numbers.{put, last_number};
+ghost use Rattle.foyer_block_manager.specs.Drawing.{IsDrawn};
 ghost use Rattle.foyer_block_manager.specs.Managed.{filling_in, is_writing, is_reclaiming, IsFirstUsable, IsTaken};
 ghost use Rattle.foyer_block_manager.specs.Picks.{with_mark_at, with_marks, allows};
 
@@ -400,12 +401,19 @@ impl<A: Allocator> BlockManager<A> {
             (answers_of P.answer P.marks pickers.old (picker_info self.old.blocks self.old.evictable (usable_in self.old))))) }
         ensures first { IfOk result (λ o. IfSome o (λ r. (b : ℕ) → pick_of self.old.blocks
             (answers_of P.answer P.marks pickers.old (picker_info self.old.blocks self.old.evictable (usable_in self.old))) ≡ Some b → r.block ≡ b)) }
+        ensures drawn { IfOk result (λ o. IfSome o (λ r. pick_of self.old.blocks
+            (answers_of P.answer P.marks pickers.old (picker_info self.old.blocks self.old.evictable (usable_in self.old))) ≡ None
+            → IsDrawn self.old.evictable (G.stream generator.old) r.block (G.stream generator.new))) }
+        ensures unasked { IfOk result (λ o. IfSome o (λ r. (b : ℕ) → pick_of self.old.blocks
+            (answers_of P.answer P.marks pickers.old (picker_info self.old.blocks self.old.evictable (usable_in self.old))) ≡ Some b
+            → generator.new ≡ generator.old)) }
+        ensures undrawn { IfOk result (λ o. o ≡ None → generator.new ≡ generator.old) }
         ensures after { IfOk result (λ o. IfSome o (λ r. (s : BlockSets) → Stands self.old s
             → Stands self.new (record s { block_set = put s.block_set r.block model_state.Reclaims; stats = model_reclaim.marked r.probation.items s.block_set s.stats }))) }
         ensures shown { IfOk result (λ o. IfSome o (λ r.
             AreShown P.forgets (picker_info self.new.blocks self.new.evictable (usable_in self.new)) r.block pickers.old pickers.new)) }
         ensures unshown { IfOk result (λ o. IfNone o (pickers.new ≡ pickers.old)) }
-        ensures unchanged { OnErr result ((self.new ≡ self.old) × (pickers.new ≡ pickers.old)) }
+        ensures unchanged { OnErr result ((self.new ≡ self.old) × (pickers.new ≡ pickers.old) × (generator.new ≡ generator.old)) }
         ensures refused { IsOkUnless result Memory }
     {
         if !self.may_reclaim() {

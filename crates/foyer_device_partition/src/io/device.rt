@@ -243,6 +243,7 @@ pub trait DeviceBuilder<A: Allocator>: Sized {
     /// Io where a file or a directory couldn't be made, Memory.
     fn build<R: Files>(self, rt: &R, alloc: A, now: u64) -> Result<Self::Device>
         ensures config { (result ≡ Err error.Config) ↔ (capacity self ≡ None) }
+        ensures refused { IfErr result (λ e. (e ≡ error.Config) ⊎ (e ≡ error.Io) ⊎ (e ≡ error.Memory)) }
         ensures room { IfOk result (λ d. capacity self ≡ Some (Self.Device.room d)) }
         ensures fresh { IfOk result (λ d. Self.Device.sizes d ≡ []) }
         ensures limits { IfOk result (λ d. Self.Device.limits d ≡ limits self) }

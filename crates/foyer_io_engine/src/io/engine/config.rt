@@ -1,4 +1,6 @@
 //! What makes an engine.
+ghost use Rattle.std.specs.Prelude.{◌≡◌, ◌⊎◌, IfErr};
+ghost use Rattle.foyer_device_page.specs.declared.error.Error.TheVariants as error;
 
 use super::IoEngine;
 use foyer_device_page::error::Result;
@@ -19,7 +21,8 @@ pub trait IoEngineConfig<R> {
         &self,
         rt: &R,
         context: &IoEngineBuildContext<'_, A>,
-    ) -> Result<Self::Engine>;
+    ) -> Result<Self::Engine>
+        ensures refused { IfErr result (λ e. (e ≡ error.Io) ⊎ (e ≡ error.Memory)) };
 
     /// The config in a box. AllocError where that was refused.
     fn boxed<A: Allocator>(self, alloc: A) -> std::result::Result<Box<Self, A>, AllocError>

@@ -4,5 +4,5 @@ use Rattle.foyer_core_model.specs.Ids.{is_id_in}
 use Rattle.foyer_block_manager.proofs.IdLemmas.{in_at}
 use Rattle.foyer_block_manager.proofs.block.eviction.nth.Goals as goal
 
-pub returns : goal.returns
-returns c = in_at c.args.ids.now c.args.at c.requires
+pub returns-clause-there : goal.returns-clause-there
+returns-clause-there c = in_at c.args.ids.now c.args.at c.requires

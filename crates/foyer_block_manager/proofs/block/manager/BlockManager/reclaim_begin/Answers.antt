@@ -3,6 +3,8 @@ use Rattle.foyer_core_model.specs.Numbers.{put}
 use Rattle.foyer_core_model.specs.Reclaim as model_reclaim
 use Rattle.foyer_core_model.specs.State as model_state
 use Rattle.foyer_core_model.specs.Ids.{is_id_in}
+use Rattle.std.specs.Prelude.{IfSome}
+use Rattle.foyer_block_manager.specs.Drawing.{IsDrawn}
 use Rattle.foyer_block_manager.specs.Managed.{Managed, IsKept, is_evictable, is_reclaiming, one_if, reclaim_count_in}
 use Rattle.foyer_block_manager.specs.Pickers.{Info, picker_info, answers_of, answers_given, marks_given, pick_of}
 use Rattle.foyer_block_manager.specs.Picks.{with_marks, usable_in}
@@ -19,12 +21,12 @@ use Rattle.foyer_block_manager.proofs.block.manager.BlockManager.reclaim_begin.G
 pub remove-requires : goal.remove-requires
 remove-requires g c =
     let m = c.self.inside in
-    chosen_in m.blocks.items c.info_of-info.result.blocks.now m.evictable.ids c.as_slice.result.now (answers_of g.P.EvictionPicker.answer g.P.EvictionPicker.marks c.args.pickers.now (picker_info c.info_of-info.result.blocks.now c.info_of-info.result.evictable.now c.info_of-info.result.clean)) c.in_ok-first_pick.first_pick c.choose-block.result c.info_of-info.ensures.0 c.as_slice.ensures (c.self.invariant).evictable_is c.in_ok-first_pick.ensures.picked c.choose-block.ensures
+    chosen_in m.blocks.items c.info_of-info.result.blocks.now m.evictable.ids c.as_slice.result.now (answers_of g.P.EvictionPicker.answer g.P.EvictionPicker.marks c.args.pickers.now (picker_info c.info_of-info.result.blocks.now c.info_of-info.result.evictable.now c.info_of-info.result.clean)) c.in_ok-first_pick.first_pick c.choose-block.result c.info_of-info.ensures.0 c.as_slice.ensures (c.self.invariant).evictable_is c.in_ok-first_pick.ensures.picked c.choose-block.ensures.chosen
 
 pub index_mut-requires : goal.index_mut-requires
 index_mut-requires g c =
     let m = c.self.inside in
-    let is : is_id_in c.choose-block.result m.evictable.ids ≡ true = chosen_in m.blocks.items c.info_of-info.result.blocks.now m.evictable.ids c.as_slice.result.now (answers_of g.P.EvictionPicker.answer g.P.EvictionPicker.marks c.args.pickers.now (picker_info c.info_of-info.result.blocks.now c.info_of-info.result.evictable.now c.info_of-info.result.clean)) c.in_ok-first_pick.first_pick c.choose-block.result c.info_of-info.ensures.0 c.as_slice.ensures (c.self.invariant).evictable_is c.in_ok-first_pick.ensures.picked c.choose-block.ensures in
+    let is : is_id_in c.choose-block.result m.evictable.ids ≡ true = chosen_in m.blocks.items c.info_of-info.result.blocks.now m.evictable.ids c.as_slice.result.now (answers_of g.P.EvictionPicker.answer g.P.EvictionPicker.marks c.args.pickers.now (picker_info c.info_of-info.result.blocks.now c.info_of-info.result.evictable.now c.info_of-info.result.clean)) c.in_ok-first_pick.first_pick c.choose-block.result c.info_of-info.ensures.0 c.as_slice.ensures (c.self.invariant).evictable_is c.in_ok-first_pick.ensures.picked c.choose-block.ensures.chosen in
     let lt : c.choose-block.result < length c.mark.new.blocks.items =
     chosen_there m.blocks.items c.mark.new.blocks.items c.deref.result.now c.choose-block.result c.mark.ensures (sym ((c.self.invariant).evictable_is c.choose-block.result) ∙ is) in
     omega (arith, c.mark.new.blocks.ok.0)
@@ -40,7 +42,7 @@ overflow_add-self g c =
 pub invariant_of-self : goal.invariant_of-self
 invariant_of-self g c =
     let m = c.self.inside in
-    let is : is_id_in c.choose-block.result m.evictable.ids ≡ true = chosen_in m.blocks.items c.info_of-info.result.blocks.now m.evictable.ids c.as_slice.result.now (answers_of g.P.EvictionPicker.answer g.P.EvictionPicker.marks c.args.pickers.now (picker_info c.info_of-info.result.blocks.now c.info_of-info.result.evictable.now c.info_of-info.result.clean)) c.in_ok-first_pick.first_pick c.choose-block.result c.info_of-info.ensures.0 c.as_slice.ensures (c.self.invariant).evictable_is c.in_ok-first_pick.ensures.picked c.choose-block.ensures in
+    let is : is_id_in c.choose-block.result m.evictable.ids ≡ true = chosen_in m.blocks.items c.info_of-info.result.blocks.now m.evictable.ids c.as_slice.result.now (answers_of g.P.EvictionPicker.answer g.P.EvictionPicker.marks c.args.pickers.now (picker_info c.info_of-info.result.blocks.now c.info_of-info.result.evictable.now c.info_of-info.result.clean)) c.in_ok-first_pick.first_pick c.choose-block.result c.info_of-info.ensures.0 c.as_slice.ensures (c.self.invariant).evictable_is c.in_ok-first_pick.ensures.picked c.choose-block.ensures.chosen in
     let before : BlockState = c.index_mut.result.now in
     let f : Chosen c.mark.new.blocks.items c.choose-block.result before =
     chosen m.blocks.items c.mark.new.blocks.items c.deref.result.now c.choose-block.result before c.mark.ensures (sym ((c.self.invariant).evictable_is c.choose-block.result) ∙ is) c.index_mut.ensures.value in
@@ -71,12 +73,12 @@ saw v m B E C view b e n =
 pub returns-clause-evictable : goal.returns-clause-evictable
 returns-clause-evictable g c =
     let m = c.self.inside in
-    subst (λ (w : Managed). is_id_in c.choose-block.result w.evictable ≡ true) c.self.view_is (chosen_in m.blocks.items c.info_of-info.result.blocks.now m.evictable.ids c.as_slice.result.now (answers_of g.P.EvictionPicker.answer g.P.EvictionPicker.marks c.args.pickers.now (picker_info c.info_of-info.result.blocks.now c.info_of-info.result.evictable.now c.info_of-info.result.clean)) c.in_ok-first_pick.first_pick c.choose-block.result c.info_of-info.ensures.0 c.as_slice.ensures (c.self.invariant).evictable_is c.in_ok-first_pick.ensures.picked c.choose-block.ensures)
+    subst (λ (w : Managed). is_id_in c.choose-block.result w.evictable ≡ true) c.self.view_is (chosen_in m.blocks.items c.info_of-info.result.blocks.now m.evictable.ids c.as_slice.result.now (answers_of g.P.EvictionPicker.answer g.P.EvictionPicker.marks c.args.pickers.now (picker_info c.info_of-info.result.blocks.now c.info_of-info.result.evictable.now c.info_of-info.result.clean)) c.in_ok-first_pick.first_pick c.choose-block.result c.info_of-info.ensures.0 c.as_slice.ensures (c.self.invariant).evictable_is c.in_ok-first_pick.ensures.picked c.choose-block.ensures.chosen)
 
 pub returns-clause-there : goal.returns-clause-there
 returns-clause-there g c =
     let m = c.self.inside in
-    let is : is_id_in c.choose-block.result m.evictable.ids ≡ true = chosen_in m.blocks.items c.info_of-info.result.blocks.now m.evictable.ids c.as_slice.result.now (answers_of g.P.EvictionPicker.answer g.P.EvictionPicker.marks c.args.pickers.now (picker_info c.info_of-info.result.blocks.now c.info_of-info.result.evictable.now c.info_of-info.result.clean)) c.in_ok-first_pick.first_pick c.choose-block.result c.info_of-info.ensures.0 c.as_slice.ensures (c.self.invariant).evictable_is c.in_ok-first_pick.ensures.picked c.choose-block.ensures in
+    let is : is_id_in c.choose-block.result m.evictable.ids ≡ true = chosen_in m.blocks.items c.info_of-info.result.blocks.now m.evictable.ids c.as_slice.result.now (answers_of g.P.EvictionPicker.answer g.P.EvictionPicker.marks c.args.pickers.now (picker_info c.info_of-info.result.blocks.now c.info_of-info.result.evictable.now c.info_of-info.result.clean)) c.in_ok-first_pick.first_pick c.choose-block.result c.info_of-info.ensures.0 c.as_slice.ensures (c.self.invariant).evictable_is c.in_ok-first_pick.ensures.picked c.choose-block.ensures.chosen in
     subst (λ (w : Managed). is_evictable (slice_get w.blocks c.choose-block.result) ≡ true) c.self.view_is (sym ((c.self.invariant).evictable_is c.choose-block.result) ∙ is)
 
 pub returns-clause-may : goal.returns-clause-may
@@ -105,7 +107,7 @@ returns-clause-after g c = λ s st.
     let m = c.self.inside in
     let old : Managed = record { blocks = m.blocks.items; clean = m.clean.items; evictable = m.evictable.ids; waiting = m.waiting.items; ready = m.ready.items; reclaimers = m.reclaimers; clean_threshold = m.clean_threshold; is_cleaning = m.is_cleaning } in
     let stood : Stands old s = subst (λ (w : Managed). Stands w s) (sym c.self.view_is) st in
-    let is : is_id_in c.choose-block.result m.evictable.ids ≡ true = chosen_in m.blocks.items c.info_of-info.result.blocks.now m.evictable.ids c.as_slice.result.now (answers_of g.P.EvictionPicker.answer g.P.EvictionPicker.marks c.args.pickers.now (picker_info c.info_of-info.result.blocks.now c.info_of-info.result.evictable.now c.info_of-info.result.clean)) c.in_ok-first_pick.first_pick c.choose-block.result c.info_of-info.ensures.0 c.as_slice.ensures (c.self.invariant).evictable_is c.in_ok-first_pick.ensures.picked c.choose-block.ensures in
+    let is : is_id_in c.choose-block.result m.evictable.ids ≡ true = chosen_in m.blocks.items c.info_of-info.result.blocks.now m.evictable.ids c.as_slice.result.now (answers_of g.P.EvictionPicker.answer g.P.EvictionPicker.marks c.args.pickers.now (picker_info c.info_of-info.result.blocks.now c.info_of-info.result.evictable.now c.info_of-info.result.clean)) c.in_ok-first_pick.first_pick c.choose-block.result c.info_of-info.ensures.0 c.as_slice.ensures (c.self.invariant).evictable_is c.in_ok-first_pick.ensures.picked c.choose-block.ensures.chosen in
     let before : BlockState = c.index_mut.result.now in
     let f : Chosen c.mark.new.blocks.items c.choose-block.result before =
     chosen m.blocks.items c.mark.new.blocks.items c.deref.result.now c.choose-block.result before c.mark.ensures (sym ((c.self.invariant).evictable_is c.choose-block.result) ∙ is) c.index_mut.ensures.value in
@@ -122,13 +124,13 @@ returns-clause-first g c = λ b picks.
     ∙ ap (λ (i : Info). pick_of i.blocks (answers_of g.P.EvictionPicker.answer g.P.EvictionPicker.marks c.args.pickers.now i))
     (saw c.args.self.now old c.info_of-info.result.blocks.now c.info_of-info.result.evictable.now c.info_of-info.result.clean c.self.view_is
     c.info_of-info.ensures.0 c.info_of-info.ensures.1 (c.info_of-info.ensures.2 ∙ (c.self.invariant).usable_is))
-    ∙ picks) c.choose-block.ensures
+    ∙ picks) c.choose-block.ensures.chosen
 
 -- what the pickers see is what the manager has then
 pub returns-clause-shown : goal.returns-clause-shown
 returns-clause-shown g c =
     let m = c.self.inside in
-    let is : is_id_in c.choose-block.result m.evictable.ids ≡ true = chosen_in m.blocks.items c.info_of-info.result.blocks.now m.evictable.ids c.as_slice.result.now (answers_of g.P.EvictionPicker.answer g.P.EvictionPicker.marks c.args.pickers.now (picker_info c.info_of-info.result.blocks.now c.info_of-info.result.evictable.now c.info_of-info.result.clean)) c.in_ok-first_pick.first_pick c.choose-block.result c.info_of-info.ensures.0 c.as_slice.ensures (c.self.invariant).evictable_is c.in_ok-first_pick.ensures.picked c.choose-block.ensures in
+    let is : is_id_in c.choose-block.result m.evictable.ids ≡ true = chosen_in m.blocks.items c.info_of-info.result.blocks.now m.evictable.ids c.as_slice.result.now (answers_of g.P.EvictionPicker.answer g.P.EvictionPicker.marks c.args.pickers.now (picker_info c.info_of-info.result.blocks.now c.info_of-info.result.evictable.now c.info_of-info.result.clean)) c.in_ok-first_pick.first_pick c.choose-block.result c.info_of-info.ensures.0 c.as_slice.ensures (c.self.invariant).evictable_is c.in_ok-first_pick.ensures.picked c.choose-block.ensures.chosen in
     let before : BlockState = c.index_mut.result.now in
     let f : Chosen c.mark.new.blocks.items c.choose-block.result before =
     chosen m.blocks.items c.mark.new.blocks.items c.deref.result.now c.choose-block.result before c.mark.ensures (sym ((c.self.invariant).evictable_is c.choose-block.result) ∙ is) c.index_mut.ensures.value in
@@ -142,3 +144,29 @@ returns-clause-shown g c =
     (ap (λ x. picker_info x c.info_of-left.result.evictable.now c.info_of-left.result.clean) c.info_of-left.ensures.0 ∙ ap (λ x. picker_info blocks x c.info_of-left.result.clean) c.info_of-left.ensures.1
     ∙ ap (λ x. picker_info blocks c.remove.new.self.ids x) (c.info_of-left.ensures.2 ∙ all.usable_is))
     c.show_evict.ensures
+
+-- without a pick the generator is asked, with one it isn't
+pub returns-clause-drawn : goal.returns-clause-drawn
+returns-clause-drawn g c = λ picks.
+    let m = c.self.inside in
+    let old : Managed = record { blocks = m.blocks.items; clean = m.clean.items; evictable = m.evictable.ids; waiting = m.waiting.items; ready = m.ready.items; reclaimers = m.reclaimers; clean_threshold = m.clean_threshold; is_cleaning = m.is_cleaning } in
+    let before = g.G.Rng.stream c.args.generator.now in
+    let after = g.G.Rng.stream c.choose-block.new.generator in
+    subst (λ (w : Managed). IsDrawn w.evictable before c.choose-block.result after) c.self.view_is
+    (subst (λ ids. IsDrawn ids before c.choose-block.result after) c.as_slice.ensures
+    (c.choose-block.ensures.drawn (c.in_ok-first_pick.ensures.picked
+    ∙ ap (λ (i : Info). pick_of i.blocks (answers_of g.P.EvictionPicker.answer g.P.EvictionPicker.marks c.args.pickers.now i))
+    (saw c.args.self.now old c.info_of-info.result.blocks.now c.info_of-info.result.evictable.now c.info_of-info.result.clean c.self.view_is
+    c.info_of-info.ensures.0 c.info_of-info.ensures.1 (c.info_of-info.ensures.2 ∙ (c.self.invariant).usable_is))
+    ∙ picks)))
+
+pub returns-clause-unasked : goal.returns-clause-unasked
+returns-clause-unasked g c = λ b picks.
+    let m = c.self.inside in
+    let old : Managed = record { blocks = m.blocks.items; clean = m.clean.items; evictable = m.evictable.ids; waiting = m.waiting.items; ready = m.ready.items; reclaimers = m.reclaimers; clean_threshold = m.clean_threshold; is_cleaning = m.is_cleaning } in
+    subst (λ o. IfSome o (λ x. c.choose-block.new.generator ≡ c.args.generator.now))
+    (c.in_ok-first_pick.ensures.picked
+    ∙ ap (λ (i : Info). pick_of i.blocks (answers_of g.P.EvictionPicker.answer g.P.EvictionPicker.marks c.args.pickers.now i))
+    (saw c.args.self.now old c.info_of-info.result.blocks.now c.info_of-info.result.evictable.now c.info_of-info.result.clean c.self.view_is
+    c.info_of-info.ensures.0 c.info_of-info.ensures.1 (c.info_of-info.ensures.2 ∙ (c.self.invariant).usable_is))
+    ∙ picks) c.choose-block.ensures.unasked
