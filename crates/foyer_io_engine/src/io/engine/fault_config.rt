@@ -1,5 +1,6 @@
 //! What makes engines that fail a call, for tests.
-ghost use Rattle.std.specs.Prelude.{◌≡◌, IfOk};
+ghost use Rattle.std.specs.Prelude.{◌≡◌, ◌⊎◌, IfErr, IfOk};
+ghost use Rattle.foyer_device_page.specs.declared.error.Error.TheVariants as error;
 
 use super::fault::FaultIoEngine;
 use super::{IoEngineBuildContext, IoEngineConfig};
@@ -19,6 +20,7 @@ impl<C: Drop> FaultIoEngineConfig<C> {
     /// Of each engine call n from 1 fails, a write after `kept` bytes, and with `stop` all its later calls too.
     pub fn new(inner: C, n: u64, kept: usize, stop: bool) -> FaultIoEngineConfig<C>
         ensures inner { result.inner ≡ inner }
+        ensures refused { IfErr result (λ e. (e ≡ error.Io) ⊎ (e ≡ error.Memory)) }
         ensures armed { (result.n ≡ n) × (result.kept ≡ kept) × (result.stop ≡ stop) }
     {
         FaultIoEngineConfig {
@@ -38,6 +40,7 @@ impl<R, C: IoEngineConfig<R> + Drop> IoEngineConfig<R> for FaultIoEngineConfig<C
         rt: &R,
         context: &IoEngineBuildContext<'_, A>,
     ) -> Result<FaultIoEngine<C::Engine>>
+        ensures refused { IfErr result (λ e. (e ≡ error.Io) ⊎ (e ≡ error.Memory)) }
         ensures armed { IfOk result (λ e. (e.left ≡ self.now.n) × (e.kept ≡ self.now.kept) × (e.stop ≡ self.now.stop) × (e.failed ≡ 0)) }
     {
         let inner = self.inner.build(rt, context)?;
