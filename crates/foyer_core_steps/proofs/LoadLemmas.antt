@@ -5,6 +5,7 @@ use Rattle.std.specs.declared.vec.Vec.{Vec}
 use Rattle.foyer_device_page.specs.Error.{kind_of}
 use Rattle.foyer_device_page.specs.declared.error.Error.{Error}
 use Rattle.foyer_device_page.specs.declared.error.Error.TheVariants as error
+use Rattle.foyer_device_page.specs.declared.error.ErrorKind.{ErrorKind}
 use Rattle.foyer_device_page.specs.declared.error.ErrorKind.TheVariants as kind
 use Rattle.foyer_format_layout.specs.Page.{page_up}
 use Rattle.foyer_format_record.specs.Record as format
@@ -22,9 +23,11 @@ use Rattle.foyer_core_steps.specs.Refines.{IsRefinedUncounted, missed}
 use Rattle.foyer_core_laws.specs.CoreRules.{outcome_of}
 use Rattle.foyer_core_laws.specs.Sizes.{AreValid}
 use Rattle.foyer_core_steps.specs.StateOf.{IsStateOf}
+use Rattle.foyer_core_steps.specs.declared.reply.Reply.{Reply}
 use Rattle.foyer_core_steps.specs.declared.reply.Reply.TheVariants as reply
 use Rattle.foyer_core_laws.specs.declared.settings.Settings.{Settings}
 use Rattle.foyer_core_steps.specs.declared.state.Core.{Core}
+use Rattle.foyer_core_steps.specs.declared.step.Step.{Step}
 use Rattle.foyer_core_steps.specs.declared.step.Step.TheVariants as step
 use Rattle.foyer_core_steps.specs.declared.step.Ticket.{Ticket}
 use Rattle.foyer_core_steps.proofs.TurnLemmas.{same, refused}
@@ -93,3 +96,17 @@ module _ {K V P A : Type 0} (m : Meaning K V P) (s : Settings) (sound : AreValid
       refused m s sound (step.LoadEnd t (Ok bytes)) core core it kind.Memory model_reply.Memory refl (same core) stands
       (early, ((there, as_issued), decoded o fault is))
   refuses core o e stands early is fault = absurd fault
+
+-- the kind of a refusal
+abbrev kind_in : {K V P A : Type 0} → Reply K V P A → ErrorKind
+kind_in (reply.Refused kind back) = kind
+kind_in answer = kind.Io
+
+is_memory : (e : Error) → kind_of e ≡ kind.Memory → e ≡ error.Memory
+is_memory error.Memory is = refl
+is_memory e is = absurd (cc)
+
+-- a refusal for memory is of an error that is one
+pub refused_memory : {K V P A : Type 0} (e : Error) (k : ErrorKind) (given back : Step K V P A) → k ≡ kind_of e
+    → reply.Refused k given ≡ reply.Refused kind.Memory back → e ≡ error.Memory
+refused_memory e k given back of is = is_memory e (sym of ∙ ap kind_in is)

@@ -1,5 +1,5 @@
 -- What a reply says of its step.
-use Rattle.std.specs.Prelude.{◌≡◌, ℕ, ◌+◌, ◌==◌, length, Bool, true, false, List, take, slice_get, Option, Some, None, is_some, IsSomeAnd, Result, Ok, Err}
+use Rattle.std.specs.Prelude.{◌≡◌, ℕ, ◌+◌, ◌==◌, length, Bool, true, false, ◌⊎◌, List, take, drop, slice_get, Option, Some, None, is_some, IsSomeAnd, Result, Ok, Err}
 use Rattle.foyer_block_index.specs.Index.{address_at}
 use Rattle.foyer_block_index.specs.Insertion.{inserted}
 use Rattle.foyer_block_index.specs.declared.indexer.Index.TheVariants as index
@@ -148,3 +148,12 @@ spare_of outcome (reply.NotNow back) = None
 spare_of outcome (reply.Refused kind back) = None
 spare_of (Ok bytes) answer = Some bytes
 spare_of (Err e) answer = None
+
+-- what a load brought may be refused for memory: where decoding its record's value or key takes some, or a clone of the
+-- allocator may be refused
+abbrev pub MayWantMemory : {A : Type 0} → (List ℕ → Type 0) → (List ℕ → Type 0) → Type 0 → Ticket → Result (Vec ℕ A) Error → Type 0
+MayWantMemory key_takes value_takes is_sure ticket (Ok bytes) =
+    (value_len key_len : ℕ)
+    × (value_takes (take value_len (drop 36 (take ticket.address.len bytes.items)))
+    ⊎ key_takes (take key_len (drop value_len (drop 36 (take ticket.address.len bytes.items)))) ⊎ (is_sure → ⊥))
+MayWantMemory key_takes value_takes is_sure ticket (Err e) = ⊥

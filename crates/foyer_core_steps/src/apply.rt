@@ -2,13 +2,16 @@
 ghost use Rattle.std.specs.Prelude.{◌≡◌, ℕ, ◌<◌, ◌-◌, ◌^◌, MatchBool, Result};
 ghost use Rattle.std.specs.declared.vec.Vec.{Vec};
 ghost use Rattle.foyer_device_page.specs.declared.error.Error.{Error};
-ghost use Rattle.foyer_core_steps.specs.Answered.{HandsBack, Describes, MayFail, IsPicked};
+ghost use Rattle.foyer_device_page.specs.declared.error.ErrorKind.TheVariants.{Memory};
+ghost use Rattle.foyer_core_steps.specs.Answered.{HandsBack, Describes, MayFail, MayWantMemory, IsPicked};
 ghost use Rattle.foyer_core_steps.specs.Scanning.{IsJudged};
 ghost use Rattle.foyer_core_steps.specs.Showing.{IsShown};
 ghost use Rattle.foyer_core_laws.specs.Content.{meaning};
 ghost use Rattle.foyer_core_steps.specs.Refines.{IsHandedBack, RefinesUncounted, Refines};
 ghost use Rattle.foyer_core_steps.specs.declared.reply.Reply.TheVariants as reply;
+ghost use Rattle.foyer_core_steps.specs.declared.step.Step.{Step};
 ghost use Rattle.foyer_core_steps.specs.declared.step.Step.TheVariants as steps;
+ghost use Rattle.foyer_core_steps.specs.declared.step.Ticket.{Ticket};
 
 pub use crate::env::{Env, no_io};
 use crate::reply::Reply;
@@ -56,6 +59,9 @@ where
         ensures picks { step ≡ steps.ReclaimBegin → IsPicked E.answer E.marks env.old.pickers.items result self.old self.new }
         ensures judged { (block : ℕ) (came : Result (Vec ℕ A) Error) → step ≡ steps.ReclaimRead block came
             → IsJudged C.may_answer env.old.reinsertion env.old.io block came result self.old }
+        ensures wants { (ticket : Ticket) (came : Result (Vec ℕ A) Error) (back : Step K V P A) → step ≡ steps.LoadEnd ticket came
+            → result ≡ reply.Refused Memory back
+            → MayWantMemory K.takes_memory V.takes_memory (A.is_infallible self.old.alloc) ticket came }
         ensures shown { IsShown E.learns E.forgets step result self.old self.new.manager env.old.pickers.items env.new.pickers.items }
         ensures lent { (env.new.reinsertion ≡ env.old.reinsertion) × (env.new.io ≡ env.old.io) }
     {
@@ -87,6 +93,9 @@ where
         ensures picks { step ≡ steps.ReclaimBegin → IsPicked E.answer E.marks env.old.pickers.items result self.old self.new }
         ensures judged { (block : ℕ) (came : Result (Vec ℕ A) Error) → step ≡ steps.ReclaimRead block came
             → IsJudged C.may_answer env.old.reinsertion env.old.io block came result self.old }
+        ensures wants { (ticket : Ticket) (came : Result (Vec ℕ A) Error) (back : Step K V P A) → step ≡ steps.LoadEnd ticket came
+            → result ≡ reply.Refused Memory back
+            → MayWantMemory K.takes_memory V.takes_memory (A.is_infallible self.old.alloc) ticket came }
         ensures shown { IsShown E.learns E.forgets step result self.old self.new.manager env.old.pickers.items env.new.pickers.items }
         ensures lent { (env.new.reinsertion ≡ env.old.reinsertion) × (env.new.io ≡ env.old.io) }
     {

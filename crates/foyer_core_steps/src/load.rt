@@ -1,13 +1,15 @@
 //! Loads: a look-up that issues a read, and the judgement on what was read.
 ghost use Rattle.std.specs.Prelude.{◌≡◌, Option, slice_get};
+ghost use Rattle.foyer_device_page.specs.declared.error.ErrorKind.TheVariants.{Memory};
 ghost use Rattle.foyer_format_record.specs.declared.serde.ages.Age.{Age as age};
-ghost use Rattle.foyer_core_steps.specs.Answered.{HandsBack, AnswersPair, Describes, Looking, spare_of};
+ghost use Rattle.foyer_core_steps.specs.Answered.{HandsBack, AnswersPair, Describes, Looking, MayWantMemory, spare_of};
 ghost use Rattle.foyer_core_model.specs.State.{State};
 ghost use Rattle.foyer_core_laws.specs.Content.{Content, Meaning, meaning};
 ghost use Rattle.foyer_core_steps.specs.Refines.{Refines, RefinesUncounted, missed};
 ghost use Rattle.foyer_core_steps.specs.StateOf.{IsStateOf};
 ghost use Rattle.foyer_core_laws.specs.declared.settings.Settings.{Settings};
 ghost use Rattle.foyer_core_steps.specs.declared.reply.Reply.TheVariants as reply;
+ghost use Rattle.foyer_core_steps.specs.declared.step.Step.{Step};
 ghost use Rattle.foyer_core_steps.specs.declared.step.Step.TheVariants as step;
 
 use crate::apply::{Env, is_handed_back};
@@ -90,6 +92,8 @@ impl<K, V, P, A: Allocator + Clone> Core<K, V, P, A> {
             → RefinesUncounted (meaning K.encoding V.encoding K.is_encodable V.is_encodable K.is_decodable V.is_decodable age_of)
             (step.LoadEnd ticket outcome) result.0 self.old self.new }
         ensures spare { result.1 ≡ spare_of outcome result.0 }
+        ensures memory { (back : Step K V P A) → result.0 ≡ reply.Refused Memory back
+            → MayWantMemory K.takes_memory V.takes_memory (A.is_infallible self.old.alloc) ticket outcome }
     {
         let address = ticket.address;
         let Some(state) = self.known(address.block) else {
@@ -150,6 +154,8 @@ where
             (meaning K.encoding V.encoding K.is_encodable V.is_encodable K.is_decodable V.is_decodable P.age)
             (step.LoadEnd ticket outcome) result.0 self.old self.new }
         ensures spare { result.1 ≡ spare_of outcome result.0 }
+        ensures memory { (back : Step K V P A) → result.0 ≡ reply.Refused Memory back
+            → MayWantMemory K.takes_memory V.takes_memory (A.is_infallible self.old.alloc) ticket outcome }
         ensures lent { _env.new ≡ _env.old }
     {
         if self.steps == u64::MAX {

@@ -56,6 +56,7 @@ pub fn winners<A: Allocator + Clone, D: Disk>(
     ensures found { D.is_known disk.old → IfOk result (λ found. HoldsWinners (sizes_in settings.now) settings.now.blocks
         (D.byte_at disk.old) (D.surely_has disk.old) found.slots) }
     ensures valid { IfOk result (λ _. AreValid settings.now) }
+    ensures unsound { (AreValid settings.now → ⊥) → result ≡ Err error.Config }
     ensures refused { IfErr result (MayRefuseWinners settings.now) }
     ensures known { D.is_known disk.old → D.is_known disk.new }
     ensures same { D.byte_at disk.new ≡ D.byte_at disk.old }

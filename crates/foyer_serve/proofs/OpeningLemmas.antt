@@ -40,3 +40,19 @@ pub log_opened : {X L E : Type 0} (C : Type 0) (log_of : X → Option L) (r : Re
     → IfOk r (λ x. log_of x ≡ log) → IfOk r (λ x. IsSome (log_of x) ↔ C)
 log_opened C _ r _ there same =
     IfOk-weaker r _ _ (λ x is. subst (λ l. IsSome l ↔ C) (sym is) there) same
+
+-- and so is a core that was opened over such a disk
+pub core_opened_over : {K V P A D B : Type 0} (m : Meaning K V P) (s : Settings) (byte_at : D → ℕ → ℕ → ℕ)
+    (surely_has : D → ℕ → ℕ → ℕ → Type 0) (is_known : D → Type 0) (blocks_of : D → List B) (bytes : B → ℕ)
+    (extent : B → Extent) (mode : RecoverMode) (core : Core K V P A) (now disk : D) (blocks : List B) (marks : List Tombstone)
+    → AreBlockFiles bytes extent s blocks → blocks_of disk ≡ blocks → (s.tombstone_log ≡ false → marks ≡ [])
+    → ((sound : AreValid s) → IsBegun m s sound (byte_at disk) (surely_has disk) mode (marks_of marks)
+    ((mode ≡ recover_mode.None) ⊎ is_known disk) core (byte_at now))
+    → (sound : AreValid s) → IsOpenedOver m s sound byte_at surely_has is_known blocks_of bytes extent mode core now
+core_opened_over _ s _ _ _ blocks_of bytes extent _ _ _ disk _ marks files same unlogged begins sound = record {
+  disk = disk;
+  blocks = subst (λ bs. AreBlockFiles bytes extent s bs) (sym same) files;
+  marks = marks;
+  unlogged = unlogged;
+  begun = begins sound;
+}

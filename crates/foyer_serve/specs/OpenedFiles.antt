@@ -1,7 +1,11 @@
 -- What was opened over the files of a directory.
-use Rattle.std.specs.Prelude.{◌≡◌, ◌⊎◌, ℕ, List, [], false, map, replicate}
+use Rattle.std.specs.Prelude.{◌≡◌, ◌⊎◌, ℕ, List, [], true, false, map, replicate}
 use Rattle.foyer_block_index.specs.declared.tombstone.Tombstone.{Tombstone}
 use Rattle.foyer_core_steps.specs.declared.state.Core.{Core}
+use Rattle.foyer_device_page.specs.Error.{kind_of}
+use Rattle.foyer_device_page.specs.declared.error.Error.{Error}
+use Rattle.foyer_device_page.specs.declared.error.Error.TheVariants as error
+use Rattle.foyer_device_page.specs.declared.error.ErrorKind.{ErrorKind}
 use Rattle.foyer_device_partition.specs.Extent.{Extent, AreDisjoint}
 use Rattle.foyer_block_recover.specs.Recovery.{marks_of}
 use Rattle.foyer_block_recover.specs.declared.block.recover.RecoverMode.{RecoverMode}
@@ -27,3 +31,21 @@ pub record IsOpenedOver {K V P A D B : Type 0} (m : Meaning K V P) (s : Settings
   pub unlogged : s.tombstone_log ≡ false → marks ≡ []
   pub begun : IsBegun m s sound (byte_at disk) (surely_has disk) mode (marks_of marks)
       ((mode ≡ recover_mode.None) ⊎ is_known disk) core (byte_at now)
+
+-- Why the files of a directory can't be opened: a partition can't be made, a file can't be made or opened or fails, the log
+-- has no page or isn't whole, or for want of memory.
+abbrev pub MayRefuseFiles : Settings → Error → Type 0
+MayRefuseFiles s e =
+    (e ≡ error.Config) ⊎ (e ≡ error.NoSpace) ⊎ (e ≡ error.Io) ⊎ (e ≡ error.Memory) ⊎ ((e ≡ error.OutOfRange) × (s.tombstone_log ≡ true))
+
+-- Why no core can be opened over them.
+abbrev pub MayRefuseCore : Settings → RecoverMode → Error → Type 0
+MayRefuseCore s mode e =
+    (e ≡ error.Memory) ⊎ ((e ≡ error.Config) × (AreValid s → ⊥)) ⊎ ((e ≡ error.Recover) × (mode ≡ recover_mode.Strict)) ⊎ (e ≡ error.SequenceEnd)
+
+-- a refusal is told by the kind of one of these errors
+abbrev pub TellsOf : (Error → Type 0) → ErrorKind → Type 0
+TellsOf MayBe k = (e : Error) × MayBe e × (k ≡ kind_of e)
+
+abbrev pub MayRefuse : Settings → RecoverMode → ErrorKind → Type 0
+MayRefuse s mode = TellsOf (λ e. MayRefuseFiles s e ⊎ MayRefuseCore s mode e)

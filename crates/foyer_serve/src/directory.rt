@@ -5,7 +5,9 @@ ghost use Rattle.foyer_block_recover.specs.Recovery.{marks_of};
 ghost use Rattle.foyer_block_recover.specs.declared.block.recover.RecoverMode.TheVariants as recover_mode;
 ghost use Rattle.foyer_core_laws.specs.Sizes.{AreValid};
 ghost use Rattle.foyer_core_run.specs.Begun.{IsBegun};
-ghost use Rattle.foyer_serve.specs.OpenedFiles.{AreBlockFiles, IsOpenedOver};
+ghost use Rattle.foyer_device_page.specs.Error.{kind_of};
+ghost use Rattle.foyer_device_page.specs.declared.error.Error.TheVariants as error;
+ghost use Rattle.foyer_serve.specs.OpenedFiles.{AreBlockFiles, IsOpenedOver, MayRefuse, MayRefuseCore, MayRefuseFiles, TellsOf};
 ghost use Rattle.foyer_serve.specs.Texts.{plain};
 
 use crate::answer::name_of;
@@ -48,7 +50,9 @@ pub struct Failed {
     pub what: &'static str,
 }
 
-pub(crate) fn stopped_at(what: &'static str, error: Error) -> Failed {
+pub(crate) fn stopped_at(what: &'static str, error: Error) -> Failed
+    ensures { result.kind ≡ kind_of error }
+{
     Failed {
         kind: error.kind(),
         what,
@@ -112,6 +116,8 @@ where
         (λ d. d.blocks.items) ⟦<FsPartition as Partition>⟧.bytes ⟦<FsPartition as Partition>⟧.extent
         mode engine.core engine.disk) }
     ensures log { IfOk result (λ engine. IsSome engine.log ↔ (settings.tombstone_log ≡ true)) }
+    ensures filter { IfOk result (λ engine. engine.env.reinsertion ≡ None) }
+    ensures refused { IfErr result (λ failed. MayRefuse settings mode failed.kind) }
 {
     let builder = FsDeviceBuilder::new(directory).with_capacity(capacity);
     let parts = open_parts(rt, alloc, builder, 0, capacity, settings)?;
@@ -140,6 +146,7 @@ where
         settings parts.blocks.items) }
     ensures log { IfOk result (λ parts. IsSome parts.deletes.log ↔ (settings.tombstone_log ≡ true)) }
     ensures unlogged { settings.tombstone_log ≡ false → IfOk result (λ parts. parts.deletes.marks.items ≡ []) }
+    ensures refused { IfErr result (λ failed. TellsOf (MayRefuseFiles settings) failed.kind) }
 {
     let built = match alloc.clone() {
         Ok(own) => builder.build(rt, own, now),
@@ -196,6 +203,7 @@ fn make_log<R: Files, D: Device>(
         ≡ D.extents device.old ++ D.Partition.extent p ∷ [])) }
     ensures unlogged { tombstone_log ≡ false → (result ≡ Ok None) × (device.new ≡ device.old) }
     ensures refused { OnErr result (D.extents device.new ≡ D.extents device.old) }
+    ensures kinds { IfErr result (λ e. (e ≡ error.Config) ⊎ (e ≡ error.NoSpace) ⊎ (e ≡ error.Io) ⊎ (e ≡ error.Memory)) }
 {
     if !tombstone_log {
         return Ok(None);
@@ -209,6 +217,7 @@ fn open_files<R, A>(rt: &R, paths: &[String<A>]) -> Result<PsyncIoEngine<R::A>, 
 where
     R: Files<File = File> + AllocGlobal,
     A: Allocator,
+    ensures refused { IfErr result (λ e. (e ≡ error.Io) ⊎ (e ≡ error.Memory)) }
 {
     PsyncIoEngineConfig::new().build(rt, &IoEngineBuildContext { files: paths })
 }
@@ -227,6 +236,7 @@ where
     ensures none { partition ≡ None → IfOk result (λ deletes. deletes.marks.items ≡ []) }
     ensures places { IfOk result (λ deletes. IfSome deletes.log (λ log. IfSome partition (λ p. log.places
         ≡ places ⟦<FsPartition as Partition>⟧.extent ⟦<FsPartition as Partition>⟧.bytes (p ∷ [])))) }
+    ensures refused { IfErr result (λ e. (e ≡ error.Io) ⊎ (e ≡ error.Memory) ⊎ ((e ≡ error.OutOfRange) × IsSome partition)) }
 {
     let mut marks = Vec::new(alloc.clone()?);
     let Some(partition) = partition else {
@@ -261,6 +271,8 @@ where
         engine.core (D.byte_at engine.disk)) }
     ensures log { IfOk result (λ engine. engine.log ≡ deletes.log) }
     ensures unread { IfOk result (λ engine. mode ≡ recover_mode.None → engine.disk ≡ disk) }
+    ensures filter { IfOk result (λ engine. engine.env.reinsertion ≡ None) }
+    ensures refused { IfErr result (λ failed. TellsOf (MayRefuseCore settings mode) failed.kind) }
 {
     match open_core(rt, alloc, settings, disk, deletes, mode) {
         Ok(engine) => Ok(engine),
@@ -286,6 +298,8 @@ where
         engine.core (D.byte_at engine.disk)) }
     ensures log { IfOk result (λ engine. engine.log ≡ deletes.log) }
     ensures unread { IfOk result (λ engine. mode ≡ recover_mode.None → engine.disk ≡ disk) }
+    ensures filter { IfOk result (λ engine. engine.env.reinsertion ≡ None) }
+    ensures refused { IfErr result (MayRefuseCore settings mode) }
 {
     let env = Env::with_default_pickers(rt.alloc(), GENERATOR_SEED)?;
     let Deletes { log, marks } = deletes;

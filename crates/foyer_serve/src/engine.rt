@@ -155,6 +155,7 @@ impl<A: Allocator + Clone, E: EvictionPicker, C: StorageFilterCondition> Engine<
             ⊎ ((e ≡ OutOfRange) × (2 ^ 64 ≤ settings.blocks * settings.block_size))) }
         ensures disk { IfOk result (λ engine. (engine.disk.blocks ≡ settings.blocks)
             × (engine.disk.block_size ≡ settings.block_size)) }
+        ensures lent { IfOk result (λ engine. (engine.env.reinsertion ≡ env.reinsertion) × (engine.env.io ≡ env.io)) }
     {
         let disk = MemoryDisk::new(alloc.clone()?, settings.blocks, settings.block_size)?;
         Engine::with_disk(alloc, env, settings, disk, RecoverMode::None)
@@ -187,6 +188,7 @@ impl<A: Allocator + Clone, D: Disk + Drop, E: EvictionPicker, C: StorageFilterCo
         ensures unread { IfOk result (λ engine. mode ≡ recover_mode.None → engine.disk ≡ disk) }
         ensures known { IfOk result (λ engine. D.is_known disk → D.is_known engine.disk) }
         ensures has { IfOk result (λ engine. (b o n : ℕ) → D.surely_has disk b o n → D.surely_has engine.disk b o n) }
+        ensures lent { IfOk result (λ engine. (engine.env.reinsertion ≡ env.reinsertion) × (engine.env.io ≡ env.io)) }
     {
         Engine::with_log(alloc, env, settings, disk, mode, &[], NoLog)
     }
@@ -222,6 +224,7 @@ where
         ensures unread { IfOk result (λ engine. mode ≡ recover_mode.None → engine.disk ≡ disk) }
         ensures known { IfOk result (λ engine. D.is_known disk → D.is_known engine.disk) }
         ensures has { IfOk result (λ engine. (b o n : ℕ) → D.surely_has disk b o n → D.surely_has engine.disk b o n) }
+        ensures lent { IfOk result (λ engine. (engine.env.reinsertion ≡ env.reinsertion) × (engine.env.io ≡ env.io)) }
         ensures log { IfOk result (λ engine. engine.log ≡ log) }
     {
         let core = Core::open(alloc.clone()?, &mut env, settings, &mut disk, mode, marks)?;
@@ -268,6 +271,7 @@ where
     /// Queues a text under a key.
     pub fn put(&mut self, key: u64, text: &str) -> Answer<A>
         ensures waits { self.new.next_wait ≡ self.old.next_wait }
+        ensures lent { (self.new.env.reinsertion ≡ self.old.env.reinsertion) × (self.new.env.io ≡ self.old.env.io) }
         ensures disk { self.new.disk ≡ self.old.disk }
         ensures says { IsPut key text.now self.old.core self.new.core
             (D.byte_at self.old.disk) (D.byte_at self.new.disk) result }
@@ -288,6 +292,7 @@ where
     /// `Parse` where its key or text doesn't decode, or `Unsupported`.
     pub fn get(&mut self, key: u64) -> Answer<A>
         ensures waits { self.new.next_wait ≡ self.old.next_wait }
+        ensures lent { (self.new.env.reinsertion ≡ self.old.env.reinsertion) × (self.new.env.io ≡ self.old.env.io) }
         ensures newest { D.is_known self.old.disk → IsNewestText key self.old.core (D.byte_at self.old.disk) result }
         ensures missed { D.is_known self.old.disk → IsTextMissedForCause key self.old.core (D.byte_at self.old.disk) result }
         ensures known { D.is_known self.old.disk → D.is_known self.new.disk }
@@ -303,6 +308,7 @@ where
     /// has a text is answered `Throttled`, and nothing is read.
     pub fn load(&mut self, key: u64, throttled: bool) -> Answer<A>
         ensures waits { self.new.next_wait ≡ self.old.next_wait }
+        ensures lent { (self.new.env.reinsertion ≡ self.old.env.reinsertion) × (self.new.env.io ≡ self.old.env.io) }
         ensures newest { D.is_known self.old.disk → IsNewestText key self.old.core (D.byte_at self.old.disk) result }
         ensures missed { D.is_known self.old.disk → throttled ≡ false
             → IsTextMissedForCause key self.old.core (D.byte_at self.old.disk) result }
@@ -325,6 +331,7 @@ where
     /// Deletes what a key has, at once.
     pub fn delete(&mut self, key: u64) -> Answer<A>
         ensures waits { self.new.next_wait ≡ self.old.next_wait }
+        ensures lent { (self.new.env.reinsertion ≡ self.old.env.reinsertion) × (self.new.env.io ≡ self.old.env.io) }
         ensures disk { self.new.disk ≡ self.old.disk }
         ensures says { IsDeleted key self.old.core self.new.core
             (D.byte_at self.old.disk) (D.byte_at self.new.disk) result }

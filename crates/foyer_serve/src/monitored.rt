@@ -1,5 +1,8 @@
 //! An engine over a directory whose accesses are recorded, and whose gets keep to the device's limits.
-ghost use Rattle.std.specs.Prelude.{◌≡◌, ◌^◌, Bool, None, IfOk, false};
+ghost use Rattle.std.specs.Prelude.{◌≡◌, ◌⊎◌, ◌↔◌, ◌^◌, Bool, None, IfOk, IfErr, IsSome, true, false};
+ghost use Rattle.foyer_core_laws.specs.Sizes.{AreValid};
+ghost use Rattle.foyer_device_page.specs.declared.error.Error.TheVariants as error;
+ghost use Rattle.foyer_serve.specs.OpenedFiles.{IsOpenedOver, MayRefuse};
 ghost use Rattle.foyer_block_recover.specs.declared.block.recover.RecoverMode.TheVariants as recover_mode;
 ghost use Rattle.foyer_core_run.specs.AtRest.{ComesToRest};
 ghost use Rattle.foyer_core_run.specs.Destroys.{Destroys};
@@ -13,7 +16,7 @@ use crate::engine::{Answer, Engine, MarkLog};
 use foyer_core_steps::open::RecoverMode;
 use foyer_core_steps::settings::Settings;
 use foyer_device_page::error::Error;
-use foyer_device_partition::io::device::{FsDeviceBuilder, FsPartition};
+use foyer_device_partition::io::device::{FsDeviceBuilder, FsPartition, Partition};
 use foyer_device_statistics::{Recorder, Statistics};
 use foyer_device_throttle::Throttle;
 use foyer_io_disk::disk::Disk;
@@ -52,6 +55,7 @@ fn recorders<A: Allocator + Clone>(
     ensures table { IfOk result (λ r. r.0.table ≡ r.1.table) }
     ensures limits { IfOk result (λ r. (r.0.limits ≡ throttle) × (r.1.limits ≡ throttle)) }
     ensures views { IfOk result (λ r. (r.0.view ≡ view (2 ^ 31) zeros zeros) × (r.1.view ≡ view (2 ^ 31) zeros zeros)) }
+    ensures refused { IfErr result (λ e. e ≡ error.Memory) }
 {
     let (statistics, seat) = Statistics::new(alloc.clone()?, throttle, now)?;
     let mut recorder = Recorder::new(seat, Arc::new(alloc.clone()?, statistics)?);
@@ -80,6 +84,15 @@ where
     ensures beside { IfOk result (λ e. mode ≡ recover_mode.None
         → (e.engine.disk.engine.recorder.table ≡ e.recorder.table) × (e.engine.disk.engine.recorder.limits ≡ throttle)
         × (e.engine.disk.engine.recorder.view ≡ view (2 ^ 31) zeros zeros)) }
+    ensures begins { IfOk result (λ e. (sound : AreValid settings) → IsOpenedOver plain settings sound
+        ⟦<PartitionedDisk<MonitoredIoEngine<PsyncIoEngine<R::A>, A>, FsPartition, A> as Disk>⟧.byte_at
+        ⟦<PartitionedDisk<MonitoredIoEngine<PsyncIoEngine<R::A>, A>, FsPartition, A> as Disk>⟧.surely_has
+        ⟦<PartitionedDisk<MonitoredIoEngine<PsyncIoEngine<R::A>, A>, FsPartition, A> as Disk>⟧.is_known
+        (λ d. d.blocks.items) ⟦<FsPartition as Partition>⟧.bytes ⟦<FsPartition as Partition>⟧.extent
+        mode e.engine.core e.engine.disk) }
+    ensures log { IfOk result (λ e. IsSome e.engine.log ↔ (settings.tombstone_log ≡ true)) }
+    ensures filter { IfOk result (λ e. e.engine.env.reinsertion ≡ None) }
+    ensures refused { IfErr result (λ failed. MayRefuse settings mode failed.kind) }
 {
     let builder = FsDeviceBuilder::new(directory)
         .with_capacity(capacity)
@@ -155,6 +168,7 @@ impl<A: Allocator + Clone, D: Disk + Drop, L: MarkLog + Drop> MonitoredEngine<A,
             (D.byte_at self.old.engine.disk) (D.byte_at self.new.engine.disk) result }
         ensures driven { Drives plain self.old.engine.core self.new.engine.core
             (D.byte_at self.old.engine.disk) (D.byte_at self.new.engine.disk) }
+        ensures lent { (self.new.engine.env.reinsertion ≡ self.old.engine.env.reinsertion) × (self.new.engine.env.io ≡ self.old.engine.env.io) }
     {
         self.engine.put(key, text)
     }
@@ -197,6 +211,7 @@ impl<A: Allocator + Clone, D: Disk + Drop, L: MarkLog + Drop> MonitoredEngine<A,
         ensures got { self.old.recorder.limits.read_throughput ≡ None → self.old.recorder.limits.read_iops ≡ None
             → D.is_known self.old.engine.disk → IsGot key self.old.engine.core self.new.engine.core
             (D.byte_at self.old.engine.disk) (D.byte_at self.new.engine.disk) result }
+        ensures lent { (self.new.engine.env.reinsertion ≡ self.old.engine.env.reinsertion) × (self.new.engine.env.io ≡ self.old.engine.env.io) }
     {
         let throttled = self.is_read_throttled(rt, now);
         self.engine.load(key, throttled)
@@ -210,6 +225,7 @@ impl<A: Allocator + Clone, D: Disk + Drop, L: MarkLog + Drop> MonitoredEngine<A,
             (D.byte_at self.old.engine.disk) (D.byte_at self.new.engine.disk) result }
         ensures driven { Drives plain self.old.engine.core self.new.engine.core
             (D.byte_at self.old.engine.disk) (D.byte_at self.new.engine.disk) }
+        ensures lent { (self.new.engine.env.reinsertion ≡ self.old.engine.env.reinsertion) × (self.new.engine.env.io ≡ self.old.engine.env.io) }
     {
         self.engine.delete(key)
     }
@@ -222,6 +238,7 @@ impl<A: Allocator + Clone, D: Disk + Drop, L: MarkLog + Drop> MonitoredEngine<A,
         ensures waited { D.is_known self.old.engine.disk → D.is_known self.new.engine.disk
             × Waits plain self.old.engine.core self.new.engine.core
             (D.byte_at self.old.engine.disk) (D.byte_at self.new.engine.disk) }
+        ensures lent { (self.new.engine.env.reinsertion ≡ self.old.engine.env.reinsertion) × (self.new.engine.env.io ≡ self.old.engine.env.io) }
     {
         self.engine.wait()
     }
@@ -234,6 +251,7 @@ impl<A: Allocator + Clone, D: Disk + Drop, L: MarkLog + Drop> MonitoredEngine<A,
         ensures closed { D.is_known self.old.engine.disk → D.is_known self.new.engine.disk
             × Closes plain self.old.engine.core self.new.engine.core
             (D.byte_at self.old.engine.disk) (D.byte_at self.new.engine.disk) }
+        ensures lent { (self.new.engine.env.reinsertion ≡ self.old.engine.env.reinsertion) × (self.new.engine.env.io ≡ self.old.engine.env.io) }
     {
         self.engine.close()
     }
@@ -245,6 +263,7 @@ impl<A: Allocator + Clone, D: Disk + Drop, L: MarkLog + Drop> MonitoredEngine<A,
         ensures destroyed { D.is_known self.old.engine.disk → D.is_known self.new.engine.disk
             × Destroys (result ≡ Answer.Ok) plain self.old.engine.core self.new.engine.core
             (D.byte_at self.old.engine.disk) (D.byte_at self.new.engine.disk) }
+        ensures lent { (self.new.engine.env.reinsertion ≡ self.old.engine.env.reinsertion) × (self.new.engine.env.io ≡ self.old.engine.env.io) }
     {
         self.engine.destroy()
     }

@@ -55,6 +55,7 @@ where
         ensures answered { IsOkOrFault result }
         ensures destroyed { D.is_known self.old.disk → D.is_known self.new.disk × Destroys (result ≡ Answer.Ok) plain self.old.core self.new.core
             (D.byte_at self.old.disk) (D.byte_at self.new.disk) }
+        ensures lent { (self.new.env.reinsertion ≡ self.old.env.reinsertion) × (self.new.env.io ≡ self.old.env.io) }
     {
         let begun = step(&mut self.core, &mut self.env, Step::DestroyBegin);
         if let Err(kind) = answer_step(begun) {
@@ -71,6 +72,7 @@ where
         ensures answered { IsOkOrFault result }
         ensures waited { D.is_known self.old.disk → D.is_known self.new.disk × Waits plain self.old.core self.new.core
             (D.byte_at self.old.disk) (D.byte_at self.new.disk) }
+        ensures lent { (self.new.env.reinsertion ≡ self.old.env.reinsertion) × (self.new.env.io ≡ self.old.env.io) }
     {
         for _ in 0..u64::MAX {
             match self.flush_queued() {
@@ -86,6 +88,7 @@ where
         ensures answered { IsOkOrFault result }
         ensures destroyed { D.is_known self.old.disk → D.is_known self.new.disk × Destroys (result ≡ Answer.Ok) plain self.old.core self.new.core
             (D.byte_at self.old.disk) (D.byte_at self.new.disk) }
+        ensures lent { (self.new.env.reinsertion ≡ self.old.env.reinsertion) × (self.new.env.io ≡ self.old.env.io) }
     {
         for _ in 0..u64::MAX {
             match clear_blocks(&mut self.core, &mut self.env, &mut self.disk) {

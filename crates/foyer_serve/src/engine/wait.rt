@@ -34,6 +34,7 @@ where
         ensures rest { result ≡ Answer.Ok → ComesToRest plain self.old.core self.new.core }
         ensures waited { D.is_known self.old.disk → D.is_known self.new.disk × Waits plain self.old.core self.new.core
             (D.byte_at self.old.disk) (D.byte_at self.new.disk) }
+        ensures lent { (self.new.env.reinsertion ≡ self.old.env.reinsertion) × (self.new.env.io ≡ self.old.env.io) }
     {
         self.rereads = self.core.settings().blocks;
         for _ in 0..u64::MAX {
@@ -55,6 +56,7 @@ where
         ensures leads { result ≡ Answer.Ok → Leads plain LeavesAllIdle self.old.core self.new.core }
         ensures waited { D.is_known self.old.disk → D.is_known self.new.disk × Waits plain self.old.core self.new.core
             (D.byte_at self.old.disk) (D.byte_at self.new.disk) }
+        ensures lent { (self.new.env.reinsertion ≡ self.old.env.reinsertion) × (self.new.env.io ≡ self.old.env.io) }
     {
         self.rereads = self.core.settings().blocks;
         self.settle()
@@ -66,6 +68,7 @@ where
         ensures rest { result ≡ Answer.Ok → ComesToRest plain self.old.core self.new.core }
         ensures closed { D.is_known self.old.disk → D.is_known self.new.disk × Closes plain self.old.core self.new.core
             (D.byte_at self.old.disk) (D.byte_at self.new.disk) }
+        ensures lent { (self.new.env.reinsertion ≡ self.old.env.reinsertion) × (self.new.env.io ≡ self.old.env.io) }
     {
         let closed = step(&mut self.core, &mut self.env, Step::Close);
         match answer_step(closed) {
@@ -92,6 +95,7 @@ where
         ensures leads { result ≡ Answer.Ok → Leads plain LeavesAllIdle self.old.core self.new.core }
         ensures waited { D.is_known self.old.disk → D.is_known self.new.disk × Waits plain self.old.core self.new.core
             (D.byte_at self.old.disk) (D.byte_at self.new.disk) }
+        ensures lent { (self.new.env.reinsertion ≡ self.old.env.reinsertion) × (self.new.env.io ≡ self.old.env.io) }
     {
         for _ in 0..u64::MAX {
             match self.flush_all() {
@@ -113,6 +117,7 @@ where
         ensures waited { D.is_known self.old.disk → D.is_known self.new.disk × Waits plain self.old.core self.new.core
             (D.byte_at self.old.disk) (D.byte_at self.new.disk) }
         ensures lent { self.new.env.reinsertion ≡ self.old.env.reinsertion }
+        ensures io { self.new.env.io ≡ self.old.env.io }
     {
         for flusher in 0..self.core.settings().flushers {
             if self.core.is_idle(flusher) {
@@ -132,6 +137,7 @@ where
         ensures waited { D.is_known self.old.disk → D.is_known self.new.disk × Waits plain self.old.core self.new.core
             (D.byte_at self.old.disk) (D.byte_at self.new.disk) }
         ensures lent { self.new.env.reinsertion ≡ self.old.env.reinsertion }
+        ensures io { self.new.env.io ≡ self.old.env.io }
     {
         let id = self.next_wait;
         let queued = step(&mut self.core, &mut self.env, Step::Wait { flusher, id });
@@ -147,6 +153,7 @@ where
         ensures waited { D.is_known self.old.disk → D.is_known self.new.disk × Waits plain self.old.core self.new.core
             (D.byte_at self.old.disk) (D.byte_at self.new.disk) }
         ensures lent { self.new.env.reinsertion ≡ self.old.env.reinsertion }
+        ensures io { self.new.env.io ≡ self.old.env.io }
     {
         self.queue_wait(flusher)?;
         self.flush_waiting(flusher)
@@ -160,6 +167,7 @@ where
         ensures waited { D.is_known self.old.disk → D.is_known self.new.disk × Waits plain self.old.core self.new.core
             (D.byte_at self.old.disk) (D.byte_at self.new.disk) }
         ensures lent { self.new.env.reinsertion ≡ self.old.env.reinsertion }
+        ensures io { self.new.env.io ≡ self.old.env.io }
     {
         let mut has_ended = false;
         for _ in 0..u64::MAX {
@@ -186,6 +194,7 @@ where
         ensures waited { D.is_known self.old.disk → D.is_known self.new.disk × Waits plain self.old.core self.new.core
             (D.byte_at self.old.disk) (D.byte_at self.new.disk) }
         ensures lent { self.new.env.reinsertion ≡ self.old.env.reinsertion }
+        ensures io { self.new.env.io ≡ self.old.env.io }
     {
         for _ in 0..u64::MAX {
             let received = step(&mut self.core, &mut self.env, Step::Receive { flusher });
@@ -205,6 +214,7 @@ where
         ensures waited { D.is_known self.old.disk → D.is_known self.new.disk × Waits plain self.old.core self.new.core
             (D.byte_at self.old.disk) (D.byte_at self.new.disk) }
         ensures lent { self.new.env.reinsertion ≡ self.old.env.reinsertion }
+        ensures io { self.new.env.io ≡ self.old.env.io }
     {
         for _ in 0..u64::MAX {
             if !self.write_next(flusher)? {
@@ -220,6 +230,7 @@ where
         ensures waited { D.is_known self.old.disk → D.is_known self.new.disk × Waits plain self.old.core self.new.core
             (D.byte_at self.old.disk) (D.byte_at self.new.disk) }
         ensures lent { self.new.env.reinsertion ≡ self.old.env.reinsertion }
+        ensures io { self.new.env.io ≡ self.old.env.io }
     {
         let wrote = write_block(&mut self.core, &mut self.env, &mut self.disk, flusher);
         match answer_block(wrote) {
@@ -234,6 +245,7 @@ where
         ensures waited { D.is_known self.old.disk → D.is_known self.new.disk × Waits plain self.old.core self.new.core
             (D.byte_at self.old.disk) (D.byte_at self.new.disk) }
         ensures lent { self.new.env.reinsertion ≡ self.old.env.reinsertion }
+        ensures io { self.new.env.io ≡ self.old.env.io }
     {
         match self.reclaim() {
             Ok(false) => Err(ErrorKind::NoSpace),
@@ -248,6 +260,7 @@ where
         ensures waited { D.is_known self.old.disk → D.is_known self.new.disk × Waits plain self.old.core self.new.core
             (D.byte_at self.old.disk) (D.byte_at self.new.disk) }
         ensures lent { self.new.env.reinsertion ≡ self.old.env.reinsertion }
+        ensures io { self.new.env.io ≡ self.old.env.io }
     {
         if self.rereads > 0 {
             self.rereads -= 1;
@@ -264,6 +277,7 @@ where
         ensures waited { D.is_known self.old.disk → D.is_known self.new.disk × Waits plain self.old.core self.new.core
             (D.byte_at self.old.disk) (D.byte_at self.new.disk) }
         ensures lent { self.new.env.reinsertion ≡ self.old.env.reinsertion }
+        ensures io { self.new.env.io ≡ self.old.env.io }
     {
         answer_step(reclaim_block(&mut self.core, &mut self.env, &mut self.disk))
     }
@@ -272,6 +286,7 @@ where
     fn keep_clean(&mut self)
         ensures waited { D.is_known self.old.disk → D.is_known self.new.disk × Waits plain self.old.core self.new.core
             (D.byte_at self.old.disk) (D.byte_at self.new.disk) }
+        ensures lent { (self.new.env.reinsertion ≡ self.old.env.reinsertion) × (self.new.env.io ≡ self.old.env.io) }
     {
         for _ in 0..u64::MAX {
             match self.reclaim() {

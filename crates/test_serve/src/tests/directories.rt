@@ -13,6 +13,19 @@ disk again, 65536, 16384 < put 1 a, put 2 bb, wait, del 2, put 3 c, close | queu
 disk again, 65536, 16384 < get 1, get 2, get 3, get 4, put 1 z, wait, get 1 | entry a, entry bb, entry c, miss, queued, ok, entry z, status 0
 disk again, 65536, 16384 < get 1, get 2 | entry z, entry bb, status 0
 remove again | yes
+a delete is forgotten by a reopening, and with a block clean none is reclaimed
+disk forgotten, 32768, 16384 < put 1 a, wait, del 1, wait, close | queued, ok, ok, ok, ok, status 0
+disk forgotten, 32768, 16384 < get 1 | entry a, status 0
+remove forgotten | yes
+the sequence before the last is opened, and none is left for a put or a delete
+forge near its end < 1 18446744073709551614 4096 53 | yes
+disk near its end, 16384, 16384 < put 2 b, del 1 | fault SequenceEnd, fault SequenceEnd, status 1
+remove near its end | yes
+what was deleted without a log counts for no sequence: the mark had 2, and what is put next has it
+disk unmarked, 65536, 16384 < put 7 a, wait, del 7, wait | queued, ok, ok, ok, status 0
+disk unmarked, 65536, 16384 < get 7, put 2 b, wait | entry a, queued, ok, status 0
+list unmarked, 65536, 16384 | block 0, entry 7 1 4096 53 wins, end no-index 8192, block 1, entry 2 2 4096 53 wins, end no-index 8192, block 2, end no-index 0, block 3, end no-index 0, status 0, stays yes
+remove unmarked | yes
 other sizes find what fits
 disk sizes, 65536, 16384 < put 1 a, put 2 bb, put 3 c, wait, put 4 d, wait | queued, queued, queued, ok, queued, ok, status 0
 the second block isn't there any more, then there is a block more
@@ -126,6 +139,11 @@ remove log-first | yes
 a delete lasts where there is a log
 logged lasts, 65536, 16384 < put 1 a, put 2 b, wait, del 2, wait, get 1, get 2 | queued queued ok ok ok a miss of 3
 logged lasts, 65536, 16384 < get 1, get 2 | a miss of 3
+what is put next has the sequence behind that of the mark; the first file is the log
+logged marked, 65536, 16384 < put 7 a, wait, del 7, wait | queued ok ok ok of 3
+logged marked, 65536, 16384 < get 7, put 2 b, wait | miss queued ok of 3
+list marked, 65536, 16384 | block 0, end no-index 0, block 1, entry 7 1 4096 53 wins, end no-index 8192, block 2, entry 2 3 4096 53 wins, end no-index 8192, block 3, end no-index 0, status 0, stays yes
+remove marked | yes
 what is put again has a greater sequence than the mark
 logged lasts, 65536, 16384 < put 2 bb, wait, get 2 | queued ok bb of 3
 logged lasts, 65536, 16384 < get 1, get 2 | a bb of 3

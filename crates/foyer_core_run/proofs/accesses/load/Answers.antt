@@ -37,6 +37,7 @@ returns-in_default g c =
       missed = λ known not. look_up_missed m h throttled answer c.args.core.now c.apply.new.self bytes not (no_ticket answer c.in_default.not-Read) (λ s sound v at. c.apply.ensures.meets s sound v.core at);
       front = λ known. tt;
       unread = λ throttles. refl;
+      lent = c.apply.ensures.lent;
       known = λ known. known;
       same = refl;
     }

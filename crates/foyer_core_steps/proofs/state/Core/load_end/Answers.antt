@@ -1,4 +1,4 @@
-use Rattle.std.proofs.Common.{ℕ, List, Bool, true, ◌≡◌, ◌<◌, ◌&&◌, length, take, Some, Ok, Err, if◌then◌else◌, slice_get, refl, ap, sym, subst, ◌∙◌, arith}
+use Rattle.std.proofs.Common.{ℕ, List, Bool, true, ◌≡◌, ◌<◌, ◌&&◌, ◌⊎◌, length, take, drop, Some, Ok, Err, if◌then◌else◌, slice_get, refl, ap, sym, subst, ◌∙◌, arith}
 use Rattle.std.proofs.lemmas.Option.{slice_get_within}
 use Rattle.std.specs.Cmp.Derive.{both_true}
 use Rattle.foyer_device_page.specs.declared.error.ErrorKind.TheVariants as kind
@@ -13,11 +13,12 @@ use Rattle.foyer_core_model.specs.Record.{Outcome, Holds}
 use Rattle.foyer_core_steps.specs.Asked.{ticket_of, age_of as asked_age}
 use Rattle.foyer_core_laws.specs.Content.{Content, content, meaning}
 use Rattle.foyer_core_laws.specs.CoreRules.{machine}
+use Rattle.foyer_core_steps.specs.Answered.{MayWantMemory}
 use Rattle.foyer_core_steps.specs.Refines.{IsRefinedUncounted}
 use Rattle.foyer_block_manager.specs.BlockSets.{IsBlockAs}
 use Rattle.foyer_core_steps.specs.declared.reply.Reply.TheVariants as reply
 use Rattle.foyer_core_steps.specs.declared.step.Step.TheVariants as step
-use Rattle.foyer_core_steps.proofs.LoadLemmas.{judged_past, judged_now, misses, answers, refuses}
+use Rattle.foyer_core_steps.proofs.LoadLemmas.{judged_past, judged_now, misses, answers, refuses, refused_memory}
 use Rattle.foyer_core_steps.proofs.TurnLemmas.{is_early, same, refused, not_now, comes_back, comes_back_late}
 use Rattle.foyer_core_steps.proofs.state.Core.load_end.Goals as goal
 use Rattle.foyer_core_steps.proofs.state.Core.load_end.Goals.{then-state, else-state}
@@ -120,3 +121,14 @@ returns-in-Err-read_record-clause-meets g c = λ age_of s sound it stands few.
     (subst (λ k. IsRefinedUncounted m s sound (step.LoadEnd t (Ok c.in-Ok.bytes)) (reply.Refused k (step.LoadEnd t (Ok c.in-Ok.bytes))) old it) (sym c.kind.ensures)
     (refuses m s sound it t c.in-Ok.bytes there as_issued old (judge c.deref.result.now) e stands
     (is_early m s old it stands few) (judged_now m s sound it t c.in-Ok.bytes.items _ filling (ap judge (sym c.deref.ensures.value))) c.in-Err-read_record.ensures.fault)))
+
+pub returns-in-Err-read_record-clause-memory : goal.returns-in-Err-read_record-clause-memory
+returns-in-Err-read_record-clause-memory g c = λ back is.
+    let wants = MayWantMemory g.K.Code.takes_memory g.V.Code.takes_memory (g.A.Clone.is_infallible c.args.self.now.alloc) c.args.ticket in
+    let taking : List ℕ → Type 0 = λ bytes. (value_len key_len : ℕ)
+    × (g.V.Code.takes_memory (take value_len (drop 36 (take c.args.ticket.address.len bytes)))
+    ⊎ g.K.Code.takes_memory (take key_len (drop value_len (drop 36 (take c.args.ticket.address.len bytes))))
+    ⊎ (g.A.Clone.is_infallible c.args.self.now.alloc → ⊥)) in
+    let memory = refused_memory c.in-Err-read_record.error c.kind.result c.load_end-in-Err-read_record.result back c.kind.ensures is in
+    subst (λ o. wants o) (sym c.in-Ok.is)
+    (subst taking c.deref.ensures.value (c.in-Err-read_record.ensures.memory memory))

@@ -1,4 +1,4 @@
-use Rattle.std.proofs.Common.{◌≡◌, refl}
+use Rattle.std.proofs.Common.{◌≡◌, refl, ◌∙◌}
 use Rattle.foyer_core_run.specs.declared.moves.Move.TheVariants as move
 use Rattle.foyer_core_run.proofs.DestroyLemmas.{destroys_begun, destroys_if, destroys_waiting}
 use Rattle.foyer_serve.specs.Texts.{plain}
@@ -39,4 +39,5 @@ returns-in_default-flush_until_done g c =
             destroys_if plain ⊥ (c.flush_until_done.result ≡ answer.Ok) c.step-begun.new.core flushed bytes after
                 c.in_default-flush_until_done.not-Ok (destroys_waiting plain c.step-begun.new.core flushed bytes after waited.1),
           ));
+      lent = (c.flush_until_done.ensures.lent.0 ∙ c.step-begun.ensures.lent.0, c.flush_until_done.ensures.lent.1 ∙ c.step-begun.ensures.lent.1);
     }

@@ -12,6 +12,7 @@ loop-flusher-init g c = (
   known_none plain (g.D.Disk.is_known c.args.self.now.disk) c.args.self.now.core (g.D.Disk.byte_at c.args.self.now.disk),
   leads_none plain (LeavesIdleBelow c.args.self.now.env.reinsertion 0) c.args.self.now.core (λ it none f below. absurd (omega (arith, below))),
   refl,
+  refl,
 )
 
 pub returns-in-Err-clause-waited : goal.returns-in-Err-clause-waited
@@ -24,6 +25,7 @@ loop-flusher-preserved g c = (
   flusher_more plain c.loop-flusher.flusher c.args.self.now.core c.loop-flusher.self.core c.flush.new.self.core c.args.self.now.env.reinsertion (c.loop-flusher.flusher + 1) refl c.loop-flusher.invariant.1
       (subst (λ k. Leads plain (LeavesIdle k c.loop-flusher.flusher) c.loop-flusher.self.core c.flush.new.self.core) c.loop-flusher.invariant.2 c.in-Ok.ensures.leads),
   c.flush.ensures.lent ∙ c.loop-flusher.invariant.2,
+  c.flush.ensures.io ∙ c.loop-flusher.invariant.3,
 )
 
 pub loop-flusher-preserved-then-is_idle : goal.loop-flusher-preserved-then-is_idle
@@ -32,6 +34,7 @@ loop-flusher-preserved-then-is_idle g c = (
   flusher_more plain c.loop-flusher.flusher c.args.self.now.core c.loop-flusher.self.core c.loop-flusher.self.core c.args.self.now.env.reinsertion (c.loop-flusher.flusher + 1) refl c.loop-flusher.invariant.1
       (left_alone c.args.self.now.env.reinsertion c.loop-flusher.flusher c.loop-flusher.self.core (still_idle plain c.loop-flusher.self.core c.loop-flusher.flusher (λ found lt at. sym (c.is_idle.ensures.there found lt at) ∙ c.if-is_idle.true))),
   c.loop-flusher.invariant.2,
+  c.loop-flusher.invariant.3,
 )
 
 pub returns-clause-leads : goal.returns-clause-leads
@@ -46,3 +49,6 @@ returns-clause-waited g c =
 
 pub returns-clause-lent : goal.returns-clause-lent
 returns-clause-lent g c = c.loop-flusher.invariant.2
+
+pub returns-clause-io : goal.returns-clause-io
+returns-clause-io g c = c.loop-flusher.invariant.3

@@ -13,6 +13,7 @@ loop-init g c = (
   known_none plain (g.D.Disk.is_known c.args.self.now.disk) c.args.self.now.core (g.D.Disk.byte_at c.args.self.now.disk),
   leads_none plain (EndsBatchOnce c.args.self.now.env.reinsertion false c.args.flusher) c.args.self.now.core (λ it. ((λ none g ne idle. idle), λ ended. absurd (let e : false ≡ true = ended in cc))),
   refl,
+  refl,
 )
 
 pub returns-in_err-is_empty-clause-waited : goal.returns-in_err-is_empty-clause-waited
@@ -68,6 +69,7 @@ loop-preserved g c =
           (done_something c.step-end.result c.in_ok-answer_step.field-0 (sym c.answer_step-in-loop.ensures ∙ c.in_ok-answer_step.was) c.if-not-branch.false)
           (subst (λ k. Leads plain (KeepsOthersIdle k c.args.flusher) c.begin_batch-begin.new.core c.write_all.new.self.core) still c.in_ok-write_all.ensures.leads) c.step-end.ensures.meets,
       c.step-end.ensures.lent.0 ∙ c.write_all.ensures.lent ∙ still,
+      c.step-end.ensures.lent.1 ∙ c.write_all.ensures.io ∙ c.begin_batch-begin.ensures.lent.1 ∙ c.receive_all.ensures.io ∙ c.loop.invariant.3,
     )
 
 pub returns-clause-waited : goal.returns-clause-waited
@@ -75,3 +77,6 @@ returns-clause-waited g c = c.loop.invariant.0
 
 pub returns-clause-lent : goal.returns-clause-lent
 returns-clause-lent g c = c.loop.invariant.2
+
+pub returns-clause-io : goal.returns-clause-io
+returns-clause-io g c = c.loop.invariant.3

@@ -1,18 +1,29 @@
+use Rattle.std.proofs.Common.{refl, ◌∙◌}
 use Rattle.foyer_core_run.proofs.WaitingLemmas.{known_more, known_none}
 use Rattle.foyer_serve.specs.Texts.{plain}
 use Rattle.foyer_serve.proofs.engine.Engine.keep_clean.Goals as goal
 
 pub loop-init : goal.loop-init
-loop-init g c = known_none plain (g.D.Disk.is_known c.args.self.now.disk) c.args.self.now.core (g.D.Disk.byte_at c.args.self.now.disk)
+loop-init g c = (known_none plain (g.D.Disk.is_known c.args.self.now.disk) c.args.self.now.core (g.D.Disk.byte_at c.args.self.now.disk), refl, refl)
 
 pub returns-in_default : goal.returns-in_default
-returns-in_default g c = record { waited = known_more plain c.args.self.now.core c.loop.self.core c.reclaim.new.self.core (g.D.Disk.byte_at c.args.self.now.disk) (g.D.Disk.byte_at c.loop.self.disk) (g.D.Disk.byte_at c.reclaim.new.self.disk) c.loop.invariant c.reclaim.ensures.waited }
+returns-in_default g c = record {
+  waited = known_more plain c.args.self.now.core c.loop.self.core c.reclaim.new.self.core (g.D.Disk.byte_at c.args.self.now.disk) (g.D.Disk.byte_at c.loop.self.disk) (g.D.Disk.byte_at c.reclaim.new.self.disk) c.loop.invariant.0 c.reclaim.ensures.waited;
+  lent = (c.reclaim.ensures.lent ∙ c.loop.invariant.1, c.reclaim.ensures.io ∙ c.loop.invariant.2);
+}
 
 pub returns-in_default-2 : goal.returns-in_default-2
-returns-in_default-2 g c = record { waited = known_more plain c.args.self.now.core c.loop.self.core c.reclaim.new.self.core (g.D.Disk.byte_at c.args.self.now.disk) (g.D.Disk.byte_at c.loop.self.disk) (g.D.Disk.byte_at c.reclaim.new.self.disk) c.loop.invariant c.reclaim.ensures.waited }
+returns-in_default-2 g c = record {
+  waited = known_more plain c.args.self.now.core c.loop.self.core c.reclaim.new.self.core (g.D.Disk.byte_at c.args.self.now.disk) (g.D.Disk.byte_at c.loop.self.disk) (g.D.Disk.byte_at c.reclaim.new.self.disk) c.loop.invariant.0 c.reclaim.ensures.waited;
+  lent = (c.reclaim.ensures.lent ∙ c.loop.invariant.1, c.reclaim.ensures.io ∙ c.loop.invariant.2);
+}
 
 pub loop-preserved : goal.loop-preserved
-loop-preserved g c = known_more plain c.args.self.now.core c.loop.self.core c.reclaim.new.self.core (g.D.Disk.byte_at c.args.self.now.disk) (g.D.Disk.byte_at c.loop.self.disk) (g.D.Disk.byte_at c.reclaim.new.self.disk) c.loop.invariant c.reclaim.ensures.waited
+loop-preserved g c = (
+  known_more plain c.args.self.now.core c.loop.self.core c.reclaim.new.self.core (g.D.Disk.byte_at c.args.self.now.disk) (g.D.Disk.byte_at c.loop.self.disk) (g.D.Disk.byte_at c.reclaim.new.self.disk) c.loop.invariant.0 c.reclaim.ensures.waited,
+  c.reclaim.ensures.lent ∙ c.loop.invariant.1,
+  c.reclaim.ensures.io ∙ c.loop.invariant.2,
+)
 
 pub returns : goal.returns
-returns g c = record { waited = c.loop.invariant }
+returns g c = record { waited = c.loop.invariant.0; lent = (c.loop.invariant.1, c.loop.invariant.2) }

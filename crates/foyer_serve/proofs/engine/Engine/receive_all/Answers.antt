@@ -13,6 +13,7 @@ loop-init g c = (
   known_none plain (g.D.Disk.is_known c.args.self.now.disk) c.args.self.now.core (g.D.Disk.byte_at c.args.self.now.disk),
   leads_none plain (BeginsNone c.args.flusher) c.args.self.now.core (λ it. begins_none_same c.args.flusher it it refl),
   refl,
+  refl,
 )
 
 pub returns-in_err-answer_step-clause-waited : goal.returns-in_err-answer_step-clause-waited
@@ -41,6 +42,7 @@ loop-preserved g c = (
   known_more plain c.args.self.now.core c.loop.self.core c.step-received.new.core (g.D.Disk.byte_at c.args.self.now.disk) (g.D.Disk.byte_at c.loop.self.disk) (g.D.Disk.byte_at c.loop.self.disk) c.loop.invariant.0 (known_said plain (g.D.Disk.is_known c.loop.self.disk) (move.Receive c.args.flusher) c.step-received.result c.loop.self.core c.step-received.new.core (g.D.Disk.byte_at c.loop.self.disk) tt (c.step-received.ensures.runs (move.Receive c.args.flusher) refl (g.D.Disk.byte_at c.loop.self.disk))),
   receive_more plain c.args.flusher c.args.self.now.core c.loop.self.core c.step-received.new.core c.step-received.result c.loop.invariant.1 c.step-received.ensures.meets,
   c.step-received.ensures.lent.0 ∙ c.loop.invariant.2,
+  c.step-received.ensures.lent.1 ∙ c.loop.invariant.3,
 )
 
 pub returns-clause-waited : goal.returns-clause-waited
@@ -48,3 +50,6 @@ returns-clause-waited g c = c.loop.invariant.0
 
 pub returns-clause-lent : goal.returns-clause-lent
 returns-clause-lent g c = c.loop.invariant.2
+
+pub returns-clause-io : goal.returns-clause-io
+returns-clause-io g c = c.loop.invariant.3

@@ -1,3 +1,4 @@
+use Rattle.std.proofs.Common.{◌≡◌}
 use Rattle.foyer_core_run.specs.AtRest.{Leads}
 use Rattle.foyer_core_run.proofs.RestLemmas.{IsAny}
 use Rattle.foyer_serve.specs.Texts.{plain}
@@ -6,3 +7,4 @@ use Rattle.foyer_serve.proofs.engine.Engine.settle.Given as goal
 
 abbrev pub invariant-loop : goal.invariant-loop
 invariant-loop g l = Waited g.D.Disk.is_known g.D.Disk.byte_at l.fn.self l.self × Leads plain IsAny l.fn.self.core l.self.core
+    × (l.self.env.reinsertion ≡ l.fn.self.env.reinsertion) × (l.self.env.io ≡ l.fn.self.env.io)

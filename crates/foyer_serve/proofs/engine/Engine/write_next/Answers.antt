@@ -19,6 +19,7 @@ returns-in_default g c = record {
   leads = written_alone c.args.self.now.env.reinsertion c.args.flusher c.args.self.now.core c.write_block-wrote.new.core c.write_block-wrote.ensures.leads;
   waited = known_wrote plain c.args.flusher c.write_block-wrote.result c.args.self.now.core c.write_block-wrote.new.core (g.D.Disk.byte_at c.args.self.now.disk) (g.D.Disk.byte_at c.write_block-wrote.new.disk) c.write_block-wrote.ensures.known c.write_block-wrote.ensures.writes;
   lent = c.write_block-wrote.ensures.lent.0;
+  io = c.write_block-wrote.ensures.lent.1;
 }
 
 pub returns-in_default-2-clause-leads : goal.returns-in_default-2-clause-leads
