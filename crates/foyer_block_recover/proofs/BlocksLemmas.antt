@@ -151,6 +151,18 @@ module _ {A : Type 0} where
             let ne : b ≢ n = eqb-false b n e in
             subst (Each (IsPlaced s)) (ap (λ (t : Bool). if t then this.keeps else before.keeps b) (sym e)) (before.placed b (omega arith))
 
+  -- the same where it is sure of fewer places
+  pub read_with_fewer : (s : Sizes) (n : ℕ) (bytes : ℕ → ℕ → ℕ) (more fewer : ℕ → ℕ → ℕ → Type 0) (strict : Bool) (read : BlocksRead A)
+      → ((b o k : ℕ) → fewer b o k → more b o k) → AreBlocksRead s n bytes more strict read → AreBlocksRead s n bytes fewer strict read
+  read_with_fewer s n bytes more fewer strict read within are = record {
+    failed = are.failed;
+    faults = λ b p lt bad sure. are.faults b p lt bad (within b p s.index sure);
+    keeps = are.keeps;
+    kept = are.kept;
+    whole = are.whole;
+    holds = are.holds;
+  }
+
   module _ (s : Sizes) (bytes : ℕ → ℕ → ℕ) (surely : ℕ → ℕ → ℕ → Type 0) (strict : Bool) where
     pub none_read : (read : BlocksRead A) → ((keeps : ℕ → List BlobEntryIndex) → HoldsKept read 0 keeps) → AreBlocksRead s 0 bytes surely strict read
     none_read read holds = record {

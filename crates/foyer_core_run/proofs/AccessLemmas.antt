@@ -23,7 +23,7 @@ use Rattle.foyer_core_blocks.proofs.ListLemmas.{set_count, set_here}
 use Rattle.foyer_core_run.specs.Accesses.{Says, WritesAll, WritesUntil, load_of, writes_of}
 use Rattle.foyer_core_run.specs.Moves.{asked}
 use Rattle.foyer_core_run.specs.Running.{IsFree, IsMoved, at, block_in, cleans_noted, issuing_in, scans_noted, ticket_in, with_ticket}
-use Rattle.foyer_core_run.specs.Runs.{IsFront, IsRun}
+use Rattle.foyer_core_run.specs.Runs.{IsFront, IsRun, Runs}
 use Rattle.foyer_core_run.specs.declared.moves.Asked.TheVariants as asks
 use Rattle.foyer_core_run.specs.declared.moves.Move.{Move}
 use Rattle.foyer_core_run.specs.declared.moves.Move.TheVariants as move
@@ -232,6 +232,19 @@ module _ {K V P A : Type 0} (m : Meaning K V P) where
             subst (λ n. IsRun m s sound w (writes_of f n) (reply.Write b are.ws ∷ replicate n reply.Next) core bytes') all
             (subst (λ xs. IsRun m s sound w (writes_of f k) (reply.Write b are.ws ∷ xs) core bytes') are.rest_is run);
       }
+
+  -- a run of the block and of the writes so far
+  pub written_so_far : (f b k : ℕ) (items : List (Write A)) (old core : Core K V P A) (bytes bytes' : ℕ → ℕ → ℕ) → AreWritten f b k items old core bytes bytes'
+      → (ws : Vec (Write A) A) × (now : ℕ → ℕ → ℕ) × (ws.items ≡ items) × Runs m (writes_of f k) (reply.Write b ws ∷ replicate k reply.Next) old core bytes now
+  written_so_far f b k items old core bytes bytes' are = (
+    are.ws,
+    bytes',
+    are.items_are,
+    λ s sound w stands same.
+        let writing = are.writing s sound w stands same in
+        let run = gone m s sound w (writes_of f k) [] writing.issued (unscanned s) (uncleaned s) (reply.Write b are.ws ∷ are.rest) core bytes' writing.going in
+        subst (λ xs. IsRun m s sound w (writes_of f k) (reply.Write b are.ws ∷ xs) core bytes') are.rest_is run,
+  )
 
   pub written_on : (f b k : ℕ) (items : List (Write A)) (write : Write A) (outcome : _) (answer : Reply K V P A) (old core new : Core K V P A) (bytes bytes' bytes'' : ℕ → ℕ → ℕ)
       → AreWritten f b k items old core bytes bytes' → k < length items → slice_get items k ≡ Some write → IsDone bytes' bytes'' b write (went_well outcome)

@@ -27,3 +27,4 @@ pub mod StoppedRuns
 pub mod WriteLemmas
 pub mod ThrottleLemmas
 pub mod WaitingLemmas
+mod HonestLemmas

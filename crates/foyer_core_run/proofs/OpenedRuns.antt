@@ -1,10 +1,10 @@
 -- A core that was opened begins a history, and runs from it are lawful.
-use Rattle.std.proofs.Common.{◌≡◌, ◌≢◌, ◌⊎◌, inl, inr, Result, Ok, Err, IfErr, ℕ, ◌==◌, Bool, true, false, if◌then◌else◌, Option, Some, None, List, [], ◌∷◌, refl, sym, ap, subst, ◌∙◌}
+use Rattle.std.proofs.Common.{◌≡◌, ◌⊎◌, inl, inr, Result, Ok, Err, IfErr, ℕ, Bool, if◌then◌else◌, Some, None, List, [], ◌∷◌, refl, sym, ap, subst, ◌∙◌}
 use Rattle.std.proofs.lemmas.Bool.{eq-eqb}
 use Rattle.foyer_device_page.specs.declared.error.Error.{Error}
 use Rattle.foyer_device_page.specs.declared.error.Error.TheVariants as error
 use Rattle.foyer_core_model.specs.Opened.{IsOpened as IsOpenedWorld, slot_among, recovered}
-use Rattle.foyer_core_model.specs.Record.{Address, Slot, Indexed}
+use Rattle.foyer_core_model.specs.Record.{Address, Indexed}
 use Rattle.foyer_core_model.specs.Rules.{Rules}
 use Rattle.foyer_core_model.specs.World.{World}
 use Rattle.foyer_block_recover.specs.Opening.{Opened}
@@ -24,7 +24,7 @@ use Rattle.foyer_core_steps.proofs.OpenedLemmas.{opened_stands}
 use Rattle.foyer_core_run.specs.Begun.{IsBegun, IsBegunEmpty}
 use Rattle.foyer_core_run.specs.Lawful.{IsLawful, IsLawfulEmpty, IsLawfulFrom}
 use Rattle.foyer_core_run.specs.Newest.{IsHistory}
-use Rattle.foyer_core_run.specs.Runs.{IsRun, Runs}
+use Rattle.foyer_core_run.specs.Runs.{Runs}
 use Rattle.foyer_core_run.specs.declared.moves.Move.{Move}
 use Rattle.foyer_core_run.proofs.LawfulLemmas.{lawful}
 
@@ -118,3 +118,13 @@ module _ {K V P : Type 0} (m : Meaning K V P) (s : Settings) (sound : AreValid s
         next = none_drawn (sizes_in s) s.blocks shown surely from.found from.recovered;
         lawful = subst (λ l. IsLawful m s sound (world_of bytes from.found l) moves said) listed from.lawful;
       }
+
+-- an opening of which it is sure of fewer places
+pub opened_with_fewer : {K V P A : Type 0} (s : Settings) (bytes : ℕ → ℕ → ℕ) (more fewer : ℕ → ℕ → ℕ → Type 0) (mode : RecoverMode) (marks : List (ℕ × ℕ)) (seen : Type 0) (core : Core K V P A)
+    → ((b o n : ℕ) → fewer b o n → more b o n) → IsOpenedFrom s bytes more mode marks seen core → IsOpenedFrom s bytes fewer mode marks seen core
+opened_with_fewer s bytes more fewer mode marks seen core within from = record {
+  found = from.found;
+  opening = from.opening;
+  recovered = λ is_seen. let all = from.recovered is_seen in (all.0, (λ b p lt bad sure. all.1 b p lt bad (within b p (sizes_in s).index sure)), all.2);
+  opened = from.opened;
+}

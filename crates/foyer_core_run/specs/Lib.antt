@@ -14,3 +14,4 @@ pub mod Runs
 pub mod Stopped
 pub mod Texts
 pub mod Waiting
+pub mod Honest

@@ -1,5 +1,7 @@
 //! A load and a block's writes, each with its accesses in their place.
-ghost use Rattle.std.specs.Prelude.{ℕ, List, ◌++◌, ◌≡◌, ◌∷◌, [], true, false, OnErr, IfOk, IfSome, IfNone};
+ghost use Rattle.std.specs.Prelude.{ℕ, List, ◌++◌, ◌≡◌, ◌∷◌, [], true, false, OnErr, IfOk, IfSome, IfNone, ◌≤◌};
+ghost use Rattle.foyer_core_run.specs.Honest.{FailsAtRead, FailsForCause};
+ghost use Rattle.foyer_io_disk.specs.Disk.{SurelyCame};
 ghost use Rattle.foyer_core_model.specs.World.{World, WorldEvent};
 ghost use Rattle.foyer_core_laws.specs.Content.{Content, Meaning, meaning};
 ghost use Rattle.foyer_core_laws.specs.Sizes.{AreValid};
@@ -70,7 +72,9 @@ fn put_back<A: Allocator>(spare: &mut Vec<u8, A>, buffer: Option<Vec<u8, A>>)
 /// newest put of the hash, whatever led here. Where the newest event is a put, it is answered, or `Refused` for a
 /// failed read or for memory, unless the caller throttles, a reclaim of its block or a destroy began, or under two
 /// steps are left. `Err` is a refused allocation: then nothing was read, and the load never ends. The read goes into the
-/// memory of `spare`, whatever it holds, and only a step that is handed back keeps that memory. Of a disk whose bytes
+/// memory of `spare`, whatever it holds, and only a step that is handed back keeps that memory. `Refused` for `Io` is only
+/// answered where the read of the address that the index has of the hash failed: not where the disk surely has that
+/// range, nor where it surely lies in it and no fault was counted. Of a disk whose bytes
 /// aren't known nothing is claimed but that the load returns.
 pub fn load<K, V, P, A, D, E, C>(
     core: &mut Core<K, V, P, A>,
@@ -100,12 +104,18 @@ where
     ensures missed { D.is_known disk.old → IfOk result (λ last. throttled ≡ false → IsMissedForCause
         (meaning K.encoding V.encoding K.is_encodable V.is_encodable K.is_decodable V.is_decodable P.age)
         hash core.old (D.byte_at disk.old) last) }
+    ensures honest { IfOk result (FailsAtRead
+        (meaning K.encoding V.encoding K.is_encodable V.is_encodable K.is_decodable V.is_decodable P.age)
+        hash (SurelyCame (D.surely_has disk.old) (D.surely_lies disk.old) (D.faults disk.old) (D.faults disk.new)) core.old) }
     ensures front { D.is_known disk.old → OnErr result (IsFront
         (meaning K.encoding V.encoding K.is_encodable V.is_encodable K.is_decodable V.is_decodable P.age)
         (load_of hash throttled) core.old core.new (D.byte_at disk.old) (D.byte_at disk.new)) }
     ensures unread { throttled ≡ true → disk.new ≡ disk.old }
     ensures lent { (env.new.reinsertion ≡ env.old.reinsertion) × (env.new.io ≡ env.old.io) }
     ensures known { D.is_known disk.old → D.is_known disk.new }
+    ensures has { (b o n : ℕ) → D.surely_has disk.old b o n → D.surely_has disk.new b o n }
+    ensures lies { (b o n : ℕ) → D.surely_lies disk.old b o n → D.surely_lies disk.new b o n }
+    ensures counted { D.faults disk.old ≤ D.faults disk.new }
     ensures same { D.byte_at disk.new ≡ D.byte_at disk.old }
 {
     let ticket = match core.apply(env, Step::LoadBegin { hash, throttled }) {
@@ -120,7 +130,8 @@ where
 
 /// Asks a flusher for a block, does the writes that this issues in their order, and reports each: what was answered last,
 /// which never asks for another write, `None` where the block has no write or none that ended it. After a write that failed, and after a report that didn't
-/// ask for the next, the block's others aren't done. Of a disk whose bytes aren't known it is only claimed that the other
+/// ask for the next, the block's others aren't done. `Failed` is only answered where a write that was issued failed, or the
+/// index had to grow for the block's records. Of a disk whose bytes aren't known it is only claimed that the other
 /// flushers keep what they have.
 pub fn write_block<K, V, P, A, D, E, C>(
     core: &mut Core<K, V, P, A>,
@@ -142,6 +153,9 @@ where
     ensures drives { D.is_known disk.old → Drives
         (meaning K.encoding V.encoding K.is_encodable V.is_encodable K.is_decodable V.is_decodable P.age)
         core.old core.new (D.byte_at disk.old) (D.byte_at disk.new) }
+    ensures honest { IfSome result (FailsForCause
+        (meaning K.encoding V.encoding K.is_encodable V.is_encodable K.is_decodable V.is_decodable P.age)
+        flusher (SurelyCame (D.surely_has disk.old) (D.surely_lies disk.old) (D.faults disk.old) (D.faults disk.new)) (D.is_known disk.old) core.old (D.byte_at disk.old)) }
     ensures ends { IfSome result (AsksNoMore
         (meaning K.encoding V.encoding K.is_encodable V.is_encodable K.is_decodable V.is_decodable P.age)
         core.old) }
@@ -150,6 +164,9 @@ where
         (KeepsOthers flusher) core.old core.new }
     ensures lent { (env.new.reinsertion ≡ env.old.reinsertion) × (env.new.io ≡ env.old.io) }
     ensures known { D.is_known disk.old → D.is_known disk.new }
+    ensures has { (b o n : ℕ) → D.surely_has disk.old b o n → D.surely_has disk.new b o n }
+    ensures lies { (b o n : ℕ) → D.surely_lies disk.old b o n → D.surely_lies disk.new b o n }
+    ensures counted { D.faults disk.old ≤ D.faults disk.new }
 {
     let (block, writes) = match core.apply(env, Step::FlushBlock { flusher }) {
         Reply::Write { block, writes } => (block, writes),

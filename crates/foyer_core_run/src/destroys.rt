@@ -1,5 +1,5 @@
 //! The clear of a destroy, with the cleans of all blocks.
-ghost use Rattle.std.specs.Prelude.{◌≡◌, IfOk, IfErr};
+ghost use Rattle.std.specs.Prelude.{◌≡◌, IfOk, IfErr, ℕ, ◌≤◌};
 ghost use Rattle.foyer_core_laws.specs.Content.{meaning};
 ghost use Rattle.foyer_core_run.specs.Destroys.{Cleans, IsClearing, IsUncleared};
 ghost use Rattle.foyer_core_run.specs.Waiting.{DrivesBy};
@@ -35,6 +35,8 @@ where
         (meaning K.encoding V.encoding K.is_encodable V.is_encodable K.is_decodable V.is_decodable P.age)
         block result core.old core.new (D.byte_at disk.old) (D.byte_at disk.new) }
     ensures known { D.is_known disk.old → D.is_known disk.new }
+    ensures lies { (b o n : ℕ) → D.surely_lies disk.old b o n → D.surely_lies disk.new b o n }
+    ensures counted { D.faults disk.old ≤ D.faults disk.new }
     ensures lent { (env.new.reinsertion ≡ env.old.reinsertion) × (env.new.io ≡ env.old.io) }
 {
     let cleaned = clean_block(disk, block);
@@ -73,6 +75,8 @@ where
         (meaning K.encoding V.encoding K.is_encodable V.is_encodable K.is_decodable V.is_decodable P.age)
         core.old core.new (D.byte_at disk.old) (D.byte_at disk.new)) }
     ensures known { D.is_known disk.old → D.is_known disk.new }
+    ensures lies { (b o n : ℕ) → D.surely_lies disk.old b o n → D.surely_lies disk.new b o n }
+    ensures counted { D.faults disk.old ≤ D.faults disk.new }
     ensures lent { (env.new.reinsertion ≡ env.old.reinsertion) × (env.new.io ≡ env.old.io) }
 {
     let blocks = core.settings().blocks;

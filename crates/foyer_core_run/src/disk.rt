@@ -1,8 +1,8 @@
 //! The accesses of a core's tickets and writes, done at a disk.
-ghost use Rattle.std.specs.Prelude.{◌≡◌, length, vec_len, IsOk, IfOk, IfErr, OnOk, OnErr};
+ghost use Rattle.std.specs.Prelude.{◌≡◌, length, vec_len, IsOk, IfOk, IfErr, OnOk, OnErr, ℕ, ◌≤◌};
 ghost use Rattle.foyer_format_layout.specs.Page.{page_up};
 ghost use Rattle.foyer_core_flusher.specs.Issuing.{written_bytes};
-ghost use Rattle.foyer_io_disk.specs.Disk.{IsRead, IsWritten, IsTorn};
+ghost use Rattle.foyer_io_disk.specs.Disk.{IsRead, IsWritten, IsTorn, SurelyCame};
 
 use foyer_block_index::manager::BlockId;
 use foyer_core_steps::reply::Write;
@@ -26,9 +26,14 @@ pub fn do_read<A: Allocator, D: Disk>(
         vec_len bytes ≡ page_up ticket.now.address.len)) }
     ensures succeeds { D.surely_has disk.old ticket.now.address.block ticket.now.address.offset (page_up ticket.now.address.len)
         → IfOk result IsOk }
+    ensures fails { IfOk result (λ outcome. OnErr outcome (SurelyCame (D.surely_has disk.old) (D.surely_lies disk.old) (D.faults disk.old) (D.faults disk.new)
+        ticket.now.address.block ticket.now.address.offset (page_up ticket.now.address.len) → ⊥)) }
     ensures within { IfOk result (λ outcome. OnOk outcome (D.may_have disk.old ticket.now.address.block ticket.now.address.offset (page_up ticket.now.address.len))) }
     ensures fault { IfOk result (λ outcome. IfErr outcome (D.may_answer disk.old ticket.now.address.block ticket.now.address.offset (page_up ticket.now.address.len))) }
     ensures known { D.is_known disk.old → D.is_known disk.new }
+    ensures has { (b o n : ℕ) → D.surely_has disk.old b o n → D.surely_has disk.new b o n }
+    ensures lies { (b o n : ℕ) → D.surely_lies disk.old b o n → D.surely_lies disk.new b o n }
+    ensures counted { D.faults disk.old ≤ D.faults disk.new }
     ensures same { D.byte_at disk.new ≡ D.byte_at disk.old }
 {
     let len = ticket.read_len();
@@ -52,7 +57,12 @@ pub fn do_write<A: Allocator, D: Disk>(disk: &mut D, block: BlockId, write: &Wri
     ensures torn { D.is_known disk.old → OnErr result
         (IsTorn (D.byte_at disk.old) block write.now.offset (length (written_bytes write.now.bytes)) (D.byte_at disk.new)) }
     ensures known { D.is_known disk.old → D.is_known disk.new }
+    ensures has { (b o n : ℕ) → D.surely_has disk.old b o n → D.surely_has disk.new b o n }
+    ensures lies { (b o n : ℕ) → D.surely_lies disk.old b o n → D.surely_lies disk.new b o n }
+    ensures counted { D.faults disk.old ≤ D.faults disk.new }
     ensures succeeds { D.surely_has disk.old block write.now.offset (length (written_bytes write.now.bytes)) → IsOk result }
+    ensures fails { OnErr result (SurelyCame (D.surely_has disk.old) (D.surely_lies disk.old) (D.faults disk.old) (D.faults disk.new)
+        block write.now.offset (length (written_bytes write.now.bytes)) → ⊥) }
     ensures within { OnOk result (D.may_have disk.old block write.now.offset (length (written_bytes write.now.bytes))) }
     ensures fault { IfErr result (D.may_answer disk.old block write.now.offset (length (written_bytes write.now.bytes))) }
 {

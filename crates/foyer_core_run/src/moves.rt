@@ -1,5 +1,5 @@
 //! Runs of the core over a disk.
-ghost use Rattle.std.specs.Prelude.{◌≡◌, ◌+◌, ◌≤◌, vec_len, OnOk, OnErr, IfOk, IfErr};
+ghost use Rattle.std.specs.Prelude.{◌≡◌, ◌+◌, ◌≤◌, vec_len, OnOk, OnErr, IfOk, IfErr, ℕ};
 ghost use Rattle.foyer_device_page.specs.declared.error.Error.TheVariants.{Memory};
 ghost use Rattle.foyer_core_laws.specs.Content.{meaning};
 ghost use Rattle.foyer_core_run.specs.Moves.{asked};
@@ -173,6 +173,8 @@ where
     ensures kept { OnErr result (kept.new.replies.items ≡ kept.old.replies.items) }
     ensures one { vec_len kept.new.replies ≤ vec_len kept.old.replies + 1 }
     ensures known { D.is_known disk.old → D.is_known disk.new }
+    ensures lies { (b o n : ℕ) → D.surely_lies disk.old b o n → D.surely_lies disk.new b o n }
+    ensures counted { D.faults disk.old ≤ D.faults disk.new }
 {
     kept.tickets.reserve(1)?;
     kept.replies.reserve(1)?;
@@ -218,6 +220,8 @@ where
         moves.items core.old core.new (D.byte_at disk.old) (D.byte_at disk.new)) }
     ensures memory { IfErr result (λ e. e ≡ Memory) }
     ensures known { D.is_known disk.old → D.is_known disk.new }
+    ensures lies { (b o n : ℕ) → D.surely_lies disk.old b o n → D.surely_lies disk.new b o n }
+    ensures counted { D.faults disk.old ≤ D.faults disk.new }
 {
     let mut kept = begin(core.allocator(), core.settings(), moves.len())?;
     for x in moves {

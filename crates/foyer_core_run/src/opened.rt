@@ -1,5 +1,6 @@
 //! Runs that begin with an opened core, and what the laws say of them.
 ghost use Rattle.std.specs.Prelude.{◌≡◌, ◌≢◌, ◌⊎◌, ◌≤◌, ◌*◌, ◌^◌, ℕ, [], Err, IfOk, IfErr};
+ghost use Rattle.foyer_io_disk.specs.Disk.{SurelyCame};
 ghost use Rattle.foyer_device_page.specs.declared.error.Error.TheVariants.{Config, Memory, OutOfRange, Recover, SequenceEnd};
 ghost use Rattle.foyer_block_recover.specs.Recovery.{marks_of};
 ghost use Rattle.foyer_block_recover.specs.declared.block.recover.RecoverMode.TheVariants as recover_mode;
@@ -54,7 +55,7 @@ where
     ensures lawful { D.is_known disk.old → IfOk result (λ replies. (sound : AreValid settings) (bytes : ℕ → ℕ → ℕ)
         → ((b o : ℕ) → bytes b o ≡ D.byte_at disk.old b o) → IsLawfulFrom
         (meaning K.encoding V.encoding K.is_encodable V.is_encodable K.is_decodable V.is_decodable P.age)
-        settings sound bytes (D.byte_at disk.old) (D.surely_has disk.old) mode (marks_of marks.now) moves.items replies.items) }
+        settings sound bytes (D.byte_at disk.old) (SurelyCame (D.surely_has disk.old) (D.surely_lies disk.old) (D.faults disk.old) (D.faults disk.new)) mode (marks_of marks.now) moves.items replies.items) }
 {
     let mut core = Core::open(alloc, env, settings, disk, mode, marks)?;
     let replies = run(&mut core, env, disk, moves)?;

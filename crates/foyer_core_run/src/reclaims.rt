@@ -1,8 +1,9 @@
 //! A reclaim of a block, with its accesses in their place.
-ghost use Rattle.std.specs.Prelude.{◌≡◌, ℕ, vec_len, Some, None, IfOk, OnOk, OnErr};
+ghost use Rattle.std.specs.Prelude.{◌≡◌, ℕ, vec_len, Some, None, IfOk, OnOk, OnErr, ◌≤◌, IfErr, ◌⊎◌};
+ghost use Rattle.foyer_device_page.specs.declared.error.Error.TheVariants.{Memory};
 ghost use Rattle.foyer_core_model.specs.Numbers.{page};
 ghost use Rattle.foyer_core_laws.specs.Content.{meaning};
-ghost use Rattle.foyer_io_disk.specs.Disk.{IsRead, IsTorn};
+ghost use Rattle.foyer_io_disk.specs.Disk.{IsRead, IsTorn, SurelyCame};
 ghost use Rattle.foyer_core_run.specs.AtRest.{KeepsIdle, Leads, Without};
 ghost use Rattle.foyer_core_run.specs.Reclaims.{IsCleaned, IsOver, KeepsUnread, Reads, Reclaims, part_in};
 
@@ -53,7 +54,11 @@ pub fn read_bytes<A: Allocator + Clone, D: Disk>(
 ) -> Result<Vec<u8, A>>
     ensures read { D.is_known disk.old → IfOk result (λ bytes. IsRead (D.byte_at disk.old) block part.offset bytes.items) }
     ensures len { IfOk result (λ bytes. vec_len bytes ≡ part.len) }
+    ensures fails { IfErr result (λ e. (e ≡ Memory) ⊎ (SurelyCame (D.surely_has disk.old) (D.surely_lies disk.old) (D.faults disk.old) (D.faults disk.new)
+        block part.offset part.len → ⊥)) }
     ensures known { D.is_known disk.old → D.is_known disk.new }
+    ensures lies { (b o n : ℕ) → D.surely_lies disk.old b o n → D.surely_lies disk.new b o n }
+    ensures counted { D.faults disk.old ≤ D.faults disk.new }
     ensures same { D.byte_at disk.new ≡ D.byte_at disk.old }
 {
     let mut buffer = Vec::new(alloc.clone()?);
@@ -90,6 +95,8 @@ where
         (Without env.old.reinsertion (KeepsUnread block)) core.old core.new }
     ensures lent { (env.new.reinsertion ≡ env.old.reinsertion) × (env.new.io ≡ env.old.io) }
     ensures known { D.is_known disk.old → D.is_known disk.new }
+    ensures lies { (b o n : ℕ) → D.surely_lies disk.old b o n → D.surely_lies disk.new b o n }
+    ensures counted { D.faults disk.old ≤ D.faults disk.new }
     ensures same { D.byte_at disk.new ≡ D.byte_at disk.old }
 {
     let outcome = read_bytes(core.allocator(), disk, block, part);
@@ -137,6 +144,8 @@ where
         (Without env.old.reinsertion (KeepsUnread block)) core.old core.new }
     ensures lent { (env.new.reinsertion ≡ env.old.reinsertion) × (env.new.io ≡ env.old.io) }
     ensures known { D.is_known disk.old → D.is_known disk.new }
+    ensures lies { (b o n : ℕ) → D.surely_lies disk.old b o n → D.surely_lies disk.new b o n }
+    ensures counted { D.faults disk.old ≤ D.faults disk.new }
     ensures same { D.byte_at disk.new ≡ D.byte_at disk.old }
 {
     let mut part = first;
@@ -152,7 +161,11 @@ where
 pub fn clean_block<D: Disk>(disk: &mut D, block: BlockId) -> Result<()>
     ensures cleaned { D.is_known disk.old → OnOk result (IsCleaned (D.byte_at disk.old) block (D.byte_at disk.new)) }
     ensures torn { D.is_known disk.old → OnErr result (IsTorn (D.byte_at disk.old) block 0 page (D.byte_at disk.new)) }
+    ensures fails { OnErr result (SurelyCame (D.surely_has disk.old) (D.surely_lies disk.old) (D.faults disk.old) (D.faults disk.new)
+        block 0 page → ⊥) }
     ensures known { D.is_known disk.old → D.is_known disk.new }
+    ensures lies { (b o n : ℕ) → D.surely_lies disk.old b o n → D.surely_lies disk.new b o n }
+    ensures counted { D.faults disk.old ≤ D.faults disk.new }
 {
     let zeros = [0u8; PAGE];
     disk.write(block, 0, &zeros)
@@ -187,6 +200,8 @@ where
         (Without env.old.reinsertion KeepsIdle) core.old core.new }
     ensures lent { (env.new.reinsertion ≡ env.old.reinsertion) × (env.new.io ≡ env.old.io) }
     ensures known { D.is_known disk.old → D.is_known disk.new }
+    ensures lies { (b o n : ℕ) → D.surely_lies disk.old b o n → D.surely_lies disk.new b o n }
+    ensures counted { D.faults disk.old ≤ D.faults disk.new }
 {
     let block = match core.apply(env, Step::ReclaimBegin) {
         Reply::Picked {

@@ -231,7 +231,7 @@ where
     C: StorageFilterCondition,
     N: Noting,
 {
-    ghost use Rattle.std.specs.Prelude.{◌⊎◌, ℕ, List, ◌++◌, Result, Err, length, option_map, true};
+    ghost use Rattle.std.specs.Prelude.{◌⊎◌, ◌≤◌, ℕ, List, ◌++◌, Result, Err, length, option_map, true};
     ghost use Rattle.std.specs.declared.vec.Vec.{Vec};
     ghost use Rattle.foyer_core_steps.specs.Answered.{HandsBack, Describes, IsPicked, MayFail};
     ghost use Rattle.foyer_core_steps.specs.Opened.{IsOpenedFrom};
@@ -242,6 +242,7 @@ where
     ghost use Rattle.foyer_core_steps.specs.declared.step.Step.TheVariants as steps;
     ghost use Rattle.foyer_device_page.specs.declared.error.Error.{Error};
     ghost use Rattle.foyer_device_page.specs.declared.error.Error.TheVariants.{Config, Recover, SequenceEnd};
+    ghost use Rattle.foyer_io_disk.specs.Disk.{SurelyCame};
     ghost use Rattle.foyer_block_recover.specs.Recovery.{IsRefused, marks_of};
     ghost use Rattle.foyer_block_recover.specs.declared.block.recover.RecoverMode.TheVariants as recover_mode;
     ghost use Rattle.foyer_core_laws.specs.Sizes.{AreValid, sizes_in};
@@ -263,11 +264,13 @@ where
         blanks: Blanks,
     ) -> Result<(Locked<L, K, V, P, A, E, C, N>, Session<L>)>
         requires { AreOf L.name_of L.all blanks }
-        ensures opened { IfOk result (λ r. IsOpenedFrom settings (D.byte_at disk.old) (D.surely_has disk.old) mode (marks_of marks.now)
+        ensures opened { IfOk result (λ r. IsOpenedFrom settings (D.byte_at disk.old)
+            (SurelyCame (D.surely_has disk.old) (D.surely_lies disk.old) (D.faults disk.old) (D.faults disk.new)) mode (marks_of marks.now)
             ((mode ≡ recover_mode.None) ⊎ D.is_known disk.old) r.0.noted.core) }
         ensures begins { IfOk result (λ r. BeginsWith
             (meaning K.encoding V.encoding K.is_encodable V.is_encodable K.is_decodable V.is_decodable P.age)
-            settings (D.byte_at disk.old) (D.surely_has disk.old) mode (marks_of marks.now)
+            settings (D.byte_at disk.old)
+            (SurelyCame (D.surely_has disk.old) (D.surely_lies disk.old) (D.faults disk.old) (D.faults disk.new)) mode (marks_of marks.now)
             ((mode ≡ recover_mode.None) ⊎ D.is_known disk.old) r.0.noted.core) }
         ensures fresh { IfOk result (λ r. (r.0.noted.calls ≡ none) × (r.0.noted.notes ≡ notes_at_first N.keeps)) }
         ensures session { IfOk result (λ r. (r.1.shares ≡ record { parts = L.all; amounts = none }) × (r.1.newest ≡ None) × (r.1.before ≡ None)) }
@@ -279,11 +282,14 @@ where
         ensures refused { IfErr result (λ e. (e ≡ Memory) ⊎ ((e ≡ Config) × (AreValid settings → ⊥))
             ⊎ ((e ≡ Recover) × (mode ≡ recover_mode.Strict)) ⊎ ((e ≡ SequenceEnd) × (mode ≡ recover_mode.None → marks.now ≢ []))) }
         ensures cause { AreValid settings → (mode ≡ recover_mode.None) ⊎ D.is_known disk.old → IfErr result
-            (IsRefused (sizes_in settings) settings.blocks (D.byte_at disk.old) (D.surely_has disk.old) mode (marks_of marks.now)) }
+            (IsRefused (sizes_in settings) settings.blocks (D.byte_at disk.old)
+            (SurelyCame (D.surely_has disk.old) (D.surely_lies disk.old) (D.faults disk.old) (D.faults disk.new)) mode (marks_of marks.now)) }
         ensures unread { mode ≡ recover_mode.None → disk.new ≡ disk.old }
         ensures known { D.is_known disk.old → D.is_known disk.new }
         ensures same { D.byte_at disk.new ≡ D.byte_at disk.old }
         ensures has { (b o n : ℕ) → D.surely_has disk.old b o n → D.surely_has disk.new b o n }
+        ensures lies { (b o n : ℕ) → D.surely_lies disk.old b o n → D.surely_lies disk.new b o n }
+        ensures counted { D.faults disk.old ≤ D.faults disk.new }
     {
         settings.check()?;
         let notes = first_notes(&alloc, N::keeps())?;

@@ -18,11 +18,11 @@ use Rattle.foyer_core_laws.specs.CoreRules.{rules_of, layout, IsEncoded}
 use Rattle.foyer_core_laws.specs.Sizes.{AreValid}
 use Rattle.foyer_core_laws.specs.declared.settings.Settings.{Settings}
 
--- the disk surely has each place at which an index has room
+-- it is sure of each place at which an index has room
 abbrev pub HasPlaces : Settings → (ℕ → ℕ → ℕ → Type 0) → Type 0
 HasPlaces s surely_has = (b p : ℕ) → b < s.blocks → p + s.blob_index_size ≤ s.block_size → surely_has b p s.blob_index_size
 
--- Blocks are read, and no failed read is passed over: it is strict, or no read of an index can fail.
+-- Blocks are read, and no failed read is passed over: it is strict, or it is sure that each read of an index came.
 abbrev pub ReadsAll : Settings → (ℕ → ℕ → ℕ → Type 0) → RecoverMode → Type 0
 ReadsAll s surely_has recover_mode.None = ⊥
 ReadsAll s surely_has recover_mode.Quiet = HasPlaces s surely_has

@@ -56,6 +56,9 @@ where
             (meaning K.encoding V.encoding K.is_encodable V.is_encodable K.is_decodable V.is_decodable P.age)
             step result self.old self.new }
         ensures failed { result ≡ reply.Failed → MayFail step self.old }
+        ensures still { (flusher : ℕ) → step ≡ steps.FlushBlock flusher → self.new.index ≡ self.old.index }
+        ensures still_next { (flusher : ℕ) (outcome : Result (Unit {0}) Error) → step ≡ steps.FlushWrote flusher outcome
+            → result ≡ reply.Next → self.new.index ≡ self.old.index }
         ensures picks { step ≡ steps.ReclaimBegin → IsPicked E.answer E.marks env.old.pickers.items result self.old self.new }
         ensures judged { (block : ℕ) (came : Result (Vec ℕ A) Error) → step ≡ steps.ReclaimRead block came
             → IsJudged C.may_answer env.old.reinsertion env.old.io block came result self.old }
@@ -90,6 +93,9 @@ where
             (meaning K.encoding V.encoding K.is_encodable V.is_encodable K.is_decodable V.is_decodable P.age)
             step result self.old self.new }
         ensures failed { result ≡ reply.Failed → MayFail step self.old }
+        ensures still { (flusher : ℕ) → step ≡ steps.FlushBlock flusher → self.new.index ≡ self.old.index }
+        ensures still_next { (flusher : ℕ) (outcome : Result (Unit {0}) Error) → step ≡ steps.FlushWrote flusher outcome
+            → result ≡ reply.Next → self.new.index ≡ self.old.index }
         ensures picks { step ≡ steps.ReclaimBegin → IsPicked E.answer E.marks env.old.pickers.items result self.old self.new }
         ensures judged { (block : ℕ) (came : Result (Vec ℕ A) Error) → step ≡ steps.ReclaimRead block came
             → IsJudged C.may_answer env.old.reinsertion env.old.io block came result self.old }

@@ -107,6 +107,7 @@ impl<K, V, P, A: Allocator + Clone> Core<K, V, P, A> {
         ensures back { HandsBack (step.FlushBlock flusher) result self.old self.new }
         ensures nothing { DescribesNothing result }
         ensures meets { (m : Meaning K V P) → RefinesUncounted m (step.FlushBlock flusher) result self.old self.new }
+        ensures still { self.new.index ≡ self.old.index }
         ensures shown { IsShown E.learns E.forgets (step.FlushBlock flusher) result self.old self.new.manager env.old.pickers.items env.new.pickers.items }
         ensures lent { (env.new.reinsertion ≡ env.old.reinsertion) × (env.new.io ≡ env.old.io) }
     {
@@ -136,6 +137,7 @@ impl<K, V, P, A: Allocator + Clone> Core<K, V, P, A> {
         ensures shown { IsShown E.learns E.forgets (step.FlushWrote flusher outcome) result self.old self.new.manager env.old.pickers.items env.new.pickers.items }
         ensures lent { (env.new.reinsertion ≡ env.old.reinsertion) × (env.new.io ≡ env.old.io) }
         ensures failed { result ≡ reply.Failed → MayFail (step.FlushWrote flusher outcome) self.old }
+        ensures still { result ≡ reply.Next → self.new.index ≡ self.old.index }
     {
         if flusher as usize >= self.flushers.len() {
             return Reply::NotNow(Step::FlushWrote {

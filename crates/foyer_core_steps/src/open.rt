@@ -1,6 +1,7 @@
 //! Opening.
-ghost use Rattle.std.specs.Prelude.{◌≡◌, ◌≢◌, ◌⊎◌, ◌<◌, ℕ, [], Err, IfOk, IfErr, IsOkUnless, length, map, replicate, true, vec_len};
+ghost use Rattle.std.specs.Prelude.{◌≡◌, ◌≢◌, ◌⊎◌, ◌<◌, ◌≤◌, ℕ, [], Err, IfOk, IfErr, IsOkUnless, length, map, replicate, true, vec_len};
 ghost use Rattle.foyer_device_page.specs.declared.error.Error.TheVariants.{Memory, Config, Recover, SequenceEnd};
+ghost use Rattle.foyer_io_disk.specs.Disk.{SurelyCame};
 ghost use Rattle.foyer_core_steps.specs.Opened.{IsOpenedFrom, opened_sets};
 ghost use Rattle.foyer_core_flusher.specs.Idle.{idle};
 ghost use Rattle.foyer_core_flusher.specs.Seen.{seen};
@@ -83,7 +84,8 @@ impl<K: Drop, V: Drop, P: Drop, A: Allocator + Clone> Core<K, V, P, A> {
     /// Opens a core with what is found in the disk's blocks and with the marks of deletes: the newest entry of each hash,
     /// unless a mark of the hash is as new; the sequence behind the greatest of entries and marks; and as clean blocks
     /// those that keep nothing, in the order of their ids. In `None` no block is read, and all are clean; marks count in
-    /// every mode. The pickers learn of the blocks. Nothing is written.
+    /// every mode. The pickers learn of the blocks. Nothing is written. A read of a range that surely lies in the disk failed
+    /// only where the device did: where its count of faults stayed, each place of the blocks was read.
     ///
     /// `Config` where the settings don't go together, before anything is read; `Recover` where a read failed in
     /// `Strict`; `SequenceEnd` where what was found, or a mark, has the last sequence; `Memory` at any time. No bytes
@@ -96,7 +98,8 @@ impl<K: Drop, V: Drop, P: Drop, A: Allocator + Clone> Core<K, V, P, A> {
         mode: RecoverMode,
         marks: &[Tombstone],
     ) -> Result<Core<K, V, P, A>>
-        ensures opened { IfOk result (IsOpenedFrom settings (D.byte_at disk.old) (D.surely_has disk.old) mode (marks_of marks.now)
+        ensures opened { IfOk result (IsOpenedFrom settings (D.byte_at disk.old)
+            (SurelyCame (D.surely_has disk.old) (D.surely_lies disk.old) (D.faults disk.old) (D.faults disk.new)) mode (marks_of marks.now)
             ((mode ≡ recover_mode.None) ⊎ D.is_known disk.old)) }
         ensures shown { IfOk result (λ core. HaveLearned E.begins E.learns settings.blocks settings.block_size
             (evictable_below core.manager.blocks (length core.manager.blocks)) env.old.pickers.items env.new.pickers.items) }
@@ -105,12 +108,15 @@ impl<K: Drop, V: Drop, P: Drop, A: Allocator + Clone> Core<K, V, P, A> {
         ensures refused { IfErr result (λ e. (e ≡ Memory) ⊎ ((e ≡ Config) × (AreValid settings → ⊥))
             ⊎ ((e ≡ Recover) × (mode ≡ recover_mode.Strict)) ⊎ ((e ≡ SequenceEnd) × (mode ≡ recover_mode.None → marks.now ≢ []))) }
         ensures cause { AreValid settings → (mode ≡ recover_mode.None) ⊎ D.is_known disk.old → IfErr result
-            (IsRefused (sizes_in settings) settings.blocks (D.byte_at disk.old) (D.surely_has disk.old) mode (marks_of marks.now)) }
+            (IsRefused (sizes_in settings) settings.blocks (D.byte_at disk.old)
+            (SurelyCame (D.surely_has disk.old) (D.surely_lies disk.old) (D.faults disk.old) (D.faults disk.new)) mode (marks_of marks.now)) }
         ensures unsound { (AreValid settings → ⊥) → result ≡ Err Config }
         ensures unread { mode ≡ recover_mode.None → disk.new ≡ disk.old }
         ensures known { D.is_known disk.old → D.is_known disk.new }
         ensures same { D.byte_at disk.new ≡ D.byte_at disk.old }
         ensures has { (b o n : ℕ) → D.surely_has disk.old b o n → D.surely_has disk.new b o n }
+        ensures lies { (b o n : ℕ) → D.surely_lies disk.old b o n → D.surely_lies disk.new b o n }
+        ensures counted { D.faults disk.old ≤ D.faults disk.new }
     {
         settings.check()?;
         let runner = RecoverRunner {

@@ -1,2 +1,3 @@
 pub mod BlockPlaces
 pub mod PartitionLemmas
+pub mod FaultLemmas

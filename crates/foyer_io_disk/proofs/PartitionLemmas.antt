@@ -7,8 +7,8 @@ use Rattle.foyer_device_page.specs.declared.error.Error.{Error}
 use Rattle.foyer_device_page.specs.declared.error.Error.TheVariants as error
 use Rattle.foyer_device_partition.specs.Extent.{Extent, AreApart, AreDisjoint, IsApartFromAll, place}
 use Rattle.foyer_io_engine.specs.Disk as io
-use Rattle.foyer_io_disk.specs.Disk.{IsRead, IsTorn}
-use Rattle.foyer_io_disk.specs.Partitions.{AreWhole, byte_in, lies_in, is_missing, may_fail}
+use Rattle.foyer_io_disk.specs.Disk.{IsRead, IsTorn, HasFailed}
+use Rattle.foyer_io_disk.specs.Partitions.{AreWhole, byte_in, lies_in, is_reached, is_missing, may_fail}
 
 -- behind others, they are still disjoint
 pub disjoint_behind : (xs ys : List Extent) → AreDisjoint (xs ++ ys) → AreDisjoint ys
@@ -141,3 +141,27 @@ module _ {P : Type 0} (bytes : P → ℕ) (extent : P → Extent) (shown : Optio
     | inl out ↦ inr (out.0, subst (λ x. is_missing bytes extent shown x o n) (sym is) (λ d has. outside d has (ap Err out.0)))
     | inr io ↦ inl (io.0, subst (λ x. lies_in bytes x o n) (sym is) within)
   ]
+
+-- what surely lies in a partition lies in it
+pub reached_lies : {P : Type 0} (bytes : P → ℕ) (extent : P → Extent) (reaches : Extent → ℕ → ℕ → ℕ → Type 0) (at : Option P) (o n : ℕ)
+    → is_reached bytes extent reaches at o n → lies_in bytes at o n
+reached_lies bytes extent reaches None o n is = is
+reached_lies bytes extent reaches (Some p) o n is = is.0
+
+-- and does so for an engine that reaches all that another one does
+pub reached_still : {P : Type 0} (bytes : P → ℕ) (extent : P → Extent) (old new : Extent → ℕ → ℕ → ℕ → Type 0)
+    → ((x : Extent) (s o n : ℕ) → old x s o n → new x s o n) → (at : Option P) (o n : ℕ)
+    → is_reached bytes extent old at o n → is_reached bytes extent new at o n
+reached_still bytes extent old new still None o n is = is
+reached_still bytes extent old new still (Some p) o n is = (is.0, still (extent p) (bytes p) o n is.1)
+
+-- an access of a range that surely lies there failed because the device did
+pub why_faulted : {P : Type 0} (bytes : P → ℕ) (extent : P → Extent) (reaches : Extent → ℕ → ℕ → ℕ → Type 0) (at : Option P) (p : P) (o n before after : ℕ)
+    (r : Result (Unit {0}) Error) → at ≡ Some p → IfErr r (io.IsAccessFault before after)
+    → (r ≡ Err error.OutOfRange → ¬ reaches (extent p) (bytes p) o n)
+    → is_reached bytes extent reaches at o n → OnErr r (HasFailed before after)
+why_faulted bytes extent reaches at p o n before after (Ok u) is fault missing sure = tt
+why_faulted bytes extent reaches at p o n before after (Err e) is fault missing sure = elim fault [
+  | inl out ↦ absurd (missing (ap Err out.0) (subst (λ x. is_reached bytes extent reaches x o n) is sure).1)
+  | inr io ↦ io.1
+]

@@ -24,6 +24,12 @@ abbrev pub lies_in : {P : Type 0} → (P → ℕ) → Option P → ℕ → ℕ �
 lies_in bytes None o n = ⊥
 lies_in bytes (Some p) o n = o + n ≤ bytes p
 
+module _ {P : Type 0} (bytes : P → ℕ) (extent : P → Extent) (reaches : Extent → ℕ → ℕ → ℕ → Type 0) where
+  -- and these are surely there for an engine that reaches such ranges of partitions
+  abbrev pub is_reached : Option P → ℕ → ℕ → Type 0
+  is_reached None o n = ⊥
+  is_reached (Some p) o n = (o + n ≤ bytes p) × reaches (extent p) (bytes p) o n
+
 module _ {P : Type 0} (bytes : P → ℕ) (extent : P → Extent) where
   -- a range that the partition doesn't have, or that isn't there on the disk that the engine shows
   abbrev pub is_missing : Option Disk → Option P → ℕ → ℕ → Type 0

@@ -1,7 +1,7 @@
 //! What the engine's reads and writes go to.
-ghost use Rattle.std.specs.Prelude.{◌≡◌, ℕ, length, vec_len, IsOk, IfErr, OnOk, OnErr};
+ghost use Rattle.std.specs.Prelude.{◌≡◌, ◌≤◌, ℕ, length, vec_len, IsOk, IfErr, OnOk, OnErr};
 ghost use Rattle.foyer_device_page.specs.declared.error.Error.{Error as error};
-ghost use Rattle.foyer_io_disk.specs.Disk.{IsRead, IsWritten, IsTorn};
+ghost use Rattle.foyer_io_disk.specs.Disk.{IsRead, IsWritten, IsTorn, HasFailed};
 
 use foyer_block_index::manager::BlockId;
 use foyer_device_page::error::Result;
@@ -17,6 +17,12 @@ pub trait Disk {
 
     // So many bytes from an offset of a block on can be read and written without a fault.
     ghost surely_has: { Self → ℕ → ℕ → ℕ → Type 0 };
+
+    // How many of its accesses the device failed, as far as it counts.
+    ghost faults: { Self → ℕ };
+
+    // So many bytes from an offset of a block on surely lie in it: an access of them fails only where the device failed.
+    ghost surely_lies: { Self → ℕ → ℕ → ℕ → Type 0 };
 
     // So many bytes from an offset of a block on are there at all; a disk that doesn't say has any.
     ghost may_have: { Self → ℕ → ℕ → ℕ → Type 0 } = { λ _ _ _ _. Unit {0} };
@@ -38,7 +44,11 @@ pub trait Disk {
         ensures known { is_known self.old → is_known self.new }
         ensures same { byte_at self.new ≡ byte_at self.old }
         ensures has { (b o n : ℕ) → surely_has self.old b o n → surely_has self.new b o n }
+        ensures lies { (b o n : ℕ) → surely_lies self.old b o n → surely_lies self.new b o n }
+        ensures counted { faults self.old ≤ faults self.new }
         ensures succeeds { surely_has self.old block offset (vec_len buffer) → IsOk result.1 }
+        ensures faulted { surely_lies self.old block offset (vec_len buffer)
+            → OnErr result.1 (HasFailed (faults self.old) (faults self.new)) }
         ensures within { OnOk result.1 (may_have self.old block offset (vec_len buffer)) }
         ensures fault { IfErr result.1 (may_answer self.old block offset (vec_len buffer)) };
 
@@ -50,7 +60,11 @@ pub trait Disk {
             → OnErr result (IsTorn (byte_at self.old) block offset (length bytes.now) (byte_at self.new)) }
         ensures known { is_known self.old → is_known self.new }
         ensures has { (b o n : ℕ) → surely_has self.old b o n → surely_has self.new b o n }
+        ensures lies { (b o n : ℕ) → surely_lies self.old b o n → surely_lies self.new b o n }
+        ensures counted { faults self.old ≤ faults self.new }
         ensures succeeds { surely_has self.old block offset (length bytes.now) → IsOk result }
+        ensures faulted { surely_lies self.old block offset (length bytes.now)
+            → OnErr result (HasFailed (faults self.old) (faults self.new)) }
         ensures within { OnOk result (may_have self.old block offset (length bytes.now)) }
         ensures fault { IfErr result (may_answer self.old block offset (length bytes.now)) };
 }

@@ -1,6 +1,6 @@
 //! A disk in memory.
 ghost use Rattle.std.specs.Prelude.{◌≡◌, ℕ, ◌+◌, ◌*◌, ◌^◌, ◌<◌, ◌≤◌, ◌⊎◌, ◌↔◌, length, vec_len, slice_index, nat_lt, if◌then◌else◌, Err, IfOk, IfErr, IsOk, IsSome, IfSome, OnOk, OnErr};
-ghost use Rattle.foyer_io_disk.specs.Disk.{IsRead, IsWritten, IsTorn, IsWithin};
+ghost use Rattle.foyer_io_disk.specs.Disk.{IsRead, IsWritten, IsTorn, IsWithin, HasFailed};
 ghost use Rattle.foyer_device_page.specs.declared.error.Error.TheVariants.{Io, Memory, OutOfRange};
 
 use crate::disk::Disk;
@@ -60,6 +60,10 @@ impl<A: Allocator> Disk for MemoryDisk<A> {
     ghost byte_at = { λ d b o. if nat_lt o d.block_size then slice_index d.file.bytes (b * d.block_size + o) else 0 };
 
     ghost surely_has = { λ d. IsWithin d.blocks d.block_size };
+
+    ghost faults = { λ _. 0 };
+
+    ghost surely_lies = { λ d. IsWithin d.blocks d.block_size };
 
     ghost may_have = { λ d. IsWithin d.blocks d.block_size };
 

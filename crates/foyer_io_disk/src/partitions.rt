@@ -1,8 +1,8 @@
 //! The blocks of a device: a partition for each, read and written by an engine.
 ghost use Rattle.std.specs.Prelude.{◌≡◌, ℕ, ◌+◌, ◌*◌, ◌^◌, ◌<◌, ◌≤◌, ◌⊎◌, ◌++◌, length, map, replicate, vec_len, slice_get, Some, Err, IfOk, IfErr, IfSome, IfNone, OnOk, OnErr};
 ghost use Rattle.foyer_device_partition.specs.Extent.{AreDisjoint, IsPartitionSize};
-ghost use Rattle.foyer_io_disk.specs.Disk.{IsRead, IsWritten, IsTorn};
-ghost use Rattle.foyer_io_disk.specs.Partitions.{Shows, byte_in, lies_in, may_fail, AreWhole};
+ghost use Rattle.foyer_io_disk.specs.Disk.{IsRead, IsWritten, IsTorn, HasFailed};
+ghost use Rattle.foyer_io_disk.specs.Partitions.{Shows, byte_in, lies_in, is_reached, may_fail, AreWhole};
 ghost use Rattle.foyer_device_page.specs.declared.error.Error.TheVariants as error;
 
 use crate::disk::Disk;
@@ -120,6 +120,10 @@ impl<E: IoEngine + Drop, P: Partition + Copy, A: Allocator> Disk for Partitioned
     ghost byte_at = { λ d b o. byte_in P.bytes P.extent (E.disk d.engine) (slice_get d.blocks.items b) o };
 
     ghost surely_has = { λ _ _ _ _. ⊥ };
+
+    ghost faults = { λ d. E.faults d.engine };
+
+    ghost surely_lies = { λ d b. is_reached P.bytes P.extent (E.reaches d.engine) (slice_get d.blocks.items b) };
 
     ghost may_have = { λ d b o n. lies_in P.bytes (slice_get d.blocks.items b) o n };
 

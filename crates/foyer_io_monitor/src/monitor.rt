@@ -1,6 +1,7 @@
 //! An engine that records each call that completes.
 ghost use Rattle.std.specs.Prelude.{◌≡◌, ◌≢◌, ℕ, ◌≤◌, None, Err, IsSome, IfSome, IfErr, OnOk, MatchResult, length};
 ghost use Rattle.foyer_device_page.specs.declared.error.Error.TheVariants as error;
+ghost use Rattle.foyer_device_partition.specs.Extent.{Extent};
 ghost use Rattle.foyer_io_engine.specs.Disk.{IfKnown, Becomes, CanAccess, DidRead, DidWrite, MayTear, IsAccessFault};
 ghost use Rattle.foyer_io_monitor.specs.Watched.{DidRecordRead, DidRecordWrite};
 
@@ -41,6 +42,8 @@ impl<E: IoEngine + Drop, A: Allocator> IoEngine for MonitoredIoEngine<E, A> {
 
     ghost faults = { λ s. E.faults s.inner };
 
+    ghost reaches = { λ s. E.reaches s.inner };
+
     fn read<B: IoBufMut, P: Partition>(
         &mut self,
         buffer: B,
@@ -54,7 +57,11 @@ impl<E: IoEngine + Drop, A: Allocator> IoEngine for MonitoredIoEngine<E, A> {
         ensures outside { IfKnown (E.disk self.old.inner) (λ d. IfSome result (λ r. r.1 ≡ Err error.OutOfRange
             → ¬ CanAccess d (P.extent partition.now) (P.bytes partition.now) offset
             (length (B.bytes buffer)))) }
+        ensures missing { IfSome result (λ r. r.1 ≡ Err error.OutOfRange
+            → ¬ E.reaches self.old.inner (P.extent partition.now) (P.bytes partition.now) offset
+            (length (B.bytes buffer))) }
         ensures kept { E.disk self.new.inner ≡ E.disk self.old.inner }
+        ensures reached { (x : Extent) (s o n : ℕ) → E.reaches self.old.inner x s o n → E.reaches self.new.inner x s o n }
         ensures counted { E.faults self.old.inner ≤ E.faults self.new.inner }
         ensures refused { IfSome result (λ r. IfErr r.1
             (IsAccessFault (E.faults self.old.inner) (E.faults self.new.inner))) }
@@ -83,6 +90,10 @@ impl<E: IoEngine + Drop, A: Allocator> IoEngine for MonitoredIoEngine<E, A> {
             (length (B.bytes buffer))))) }
         ensures untouched { IfSome result (λ r. r.1 ≡ Err error.OutOfRange
             → E.disk self.new.inner ≡ E.disk self.old.inner) }
+        ensures missing { IfSome result (λ r. r.1 ≡ Err error.OutOfRange
+            → ¬ E.reaches self.old.inner (P.extent partition.now) (P.bytes partition.now) offset
+            (length (B.bytes buffer))) }
+        ensures reached { (x : Extent) (s o n : ℕ) → E.reaches self.old.inner x s o n → E.reaches self.new.inner x s o n }
         ensures counted { E.faults self.old.inner ≤ E.faults self.new.inner }
         ensures refused { IfSome result (λ r. IfErr r.1
             (IsAccessFault (E.faults self.old.inner) (E.faults self.new.inner))) }

@@ -18,6 +18,8 @@ use std::rt::Files;
 pub struct BlockFiles<A: Allocator> {
     // The file of each block, where there is one.
     files: Vec<Option<File>, A>,
+    // How many accesses failed, up to 2^64 - 1.
+    failures: u64,
 }
 
 // Opens the file at a path for reading, if there is one. Io.
@@ -53,7 +55,7 @@ impl<A: Allocator + Clone> BlockFiles<A> {
             let path = partition_path(alloc.clone()?, directory, block)?;
             files.push(open_file(rt, path.as_str())?)?;
         }
-        Ok(BlockFiles { files })
+        Ok(BlockFiles { files, failures: 0 })
     }
 }
 
@@ -64,6 +66,10 @@ impl<A: Allocator> Disk for BlockFiles<A> {
 
     ghost surely_has = { λ _ _ _ _. ⊥ };
 
+    ghost faults = { λ d. d.failures };
+
+    ghost surely_lies = { λ _ _ _ _. Unit {0} };
+
     ghost may_answer = { λ _ _ _ _ e. (e ≡ error.Io) ⊎ (e ≡ error.Unsupported) };
 
     fn read<B: Allocator>(
@@ -73,15 +79,20 @@ impl<A: Allocator> Disk for BlockFiles<A> {
         mut buffer: Vec<u8, B>,
     ) -> (Vec<u8, B>, Result<()>) {
         let Some(Some(file)) = self.files.get(block as usize) else {
+            self.failures = self.failures.saturating_add(1);
             return (buffer, Err(Error::Io));
         };
         match file.read_exact_at(buffer.as_mut_slice(), offset as u64) {
             Ok(()) => (buffer, Ok(())),
-            Err(_) => (buffer, Err(Error::Io)),
+            Err(_) => {
+                self.failures = self.failures.saturating_add(1);
+                (buffer, Err(Error::Io))
+            }
         }
     }
 
     fn write(&mut self, _block: BlockId, _offset: usize, _bytes: &[u8]) -> Result<()> {
+        self.failures = self.failures.saturating_add(1);
         Err(Error::Unsupported)
     }
 }

@@ -102,13 +102,13 @@ fn answer_fault<W: Write + Drop>(mut output: W, kind: ErrorKind) -> u8 {
     STATUS_FAULT
 }
 
-// Opens a store by a device's builder and I/O engines, and answers the input's lines. Where it can't be opened, the fault comes
-// back beside what failed, and the output.
-fn serve_over<L, T, I, B, R, W>(
+// Builds a store over a device and I/O engines, and answers the input's lines. Where it can't be built, the fault comes back
+// beside what failed, and the output.
+fn serve_over<L, T, I, D, R, W>(
     rt: T,
     alloc: Global,
     blanks: Blanks,
-    builder: B,
+    device: D,
     io_engine: I,
     block_size: usize,
     input: R,
@@ -119,23 +119,12 @@ where
     T: Threads + Wait + Files + Copy + Send + 'static,
     I: IoEngineConfig<T> + Drop,
     I::Engine: Send + 'static,
-    B: DeviceBuilder<Global> + Drop,
-    B::Device: Device,
-    <B::Device as Device>::Partition: Drop + Send + 'static,
+    D: Device,
+    D::Partition: Drop + Send + 'static,
     R: Read + Drop,
     W: Write + Drop,
     requires { AreOf L.name_of L.all blanks × (L.all ≡ 2 ^ 32) }
 {
-    let device = match builder.build(&rt, alloc, 0) {
-        Ok(device) => device,
-        Err(error) => {
-            let failed = Failed {
-                kind: error.kind(),
-                what: "the directory",
-            };
-            return Err((failed, output));
-        }
-    };
     let config = BlockEngineConfig::new(device).with_block_size(block_size);
     let builder = StoreBuilder::new("foyerdisk", IdentityHashBuilder, KEEPER_SHARDS)
         .with_engine_config(config)
@@ -202,32 +191,12 @@ where
         Ok(settings) => settings,
         Err(error) => return answer_fault(output, error.kind()),
     };
-    let (capacity, block_size) = (options.capacity as usize, settings.block_size);
+    let block_size = settings.block_size;
     if options.is_memory() {
-        let io_engine = match memory(alloc, capacity) {
-            Ok(config) => config,
-            Err(error) => return answer_fault(output, error.kind()),
-        };
-        let builder = MemoryDeviceBuilder::new(capacity);
-        let served = serve_over::<
-            L,
-            T,
-            SharedMemoryIoEngineConfig<Global>,
-            MemoryDeviceBuilder,
-            R,
-            W,
-        >(
-            rt, alloc, blanks, builder, io_engine, block_size, input, output,
-        );
-        return match served {
-            Ok(status) => status,
-            Err((failed, output)) => answer_fault(output, failed.kind),
-        };
+        return serve_memory::<L, T, R, W>(rt, alloc, blanks, &options, block_size, input, output);
     }
-    let builder = FsDeviceBuilder::new(options.directory).with_capacity(capacity);
-    let io_engine = PsyncIoEngineConfig::new();
-    let served = serve_over::<L, T, PsyncIoEngineConfig, FsDeviceBuilder<'_>, R, W>(
-        rt, alloc, blanks, builder, io_engine, block_size, input, output,
+    let served = serve_directory::<L, T, R, W>(
+        rt, alloc, blanks, &options, block_size, input, output,
     );
     match served {
         Ok(status) => status,
@@ -236,4 +205,72 @@ where
             answer_fault(output, failed.kind)
         }
     }
+}
+
+// As `serve_over`, over memory: the status.
+fn serve_memory<L, T, R, W>(
+    rt: T,
+    alloc: Global,
+    blanks: Blanks,
+    options: &Options<'_>,
+    block_size: usize,
+    input: R,
+    output: W,
+) -> u8
+where
+    L: Kinds + Send + Sync + 'static,
+    T: Threads + Wait + Files + Copy + Send + 'static,
+    R: Read + Drop,
+    W: Write + Drop,
+    requires { AreOf L.name_of L.all blanks × (L.all ≡ 2 ^ 32) }
+{
+    let capacity = options.capacity as usize;
+    let io_engine = match memory(alloc, capacity) {
+        Ok(config) => config,
+        Err(error) => return answer_fault(output, error.kind()),
+    };
+    let device = match MemoryDeviceBuilder::new(capacity).build(&rt, alloc, 0) {
+        Ok(device) => device,
+        Err(error) => return answer_fault(output, error.kind()),
+    };
+    match serve_over::<L, T, _, _, R, W>(
+        rt, alloc, blanks, device, io_engine, block_size, input, output,
+    ) {
+        Ok(status) => status,
+        Err((failed, output)) => answer_fault(output, failed.kind),
+    }
+}
+
+// As `serve_over`, over the files of a directory.
+fn serve_directory<L, T, R, W>(
+    rt: T,
+    alloc: Global,
+    blanks: Blanks,
+    options: &Options<'_>,
+    block_size: usize,
+    input: R,
+    output: W,
+) -> std::result::Result<u8, (Failed, W)>
+where
+    L: Kinds + Send + Sync + 'static,
+    T: Threads + Wait + Files<File = File> + Copy + Send + 'static,
+    R: Read + Drop,
+    W: Write + Drop,
+    requires { AreOf L.name_of L.all blanks × (L.all ≡ 2 ^ 32) }
+{
+    let builder = FsDeviceBuilder::new(options.directory).with_capacity(options.capacity as usize);
+    let device = match builder.build(&rt, alloc, 0) {
+        Ok(device) => device,
+        Err(error) => {
+            let failed = Failed {
+                kind: error.kind(),
+                what: "the directory",
+            };
+            return Err((failed, output));
+        }
+    };
+    let io_engine = PsyncIoEngineConfig::new();
+    serve_over::<L, T, _, _, R, W>(
+        rt, alloc, blanks, device, io_engine, block_size, input, output,
+    )
 }

@@ -152,11 +152,11 @@ where
 }
 
 // Builds a store over a device, asks it, closes it and joins its workers.
-fn soak_over<L, T, I, B>(
+fn soak_over<L, T, I, D>(
     rt: T,
     alloc: Global,
     blanks: Blanks,
-    builder: B,
+    device: D,
     io_engine: I,
     block_size: usize,
     threads: u64,
@@ -167,12 +167,10 @@ where
     T: Threads + Wait + Files + Copy + Send + Sync + 'static,
     I: IoEngineConfig<T> + Drop,
     I::Engine: Send + 'static,
-    B: DeviceBuilder<Global> + Drop,
-    B::Device: Device,
-    <B::Device as Device>::Partition: Drop + Send + Sync + 'static,
+    D: Device,
+    D::Partition: Drop + Send + Sync + 'static,
     requires { AreOf L.name_of L.all blanks × (L.all ≡ 2 ^ 32) }
 {
-    let device = builder.build(&rt, alloc, 0)?;
     let config = BlockEngineConfig::new(device).with_block_size(block_size);
     let builder = StoreBuilder::new("foyersoak", IdentityHashBuilder, 64)
         .with_engine_config(config)
@@ -261,11 +259,7 @@ where
     let found = if options.is_memory() {
         soak_memory::<L, T>(rt, alloc, blanks, capacity, block_size, threads, plan)
     } else {
-        let builder = FsDeviceBuilder::new(options.directory).with_capacity(capacity);
-        let io_engine = PsyncIoEngineConfig::new();
-        soak_over::<L, T, PsyncIoEngineConfig, FsDeviceBuilder<'_>>(
-            rt, alloc, blanks, builder, io_engine, block_size, threads, plan,
-        )
+        soak_directory::<L, T>(rt, alloc, blanks, &options, threads, plan)
     };
     match found {
         Ok(found) => print_found(&mut output, &mut errors, found).unwrap_or(1),
@@ -292,8 +286,31 @@ where
     requires { AreOf L.name_of L.all blanks × (L.all ≡ 2 ^ 32) }
 {
     let io_engine = memory(alloc, capacity)?;
-    let builder = MemoryDeviceBuilder::new(capacity);
-    soak_over::<L, T, SharedMemoryIoEngineConfig<Global>, MemoryDeviceBuilder>(
-        rt, alloc, blanks, builder, io_engine, block_size, threads, plan,
+    let device = MemoryDeviceBuilder::new(capacity).build(&rt, alloc, 0)?;
+    soak_over(
+        rt, alloc, blanks, device, io_engine, block_size, threads, plan,
+    )
+}
+
+// As `soak_over`, over the files of a directory.
+fn soak_directory<L, T>(
+    rt: T,
+    alloc: Global,
+    blanks: Blanks,
+    options: &Options<'_>,
+    threads: u64,
+    plan: Plan,
+) -> Result<Found>
+where
+    L: Kinds + Send + Sync + 'static,
+    T: Threads + Wait + Files<File = File> + Copy + Send + Sync + 'static,
+    requires { AreOf L.name_of L.all blanks × (L.all ≡ 2 ^ 32) }
+{
+    let builder = FsDeviceBuilder::new(options.directory).with_capacity(options.capacity as usize);
+    let device = builder.build(&rt, alloc, 0)?;
+    let io_engine = PsyncIoEngineConfig::new();
+    let block_size = options.block_size as usize;
+    soak_over(
+        rt, alloc, blanks, device, io_engine, block_size, threads, plan,
     )
 }

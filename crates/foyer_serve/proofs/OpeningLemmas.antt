@@ -16,13 +16,13 @@ use Rattle.foyer_serve.specs.OpenedFiles.{AreBlockFiles, IsOpenedOver}
 
 -- an engine over a disk of a directory's blocks, and the marks that its log had, is one over the directory
 pub opened_over : {K V P A D B X E : Type 0} (m : Meaning K V P) (s : Settings) (byte_at : D → ℕ → ℕ → ℕ)
-    (surely_has : D → ℕ → ℕ → ℕ → Type 0) (is_known : D → Type 0) (blocks_of : D → List B) (bytes : B → ℕ)
+    (surely_has : X → D → ℕ → ℕ → ℕ → Type 0) (is_known : D → Type 0) (blocks_of : D → List B) (bytes : B → ℕ)
     (extent : B → Extent) (mode : RecoverMode) (core_of : X → Core K V P A) (disk_of : X → D) (r : Result X E)
     (disk : D) (blocks : List B) (marks : List Tombstone)
     → AreBlockFiles bytes extent s blocks → blocks_of disk ≡ blocks → (s.tombstone_log ≡ false → marks ≡ [])
-    → IfOk r (λ x. (sound : AreValid s) → IsBegun m s sound (byte_at disk) (surely_has disk) mode (marks_of marks)
+    → IfOk r (λ x. (sound : AreValid s) → IsBegun m s sound (byte_at disk) (surely_has x disk) mode (marks_of marks)
     ((mode ≡ recover_mode.None) ⊎ is_known disk) (core_of x) (byte_at (disk_of x)))
-    → IfOk r (λ x. (sound : AreValid s) → IsOpenedOver m s sound byte_at surely_has is_known blocks_of bytes extent mode
+    → IfOk r (λ x. (sound : AreValid s) → IsOpenedOver m s sound byte_at (surely_has x) is_known blocks_of bytes extent mode
     (core_of x) (disk_of x))
 opened_over _ s _ _ _ blocks_of bytes extent _ _ _ r disk _ marks files same unlogged begins =
     let files_of_disk : AreBlockFiles bytes extent s (blocks_of disk) =

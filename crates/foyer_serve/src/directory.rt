@@ -1,5 +1,6 @@
 //! An engine over the files of a directory.
 ghost use Rattle.std.specs.Prelude.{◌≡◌, ◌⊎◌, ◌↔◌, ◌-◌, ◌/◌, ◌<◌, ◌≤◌, ◌++◌, ◌∷◌, ◌*◌, [], map, replicate, true, false, Ok, Some, None, IfOk, IfErr, IfSome, IsSome, OnErr};
+ghost use Rattle.foyer_io_disk.specs.Disk.{SurelyCame};
 ghost use Rattle.foyer_block_tombstone.specs.Pages.{log_pages, places};
 ghost use Rattle.foyer_block_recover.specs.Recovery.{marks_of};
 ghost use Rattle.foyer_block_recover.specs.declared.block.recover.RecoverMode.TheVariants as recover_mode;
@@ -111,7 +112,10 @@ where
     A: Allocator + Clone,
     ensures begins { IfOk result (λ engine. (sound : AreValid settings) → IsOpenedOver plain settings sound
         ⟦<PartitionedDisk<PsyncIoEngine<R::A>, FsPartition, A> as Disk>⟧.byte_at
-        ⟦<PartitionedDisk<PsyncIoEngine<R::A>, FsPartition, A> as Disk>⟧.surely_has
+        (λ d. SurelyCame (⟦<PartitionedDisk<PsyncIoEngine<R::A>, FsPartition, A> as Disk>⟧.surely_has d)
+        (⟦<PartitionedDisk<PsyncIoEngine<R::A>, FsPartition, A> as Disk>⟧.surely_lies d)
+        (⟦<PartitionedDisk<PsyncIoEngine<R::A>, FsPartition, A> as Disk>⟧.faults d)
+        (⟦<PartitionedDisk<PsyncIoEngine<R::A>, FsPartition, A> as Disk>⟧.faults engine.disk))
         ⟦<PartitionedDisk<PsyncIoEngine<R::A>, FsPartition, A> as Disk>⟧.is_known
         (λ d. d.blocks.items) ⟦<FsPartition as Partition>⟧.bytes ⟦<FsPartition as Partition>⟧.extent
         mode engine.core engine.disk) }
@@ -267,7 +271,7 @@ where
     B: Allocator,
     D: Disk + Drop,
     ensures begins { IfOk result (λ engine. (sound : AreValid settings) → IsBegun plain settings sound (D.byte_at disk)
-        (D.surely_has disk) mode (marks_of deletes.marks.items) ((mode ≡ recover_mode.None) ⊎ D.is_known disk)
+        (SurelyCame (D.surely_has disk) (D.surely_lies disk) (D.faults disk) (D.faults engine.disk)) mode (marks_of deletes.marks.items) ((mode ≡ recover_mode.None) ⊎ D.is_known disk)
         engine.core (D.byte_at engine.disk)) }
     ensures log { IfOk result (λ engine. engine.log ≡ deletes.log) }
     ensures unread { IfOk result (λ engine. mode ≡ recover_mode.None → engine.disk ≡ disk) }
@@ -294,7 +298,7 @@ where
     B: Allocator,
     D: Disk + Drop,
     ensures begins { IfOk result (λ engine. (sound : AreValid settings) → IsBegun plain settings sound (D.byte_at disk)
-        (D.surely_has disk) mode (marks_of deletes.marks.items) ((mode ≡ recover_mode.None) ⊎ D.is_known disk)
+        (SurelyCame (D.surely_has disk) (D.surely_lies disk) (D.faults disk) (D.faults engine.disk)) mode (marks_of deletes.marks.items) ((mode ≡ recover_mode.None) ⊎ D.is_known disk)
         engine.core (D.byte_at engine.disk)) }
     ensures log { IfOk result (λ engine. engine.log ≡ deletes.log) }
     ensures unread { IfOk result (λ engine. mode ≡ recover_mode.None → engine.disk ≡ disk) }

@@ -1,5 +1,6 @@
 //! The engine that the program keeps: a core over a disk, with a log of deletes or without one, driven on one thread.
 ghost use Rattle.std.specs.Prelude.{◌≡◌, ◌≢◌, ◌⊎◌, ◌≤◌, ◌*◌, ◌^◌, ℕ, [], true, false, None, IfOk, IfErr, string_bytes};
+ghost use Rattle.foyer_io_disk.specs.Disk.{SurelyCame};
 ghost use Rattle.foyer_device_page.specs.declared.error.Error.TheVariants.{Config, Memory, OutOfRange, Recover, SequenceEnd};
 ghost use Rattle.foyer_block_recover.specs.Recovery.{marks_of};
 ghost use Rattle.foyer_block_recover.specs.declared.block.recover.RecoverMode.TheVariants as recover_mode;
@@ -182,13 +183,15 @@ impl<A: Allocator + Clone, D: Disk + Drop, E: EvictionPicker, C: StorageFilterCo
     ) -> Result<Engine<A, D, NoLog, E, C>>
         ensures sound { IfOk result (λ _. AreValid settings) }
         ensures begins { IfOk result (λ engine. (sound : AreValid settings) → IsBegun plain settings sound (D.byte_at disk)
-            (D.surely_has disk) mode [] ((mode ≡ recover_mode.None) ⊎ D.is_known disk) engine.core (D.byte_at engine.disk)) }
+            (SurelyCame (D.surely_has disk) (D.surely_lies disk) (D.faults disk) (D.faults engine.disk)) mode [] ((mode ≡ recover_mode.None) ⊎ D.is_known disk) engine.core (D.byte_at engine.disk)) }
         ensures refused { IfErr result (λ e. (e ≡ Memory) ⊎ ((e ≡ Config) × (AreValid settings → ⊥))
             ⊎ ((e ≡ Recover) × (mode ≡ recover_mode.Strict)) ⊎ ((e ≡ SequenceEnd) × (mode ≢ recover_mode.None))) }
         ensures unread { IfOk result (λ engine. mode ≡ recover_mode.None → engine.disk ≡ disk) }
         ensures known { IfOk result (λ engine. D.is_known disk → D.is_known engine.disk) }
         ensures has { IfOk result (λ engine. (b o n : ℕ) → D.surely_has disk b o n → D.surely_has engine.disk b o n) }
         ensures lent { IfOk result (λ engine. (engine.env.reinsertion ≡ env.reinsertion) × (engine.env.io ≡ env.io)) }
+        ensures lies { IfOk result (λ engine. (b o n : ℕ) → D.surely_lies disk b o n → D.surely_lies engine.disk b o n) }
+        ensures counted { IfOk result (λ engine. D.faults disk ≤ D.faults engine.disk) }
     {
         Engine::with_log(alloc, env, settings, disk, mode, &[], NoLog)
     }
@@ -218,13 +221,15 @@ where
     ) -> Result<Engine<A, D, L, E, C>>
         ensures sound { IfOk result (λ _. AreValid settings) }
         ensures begins { IfOk result (λ engine. (sound : AreValid settings) → IsBegun plain settings sound (D.byte_at disk)
-            (D.surely_has disk) mode (marks_of marks.now) ((mode ≡ recover_mode.None) ⊎ D.is_known disk) engine.core (D.byte_at engine.disk)) }
+            (SurelyCame (D.surely_has disk) (D.surely_lies disk) (D.faults disk) (D.faults engine.disk)) mode (marks_of marks.now) ((mode ≡ recover_mode.None) ⊎ D.is_known disk) engine.core (D.byte_at engine.disk)) }
         ensures refused { IfErr result (λ e. (e ≡ Memory) ⊎ ((e ≡ Config) × (AreValid settings → ⊥))
             ⊎ ((e ≡ Recover) × (mode ≡ recover_mode.Strict)) ⊎ ((e ≡ SequenceEnd) × (mode ≡ recover_mode.None → marks.now ≢ []))) }
         ensures unread { IfOk result (λ engine. mode ≡ recover_mode.None → engine.disk ≡ disk) }
         ensures known { IfOk result (λ engine. D.is_known disk → D.is_known engine.disk) }
         ensures has { IfOk result (λ engine. (b o n : ℕ) → D.surely_has disk b o n → D.surely_has engine.disk b o n) }
         ensures lent { IfOk result (λ engine. (engine.env.reinsertion ≡ env.reinsertion) × (engine.env.io ≡ env.io)) }
+        ensures lies { IfOk result (λ engine. (b o n : ℕ) → D.surely_lies disk b o n → D.surely_lies engine.disk b o n) }
+        ensures counted { IfOk result (λ engine. D.faults disk ≤ D.faults engine.disk) }
         ensures log { IfOk result (λ engine. engine.log ≡ log) }
     {
         let core = Core::open(alloc.clone()?, &mut env, settings, &mut disk, mode, marks)?;

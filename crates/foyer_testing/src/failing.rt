@@ -1,4 +1,5 @@
 //! A disk that fails one call.
+ghost use Rattle.std.specs.Prelude.{◌+◌, ◌-◌, ◌^◌, min};
 
 use foyer_block_index::manager::BlockId;
 use foyer_device_page::error::{Error, Result};
@@ -12,6 +13,7 @@ pub struct Failing<D: Disk + Drop> {
     inner: D,
     left: u64,
     kept: usize,
+    failed: u64,
 }
 
 impl<D: Disk + Drop> Failing<D> {
@@ -21,6 +23,7 @@ impl<D: Disk + Drop> Failing<D> {
             inner,
             left: n,
             kept,
+            failed: 0,
         }
     }
 
@@ -37,6 +40,10 @@ impl<D: Disk + Drop> Disk for Failing<D> {
 
     ghost surely_has = { λ _ b o n. ⊥ };
 
+    ghost faults = { λ d. min (D.faults d.inner + d.failed) (2 ^ 64 - 1) };
+
+    ghost surely_lies = { λ d. D.surely_lies d.inner };
+
     fn read<A: Allocator>(
         &mut self,
         block: BlockId,
@@ -46,6 +53,7 @@ impl<D: Disk + Drop> Disk for Failing<D> {
         let n = self.left;
         self.left = n.saturating_sub(1);
         if n == 1 {
+            self.failed = self.failed.saturating_add(1);
             return (buffer, Err(Error::Io));
         }
         self.inner.read(block, offset, buffer)
@@ -55,6 +63,7 @@ impl<D: Disk + Drop> Disk for Failing<D> {
         let n = self.left;
         self.left = n.saturating_sub(1);
         if n == 1 {
+            self.failed = self.failed.saturating_add(1);
             let front = &bytes[..self.kept.min(bytes.len())];
             let _ = self.inner.write(block, offset, front);
             return Err(Error::Io);

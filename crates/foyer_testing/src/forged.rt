@@ -10,12 +10,14 @@ pub const BLOCK_SIZE: usize = 16384;
 
 pub const INDEX_SIZE: usize = 4096;
 
-/// The blocks' bytes, one block behind another; the offsets whose reads fail; and how many reads there were.
+/// The blocks' bytes, one block behind another; the offsets whose reads fail; how many reads there were; and how many
+/// accesses failed.
 #[derive(Drop)]
 pub struct ForgedDisk {
     pub bytes: Vec<u8>,
     pub failing: Vec<usize>,
     pub reads: u64,
+    pub faults: u64,
 }
 
 impl ForgedDisk {
@@ -25,6 +27,7 @@ impl ForgedDisk {
             bytes: vec![in alloc; 0u8; BLOCK_SIZE * blocks as usize]?,
             failing: Vec::new(alloc),
             reads: 0,
+            faults: 0,
         })
     }
 
@@ -43,6 +46,10 @@ impl Disk for ForgedDisk {
 
     ghost surely_has = { λ _ _ _ _. ⊥ };
 
+    ghost faults = { λ d. d.faults };
+
+    ghost surely_lies = { λ _ _ _ _. Unit {0} };
+
     fn read<A: Allocator>(
         &mut self,
         block: BlockId,
@@ -56,6 +63,7 @@ impl Disk for ForgedDisk {
             || at > self.bytes.len()
             || buffer.len() > self.bytes.len() - at
         {
+            self.faults = self.faults.saturating_add(1);
             return (buffer, Err(Error::Io));
         }
         let end = at + buffer.len();
@@ -64,6 +72,7 @@ impl Disk for ForgedDisk {
     }
 
     fn write(&mut self, _block: BlockId, _offset: usize, _bytes: &[u8]) -> Result<()> {
+        self.faults = self.faults.saturating_add(1);
         Err(Error::Unsupported)
     }
 }

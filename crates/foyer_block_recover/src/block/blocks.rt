@@ -3,6 +3,7 @@ ghost use Rattle.std.specs.Prelude.{◌≡◌, ℕ, ◌+◌, ◌<◌, ◌≤◌,
 ghost use Rattle.foyer_format_blob.specs.declared.blob.BlobEntryIndex.{BlobEntryIndex};
 ghost use Rattle.foyer_format_buffer.specs.Fills.{AreSizes};
 ghost use Rattle.foyer_device_page.specs.declared.error.Error.TheVariants as error;
+ghost use Rattle.foyer_io_disk.specs.Disk.{SurelyCame};
 ghost use Rattle.foyer_block_recover.specs.Chained.{hashed_entries};
 ghost use Rattle.foyer_block_recover.specs.BlocksKept.{HoldsKept, AreBlocksRead, IsBlockCut};
 ghost use Rattle.foyer_block_recover.specs.Placed.{AreSomeKept};
@@ -93,14 +94,18 @@ pub(crate) fn read_blocks<A: Allocator + Clone, D: Disk>(
     requires small { block_size ≤ 2 ^ 32 }
     requires shards { 0 < shards }
     ensures kept { D.is_known disk.old → IfOk result (λ read. AreBlocksRead (record { block = block_size; index = index_size })
-        blocks (D.byte_at disk.old) (D.surely_has disk.old) is_strict read) }
+        blocks (D.byte_at disk.old)
+        (SurelyCame (D.surely_has disk.old) (D.surely_lies disk.old) (D.faults disk.old) (D.faults disk.new)) is_strict read) }
     ensures some { IfOk result (AreSomeKept (record { block = block_size; index = index_size }) blocks) }
     ensures cut { D.is_known disk.old → IfErr result (λ e. e ≡ error.Recover → IsBlockCut
-        (record { block = block_size; index = index_size }) blocks (D.byte_at disk.old) (D.surely_has disk.old) is_strict) }
+        (record { block = block_size; index = index_size }) blocks (D.byte_at disk.old)
+        (SurelyCame (D.surely_has disk.old) (D.surely_lies disk.old) (D.faults disk.old) (D.faults disk.new)) is_strict) }
     ensures refused { IfErr result (λ e. (e ≡ error.Memory) ⊎ ((e ≡ error.Recover) × (is_strict ≡ true))) }
     ensures known { D.is_known disk.old → D.is_known disk.new }
     ensures same { D.byte_at disk.new ≡ D.byte_at disk.old }
     ensures has { (b o n : ℕ) → D.surely_has disk.old b o n → D.surely_has disk.new b o n }
+    ensures lies { (b o n : ℕ) → D.surely_lies disk.old b o n → D.surely_lies disk.new b o n }
+    ensures counted { D.faults disk.old ≤ D.faults disk.new }
 {
     let mut read = BlocksRead::none(alloc, shards)?;
     let mut buffer = vec![in alloc.clone()?; 0u8; index_size]?;

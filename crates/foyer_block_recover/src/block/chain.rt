@@ -3,6 +3,7 @@ ghost use Rattle.std.specs.Prelude.{◌≡◌, ℕ, ◌≤◌, ◌^◌, vec_len,
 ghost use Rattle.foyer_device_page.specs.declared.error.Error.TheVariants.{Memory};
 ghost use Rattle.foyer_format_layout.specs.BlockBytes.{read};
 ghost use Rattle.foyer_format_buffer.specs.Fills.{AreSizes};
+ghost use Rattle.foyer_io_disk.specs.Disk.{SurelyCame};
 ghost use Rattle.foyer_block_recover.specs.Chained.{IsKeptOf};
 ghost use Rattle.foyer_block_recover.specs.Placed.{IsSomeKept};
 
@@ -39,10 +40,13 @@ fn read_index<A: Allocator, D: Disk>(
     ensures len { vec_len result.buffer ≡ vec_len buffer }
     ensures bytes { D.is_known disk.old → result.came ≡ true
         → result.buffer.items ≡ read (D.byte_at disk.old block) offset (vec_len buffer) }
-    ensures fault { result.came ≡ false → D.surely_has disk.old block offset (vec_len buffer) → ⊥ }
+    ensures fault { result.came ≡ false → SurelyCame (D.surely_has disk.old) (D.surely_lies disk.old) (D.faults disk.old) (D.faults disk.new)
+        block offset (vec_len buffer) → ⊥ }
     ensures known { D.is_known disk.old → D.is_known disk.new }
     ensures same { D.byte_at disk.new ≡ D.byte_at disk.old }
     ensures has { (b o n : ℕ) → D.surely_has disk.old b o n → D.surely_has disk.new b o n }
+    ensures lies { (b o n : ℕ) → D.surely_lies disk.old b o n → D.surely_lies disk.new b o n }
+    ensures counted { D.faults disk.old ≤ D.faults disk.new }
 {
     let (buffer, outcome) = disk.read(block, offset, buffer);
     let came = outcome.is_ok();
@@ -64,13 +68,16 @@ pub(crate) fn read_chain<A: Allocator + Clone, D: Disk>(
     ensures len { IfOk result (λ chain. vec_len chain.buffer ≡ vec_len buffer) }
     ensures kept { D.is_known disk.old → IfOk result (λ chain. IsKeptOf
         (record { block = block_size; index = vec_len buffer }) (D.byte_at disk.old block)
-        (λ p. D.surely_has disk.old block p (vec_len buffer)) block kept.items chain.kept.items chain.is_cut) }
+        (λ p. SurelyCame (D.surely_has disk.old) (D.surely_lies disk.old) (D.faults disk.old) (D.faults disk.new)
+        block p (vec_len buffer)) block kept.items chain.kept.items chain.is_cut) }
     ensures some { IfOk result (λ chain. IsSomeKept
         (record { block = block_size; index = vec_len buffer }) block kept.items chain.kept.items) }
     ensures memory { IsOkUnless result Memory }
     ensures known { D.is_known disk.old → D.is_known disk.new }
     ensures same { D.byte_at disk.new ≡ D.byte_at disk.old }
     ensures has { (b o n : ℕ) → D.surely_has disk.old b o n → D.surely_has disk.new b o n }
+    ensures lies { (b o n : ℕ) → D.surely_lies disk.old b o n → D.surely_lies disk.new b o n }
+    ensures counted { D.faults disk.old ≤ D.faults disk.new }
 {
     let index_size = buffer.len();
     let mut scanner = BlockScanner::new(block, 0, block_size, index_size);

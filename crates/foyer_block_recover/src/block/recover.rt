@@ -2,6 +2,7 @@
 ghost use Rattle.std.specs.Prelude.{◌≡◌, ℕ, ◌<◌, ◌≤◌, ◌^◌, ◌⊎◌, [], IfOk, IfErr};
 ghost use Rattle.foyer_format_buffer.specs.Fills.{AreSizes};
 ghost use Rattle.foyer_device_page.specs.declared.error.Error.TheVariants as error;
+ghost use Rattle.foyer_io_disk.specs.Disk.{SurelyCame};
 ghost use Rattle.foyer_block_recover.specs.BlocksKept.{AreBlocksKept};
 ghost use Rattle.foyer_block_recover.specs.Placed.{AreSomeKept, IsOpening};
 ghost use Rattle.foyer_block_recover.specs.Recovery.{sizes_of, marks_of, opened_of, IsRecovered, IsRefused, MayRefuse};
@@ -61,15 +62,19 @@ impl RecoverRunner {
         requires small { self.now.block_size ≤ 2 ^ 32 }
         requires shards { 0 < shards }
         ensures kept { (self.now.mode ≡ RecoverMode.None) ⊎ D.is_known disk.old → IfOk result
-            (AreBlocksKept (sizes_of self.now) self.now.blocks (D.byte_at disk.old) (D.surely_has disk.old) self.now.mode) }
+            (AreBlocksKept (sizes_of self.now) self.now.blocks (D.byte_at disk.old)
+            (SurelyCame (D.surely_has disk.old) (D.surely_lies disk.old) (D.faults disk.old) (D.faults disk.new)) self.now.mode) }
         ensures some { IfOk result (AreSomeKept (sizes_of self.now) self.now.blocks) }
         ensures refused { (self.now.mode ≡ RecoverMode.None) ⊎ D.is_known disk.old → IfErr result
-            (IsRefused (sizes_of self.now) self.now.blocks (D.byte_at disk.old) (D.surely_has disk.old) self.now.mode []) }
+            (IsRefused (sizes_of self.now) self.now.blocks (D.byte_at disk.old)
+            (SurelyCame (D.surely_has disk.old) (D.surely_lies disk.old) (D.faults disk.old) (D.faults disk.new)) self.now.mode []) }
         ensures refusals { IfErr result (λ e. (e ≡ error.Memory) ⊎ ((e ≡ error.Recover) × (self.now.mode ≡ RecoverMode.Strict))) }
         ensures unread { self.now.mode ≡ RecoverMode.None → disk.new ≡ disk.old }
         ensures known { D.is_known disk.old → D.is_known disk.new }
         ensures same { D.byte_at disk.new ≡ D.byte_at disk.old }
         ensures has { (b o n : ℕ) → D.surely_has disk.old b o n → D.surely_has disk.new b o n }
+        ensures lies { (b o n : ℕ) → D.surely_lies disk.old b o n → D.surely_lies disk.new b o n }
+        ensures counted { D.faults disk.old ≤ D.faults disk.new }
     {
         match self.mode {
             RecoverMode::None => read_none(alloc, self.blocks, shards),
@@ -112,16 +117,20 @@ impl RecoverRunner {
         requires small { self.now.block_size ≤ 2 ^ 32 }
         requires shards { 0 < shards }
         ensures recovered { (self.now.mode ≡ RecoverMode.None) ⊎ D.is_known disk.old → IfOk result (λ recovered. IsRecovered
-            (sizes_of self.now) self.now.blocks (D.byte_at disk.old) (D.surely_has disk.old) self.now.mode (marks_of marks.now)
+            (sizes_of self.now) self.now.blocks (D.byte_at disk.old)
+            (SurelyCame (D.surely_has disk.old) (D.surely_lies disk.old) (D.faults disk.old) (D.faults disk.new)) self.now.mode (marks_of marks.now)
             (opened_of recovered)) }
         ensures some { IfOk result (λ recovered. IsOpening (sizes_of self.now) self.now.blocks (marks_of marks.now) (opened_of recovered)) }
         ensures refused { (self.now.mode ≡ RecoverMode.None) ⊎ D.is_known disk.old → IfErr result (IsRefused
-            (sizes_of self.now) self.now.blocks (D.byte_at disk.old) (D.surely_has disk.old) self.now.mode (marks_of marks.now)) }
+            (sizes_of self.now) self.now.blocks (D.byte_at disk.old)
+            (SurelyCame (D.surely_has disk.old) (D.surely_lies disk.old) (D.faults disk.old) (D.faults disk.new)) self.now.mode (marks_of marks.now)) }
         ensures refusals { IfErr result (MayRefuse self.now.mode) }
         ensures unread { self.now.mode ≡ RecoverMode.None → disk.new ≡ disk.old }
         ensures known { D.is_known disk.old → D.is_known disk.new }
         ensures same { D.byte_at disk.new ≡ D.byte_at disk.old }
         ensures has { (b o n : ℕ) → D.surely_has disk.old b o n → D.surely_has disk.new b o n }
+        ensures lies { (b o n : ℕ) → D.surely_lies disk.old b o n → D.surely_lies disk.new b o n }
+        ensures counted { D.faults disk.old ≤ D.faults disk.new }
     {
         let mut read = self.read(alloc, disk, shards)?;
         read.take_marks(marks);

@@ -57,6 +57,7 @@ impl<K, V, P, A: Allocator + Clone> Flusher<K, V, P, A> {
             → FlusherStep m s sound (model_step.FlushWrote f is_done) f it (issued_wrote result)
             (seen self.new) index.new.slots manager.new }
         ensures failed { is_done ≡ true → result ≡ wrote.Failed → MustGrowFor index.old self.old }
+        ensures still { result ≡ wrote.Next → index.new ≡ index.old }
         ensures shown { AreShownAll E.learns (written_of manager.old.blocks (left_after result self.old.own)) pickers.old pickers.new }
     {
         let Some(batch) = &mut self.batch else {

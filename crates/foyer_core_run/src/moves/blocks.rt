@@ -1,5 +1,5 @@
 //! The moves that report what a reclaim read, and the clean of a block.
-ghost use Rattle.std.specs.Prelude.{◌≡◌, ◌+◌, ◌<◌, ◌≤◌, vec_len, vec_capacity};
+ghost use Rattle.std.specs.Prelude.{◌≡◌, ◌+◌, ◌<◌, ◌≤◌, vec_len, vec_capacity, ℕ};
 ghost use Rattle.foyer_core_laws.specs.Content.{meaning};
 ghost use Rattle.foyer_core_run.specs.Running.{Moves};
 
@@ -39,6 +39,8 @@ where
         (Asked.ReclaimRead block) kept.old kept.new core.old core.new (D.byte_at disk.old) (D.byte_at disk.new) }
     ensures one { vec_len kept.new.replies ≤ vec_len kept.old.replies + 1 }
     ensures known { D.is_known disk.old → D.is_known disk.new }
+    ensures lies { (b o n : ℕ) → D.surely_lies disk.old b o n → D.surely_lies disk.new b o n }
+    ensures counted { D.faults disk.old ≤ D.faults disk.new }
 {
     let Some(part) = get_due(kept.scans.as_slice(), block as usize) else {
         return;
@@ -79,6 +81,8 @@ where
         (Asked.ReclaimCleaned block) kept.old kept.new core.old core.new (D.byte_at disk.old) (D.byte_at disk.new) }
     ensures one { vec_len kept.new.replies ≤ vec_len kept.old.replies + 1 }
     ensures known { D.is_known disk.old → D.is_known disk.new }
+    ensures lies { (b o n : ℕ) → D.surely_lies disk.old b o n → D.surely_lies disk.new b o n }
+    ensures counted { D.faults disk.old ≤ D.faults disk.new }
 {
     if !is_clean_due(kept.cleans.as_slice(), block as usize) {
         return;
@@ -119,6 +123,8 @@ where
         (Asked.DestroyCleaned block) kept.old kept.new core.old core.new (D.byte_at disk.old) (D.byte_at disk.new) }
     ensures one { vec_len kept.new.replies ≤ vec_len kept.old.replies + 1 }
     ensures known { D.is_known disk.old → D.is_known disk.new }
+    ensures lies { (b o n : ℕ) → D.surely_lies disk.old b o n → D.surely_lies disk.new b o n }
+    ensures counted { D.faults disk.old ≤ D.faults disk.new }
 {
     if !is_clean_due(kept.cleans.as_slice(), block as usize) {
         return;

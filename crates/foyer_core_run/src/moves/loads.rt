@@ -1,5 +1,5 @@
 //! The moves that end a load, with its read.
-ghost use Rattle.std.specs.Prelude.{◌≡◌, ◌+◌, ◌<◌, ◌≤◌, vec_len, vec_capacity, OnOk, OnErr};
+ghost use Rattle.std.specs.Prelude.{◌≡◌, ◌+◌, ◌<◌, ◌≤◌, vec_len, vec_capacity, OnOk, OnErr, ℕ};
 ghost use Rattle.foyer_core_laws.specs.Content.{meaning};
 ghost use Rattle.foyer_core_run.specs.Running.{Moves};
 
@@ -41,6 +41,8 @@ where
     ensures kept { OnErr result (kept.new.replies.items ≡ kept.old.replies.items) }
     ensures one { vec_len kept.new.replies ≤ vec_len kept.old.replies + 1 }
     ensures known { D.is_known disk.old → D.is_known disk.new }
+    ensures lies { (b o n : ℕ) → D.surely_lies disk.old b o n → D.surely_lies disk.new b o n }
+    ensures counted { D.faults disk.old ≤ D.faults disk.new }
 {
     let Some(ticket) = get_due(kept.tickets.as_slice(), n) else {
         return Ok(());

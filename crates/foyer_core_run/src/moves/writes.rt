@@ -124,6 +124,8 @@ where
         (Asked.FlushWrote flusher) kept.old kept.new core.old core.new (D.byte_at disk.old) (D.byte_at disk.new) }
     ensures one { vec_len kept.new.replies ≤ vec_len kept.old.replies + 1 }
     ensures known { D.is_known disk.old → D.is_known disk.new }
+    ensures lies { (b o n : ℕ) → D.surely_lies disk.old b o n → D.surely_lies disk.new b o n }
+    ensures counted { D.faults disk.old ≤ D.faults disk.new }
 {
     let Some(issued) = get_due(kept.issued.as_slice(), flusher as usize) else {
         return;

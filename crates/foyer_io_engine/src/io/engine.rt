@@ -1,5 +1,6 @@
 //! Engines that read and write the partitions of a device.
 ghost use Rattle.std.specs.Prelude.{◌≡◌, ℕ, ◌≤◌, ◌↔◌, ◌+◌, Option, None, Err, IsSome, IsTrue, IfSome, IfErr, OnOk, MatchResult, length};
+ghost use Rattle.foyer_device_partition.specs.Extent.{Extent};
 ghost use Rattle.foyer_io_engine.specs.Disk.{Disk, IfKnown, Becomes, CanAccess, DidRead, DidWrite, MayTear, IsAccessFault};
 ghost use Rattle.foyer_device_page.specs.declared.error.Error.TheVariants as error;
 
@@ -36,6 +37,10 @@ pub trait IoEngine {
     // The faults of its reads and writes, up to 2^64 - 1.
     ghost faults: { Self → ℕ };
 
+    // So many bytes from an offset on of a partition of this place and size are surely there: such an access is never
+    // OutOfRange.
+    ghost reaches: { Self → Extent → ℕ → ℕ → ℕ → Type 0 };
+
     /// Fills the buffer with the bytes from an offset of the partition on. After a refusal the buffer may have any
     /// bytes.
     fn read<B: IoBufMut, P: Partition>(
@@ -51,7 +56,10 @@ pub trait IoEngine {
         ensures outside { IfKnown (disk self.old) (λ d. IfSome result (λ r. r.1 ≡ Err error.OutOfRange
             → ¬ CanAccess d (P.extent partition.now) (P.bytes partition.now) offset
             (length (B.bytes buffer)))) }
+        ensures missing { IfSome result (λ r. r.1 ≡ Err error.OutOfRange
+            → ¬ reaches self.old (P.extent partition.now) (P.bytes partition.now) offset (length (B.bytes buffer))) }
         ensures kept { disk self.new ≡ disk self.old }
+        ensures reached { (x : Extent) (s o n : ℕ) → reaches self.old x s o n → reaches self.new x s o n }
         ensures counted { faults self.old ≤ faults self.new }
         ensures refused { IfSome result (λ r. IfErr r.1
             (IsAccessFault (faults self.old) (faults self.new))) };
@@ -73,6 +81,9 @@ pub trait IoEngine {
             → (¬ CanAccess d (P.extent partition.now) (P.bytes partition.now) offset
             (length (B.bytes buffer))))) }
         ensures untouched { IfSome result (λ r. r.1 ≡ Err error.OutOfRange → disk self.new ≡ disk self.old) }
+        ensures missing { IfSome result (λ r. r.1 ≡ Err error.OutOfRange
+            → ¬ reaches self.old (P.extent partition.now) (P.bytes partition.now) offset (length (B.bytes buffer))) }
+        ensures reached { (x : Extent) (s o n : ℕ) → reaches self.old x s o n → reaches self.new x s o n }
         ensures counted { faults self.old ≤ faults self.new }
         ensures refused { IfSome result (λ r. IfErr r.1
             (IsAccessFault (faults self.old) (faults self.new))) };

@@ -1,4 +1,6 @@
 //! What a thread asks, and how it judges the answers.
+ghost use Rattle.std.specs.Prelude.{◌<◌};
+
 use super::{Found, NOTHING};
 use foyer_device_page::error::Result;
 use foyer_format_record::serde::{IdentityHashBuilder, NoProperties};
@@ -127,7 +129,9 @@ impl Asker {
         session: &mut S,
         key: u64,
         place: usize,
-    ) {
+    )
+        requires { place < 64 }
+    {
         let count = self.table[place].count.wrapping_add(1);
         match enqueue(rt, alloc, store, session, key, count) {
             Ok(answer) => {
@@ -148,7 +152,9 @@ impl Asker {
         session: &mut S,
         key: u64,
         place: usize,
-    ) {
+    )
+        requires { place < 64 }
+    {
         match store.delete(rt, session, &key) {
             Ok(()) => {
                 self.table[place] = Last {
@@ -168,7 +174,9 @@ impl Asker {
         session: &mut S,
         key: u64,
         place: usize,
-    ) {
+    )
+        requires { place < 64 }
+    {
         let last = self.table[place];
         match store.load(rt, session, &key, 0) {
             Ok(Load::Entry { value, .. }) => {

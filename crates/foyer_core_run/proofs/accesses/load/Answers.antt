@@ -1,6 +1,8 @@
-use Rattle.std.proofs.Common.{[], ◌∷◌, None, refl, sym, ap, subst}
+use Rattle.std.proofs.Common.{[], ◌∷◌, None, refl, sym, ap, subst, arith}
 use Rattle.foyer_core_laws.specs.Content.{meaning}
-use Rattle.foyer_core_steps.specs.Refines.{IsRefined}
+use Rattle.foyer_io_disk.specs.Disk.{SurelyCame}
+use Rattle.foyer_core_steps.specs.Answered.{Describes}
+use Rattle.foyer_core_steps.specs.Refines.{IsRefined, Refines}
 use Rattle.foyer_core_steps.specs.declared.step.Step.TheVariants as step
 use Rattle.foyer_core_run.specs.Accesses.{load_of}
 use Rattle.foyer_core_run.specs.Driven.{Drives}
@@ -9,6 +11,7 @@ use Rattle.foyer_core_run.specs.Runs.{IsFront}
 use Rattle.foyer_core_run.specs.declared.moves.Move.TheVariants as move
 use Rattle.foyer_core_run.proofs.AccessLemmas.{Goes, front_is, load_alone, load_whole, no_ticket, says_last, step_alone, uncleaned, unscanned}
 use Rattle.foyer_core_run.proofs.DriveLemmas.{says_drive, step_drives}
+use Rattle.foyer_core_run.proofs.HonestLemmas.{look_up_fails, load_fails}
 use Rattle.foyer_core_run.proofs.LoadLemmas.{come_is}
 use Rattle.foyer_core_run.proofs.MissedLemmas.{load_missed, look_up_missed}
 use Rattle.foyer_core_run.proofs.NewestLemmas.{load_newest, look_up_newest}
@@ -35,10 +38,14 @@ returns-in_default g c =
       drives = λ known. says_drive m (load_of h throttled) answer c.args.core.now c.apply.new.self bytes bytes says;
       newest = λ known. look_up_newest m h throttled answer c.args.core.now c.apply.new.self bytes (λ s sound v at. c.apply.ensures.meets s sound v.core at);
       missed = λ known not. look_up_missed m h throttled answer c.args.core.now c.apply.new.self bytes not (no_ticket answer c.in_default.not-Read) (λ s sound v at. c.apply.ensures.meets s sound v.core at);
+      honest = look_up_fails m h throttled answer c.args.core.now c.apply.new.self (SurelyCame (g.D.Disk.surely_has c.args.disk.now) (g.D.Disk.surely_lies c.args.disk.now) (g.D.Disk.faults c.args.disk.now) (g.D.Disk.faults c.args.disk.now)) c.apply.ensures.meets;
       front = λ known. tt;
       unread = λ throttles. refl;
       lent = c.apply.ensures.lent;
       known = λ known. known;
+      has = λ b o n h. h;
+      lies = λ b o n h. h;
+      counted = omega arith;
       same = refl;
     }
 
@@ -143,3 +150,14 @@ returns-in_err-came-clause-unread g c = λ throttles.
 pub returns-clause-unread : goal.returns-clause-unread
 returns-clause-unread g c = λ throttles.
     absurd (no_read g.K.Code.is_decodable g.V.Code.is_decodable g.K.Code.encoding g.V.Code.encoding c.args.hash c.args.throttled c.apply.result c.in-Read.ticket c.args.core.now c.apply.new.self c.in-Read.is c.apply.ensures.issued throttles)
+
+pub returns-clause-honest : goal.returns-clause-honest
+returns-clause-honest g c =
+    let m = meaning g.K.Code.encoding g.V.Code.encoding g.K.Code.is_encodable g.V.Code.is_encodable g.K.Code.is_decodable g.V.Code.is_decodable g.P.Properties.age in
+    let given = step.LoadBegin c.args.hash c.args.throttled in
+    load_fails m c.args.hash c.args.throttled c.in-Read.ticket c.in_ok-came.came c.apply_load-reply.result.0 c.args.core.now c.apply.new.self c.apply_load-reply.new.self
+    (SurelyCame (g.D.Disk.surely_has c.args.disk.now) (g.D.Disk.surely_lies c.args.disk.now) (g.D.Disk.faults c.args.disk.now) (g.D.Disk.faults c.do_read.new.disk))
+    (subst (λ r. Describes g.K.Code.is_decodable g.V.Code.is_decodable g.K.Code.encoding g.V.Code.encoding given r c.args.core.now c.apply.new.self) c.in-Read.is c.apply.ensures.issued)
+    (subst (λ r. Refines m given r c.args.core.now c.apply.new.self) c.in-Read.is c.apply.ensures.meets)
+    c.in_ok-came.ensures.fails
+    c.apply_load-reply.ensures.meets

@@ -1,4 +1,4 @@
-use Rattle.std.proofs.Common.{◌≡◌, ◌+◌, ◌<◌, ap, subst, ◌∙◌, arith}
+use Rattle.std.proofs.Common.{◌≡◌, ◌<◌, ap, subst, ◌∙◌, arith}
 use Rattle.foyer_core_laws.specs.Content.{meaning}
 use Rattle.foyer_core_steps.specs.Refines.{Refines}
 use Rattle.foyer_core_steps.specs.declared.step.Step.TheVariants as step
@@ -12,6 +12,8 @@ returns-in_default g c =
       clears = λ known. tt;
       kept = clears_nothing m c.apply.result c.args.core.now c.apply.new.self (g.D.Disk.byte_at c.args.disk.now) c.apply.ensures.meets;
       known = λ known. known;
+      lies = λ b o n h. h;
+      counted = omega arith;
       lent = c.apply.ensures.lent;
     }
 
@@ -21,6 +23,8 @@ each_block-init g c =
     record {
       lent = c.apply.ensures.lent;
       known = λ known. known;
+      lies = λ b o n h. h;
+      counted = omega arith;
       clears = λ known. clears_first m c.args.core.now c.apply.new.self (g.D.Disk.byte_at c.args.disk.now)
           (subst (λ r. Refines m step.DestroyClear r c.args.core.now c.apply.new.self) c.in-Cleared.is c.apply.ensures.meets);
     }
@@ -33,6 +37,8 @@ each_block-preserved g c =
     record {
       lent = (c.clean-last.ensures.lent.0 ∙ c.each_block.invariant.lent.0, c.clean-last.ensures.lent.1 ∙ c.each_block.invariant.lent.1);
       known = λ known. c.clean-last.ensures.known (c.each_block.invariant.known known);
+      lies = λ b o n h. c.clean-last.ensures.lies b o n (c.each_block.invariant.lies b o n h);
+      counted = omega (arith, c.each_block.invariant.counted, c.clean-last.ensures.counted);
       clears = λ known. clears_more m c.each_block.block c.each_block.last c.clean-last.result c.args.core.now c.each_block.core c.clean-last.new.core
           (g.D.Disk.byte_at c.args.disk.now) (g.D.Disk.byte_at c.each_block.disk) (g.D.Disk.byte_at c.clean-last.new.disk) there
           (c.each_block.invariant.clears known) (c.clean-last.ensures.cleans (c.each_block.invariant.known known));
@@ -51,3 +57,9 @@ returns-clause-known g c = c.each_block.invariant.known
 
 pub returns-clause-lent : goal.returns-clause-lent
 returns-clause-lent g c = c.each_block.invariant.lent
+
+pub returns-clause-lies : goal.returns-clause-lies
+returns-clause-lies g c = c.each_block.invariant.lies
+
+pub returns-clause-counted : goal.returns-clause-counted
+returns-clause-counted g c = c.each_block.invariant.counted

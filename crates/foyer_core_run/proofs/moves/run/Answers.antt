@@ -21,6 +21,8 @@ loop-x-init g c =
       few = omega (arith, kept.replies.ok, none);
       rest = sym c.into_iter-x-iterator.ensures.into_iter_gives.0;
       known = λ known. known;
+      lies = λ b o n h. h;
+      counted = omega arith;
       going = λ known s sound w stands same.
           going_begun m s sound w kept.tickets.items kept.issued.items kept.scans.items kept.cleans.items kept.replies.items c.args.core.now (g.D.Disk.byte_at c.args.disk.now) stands same
           c.in_ok-kept.ensures.tickets (c.in_ok-kept.ensures.issued ∙ ap (λ z. replicate z.flushers None) (c.settings.ensures ∙ stands.sizes)) (c.in_ok-kept.ensures.scans ∙ ap (λ z. replicate z.blocks None) (c.settings.ensures ∙ stands.sizes))
@@ -37,6 +39,8 @@ loop-x-preserved g c =
       few = omega (arith, c.loop-x.invariant.few, c.in_ok-make.ensures.one, more);
       rest = c.loop-x.invariant.rest ∙ ap (λ xs. yielded ++ xs) c.in-Some.ensures.steps.0 ∙ sym (append_twice yielded (x ∷ []) c.next.new.self.rest.items);
       known = λ known. c.in_ok-make.ensures.known (c.loop-x.invariant.known known);
+      lies = λ b o n h. c.in_ok-make.ensures.lies b o n (c.loop-x.invariant.lies b o n h);
+      counted = omega (arith, c.loop-x.invariant.counted, c.in_ok-make.ensures.counted);
       going = λ known s sound w stands same.
           let going = c.loop-x.invariant.going known s sound w stands same in
           going_on m s sound w yielded x c.loop-x.kept.tickets.items c.make.new.kept.tickets.items c.loop-x.kept.issued.items c.make.new.kept.issued.items c.loop-x.kept.scans.items c.make.new.kept.scans.items c.loop-x.kept.cleans.items c.make.new.kept.cleans.items c.loop-x.kept.replies.items c.make.new.kept.replies.items

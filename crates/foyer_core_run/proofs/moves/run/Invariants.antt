@@ -12,6 +12,8 @@ invariant-loop-x g l = record {
   few : vec_len l.kept.replies ≤ length l.yielded;
   rest : l.fn.moves.items ≡ l.yielded ++ l.x-iterator.rest.items;
   known : g.D.Disk.is_known l.fn.disk → g.D.Disk.is_known l.disk;
+  lies : (b o n : ℕ) → g.D.Disk.surely_lies l.fn.disk b o n → g.D.Disk.surely_lies l.disk b o n;
+  counted : g.D.Disk.faults l.fn.disk ≤ g.D.Disk.faults l.disk;
   going : g.D.Disk.is_known l.fn.disk → (s : Settings) (sound : AreValid s) (w : World Content)
       → IsStateOf (meaning g.K.Code.encoding g.V.Code.encoding g.K.Code.is_encodable g.V.Code.is_encodable g.K.Code.is_decodable g.V.Code.is_decodable g.P.Properties.age) s l.fn.core w.core
       → ((b o : ℕ) → w.bytes b o ≡ g.D.Disk.byte_at l.fn.disk b o)

@@ -1,4 +1,4 @@
-use Rattle.std.proofs.Common.{Some, None, refl, subst, ◌∙◌}
+use Rattle.std.proofs.Common.{Some, None, refl, subst, ◌∙◌, arith}
 use Rattle.foyer_core_laws.specs.Content.{meaning}
 use Rattle.foyer_core_run.specs.Reclaims.{Reads}
 use Rattle.foyer_core_run.proofs.ReclaimIdle.{unread_more, unread_none}
@@ -9,6 +9,8 @@ pub parts-init : goal.parts-init
 parts-init g c =
     let m = meaning g.K.Code.encoding g.V.Code.encoding g.K.Code.is_encodable g.V.Code.is_encodable g.K.Code.is_decodable g.V.Code.is_decodable g.P.Properties.age in record {
       known = λ known. known;
+      lies = λ b o n h. h;
+      counted = omega arith;
       same = refl;
       reads = λ known. reads_none m c.args.block (Some c.args.first) c.args.core.now (g.D.Disk.byte_at c.args.disk.now);
       leads = unread_none m c.args.env.now.reinsertion c.args.block c.args.core.now;
@@ -39,6 +41,8 @@ parts-preserved g c =
     let m = meaning g.K.Code.encoding g.V.Code.encoding g.K.Code.is_encodable g.V.Code.is_encodable g.K.Code.is_decodable g.V.Code.is_decodable g.P.Properties.age in
     let bytes = g.D.Disk.byte_at c.args.disk.now in record {
       known = λ known. c.read_part.ensures.known (c.parts.invariant.known known);
+      lies = λ b o n h. c.read_part.ensures.lies b o n (c.parts.invariant.lies b o n h);
+      counted = omega (arith, c.parts.invariant.counted, c.read_part.ensures.counted);
       same = c.read_part.ensures.same ∙ c.parts.invariant.same;
       reads = λ known.
           reads_more m c.args.block (Some c.args.first) (Some c.parts.part) (Some c.in-Some.next) c.args.core.now c.parts.core c.read_part.new.core bytes (c.parts.invariant.reads known)
@@ -67,3 +71,15 @@ returns-in-None-clause-lent g c = (c.read_part.ensures.lent.0 ∙ c.parts.invari
 
 pub returns-clause-lent : goal.returns-clause-lent
 returns-clause-lent g c = c.parts.invariant.lent
+
+pub returns-in-None-clause-lies : goal.returns-in-None-clause-lies
+returns-in-None-clause-lies g c = λ b o n h. c.read_part.ensures.lies b o n (c.parts.invariant.lies b o n h)
+
+pub returns-in-None-clause-counted : goal.returns-in-None-clause-counted
+returns-in-None-clause-counted g c = omega (arith, c.parts.invariant.counted, c.read_part.ensures.counted)
+
+pub returns-clause-lies : goal.returns-clause-lies
+returns-clause-lies g c = c.parts.invariant.lies
+
+pub returns-clause-counted : goal.returns-clause-counted
+returns-clause-counted g c = c.parts.invariant.counted

@@ -2,7 +2,6 @@ use Rattle.std.proofs.Common.{Err, Some, refl, sym, subst}
 use Rattle.foyer_device_page.specs.declared.error.Error.TheVariants as error
 use Rattle.foyer_core_laws.specs.Content.{meaning}
 use Rattle.foyer_core_steps.specs.Refines.{Refines}
-use Rattle.foyer_core_steps.specs.declared.reply.Reply.TheVariants as reply
 use Rattle.foyer_core_steps.specs.declared.step.Step.TheVariants as step
 use Rattle.foyer_core_run.specs.Reclaims.{Reads}
 use Rattle.foyer_core_run.proofs.ReclaimIdle.{unread_kept, unread_more}
@@ -45,5 +44,7 @@ returns g c =
           (c.apply-brought.ensures.judged c.args.block outcome refl) c.apply-brought.ensures.meets;
       lent = c.apply-brought.ensures.lent;
       known = c.read_bytes-outcome.ensures.known;
+      lies = c.read_bytes-outcome.ensures.lies;
+      counted = c.read_bytes-outcome.ensures.counted;
       same = c.read_bytes-outcome.ensures.same;
     }

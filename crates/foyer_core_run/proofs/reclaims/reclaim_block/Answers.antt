@@ -1,4 +1,4 @@
-use Rattle.std.proofs.Common.{◌≡◌, refl, sym, ap, subst, ◌∙◌}
+use Rattle.std.proofs.Common.{◌≡◌, refl, sym, ap, subst, ◌∙◌, arith}
 use Rattle.foyer_core_laws.specs.Content.{meaning}
 use Rattle.foyer_core_steps.specs.Asked.{went_well}
 use Rattle.foyer_core_steps.specs.Refines.{Refines}
@@ -19,6 +19,8 @@ returns-in_default g c =
       leads = idle_kept m c.args.env.now.reinsertion step.ReclaimBegin c.apply.result c.args.core.now c.apply.new.self tt c.apply.ensures.meets;
       lent = c.apply.ensures.lent;
       known = λ known. known;
+      lies = λ b o n h. h;
+      counted = omega arith;
     }
 
 pub returns-in_default-apply : goal.returns-in_default-apply
@@ -43,6 +45,8 @@ returns-in_default-apply g c =
       leads = idle_more m filter c.args.core.now read c.apply-2.new.self led (idle_kept m filter (step.ReclaimForget b) c.apply-2.result read c.apply-2.new.self tt c.apply-2.ensures.meets);
       lent = (c.apply-2.ensures.lent.0 ∙ c.read_block.ensures.lent.0 ∙ c.apply.ensures.lent.0, c.apply-2.ensures.lent.1 ∙ c.read_block.ensures.lent.1 ∙ c.apply.ensures.lent.1);
       known = c.read_block.ensures.known;
+      lies = c.read_block.ensures.lies;
+      counted = c.read_block.ensures.counted;
     }
 
 pub returns-clause-reclaims : goal.returns-clause-reclaims

@@ -1,5 +1,6 @@
 //! An engine that fails a call, for tests.
 ghost use Rattle.std.specs.Prelude.{◌≡◌, ℕ, ◌+◌, ◌-◌, ◌^◌, ◌<◌, ◌≤◌, ◌⊎◌, None, length, min, true, false};
+ghost use Rattle.foyer_device_partition.specs.Extent.{Extent};
 ghost use Rattle.foyer_io_engine.specs.Disk.{Becomes, MayTear};
 
 use super::{IoEngine, IoHandle, WriteBuffer};
@@ -65,6 +66,8 @@ impl<E: IoEngine + Drop> IoEngine for FaultIoEngine<E> {
 
     ghost faults = { λ s. min (E.faults s.inner + s.failed) (2 ^ 64 - 1) };
 
+    ghost reaches = { λ s. E.reaches s.inner };
+
     fn read<B: IoBufMut, P: Partition>(
         &mut self,
         buffer: B,
@@ -110,6 +113,7 @@ fn write_prefix<E: IoEngine, P: Partition>(
     ensures torn { Becomes (E.disk inner.old) (E.disk inner.new) (λ d e.
         MayTear d (P.extent partition.now) offset (length bytes.now) e) }
     ensures hidden { E.disk inner.old ≡ None → E.disk inner.new ≡ None }
+    ensures reached { (x : Extent) (s o n : ℕ) → E.reaches inner.old x s o n → E.reaches inner.new x s o n }
     ensures counted { E.faults inner.old ≤ E.faults inner.new }
 {
     let kept = kept.min(bytes.len());

@@ -1,6 +1,6 @@
 //! An engine over memory.
 ghost use Rattle.std.specs.Prelude.{◌≡◌, ℕ, [], ◌∷◌, ◌++◌, ◌+◌, ◌<◌, ◌≤◌, ◌↔◌, Some, Err, OnOk, OnErr, IsTrue, MatchResult, length};
-ghost use Rattle.foyer_io_engine.specs.Disk.{IsWithin, Holds, IsWritten};
+ghost use Rattle.foyer_io_engine.specs.Disk.{IsWithin, Holds, IsWritten, CanAccess};
 ghost use Rattle.foyer_io_engine.specs.MemoryFile.{Contents, disk_of};
 ghost use Rattle.foyer_device_page.specs.declared.error.Error.TheVariants as error;
 
@@ -81,6 +81,8 @@ impl<A: Allocator> IoEngine for MemoryIoEngine<A> {
     ghost disk = { λ m. Some (disk_of m) };
 
     ghost faults = { λ _. 0 };
+
+    ghost reaches = { λ m. CanAccess (disk_of m) };
 
     fn read<B: IoBufMut, P: Partition>(
         &mut self,

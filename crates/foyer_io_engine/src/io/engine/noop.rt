@@ -32,6 +32,8 @@ impl IoEngine for NoopIoEngine {
 
     ghost faults = { λ _. 0 };
 
+    ghost reaches = { λ _ _ _ _ _. Unit {0} };
+
     fn read<B: IoBufMut, P: Partition>(
         &mut self,
         buffer: B,

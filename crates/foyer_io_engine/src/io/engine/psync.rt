@@ -1,5 +1,6 @@
 //! An engine over a system's files.
-ghost use Rattle.std.specs.Prelude.{◌≡◌, ℕ, ◌+◌, ◌-◌, ◌^◌, ◌<◌, ◌≤◌, ◌⊎◌, None, IsOk, IfErr, length};
+ghost use Rattle.std.specs.Prelude.{◌≡◌, ◌≢◌, ℕ, ◌+◌, ◌-◌, ◌^◌, ◌<◌, ◌≤◌, ◌⊎◌, None, Err, IsOk, IfErr, length, vec_len};
+ghost use Rattle.foyer_device_page.specs.declared.error.Error.TheVariants as error;
 ghost use Rattle.foyer_io_engine.specs.Disk.{IsAccessFault};
 
 use super::{IoEngine, IoEngineBuildContext, IoEngineConfig, IoHandle, is_inside};
@@ -54,6 +55,8 @@ pub struct PsyncIoEngine<A: Allocator> {
 impl<A: Allocator> PsyncIoEngine<A> {
     // Fills `into` from a place of a file on.
     fn read_file(&mut self, file: RawFile, at: u64, into: &mut [u8]) -> Result<()>
+        ensures missing { result ≡ Err error.OutOfRange → vec_len self.old.files ≤ file.0 }
+        ensures same { self.new.files ≡ self.old.files }
         ensures counted { self.old.failures ≤ self.new.failures }
         ensures refused { IfErr result (IsAccessFault self.old.failures self.new.failures) }
     {
@@ -66,6 +69,8 @@ impl<A: Allocator> PsyncIoEngine<A> {
 
     // Writes the bytes from a place of a file on.
     fn write_file(&mut self, file: RawFile, at: u64, bytes: &[u8]) -> Result<()>
+        ensures missing { result ≡ Err error.OutOfRange → vec_len self.old.files ≤ file.0 }
+        ensures same { self.new.files ≡ self.old.files }
         ensures counted { self.old.failures ≤ self.new.failures }
         ensures refused { IfErr result (IsAccessFault self.old.failures self.new.failures) }
     {
@@ -78,6 +83,8 @@ impl<A: Allocator> PsyncIoEngine<A> {
 
     // What a call answers, which counts a fault.
     fn answer(&mut self, done: bool) -> Result<()>
+        ensures present { result ≢ Err error.OutOfRange }
+        ensures same { self.new.files ≡ self.old.files }
         ensures counted { self.old.failures ≤ self.new.failures }
         ensures refused { IfErr result (IsAccessFault self.old.failures self.new.failures) }
     {
@@ -93,6 +100,8 @@ impl<A: Allocator> IoEngine for PsyncIoEngine<A> {
     ghost disk = { λ _. None };
 
     ghost faults = { λ s. s.failures };
+
+    ghost reaches = { λ s x size o n. (o + n ≤ size) × (x.file < vec_len s.files) };
 
     fn read<B: IoBufMut, P: Partition>(
         &mut self,

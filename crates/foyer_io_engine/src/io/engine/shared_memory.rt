@@ -49,6 +49,8 @@ impl<R: Wait + Drop, A: Allocator> IoEngine for SharedMemoryIoEngine<R, A> {
 
     ghost faults = { λ _. 0 };
 
+    ghost reaches = { λ _ _ _ _ _. ⊥ };
+
     fn read<B: IoBufMut, P: Partition>(
         &mut self,
         buffer: B,

@@ -1,7 +1,9 @@
 use Rattle.std.proofs.Common.{◌≡◌, [], vec_len, true, false, refl, ◌∙◌, subst, arith}
+use Rattle.foyer_io_disk.specs.Disk.{SurelyCame}
+use Rattle.foyer_io_disk.proofs.FaultLemmas.{came_before, came_behind}
 use Rattle.foyer_block_recover.specs.BlocksKept.{AreBlocksRead}
 use Rattle.foyer_block_recover.specs.Placed.{IsSomeKept, AreSomeKept}
-use Rattle.foyer_block_recover.proofs.BlocksLemmas.{kept_as, cut_here, none_kept_of, more_kept, none_read, more_read}
+use Rattle.foyer_block_recover.proofs.BlocksLemmas.{kept_as, cut_here, none_kept_of, more_kept, none_read, more_read, read_with_fewer}
 use Rattle.foyer_block_recover.proofs.block.blocks.read_blocks.Goals as goal
 use Rattle.foyer_block_recover.proofs.block.blocks.read_blocks.Goals.{else-is_cut-via-then-is_cut+else-is_strict, else-is_cut-via-else-is_cut}
 
@@ -12,7 +14,10 @@ each_block-init g c = record {
   known = λ k. k;
   same = refl;
   has = λ b o n h. h;
-  blocks = λ known. none_read (record { block = c.args.block_size; index = c.args.index_size }) (g.D.Disk.byte_at c.args.disk.now) (g.D.Disk.surely_has c.args.disk.now) c.args.is_strict
+  lies = λ b o n h. h;
+  counted = omega arith;
+  blocks = λ known. none_read (record { block = c.args.block_size; index = c.args.index_size }) (g.D.Disk.byte_at c.args.disk.now)
+      (SurelyCame (g.D.Disk.surely_has c.args.disk.now) (g.D.Disk.surely_lies c.args.disk.now) (g.D.Disk.faults c.args.disk.now) (g.D.Disk.faults c.args.disk.now)) c.args.is_strict
       c.in_ok-read.read c.in_ok-read.ensures.none;
   some = none_kept_of (record { block = c.args.block_size; index = c.args.index_size }) c.in_ok-read.read 0 (c.in_ok-read.ensures.none (λ b. []));
 }
@@ -23,10 +28,11 @@ returns-then-is_strict-clause-cut g c = λ known is.
     let b = c.each_block.block in
     let chain = c.in_ok-bytes.field-0 in
     let cut : chain.is_cut ≡ true = cc in
-    cut_here (record { block = c.args.block_size; index = c.args.index_size }) (g.D.Disk.byte_at c.args.disk.now) (g.D.Disk.surely_has c.args.disk.now) c.args.is_strict c.args.blocks b
+    cut_here (record { block = c.args.block_size; index = c.args.index_size }) (g.D.Disk.byte_at c.args.disk.now) (SurelyCame (g.D.Disk.surely_has c.args.disk.now) (g.D.Disk.surely_lies c.args.disk.now) (g.D.Disk.faults c.args.disk.now) (g.D.Disk.faults c.read_chain.new.disk)) c.args.is_strict c.args.blocks b
     [] chain.kept.items chain.is_cut c.each_block-test.true c.if-is_strict.true cut
-    (kept_as c.args.block_size c.args.index_size (vec_len c.each_block.buffer) (g.D.Disk.byte_at c.each_block.disk) (g.D.Disk.byte_at c.args.disk.now) (g.D.Disk.surely_has c.each_block.disk)
-    (g.D.Disk.surely_has c.args.disk.now) b c.each_block.batch.items chain.kept.items chain.is_cut inv.len inv.same inv.has inv.empty (c.in_ok-bytes.ensures.kept (inv.known known)))
+    (kept_as c.args.block_size c.args.index_size (vec_len c.each_block.buffer) (g.D.Disk.byte_at c.each_block.disk) (g.D.Disk.byte_at c.args.disk.now) (SurelyCame (g.D.Disk.surely_has c.each_block.disk) (g.D.Disk.surely_lies c.each_block.disk) (g.D.Disk.faults c.each_block.disk) (g.D.Disk.faults c.read_chain.new.disk))
+    (SurelyCame (g.D.Disk.surely_has c.args.disk.now) (g.D.Disk.surely_lies c.args.disk.now) (g.D.Disk.faults c.args.disk.now) (g.D.Disk.faults c.read_chain.new.disk)) b c.each_block.batch.items chain.kept.items chain.is_cut inv.len inv.same (came_behind (g.D.Disk.surely_has c.args.disk.now) (g.D.Disk.surely_lies c.args.disk.now) (g.D.Disk.faults c.args.disk.now) (g.D.Disk.faults c.each_block.disk) (g.D.Disk.faults c.read_chain.new.disk)
+    inv.counted c.read_chain.ensures.counted (g.D.Disk.surely_has c.each_block.disk) (g.D.Disk.surely_lies c.each_block.disk) inv.has inv.lies) inv.empty (c.in_ok-bytes.ensures.kept (inv.known known)))
 
 pub each_block-preserved : goal.each_block-preserved
 each_block-preserved g c =
@@ -43,11 +49,17 @@ each_block-preserved g c =
       known = λ k. c.read_chain.ensures.known (inv.known k);
       same = c.read_chain.ensures.same ∙ inv.same;
       has = λ x o n h. c.read_chain.ensures.has x o n (inv.has x o n h);
+      lies = λ x o n h. c.read_chain.ensures.lies x o n (inv.lies x o n h);
+      counted = omega (arith, inv.counted, c.read_chain.ensures.counted);
       blocks = λ known.
-          more_read (record { block = c.args.block_size; index = c.args.index_size }) (g.D.Disk.byte_at c.args.disk.now) (g.D.Disk.surely_has c.args.disk.now) c.args.is_strict b
-          c.each_block.read c.take_block.new.self chain.kept.items chain.is_cut (inv.blocks known)
-          (kept_as c.args.block_size c.args.index_size (vec_len c.each_block.buffer) (g.D.Disk.byte_at c.each_block.disk) (g.D.Disk.byte_at c.args.disk.now) (g.D.Disk.surely_has c.each_block.disk)
-          (g.D.Disk.surely_has c.args.disk.now) b c.each_block.batch.items chain.kept.items chain.is_cut inv.len inv.same inv.has inv.empty (c.in_ok-bytes.ensures.kept (inv.known known)))
+          more_read (record { block = c.args.block_size; index = c.args.index_size }) (g.D.Disk.byte_at c.args.disk.now) (SurelyCame (g.D.Disk.surely_has c.args.disk.now) (g.D.Disk.surely_lies c.args.disk.now) (g.D.Disk.faults c.args.disk.now) (g.D.Disk.faults c.read_chain.new.disk)) c.args.is_strict b
+          c.each_block.read c.take_block.new.self chain.kept.items chain.is_cut
+          (read_with_fewer (record { block = c.args.block_size; index = c.args.index_size }) b (g.D.Disk.byte_at c.args.disk.now) (SurelyCame (g.D.Disk.surely_has c.args.disk.now) (g.D.Disk.surely_lies c.args.disk.now) (g.D.Disk.faults c.args.disk.now) (g.D.Disk.faults c.each_block.disk)) (SurelyCame (g.D.Disk.surely_has c.args.disk.now) (g.D.Disk.surely_lies c.args.disk.now) (g.D.Disk.faults c.args.disk.now) (g.D.Disk.faults c.read_chain.new.disk)) c.args.is_strict c.each_block.read
+          (came_before (g.D.Disk.surely_has c.args.disk.now) (g.D.Disk.surely_lies c.args.disk.now) (g.D.Disk.faults c.args.disk.now) (g.D.Disk.faults c.each_block.disk) (g.D.Disk.faults c.read_chain.new.disk)
+          inv.counted c.read_chain.ensures.counted) (inv.blocks known))
+          (kept_as c.args.block_size c.args.index_size (vec_len c.each_block.buffer) (g.D.Disk.byte_at c.each_block.disk) (g.D.Disk.byte_at c.args.disk.now) (SurelyCame (g.D.Disk.surely_has c.each_block.disk) (g.D.Disk.surely_lies c.each_block.disk) (g.D.Disk.faults c.each_block.disk) (g.D.Disk.faults c.read_chain.new.disk))
+          (SurelyCame (g.D.Disk.surely_has c.args.disk.now) (g.D.Disk.surely_lies c.args.disk.now) (g.D.Disk.faults c.args.disk.now) (g.D.Disk.faults c.read_chain.new.disk)) b c.each_block.batch.items chain.kept.items chain.is_cut inv.len inv.same (came_behind (g.D.Disk.surely_has c.args.disk.now) (g.D.Disk.surely_lies c.args.disk.now) (g.D.Disk.faults c.args.disk.now) (g.D.Disk.faults c.each_block.disk) (g.D.Disk.faults c.read_chain.new.disk)
+          inv.counted c.read_chain.ensures.counted (g.D.Disk.surely_has c.each_block.disk) (g.D.Disk.surely_lies c.each_block.disk) inv.has inv.lies) inv.empty (c.in_ok-bytes.ensures.kept (inv.known known)))
           uncut
           (λ keeps holds is. c.in_ok-batch.ensures.taken keeps holds is);
       some =
@@ -61,7 +73,7 @@ pub returns-clause-kept : goal.returns-clause-kept
 returns-clause-kept g c = λ known.
     let inv = c.each_block.invariant in
     let all : c.each_block.block ≡ c.args.blocks = omega arith in
-    subst (λ k. AreBlocksRead (record { block = c.args.block_size; index = c.args.index_size }) k (g.D.Disk.byte_at c.args.disk.now) (g.D.Disk.surely_has c.args.disk.now) c.args.is_strict
+    subst (λ k. AreBlocksRead (record { block = c.args.block_size; index = c.args.index_size }) k (g.D.Disk.byte_at c.args.disk.now) (SurelyCame (g.D.Disk.surely_has c.args.disk.now) (g.D.Disk.surely_lies c.args.disk.now) (g.D.Disk.faults c.args.disk.now) (g.D.Disk.faults c.each_block.disk)) c.args.is_strict
     c.each_block.read) all (inv.blocks known)
 
 pub returns-clause-some : goal.returns-clause-some

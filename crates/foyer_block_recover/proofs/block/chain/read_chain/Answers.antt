@@ -1,9 +1,11 @@
-use Rattle.std.proofs.Common.{◌≡◌, ℕ, ◌+◌, ◌≤◌, vec_len, true, false, refl, sym, ap, subst, ◌∙◌, rules}
+use Rattle.std.proofs.Common.{◌≡◌, ℕ, ◌+◌, ◌≤◌, vec_len, true, false, refl, sym, ap, subst, ◌∙◌, rules, arith}
 use Rattle.std.specs.Option.{option_map}
 use Rattle.foyer_format_layout.specs.BlockBytes.{read}
 use Rattle.foyer_format_buffer.specs.Fills.{AreSizes}
 use Rattle.foyer_format_layout.specs.Position.{Sizes}
 use Rattle.foyer_block_scan.specs.ScanState.{Scan}
+use Rattle.foyer_io_disk.specs.Disk.{SurelyCame}
+use Rattle.foyer_io_disk.proofs.FaultLemmas.{came_behind}
 use Rattle.foyer_block_recover.specs.Chained.{IsKeptOf}
 use Rattle.foyer_block_recover.specs.Placed.{IsSomeKept}
 use Rattle.foyer_block_recover.proofs.ChainLemmas.{step_stays, falls, along_start, along_on, along_ends, along_fails, some_start, some_on, some_ends}
@@ -23,6 +25,8 @@ each_index-init g c =
       known = λ k. k;
       same = refl;
       has = λ b o m h. h;
+      lies = λ b o m h. h;
+      counted = omega arith;
       along = λ known. along_start (record { block = c.args.block_size; index = n }) (g.D.Disk.byte_at c.args.disk.now c.args.block) sizes c.args.block
           c.args.kept.items c.new-scanner.result.blob_offset c.new-scanner.ensures.blob_offset;
       some = some_start (record { block = c.args.block_size; index = n }) (λ o. 0) sizes c.args.block c.args.kept.items;
@@ -35,12 +39,14 @@ returns-then-not-came-clause-kept g c = λ known.
     let b = c.args.block in
     let sizes : AreSizes (record { block = c.args.block_size; index = n }) = subst (λ k. AreSizes (record { block = c.args.block_size; index = k })) (sym inv.size) c.requires.sizes in
     let room : c.in-Some.offset + n ≤ c.args.block_size = subst (λ (y : Sizes). c.in-Some.offset + y.index ≤ y.block) inv.sizes c.in-Some.ensures.within in
-    let old = g.D.Disk.surely_has c.args.disk.now b in
+    let old = SurelyCame (g.D.Disk.surely_has c.args.disk.now) (g.D.Disk.surely_lies c.args.disk.now) (g.D.Disk.faults c.args.disk.now) (g.D.Disk.faults c.read_index-bytes.new.disk) b in
     let is : IsKeptOf (record { block = c.args.block_size; index = n }) (g.D.Disk.byte_at c.args.disk.now b) (λ p. old p n) b c.args.kept.items c.each_index.kept.items true =
     along_fails (record { block = c.args.block_size; index = n }) (g.D.Disk.byte_at c.args.disk.now b) sizes (λ p. old p n) b c.in-Some.offset c.args.kept.items c.each_index.kept.items
     c.each_index.last c.each_index.scanner.blob_offset (sym c.in-Some.ensures.blob_offset) room
     (λ sure. c.read_index-bytes.ensures.fault c.if-not-came.true
-    (subst (λ k. g.D.Disk.surely_has c.each_index.disk b c.in-Some.offset k) (sym inv.len) (inv.has b c.in-Some.offset n sure)))
+    (subst (λ k. SurelyCame (g.D.Disk.surely_has c.each_index.disk) (g.D.Disk.surely_lies c.each_index.disk) (g.D.Disk.faults c.each_index.disk) (g.D.Disk.faults c.read_index-bytes.new.disk) b c.in-Some.offset k) (sym inv.len)
+    (came_behind (g.D.Disk.surely_has c.args.disk.now) (g.D.Disk.surely_lies c.args.disk.now) (g.D.Disk.faults c.args.disk.now) (g.D.Disk.faults c.each_index.disk) (g.D.Disk.faults c.read_index-bytes.new.disk)
+    inv.counted c.read_index-bytes.ensures.counted (g.D.Disk.surely_has c.each_index.disk) (g.D.Disk.surely_lies c.each_index.disk) inv.has inv.lies b c.in-Some.offset n sure)))
     (inv.along known) in
     subst (λ k. IsKeptOf (record { block = c.args.block_size; index = k }) (g.D.Disk.byte_at c.args.disk.now b) (λ p. old p k) b c.args.kept.items c.each_index.kept.items true) inv.size is
 
@@ -73,6 +79,8 @@ each_index-preserved g c =
       known = λ k. c.read_index-bytes.ensures.known (inv.known k);
       same = c.read_index-bytes.ensures.same ∙ inv.same;
       has = λ x o m h. c.read_index-bytes.ensures.has x o m (inv.has x o m h);
+      lies = λ x o m h. c.read_index-bytes.ensures.lies x o m (inv.lies x o m h);
+      counted = omega (arith, inv.counted, c.read_index-bytes.ensures.counted);
       along = λ known.
           let came = c.read_index-bytes.ensures.bytes (inv.known known) c.if-not-came.false in
           let read_so : bytes ≡ read B c.in-Some.offset n =
@@ -92,7 +100,7 @@ returns-clause-kept g c = λ known.
     let n = c.len-index_size.result in
     let b = c.args.block in
     let sizes : AreSizes (record { block = c.args.block_size; index = n }) = subst (λ k. AreSizes (record { block = c.args.block_size; index = k })) (sym inv.size) c.requires.sizes in
-    let old = g.D.Disk.surely_has c.args.disk.now b in
+    let old = SurelyCame (g.D.Disk.surely_has c.args.disk.now) (g.D.Disk.surely_lies c.args.disk.now) (g.D.Disk.faults c.args.disk.now) (g.D.Disk.faults c.each_index.disk) b in
     let is : IsKeptOf (record { block = c.args.block_size; index = n }) (g.D.Disk.byte_at c.args.disk.now b) (λ p. old p n) b c.args.kept.items c.each_index.kept.items false =
     along_ends (record { block = c.args.block_size; index = n }) (g.D.Disk.byte_at c.args.disk.now b) sizes (λ p. old p n) b c.args.kept.items c.each_index.kept.items
     c.each_index.last c.each_index.scanner.blob_offset (sym c.blob_offset.ensures.blob_offset ∙ c.in_default.is) (inv.along known) in

@@ -6,6 +6,7 @@ use Rattle.foyer_block_recover.specs.Recovery.{IsRefused, marks_of, opened_of}
 use Rattle.foyer_device_page.specs.declared.error.Error.TheVariants as error
 use Rattle.foyer_core_laws.specs.Sizes.{AreValid, sizes_in}
 use Rattle.foyer_core_blocks.specs.Standing.{IsManagedAs}
+use Rattle.foyer_io_disk.specs.Disk.{SurelyCame}
 use Rattle.foyer_core_steps.specs.Opened.{opened_sets}
 use Rattle.std.specs.Map.{lookup}
 use Rattle.foyer_core_steps.specs.Reclaiming.{reclaiming}
@@ -35,6 +36,7 @@ returns-in_err-clone-clause-unsound g c = λ bad. absurd (bad (c.in_ok-check.ens
 pub returns-in-Err-clause-refused : goal.returns-in-Err-clause-refused
 returns-in-Err-clause-refused g c =
     let s = c.args.settings in
+    let came = SurelyCame (g.D.Disk.surely_has c.args.disk.now) (g.D.Disk.surely_lies c.args.disk.now) (g.D.Disk.faults c.args.disk.now) (g.D.Disk.faults c.run.new.disk) in
     elim c.in-Err.ensures.refusals [
       | inl memory ↦ inl memory
       | inr (inl recover) ↦ inr (inr (inl recover))
@@ -42,9 +44,9 @@ returns-in-Err-clause-refused g c =
         end,
         λ none unmarked.
             let refused = c.in-Err.ensures.refused (inl none) in
-            let some = subst (λ e. IsRefused (sizes_in s) s.blocks (g.D.Disk.byte_at c.args.disk.now) (g.D.Disk.surely_has c.args.disk.now) c.args.mode (marks_of c.args.marks.now) e) end refused in
-            let at = subst (λ l. IsRefused (sizes_in s) s.blocks (g.D.Disk.byte_at c.args.disk.now) (g.D.Disk.surely_has c.args.disk.now) c.args.mode l error.SequenceEnd) (ap marks_of unmarked) some in
-            let empty = subst (λ m. IsRefused (sizes_in s) s.blocks (g.D.Disk.byte_at c.args.disk.now) (g.D.Disk.surely_has c.args.disk.now) m [] error.SequenceEnd) none at in
+            let some = subst (λ e. IsRefused (sizes_in s) s.blocks (g.D.Disk.byte_at c.args.disk.now) came c.args.mode (marks_of c.args.marks.now) e) end refused in
+            let at = subst (λ l. IsRefused (sizes_in s) s.blocks (g.D.Disk.byte_at c.args.disk.now) came c.args.mode l error.SequenceEnd) (ap marks_of unmarked) some in
+            let empty = subst (λ m. IsRefused (sizes_in s) s.blocks (g.D.Disk.byte_at c.args.disk.now) came m [] error.SequenceEnd) none at in
             none_at_end (sizes_in s) s.blocks (g.D.Disk.byte_at c.args.disk.now) empty.0 empty.2,
       )))
     ]

@@ -1,4 +1,5 @@
 use Rattle.std.proofs.Common.{◌≡◌, [], inl, inr, true, sym, subst, ◌∙◌, IfOk, IfErr}
+use Rattle.foyer_io_disk.specs.Disk.{SurelyCame}
 use Rattle.foyer_block_recover.specs.BlocksKept.{AreBlocksKept}
 use Rattle.foyer_block_recover.specs.Placed.{AreSomeKept}
 use Rattle.foyer_block_recover.specs.Recovery.{sizes_of, IsRefused}
@@ -11,7 +12,7 @@ pub returns-in-None-clause-kept : goal.returns-in-None-clause-kept
 returns-in-None-clause-kept g c = λ seen.
     let r = c.args.self.now in
     let B = g.D.Disk.byte_at c.args.disk.now in
-    let S = g.D.Disk.surely_has c.args.disk.now in
+    let S = SurelyCame (g.D.Disk.surely_has c.args.disk.now) (g.D.Disk.surely_lies c.args.disk.now) (g.D.Disk.faults c.args.disk.now) (g.D.Disk.faults c.args.disk.now) in
     subst (λ m. IfOk c.read_none.result (AreBlocksKept (sizes_of r) r.blocks B S m)) (sym c.in-None.is)
     (ok_weakens c.read_none.result _ (AreBlocksKept (sizes_of r) r.blocks B S recover_mode.None) (none_by (sizes_of r) r.blocks B S) c.read_none.ensures.none)
 
@@ -19,7 +20,7 @@ pub returns-in-Quiet-clause-kept : goal.returns-in-Quiet-clause-kept
 returns-in-Quiet-clause-kept g c = λ seen.
     let r = c.args.self.now in
     let B = g.D.Disk.byte_at c.args.disk.now in
-    let S = g.D.Disk.surely_has c.args.disk.now in
+    let S = SurelyCame (g.D.Disk.surely_has c.args.disk.now) (g.D.Disk.surely_lies c.args.disk.now) (g.D.Disk.faults c.args.disk.now) (g.D.Disk.faults c.read_blocks.new.disk) in
     let known : g.D.Disk.is_known c.args.disk.now = elim seen [ inl e ↦ absurd (let bad : recover_mode.None ≡ recover_mode.Quiet = sym e ∙ c.in-Quiet.is in cc) | inr k ↦ k ] in
     subst (λ m. IfOk c.read_blocks.result (AreBlocksKept (sizes_of r) r.blocks B S m)) (sym c.in-Quiet.is)
     (ok_weakens c.read_blocks.result _ (AreBlocksKept (sizes_of r) r.blocks B S recover_mode.Quiet) (quiet_by (sizes_of r) r.blocks B S) (c.read_blocks.ensures.kept known))
@@ -28,7 +29,7 @@ pub returns-in-Strict-clause-kept : goal.returns-in-Strict-clause-kept
 returns-in-Strict-clause-kept g c = λ seen.
     let r = c.args.self.now in
     let B = g.D.Disk.byte_at c.args.disk.now in
-    let S = g.D.Disk.surely_has c.args.disk.now in
+    let S = SurelyCame (g.D.Disk.surely_has c.args.disk.now) (g.D.Disk.surely_lies c.args.disk.now) (g.D.Disk.faults c.args.disk.now) (g.D.Disk.faults c.read_blocks-in-Strict.new.disk) in
     let known : g.D.Disk.is_known c.args.disk.now = elim seen [ inl e ↦ absurd (let bad : recover_mode.None ≡ recover_mode.Strict = sym e ∙ c.in-Strict.is in cc) | inr k ↦ k ] in
     subst (λ m. IfOk c.read_blocks-in-Strict.result (AreBlocksKept (sizes_of r) r.blocks B S m)) (sym c.in-Strict.is)
     (ok_weakens c.read_blocks-in-Strict.result _ (AreBlocksKept (sizes_of r) r.blocks B S recover_mode.Strict) (strict_by (sizes_of r) r.blocks B S) (c.read_blocks-in-Strict.ensures.kept known))
@@ -37,7 +38,7 @@ pub returns-in-Strict-clause-refused : goal.returns-in-Strict-clause-refused
 returns-in-Strict-clause-refused g c = λ seen.
     let r = c.args.self.now in
     let B = g.D.Disk.byte_at c.args.disk.now in
-    let S = g.D.Disk.surely_has c.args.disk.now in
+    let S = SurelyCame (g.D.Disk.surely_has c.args.disk.now) (g.D.Disk.surely_lies c.args.disk.now) (g.D.Disk.faults c.args.disk.now) (g.D.Disk.faults c.read_blocks-in-Strict.new.disk) in
     let known : g.D.Disk.is_known c.args.disk.now = elim seen [ inl e ↦ absurd (let bad : recover_mode.None ≡ recover_mode.Strict = sym e ∙ c.in-Strict.is in cc) | inr k ↦ k ] in
     subst (λ m. IfErr c.read_blocks-in-Strict.result (IsRefused (sizes_of r) r.blocks B S m [])) (sym c.in-Strict.is)
     (err_both c.read_blocks-in-Strict.result _ _ (IsRefused (sizes_of r) r.blocks B S recover_mode.Strict []) (refused_so (sizes_of r) r.blocks B S [] true)

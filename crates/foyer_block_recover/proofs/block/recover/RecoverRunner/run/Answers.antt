@@ -1,4 +1,5 @@
 use Rattle.std.proofs.Common.{◌+◌, ◌<◌, ◌≤◌, ◌^◌, refl, arith}
+use Rattle.foyer_io_disk.specs.Disk.{SurelyCame}
 use Rattle.foyer_block_recover.specs.Recovery.{sizes_of, marks_of}
 use Rattle.foyer_block_recover.specs.declared.block.recover.Recovered.{Recovered}
 use Rattle.foyer_block_recover.proofs.OpeningLemmas.{opens, some_opening, at_end}
@@ -9,7 +10,7 @@ returns-clause-recovered g c = λ seen.
     let r = c.args.self.now in
     let after = c.take_marks.new.self in
     let opened : Recovered g.row.A.Denot = record { index = after.index; next = c.in-Some.next; clean = after.clean } in
-    opens (sizes_of r) r.blocks (g.D.Disk.byte_at c.args.disk.now) (g.D.Disk.surely_has c.args.disk.now) r.mode (marks_of c.args.marks.now) c.in_ok-read.read after
+    opens (sizes_of r) r.blocks (g.D.Disk.byte_at c.args.disk.now) (SurelyCame (g.D.Disk.surely_has c.args.disk.now) (g.D.Disk.surely_lies c.args.disk.now) (g.D.Disk.faults c.args.disk.now) (g.D.Disk.faults c.read.new.disk)) r.mode (marks_of c.args.marks.now) c.in_ok-read.read after
     (c.in_ok-read.ensures.kept seen) c.take_marks.ensures.taken c.take_marks.ensures.clean opened refl c.in-Some.ensures.1 c.in-Some.ensures.0 refl
 
 pub returns-in_default-clause-refused : goal.returns-in_default-clause-refused
@@ -18,7 +19,7 @@ returns-in_default-clause-refused g c = λ seen.
     let after = c.take_marks.new.self in
     let no_more : after.greatest + 1 < 2 ^ 64 → ⊥ = c.in_default.ensures in
     let last : 2 ^ 64 ≤ after.greatest + 1 = omega arith in
-    at_end (sizes_of r) r.blocks (g.D.Disk.byte_at c.args.disk.now) (g.D.Disk.surely_has c.args.disk.now) r.mode (marks_of c.args.marks.now) c.in_ok-read.read after
+    at_end (sizes_of r) r.blocks (g.D.Disk.byte_at c.args.disk.now) (SurelyCame (g.D.Disk.surely_has c.args.disk.now) (g.D.Disk.surely_lies c.args.disk.now) (g.D.Disk.faults c.args.disk.now) (g.D.Disk.faults c.read.new.disk)) r.mode (marks_of c.args.marks.now) c.in_ok-read.read after
     (c.in_ok-read.ensures.kept seen) c.take_marks.ensures.taken c.take_marks.ensures.clean last
 
 pub returns-clause-some : goal.returns-clause-some
