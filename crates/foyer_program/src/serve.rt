@@ -253,7 +253,7 @@ fn serve_directory<L, T, R, W>(
 ) -> std::result::Result<u8, (Failed, W)>
 where
     L: Kinds + Send + Sync + 'static,
-    T: Threads + Wait + Files<File = File> + Copy + Send + 'static,
+    T: Threads + Wait + Files<File = File> + AllocGlobal + Copy + Send + 'static,
     R: Read + Drop,
     W: Write + Drop,
     requires { AreOf L.name_of L.all blanks × (L.all ≡ 2 ^ 32) }

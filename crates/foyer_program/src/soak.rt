@@ -287,7 +287,7 @@ where
 {
     let io_engine = memory(alloc, capacity)?;
     let device = MemoryDeviceBuilder::new(capacity).build(&rt, alloc, 0)?;
-    soak_over(
+    soak_over::<L, T, _, _>(
         rt, alloc, blanks, device, io_engine, block_size, threads, plan,
     )
 }
@@ -303,14 +303,14 @@ fn soak_directory<L, T>(
 ) -> Result<Found>
 where
     L: Kinds + Send + Sync + 'static,
-    T: Threads + Wait + Files<File = File> + Copy + Send + Sync + 'static,
+    T: Threads + Wait + Files<File = File> + AllocGlobal + Copy + Send + Sync + 'static,
     requires { AreOf L.name_of L.all blanks × (L.all ≡ 2 ^ 32) }
 {
     let builder = FsDeviceBuilder::new(options.directory).with_capacity(options.capacity as usize);
     let device = builder.build(&rt, alloc, 0)?;
     let io_engine = PsyncIoEngineConfig::new();
     let block_size = options.block_size as usize;
-    soak_over(
+    soak_over::<L, T, _, _>(
         rt, alloc, blanks, device, io_engine, block_size, threads, plan,
     )
 }
