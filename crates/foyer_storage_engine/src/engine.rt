@@ -1,7 +1,7 @@
 //! The calls of an engine, made by any thread with a session of its own.
-ghost use Rattle.std.specs.Prelude.{◌≡◌, ◌+◌, ◌<◌, IfErr, IfOk, IsOk, OnOk, OnErr, None, true, false, vec_len};
+ghost use Rattle.std.specs.Prelude.{◌≡◌, ◌+◌, ◌<◌, IfErr, IfOk, IsOk, OnOk, OnErr, None, true, false, vec_len, ◌≤◌, ℕ};
 ghost use Rattle.foyer_format_layout.specs.Page.{page_up};
-ghost use Rattle.foyer_io_disk.specs.Disk.{IsRead, IsTorn};
+ghost use Rattle.foyer_io_disk.specs.Disk.{IsRead, IsTorn, SurelyCame};
 ghost use Rattle.foyer_core_model.specs.Numbers.{page};
 ghost use Rattle.foyer_core_run.specs.Reclaims.{IsCleaned};
 ghost use Rattle.foyer_storage_engine.specs.Kept.{reference_of};
@@ -70,9 +70,14 @@ impl<D: Disk + Drop, A: Allocator + Clone> Reader<D, A> {
         ensures len { IfOk result (λ outcome. IfOk outcome (λ bytes. vec_len bytes ≡ page_up ticket.now.address.len)) }
         ensures succeeds { D.surely_has self.old.disk ticket.now.address.block ticket.now.address.offset (page_up ticket.now.address.len)
             → IfOk result IsOk }
+        ensures fails { IfOk result (λ outcome. OnErr outcome (SurelyCame (D.surely_has self.old.disk) (D.surely_lies self.old.disk) (D.faults self.old.disk) (D.faults self.new.disk)
+            ticket.now.address.block ticket.now.address.offset (page_up ticket.now.address.len) → ⊥)) }
         ensures fault { IfOk result (λ outcome. IfErr outcome (D.may_answer self.old.disk ticket.now.address.block
             ticket.now.address.offset (page_up ticket.now.address.len))) }
         ensures known { D.is_known self.old.disk → D.is_known self.new.disk }
+        ensures has { (b o n : ℕ) → D.surely_has self.old.disk b o n → D.surely_has self.new.disk b o n }
+        ensures lies { (b o n : ℕ) → D.surely_lies self.old.disk b o n → D.surely_lies self.new.disk b o n }
+        ensures counted { D.faults self.old.disk ≤ D.faults self.new.disk }
         ensures same { D.byte_at self.new.disk ≡ D.byte_at self.old.disk }
         ensures refused { IfErr result (λ e. e ≡ error.Memory) }
     {
@@ -84,7 +89,11 @@ impl<D: Disk + Drop, A: Allocator + Clone> Reader<D, A> {
     fn clean(&mut self, block: BlockId) -> Result<()>
         ensures cleaned { D.is_known self.old.disk → OnOk result (IsCleaned (D.byte_at self.old.disk) block (D.byte_at self.new.disk)) }
         ensures torn { D.is_known self.old.disk → OnErr result (IsTorn (D.byte_at self.old.disk) block 0 page (D.byte_at self.new.disk)) }
+        ensures fails { OnErr result (SurelyCame (D.surely_has self.old.disk) (D.surely_lies self.old.disk) (D.faults self.old.disk) (D.faults self.new.disk)
+            block 0 page → ⊥) }
         ensures known { D.is_known self.old.disk → D.is_known self.new.disk }
+        ensures lies { (b o n : ℕ) → D.surely_lies self.old.disk b o n → D.surely_lies self.new.disk b o n }
+        ensures counted { D.faults self.old.disk ≤ D.faults self.new.disk }
     {
         clean_block(&mut self.disk, block)
     }
