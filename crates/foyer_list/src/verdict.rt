@@ -3,6 +3,7 @@ ghost use Rattle.std.specs.Prelude.{◌≡◌, ◌⊎◌, ◌↔◌, ◌≤◌, 
 ghost use Rattle.foyer_block_index.specs.Index.{address_at};
 ghost use Rattle.foyer_device_page.specs.declared.error.Error.TheVariants as error;
 ghost use Rattle.foyer_core_laws.specs.Sizes.{AreValid, sizes_in};
+ghost use Rattle.foyer_io_disk.specs.Disk.{SurelyCame};
 ghost use Rattle.foyer_list.specs.Verdicts.{HoldsWinners, MayRefuseWinners};
 
 use foyer_block_index::indexer::Indexer;
@@ -54,7 +55,8 @@ pub fn winners<A: Allocator + Clone, D: Disk>(
     settings: &Settings,
 ) -> Result<Indexer<A>>
     ensures found { D.is_known disk.old → IfOk result (λ found. HoldsWinners (sizes_in settings.now) settings.now.blocks
-        (D.byte_at disk.old) (D.surely_has disk.old) found.slots) }
+        (D.byte_at disk.old) (SurelyCame (D.surely_has disk.old) (D.surely_lies disk.old) (D.faults disk.old) (D.faults disk.new))
+        found.slots) }
     ensures valid { IfOk result (λ _. AreValid settings.now) }
     ensures unsound { (AreValid settings.now → ⊥) → result ≡ Err error.Config }
     ensures refused { IfErr result (MayRefuseWinners settings.now) }
