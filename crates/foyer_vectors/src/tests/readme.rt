@@ -1,4 +1,4 @@
-//! An engine on one thread, as a caller uses it.
+//! The README's second example, word for word, and what it gives.
 use foyer_core_steps::apply::Env;
 use foyer_core_steps::settings::Settings;
 use foyer_device_page::error::Result;
@@ -19,7 +19,7 @@ fn is_read_back(alloc: Global) -> Result<bool> {
 }
 
 #[test]
-fn an_engine_reads_back_what_was_put(rt: HostRuntime) -> std::result::Result<(), Fail> {
+fn the_example_of_the_readme_runs(rt: HostRuntime) -> std::result::Result<(), Fail> {
     assert!(rt; is_read_back(rt.alloc())?);
     Ok(())
 }
