@@ -213,4 +213,4 @@ use foyer_storage::store::Store;
 use foyer_storage::store::StoreBuilder;
 use foyer_storage::store::StoreSession;
 use foyer_storage::store::WholeSession;
-use foyer_storage::store::Workers;
+use foyer_storage::store::Workers as StoreWorkers;
