@@ -20,7 +20,6 @@ impl<C: Drop> FaultIoEngineConfig<C> {
     /// Of each engine call n from 1 fails, a write after `kept` bytes, and with `stop` all its later calls too.
     pub fn new(inner: C, n: u64, kept: usize, stop: bool) -> FaultIoEngineConfig<C>
         ensures inner { result.inner ≡ inner }
-        ensures refused { IfErr result (λ e. (e ≡ error.Io) ⊎ (e ≡ error.Memory)) }
         ensures armed { (result.n ≡ n) × (result.kept ≡ kept) × (result.stop ≡ stop) }
     {
         FaultIoEngineConfig {
