@@ -2,6 +2,7 @@
 ghost use Rattle.std.specs.Prelude.{◌≡◌, ◌⊎◌, ◌↔◌, ◌^◌, Bool, None, IfOk, IfErr, IsSome, true, false};
 ghost use Rattle.foyer_core_laws.specs.Sizes.{AreValid};
 ghost use Rattle.foyer_device_page.specs.declared.error.Error.TheVariants as error;
+ghost use Rattle.foyer_io_disk.specs.Disk.{SurelyCame};
 ghost use Rattle.foyer_serve.specs.OpenedFiles.{IsOpenedOver, MayRefuse};
 ghost use Rattle.foyer_block_recover.specs.declared.block.recover.RecoverMode.TheVariants as recover_mode;
 ghost use Rattle.foyer_core_run.specs.AtRest.{ComesToRest};
@@ -86,7 +87,10 @@ where
         × (e.engine.disk.engine.recorder.view ≡ view (2 ^ 31) zeros zeros)) }
     ensures begins { IfOk result (λ e. (sound : AreValid settings) → IsOpenedOver plain settings sound
         ⟦<PartitionedDisk<MonitoredIoEngine<PsyncIoEngine<R::A>, A>, FsPartition, A> as Disk>⟧.byte_at
-        ⟦<PartitionedDisk<MonitoredIoEngine<PsyncIoEngine<R::A>, A>, FsPartition, A> as Disk>⟧.surely_has
+        (λ d. SurelyCame (⟦<PartitionedDisk<MonitoredIoEngine<PsyncIoEngine<R::A>, A>, FsPartition, A> as Disk>⟧.surely_has d)
+        (⟦<PartitionedDisk<MonitoredIoEngine<PsyncIoEngine<R::A>, A>, FsPartition, A> as Disk>⟧.surely_lies d)
+        (⟦<PartitionedDisk<MonitoredIoEngine<PsyncIoEngine<R::A>, A>, FsPartition, A> as Disk>⟧.faults d)
+        (⟦<PartitionedDisk<MonitoredIoEngine<PsyncIoEngine<R::A>, A>, FsPartition, A> as Disk>⟧.faults e.engine.disk))
         ⟦<PartitionedDisk<MonitoredIoEngine<PsyncIoEngine<R::A>, A>, FsPartition, A> as Disk>⟧.is_known
         (λ d. d.blocks.items) ⟦<FsPartition as Partition>⟧.bytes ⟦<FsPartition as Partition>⟧.extent
         mode e.engine.core e.engine.disk) }
