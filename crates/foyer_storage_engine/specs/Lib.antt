@@ -5,5 +5,7 @@ pub mod Ringing
 pub mod Keeping
 pub mod Kept
 pub mod Entering
+pub mod Ending
+pub mod Reporting
 pub mod Calls
 pub use Rattle.foyer_core_shared.specs.Sessions

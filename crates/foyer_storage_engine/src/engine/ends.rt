@@ -1,5 +1,10 @@
 //! The calls of an engine that wait for its workers.
-ghost use Rattle.std.specs.Prelude.{◌≡◌, ◌<◌};
+ghost use Rattle.std.specs.Prelude.{◌≡◌, ◌-◌, ◌<◌, IfErr, OnOk, Some, true};
+ghost use Rattle.foyer_core_shared.specs.Answers.{IsAnswer};
+ghost use Rattle.foyer_core_shared.specs.Briefs.{brief_of};
+ghost use Rattle.foyer_core_shared.specs.Replies.{may_reply};
+ghost use Rattle.foyer_storage_engine.specs.Answering.{is_draw_error};
+ghost use Rattle.foyer_storage_engine.specs.Ending.{AsksForReclaims, BringsClean};
 
 use super::{BlockEngine, error_of};
 use foyer_block_index::manager::BlockId;
@@ -33,7 +38,8 @@ where
     G: Gate,
     N: Noting,
 {
-    /// One step, at which a filter that is asked is shown `io`, made again while memory is refused for it.
+    /// One step, at which a filter that is asked is shown `io`, made again while memory is refused for it. The session's newest
+    /// brief is then that of this step and of this very reply.
     pub fn step_again(
         &self,
         rt: &impl Wait,
@@ -42,6 +48,9 @@ where
         step: Step<K, V, P, A>,
     ) -> Reply<K, V, P, A>
         requires { 0 < session.old.shares.parts }
+        ensures answer { IsAnswer K.is_decodable V.is_decodable K.encoding V.encoding step result }
+        ensures newest { session.new.newest ≡ Some (brief_of step result) }
+        ensures replied { may_reply step result ≡ true }
         ensures parts { session.new.shares.parts ≡ session.old.shares.parts }
     {
         let mut given = step;
@@ -60,6 +69,7 @@ where
     // Queues a wait at each flusher. Where one is refused the wait is given up, and those that are queued stay.
     fn queue_waits(&self, rt: &impl Wait, session: &mut Session<L>) -> Result<u64>
         requires { 0 < session.old.shares.parts }
+        ensures refused { IfErr result (λ e. is_draw_error e ≡ true) }
         ensures parts { session.new.shares.parts ≡ session.old.shares.parts }
     {
         let id = self.signals.waits.begin(rt, self.settings.flushers)?;
@@ -80,13 +90,15 @@ where
     // Waits until no reclaim runs.
     fn wait_for_reclaims(&self, rt: &impl Wait, session: &mut Session<L>) -> Result<()>
         requires { 0 < session.old.shares.parts }
+        ensures asks { OnOk result (AsksForReclaims session.new) }
+        ensures refused { IfErr result (λ e. is_draw_error e ≡ true) }
         ensures parts { session.new.shares.parts ≡ session.old.shares.parts }
     {
         for _ in rt.forever() {
             let seen = self.signals.done.count(rt);
             match self.shared.step(rt, session, no_io(), Step::ReclaimIdle) {
-                Reply::Answer(false) => {
-                    if self.signals.done.wait_past(rt, seen) {
+                Reply::Answer(is_idle) => {
+                    if is_idle || self.signals.done.wait_past(rt, seen) {
                         return Ok(());
                     }
                 }
@@ -97,10 +109,12 @@ where
         unreachable!()
     }
 
-    /// Waits until all that was queued before is written, and then until no reclaim runs. `Memory` where a step is refused it:
-    /// what the steps before it did stays.
+    /// Waits until all that was queued before is written, and then until no reclaim runs, which is its last step. `Memory` where a
+    /// step is refused it, and `SequenceEnd` where none is left: what the steps before it did stays.
     pub fn wait(&self, rt: &impl Wait, session: &mut Session<L>) -> Result<()>
         requires { 0 < session.old.shares.parts }
+        ensures asks { OnOk result (AsksForReclaims session.new) }
+        ensures refused { IfErr result (λ e. is_draw_error e ≡ true) }
         ensures parts { session.new.shares.parts ≡ session.old.shares.parts }
     {
         let id = self.queue_waits(rt, session)?;
@@ -111,6 +125,8 @@ where
     /// Takes no more enqueues, deletes and destroys, and waits as `wait` does.
     pub fn close(&self, rt: &impl Wait, session: &mut Session<L>) -> Result<()>
         requires { 0 < session.old.shares.parts }
+        ensures asks { OnOk result (AsksForReclaims session.new) }
+        ensures refused { IfErr result (λ e. is_draw_error e ≡ true) }
         ensures parts { session.new.shares.parts ≡ session.old.shares.parts }
     {
         if let Reply::Refused(kind, _) = self.shared.step(rt, session, no_io(), Step::Close) {
@@ -122,6 +138,7 @@ where
     // Begins a destroy, once none is under way.
     fn begin_destroy(&self, rt: &impl Wait, session: &mut Session<L>) -> Result<()>
         requires { 0 < session.old.shares.parts }
+        ensures refused { IfErr result (λ e. is_draw_error e ≡ true) }
         ensures parts { session.new.shares.parts ≡ session.old.shares.parts }
     {
         for _ in rt.forever() {
@@ -142,6 +159,7 @@ where
     // Waits as `wait` does, again while memory is refused.
     fn wait_again(&self, rt: &impl Wait, session: &mut Session<L>) -> Result<()>
         requires { 0 < session.old.shares.parts }
+        ensures refused { IfErr result (λ e. is_draw_error e ≡ true) }
         ensures parts { session.new.shares.parts ≡ session.old.shares.parts }
     {
         for _ in rt.forever() {
@@ -156,6 +174,7 @@ where
     // Clears the index, once nothing is under way.
     fn clear(&self, rt: &impl Wait, session: &mut Session<L>) -> Result<()>
         requires { 0 < session.old.shares.parts }
+        ensures refused { IfErr result (λ e. is_draw_error e ≡ true) }
         ensures parts { session.new.shares.parts ≡ session.old.shares.parts }
     {
         for _ in rt.forever() {
@@ -176,6 +195,7 @@ where
     // Cleans a block for a destroy: the outcome of all cleans, where this was the last.
     fn clean(&self, rt: &impl Wait, session: &mut Session<L>, block: BlockId) -> Option<Result<()>>
         requires { 0 < session.old.shares.parts }
+        ensures brings { BringsClean block session.new }
         ensures parts { session.new.shares.parts ≡ session.old.shares.parts }
     {
         let result = self.reader.lock(rt).clean(block);
@@ -187,10 +207,11 @@ where
         }
     }
 
-    /// Destroys all entries: waits as `wait` does, clears the index, and cleans each block. Once it has begun it tries again
+    /// Destroys all entries: waits as `wait` does, clears the index, and cleans each block, the last one last. Once it has begun it tries again
     /// what is refused memory. `Io`, or another kind, is that of the first clean that failed: the others were done.
     pub fn destroy(&self, rt: &impl Wait, session: &mut Session<L>) -> Result<()>
         requires { 0 < session.old.shares.parts }
+        ensures cleaned { OnOk result (0 < self.now.settings.blocks → BringsClean (self.now.settings.blocks - 1) session.new) }
         ensures parts { session.new.shares.parts ≡ session.old.shares.parts }
     {
         self.begin_destroy(rt, session)?;

@@ -1,5 +1,8 @@
 //! A flusher's worker: it takes what is queued, writes it in batches, and gives back what was written.
-ghost use Rattle.std.specs.Prelude.{◌≡◌, ◌<◌};
+ghost use Rattle.std.specs.Prelude.{◌≡◌, ◌<◌, length};
+ghost use Rattle.foyer_core_flusher.specs.Issuing.{written_bytes};
+ghost use Rattle.foyer_io_disk.specs.Disk.{SurelyCame};
+ghost use Rattle.foyer_storage_engine.specs.Reporting.{ReportsWrite};
 
 use super::Worker;
 use crate::engine::BlockEngine;
@@ -112,6 +115,39 @@ where
     unreachable!()
 }
 
+// Does a write of a block, and reports its outcome.
+fn write_one<L, K, V, P, A, E, C, D, G, N, O>(
+    rt: &impl Wait,
+    engine: &BlockEngine<L, K, V, P, A, E, C, D, G, N>,
+    disk: &mut O,
+    flusher: u32,
+    session: &mut Session<L>,
+    block: BlockId,
+    write: &Write<A>,
+) -> Reply<K, V, P, A>
+where
+    L: Kinds,
+    K: Code<A> + Drop,
+    V: Code<A> + Drop,
+    P: Properties + Drop,
+    A: Allocator + Clone,
+    E: EvictionPicker,
+    C: StorageFilterCondition,
+    D: Disk + Drop,
+    G: Gate,
+    N: Noting,
+    O: Disk,
+    requires { 0 < session.old.shares.parts }
+    ensures parts { session.new.shares.parts ≡ session.old.shares.parts }
+    ensures reports { O.is_known disk.old → ReportsWrite flusher block write.now.offset (written_bytes write.now.bytes) (O.byte_at disk.old) (O.byte_at disk.new)
+        (SurelyCame (O.surely_has disk.old) (O.surely_lies disk.old) (O.faults disk.old) (O.faults disk.new)
+        block write.now.offset (length (written_bytes write.now.bytes))) session.new }
+{
+    let result = do_write(disk, block, write);
+    let step = Step::FlushWrote { flusher, result };
+    engine.step_again(rt, session, no_io(), step)
+}
+
 // Does a block's writes, and reports each, until one fails or ends the block.
 fn write_block<L, K, V, P, A, E, C, D, G, N, O>(
     rt: &impl Wait,
@@ -142,9 +178,7 @@ where
     }
     engine.gate().pass(Point::FlushWrite);
     'writes: for write in writes {
-        let result = do_write(disk, block, write);
-        let step = Step::FlushWrote { flusher, result };
-        match engine.step_again(rt, session, no_io(), step) {
+        match write_one(rt, engine, disk, flusher, session, block, write) {
             Reply::Next => {}
             _ => return,
         }

@@ -1,5 +1,8 @@
 //! A reclaimer's worker: it reclaims blocks, one at a time.
 ghost use Rattle.std.specs.Prelude.{◌≡◌, ◌<◌};
+ghost use Rattle.foyer_core_model.specs.Numbers.{page};
+ghost use Rattle.foyer_io_disk.specs.Disk.{SurelyCame};
+ghost use Rattle.foyer_storage_engine.specs.Reporting.{ReportsClean};
 
 use super::Worker;
 use crate::engine::BlockEngine;
@@ -106,6 +109,36 @@ where
     }
 }
 
+// Cleans a block that is reclaimed, and reports the outcome.
+fn clean<L, K, V, P, A, E, C, D, G, N, O>(
+    rt: &impl Wait,
+    engine: &BlockEngine<L, K, V, P, A, E, C, D, G, N>,
+    disk: &mut O,
+    session: &mut Session<L>,
+    block: BlockId,
+)
+where
+    L: Kinds,
+    K: Code<A> + Drop,
+    V: Code<A> + Drop,
+    P: Properties + Drop,
+    A: Allocator + Clone,
+    E: EvictionPicker,
+    C: StorageFilterCondition,
+    D: Disk + Drop,
+    G: Gate,
+    N: Noting,
+    O: Disk,
+    requires { 0 < session.old.shares.parts }
+    ensures parts { session.new.shares.parts ≡ session.old.shares.parts }
+    ensures reports { O.is_known disk.old → ReportsClean block (O.byte_at disk.old) (O.byte_at disk.new)
+        (SurelyCame (O.surely_has disk.old) (O.surely_lies disk.old) (O.faults disk.old) (O.faults disk.new) block 0 page) session.new }
+{
+    let result = clean_block(disk, block);
+    let cleaned = Step::ReclaimCleaned { block, result };
+    let _ = engine.step_again(rt, session, no_io(), cleaned);
+}
+
 // Reads a block that is reclaimed, then has its entries forgotten, and cleans it.
 fn reclaim<L, K, V, P, A, E, C, D, G, N, O, T>(
     rt: &impl Wait,
@@ -134,9 +167,7 @@ where
     read_block(rt, engine, parts, session, block);
     engine.signals().queued.ring(rt);
     let _ = engine.step_again(rt, session, no_io(), Step::ReclaimForget { block });
-    let result = clean_block(&mut parts.disk, block);
-    let cleaned = Step::ReclaimCleaned { block, result };
-    let _ = engine.step_again(rt, session, no_io(), cleaned);
+    clean(rt, engine, &mut parts.disk, session, block);
     engine.signals().done.ring(rt);
 }
 
