@@ -245,16 +245,19 @@ impl<K, V, P, A: Allocator + Clone> Flusher<K, V, P, A> {
                     Err(error)
                 }
             },
-            Some(Submission::Tombstone(info)) => {
-                match put_mark(&mut self.marks, &mut self.invalid, info) {
-                    Ok(()) => Ok(Taken::Other),
-                    Err(error) => {
-                        self.queue.push_front_reserved(Submission::Tombstone(info));
-                        Err(error)
-                    }
+            Some(Submission::Tombstone { tombstone, stats }) => match put_mark(
+                &mut self.marks,
+                &mut self.invalid,
+                TombstoneInfo { tombstone, stats },
+            ) {
+                Ok(()) => Ok(Taken::Other),
+                Err(error) => {
+                    self.queue
+                        .push_front_reserved(Submission::Tombstone { tombstone, stats });
+                    Err(error)
                 }
-            }
-            Some(Submission::Reinsertion(reinsertion)) => match put_reinsertion(
+            },
+            Some(Submission::Reinsertion { reinsertion }) => match put_reinsertion(
                 alloc,
                 &mut self.filled,
                 &mut self.spare,
@@ -265,7 +268,7 @@ impl<K, V, P, A: Allocator + Clone> Flusher<K, V, P, A> {
                 Ok(()) => Ok(Taken::Other),
                 Err(error) => {
                     self.queue
-                        .push_front_reserved(Submission::Reinsertion(reinsertion));
+                        .push_front_reserved(Submission::Reinsertion { reinsertion });
                     Err(error)
                 }
             },
