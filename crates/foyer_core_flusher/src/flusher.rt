@@ -368,6 +368,7 @@ impl<K, V, P, A: Allocator + Clone> Flusher<K, V, P, A> {
         match manager.get_clean_block(number) {
             None => Ok(Next::NoBlock),
             Some(block) => {
+                let block = block.id();
                 self.own = Some(block);
                 Ok(Next::Block(block, batch.issue(block, prepared)))
             }
