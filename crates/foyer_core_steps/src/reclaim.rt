@@ -258,8 +258,7 @@ impl<K, V, P, A: Allocator + Clone> Core<K, V, P, A> {
                 result: outcome,
             });
         }
-        reclaimer::end(&mut self.reclaims, block);
-        let _ = self.manager.on_reclaim_finish(block);
+        let _ = reclaimer::cleaned(&mut self.reclaims, &mut self.manager, block);
         Reply::Done
     }
 

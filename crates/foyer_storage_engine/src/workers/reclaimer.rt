@@ -7,7 +7,7 @@ use crate::hand::Hand;
 use foyer_block_index::manager::BlockId;
 use foyer_block_manager::block::eviction::EvictionPicker;
 use foyer_block_recover::gate::{Gate, Point};
-use foyer_core_run::reclaims::{Part, clean_block, next_part, read_bytes};
+use foyer_core_run::reclaims::{BlockCleaner, Part, next_part, read_bytes};
 use foyer_core_shared::notes::Noting;
 use foyer_core_shared::session::Session;
 use foyer_core_steps::apply::no_io;
@@ -134,7 +134,7 @@ where
     read_block(rt, engine, parts, session, block);
     engine.signals().queued.ring(rt);
     let _ = engine.step_again(rt, session, no_io(), Step::ReclaimForget { block });
-    let result = clean_block(&mut parts.disk, block);
+    let result = BlockCleaner::clean(&mut parts.disk, block);
     let cleaned = Step::ReclaimCleaned { block, result };
     let _ = engine.step_again(rt, session, no_io(), cleaned);
     engine.signals().done.ring(rt);
