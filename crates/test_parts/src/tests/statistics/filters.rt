@@ -63,7 +63,8 @@ fn waits_are_added_up(rt: HostRuntime) -> Result<(), Fail> {
     assert!(rt; verdict(alloc, admit, seconds(1))? == seconds(1));
     let most = StorageFilterResult::Throttled(Duration::MAX);
     assert!(rt; verdict(alloc, most, most)? == most);
-    let none: StorageFilter<Always, Global> = StorageFilter::new();
+    let none: StorageFilter<Always, Global> = StorageFilter::default();
+    assert_eq!(rt; format!(in alloc; "{none:?}")?.as_str(), "StorageFilter");
     assert!(rt; none.filter(&state(Duration::ZERO), 1, 2) == admit);
     assert!(rt; admit.is_admitted() && !admit.is_rejected() && reject.is_rejected());
     assert!(rt; !most.is_admitted() && !most.is_rejected());
