@@ -41,9 +41,10 @@ use std::alloc::Allocator;
 use std::collections::VecDeque;
 use std::mem;
 
-/// One flusher: its queue, what it received since the batch before, and its batch.
+/// One flusher: its queue, what it received since the batch before, and its batch. Its fields are public for the core alone.
 #[derive(Drop)]
 pub struct Flusher<K, V, P, A: Allocator> {
+    /// What waits for it, the oldest first.
     pub queue: VecDeque<Submission<K, V, P, A>, A>,
     /// The records that were received.
     pub filled: Filled<A>,
@@ -51,14 +52,19 @@ pub struct Flusher<K, V, P, A: Allocator> {
     pub sources: VecDeque<Option<EntryAddress>, A>,
     /// Pages of a batch that was written, to be filled next.
     pub spare: Option<IoSliceMut<A>>,
+    /// The marks that were received.
     pub marks: Vec<Tombstone, A>,
+    /// What these made invalid.
     pub invalid: Vec<InvalidStats, A>,
+    /// The pieces whose records were received.
     pub pieces: Vec<PieceRef<K, V, P, A>, A>,
+    /// The waits that were received.
     pub waits: Vec<u64, A>,
     /// Where the next batch's data go.
     pub context: SplitCtx<A>,
     /// The block that it goes on with.
     pub own: Option<BlockId>,
+    /// What it writes, if it does.
     pub batch: Option<Batch<K, V, P, A>>,
     ghost fits: { context.sizes.index + filled.greatest ≤ context.sizes.block },
     ghost small: { context.sizes.block ≤ 2 ^ 32 },

@@ -23,7 +23,9 @@ use std::alloc::Allocator;
 /// What a reclaim reads of its block: so many bytes from an offset on.
 #[derive(Clone, Copy, Debug, PartialEq, Eq)]
 pub struct Part {
+    /// Where it begins in the block, in bytes.
     pub offset: usize,
+    /// Its length in bytes.
     pub len: usize,
 }
 

@@ -238,8 +238,11 @@ fn end_to_wait<A: Allocator>(waiting: &mut Vec<u32, A>, flusher: u32)
 /// what they put on probation.
 #[derive(Drop)]
 pub struct ReclaimingBlock<A: Allocator> {
+    /// The block that is reclaimed.
     pub block: BlockId,
+    /// What the pickers answered, as far as they were asked.
     pub answers: Vec<Option<BlockId>, A>,
+    /// The blocks that they put on probation.
     pub probation: Vec<BlockId, A>,
 }
 

@@ -30,9 +30,11 @@ pub struct BlockStatistics {
 /// What is known of a block.
 #[derive(Clone, Copy, Debug, PartialEq, Eq)]
 pub struct BlockState {
+    /// The set that it is in.
     pub block_set: BlockSet,
     /// How often it was handed out or destroyed.
     pub filling: u64,
+    /// What pickers know of it.
     pub statistics: BlockStatistics,
 }
 
