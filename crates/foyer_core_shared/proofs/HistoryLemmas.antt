@@ -33,7 +33,7 @@ use Rattle.foyer_core_shared.specs.Noted.{AreNotesOf, IsNoted, and_note, noted, 
 use Rattle.foyer_core_shared.specs.declared.brief.Brief.{Brief}
 use Rattle.foyer_core_shared.specs.History.{BeginAlike, BeginsWith, IsLegal, LeadsTo, Made}
 use Rattle.foyer_core_shared.specs.Replies.{may_reply}
-use Rattle.foyer_core_shared.proofs.ReplyLemmas.{delete_replied, end_replied, enqueue_replied, look_up_replied, question_replied}
+use Rattle.foyer_core_shared.proofs.ReplyLemmas.{delete_replied, end_replied, enqueue_replied, look_up_replied, other_replied, question_replied}
 
 -- one note more of a kind
 count_more : (kind : StepKind) (notes : List Brief) (note : Brief) → count_of kind (notes ++ note ∷ []) ≡ count_of kind notes + one_if kind (kind_of note)
@@ -210,19 +210,67 @@ module _ {K V P A : Type 0} (m : Meaning K V P) where
       ∥∥₁_elim noted (Coded-set coded_bool _ _) (λ (n : IsNoted m old notes calls).
       let it = refines n.legal.settings n.legal.sound n.legal.state n.legal.stands in
       end_replied (machine m n.legal.settings n.legal.sound) (layout n.legal.settings) n.legal.state m (ticket_of ticket) (came_of outcome) it.after answer it.it it.reply it.follows)
-  replied (step.Wait flusher id) answer old new notes calls noted refines = refl
-  replied (step.Receive flusher) answer old new notes calls noted refines = refl
-  replied (step.FlushBegin flusher) answer old new notes calls noted refines = refl
-  replied (step.FlushBlock flusher) answer old new notes calls noted refines = refl
-  replied (step.FlushWrote flusher outcome) answer old new notes calls noted refines = refl
-  replied (step.LogWrote flusher outcome) answer old new notes calls noted refines = refl
-  replied (step.FlushEnd flusher) answer old new notes calls noted refines = refl
-  replied step.ReclaimBegin answer old new notes calls noted refines = refl
-  replied (step.ReclaimRead block outcome) answer old new notes calls noted refines = refl
-  replied (step.ReclaimForget block) answer old new notes calls noted refines = refl
-  replied (step.ReclaimCleaned block outcome) answer old new notes calls noted refines = refl
-  replied step.ReclaimIdle answer old new notes calls noted refines = refl
-  replied step.DestroyBegin answer old new notes calls noted refines = refl
-  replied step.DestroyClear answer old new notes calls noted refines = refl
-  replied (step.DestroyCleaned block outcome) answer old new notes calls noted refines = refl
-  replied step.Close answer old new notes calls noted refines = refl
+  replied (step.Wait flusher id) answer old new notes calls noted refines =
+      ∥∥₁_elim noted (Coded-set coded_bool _ _) (λ (n : IsNoted m old notes calls).
+      let it = refines n.legal.settings n.legal.sound n.legal.state n.legal.stands in
+      other_replied (machine m n.legal.settings n.legal.sound) (layout n.legal.settings) n.legal.state m (step_of {A = A} m (step.Wait flusher id)) (λ no. no) (λ no. no) (λ no. no) it.after answer it.it it.reply it.follows)
+  replied (step.Receive flusher) answer old new notes calls noted refines =
+      ∥∥₁_elim noted (Coded-set coded_bool _ _) (λ (n : IsNoted m old notes calls).
+      let it = refines n.legal.settings n.legal.sound n.legal.state n.legal.stands in
+      other_replied (machine m n.legal.settings n.legal.sound) (layout n.legal.settings) n.legal.state m (step_of {A = A} m (step.Receive flusher)) (λ no. no) (λ no. no) (λ no. no) it.after answer it.it it.reply it.follows)
+  replied (step.FlushBegin flusher) answer old new notes calls noted refines =
+      ∥∥₁_elim noted (Coded-set coded_bool _ _) (λ (n : IsNoted m old notes calls).
+      let it = refines n.legal.settings n.legal.sound n.legal.state n.legal.stands in
+      other_replied (machine m n.legal.settings n.legal.sound) (layout n.legal.settings) n.legal.state m (step_of {A = A} m (step.FlushBegin flusher)) (λ no. no) (λ no. no) (λ no. no) it.after answer it.it it.reply it.follows)
+  replied (step.FlushBlock flusher) answer old new notes calls noted refines =
+      ∥∥₁_elim noted (Coded-set coded_bool _ _) (λ (n : IsNoted m old notes calls).
+      let it = refines n.legal.settings n.legal.sound n.legal.state n.legal.stands in
+      other_replied (machine m n.legal.settings n.legal.sound) (layout n.legal.settings) n.legal.state m (step_of {A = A} m (step.FlushBlock flusher)) (λ no. no) (λ no. no) (λ no. no) it.after answer it.it it.reply it.follows)
+  replied (step.FlushWrote flusher outcome) answer old new notes calls noted refines =
+      ∥∥₁_elim noted (Coded-set coded_bool _ _) (λ (n : IsNoted m old notes calls).
+      let it = refines n.legal.settings n.legal.sound n.legal.state n.legal.stands in
+      other_replied (machine m n.legal.settings n.legal.sound) (layout n.legal.settings) n.legal.state m (step_of {A = A} m (step.FlushWrote flusher outcome)) (λ no. no) (λ no. no) (λ no. no) it.after answer it.it it.reply it.follows)
+  replied (step.LogWrote flusher outcome) answer old new notes calls noted refines =
+      ∥∥₁_elim noted (Coded-set coded_bool _ _) (λ (n : IsNoted m old notes calls).
+      let it = refines n.legal.settings n.legal.sound n.legal.state n.legal.stands in
+      other_replied (machine m n.legal.settings n.legal.sound) (layout n.legal.settings) n.legal.state m (step_of {A = A} m (step.LogWrote flusher outcome)) (λ no. no) (λ no. no) (λ no. no) it.after answer it.it it.reply it.follows)
+  replied (step.FlushEnd flusher) answer old new notes calls noted refines =
+      ∥∥₁_elim noted (Coded-set coded_bool _ _) (λ (n : IsNoted m old notes calls).
+      let it = refines n.legal.settings n.legal.sound n.legal.state n.legal.stands in
+      other_replied (machine m n.legal.settings n.legal.sound) (layout n.legal.settings) n.legal.state m (step_of {A = A} m (step.FlushEnd flusher)) (λ no. no) (λ no. no) (λ no. no) it.after answer it.it it.reply it.follows)
+  replied step.ReclaimBegin answer old new notes calls noted refines =
+      ∥∥₁_elim noted (Coded-set coded_bool _ _) (λ (n : IsNoted m old notes calls).
+      let it = refines n.legal.settings n.legal.sound n.legal.state n.legal.stands in
+      other_replied (machine m n.legal.settings n.legal.sound) (layout n.legal.settings) n.legal.state m (step_of {A = A} m step.ReclaimBegin) (λ no. no) (λ no. no) (λ no. no) it.after answer it.it it.reply it.follows)
+  replied (step.ReclaimRead block outcome) answer old new notes calls noted refines =
+      ∥∥₁_elim noted (Coded-set coded_bool _ _) (λ (n : IsNoted m old notes calls).
+      let it = refines n.legal.settings n.legal.sound n.legal.state n.legal.stands in
+      other_replied (machine m n.legal.settings n.legal.sound) (layout n.legal.settings) n.legal.state m (step_of {A = A} m (step.ReclaimRead block outcome)) (λ no. no) (λ no. no) (λ no. no) it.after answer it.it it.reply it.follows)
+  replied (step.ReclaimForget block) answer old new notes calls noted refines =
+      ∥∥₁_elim noted (Coded-set coded_bool _ _) (λ (n : IsNoted m old notes calls).
+      let it = refines n.legal.settings n.legal.sound n.legal.state n.legal.stands in
+      other_replied (machine m n.legal.settings n.legal.sound) (layout n.legal.settings) n.legal.state m (step_of {A = A} m (step.ReclaimForget block)) (λ no. no) (λ no. no) (λ no. no) it.after answer it.it it.reply it.follows)
+  replied (step.ReclaimCleaned block outcome) answer old new notes calls noted refines =
+      ∥∥₁_elim noted (Coded-set coded_bool _ _) (λ (n : IsNoted m old notes calls).
+      let it = refines n.legal.settings n.legal.sound n.legal.state n.legal.stands in
+      other_replied (machine m n.legal.settings n.legal.sound) (layout n.legal.settings) n.legal.state m (step_of {A = A} m (step.ReclaimCleaned block outcome)) (λ no. no) (λ no. no) (λ no. no) it.after answer it.it it.reply it.follows)
+  replied step.ReclaimIdle answer old new notes calls noted refines =
+      ∥∥₁_elim noted (Coded-set coded_bool _ _) (λ (n : IsNoted m old notes calls).
+      let it = refines n.legal.settings n.legal.sound n.legal.state n.legal.stands in
+      other_replied (machine m n.legal.settings n.legal.sound) (layout n.legal.settings) n.legal.state m (step_of {A = A} m step.ReclaimIdle) (λ no. no) (λ no. no) (λ no. no) it.after answer it.it it.reply it.follows)
+  replied step.DestroyBegin answer old new notes calls noted refines =
+      ∥∥₁_elim noted (Coded-set coded_bool _ _) (λ (n : IsNoted m old notes calls).
+      let it = refines n.legal.settings n.legal.sound n.legal.state n.legal.stands in
+      other_replied (machine m n.legal.settings n.legal.sound) (layout n.legal.settings) n.legal.state m (step_of {A = A} m step.DestroyBegin) (λ no. no) (λ no. no) (λ no. no) it.after answer it.it it.reply it.follows)
+  replied step.DestroyClear answer old new notes calls noted refines =
+      ∥∥₁_elim noted (Coded-set coded_bool _ _) (λ (n : IsNoted m old notes calls).
+      let it = refines n.legal.settings n.legal.sound n.legal.state n.legal.stands in
+      other_replied (machine m n.legal.settings n.legal.sound) (layout n.legal.settings) n.legal.state m (step_of {A = A} m step.DestroyClear) (λ no. no) (λ no. no) (λ no. no) it.after answer it.it it.reply it.follows)
+  replied (step.DestroyCleaned block outcome) answer old new notes calls noted refines =
+      ∥∥₁_elim noted (Coded-set coded_bool _ _) (λ (n : IsNoted m old notes calls).
+      let it = refines n.legal.settings n.legal.sound n.legal.state n.legal.stands in
+      other_replied (machine m n.legal.settings n.legal.sound) (layout n.legal.settings) n.legal.state m (step_of {A = A} m (step.DestroyCleaned block outcome)) (λ no. no) (λ no. no) (λ no. no) it.after answer it.it it.reply it.follows)
+  replied step.Close answer old new notes calls noted refines =
+      ∥∥₁_elim noted (Coded-set coded_bool _ _) (λ (n : IsNoted m old notes calls).
+      let it = refines n.legal.settings n.legal.sound n.legal.state n.legal.stands in
+      other_replied (machine m n.legal.settings n.legal.sound) (layout n.legal.settings) n.legal.state m (step_of {A = A} m step.Close) (λ no. no) (λ no. no) (λ no. no) it.after answer it.it it.reply it.follows)

@@ -3,7 +3,7 @@ use Rattle.std.proofs.Common.{◌≡◌, ℕ, Bool, true, false, Option, None, S
 use Rattle.foyer_core_model.specs.Follows.{Follows}
 use Rattle.foyer_core_model.specs.Load.{Looks}
 use Rattle.foyer_core_model.specs.Record.{Slot, Indexed, Mark}
-use Rattle.foyer_core_model.specs.Refusal.{MayRefuse}
+use Rattle.foyer_core_model.specs.Refusal.{HasCause, MayRefuse}
 use Rattle.foyer_core_model.specs.Reply as model_reply
 use Rattle.foyer_core_model.specs.Rules.{Rules, Splitting}
 use Rattle.foyer_core_model.specs.State.{State}
@@ -16,7 +16,7 @@ use Rattle.foyer_core_steps.specs.declared.reply.Reply.{Reply}
 use Rattle.foyer_core_steps.specs.declared.reply.Reply.TheVariants as reply
 use Rattle.foyer_device_page.specs.declared.error.ErrorKind.{ErrorKind}
 use Rattle.foyer_device_page.specs.declared.error.ErrorKind.TheVariants as kind
-use Rattle.foyer_core_shared.specs.Replies.{is_draw_refusal, is_end_refusal, is_question_refusal, is_delete_reply, is_end_reply, is_enqueue_reply, is_look_up_reply, is_question_reply}
+use Rattle.foyer_core_shared.specs.Replies.{is_draw_refusal, is_end_refusal, is_question_refusal, is_delete_reply, is_end_reply, is_enqueue_reply, is_look_up_reply, is_other_reply, is_question_reply}
 
 some_same : (k j : model_reply.Kind) → ◌≡◌ {A = Option model_reply.Kind} (Some k) (Some j) → k ≡ j
 some_same k j is = cc
@@ -129,6 +129,23 @@ module _ (rules : Rules Content) (Splits : Splitting Content) (old : State Conte
   enqueue_refused h n a c kind.Closed k is may = refl
   enqueue_refused h n a c kind.Unsupported k is may = absurd ((subst (λ j. MayRefuse rules Splits old j (model_step.Enqueue h n a c)) (sym (some_same model_reply.Unsupported k is)) may).1)
   enqueue_refused h n a c kind.SequenceEnd k is may = refl
+
+  -- of a step that isn't the end of a load
+  other_refused : (s : model_step.Step Content) → (HasCause rules Splits old model_reply.Io s → ⊥) → (HasCause rules Splits old model_reply.Parse s → ⊥) → (HasCause rules Splits old model_reply.Unsupported s → ⊥)
+      → (why : ErrorKind) (k : model_reply.Kind) → kind_of why ≡ Some k → MayRefuse rules Splits old k s → is_draw_refusal why ≡ true
+  other_refused s io parse unsupported kind.Io k is may = absurd (io ((subst (λ j. MayRefuse rules Splits old j s) (sym (some_same model_reply.Io k is)) may).1))
+  other_refused s io parse unsupported kind.Memory k is may = refl
+  other_refused s io parse unsupported kind.Config k is may = absurd cc
+  other_refused s io parse unsupported kind.Parse k is may = absurd (parse ((subst (λ j. MayRefuse rules Splits old j s) (sym (some_same model_reply.Parse k is)) may).1))
+  other_refused s io parse unsupported kind.MagicMismatch k is may = absurd cc
+  other_refused s io parse unsupported kind.ChecksumMismatch k is may = absurd cc
+  other_refused s io parse unsupported kind.OutOfRange k is may = absurd cc
+  other_refused s io parse unsupported kind.BufferSizeLimit k is may = absurd cc
+  other_refused s io parse unsupported kind.NoSpace k is may = absurd cc
+  other_refused s io parse unsupported kind.Recover k is may = absurd cc
+  other_refused s io parse unsupported kind.Closed k is may = refl
+  other_refused s io parse unsupported kind.Unsupported k is may = absurd (unsupported ((subst (λ j. MayRefuse rules Splits old j s) (sym (some_same model_reply.Unsupported k is)) may).1))
+  other_refused s io parse unsupported kind.SequenceEnd k is may = refl
 
   delete_refused : (h : ℕ) (why : ErrorKind) (k : model_reply.Kind) → kind_of why ≡ Some k → MayRefuse rules Splits old k (model_step.Delete h) → is_draw_refusal why ≡ true
   delete_refused h kind.Io k is may = absurd ((subst (λ j. MayRefuse rules Splits old j (model_step.Delete h)) (sym (some_same model_reply.Io k is)) may).1)
@@ -340,3 +357,34 @@ module _ (rules : Rules Content) (Splits : Splitting Content) (old : State Conte
     end_replied t came new (reply.Destroying sequence) it is follows = refl
     end_replied t came new reply.Cleared it is follows = refl
     end_replied t came new (reply.Destroyed first) it is follows = refl
+
+    pub other_replied : (s : model_step.Step Content) → (HasCause rules Splits old model_reply.Io s → ⊥) → (HasCause rules Splits old model_reply.Parse s → ⊥) → (HasCause rules Splits old model_reply.Unsupported s → ⊥)
+        → (new : State Content) (answer : Reply K V P A) (it : model_reply.Reply Content) → IsReply m answer it → Follows rules Splits old s it new → is_other_reply answer ≡ true
+    other_replied s io parse unsupported new (reply.NotNow back) it is follows = refl
+    other_replied s io parse unsupported new (reply.Refused why back) it is follows = other_refused s io parse unsupported why is.0 is.1 (subst (λ r. Follows rules Splits old s r new) is.2 follows).1
+    other_replied s io parse unsupported new (reply.Ignored piece) it is follows = refl
+    other_replied s io parse unsupported new (reply.Queued sequence) it is follows = refl
+    other_replied s io parse unsupported new (reply.Dropped piece sequence) it is follows = refl
+    other_replied s io parse unsupported new (reply.Deleted sequence) it is follows = refl
+    other_replied s io parse unsupported new reply.Done it is follows = refl
+    other_replied s io parse unsupported new (reply.Answer answer) it is follows = refl
+    other_replied s io parse unsupported new reply.Miss it is follows = refl
+    other_replied s io parse unsupported new reply.Throttled it is follows = refl
+    other_replied s io parse unsupported new (reply.Read ticket) it is follows = refl
+    other_replied s io parse unsupported new (reply.Entry key value age) it is follows = refl
+    other_replied s io parse unsupported new reply.Empty it is follows = refl
+    other_replied s io parse unsupported new (reply.Received back) it is follows = refl
+    other_replied s io parse unsupported new (reply.Began blocks marks) it is follows = refl
+    other_replied s io parse unsupported new (reply.Write block writes) it is follows = refl
+    other_replied s io parse unsupported new reply.NoBlock it is follows = refl
+    other_replied s io parse unsupported new reply.Next it is follows = refl
+    other_replied s io parse unsupported new (reply.Committed puts) it is follows = refl
+    other_replied s io parse unsupported new reply.Failed it is follows = refl
+    other_replied s io parse unsupported new (reply.Ended pieces waits) it is follows = refl
+    other_replied s io parse unsupported new (reply.Picked block answers probation) it is follows = refl
+    other_replied s io parse unsupported new (reply.Scan block offset len verdicts) it is follows = refl
+    other_replied s io parse unsupported new (reply.Listed verdicts) it is follows = refl
+    other_replied s io parse unsupported new (reply.Clean block) it is follows = refl
+    other_replied s io parse unsupported new (reply.Destroying sequence) it is follows = refl
+    other_replied s io parse unsupported new reply.Cleared it is follows = refl
+    other_replied s io parse unsupported new (reply.Destroyed first) it is follows = refl

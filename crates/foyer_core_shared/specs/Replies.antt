@@ -7,7 +7,8 @@ use Rattle.foyer_core_steps.specs.declared.step.Step.TheVariants as step
 use Rattle.foyer_device_page.specs.declared.error.ErrorKind.{ErrorKind}
 use Rattle.foyer_device_page.specs.declared.error.ErrorKind.TheVariants as kind
 
--- A put or a delete is refused where the core is closed, memory is refused, or no sequence or step is left.
+-- A put or a delete is refused where the core is closed, memory is refused, or no sequence or step is left; and no step that a worker
+-- or a wait asks is refused for another cause.
 abbrev pub is_draw_refusal : ErrorKind → Bool
 is_draw_refusal kind.Closed = true
 is_draw_refusal kind.Memory = true
@@ -58,6 +59,11 @@ module _ {K V P A : Type 0} where
   is_end_reply (reply.Refused kind back) = is_end_refusal kind
   is_end_reply other = true
 
+  -- and so of all that a worker or a wait asks
+  abbrev pub is_other_reply : Reply K V P A → Bool
+  is_other_reply (reply.Refused kind back) = is_draw_refusal kind
+  is_other_reply other = true
+
   -- the reply is one that the step may get, whatever the core was
   abbrev pub may_reply : Step K V P A → Reply K V P A → Bool
   may_reply (step.Enqueue piece size) answer = is_enqueue_reply answer
@@ -65,4 +71,4 @@ module _ {K V P A : Type 0} where
   may_reply (step.MayContains hash) answer = is_question_reply answer
   may_reply (step.LoadBegin hash throttled) answer = is_look_up_reply answer
   may_reply (step.LoadEnd ticket outcome) answer = is_end_reply answer
-  may_reply given answer = true
+  may_reply given answer = is_other_reply answer

@@ -154,6 +154,8 @@ impl<K: Eq + Drop, V: Drop, P: Drop, A: Allocator + Clone> Shard<K, V, P, A> {
     pub fn insert(&mut self, piece: &Piece<K, V, P, A>) -> Result<PieceRef<K, V, P, A>>
         ensures number { IfOk result (λ r. (r.piece ≡ piece.now) × (r.number ≡ self.old.last + 1)) }
         ensures inserted { IfOk result (λ r. ChangesAt K.eq self.old.map self.new.map piece.now.hash piece.now.key (Some r)) }
+        ensures drawn { OnOk result (self.new.last ≡ self.old.last + 1) }
+        ensures kept { OnErr result (self.new.last ≡ self.old.last) }
         ensures err { OnErr result (HoldsSame K.eq self.old.map self.new.map) }
         ensures refused { IfErr result (λ e. (e ≡ Error.Memory) ⊎ ((e ≡ Error.SequenceEnd) × (self.old.last ≡ u64.MAX))) }
     {
