@@ -27,17 +27,24 @@ pub type Sequence = u64;
 /// Where a record stands: `len` bytes from byte `offset` of a block in its filling `filling`.
 #[derive(Clone, Copy, Debug, PartialEq, Eq)]
 pub struct EntryAddress {
+    /// The block that has the record.
     pub block: BlockId,
+    /// Where the record begins in the block, in bytes.
     pub offset: u32,
+    /// The record's length in bytes, before it is rounded up to whole pages.
     pub len: u32,
+    /// The sequence of the put.
     pub sequence: Sequence,
+    /// The block's generation in which it was written.
     pub filling: u64,
 }
 
 /// An address with the hash that it is indexed under.
 #[derive(Clone, Copy, Debug)]
 pub struct HashedEntryAddress {
+    /// The hash of its key.
     pub hash: u64,
+    /// Where its record is.
     pub address: EntryAddress,
 }
 

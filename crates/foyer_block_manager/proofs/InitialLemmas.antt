@@ -33,6 +33,7 @@ same_rules a b c p q = record {
   flushers = q.flushers ∙ p.flushers;
   reclaimers = q.reclaimers ∙ p.reclaimers;
   clean_threshold = q.clean_threshold ∙ p.clean_threshold;
+  block_size = q.block_size ∙ p.block_size;
 }
 
 pub take_all : {X : Type 0} (n : ℕ) (xs : List X) → length xs ≤ n → take n xs ≡ xs

@@ -45,6 +45,7 @@ pub record HasSameRules (old new : Managed) : Type 0 where
   pub flushers : length new.ready ≡ length old.ready
   pub reclaimers : new.reclaimers ≡ old.reclaimers
   pub clean_threshold : new.clean_threshold ≡ old.clean_threshold
+  pub block_size : new.block_size ≡ old.block_size
 
 -- the block that may be handed out
 abbrev pub clean_block : BlockSets → Option ℕ

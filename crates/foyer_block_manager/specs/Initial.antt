@@ -11,9 +11,9 @@ use Rattle.foyer_block_manager.specs.declared.block.states.BlockSet.TheVariants 
 abbrev pub new_block : BlockState
 new_block = record { block_set = set.Evictable; filling = 0; statistics = record { invalid = 0; access = 0; probation = false } }
 
--- so many blocks, all of them evictable, and so many flushers
-abbrev pub new_manager : (blocks flushers reclaimers clean_threshold : ℕ) → Managed
-new_manager blocks flushers reclaimers clean_threshold = record {
+-- so many blocks of this size, all of them evictable, and so many flushers
+abbrev pub new_manager : (blocks block_size flushers reclaimers clean_threshold : ℕ) → Managed
+new_manager blocks block_size flushers reclaimers clean_threshold = record {
   blocks = replicate blocks new_block;
   clean = [];
   evictable = ids blocks;
@@ -21,6 +21,7 @@ new_manager blocks flushers reclaimers clean_threshold = record {
   ready = replicate flushers None;
   reclaimers = reclaimers;
   clean_threshold = clean_threshold;
+  block_size = block_size;
   is_cleaning = false;
 }
 

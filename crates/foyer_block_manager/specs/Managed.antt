@@ -5,7 +5,9 @@ use Rattle.foyer_core_model.specs.Flush.{first_usable, usable_count}
 use Rattle.foyer_core_model.specs.Ids.{is_id_in, AreDistinct}
 use Rattle.foyer_core_model.specs.Numbers.{last_number}
 use Rattle.foyer_block_manager.specs.IdList.{IdList}
+use Rattle.foyer_block_manager.specs.declared.block.states.Block.{Block}
 use Rattle.foyer_block_manager.specs.declared.block.states.BlockState.{BlockState}
+use Rattle.foyer_block_manager.specs.declared.block.states.BlockStatistics.{BlockStatistics}
 use Rattle.foyer_block_manager.specs.declared.block.states.BlockSet.{BlockSet}
 use Rattle.foyer_block_manager.specs.declared.block.states.BlockSet.TheVariants.{Clean, Writing, Evictable, Reclaiming}
 
@@ -19,6 +21,7 @@ pub record Managed : Type 0 where
   pub ready : List (Option ℕ)
   pub reclaimers : ℕ
   pub clean_threshold : ℕ
+  pub block_size : ℕ  -- in bytes
   pub is_cleaning : Bool  -- whether a destroy cleans
 
 abbrev pub is_clean_set : BlockSet → Bool
@@ -114,6 +117,15 @@ pub record IsTaken (flusher : ℕ) (blocks : List BlockState) (clean : List ℕ)
   pub was : slice_get blocks b ≡ Some before
   pub blocks_are : blocks' ≡ slice_set blocks b (record before { block_set = Writing flusher; filling = before.filling + 1 })
   pub clean_are : clean' ≡ remove clean index
+
+-- what pickers know of a block; of one that isn't there nothing
+abbrev pub statistics_of : Option BlockState → BlockStatistics
+statistics_of None = record { invalid = 0; access = 0; probation = false }
+statistics_of (Some it) = it.statistics
+
+-- the block of this id
+abbrev pub block_of : Managed → ℕ → Block
+block_of m b = record { id = b; size = m.block_size; statistics = statistics_of (slice_get m.blocks b) }
 
 -- the block is written by some flusher
 abbrev pub IsWritten : Managed → ℕ → Type 0

@@ -1,4 +1,3 @@
 //! What flushers and reclaimers do.
 pub mod flusher;
-
-pub use foyer_core_steps::block::reclaimer;
+pub mod reclaimer;

@@ -12,8 +12,8 @@ use foyer_block_manager::block::eviction::EvictionPicker;
 use foyer_block_manager::block::manager::{BlockId, BlockManager};
 use std::alloc::Allocator;
 
-// How often a block was handed out or destroyed; of one that isn't there the greatest number, so that no address of it
-// is of the present.
+/// How often a block was handed out or destroyed; of one that isn't there the greatest number, so that no address of it
+/// is of the present.
 pub fn filling_of<A: Allocator>(manager: &BlockManager<A>, block: BlockId) -> u64
     ensures { result ≡ filling_in manager.now.blocks block }
 {
@@ -23,7 +23,7 @@ pub fn filling_of<A: Allocator>(manager: &BlockManager<A>, block: BlockId) -> u6
     }
 }
 
-// A flusher leaves its block, which may be reclaimed from now on; the pickers are shown it.
+/// A flusher leaves its block, which may be reclaimed from now on; the pickers are shown it.
 pub fn release<P: EvictionPicker, A: Allocator>(
     own: &mut Option<BlockId>,
     manager: &mut BlockManager<A>,
@@ -45,7 +45,7 @@ pub fn release<P: EvictionPicker, A: Allocator>(
     manager.on_writing_finish(pickers, block);
 }
 
-// These bytes of these blocks became invalid.
+/// These bytes of these blocks became invalid.
 pub fn invalidate_all<A: Allocator>(manager: &mut BlockManager<A>, invalid: &[InvalidStats])
     ensures same { HasSameRules manager.old manager.new }
     ensures invalidated { (s : BlockSets) → Stands manager.old s

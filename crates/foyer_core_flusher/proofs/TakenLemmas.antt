@@ -158,7 +158,7 @@ module _ {K V P A : Type 0} (m : Meaning K V P) (s : Settings) (sound : AreValid
       after = record (st.flushers f) { queue = map (submission_of m) rest; waits = (st.flushers f).waits ++ id ∷ [] }
 
   -- a mark is kept, with what it made invalid
-  pub mark_kept : (info : TombstoneInfo) (invalidated : List InvalidStats) (rest : List (Submission K V P A)) (new : Flusher K V P A) → φ.queue ≡ submission.Tombstone info ∷ rest
+  pub mark_kept : (info : TombstoneInfo) (invalidated : List InvalidStats) (rest : List (Submission K V P A)) (new : Flusher K V P A) → φ.queue ≡ submission.Tombstone info.tombstone info.stats ∷ rest
       → map invalid_of invalidated ≡ invalid_of_all info.stats
       → seen new ≡ record φ { queue = rest; marks = φ.marks ++ info.tombstone ∷ []; invalid = φ.invalid ++ invalidated } → IsReceivedAs m s sound st f 0 None new index
   mark_kept info invalidated rest new is issued now = record {
@@ -184,14 +184,14 @@ module _ {K V P A : Type 0} (m : Meaning K V P) (s : Settings) (sound : AreValid
     receives = at_queue (model_reply.Received None) (turned (machine m s sound) st f after) (model_state.Remove info.tombstone.hash info.tombstone.sequence (invalid_of_all info.stats) ∷ map (submission_of m) rest)
         (stands.queue ∙ ap (map (submission_of m)) is) refl;
     keeps = record { own = refl; ready = refl };
-    size_is = let e : size_in (st.flushers f).queue ≡ size_in (map (submission_of m) rest) = size_front (submission.Tombstone info) rest is in omega arith;
+    size_is = let e : size_in (st.flushers f).queue ≡ size_in (map (submission_of m) rest) = size_front (submission.Tombstone info.tombstone info.stats) rest is in omega arith;
   }
     where
       after : model_state.Flusher Content
       after = record (st.flushers f) { queue = map (submission_of m) rest; marks = (st.flushers f).marks ++ (info.tombstone.hash, info.tombstone.sequence) ∷ []; invalidated = (st.flushers f).invalidated ++ invalid_of_all info.stats }
 
   -- a mark and a wait take memory
-  pub mark_takes : (info : TombstoneInfo) (rest : List (Submission K V P A)) → φ.queue ≡ submission.Tombstone info ∷ rest
+  pub mark_takes : (info : TombstoneInfo) (rest : List (Submission K V P A)) → φ.queue ≡ submission.Tombstone info.tombstone info.stats ∷ rest
       → TakesMemory (machine m s sound) st (st.flushers f) (st.flushers f).queue
   mark_takes info rest is = subst (TakesMemory (machine m s sound) st (st.flushers f)) (sym (stands.queue ∙ ap (map (submission_of m)) is)) tt
 

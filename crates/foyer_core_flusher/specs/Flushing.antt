@@ -27,7 +27,7 @@ invalid_of_all (Some stats) = invalid_of stats ∷ []
 
 abbrev pub submission_of : {K V P A : Type 0} → Meaning K V P → Submission K V P A → model_state.Submission Content
 submission_of m (submission.CacheEntry piece size sequence) = model_state.Piece piece.piece.hash sequence size (content_of m piece)
-submission_of m (submission.Tombstone info) = model_state.Remove info.tombstone.hash info.tombstone.sequence (invalid_of_all info.stats)
+submission_of m (submission.Tombstone tombstone stats) = model_state.Remove tombstone.hash tombstone.sequence (invalid_of_all stats)
 submission_of m (submission.Reinsertion r) = model_state.Reinsert r.hash r.slice.items (address_of r.address)
 submission_of m (submission.Wait id) = model_state.Await id
 

@@ -16,7 +16,9 @@ use std::collections::VecDeque;
 /// The bytes of a write: records, which share the pages of their batch, or the index of a blob.
 #[derive(Drop)]
 pub enum WriteBytes<A: Allocator> {
+    /// The records of a part.
     Data(IoSlice<A>),
+    /// The index of a blob.
     Index(IoSliceMut<A>),
 }
 

@@ -41,9 +41,10 @@ use std::alloc::Allocator;
 use std::collections::VecDeque;
 use std::mem;
 
-/// One flusher: its queue, what it received since the batch before, and its batch.
+/// One flusher: its queue, what it received since the batch before, and its batch. Its fields are public for the core alone.
 #[derive(Drop)]
 pub struct Flusher<K, V, P, A: Allocator> {
+    /// What waits for it, the oldest first.
     pub queue: VecDeque<Submission<K, V, P, A>, A>,
     /// The records that were received.
     pub filled: Filled<A>,
@@ -51,14 +52,19 @@ pub struct Flusher<K, V, P, A: Allocator> {
     pub sources: VecDeque<Option<EntryAddress>, A>,
     /// Pages of a batch that was written, to be filled next.
     pub spare: Option<IoSliceMut<A>>,
+    /// The marks that were received.
     pub marks: Vec<Tombstone, A>,
+    /// What these made invalid.
     pub invalid: Vec<InvalidStats, A>,
+    /// The pieces whose records were received.
     pub pieces: Vec<PieceRef<K, V, P, A>, A>,
+    /// The waits that were received.
     pub waits: Vec<u64, A>,
     /// Where the next batch's data go.
     pub context: SplitCtx<A>,
     /// The block that it goes on with.
     pub own: Option<BlockId>,
+    /// What it writes, if it does.
     pub batch: Option<Batch<K, V, P, A>>,
     ghost fits: { context.sizes.index + filled.greatest ≤ context.sizes.block },
     ghost small: { context.sizes.block ≤ 2 ^ 32 },
@@ -245,16 +251,19 @@ impl<K, V, P, A: Allocator + Clone> Flusher<K, V, P, A> {
                     Err(error)
                 }
             },
-            Some(Submission::Tombstone(info)) => {
-                match put_mark(&mut self.marks, &mut self.invalid, info) {
-                    Ok(()) => Ok(Taken::Other),
-                    Err(error) => {
-                        self.queue.push_front_reserved(Submission::Tombstone(info));
-                        Err(error)
-                    }
+            Some(Submission::Tombstone { tombstone, stats }) => match put_mark(
+                &mut self.marks,
+                &mut self.invalid,
+                TombstoneInfo { tombstone, stats },
+            ) {
+                Ok(()) => Ok(Taken::Other),
+                Err(error) => {
+                    self.queue
+                        .push_front_reserved(Submission::Tombstone { tombstone, stats });
+                    Err(error)
                 }
-            }
-            Some(Submission::Reinsertion(reinsertion)) => match put_reinsertion(
+            },
+            Some(Submission::Reinsertion { reinsertion }) => match put_reinsertion(
                 alloc,
                 &mut self.filled,
                 &mut self.spare,
@@ -265,7 +274,7 @@ impl<K, V, P, A: Allocator + Clone> Flusher<K, V, P, A> {
                 Ok(()) => Ok(Taken::Other),
                 Err(error) => {
                     self.queue
-                        .push_front_reserved(Submission::Reinsertion(reinsertion));
+                        .push_front_reserved(Submission::Reinsertion { reinsertion });
                     Err(error)
                 }
             },
@@ -365,6 +374,7 @@ impl<K, V, P, A: Allocator + Clone> Flusher<K, V, P, A> {
         match manager.get_clean_block(number) {
             None => Ok(Next::NoBlock),
             Some(block) => {
+                let block = block.id();
                 self.own = Some(block);
                 Ok(Next::Block(block, batch.issue(block, prepared)))
             }

@@ -1,14 +1,20 @@
 //! What waits in a flusher's queue.
+ghost use Rattle.std.specs.Prelude.{◌≡◌};
+
 use foyer_block_index::indexer::EntryAddress;
 use foyer_block_index::tombstone::{InvalidStats, Tombstone};
 use foyer_format_record::block::serde::Sequence;
 use foyer_policy_piece::keeper::PieceRef;
 use std::alloc::Allocator;
+use std::fmt;
+use std::fmt::{Debug, Formatter};
 
 /// A mark, and what it made invalid.
 #[derive(Clone, Copy, Debug)]
 pub struct TombstoneInfo {
+    /// The mark, as the log has it.
     pub tombstone: Tombstone,
+    /// The bytes of a block that it made invalid, if it removed an address.
     pub stats: Option<InvalidStats>,
 }
 
@@ -16,9 +22,38 @@ pub struct TombstoneInfo {
 /// of its address.
 #[derive(Drop)]
 pub struct Reinsertion<A: Allocator> {
+    /// The hash of its key.
     pub hash: u64,
+    /// Where it was read from.
     pub address: EntryAddress,
+    /// Its bytes.
     pub slice: Vec<u8, A>,
+}
+
+impl<A: Allocator> Reinsertion<A> {
+    /// Its length in bytes, that of its address.
+    pub fn len(&self) -> u32
+        ensures { result ≡ self.now.address.len }
+    {
+        self.address.len
+    }
+
+    /// Its sequence, that of its address.
+    pub fn sequence(&self) -> Sequence
+        ensures { result ≡ self.now.address.sequence }
+    {
+        self.address.sequence
+    }
+}
+
+/// The type's name, and where the record was read from.
+impl<A: Allocator> Debug for Reinsertion<A> {
+    fn fmt<W: fmt::Write>(&self, f: &mut Formatter<W>) -> fmt::Result {
+        f.debug_struct("Reinsertion")
+            .field("hash", &self.hash)
+            .field("address", &self.address)
+            .finish_non_exhaustive()
+    }
 }
 
 /// What waits in a flusher's queue.
@@ -30,12 +65,36 @@ pub enum Submission<K, V, P, A: Allocator> {
         estimated_size: usize,
         sequence: Sequence,
     },
-    /// A mark to be logged.
-    Tombstone(TombstoneInfo),
+    /// A mark to be logged, and the bytes of a block that it made invalid.
+    Tombstone {
+        tombstone: Tombstone,
+        stats: Option<InvalidStats>,
+    },
     /// A record to be written again.
-    Reinsertion(Reinsertion<A>),
+    Reinsertion {
+        reinsertion: Reinsertion<A>,
+    },
     /// A wait to be answered.
     Wait {
         id: u64,
     },
+}
+
+/// The variant's name.
+impl<K, V, P, A: Allocator> Debug for Submission<K, V, P, A> {
+    fn fmt<W: fmt::Write>(&self, f: &mut Formatter<W>) -> fmt::Result {
+        match self {
+            Submission::CacheEntry {
+                piece: _,
+                estimated_size: _,
+                sequence: _,
+            } => f.write_str("CacheEntry"),
+            Submission::Tombstone {
+                tombstone: _,
+                stats: _,
+            } => f.write_str("Tombstone"),
+            Submission::Reinsertion { reinsertion: _ } => f.write_str("Reinsertion"),
+            Submission::Wait { id: _ } => f.write_str("Wait"),
+        }
+    }
 }

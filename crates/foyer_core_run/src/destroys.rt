@@ -4,7 +4,7 @@ ghost use Rattle.foyer_core_laws.specs.Content.{meaning};
 ghost use Rattle.foyer_core_run.specs.Destroys.{Cleans, IsClearing, IsUncleared};
 ghost use Rattle.foyer_core_run.specs.Waiting.{DrivesBy};
 
-use crate::reclaims::clean_block;
+use crate::reclaims::BlockCleaner;
 use foyer_block_index::manager::BlockId;
 use foyer_block_manager::block::eviction::EvictionPicker;
 use foyer_core_steps::apply::Env;
@@ -39,7 +39,7 @@ where
     ensures counted { D.faults disk.old ≤ D.faults disk.new }
     ensures lent { (env.new.reinsertion ≡ env.old.reinsertion) × (env.new.io ≡ env.old.io) }
 {
-    let cleaned = clean_block(disk, block);
+    let cleaned = BlockCleaner::clean(disk, block);
     core.apply(
         env,
         Step::DestroyCleaned {

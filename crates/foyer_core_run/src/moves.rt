@@ -30,7 +30,8 @@ use std::alloc::{AllocError, Allocator};
 use steps::apply_step;
 use writes::{flush_block, flush_wrote};
 
-/// A step without its result: a run does the access that was issued, and brings what came of it.
+/// A step without its result: a run does the access that was issued, and brings what came of it. Each variant is the step of
+/// its name.
 #[derive(Drop)]
 pub enum Move<K, V, P, A: Allocator> {
     Enqueue {

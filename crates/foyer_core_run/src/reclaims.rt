@@ -23,7 +23,9 @@ use std::alloc::Allocator;
 /// What a reclaim reads of its block: so many bytes from an offset on.
 #[derive(Clone, Copy, Debug, PartialEq, Eq)]
 pub struct Part {
+    /// Where it begins in the block, in bytes.
     pub offset: usize,
+    /// Its length in bytes.
     pub len: usize,
 }
 
@@ -157,18 +159,24 @@ where
     }
 }
 
-/// Cleans a block: its first page becomes zeros.
-pub fn clean_block<D: Disk>(disk: &mut D, block: BlockId) -> Result<()>
-    ensures cleaned { D.is_known disk.old → OnOk result (IsCleaned (D.byte_at disk.old) block (D.byte_at disk.new)) }
-    ensures torn { D.is_known disk.old → OnErr result (IsTorn (D.byte_at disk.old) block 0 page (D.byte_at disk.new)) }
-    ensures fails { OnErr result (SurelyCame (D.surely_has disk.old) (D.surely_lies disk.old) (D.faults disk.old) (D.faults disk.new)
-        block 0 page → ⊥) }
-    ensures known { D.is_known disk.old → D.is_known disk.new }
-    ensures lies { (b o n : ℕ) → D.surely_lies disk.old b o n → D.surely_lies disk.new b o n }
-    ensures counted { D.faults disk.old ≤ D.faults disk.new }
-{
-    let zeros = [0u8; PAGE];
-    disk.write(block, 0, &zeros)
+/// Cleans blocks.
+#[derive(Clone, Copy, Debug, Default)]
+pub struct BlockCleaner;
+
+impl BlockCleaner {
+    /// Cleans a block: its first page becomes zeros. A clean that fails changes nothing but bytes of that page.
+    pub fn clean<D: Disk>(disk: &mut D, block: BlockId) -> Result<()>
+        ensures cleaned { D.is_known disk.old → OnOk result (IsCleaned (D.byte_at disk.old) block (D.byte_at disk.new)) }
+        ensures torn { D.is_known disk.old → OnErr result (IsTorn (D.byte_at disk.old) block 0 page (D.byte_at disk.new)) }
+        ensures fails { OnErr result (SurelyCame (D.surely_has disk.old) (D.surely_lies disk.old) (D.faults disk.old) (D.faults disk.new)
+            block 0 page → ⊥) }
+        ensures known { D.is_known disk.old → D.is_known disk.new }
+        ensures lies { (b o n : ℕ) → D.surely_lies disk.old b o n → D.surely_lies disk.new b o n }
+        ensures counted { D.faults disk.old ≤ D.faults disk.new }
+    {
+        let zeros = [0u8; PAGE];
+        disk.write(block, 0, &zeros)
+    }
 }
 
 /// Reclaims a block: begins where a reclaim may, reads each index of the picked block and each record that is to be
@@ -220,7 +228,7 @@ where
         Reply::Clean(_) => {}
         other => return other,
     }
-    let cleaned = clean_block(disk, block);
+    let cleaned = BlockCleaner::clean(disk, block);
     core.apply(
         env,
         Step::ReclaimCleaned {

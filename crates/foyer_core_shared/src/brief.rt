@@ -41,8 +41,8 @@ fn listed_in<A: Allocator>(verdicts: &Option<Vec<bool, A>>) -> Option<usize>
     }
 }
 
-/// A step, without the piece or the bytes that it brings. Sizes are in bytes, and an outcome is how many bytes were read, or the
-/// kind of the fault.
+/// A step, without the piece or the bytes that it brings. Each variant is the step of its name. Sizes are in bytes, and an outcome
+/// is how many bytes were read, or the kind of the fault.
 #[derive(Clone, Copy, Debug, PartialEq, Eq)]
 pub enum StepBrief {
     Enqueue {
@@ -109,7 +109,8 @@ pub enum StepBrief {
     Close,
 }
 
-/// A reply, without the pieces, pairs and lists that it has, but with how long these are. `HandedBack` is a `Received` with a
+/// A reply, without the pieces, pairs and lists that it has, but with how long these are. Each variant is the reply of its name;
+/// `HandedBack` is a `Received` with a
 /// piece; `listed` is how many entries of an index were judged.
 #[derive(Clone, Copy, Debug, PartialEq, Eq)]
 pub enum ReplyBrief {

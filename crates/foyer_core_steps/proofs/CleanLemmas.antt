@@ -36,8 +36,8 @@ new_sets = record {
   is_cleaning = false;
 }
 
-pub new_stands : (blocks flushers reclaimers clean_threshold : ℕ) → Stands (new_manager blocks flushers reclaimers clean_threshold) new_sets
-new_stands blocks flushers reclaimers clean_threshold = record {
+pub new_stands : (blocks block_size flushers reclaimers clean_threshold : ℕ) → Stands (new_manager blocks block_size flushers reclaimers clean_threshold) new_sets
+new_stands blocks block_size flushers reclaimers clean_threshold = record {
   blocks = λ b it is. subst (λ x. IsBlockAs x model_state.Evictable 0 model_state.no_stats) (replicate_at blocks b new_block it is)
       (record { block_set = refl; filling = refl; stats = refl });
   clean = refl;
@@ -65,7 +65,7 @@ placed_as m n clean size st = record {
 
 -- and so the model begins
 pub opened_manager : (s : Settings) (old new : Managed) (clean : List ℕ)
-    → old ≡ new_manager s.blocks s.flushers s.reclaimers s.clean_block_threshold → HasSameRules old new
+    → old ≡ new_manager s.blocks s.block_size s.flushers s.reclaimers s.clean_block_threshold → HasSameRules old new
     → ((sets : BlockSets) → Stands old sets → Stands new (with_clean sets clean)) → IsManagedAs s new (opened_sets s.blocks clean)
 opened_manager s old new clean made same cleans =
     let size : length new.blocks ≡ s.blocks = same.blocks ∙ ap (λ (m : Managed). length m.blocks) made ∙ replicate_count s.blocks new_block in
@@ -75,5 +75,5 @@ opened_manager s old new clean made same cleans =
       reclaimers = same.reclaimers ∙ ap (λ (m : Managed). m.reclaimers) made;
       clean_threshold = same.clean_threshold ∙ ap (λ (m : Managed). m.clean_threshold) made;
       sets = placed_as new s.blocks clean size
-          (cleans new_sets (subst (λ m. Stands m new_sets) (sym made) (new_stands s.blocks s.flushers s.reclaimers s.clean_block_threshold)));
+          (cleans new_sets (subst (λ m. Stands m new_sets) (sym made) (new_stands s.blocks s.block_size s.flushers s.reclaimers s.clean_block_threshold)));
     }

@@ -17,7 +17,7 @@ use foyer_block_index::tombstone::Tombstone;
 use foyer_block_manager::block::eviction::EvictionPicker;
 use foyer_block_manager::block::ids::IdSet;
 use foyer_core_flusher::clearing::{are_idle, clear_all};
-use foyer_core_flusher::flusher::{Submission, TombstoneInfo};
+use foyer_core_flusher::flusher::Submission;
 use foyer_device_page::error::{Error, ErrorKind, Result};
 use foyer_policy_filter::StorageFilterCondition;
 use std::alloc::Allocator;
@@ -117,10 +117,10 @@ impl<K, V, P, A: Allocator + Clone> Core<K, V, P, A> {
             return Reply::Refused(ErrorKind::Memory, Step::DestroyBegin);
         }
         let sequence = self.next;
-        queue.push_back_reserved(Submission::Tombstone(TombstoneInfo {
+        queue.push_back_reserved(Submission::Tombstone {
             tombstone: Tombstone { hash: 0, sequence },
             stats: None,
-        }));
+        });
         self.next = sequence + 1;
         self.destroy = Destroy::Begun;
         Reply::Destroying(sequence)

@@ -66,6 +66,7 @@ fn place_blocks<A: Allocator + Clone, E: EvictionPicker, C: StorageFilterConditi
         alloc,
         ManagerConfig {
             blocks: settings.blocks,
+            block_size: settings.block_size,
             flushers: settings.flushers,
             reclaimers: settings.reclaimers as usize,
             clean_threshold: settings.clean_block_threshold,

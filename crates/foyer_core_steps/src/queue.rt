@@ -59,7 +59,10 @@ impl<K, V, P, A: Allocator + Clone> Core<K, V, P, A> {
         queue.reserve(1)?;
         let sequence = self.next;
         let info = enter_mark(&mut self.index, hash, sequence)?;
-        queue.push_back_reserved(Submission::Tombstone(info));
+        queue.push_back_reserved(Submission::Tombstone {
+            tombstone: info.tombstone,
+            stats: info.stats,
+        });
         self.next = sequence + 1;
         Ok(sequence)
     }

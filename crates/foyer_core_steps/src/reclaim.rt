@@ -184,11 +184,13 @@ impl<K, V, P, A: Allocator + Clone> Core<K, V, P, A> {
             Ok(()) => {
                 let mut slice = bytes;
                 slice.truncate(entry.address.len as usize);
-                queue.push_back_reserved(Submission::Reinsertion(Reinsertion {
-                    hash: entry.hash,
-                    address: entry.address,
-                    slice,
-                }));
+                queue.push_back_reserved(Submission::Reinsertion {
+                    reinsertion: Reinsertion {
+                        hash: entry.hash,
+                        address: entry.address,
+                        slice,
+                    },
+                });
                 self.next_read(block, None)
             }
         }
@@ -256,8 +258,7 @@ impl<K, V, P, A: Allocator + Clone> Core<K, V, P, A> {
                 result: outcome,
             });
         }
-        reclaimer::end(&mut self.reclaims, block);
-        let _ = self.manager.on_reclaim_finish(block);
+        let _ = reclaimer::cleaned(&mut self.reclaims, &mut self.manager, block);
         Reply::Done
     }
 

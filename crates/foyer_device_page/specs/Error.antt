@@ -1,5 +1,5 @@
 -- Errors and their kinds.
-use Rattle.std.specs.Prelude.{◌≡◌}
+use Rattle.std.specs.Prelude.{◌≡◌, ℕ, List, codes}
 use Rattle.std.specs.IoError.{error_kind}
 use Rattle.std.specs.declared.io.Error.{Error as IoError}
 use Rattle.std.specs.declared.io.ErrorKind.TheVariants.{WriteZero}
@@ -22,6 +22,22 @@ kind_of error.Recover = kind.Recover
 kind_of error.Closed = kind.Closed
 kind_of error.Unsupported = kind.Unsupported
 kind_of error.SequenceEnd = kind.SequenceEnd
+
+-- the name of a kind
+abbrev pub kind_name : ErrorKind → List ℕ
+kind_name kind.Io = codes "Io"
+kind_name kind.Memory = codes "Memory"
+kind_name kind.Config = codes "Config"
+kind_name kind.Parse = codes "Parse"
+kind_name kind.MagicMismatch = codes "MagicMismatch"
+kind_name kind.ChecksumMismatch = codes "ChecksumMismatch"
+kind_name kind.OutOfRange = codes "OutOfRange"
+kind_name kind.BufferSizeLimit = codes "BufferSizeLimit"
+kind_name kind.NoSpace = codes "NoSpace"
+kind_name kind.Recover = codes "Recover"
+kind_name kind.Closed = codes "Closed"
+kind_name kind.Unsupported = codes "Unsupported"
+kind_name kind.SequenceEnd = codes "SequenceEnd"
 
 -- what a failed writer answers
 abbrev pub IsWriterFault : Error → Type 0

@@ -1,28 +1,72 @@
 //! What a call answers in place of its result.
-ghost use Rattle.std.specs.Prelude.{◌≡◌};
-ghost use Rattle.foyer_device_page.specs.Error.{kind_of, IsFaultOf};
+ghost use Rattle.std.specs.Prelude.{◌≡◌, Some};
+ghost use Rattle.foyer_device_page.specs.Error.{kind_name, kind_of, IsFaultOf};
 ghost use Rattle.foyer_device_page.specs.declared.error.Error.TheVariants.{Memory};
 
 use std::alloc::{AllocError, AllocFailed};
-use std::io;
+use std::{fmt, io};
 use thiserror::Error;
 
-/// The kind of an error, as the program names it.
+/// The kind of an error, as the program names it, and a number for it that stays. It prints as its name.
 #[derive(Clone, Copy, Debug, PartialEq, Eq)]
 pub enum ErrorKind {
-    Io,
-    Memory,
-    Config,
-    Parse,
-    MagicMismatch,
-    ChecksumMismatch,
-    OutOfRange,
-    BufferSizeLimit,
-    NoSpace,
-    Recover,
-    Closed,
-    Unsupported,
-    SequenceEnd,
+    /// As `Error::Io`.
+    Io = 1,
+    /// As `Error::Memory`.
+    Memory = 2,
+    /// As `Error::Config`.
+    Config = 3,
+    /// As `Error::Parse`.
+    Parse = 4,
+    /// As `Error::MagicMismatch`.
+    MagicMismatch = 5,
+    /// As `Error::ChecksumMismatch`.
+    ChecksumMismatch = 6,
+    /// As `Error::OutOfRange`.
+    OutOfRange = 7,
+    /// As `Error::BufferSizeLimit`.
+    BufferSizeLimit = 8,
+    /// As `Error::NoSpace`.
+    NoSpace = 9,
+    /// As `Error::Recover`.
+    Recover = 10,
+    /// As `Error::Closed`.
+    Closed = 11,
+    /// As `Error::Unsupported`.
+    Unsupported = 12,
+    /// As `Error::SequenceEnd`.
+    SequenceEnd = 13,
+}
+
+impl ErrorKind {
+    /// Its name.
+    pub fn name(&self) -> &'static str
+        ensures { result.now ≡ kind_name self.now }
+    {
+        match self {
+            ErrorKind::Io => "Io",
+            ErrorKind::Memory => "Memory",
+            ErrorKind::Config => "Config",
+            ErrorKind::Parse => "Parse",
+            ErrorKind::MagicMismatch => "MagicMismatch",
+            ErrorKind::ChecksumMismatch => "ChecksumMismatch",
+            ErrorKind::OutOfRange => "OutOfRange",
+            ErrorKind::BufferSizeLimit => "BufferSizeLimit",
+            ErrorKind::NoSpace => "NoSpace",
+            ErrorKind::Recover => "Recover",
+            ErrorKind::Closed => "Closed",
+            ErrorKind::Unsupported => "Unsupported",
+            ErrorKind::SequenceEnd => "SequenceEnd",
+        }
+    }
+}
+
+impl fmt::Display for ErrorKind {
+    ghost output = { λ k. Some (kind_name k) };
+
+    fn fmt<W: fmt::Write>(&self, f: &mut fmt::Formatter<W>) -> fmt::Result {
+        f.write_str(self.name())
+    }
 }
 
 /// What a call answers in place of its result. A refused call leaves its object as it was, unless it says otherwise.
@@ -61,7 +105,7 @@ pub enum Error {
     /// The engine takes no more entries or deletes.
     #[error("closed")]
     Closed,
-    /// A compression that this engine reads past and doesn't undo, or a part that isn't built.
+    /// A compression that this engine reads past and doesn't undo.
     #[error("not supported")]
     Unsupported,
     /// The last sequence, or the last step, was reached.

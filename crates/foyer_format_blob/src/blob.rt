@@ -35,7 +35,9 @@ const ENTRY_LEN: usize = 24;
 /// Where a record of a blob lies.
 #[derive(Debug, Clone, PartialEq, Eq, Drop)]
 pub struct BlobEntryIndex {
+    /// The hash of its key.
     pub hash: u64,
+    /// The sequence of the put.
     pub sequence: Sequence,
     /// In bytes, from the blob's start.
     pub offset: u32,

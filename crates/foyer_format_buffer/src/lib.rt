@@ -22,9 +22,13 @@ pub use split::{Batch, BlobPart, Block, SplitCtx, Splitter};
 /// Where a record stands in a buffer: its first byte, and its length without the padding.
 #[derive(Clone, Copy, Debug)]
 pub struct BufferEntryInfo {
+    /// The hash of its key.
     pub hash: u64,
+    /// The sequence of the put.
     pub sequence: Sequence,
+    /// Where it begins in the buffer, in bytes.
     pub offset: usize,
+    /// Its length in bytes, before it is rounded up to whole pages.
     pub len: usize,
 }
 

@@ -18,6 +18,7 @@ use std::marker::Model;
 pub struct BlobPart<A: Allocator> {
     /// Where the blob begins, in bytes from the block's start; the index is written there.
     pub blob_block_offset: usize,
+    /// The index of its blob, as it is to be written.
     pub index: IoSliceMut<A>,
     /// Where the data begin, in bytes from the blob's start.
     pub part_blob_offset: usize,

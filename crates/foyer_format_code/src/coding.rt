@@ -128,8 +128,12 @@ impl<W: Write> Sink for Lent<'_, W> {
     }
 }
 
-/// A key of the disk cache.
+/// A key of the disk cache. Each type that has these bounds is one.
 pub trait StorageKey<A: Allocator>: Code<A> + Hash + Eq + Send + Sync + 'static {}
 
-/// A value of the disk cache.
+impl<A: Allocator, T: Code<A> + Hash + Eq + Send + Sync + 'static> StorageKey<A> for T {}
+
+/// A value of the disk cache. Each type that has these bounds is one.
 pub trait StorageValue<A: Allocator>: Code<A> + Send + Sync + 'static {}
+
+impl<A: Allocator, T: Code<A> + Send + Sync + 'static> StorageValue<A> for T {}

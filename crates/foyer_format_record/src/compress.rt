@@ -9,8 +9,11 @@ use foyer_device_page::error::{Error, Result};
 /// How a record's value is compressed. Only `None` can be written and decoded.
 #[derive(Clone, Copy, Debug, PartialEq, Eq)]
 pub enum Compression {
+    /// Plain bytes.
     None,
+    /// Read, never written, and not undone.
     Zstd,
+    /// Read, never written, and not undone.
     Lz4,
 }
 

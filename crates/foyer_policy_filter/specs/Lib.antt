@@ -1,3 +1,4 @@
 pub mod BuiltIn
 pub mod Conditions
+pub mod Listed
 pub mod Verdict

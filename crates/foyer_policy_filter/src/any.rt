@@ -7,9 +7,13 @@ use foyer_device_statistics::IoState;
 /// One of the conditions of this crate, held by value.
 #[derive(Drop)]
 pub enum BuiltInCondition {
+    /// Admits each entry.
     AdmitAll(AdmitAll),
+    /// Rejects each entry.
     RejectAll(RejectAll),
+    /// Throttled with the device.
     IoThrottle(IoThrottle),
+    /// Admits entries of some sizes.
     EstimatedSize(EstimatedSize),
 }
 
@@ -31,7 +35,9 @@ impl StorageFilterCondition for BuiltInCondition {
 /// One of the conditions of this crate, or another one that the caller has boxed.
 #[derive(Drop)]
 pub enum AnyCondition {
+    /// One of this crate.
     BuiltIn(BuiltInCondition),
+    /// One of the caller's.
     Boxed(Box<dyn StorageFilterCondition + Send>),
 }
 

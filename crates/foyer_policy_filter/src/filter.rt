@@ -2,12 +2,15 @@
 ghost use Rattle.std.specs.Prelude.{◌≡◌, ℕ, List, [], ◌∷◌, ◌++◌, ◌+◌, min, Err, IfOk, OnErr};
 ghost use Rattle.std.specs.Duration.{as_nanos, max_nanos};
 ghost use Rattle.foyer_device_page.specs.declared.error.Error.TheVariants.{Memory};
+ghost use Rattle.foyer_policy_filter.specs.Listed.{listed};
 ghost use Rattle.foyer_policy_filter.specs.Verdict.{AreAnswers, IsVerdict};
 
 use crate::verdict::StorageFilterResult;
 use foyer_device_page::error::Result;
 use foyer_device_statistics::IoState;
 use std::alloc::Allocator;
+use std::fmt;
+use std::fmt::{Debug, Formatter};
 use std::marker::Model;
 use std::time::Duration;
 
@@ -28,35 +31,77 @@ pub trait StorageFilterCondition: Drop {
 /// Conditions that are asked one after the other. Contracts see them as a list.
 #[derive(Drop)]
 pub struct StorageFilter<C: StorageFilterCondition, A: Allocator> {
-    conditions: Vec<C, A>,
+    // None until the first condition comes, with an allocator.
+    conditions: Option<Vec<C, A>>,
 }
 
 impl<C: StorageFilterCondition, A: Allocator> Model for StorageFilter<C, A> {
     ghost use Rattle.std.specs.Prelude.{List};
+    ghost use Rattle.foyer_policy_filter.specs.Listed.{listed};
 
     ghost Value = { List C };
 
-    ghost view = { λ f. f.conditions.items };
+    ghost view = { λ f. listed f.conditions };
+}
+
+impl<C: StorageFilterCondition, A: Allocator> Default for StorageFilter<C, A> {
+    ghost use Rattle.std.specs.Prelude.{◌≡◌, []};
+
+    ghost is_default = { λ f. f ≡ [] };
+
+    /// No conditions: each entry is admitted. It doesn't allocate.
+    fn default() -> StorageFilter<C, A> {
+        StorageFilter { conditions: None }
+    }
+}
+
+/// The type's name.
+impl<C: StorageFilterCondition, A: Allocator> Debug for StorageFilter<C, A> {
+    fn fmt<W: fmt::Write>(&self, f: &mut Formatter<W>) -> fmt::Result {
+        f.write_str("StorageFilter")
+    }
+}
+
+// The list of conditions, or an empty one.
+fn list_of<C, A: Allocator>(alloc: A, conditions: Option<Vec<C, A>>) -> Vec<C, A>
+    ensures { result.items ≡ listed conditions }
+{
+    match conditions {
+        Some(list) => list,
+        None => Vec::new(alloc),
+    }
 }
 
 impl<C: StorageFilterCondition, A: Allocator> StorageFilter<C, A> {
-    /// No conditions: each entry is admitted.
-    pub fn new(alloc: A) -> StorageFilter<C, A>
+    /// No conditions: each entry is admitted. It doesn't allocate.
+    pub fn new() -> StorageFilter<C, A>
         ensures { result ≡ [] }
     {
-        StorageFilter {
-            conditions: Vec::new(alloc),
-        }
+        StorageFilter { conditions: None }
     }
 
-    /// With a condition that is asked after the others. Memory, and the filter is dropped.
-    pub fn with_condition(self, condition: C) -> Result<StorageFilter<C, A>>
+    /// With a condition that is asked after the others. The first one's list keeps the allocator. Memory, and the filter is
+    /// dropped.
+    pub fn with_condition(self, alloc: A, condition: C) -> Result<StorageFilter<C, A>>
         ensures added { IfOk result (λ f. f ≡ self ++ condition ∷ []) }
         ensures memory { OnErr result (result ≡ Err Memory) }
     {
-        let StorageFilter { mut conditions } = self;
-        conditions.push(condition)?;
-        Ok(StorageFilter { conditions })
+        let StorageFilter { conditions } = self;
+        let mut list = list_of(alloc, conditions);
+        list.push(condition)?;
+        Ok(StorageFilter {
+            conditions: Some(list),
+        })
+    }
+
+    // The conditions, in the order in which they are asked.
+    fn conditions(&self) -> &[C]
+        ensures { result.now ≡ self.now }
+    {
+        match &self.conditions {
+            Some(list) => list.as_slice(),
+            None => &[],
+        }
     }
 
     /// What the conditions say together of an entry of that hash and estimated size, in bytes.
@@ -66,7 +111,7 @@ impl<C: StorageFilterCondition, A: Allocator> StorageFilter<C, A> {
             × IsVerdict answers result }
     {
         let mut wait = Duration::ZERO;
-        for condition in &self.conditions {
+        for condition in self.conditions() {
             let answer = condition.filter(io, hash, size);
             match answer {
                 StorageFilterResult::Throttled(more) => wait = add_waits(wait, more),

@@ -4,7 +4,7 @@ use Rattle.std.specs.Char.{IsAsciiDigit}
 use Rattle.std.specs.Str.{IsUtf8}
 use Rattle.std.specs.Str.Parse.{IsNumeral, digits_value}
 use Rattle.foyer_device_page.specs.declared.error.ErrorKind.{ErrorKind}
-use Rattle.foyer_device_page.specs.declared.error.ErrorKind.TheVariants as kind
+use Rattle.foyer_device_page.specs.Error.{kind_name}
 use Rattle.foyer_serve.specs.declared.command.Command.{Command}
 use Rattle.foyer_serve.specs.declared.command.Command.TheVariants as command
 use Rattle.foyer_serve.specs.declared.engine.Answer.{Answer}
@@ -28,22 +28,6 @@ IsLine line (command.Delete key) = (digits : List ℕ) × IsNumber digits key ×
 IsLine line command.Wait = line ≡ codes "wait"
 IsLine line command.Destroy = line ≡ codes "destroy"
 IsLine line command.Close = line ≡ codes "close"
-
--- the name that a fault is printed with
-abbrev pub kind_name : ErrorKind → List ℕ
-kind_name kind.Io = codes "Io"
-kind_name kind.Memory = codes "Memory"
-kind_name kind.Config = codes "Config"
-kind_name kind.Parse = codes "Parse"
-kind_name kind.MagicMismatch = codes "MagicMismatch"
-kind_name kind.ChecksumMismatch = codes "ChecksumMismatch"
-kind_name kind.OutOfRange = codes "OutOfRange"
-kind_name kind.BufferSizeLimit = codes "BufferSizeLimit"
-kind_name kind.NoSpace = codes "NoSpace"
-kind_name kind.Recover = codes "Recover"
-kind_name kind.Closed = codes "Closed"
-kind_name kind.Unsupported = codes "Unsupported"
-kind_name kind.SequenceEnd = codes "SequenceEnd"
 
 -- a text and the line feed that ends it
 abbrev pub ended : List ℕ → List ℕ

@@ -1,7 +1,8 @@
 //! The lines that the program prints.
 ghost use Rattle.std.specs.Prelude.{◌≡◌, OnOk};
 ghost use Rattle.std.specs.Io.KnownBytes.{Appends};
-ghost use Rattle.foyer_serve.specs.Lines.{ended, fault_text, kind_name, text_of};
+ghost use Rattle.foyer_device_page.specs.Error.{kind_name};
+ghost use Rattle.foyer_serve.specs.Lines.{ended, fault_text, text_of};
 
 use crate::engine::Answer;
 use foyer_device_page::error::ErrorKind;
@@ -13,21 +14,7 @@ use std::io::Write;
 pub fn name_of(kind: ErrorKind) -> &'static str
     ensures { result.now ≡ kind_name kind }
 {
-    match kind {
-        ErrorKind::Io => "Io",
-        ErrorKind::Memory => "Memory",
-        ErrorKind::Config => "Config",
-        ErrorKind::Parse => "Parse",
-        ErrorKind::MagicMismatch => "MagicMismatch",
-        ErrorKind::ChecksumMismatch => "ChecksumMismatch",
-        ErrorKind::OutOfRange => "OutOfRange",
-        ErrorKind::BufferSizeLimit => "BufferSizeLimit",
-        ErrorKind::NoSpace => "NoSpace",
-        ErrorKind::Recover => "Recover",
-        ErrorKind::Closed => "Closed",
-        ErrorKind::Unsupported => "Unsupported",
-        ErrorKind::SequenceEnd => "SequenceEnd",
-    }
+    kind.name()
 }
 
 /// Prints `fault` and the kind's name.

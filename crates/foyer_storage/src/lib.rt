@@ -2,7 +2,8 @@
 //!
 //! A door: it passes on what the six doors below it have, the store of `foyer_storage_store` with its engine, and the sizes of
 //! `foyer_storage_plan`; it has no code of its own.
-//! Types with one name in two modules stand here once: `Batch` is the buffer's, `Sequence` the one of `block::serde`. A user who
+//! Types with one name in two modules stand here once: `Batch` is the buffer's, `Block` the manager's, `Sequence` the one of
+//! `block::serde`. A user who
 //! cites definitions lists the crate that has them too.
 #![tactic(auto)]
 
@@ -37,14 +38,18 @@ pub use crate::block::indexer::Index;
 pub use crate::block::indexer::Indexer;
 pub use crate::block::indexer::Probe;
 pub use crate::block::indexer::search;
+pub use crate::block::manager::Block;
 pub use crate::block::manager::BlockId;
 pub use crate::block::manager::BlockManager;
 pub use crate::block::manager::BlockSet;
 pub use crate::block::manager::BlockState;
 pub use crate::block::manager::BlockStatistics;
+pub use crate::block::manager::GetCleanBlockHandle;
 pub use crate::block::manager::ManagerConfig;
 pub use crate::block::manager::ReclaimingBlock;
+pub use crate::block::reclaimer::BlockCleaner;
 pub use crate::block::reclaimer::Reclaimer;
+pub use crate::block::reclaimer::ReclaimerTrait;
 pub use crate::block::recover::Gate;
 pub use crate::block::recover::OpenGate;
 pub use crate::block::recover::Point;

@@ -24,7 +24,7 @@ use foyer_block_index::manager::BlockId;
 use foyer_block_manager::block::eviction::EvictionPicker;
 use foyer_block_recover::gate::{Gate, Point};
 use foyer_core_run::disk::do_read;
-use foyer_core_run::reclaims::clean_block;
+use foyer_core_run::reclaims::BlockCleaner;
 use foyer_core_shared::notes::Noting;
 use foyer_core_shared::session::Session;
 use foyer_core_shared::shared::Shared;
@@ -95,7 +95,7 @@ impl<D: Disk + Drop, A: Allocator + Clone> Reader<D, A> {
         ensures lies { (b o n : ℕ) → D.surely_lies self.old.disk b o n → D.surely_lies self.new.disk b o n }
         ensures counted { D.faults self.old.disk ≤ D.faults self.new.disk }
     {
-        clean_block(&mut self.disk, block)
+        BlockCleaner::clean(&mut self.disk, block)
     }
 }
 

@@ -5,3 +5,4 @@ mod errors;
 mod formats;
 mod hashes;
 mod indices;
+mod keys;

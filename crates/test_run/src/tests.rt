@@ -5,6 +5,7 @@ mod filled;
 mod flushers;
 mod random;
 mod reader;
+mod reclaimers;
 mod refusals;
 mod replies;
 mod runs;

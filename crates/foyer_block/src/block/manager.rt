@@ -1,4 +1,5 @@
 //! Blocks: clean, being written, evictable or being reclaimed.
 pub use foyer_block_manager::block::manager::{
-    BlockId, BlockManager, BlockSet, BlockState, BlockStatistics, ManagerConfig, ReclaimingBlock,
+    Block, BlockId, BlockManager, BlockSet, BlockState, BlockStatistics, GetCleanBlockHandle,
+    ManagerConfig, ReclaimingBlock,
 };

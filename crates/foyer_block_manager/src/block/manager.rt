@@ -6,14 +6,14 @@ ghost use Rattle.foyer_core_model.specs.Ids.{is_id_in, with_id, without_id};
 ghost use Rattle.std.specs.VecDeque.{deque_capacity};
 ghost use Rattle.foyer_core_model.specs.Numbers.{put, last_number};
 ghost use Rattle.foyer_block_manager.specs.Drawing.{IsDrawn};
-ghost use Rattle.foyer_block_manager.specs.Managed.{filling_in, is_writing, is_reclaiming, IsFirstUsable, IsTaken};
+ghost use Rattle.foyer_block_manager.specs.Managed.{filling_in, is_writing, is_reclaiming, statistics_of, IsFirstUsable, IsTaken};
 ghost use Rattle.foyer_block_manager.specs.Picks.{with_mark_at, with_marks, allows};
 
 use crate::block::eviction::{
     EvictionInfo, EvictionPicker, choose, consult, show_evict, show_evictable,
 };
 use crate::block::ids::IdSet;
-pub use crate::block::states::{BlockSet, BlockState, BlockStatistics};
+pub use crate::block::states::{Block, BlockSet, BlockState, BlockStatistics, GetCleanBlockHandle};
 pub use foyer_block_index::manager::BlockId;
 use foyer_device_page::error::Result;
 use rand_core::Rng;
@@ -42,6 +42,7 @@ pub struct BlockManager<A: Allocator> {
     ready: Vec<Option<BlockId>, A>,
     reclaimers: usize,
     clean_threshold: usize,
+    block_size: usize,
     is_cleaning: bool,
 }
 
@@ -60,6 +61,7 @@ impl<A: Allocator> Model for BlockManager<A> {
       ready = m.ready.items;
       reclaimers = m.reclaimers;
       clean_threshold = m.clean_threshold;
+      block_size = m.block_size;
       is_cleaning = m.is_cleaning;
     } };
 
@@ -92,6 +94,16 @@ fn filling_of<A: Allocator>(blocks: &Vec<BlockState, A>, block: BlockId) -> u64
     match blocks.get(block as usize) {
         Some(state) => state.filling,
         None => u64::MAX,
+    }
+}
+
+// What pickers know of a block; of one that isn't there nothing.
+fn statistics_of<A: Allocator>(blocks: &Vec<BlockState, A>, block: BlockId) -> BlockStatistics
+    ensures { result ≡ statistics_of (slice_get blocks.now.items block) }
+{
+    match blocks.get(block as usize) {
+        Some(state) => state.statistics,
+        None => NO_STATISTICS,
     }
 }
 
@@ -226,8 +238,11 @@ fn end_to_wait<A: Allocator>(waiting: &mut Vec<u32, A>, flusher: u32)
 /// what they put on probation.
 #[derive(Drop)]
 pub struct ReclaimingBlock<A: Allocator> {
+    /// The block that is reclaimed.
     pub block: BlockId,
+    /// What the pickers answered, as far as they were asked.
     pub answers: Vec<Option<BlockId>, A>,
+    /// The blocks that they put on probation.
     pub probation: Vec<BlockId, A>,
 }
 
@@ -275,7 +290,8 @@ impl<A: Allocator> BlockManager<A> {
     ghost use Rattle.foyer_core_model.specs.State as model_state;
     ghost use Rattle.foyer_block_manager.specs.Picks.{usable_in};
     ghost use Rattle.foyer_block_manager.specs.Shown.{AreShown};
-    ghost use Rattle.foyer_block_manager.specs.Managed.{IsWritten, IsReclaimed, is_evictable};
+    ghost use Rattle.foyer_block_manager.specs.Managed.{block_of, IsWritten, IsReclaimed, is_evictable};
+    ghost use Rattle.std.specs.Option.{option_map};
     ghost use Rattle.foyer_block_manager.specs.BlockSets.{BlockSets, Stands, HasSameRules, HandsOut, HasFinished, after_writing, reclaim_count, MayReclaim};
 
     /// How many blocks there are.
@@ -286,12 +302,23 @@ impl<A: Allocator> BlockManager<A> {
         self.blocks.len()
     }
 
-    /// What is known of a block.
-    pub fn block(&self, id: BlockId) -> &BlockState
-        requires { id < length self.now.blocks }
-        ensures { slice_get self.now.blocks id ≡ Some result.now }
+    // The block of this id, with the statistics of a clean one if it isn't there.
+    fn block_of(&self, id: BlockId) -> Block
+        ensures { result ≡ block_of self.now id }
     {
-        &self.blocks[id as usize]
+        Block {
+            id,
+            size: self.block_size,
+            statistics: statistics_of(&self.blocks, id),
+        }
+    }
+
+    /// The block of this id.
+    pub fn block(&self, id: BlockId) -> Block
+        requires { id < length self.now.blocks }
+        ensures { result ≡ block_of self.now id }
+    {
+        self.block_of(id)
     }
 
     /// What is known of a block, if it is there.
@@ -324,15 +351,16 @@ impl<A: Allocator> BlockManager<A> {
 
     /// A flusher asks for a block: it gets the one that it was given while it waited, else the one that has been clean
     /// longest, in a new filling. With none it waits.
-    pub fn get_clean_block(&mut self, flusher: u32) -> Option<BlockId>
+    pub fn get_clean_block(&mut self, flusher: u32) -> GetCleanBlockHandle
         requires { flusher < length self.old.ready }
         ensures same { HasSameRules self.old self.new }
-        ensures handed { (s : BlockSets) → Stands self.old s → HandsOut s flusher result self.new }
+        ensures handed { (s : BlockSets) → Stands self.old s → HandsOut s flusher (option_map (λ b. b.id) result) self.new }
+        ensures described { IfSome result (λ b. b ≡ block_of self.new b.id) }
     {
         if let Some(block) = self.ready[flusher as usize] {
             self.ready[flusher as usize] = None;
             end_to_wait(&mut self.waiting, flusher);
-            return Some(block);
+            return Some(self.block_of(block));
         }
         let Some(index) = next_clean(&self.clean, &self.blocks, self.is_cleaning) else {
             begin_to_wait(&mut self.waiting, flusher);
@@ -341,7 +369,7 @@ impl<A: Allocator> BlockManager<A> {
         let block = hand_out(&mut self.clean, &mut self.blocks, index, flusher);
         self.usable -= 1;
         end_to_wait(&mut self.waiting, flusher);
-        Some(block)
+        Some(self.block_of(block))
     }
 
     /// A flusher is done with its block, which may be reclaimed from now on; the pickers learn of it.

@@ -12,8 +12,11 @@ use std::alloc::Global;
 /// One of the pickers of this crate, held by value, or another one that the caller has boxed.
 #[derive(Drop)]
 pub enum AnyPicker {
+    /// The picker by invalid bytes.
     InvalidRatio(InvalidRatioPicker),
+    /// The picker by age.
     Fifo(FifoPicker),
+    /// A picker of the caller's.
     Boxed(Box<dyn EvictionPicker + Send>),
 }
 
@@ -79,7 +82,9 @@ impl EvictionPicker for AnyPicker {
 /// One of the pickers of this crate, held by value.
 #[derive(Drop)]
 pub enum BuiltInPicker {
+    /// The picker by invalid bytes.
     InvalidRatio(InvalidRatioPicker),
+    /// The picker by age.
     Fifo(FifoPicker),
 }
 

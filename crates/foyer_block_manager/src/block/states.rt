@@ -1,4 +1,7 @@
 //! What is known of a block.
+ghost use Rattle.std.specs.Prelude.{◌≡◌};
+
+use foyer_block_index::manager::BlockId;
 
 /// Which of the four sets a block is in.
 #[derive(Clone, Copy, Debug, PartialEq, Eq)]
@@ -27,8 +30,44 @@ pub struct BlockStatistics {
 /// What is known of a block.
 #[derive(Clone, Copy, Debug, PartialEq, Eq)]
 pub struct BlockState {
+    /// The set that it is in.
     pub block_set: BlockSet,
     /// How often it was handed out or destroyed.
     pub filling: u64,
+    /// What pickers know of it.
     pub statistics: BlockStatistics,
 }
+
+/// A block, as the manager tells of it: what is known of it at that moment.
+#[derive(Debug, Drop)]
+pub struct Block {
+    pub(crate) id: BlockId,
+    pub(crate) size: usize,
+    pub(crate) statistics: BlockStatistics,
+}
+
+impl Block {
+    /// Its number.
+    pub fn id(&self) -> BlockId
+        ensures { result ≡ self.now.id }
+    {
+        self.id
+    }
+
+    /// Its size in bytes.
+    pub fn size(&self) -> usize
+        ensures { result ≡ self.now.size }
+    {
+        self.size
+    }
+
+    /// What pickers knew of it when it was given.
+    pub fn statistics(&self) -> &BlockStatistics
+        ensures { result.now ≡ self.now.statistics }
+    {
+        &self.statistics
+    }
+}
+
+/// The answer to a flusher that asks for a block: one, or none yet.
+pub type GetCleanBlockHandle = Option<Block>;

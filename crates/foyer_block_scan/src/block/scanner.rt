@@ -17,7 +17,9 @@ use std::marker::Model;
 /// An entry that a block lists: its hash, and where its record stands in the block.
 #[derive(Clone, Copy, Debug, PartialEq, Eq)]
 pub struct EntryInfo {
+    /// The hash of its key.
     pub hash: u64,
+    /// Where its record is.
     pub addr: EntryAddress,
 }
 

@@ -5,7 +5,7 @@ ghost use Rattle.foyer_core_run.specs.Running.{Moves};
 
 use super::Asked;
 use super::kept::{Kept, get_due, is_clean_due, note_ticket, set_due};
-use crate::reclaims::{clean_block, next_part, read_bytes};
+use crate::reclaims::{BlockCleaner, next_part, read_bytes};
 use foyer_block_index::manager::BlockId;
 use foyer_block_manager::block::eviction::EvictionPicker;
 use foyer_core_steps::apply::Env;
@@ -87,7 +87,7 @@ where
     if !is_clean_due(kept.cleans.as_slice(), block as usize) {
         return;
     }
-    let cleaned = clean_block(disk, block);
+    let cleaned = BlockCleaner::clean(disk, block);
     set_due(&mut kept.cleans, block as usize, false);
     let reply = core.apply(
         env,
@@ -129,7 +129,7 @@ where
     if !is_clean_due(kept.cleans.as_slice(), block as usize) {
         return;
     }
-    let outcome = clean_block(disk, block);
+    let outcome = BlockCleaner::clean(disk, block);
     set_due(&mut kept.cleans, block as usize, false);
     let reply = core.apply(
         env,

@@ -6,10 +6,13 @@ ghost use Rattle.std.specs.Option.{option_map};
 ghost use Rattle.std.specs.VecDeque.{deque_len, deque_capacity};
 ghost use Rattle.foyer_device_page.specs.declared.error.Error.TheVariants.{Memory};
 ghost use Rattle.foyer_block_index.specs.Removal.{without_addresses};
+ghost use Rattle.foyer_block_manager.specs.BlockSets.{BlockSets, HasFinished, HasSameRules, Stands};
+ghost use Rattle.foyer_block_manager.specs.Managed.{IsReclaimed};
 ghost use Rattle.foyer_core_steps.specs.Reclaiming.{reclaiming, reclaim_at, ChangesReclaim, KeepsReclaim, first_reclaim, wanted_of, is_all_listed, awaited, may_forget, may_clean, hashed_of, after_index, index_infos, chosen, is_entry_among, left_in, after_record, after_fault, after_forget, requeue_count, verdict_list, IsVerdictOn, HasVerdicts, IsReread};
 
 use foyer_block_index::indexer::{HashedEntryAddress, Indexer};
 use foyer_block_index::manager::BlockId;
+use foyer_block_manager::block::manager::BlockManager;
 use foyer_block_scan::block::scanner::{BlockScanner, EntryInfo};
 use foyer_device_page::error::Result;
 use foyer_device_statistics::IoState;
@@ -273,6 +276,70 @@ impl<A: Allocator + Clone> Reclaimer<A> {
         index.remove_batch(&self.lists.listed);
         self.is_forgotten = true;
     }
+
+    /// The block's clean has come, whether it failed or not: the reclaim is over. The block goes to the flusher that began
+    /// to wait last, in a new filling, and that flusher is answered; else it is clean. It doesn't allocate.
+    pub fn cleaned(self, manager: &mut BlockManager<A>, block: BlockId) -> Option<u32>
+        requires { IsReclaimed manager.old block }
+        ensures same { HasSameRules manager.old manager.new }
+        ensures finished { (s : BlockSets) → Stands manager.old s → HasFinished s block result manager.new }
+    {
+        manager.on_reclaim_finish(block)
+    }
+}
+
+/// The calls by which the reclaim of a block goes on.
+pub trait ReclaimerTrait<A: Allocator + Clone> {
+    ghost use Rattle.foyer_core_steps.specs.Reclaiming.{Reclaiming};
+
+    // What the reclaim has.
+    ghost state: { Self → Reclaiming };
+
+    /// As `Reclaimer::read`.
+    fn read<C: StorageFilterCondition>(
+        &mut self,
+        alloc: &A,
+        bytes: &[u8],
+        filter: &Option<StorageFilter<C, Global>>,
+        io: &IoState,
+    ) -> Result<Option<Vec<bool, A>>>
+        ensures read { IfOk result (λ v. state self.new ≡ after_index bytes.now (verdict_list v) (state self.old)) }
+        ensures verdicts { IfOk result (λ v. IsReread C.may_answer filter.now io.now (index_infos bytes.now (state self.old)) (verdict_list v)) }
+        ensures unchanged { OnErr result (state self.new ≡ state self.old) }
+        ensures refused { IsOkUnless result Memory };
+
+    /// As `Reclaimer::forget`.
+    fn forget(&mut self, index: &mut Indexer<A>)
+        ensures index { index.new.slots ≡ without_addresses index.old.slots (left_in (state self.old).requeued (state self.old).listed) }
+        ensures forgotten { state self.new ≡ after_forget (state self.old) };
+
+    /// As `Reclaimer::cleaned`.
+    fn cleaned(self, manager: &mut BlockManager<A>, block: BlockId) -> Option<u32>
+        requires { IsReclaimed manager.old block }
+        ensures same { HasSameRules manager.old manager.new }
+        ensures finished { (s : BlockSets) → Stands manager.old s → HasFinished s block result manager.new };
+}
+
+impl<A: Allocator + Clone> ReclaimerTrait<A> for Reclaimer<A> {
+    ghost state = { reclaiming };
+
+    fn read<C: StorageFilterCondition>(
+        &mut self,
+        alloc: &A,
+        bytes: &[u8],
+        filter: &Option<StorageFilter<C, Global>>,
+        io: &IoState,
+    ) -> Result<Option<Vec<bool, A>>> {
+        Reclaimer::read(self, alloc, bytes, filter, io)
+    }
+
+    fn forget(&mut self, index: &mut Indexer<A>) {
+        Reclaimer::forget(self, index);
+    }
+
+    fn cleaned(self, manager: &mut BlockManager<A>, block: BlockId) -> Option<u32> {
+        Reclaimer::cleaned(self, manager, block)
+    }
 }
 
 // What the reclaim of a block reads next, if one runs and not all is listed and read.
@@ -389,9 +456,20 @@ pub(crate) fn forget<A: Allocator + Clone>(
     }
 }
 
-// The reclaim of a block ends.
-pub(crate) fn end<A: Allocator + Clone>(reclaims: &mut Reclaims<A>, block: BlockId)
-    ensures { ChangesReclaim reclaims.old reclaims.new block None }
+// The reclaim of a block, which was forgotten, ends.
+pub(crate) fn cleaned<A: Allocator + Clone>(
+    reclaims: &mut Reclaims<A>,
+    manager: &mut BlockManager<A>,
+    block: BlockId,
+) -> Option<u32>
+    requires forgotten { may_clean (reclaim_at reclaims.old block) ≡ true }
+    requires reclaimed { IsReclaimed manager.old block }
+    ensures ended { ChangesReclaim reclaims.old reclaims.new block None }
+    ensures same { HasSameRules manager.old manager.new }
+    ensures finished { (s : BlockSets) → Stands manager.old s → HasFinished s block result manager.new }
 {
-    let _ = reclaims.remove(&block);
+    let Some(reclaimer) = reclaims.remove(&block) else {
+        unreachable!()
+    };
+    reclaimer.cleaned(manager, block)
 }

@@ -3,7 +3,7 @@ ghost use Rattle.std.specs.Prelude.{◌≡◌, ◌^◌, nat_lt, drop, length, tr
 ghost use Rattle.foyer_format_code.specs.Codes.{counted, is_counted, is_sized_text, is_counted_text, bytes_read, text_read};
 ghost use Rattle.foyer_format_code.specs.CodeLaws.{one_list, bytes_encoded, bytes_coded, text_encoded, text_coded};
 
-use crate::coding::{Code, StorageKey, StorageValue};
+use crate::coding::Code;
 use crate::sinks::Sink;
 use foyer_device_page::error::{Error, Result};
 use std::alloc::{Allocator, Global};
@@ -64,10 +64,6 @@ impl<A: Allocator> Code<A> for Vec<u8, A> {
     ghost coded = { λ v. bytes_coded v.items };
 }
 
-impl<A: Allocator + Send + Sync + 'static> StorageKey<A> for Vec<u8, A> {}
-
-impl<A: Allocator + Send + Sync + 'static> StorageValue<A> for Vec<u8, A> {}
-
 impl<A: Allocator> Code<A> for String<A> {
     ghost encoding = { λ s. counted (string_bytes s) };
 
@@ -108,10 +104,6 @@ impl<A: Allocator> Code<A> for String<A> {
 
     ghost coded = { λ s. text_coded (string_bytes s) };
 }
-
-impl<A: Allocator + Send + Sync + 'static> StorageKey<A> for String<A> {}
-
-impl<A: Allocator + Send + Sync + 'static> StorageValue<A> for String<A> {}
 
 /// Bytes are what their encoding reads as.
 #[tactic(auto, using(crate::proofs::CodeLemmas::bytes_read_back))]

@@ -3,7 +3,7 @@ ghost use Rattle.std.specs.Prelude.{◌≡◌, Bool, Some, true, refl};
 ghost use Rattle.foyer_format_code.specs.Codes.{flag_bytes, is_flag, flag_read};
 ghost use Rattle.foyer_format_code.specs.FlagLaws.{one_flag, flag_encoded};
 
-use crate::coding::{Code, StorageKey, StorageValue};
+use crate::coding::Code;
 use crate::sinks::Sink;
 use foyer_device_page::error::{Error, Result};
 use std::alloc::{Allocator, Global};
@@ -42,10 +42,6 @@ impl<A: Allocator> Code<A> for bool {
 
     ghost coded = { λ _ _. refl };
 }
-
-impl<A: Allocator> StorageKey<A> for bool {}
-
-impl<A: Allocator> StorageValue<A> for bool {}
 
 /// Each flag is what its encoding reads as.
 #[tactic(auto, using(crate::proofs::CodeLemmas::flag_read_back))]

@@ -6,7 +6,7 @@ ghost use Rattle.foyer_format_code.specs.Codes.{int_fits, int_bytes, is_number, 
 ghost use Rattle.foyer_format_code.specs.IntLaws.{one_int, int_encoded, int_coded};
 
 use super::exactly;
-use crate::coding::{Code, StorageKey, StorageValue};
+use crate::coding::Code;
 use crate::sinks::Sink;
 use foyer_device_page::error::Result;
 use std::alloc::{Allocator, Global};
@@ -41,10 +41,6 @@ impl<A: Allocator> Code<A> for i8 {
 
     ghost coded = { int_coded w8 };
 }
-
-impl<A: Allocator> StorageKey<A> for i8 {}
-
-impl<A: Allocator> StorageValue<A> for i8 {}
 
 /// Each number of 8 bits with a sign is what its encoding reads as.
 #[tactic(auto, using(crate::proofs::CodeLemmas::int_read_back_8))]
@@ -84,10 +80,6 @@ impl<A: Allocator> Code<A> for i16 {
     ghost coded = { int_coded w16 };
 }
 
-impl<A: Allocator> StorageKey<A> for i16 {}
-
-impl<A: Allocator> StorageValue<A> for i16 {}
-
 /// Each number of 16 bits with a sign is what its encoding reads as.
 #[tactic(auto, using(crate::proofs::CodeLemmas::int_read_back_16))]
 pub fn i16_read_back()
@@ -125,10 +117,6 @@ impl<A: Allocator> Code<A> for i32 {
 
     ghost coded = { int_coded w32 };
 }
-
-impl<A: Allocator> StorageKey<A> for i32 {}
-
-impl<A: Allocator> StorageValue<A> for i32 {}
 
 /// Each number of 32 bits with a sign is what its encoding reads as.
 #[tactic(auto, using(crate::proofs::CodeLemmas::int_read_back_32))]
@@ -168,10 +156,6 @@ impl<A: Allocator> Code<A> for i64 {
     ghost coded = { int_coded w64 };
 }
 
-impl<A: Allocator> StorageKey<A> for i64 {}
-
-impl<A: Allocator> StorageValue<A> for i64 {}
-
 /// Each number of 64 bits with a sign is what its encoding reads as.
 #[tactic(auto, using(crate::proofs::CodeLemmas::int_read_back_64))]
 pub fn i64_read_back()
@@ -210,10 +194,6 @@ impl<A: Allocator> Code<A> for i128 {
     ghost coded = { int_coded w128 };
 }
 
-impl<A: Allocator> StorageKey<A> for i128 {}
-
-impl<A: Allocator> StorageValue<A> for i128 {}
-
 /// Each number of 128 bits with a sign is what its encoding reads as.
 #[tactic(auto, using(crate::proofs::CodeLemmas::int_read_back_128))]
 pub fn i128_read_back()
@@ -251,10 +231,6 @@ impl<A: Allocator> Code<A> for isize {
 
     ghost coded = { int_coded w64 };
 }
-
-impl<A: Allocator> StorageKey<A> for isize {}
-
-impl<A: Allocator> StorageValue<A> for isize {}
 
 /// Each number of an `isize` is what its encoding reads as.
 #[tactic(auto, using(crate::proofs::CodeLemmas::int_read_back_64))]

@@ -5,7 +5,7 @@ ghost use Rattle.foyer_format_code.specs.Codes.{number_bytes, is_number, number_
 ghost use Rattle.foyer_format_code.specs.CodeLaws.{one_number, number_encoded, number_coded};
 
 use super::exactly;
-use crate::coding::{Code, StorageKey, StorageValue};
+use crate::coding::Code;
 use crate::sinks::Sink;
 use foyer_device_page::error::Result;
 use std::alloc::{Allocator, Global};
@@ -40,10 +40,6 @@ impl<A: Allocator> Code<A> for u8 {
 
     ghost coded = { number_coded w8 };
 }
-
-impl<A: Allocator> StorageKey<A> for u8 {}
-
-impl<A: Allocator> StorageValue<A> for u8 {}
 
 /// Each number of 8 bits is what its encoding reads as.
 #[tactic(auto, using(crate::proofs::CodeLemmas::number_read_back_8))]
@@ -83,10 +79,6 @@ impl<A: Allocator> Code<A> for u16 {
     ghost coded = { number_coded w16 };
 }
 
-impl<A: Allocator> StorageKey<A> for u16 {}
-
-impl<A: Allocator> StorageValue<A> for u16 {}
-
 /// Each number of 16 bits is what its encoding reads as.
 #[tactic(auto, using(crate::proofs::CodeLemmas::number_read_back_16))]
 pub fn u16_read_back()
@@ -124,10 +116,6 @@ impl<A: Allocator> Code<A> for u32 {
 
     ghost coded = { number_coded w32 };
 }
-
-impl<A: Allocator> StorageKey<A> for u32 {}
-
-impl<A: Allocator> StorageValue<A> for u32 {}
 
 /// Each number of 32 bits is what its encoding reads as.
 #[tactic(auto, using(crate::proofs::CodeLemmas::number_read_back_32))]
@@ -167,10 +155,6 @@ impl<A: Allocator> Code<A> for u64 {
     ghost coded = { number_coded w64 };
 }
 
-impl<A: Allocator> StorageKey<A> for u64 {}
-
-impl<A: Allocator> StorageValue<A> for u64 {}
-
 /// Each number of 64 bits is what its encoding reads as.
 #[tactic(auto, using(crate::proofs::CodeLemmas::number_read_back_64))]
 pub fn u64_read_back()
@@ -209,10 +193,6 @@ impl<A: Allocator> Code<A> for u128 {
     ghost coded = { number_coded w128 };
 }
 
-impl<A: Allocator> StorageKey<A> for u128 {}
-
-impl<A: Allocator> StorageValue<A> for u128 {}
-
 /// Each number of 128 bits is what its encoding reads as.
 #[tactic(auto, using(crate::proofs::CodeLemmas::number_read_back_128))]
 pub fn u128_read_back()
@@ -250,10 +230,6 @@ impl<A: Allocator> Code<A> for usize {
 
     ghost coded = { number_coded w64 };
 }
-
-impl<A: Allocator> StorageKey<A> for usize {}
-
-impl<A: Allocator> StorageValue<A> for usize {}
 
 /// Each number of a `usize` is what its encoding reads as.
 #[tactic(auto, using(crate::proofs::CodeLemmas::number_read_back_64))]

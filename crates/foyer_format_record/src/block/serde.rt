@@ -29,11 +29,17 @@ const HEADER_LEN: usize = 36;
 /// both.
 #[derive(Debug, PartialEq, Eq, Drop)]
 pub struct EntryHeader {
+    /// The length of the encoded key in bytes.
     pub key_len: u32,
+    /// The length of the encoded value in bytes.
     pub value_len: u32,
+    /// The hash of the key.
     pub hash: u64,
+    /// The sequence of the put.
     pub sequence: Sequence,
+    /// The checksum of the encoded value and key.
     pub checksum: u64,
+    /// How the value is compressed.
     pub compression: Compression,
 }
 

@@ -17,7 +17,9 @@ use std::alloc::Allocator;
 /// How many bytes a key and a value took.
 #[derive(Debug, Drop)]
 pub struct KvInfo {
+    /// The length of the encoded key in bytes.
     pub key_len: usize,
+    /// The length of the encoded value in bytes.
     pub value_len: usize,
 }
 
@@ -27,7 +29,7 @@ pub struct EntrySerializer;
 impl EntrySerializer {
     /// Writes the value and then the key. Unsupported for another compression than `None`; else
     /// BufferSizeLimit where room is missing, Io where the writer failed, or a code's own error.
-    /// After an `Err` some of the bytes may have been written.
+    /// After an `Err` some of the bytes may have been written. Any other `Write` goes in by a `TrackedWriter`.
     #[tactic(auto, using(foyer_format_code::proofs::WritingLemmas::two_writes))]
     pub fn serialize<A: Allocator, K: Code<A>, V: Code<A>, W: Sink>(
         key: &K,

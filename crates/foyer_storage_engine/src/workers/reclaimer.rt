@@ -10,7 +10,7 @@ use crate::hand::Hand;
 use foyer_block_index::manager::BlockId;
 use foyer_block_manager::block::eviction::EvictionPicker;
 use foyer_block_recover::gate::{Gate, Point};
-use foyer_core_run::reclaims::{Part, clean_block, next_part, read_bytes};
+use foyer_core_run::reclaims::{BlockCleaner, Part, next_part, read_bytes};
 use foyer_core_shared::notes::Noting;
 use foyer_core_shared::session::Session;
 use foyer_core_steps::apply::no_io;
@@ -134,7 +134,7 @@ where
     ensures reports { O.is_known disk.old → ReportsClean block (O.byte_at disk.old) (O.byte_at disk.new)
         (SurelyCame (O.surely_has disk.old) (O.surely_lies disk.old) (O.faults disk.old) (O.faults disk.new) block 0 page) session.new }
 {
-    let result = clean_block(disk, block);
+    let result = BlockCleaner::clean(disk, block);
     let cleaned = Step::ReclaimCleaned { block, result };
     let _ = engine.step_again(rt, session, no_io(), cleaned);
 }

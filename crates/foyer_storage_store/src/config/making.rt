@@ -34,7 +34,7 @@ fn env_of<E: EvictionPicker, C: StorageFilterCondition>(
 ) -> Env<E, C>
     ensures { (result.pickers ≡ pickers) × (result.reinsertion ≡ reinsertion) }
 {
-    let mut env = Env::new(alloc, pickers, seed).with_reinsertion(StorageFilter::new(alloc));
+    let mut env = Env::new(alloc, pickers, seed).with_reinsertion(StorageFilter::new());
     let _ = env.replace_reinsertion(reinsertion);
     env
 }

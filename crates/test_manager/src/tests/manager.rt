@@ -1,7 +1,7 @@
 //! Blocks on their way through the sets.
 use foyer_block_manager::block::eviction::{AnyPicker, EvictionPicker, FifoPicker};
 use foyer_block_manager::block::manager::{
-    BlockId, BlockManager, BlockSet, BlockState, ManagerConfig,
+    BlockId, BlockManager, BlockSet, BlockState, BlockStatistics, ManagerConfig,
 };
 use foyer_device_page::error::Error;
 use rand_pcg::Pcg32;
@@ -11,19 +11,28 @@ use std::test::Fail;
 
 const CONFIG: ManagerConfig = ManagerConfig {
     blocks: 4,
+    block_size: 16384,
     flushers: 2,
     reclaimers: 1,
     clean_threshold: 1,
 };
 
 fn state_of(rt: &impl Abort, manager: &BlockManager<Global>, id: BlockId) -> BlockState {
-    assert!(rt; (id as usize) < manager.blocks());
-    *manager.block(id)
+    let known = manager.known(id);
+    assert!(rt; known.is_some());
+    known.unwrap()
 }
 
 fn hand_out(rt: &impl Abort, manager: &mut BlockManager<Global>, flusher: u32) -> Option<BlockId> {
     assert!(rt; (flusher as usize) < manager.flushers());
-    manager.get_clean_block(flusher)
+    match manager.get_clean_block(flusher) {
+        Some(block) => {
+            assert_eq!(rt; block.size(), 16384);
+            assert_eq!(rt; *block.statistics(), BlockStatistics::default());
+            Some(block.id())
+        }
+        None => None,
+    }
 }
 
 fn finish_writing<P: EvictionPicker>(

@@ -114,7 +114,7 @@ pub fn blocks(rt: &HostRuntime, over: Over) -> Result<Blocks> {
 
 fn filter_of(alloc: Global, least: usize) -> Result<StorageFilter<BuiltInCondition, Global>> {
     let condition = EstimatedSize::new(Bound::Included(least), Bound::Unbounded);
-    StorageFilter::new(alloc).with_condition(BuiltInCondition::EstimatedSize(condition))
+    StorageFilter::new().with_condition(alloc, BuiltInCondition::EstimatedSize(condition))
 }
 
 /// What callers lend: the usual pickers, and the filter.

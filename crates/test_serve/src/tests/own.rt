@@ -114,7 +114,7 @@ fn boxed_picker(alloc: Global) -> Result<Vec<AnyPicker>> {
 }
 
 fn own_condition(alloc: Global) -> Result<Env<BuiltInPicker, Only>> {
-    let filter = StorageFilter::new(alloc).with_condition(Only(2))?;
+    let filter = StorageFilter::new().with_condition(alloc, Only(2))?;
     Ok(Env::with_default_pickers(alloc, 0)?.with_reinsertion(filter))
 }
 

@@ -16,7 +16,11 @@ use std::collections::VecDeque;
 /// How many blocks and flushers there are, and when a reclaim may begin.
 #[derive(Clone, Copy, Debug, PartialEq, Eq)]
 pub struct ManagerConfig {
+    /// How many blocks there are.
     pub blocks: u32,
+    /// The size of each of them in bytes.
+    pub block_size: usize,
+    /// How many flushers there are.
     pub flushers: u32,
     /// How many reclaims may run at a time.
     pub reclaimers: usize,
@@ -79,7 +83,7 @@ impl<A: Allocator> BlockManager<A> {
     where
         A: Clone,
         ensures made { IfOk result (λ m.
-            m ≡ new_manager config.blocks config.flushers config.reclaimers config.clean_threshold) }
+            m ≡ new_manager config.blocks config.block_size config.flushers config.reclaimers config.clean_threshold) }
         ensures refused { IsOkUnless result Memory }
     {
         let blocks = vec![in alloc.clone()?; NEW_BLOCK; config.blocks as usize]?;
@@ -97,6 +101,7 @@ impl<A: Allocator> BlockManager<A> {
             ready,
             reclaimers: config.reclaimers,
             clean_threshold: config.clean_threshold,
+            block_size: config.block_size,
             is_cleaning: false,
         })
     }

@@ -9,7 +9,7 @@ use Rattle.foyer_core_blocks.proofs.manager.invalidate_all.Goals as goal
 
 pub each_stats-init : goal.each_stats-init
 each_stats-init g c = record {
-  same = record { blocks = refl; flushers = refl; reclaimers = refl; clean_threshold = refl };
+  same = record { blocks = refl; flushers = refl; reclaimers = refl; clean_threshold = refl; block_size = refl };
   counted = λ s st. (s.stats, st, refl);
 }
 
@@ -23,6 +23,7 @@ each_stats-preserved g c =
         flushers = step.flushers ∙ before.flushers;
         reclaimers = step.reclaimers ∙ before.reclaimers;
         clean_threshold = step.clean_threshold ∙ before.clean_threshold;
+        block_size = step.block_size ∙ before.block_size;
       };
       counted = λ s st.
           let xs = c.args.invalid.now in

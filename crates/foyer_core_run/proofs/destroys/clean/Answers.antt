@@ -7,7 +7,7 @@ pub returns-clause-cleans : goal.returns-clause-cleans
 returns-clause-cleans g c = λ known.
     let m = meaning g.K.Code.encoding g.V.Code.encoding g.K.Code.is_encodable g.V.Code.is_encodable g.K.Code.is_decodable g.V.Code.is_decodable g.P.Properties.age in
     let bytes = g.D.Disk.byte_at c.args.disk.now in
-    let after = g.D.Disk.byte_at c.clean_block-cleaned.new.disk in
-    let outcome = c.clean_block-cleaned.result in
+    let after = g.D.Disk.byte_at c.clean-cleaned.new.disk in
+    let outcome = c.clean-cleaned.result in
     cleans_once m c.args.block outcome c.apply.result c.args.core.now c.apply.new.self bytes after
-    (clean_done bytes after c.args.block outcome (c.clean_block-cleaned.ensures.cleaned known) (c.clean_block-cleaned.ensures.torn known)) c.apply.ensures.meets
+    (clean_done bytes after c.args.block outcome (c.clean-cleaned.ensures.cleaned known) (c.clean-cleaned.ensures.torn known)) c.apply.ensures.meets

@@ -59,14 +59,14 @@ returns-clause-reclaims g c = λ known.
     let read = c.read_block.new.core in
     let begins = subst (λ r. Refines m step.ReclaimBegin r c.args.core.now begun) c.in-Picked.is c.apply.ensures.meets in
     let size : c.settings.result.blob_index_size ≡ begun.settings.blob_index_size = ap (λ k. k.blob_index_size) c.settings.ensures in
-    let outcome = c.clean_block-cleaned.result in
-    let after = g.D.Disk.byte_at c.clean_block-cleaned.new.disk in
+    let outcome = c.clean-cleaned.result in
+    let after = g.D.Disk.byte_at c.clean-cleaned.new.disk in
     let still = c.read_block.ensures.known known in
     reclaims_whole m b c.in-Picked.answers c.in-Picked.probation first refl c.args.core.now begun read size bytes begins (c.read_block.ensures.reads known)
     c.in-Clean.field-0 outcome c.apply-3.result c.apply-2.new.self c.apply-3.new.self after
     (subst (λ r. Refines m (step.ReclaimForget b) r read c.apply-2.new.self) c.in-Clean.is c.apply-2.ensures.meets)
     (subst (λ z. IsCleanDone z after b (went_well outcome)) c.read_block.ensures.same
-    (clean_done (g.D.Disk.byte_at c.read_block.new.disk) after b outcome (c.clean_block-cleaned.ensures.cleaned still) (c.clean_block-cleaned.ensures.torn still)))
+    (clean_done (g.D.Disk.byte_at c.read_block.new.disk) after b outcome (c.clean-cleaned.ensures.cleaned still) (c.clean-cleaned.ensures.torn still)))
     c.apply-3.ensures.meets
 
 pub returns-clause-ends : goal.returns-clause-ends
@@ -79,7 +79,7 @@ returns-clause-ends g c =
     (subst (λ r. Refines m step.ReclaimBegin r c.args.core.now c.apply.new.self) c.in-Picked.is c.apply.ensures.meets) c.read_block.ensures.leads in
     over_behind m (Without filter KeepsIdle) c.args.core.now c.apply-2.new.self c.apply-3.result
     (idle_more m filter c.args.core.now read c.apply-2.new.self led (idle_kept m filter (step.ReclaimForget b) c.apply-2.result read c.apply-2.new.self tt c.apply-2.ensures.meets))
-    (cleaned_over m b c.clean_block-cleaned.result c.apply-3.result c.apply-2.new.self c.apply-3.new.self c.apply-3.ensures.meets)
+    (cleaned_over m b c.clean-cleaned.result c.apply-3.result c.apply-2.new.self c.apply-3.new.self c.apply-3.ensures.meets)
 
 pub returns-clause-leads : goal.returns-clause-leads
 returns-clause-leads g c =
@@ -91,7 +91,7 @@ returns-clause-leads g c =
     (subst (λ r. Refines m step.ReclaimBegin r c.args.core.now c.apply.new.self) c.in-Picked.is c.apply.ensures.meets) c.read_block.ensures.leads in
     idle_more m filter c.args.core.now c.apply-2.new.self c.apply-3.new.self
     (idle_more m filter c.args.core.now read c.apply-2.new.self led (idle_kept m filter (step.ReclaimForget b) c.apply-2.result read c.apply-2.new.self tt c.apply-2.ensures.meets))
-    (idle_kept m filter (step.ReclaimCleaned b c.clean_block-cleaned.result) c.apply-3.result c.apply-2.new.self c.apply-3.new.self tt c.apply-3.ensures.meets)
+    (idle_kept m filter (step.ReclaimCleaned b c.clean-cleaned.result) c.apply-3.result c.apply-2.new.self c.apply-3.new.self tt c.apply-3.ensures.meets)
 
 pub returns-clause-lent : goal.returns-clause-lent
 returns-clause-lent g c = (

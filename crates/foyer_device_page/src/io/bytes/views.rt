@@ -6,6 +6,7 @@ ghost use Rattle.std.specs.Borrow.{sem, Lends, Array, u8};
 pub trait IoB: Drop {
     ghost bytes: { Self → List ℕ };
 
+    /// Its bytes.
     fn as_slice(&self) -> &[u8]
         ensures { result.now ≡ bytes self.now };
 }
@@ -24,6 +25,7 @@ pub trait IoBufMut: IoB {
     // The buffer with these bytes in the place of its own.
     ghost filled: { Self → List ℕ → Self };
 
+    /// Its bytes, to be written over.
     fn as_mut_slice(&mut self) -> &mut [u8]
         ensures* writes_back { sem 𝓛
             (Lends Self.row (Array u8 0) self.entry result (filled self.old)) }

@@ -11,18 +11,26 @@ use std::rt::Files;
 /// A device of one of the kinds that have files or memory of their own, or none.
 #[derive(Drop)]
 pub enum AnyDevice<A: Allocator> {
+    /// In one file.
     File(FileDevice<A>),
+    /// A directory with a file for each partition.
     Fs(FsDevice<A>),
+    /// In memory.
     Memory(MemoryDevice<A>),
+    /// One that keeps nothing.
     Noop(NoopDevice<A>),
 }
 
 /// A partition of a device of one of several kinds.
 #[derive(Clone, Copy, Debug)]
 pub enum AnyPartition {
+    /// Of a file.
     File(FilePartition),
+    /// Of a directory.
     Fs(FsPartition),
+    /// Of memory.
     Memory(MemoryPartition),
+    /// Of a device that keeps nothing.
     Noop(NoopPartition),
 }
 

@@ -11,6 +11,8 @@ use super::{Device, DeviceBuilder, MAX_PARTITIONS, Partition, PartitionId, RawFi
 use foyer_device_page::error::{Error, Result};
 use foyer_device_page::io::bytes::PAGE;
 use std::alloc::{AllocError, Allocator};
+use std::fmt;
+use std::fmt::{Debug, Formatter};
 use std::marker::Model;
 use std::rt::Files;
 
@@ -19,6 +21,13 @@ use std::rt::Files;
 pub struct CombinedDeviceBuilder<D: Device, A: Allocator> {
     devices: Vec<D, A>,
     throttle: Throttle,
+}
+
+/// The type's name.
+impl<D: Device, A: Allocator> Debug for CombinedDeviceBuilder<D, A> {
+    fn fmt<W: fmt::Write>(&self, f: &mut Formatter<W>) -> fmt::Result {
+        f.write_str("CombinedDeviceBuilder")
+    }
 }
 
 impl<D: Device, A: Allocator> CombinedDeviceBuilder<D, A> {

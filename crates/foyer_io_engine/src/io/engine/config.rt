@@ -9,6 +9,7 @@ use std::alloc::{AllocError, Allocator};
 /// What an engine is built for: the path of each file of the device, as `Device::files` gives them.
 #[derive(Clone, Copy)]
 pub struct IoEngineBuildContext<'a, A: Allocator> {
+    /// The paths of the device's files, in the order of their numbers.
     pub files: &'a [String<A>],
 }
 

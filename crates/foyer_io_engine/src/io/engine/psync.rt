@@ -17,6 +17,7 @@ use std::rt::Files;
 pub struct PsyncIoEngineConfig;
 
 impl PsyncIoEngineConfig {
+    /// The config, which has no settings.
     pub fn new() -> PsyncIoEngineConfig {
         PsyncIoEngineConfig
     }

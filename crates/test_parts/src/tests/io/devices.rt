@@ -90,10 +90,14 @@ fn file_device(rt: &HostRuntime, path: &str, capacity: usize) -> Result<FileDevi
 #[test]
 fn combined_devices_are_asked_one_after_another(rt: HostRuntime) -> Result<(), Fail> {
     fs::create_dir(&rt, "combined")?;
-    let mut device = CombinedDeviceBuilder::new(rt.alloc())
+    let builder = CombinedDeviceBuilder::new(rt.alloc())
         .with_device(file_device(&rt, "combined/a", 16384)?)?
-        .with_device(file_device(&rt, "combined/b", 16384)?)?
-        .build(&rt, rt.alloc(), 0)?;
+        .with_device(file_device(&rt, "combined/b", 16384)?)?;
+    assert_eq!(rt;
+        format!(in rt.alloc(); "{builder:?}")?.as_str(),
+        "CombinedDeviceBuilder"
+    );
+    let mut device = builder.build(&rt, rt.alloc(), 0)?;
     assert!(rt; device.capacity() == 32768);
     let first = device.create_partition(&rt, 12288)?;
     let second = device.create_partition(&rt, 8192)?;

@@ -41,9 +41,9 @@ fn verdict(
     first: StorageFilterResult,
     second: StorageFilterResult,
 ) -> Result<StorageFilterResult, Error> {
-    let filter = StorageFilter::new(alloc)
-        .with_condition(Always(first))?
-        .with_condition(Always(second))?;
+    let filter = StorageFilter::new()
+        .with_condition(alloc, Always(first))?
+        .with_condition(alloc, Always(second))?;
     Ok(filter.filter(&state(Duration::ZERO), 1, 2))
 }
 
@@ -63,7 +63,8 @@ fn waits_are_added_up(rt: HostRuntime) -> Result<(), Fail> {
     assert!(rt; verdict(alloc, admit, seconds(1))? == seconds(1));
     let most = StorageFilterResult::Throttled(Duration::MAX);
     assert!(rt; verdict(alloc, most, most)? == most);
-    let none: StorageFilter<Always, Global> = StorageFilter::new(alloc);
+    let none: StorageFilter<Always, Global> = StorageFilter::default();
+    assert_eq!(rt; format!(in alloc; "{none:?}")?.as_str(), "StorageFilter");
     assert!(rt; none.filter(&state(Duration::ZERO), 1, 2) == admit);
     assert!(rt; admit.is_admitted() && !admit.is_rejected() && reject.is_rejected());
     assert!(rt; !most.is_admitted() && !most.is_rejected());
@@ -94,10 +95,10 @@ fn sizes_are_admitted_within_their_bounds(rt: HostRuntime) -> Result<(), Fail> {
 fn shipped_conditions_are_held_by_value(rt: HostRuntime) -> Result<(), Fail> {
     let alloc = rt.alloc();
     let sizes = EstimatedSize::new(Bound::Unbounded, Bound::Included(9));
-    let filter: StorageFilter<BuiltInCondition, Global> = StorageFilter::new(alloc)
-        .with_condition(BuiltInCondition::AdmitAll(AdmitAll))?
-        .with_condition(BuiltInCondition::EstimatedSize(sizes))?
-        .with_condition(BuiltInCondition::IoThrottle(IoThrottle))?;
+    let filter: StorageFilter<BuiltInCondition, Global> = StorageFilter::new()
+        .with_condition(alloc, BuiltInCondition::AdmitAll(AdmitAll))?
+        .with_condition(alloc, BuiltInCondition::EstimatedSize(sizes))?
+        .with_condition(alloc, BuiltInCondition::IoThrottle(IoThrottle))?;
     assert!(rt; filter.filter(&state(Duration::ZERO), 1, 9).is_admitted());
     assert!(rt; filter.filter(&state(Duration::from_secs(4)), 1, 9) == seconds(4));
     assert!(rt;
@@ -105,7 +106,7 @@ fn shipped_conditions_are_held_by_value(rt: HostRuntime) -> Result<(), Fail> {
             .filter(&state(Duration::from_secs(4)), 1, 10)
             .is_rejected()
     );
-    let filter = filter.with_condition(BuiltInCondition::RejectAll(RejectAll))?;
+    let filter = filter.with_condition(alloc, BuiltInCondition::RejectAll(RejectAll))?;
     assert!(rt; filter.filter(&state(Duration::ZERO), 1, 9).is_rejected());
     Ok(())
 }

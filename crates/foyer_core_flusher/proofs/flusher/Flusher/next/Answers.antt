@@ -7,7 +7,7 @@ use Rattle.foyer_core_flusher.specs.Issuing.{write_of}
 use Rattle.foyer_core_flusher.specs.Seen.{seen}
 use Rattle.foyer_core_laws.specs.CoreRules.{machine}
 use Rattle.foyer_core_laws.proofs.LawLemmas.{are_rules}
-use Rattle.foyer_block_manager.specs.BlockSets.{HasSameRules}
+use Rattle.foyer_block_manager.specs.BlockSets.{HasSameRules, HandsOut}
 use Rattle.foyer_block_manager.specs.Managed.{Managed}
 use Rattle.foyer_core_blocks.specs.Standing.{sets_of}
 use Rattle.foyer_core_flusher.proofs.IssueLemmas.{issues_as_model}
@@ -21,6 +21,7 @@ both old now new one two = record {
   flushers = two.flushers ∙ one.flushers;
   reclaimers = two.reclaimers ∙ one.reclaimers;
   clean_threshold = two.clean_threshold ∙ one.clean_threshold;
+  block_size = two.block_size ∙ one.block_size;
 }
 
 pub returns-in-None-clause-done : goal.returns-in-None-clause-done
@@ -51,11 +52,12 @@ pub returns-in-Some-get_clean_block-clause-done : goal.returns-in-Some-get_clean
 returns-in-Some-get_clean_block-clause-done g c = λ m s sound it slots stands.
     let self = c.args.self.now in
     let f = c.args.number in
-    let b = c.in-Some-get_clean_block.block in
+    let b = c.id-block.result in
     let left = c.release.ensures.released (sets_of it) f (stands.manager).sets (λ b own. (stands.has).own b ((stands.flusher).own ∙ own)) in
     next_given m s sound f it (seen self) slots c.args.manager.now stands c.in-Some.batch c.in-Some.is
     c.issue-in-Some-get_clean_block.new.self b c.issue-in-Some-get_clean_block.result.items c.get_clean_block.new.self
     c.in_default-goes_on_with.ensures
     (both c.args.manager.now c.release.new.manager c.get_clean_block.new.self c.release.ensures.same c.get_clean_block.ensures.same)
-    (c.in-Some-get_clean_block.ensures.handed (record (sets_of it) { block_set = released self.own it.place }) left)
+    (subst (λ (k : ℕ). HandsOut (record (sets_of it) { block_set = released self.own it.place }) f (Some k) c.get_clean_block.new.self) (sym c.id-block.ensures)
+    (c.in-Some-get_clean_block.ensures.handed (record (sets_of it) { block_set = released self.own it.place }) left))
     (λ own p are lt. issues_as_model m (machine m s sound) s own b c.in-Some.batch c.issue-in-Some-get_clean_block.new.self c.issue-in-Some-get_clean_block.result.items p (are_rules m.is_key m.is_value s sound) sound.offsets_fit lt are c.issue-in-Some-get_clean_block.ensures)

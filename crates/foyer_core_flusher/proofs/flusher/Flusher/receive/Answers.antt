@@ -65,9 +65,10 @@ returns-in-Ok-put_mark-clause-takes g c = λ age_of s sound st f stands indexed.
     let m = meaning g.K.Code.encoding g.V.Code.encoding g.K.Code.is_encodable g.V.Code.is_encodable g.K.Code.is_decodable g.V.Code.is_decodable age_of in
     let φ = seen c.args.self.now in
     let rest = c.pop_front.new.self.items in
-    let info = c.in-Some-Tombstone.info in
-    let is : φ.queue ≡ Tombstone info ∷ rest = c.in-Some-Tombstone.ensures.items ∙ ap (λ x. x ∷ rest) c.in-Some-Tombstone.field-0-is in
-    mark_kept m s sound st f φ stands c.args.index.now.slots indexed info (option_to_list info.stats) rest _ is (invalidated_listed info.stats)
+    let tombstone = c.in-Some-Tombstone.tombstone in
+    let stats = c.in-Some-Tombstone.stats in
+    let is : φ.queue ≡ Tombstone tombstone stats ∷ rest = c.in-Some-Tombstone.ensures.items ∙ ap (λ x. x ∷ rest) c.in-Some-Tombstone.field-0-is in
+    mark_kept m s sound st f φ stands c.args.index.now.slots indexed (record { tombstone = tombstone; stats = stats }) (option_to_list stats) rest _ is (invalidated_listed stats)
     (λ i. record φ { queue = rest; marks = c.in-Ok-put_mark.ensures.marks i; invalid = c.in-Ok-put_mark.ensures.invalid i })
 
 pub returns-in-Ok-put_wait-clause-takes : goal.returns-in-Ok-put_wait-clause-takes

@@ -20,11 +20,11 @@ returns-clause-moved g c = λ known s sound from w running.
     let kept = c.args.kept.now in
     let b = c.args.block in
     let bytes = g.D.Disk.byte_at c.args.disk.now in
-    let after = g.D.Disk.byte_at c.clean_block-cleaned.new.disk in
-    let outcome = c.clean_block-cleaned.result in
+    let after = g.D.Disk.byte_at c.clean-cleaned.new.disk in
+    let outcome = c.clean-cleaned.result in
     reclaimed_moves m s sound from b outcome c.apply-reply.result kept.tickets.items c.note_ticket.new.tickets.items kept.issued.items kept.scans.items kept.cleans.items c.set_due.new.list.items
     kept.replies.items c.push_reserved.new.self.items c.args.core.now c.apply-reply.new.self bytes after w running
     (ap (λ xs. is_set (slice_get xs b)) (sym c.as_slice.ensures.value) ∙ sym c.is_clean_due.ensures ∙ c.if-not-is_clean_due.false)
-    (clean_done bytes after b outcome (c.clean_block-cleaned.ensures.cleaned known) (c.clean_block-cleaned.ensures.torn known))
+    (clean_done bytes after b outcome (c.clean-cleaned.ensures.cleaned known) (c.clean-cleaned.ensures.torn known))
     (c.apply-reply.ensures.meets s sound w.core running.stands)
     c.note_ticket.ensures.noted c.set_due.ensures.set c.push_reserved.ensures.items

@@ -67,7 +67,7 @@ returns-clause-meets g c = λ m s sound it stands few.
     let there : 0 % s.flushers < s.flushers = subst (λ k. k < s.flushers) at (subst (λ n. c.flusher_of-flusher.result < n) count within) in
     let f = 0 % s.flushers in
     let x = Remove 0 old.next [] in
-    let mark = Tombstone (record { tombstone = record { hash = 0; sequence = old.next }; stats = None }) in
+    let mark = Tombstone (record { hash = 0; sequence = old.next }) None in
     let bound : old.queued ≤ old.next * 2 ^ 64 = stands.queued.bound in
     let more : old.queued ≡ old.queued + 0 = omega arith in
     record {

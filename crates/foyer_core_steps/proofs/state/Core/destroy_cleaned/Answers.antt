@@ -50,6 +50,7 @@ returns-in-Some-clause-meets g c = λ m s sound it stands few.
             flushers = last.flushers ∙ before.flushers;
             reclaimers = last.reclaimers ∙ before.reclaimers;
             clean_threshold = last.clean_threshold ∙ before.clean_threshold;
+            block_size = last.block_size ∙ before.block_size;
           })
           (subst (λ t. Stands c.end_cleaning.new.self (record (without_stats (sets_of it) b) { is_cleaning = t })) (sym over.quiet)
           (c.end_cleaning.ensures.quiet (without_stats (sets_of it) b) (c.on_clean_finish.ensures.stats (sets_of it) (stands.manager).sets)))

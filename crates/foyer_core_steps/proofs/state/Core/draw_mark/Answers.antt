@@ -84,9 +84,9 @@ returns-clause-meets g c = λ m s sound it stands.
       next = refl;
       steps = stands.steps;
       closed = stands.closed;
-      flushers = queue_pushed_at m s old.flushers.items it.flushers c.flusher_of-flusher.result f found _ (Tombstone info) x
+      flushers = queue_pushed_at m s old.flushers.items it.flushers c.flusher_of-flusher.result f found _ (Tombstone info.tombstone info.stats) x
           at (λ i. Remove (hash i) (sequence i) (invalidated i)) stands.flushers within c.index_mut.ensures.value
-          (ap (λ q. record (seen found) { queue = q }) (c.push_back_reserved.ensures.items ∙ ap (λ q. q ++ Tombstone info ∷ []) c.reserve.ensures.items));
+          (ap (λ q. record (seen found) { queue = q }) (c.push_back_reserved.ensures.items ∙ ap (λ q. q ++ Tombstone info.tombstone info.stats ∷ []) c.reserve.ensures.items));
       queued = size_grown s it.flushers f x old.queued old.next old.queued (old.next + 1) stands.queued there more (omega arith);
       manager = managed_kept s f it old.manager (with_queued (it.flushers f) x) (record { own = refl; ready = refl }) stands.manager;
       has = blocks_kept s f it (with_queued (it.flushers f) x) (record { own = refl; ready = refl }) stands.has;

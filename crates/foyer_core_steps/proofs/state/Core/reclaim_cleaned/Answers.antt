@@ -23,8 +23,8 @@ returns-clause-meets g c = λ m s sound it stands few.
     let core = c.args.self.now in
     let b = c.args.block in
     let at = cleans m s sound b (it.place b) (it.filling b) (reclaim_at core.reclaims b) (it.reclaims b) (stands.reclaims b) (sym c.may_clean.ensures ∙ c.if-not-may_clean.false) in
-    let ended = finished m s sound core it stands b _ c.on_reclaim_finish.result (record { settings = refl; next = refl; steps = refl; closed = refl; queued = refl; flushers = refl; destroy = refl }) refl
-    c.on_reclaim_finish.ensures.same (c.on_reclaim_finish.ensures.finished (sets_of it) stands.manager.sets) c.end.ensures (at.stands_as).there (reclaims_set (it.place b) at.set) in
+    let ended = finished m s sound core it stands b _ c.cleaned.result (record { settings = refl; next = refl; steps = refl; closed = refl; queued = refl; flushers = refl; destroy = refl }) refl
+    c.cleaned.ensures.same (c.cleaned.ensures.finished (sets_of it) stands.manager.sets) c.cleaned.ensures.ended (at.stands_as).there (reclaims_set (it.place b) at.set) in
     record {
       after = ended.after;
       it = model_reply.Done;

@@ -23,7 +23,7 @@ pub returns-clause-same : goal.returns-clause-same
 unfolding no_block
 returns-clause-same g c =
     let m = c.self.inside in
-    let old : Managed = record { blocks = m.blocks.items; clean = m.clean.items; evictable = m.evictable.ids; waiting = m.waiting.items; ready = m.ready.items; reclaimers = m.reclaimers; clean_threshold = m.clean_threshold; is_cleaning = m.is_cleaning } in
+    let old : Managed = record { blocks = m.blocks.items; clean = m.clean.items; evictable = m.evictable.ids; waiting = m.waiting.items; ready = m.ready.items; reclaimers = m.reclaimers; clean_threshold = m.clean_threshold; block_size = m.block_size; is_cleaning = m.is_cleaning } in
     let new : Managed = record old { blocks = c.refill.new.blocks.items; ready = c.forget.new.ready.items; is_cleaning = true } in
     same_rules c.args.self.now c.vacate_all.new.self new c.vacate_all.ensures.same
     (subst (λ (w : Managed). HasSameRules w new) c.self.view_is
@@ -32,12 +32,13 @@ returns-clause-same g c =
       flushers = ap length c.forget.ensures ∙ mapped_count no_block m.ready.items;
       reclaimers = refl;
       clean_threshold = refl;
+      block_size = refl;
     }))
 
 pub returns-clause-cleared : goal.returns-clause-cleared
 returns-clause-cleared g c = λ s st.
     let m = c.self.inside in
-    let old : Managed = record { blocks = m.blocks.items; clean = m.clean.items; evictable = m.evictable.ids; waiting = m.waiting.items; ready = m.ready.items; reclaimers = m.reclaimers; clean_threshold = m.clean_threshold; is_cleaning = m.is_cleaning } in
+    let old : Managed = record { blocks = m.blocks.items; clean = m.clean.items; evictable = m.evictable.ids; waiting = m.waiting.items; ready = m.ready.items; reclaimers = m.reclaimers; clean_threshold = m.clean_threshold; block_size = m.block_size; is_cleaning = m.is_cleaning } in
     let sets : BlockSets = record s { block_set = λ b. vacated (s.block_set b) } in
     let stood : Stands old sets = subst (λ (w : Managed). Stands w sets) (sym c.self.view_is) (c.vacate_all.ensures.vacated s st) in
     stands_cleared old s c.refill.new.blocks.items c.forget.new.ready.items (length (c.args.self.now).blocks) stood c.refill.ensures c.forget.ensures

@@ -4,7 +4,8 @@ use Rattle.std.proofs.lemmas.Option.{slice_get_read}
 use Rattle.foyer_core_model.specs.Ids.{is_id_in}
 use Rattle.foyer_core_model.specs.Flush.{first_usable}
 use Rattle.foyer_block_manager.specs.Managed.{Managed, IsTaken, IsFirstUsable, IsKept, filling_in}
-use Rattle.foyer_block_manager.specs.BlockSets.{BlockSets, Stands, clean_block}
+use Rattle.foyer_block_manager.specs.BlockSets.{BlockSets, Stands, HandsOut}
+use Rattle.foyer_block_manager.specs.declared.block.states.Block.{Block}
 use Rattle.foyer_block_manager.proofs.BlockStateLemmas.{set_count, there_is}
 use Rattle.foyer_block_manager.proofs.ManagedLemmas.{kept_served, kept_waits, kept_taken, taken_clean, waits_room, some_usable}
 use Rattle.foyer_block_manager.proofs.StandsLemmas.{usable_as, clean_as, stands_ready, stands_waits, stands_taken}
@@ -26,6 +27,10 @@ clean_is_none : (t : Bool) (a b : Option ℕ) → a ≡ b → (if t then None el
 clean_is_none true a b same is = refl
 clean_is_none false a b same is = same ∙ is
 
+-- the block that is handed out has this id
+served : (s : BlockSets) (f b id : ℕ) (new : Managed) → id ≡ b → HandsOut s f (Some b) new → HandsOut s f (Some id) new
+served s f b id new is handed = subst (λ (k : ℕ). HandsOut s f (Some k) new) (sym is) handed
+
 pub invariant_of-self : goal.invariant_of-self
 invariant_of-self g c =
     let m = c.self.inside in
@@ -37,13 +42,14 @@ invariant_of-self g c =
 pub returns-in-Some-clause-handed : goal.returns-in-Some-clause-handed
 returns-in-Some-clause-handed g c = λ s st.
     let m = c.self.inside in
-    let old : Managed = record { blocks = m.blocks.items; clean = m.clean.items; evictable = m.evictable.ids; waiting = m.waiting.items; ready = m.ready.items; reclaimers = m.reclaimers; clean_threshold = m.clean_threshold; is_cleaning = m.is_cleaning } in
+    let old : Managed = record { blocks = m.blocks.items; clean = m.clean.items; evictable = m.evictable.ids; waiting = m.waiting.items; ready = m.ready.items; reclaimers = m.reclaimers; clean_threshold = m.clean_threshold; block_size = m.block_size; is_cleaning = m.is_cleaning } in
     let stood : Stands old s = old_stands c.args.self.now old s c.self.view_is st in
     let lt : c.args.flusher < length m.ready.items = subst (λ (w : Managed). c.args.flusher < length w.ready) (sym c.self.view_is) c.requires in
-    inl (
+    served s c.args.flusher c.in-Some.block c.block_of.result.id (record old { waiting = c.end_to_wait.new.waiting.items; ready = slice_set m.ready.items c.args.flusher None }) (ap (λ (k : Block). k.id) c.block_of.ensures)
+    (inl (
       no_ready m.ready.items s.ready c.args.flusher c.index.result.now (Some c.in-Some.block) stood.ready lt c.index.ensures c.in-Some.is,
       stands_ready old s c.args.flusher c.end_to_wait.new.waiting.items stood lt c.end_to_wait.ensures.waits,
-    )
+    ))
 
 pub begin_to_wait-requires : goal.begin_to_wait-requires
 begin_to_wait-requires g c = λ not.
@@ -63,7 +69,7 @@ invariant_of-self-in_default-next_clean g c =
 pub returns-in_default-next_clean-clause-handed : goal.returns-in_default-next_clean-clause-handed
 returns-in_default-next_clean-clause-handed g c = λ s st.
     let m = c.self.inside in
-    let old : Managed = record { blocks = m.blocks.items; clean = m.clean.items; evictable = m.evictable.ids; waiting = m.waiting.items; ready = m.ready.items; reclaimers = m.reclaimers; clean_threshold = m.clean_threshold; is_cleaning = m.is_cleaning } in
+    let old : Managed = record { blocks = m.blocks.items; clean = m.clean.items; evictable = m.evictable.ids; waiting = m.waiting.items; ready = m.ready.items; reclaimers = m.reclaimers; clean_threshold = m.clean_threshold; block_size = m.block_size; is_cleaning = m.is_cleaning } in
     let stood : Stands old s = old_stands c.args.self.now old s c.self.view_is st in
     let lt : c.args.flusher < length m.ready.items = subst (λ (w : Managed). c.args.flusher < length w.ready) (sym c.self.view_is) c.requires in
     let none = rw c.in_default-next_clean.is at c.next_clean.ensures in (
@@ -91,14 +97,15 @@ invariant_of-self-2 g c =
 pub returns-clause-handed : goal.returns-clause-handed
 returns-clause-handed g c = λ s st.
     let m = c.self.inside in
-    let old : Managed = record { blocks = m.blocks.items; clean = m.clean.items; evictable = m.evictable.ids; waiting = m.waiting.items; ready = m.ready.items; reclaimers = m.reclaimers; clean_threshold = m.clean_threshold; is_cleaning = m.is_cleaning } in
+    let old : Managed = record { blocks = m.blocks.items; clean = m.clean.items; evictable = m.evictable.ids; waiting = m.waiting.items; ready = m.ready.items; reclaimers = m.reclaimers; clean_threshold = m.clean_threshold; block_size = m.block_size; is_cleaning = m.is_cleaning } in
     let stood : Stands old s = old_stands c.args.self.now old s c.self.view_is st in
     let lt : c.args.flusher < length m.ready.items = subst (λ (w : Managed). c.args.flusher < length w.ready) (sym c.self.view_is) c.requires in
     let taken : IsTaken c.args.flusher m.blocks.items m.clean.items c.hand_out-block.result c.hand_out-block.new.blocks.items c.hand_out-block.new.clean.items = c.hand_out-block.ensures.taken in
     let first : IsFirstUsable m.clean.items m.blocks.items taken.index = taken.first in
     let there : c.hand_out-block.result < length m.blocks.items = there_is m.blocks.items c.hand_out-block.result taken.before taken.was in
     let size : length c.hand_out-block.new.blocks.items ≡ length m.blocks.items = ap length taken.blocks_are ∙ set_count m.blocks.items c.hand_out-block.result _ in
-    inr (
+    served s c.args.flusher c.hand_out-block.result c.block_of-2.result.id (record old { blocks = c.hand_out-block.new.blocks.items; clean = c.hand_out-block.new.clean.items; waiting = c.end_to_wait-2.new.waiting.items }) (ap (λ (k : Block). k.id) c.block_of-2.ensures)
+    (inr (
       no_ready m.ready.items s.ready c.args.flusher c.index.result.now None stood.ready lt c.index.ensures (not_some c.index.result.now c.in_default.not-Some),
       ap (λ (t : Bool). if t then None else first_usable s.filling s.clean) (stood.is_cleaning ∙ c.in-Some-next_clean.ensures.0)
           ∙ usable_as old s stood (c.self.invariant).clean_is ∙ first.first ∙ ap Some (sym taken.is),
@@ -107,4 +114,4 @@ returns-clause-handed g c = λ s st.
       omega arith,
       stands_taken old s c.args.flusher c.hand_out-block.result c.hand_out-block.new.blocks.items c.hand_out-block.new.clean.items c.end_to_wait-2.new.waiting.items
           stood (c.self.invariant).clean_once taken c.end_to_wait-2.ensures.waits,
-    )
+    ))

@@ -19,7 +19,7 @@ invariant_of-self g c =
 pub returns-clause-invalid : goal.returns-clause-invalid
 returns-clause-invalid g c = λ s st.
     let m = c.self.inside in
-    let old : Managed = record { blocks = m.blocks.items; clean = m.clean.items; evictable = m.evictable.ids; waiting = m.waiting.items; ready = m.ready.items; reclaimers = m.reclaimers; clean_threshold = m.clean_threshold; is_cleaning = m.is_cleaning } in
+    let old : Managed = record { blocks = m.blocks.items; clean = m.clean.items; evictable = m.evictable.ids; waiting = m.waiting.items; ready = m.ready.items; reclaimers = m.reclaimers; clean_threshold = m.clean_threshold; block_size = m.block_size; is_cleaning = m.is_cleaning } in
     let stood : Stands old s = subst (λ (w : Managed). Stands w s) (sym c.self.view_is) st in
     subst (λ (bs : List BlockState). Stands (record old { blocks = bs }) (with_invalid s c.args.block c.args.bytes)) (sym c.add_invalid.ensures)
     (stands_stats (add_invalid c.args.bytes) old s c.args.block (record (s.stats c.args.block) { invalid = plus (s.stats c.args.block).invalid c.args.bytes }) stood (λ it is. ap (λ (t : model_state.Stats). record t { invalid = plus t.invalid c.args.bytes }) (stood.blocks c.args.block it is).stats))

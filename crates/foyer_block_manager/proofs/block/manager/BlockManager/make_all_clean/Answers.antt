@@ -8,7 +8,7 @@ use Rattle.foyer_block_manager.proofs.block.manager.BlockManager.make_all_clean.
 
 pub each_id-init : goal.each_id-init
 each_id-init g c = (
-  record { blocks = refl; flushers = refl; reclaimers = refl; clean_threshold = refl },
+  record { blocks = refl; flushers = refl; reclaimers = refl; clean_threshold = refl; block_size = refl },
   λ s st. clean_none c.args.self.now s st,
   λ b is. (c.requires).evictable b is,
 )

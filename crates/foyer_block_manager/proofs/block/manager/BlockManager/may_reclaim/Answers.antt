@@ -13,7 +13,7 @@ same a b c reclaiming reclaimers usable threshold d e f is p q = is ∙ ap (λ x
 pub returns-clause-may : goal.returns-clause-may
 returns-clause-may g c = λ s st.
     let m = c.self.inside in
-    let old : Managed = record { blocks = m.blocks.items; clean = m.clean.items; evictable = m.evictable.ids; waiting = m.waiting.items; ready = m.ready.items; reclaimers = m.reclaimers; clean_threshold = m.clean_threshold; is_cleaning = m.is_cleaning } in
+    let old : Managed = record { blocks = m.blocks.items; clean = m.clean.items; evictable = m.evictable.ids; waiting = m.waiting.items; ready = m.ready.items; reclaimers = m.reclaimers; clean_threshold = m.clean_threshold; block_size = m.block_size; is_cleaning = m.is_cleaning } in
     let stood : Stands old s = subst (λ (w : Managed). Stands w s) (sym c.self.view_is) st in
     let len : m.waiting.len ≡ length m.waiting.items = omega (arith, m.waiting.ok.0) in
     let test : c.allows.result ≡ allows m.is_cleaning m.reclaiming m.reclaimers (length m.evictable.ids == 0) m.usable m.clean_threshold (length m.waiting.items == 0) =

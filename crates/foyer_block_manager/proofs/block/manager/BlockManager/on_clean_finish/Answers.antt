@@ -19,7 +19,7 @@ invariant_of-self g c =
 pub returns-clause-stats : goal.returns-clause-stats
 returns-clause-stats g c = λ s st.
     let m = c.self.inside in
-    let old : Managed = record { blocks = m.blocks.items; clean = m.clean.items; evictable = m.evictable.ids; waiting = m.waiting.items; ready = m.ready.items; reclaimers = m.reclaimers; clean_threshold = m.clean_threshold; is_cleaning = m.is_cleaning } in
+    let old : Managed = record { blocks = m.blocks.items; clean = m.clean.items; evictable = m.evictable.ids; waiting = m.waiting.items; ready = m.ready.items; reclaimers = m.reclaimers; clean_threshold = m.clean_threshold; block_size = m.block_size; is_cleaning = m.is_cleaning } in
     let stood : Stands old s = subst (λ (w : Managed). Stands w s) (sym c.self.view_is) st in
     subst (λ (bs : List BlockState). Stands (record old { blocks = bs }) (without_stats s c.args.block)) (sym c.reset.ensures)
     (stands_stats no_statistics old s c.args.block model_state.no_stats stood (λ it is. refl))

@@ -31,14 +31,14 @@ found v m b it view is reads =
 pub index-requires : goal.index-requires
 index-requires g c =
     let m = c.self.inside in
-    let old : Managed = record { blocks = m.blocks.items; clean = m.clean.items; evictable = m.evictable.ids; waiting = m.waiting.items; ready = m.ready.items; reclaimers = m.reclaimers; clean_threshold = m.clean_threshold; is_cleaning = m.is_cleaning } in
+    let old : Managed = record { blocks = m.blocks.items; clean = m.clean.items; evictable = m.evictable.ids; waiting = m.waiting.items; ready = m.ready.items; reclaimers = m.reclaimers; clean_threshold = m.clean_threshold; block_size = m.block_size; is_cleaning = m.is_cleaning } in
     let lt : c.args.block < length m.blocks.items = there c.args.self.now old c.args.block c.self.view_is c.requires in
     omega (arith, m.blocks.ok.0)
 
 pub overflow_sub-self : goal.overflow_sub-self
 overflow_sub-self g c =
     let m = c.self.inside in
-    let old : Managed = record { blocks = m.blocks.items; clean = m.clean.items; evictable = m.evictable.ids; waiting = m.waiting.items; ready = m.ready.items; reclaimers = m.reclaimers; clean_threshold = m.clean_threshold; is_cleaning = m.is_cleaning } in
+    let old : Managed = record { blocks = m.blocks.items; clean = m.clean.items; evictable = m.evictable.ids; waiting = m.waiting.items; ready = m.ready.items; reclaimers = m.reclaimers; clean_threshold = m.clean_threshold; block_size = m.block_size; is_cleaning = m.is_cleaning } in
     let f : Found m.blocks.items c.args.block c.index.result.now = found c.args.self.now old c.args.block c.index.result.now c.self.view_is c.requires c.index.ensures in
     let some : 0 < m.reclaiming = some_reclaimed c.self.invariant c.args.block c.index.result.now f.was f.block_set in
     omega arith
@@ -46,7 +46,7 @@ overflow_sub-self g c =
 pub index_mut-requires : goal.index_mut-requires
 index_mut-requires g c =
     let m = c.self.inside in
-    let old : Managed = record { blocks = m.blocks.items; clean = m.clean.items; evictable = m.evictable.ids; waiting = m.waiting.items; ready = m.ready.items; reclaimers = m.reclaimers; clean_threshold = m.clean_threshold; is_cleaning = m.is_cleaning } in
+    let old : Managed = record { blocks = m.blocks.items; clean = m.clean.items; evictable = m.evictable.ids; waiting = m.waiting.items; ready = m.ready.items; reclaimers = m.reclaimers; clean_threshold = m.clean_threshold; block_size = m.block_size; is_cleaning = m.is_cleaning } in
     let lt : c.args.block < length m.blocks.items = there c.args.self.now old c.args.block c.self.view_is c.requires in
     omega (arith, m.blocks.ok.0)
 
@@ -59,7 +59,7 @@ index_mut-requires-in-Some g c =
 pub invariant_of-self : goal.invariant_of-self
 invariant_of-self g c =
     let m = c.self.inside in
-    let old : Managed = record { blocks = m.blocks.items; clean = m.clean.items; evictable = m.evictable.ids; waiting = m.waiting.items; ready = m.ready.items; reclaimers = m.reclaimers; clean_threshold = m.clean_threshold; is_cleaning = m.is_cleaning } in
+    let old : Managed = record { blocks = m.blocks.items; clean = m.clean.items; evictable = m.evictable.ids; waiting = m.waiting.items; ready = m.ready.items; reclaimers = m.reclaimers; clean_threshold = m.clean_threshold; block_size = m.block_size; is_cleaning = m.is_cleaning } in
     let f : Found m.blocks.items c.args.block c.index.result.now = found c.args.self.now old c.args.block c.index.result.now c.self.view_is c.requires c.index.ensures in
     let now : BlockState = record { block_set = Writing c.in-Some.flusher; filling = c.index.result.now.filling + 1; statistics = record { invalid = 0; access = 0; probation = false } } in
     let some : 0 < m.reclaiming = some_reclaimed c.self.invariant c.args.block c.index.result.now f.was f.block_set in
@@ -73,7 +73,7 @@ invariant_of-self g c =
 pub returns-in-Some-clause-finished : goal.returns-in-Some-clause-finished
 returns-in-Some-clause-finished g c = λ s st.
     let m = c.self.inside in
-    let old : Managed = record { blocks = m.blocks.items; clean = m.clean.items; evictable = m.evictable.ids; waiting = m.waiting.items; ready = m.ready.items; reclaimers = m.reclaimers; clean_threshold = m.clean_threshold; is_cleaning = m.is_cleaning } in
+    let old : Managed = record { blocks = m.blocks.items; clean = m.clean.items; evictable = m.evictable.ids; waiting = m.waiting.items; ready = m.ready.items; reclaimers = m.reclaimers; clean_threshold = m.clean_threshold; block_size = m.block_size; is_cleaning = m.is_cleaning } in
     let stood : Stands old s = subst (λ (w : Managed). Stands w s) (sym c.self.view_is) st in
     let f : Found m.blocks.items c.args.block c.index.result.now = found c.args.self.now old c.args.block c.index.result.now c.self.view_is c.requires c.index.ensures in
     let lt : c.in-Some.flusher < length m.ready.items = waiter_there c.self.invariant c.next_waiter.new.waiting.items c.in-Some.flusher c.in-Some.ensures.waiter.1 in
@@ -83,14 +83,14 @@ returns-in-Some-clause-finished g c = λ s st.
 pub index_mut-requires-2 : goal.index_mut-requires-2
 index_mut-requires-2 g c =
     let m = c.self.inside in
-    let old : Managed = record { blocks = m.blocks.items; clean = m.clean.items; evictable = m.evictable.ids; waiting = m.waiting.items; ready = m.ready.items; reclaimers = m.reclaimers; clean_threshold = m.clean_threshold; is_cleaning = m.is_cleaning } in
+    let old : Managed = record { blocks = m.blocks.items; clean = m.clean.items; evictable = m.evictable.ids; waiting = m.waiting.items; ready = m.ready.items; reclaimers = m.reclaimers; clean_threshold = m.clean_threshold; block_size = m.block_size; is_cleaning = m.is_cleaning } in
     let lt : c.args.block < length m.blocks.items = there c.args.self.now old c.args.block c.self.view_is c.requires in
     omega (arith, m.blocks.ok.0)
 
 pub one_more-self-inside-requires : goal.one_more-self-inside-requires
 one_more-self-inside-requires g c =
     let m = c.self.inside in
-    let old : Managed = record { blocks = m.blocks.items; clean = m.clean.items; evictable = m.evictable.ids; waiting = m.waiting.items; ready = m.ready.items; reclaimers = m.reclaimers; clean_threshold = m.clean_threshold; is_cleaning = m.is_cleaning } in
+    let old : Managed = record { blocks = m.blocks.items; clean = m.clean.items; evictable = m.evictable.ids; waiting = m.waiting.items; ready = m.ready.items; reclaimers = m.reclaimers; clean_threshold = m.clean_threshold; block_size = m.block_size; is_cleaning = m.is_cleaning } in
     let f : Found m.blocks.items c.args.block c.index.result.now = found c.args.self.now old c.args.block c.index.result.now c.self.view_is c.requires c.index.ensures in
     let few : length m.blocks.items < 2 ^ 32 = (c.self.invariant).few in
     few_usable c.self.invariant (length m.blocks.items)
@@ -99,7 +99,7 @@ one_more-self-inside-requires g c =
 pub push_back_reserved-requires : goal.push_back_reserved-requires
 push_back_reserved-requires g c =
     let m = c.self.inside in
-    let old : Managed = record { blocks = m.blocks.items; clean = m.clean.items; evictable = m.evictable.ids; waiting = m.waiting.items; ready = m.ready.items; reclaimers = m.reclaimers; clean_threshold = m.clean_threshold; is_cleaning = m.is_cleaning } in
+    let old : Managed = record { blocks = m.blocks.items; clean = m.clean.items; evictable = m.evictable.ids; waiting = m.waiting.items; ready = m.ready.items; reclaimers = m.reclaimers; clean_threshold = m.clean_threshold; block_size = m.block_size; is_cleaning = m.is_cleaning } in
     let f : Found m.blocks.items c.args.block c.index.result.now = found c.args.self.now old c.args.block c.index.result.now c.self.view_is c.requires c.index.ensures in
     let less : length m.clean.items < deque_capacity m.clean = clean_room_for c.self.invariant c.args.block c.index.result.now c.index.result.now f.was (ap is_clean_set f.block_set) in
     omega (arith, m.clean.ok.0)
@@ -111,7 +111,7 @@ not_some (Some x) out = absurd (out x refl)
 pub invariant_of-self-2 : goal.invariant_of-self-2
 invariant_of-self-2 g c =
     let m = c.self.inside in
-    let old : Managed = record { blocks = m.blocks.items; clean = m.clean.items; evictable = m.evictable.ids; waiting = m.waiting.items; ready = m.ready.items; reclaimers = m.reclaimers; clean_threshold = m.clean_threshold; is_cleaning = m.is_cleaning } in
+    let old : Managed = record { blocks = m.blocks.items; clean = m.clean.items; evictable = m.evictable.ids; waiting = m.waiting.items; ready = m.ready.items; reclaimers = m.reclaimers; clean_threshold = m.clean_threshold; block_size = m.block_size; is_cleaning = m.is_cleaning } in
     let f : Found m.blocks.items c.args.block c.index.result.now = found c.args.self.now old c.args.block c.index.result.now c.self.view_is c.requires c.index.ensures in
     let now : BlockState = record { block_set = Clean; filling = c.index.result.now.filling; statistics = record { invalid = 0; access = 0; probation = false } } in
     let some : 0 < m.reclaiming = some_reclaimed c.self.invariant c.args.block c.index.result.now f.was f.block_set in
@@ -129,7 +129,7 @@ invariant_of-self-2 g c =
 pub returns-clause-finished : goal.returns-clause-finished
 returns-clause-finished g c = λ s st.
     let m = c.self.inside in
-    let old : Managed = record { blocks = m.blocks.items; clean = m.clean.items; evictable = m.evictable.ids; waiting = m.waiting.items; ready = m.ready.items; reclaimers = m.reclaimers; clean_threshold = m.clean_threshold; is_cleaning = m.is_cleaning } in
+    let old : Managed = record { blocks = m.blocks.items; clean = m.clean.items; evictable = m.evictable.ids; waiting = m.waiting.items; ready = m.ready.items; reclaimers = m.reclaimers; clean_threshold = m.clean_threshold; block_size = m.block_size; is_cleaning = m.is_cleaning } in
     let stood : Stands old s = subst (λ (w : Managed). Stands w s) (sym c.self.view_is) st in
     let f : Found m.blocks.items c.args.block c.index.result.now = found c.args.self.now old c.args.block c.index.result.now c.self.view_is c.requires c.index.ensures in
     let none : c.next_waiter.result ≡ None = not_some c.next_waiter.result c.in_default.not-Some in

@@ -29,7 +29,7 @@ found v m b it view is reads =
 pub invariant_of-self : goal.invariant_of-self
 invariant_of-self g c =
     let m = c.self.inside in
-    let old : Managed = record { blocks = m.blocks.items; clean = m.clean.items; evictable = m.evictable.ids; waiting = m.waiting.items; ready = m.ready.items; reclaimers = m.reclaimers; clean_threshold = m.clean_threshold; is_cleaning = m.is_cleaning } in
+    let old : Managed = record { blocks = m.blocks.items; clean = m.clean.items; evictable = m.evictable.ids; waiting = m.waiting.items; ready = m.ready.items; reclaimers = m.reclaimers; clean_threshold = m.clean_threshold; block_size = m.block_size; is_cleaning = m.is_cleaning } in
     let before : BlockState = c.index_mut-state.result.now in
     let f : Found m.blocks.items c.args.block before = found c.args.self.now old c.args.block before c.self.view_is c.requires c.index_mut-state.ensures.value in
     let now : BlockState = record before { block_set = Evictable } in
@@ -40,7 +40,7 @@ invariant_of-self g c =
 pub returns-clause-left : goal.returns-clause-left
 returns-clause-left g c = λ s st.
     let m = c.self.inside in
-    let old : Managed = record { blocks = m.blocks.items; clean = m.clean.items; evictable = m.evictable.ids; waiting = m.waiting.items; ready = m.ready.items; reclaimers = m.reclaimers; clean_threshold = m.clean_threshold; is_cleaning = m.is_cleaning } in
+    let old : Managed = record { blocks = m.blocks.items; clean = m.clean.items; evictable = m.evictable.ids; waiting = m.waiting.items; ready = m.ready.items; reclaimers = m.reclaimers; clean_threshold = m.clean_threshold; block_size = m.block_size; is_cleaning = m.is_cleaning } in
     let stood : Stands old s = subst (λ (w : Managed). Stands w s) (sym c.self.view_is) st in
     let before : BlockState = c.index_mut-state.result.now in
     let f : Found m.blocks.items c.args.block before = found c.args.self.now old c.args.block before c.self.view_is c.requires c.index_mut-state.ensures.value in
@@ -50,7 +50,7 @@ returns-clause-left g c = λ s st.
 pub returns-clause-shown : goal.returns-clause-shown
 returns-clause-shown g c =
     let m = c.self.inside in
-    let old : Managed = record { blocks = m.blocks.items; clean = m.clean.items; evictable = m.evictable.ids; waiting = m.waiting.items; ready = m.ready.items; reclaimers = m.reclaimers; clean_threshold = m.clean_threshold; is_cleaning = m.is_cleaning } in
+    let old : Managed = record { blocks = m.blocks.items; clean = m.clean.items; evictable = m.evictable.ids; waiting = m.waiting.items; ready = m.ready.items; reclaimers = m.reclaimers; clean_threshold = m.clean_threshold; block_size = m.block_size; is_cleaning = m.is_cleaning } in
     let before : BlockState = c.index_mut-state.result.now in
     let f : Found m.blocks.items c.args.block before = found c.args.self.now old c.args.block before c.self.view_is c.requires c.index_mut-state.ensures.value in
     let now : BlockState = record before { block_set = Evictable } in
@@ -69,5 +69,5 @@ returns-clause-shown g c =
 pub returns-clause-others : goal.returns-clause-others
 returns-clause-others g c = λ q ne.
     let m = c.self.inside in
-    let old : Managed = record { blocks = m.blocks.items; clean = m.clean.items; evictable = m.evictable.ids; waiting = m.waiting.items; ready = m.ready.items; reclaimers = m.reclaimers; clean_threshold = m.clean_threshold; is_cleaning = m.is_cleaning } in
+    let old : Managed = record { blocks = m.blocks.items; clean = m.clean.items; evictable = m.evictable.ids; waiting = m.waiting.items; ready = m.ready.items; reclaimers = m.reclaimers; clean_threshold = m.clean_threshold; block_size = m.block_size; is_cleaning = m.is_cleaning } in
     set_there m.blocks.items c.args.block q (record (c.index_mut-state.result.now) { block_set = Evictable }) ne ∙ ap (λ (w : Managed). slice_get w.blocks q) c.self.view_is

@@ -61,6 +61,7 @@ returns-clause-same g c =
       flushers = ap (λ (w : Managed). length w.ready) c.self.view_is;
       reclaimers = ap (λ (w : Managed). w.reclaimers) c.self.view_is;
       clean_threshold = ap (λ (w : Managed). w.clean_threshold) c.self.view_is;
+      block_size = ap (λ (w : Managed). w.block_size) c.self.view_is;
     }
 
 -- what the pickers saw is what the manager has
@@ -87,7 +88,7 @@ returns-clause-may g c = λ s st. (c.may_reclaim.ensures.may s st).0 c.if-not-ma
 pub returns-clause-answers : goal.returns-clause-answers
 returns-clause-answers g c =
     let m = c.self.inside in
-    let old : Managed = record { blocks = m.blocks.items; clean = m.clean.items; evictable = m.evictable.ids; waiting = m.waiting.items; ready = m.ready.items; reclaimers = m.reclaimers; clean_threshold = m.clean_threshold; is_cleaning = m.is_cleaning } in
+    let old : Managed = record { blocks = m.blocks.items; clean = m.clean.items; evictable = m.evictable.ids; waiting = m.waiting.items; ready = m.ready.items; reclaimers = m.reclaimers; clean_threshold = m.clean_threshold; block_size = m.block_size; is_cleaning = m.is_cleaning } in
     c.in_ok-first_pick.ensures.answers
     ∙ ap (λ (i : Info). answers_given i.blocks (answers_of g.P.EvictionPicker.answer g.P.EvictionPicker.marks c.args.pickers.now i))
     (saw c.args.self.now old c.info_of-info.result.blocks.now c.info_of-info.result.evictable.now c.info_of-info.result.clean c.self.view_is
@@ -96,7 +97,7 @@ returns-clause-answers g c =
 pub returns-clause-probation : goal.returns-clause-probation
 returns-clause-probation g c =
     let m = c.self.inside in
-    let old : Managed = record { blocks = m.blocks.items; clean = m.clean.items; evictable = m.evictable.ids; waiting = m.waiting.items; ready = m.ready.items; reclaimers = m.reclaimers; clean_threshold = m.clean_threshold; is_cleaning = m.is_cleaning } in
+    let old : Managed = record { blocks = m.blocks.items; clean = m.clean.items; evictable = m.evictable.ids; waiting = m.waiting.items; ready = m.ready.items; reclaimers = m.reclaimers; clean_threshold = m.clean_threshold; block_size = m.block_size; is_cleaning = m.is_cleaning } in
     c.in_ok-first_pick.ensures.probation
     ∙ ap (λ (i : Info). marks_given i.blocks (answers_of g.P.EvictionPicker.answer g.P.EvictionPicker.marks c.args.pickers.now i))
     (saw c.args.self.now old c.info_of-info.result.blocks.now c.info_of-info.result.evictable.now c.info_of-info.result.clean c.self.view_is
@@ -105,7 +106,7 @@ returns-clause-probation g c =
 pub returns-clause-after : goal.returns-clause-after
 returns-clause-after g c = λ s st.
     let m = c.self.inside in
-    let old : Managed = record { blocks = m.blocks.items; clean = m.clean.items; evictable = m.evictable.ids; waiting = m.waiting.items; ready = m.ready.items; reclaimers = m.reclaimers; clean_threshold = m.clean_threshold; is_cleaning = m.is_cleaning } in
+    let old : Managed = record { blocks = m.blocks.items; clean = m.clean.items; evictable = m.evictable.ids; waiting = m.waiting.items; ready = m.ready.items; reclaimers = m.reclaimers; clean_threshold = m.clean_threshold; block_size = m.block_size; is_cleaning = m.is_cleaning } in
     let stood : Stands old s = subst (λ (w : Managed). Stands w s) (sym c.self.view_is) st in
     let is : is_id_in c.choose-block.result m.evictable.ids ≡ true = chosen_in m.blocks.items c.info_of-info.result.blocks.now m.evictable.ids c.as_slice.result.now (answers_of g.P.EvictionPicker.answer g.P.EvictionPicker.marks c.args.pickers.now (picker_info c.info_of-info.result.blocks.now c.info_of-info.result.evictable.now c.info_of-info.result.clean)) c.in_ok-first_pick.first_pick c.choose-block.result c.info_of-info.ensures.0 c.as_slice.ensures (c.self.invariant).evictable_is c.in_ok-first_pick.ensures.picked c.choose-block.ensures.chosen in
     let before : BlockState = c.index_mut.result.now in
@@ -118,7 +119,7 @@ returns-clause-after g c = λ s st.
 pub returns-clause-first : goal.returns-clause-first
 returns-clause-first g c = λ b picks.
     let m = c.self.inside in
-    let old : Managed = record { blocks = m.blocks.items; clean = m.clean.items; evictable = m.evictable.ids; waiting = m.waiting.items; ready = m.ready.items; reclaimers = m.reclaimers; clean_threshold = m.clean_threshold; is_cleaning = m.is_cleaning } in
+    let old : Managed = record { blocks = m.blocks.items; clean = m.clean.items; evictable = m.evictable.ids; waiting = m.waiting.items; ready = m.ready.items; reclaimers = m.reclaimers; clean_threshold = m.clean_threshold; block_size = m.block_size; is_cleaning = m.is_cleaning } in
     chosen_first c.in_ok-first_pick.first_pick c.choose-block.result b (is_id_in c.choose-block.result c.as_slice.result.now ≡ true)
     (c.in_ok-first_pick.ensures.picked
     ∙ ap (λ (i : Info). pick_of i.blocks (answers_of g.P.EvictionPicker.answer g.P.EvictionPicker.marks c.args.pickers.now i))
@@ -149,7 +150,7 @@ returns-clause-shown g c =
 pub returns-clause-drawn : goal.returns-clause-drawn
 returns-clause-drawn g c = λ picks.
     let m = c.self.inside in
-    let old : Managed = record { blocks = m.blocks.items; clean = m.clean.items; evictable = m.evictable.ids; waiting = m.waiting.items; ready = m.ready.items; reclaimers = m.reclaimers; clean_threshold = m.clean_threshold; is_cleaning = m.is_cleaning } in
+    let old : Managed = record { blocks = m.blocks.items; clean = m.clean.items; evictable = m.evictable.ids; waiting = m.waiting.items; ready = m.ready.items; reclaimers = m.reclaimers; clean_threshold = m.clean_threshold; block_size = m.block_size; is_cleaning = m.is_cleaning } in
     let before = g.G.Rng.stream c.args.generator.now in
     let after = g.G.Rng.stream c.choose-block.new.generator in
     subst (λ (w : Managed). IsDrawn w.evictable before c.choose-block.result after) c.self.view_is
@@ -163,7 +164,7 @@ returns-clause-drawn g c = λ picks.
 pub returns-clause-unasked : goal.returns-clause-unasked
 returns-clause-unasked g c = λ b picks.
     let m = c.self.inside in
-    let old : Managed = record { blocks = m.blocks.items; clean = m.clean.items; evictable = m.evictable.ids; waiting = m.waiting.items; ready = m.ready.items; reclaimers = m.reclaimers; clean_threshold = m.clean_threshold; is_cleaning = m.is_cleaning } in
+    let old : Managed = record { blocks = m.blocks.items; clean = m.clean.items; evictable = m.evictable.ids; waiting = m.waiting.items; ready = m.ready.items; reclaimers = m.reclaimers; clean_threshold = m.clean_threshold; block_size = m.block_size; is_cleaning = m.is_cleaning } in
     subst (λ o. IfSome o (λ x. c.choose-block.new.generator ≡ c.args.generator.now))
     (c.in_ok-first_pick.ensures.picked
     ∙ ap (λ (i : Info). pick_of i.blocks (answers_of g.P.EvictionPicker.answer g.P.EvictionPicker.marks c.args.pickers.now i))

@@ -9,7 +9,7 @@ use Rattle.foyer_block_manager.proofs.block.manager.BlockManager.vacate_all.Goal
 
 pub each_block-init : goal.each_block-init
 each_block-init g c = (
-  record { blocks = refl; flushers = refl; reclaimers = refl; clean_threshold = refl },
+  record { blocks = refl; flushers = refl; reclaimers = refl; clean_threshold = refl; block_size = refl },
   λ s st. vacant_none c.args.self.now s st,
   refl,
   λ q le. refl,
