@@ -1,16 +1,21 @@
 -- What the calls of a store make of its engine's answers.
-use Rattle.std.specs.Prelude.{◌≡◌, ◌⊎◌, ℕ, Bool, true, false, None, Result, Ok, Err}
+use Rattle.std.specs.Prelude.{◌≡◌, ◌+◌, ◌-◌, ◌^◌, ◌<◌, ◌⊎◌, ℕ, min, Bool, true, false, List, length, Option, Some, None, Result, Ok, Err, IfErr, OnOk}
 use Rattle.foyer_storage_engine.specs.Sessions.{SessionState}
 use Rattle.foyer_device_page.specs.declared.error.Error.{Error}
 use Rattle.foyer_device_page.specs.declared.error.Error.TheVariants as error
 use Rattle.foyer_device_throttle.specs.declared.throttle.Throttle.{Throttle}
+use Rattle.foyer_device_statistics.specs.declared.state.IoState.{IoState}
 use Rattle.foyer_format_record.specs.declared.serde.ages.Age.TheVariants as age
-use Rattle.foyer_storage_engine.specs.Answering.{IsLoaded}
+use Rattle.foyer_policy_filter.specs.Verdict.{AreAnswers, IsAdmit, IsVerdict}
+use Rattle.foyer_policy_filter.specs.declared.verdict.StorageFilterResult.{StorageFilterResult}
+use Rattle.foyer_storage_engine.specs.Answering.{IsLoaded, is_draw_error}
 use Rattle.foyer_storage_engine.specs.Decided.{decided_load}
+use Rattle.foyer_storage_engine.specs.Ending.{AsksForReclaims, BringsClean}
 use Rattle.foyer_storage_engine.specs.declared.engine.Enqueued.{Enqueued}
 use Rattle.foyer_storage_engine.specs.declared.engine.Enqueued.TheVariants as enqueued
 use Rattle.foyer_storage_engine.specs.declared.load.Load.{Load}
 use Rattle.foyer_storage_engine.specs.declared.load.Load.TheVariants as load
+use Rattle.foyer_storage_plan.specs.declared.sizes.EngineSizes.{EngineSizes}
 
 -- A load looks its hash up, throttled only where there is a limit of reads.
 pub record IsLoadedUnder {K V P A : Type 0} (limits : Throttle) (old new : SessionState) (hash : ℕ) (answered : Result (Load K V P A) Error) : Type 0 where
@@ -34,7 +39,43 @@ abbrev pub deleted_for : Result (Unit {0}) Error → Result Enqueued Error
 deleted_for (Ok done) = Ok enqueued.Deleted
 deleted_for (Err e) = Err e
 
--- A piece goes to the engine; or, where it isn't forced, its hash is deleted there.
-abbrev pub IsStored : (Result Enqueued Error → Type 0) → (Result (Unit {0}) Error → Type 0) → Bool → Result Enqueued Error → Type 0
-IsStored may_enqueue may_delete force answered =
-    may_enqueue answered ⊎ ((force ≡ false) × (deleted : Result (Unit {0}) Error) × may_delete deleted × (answered ≡ deleted_for deleted))
+-- how many bytes a piece is estimated to take: both codes together, saturating, where they can be encoded
+abbrev pub IsEstimated : (is_encodable : Bool) → (encoding : List ℕ) → (is_key_encodable : Bool) → (key : List ℕ) → (size : ℕ) → Type 0
+IsEstimated is_encodable encoding is_key_encodable key size =
+    is_key_encodable ≡ true → is_encodable ≡ true → size ≡ min (length encoding + length key) (2 ^ 64 - 1)
+
+-- what an admission filter may say of a hash and a size: all is admitted where there is none
+abbrev pub IsAdmission : {C : Type 0} → (C → IoState → ℕ → ℕ → StorageFilterResult → Type 0) → Option (List C) → (hash size : ℕ) → StorageFilterResult → Type 0
+IsAdmission may None hash size verdict = IsAdmit verdict
+IsAdmission may (Some conditions) hash size verdict =
+    (io : IoState) × (answers : List StorageFilterResult) × AreAnswers (λ c a. may c io hash size a) conditions answers × IsVerdict answers verdict
+
+-- A piece that is forced goes to the engine; another one where the filter admits it, and else its hash is deleted there.
+abbrev pub IsStored : (StorageFilterResult → Type 0) → (Result Enqueued Error → Type 0) → (Result (Unit {0}) Error → Type 0) → Bool → Result Enqueued Error → Type 0
+IsStored may_judge may_enqueue may_delete force answered =
+    ((force ≡ true) × may_enqueue answered)
+    ⊎ ((force ≡ false) × (verdict : StorageFilterResult) × may_judge verdict × ((IsAdmit verdict × may_enqueue answered)
+    ⊎ ((IsAdmit verdict → ⊥) × (deleted : Result (Unit {0}) Error) × may_delete deleted × (answered ≡ deleted_for deleted))))
+
+-- a wait, or a close, that ended: its last step asks whether no reclaim runs
+abbrev pub HasWaited : SessionState → Result (Unit {0}) Error → Type 0
+HasWaited new answered = OnOk answered (AsksForReclaims new) × IfErr answered (λ e. is_draw_error e ≡ true)
+
+-- a destroy of so many blocks that ended: its last step brings the outcome of the last block's clean
+abbrev pub HasDestroyed : (blocks : ℕ) → SessionState → Result (Unit {0}) Error → Type 0
+HasDestroyed blocks new answered = OnOk answered (0 < blocks → BringsClean (blocks - 1) new)
+
+-- every size at its default
+abbrev pub default_sizes : EngineSizes
+default_sizes = record {
+  block_size = 2 ^ 24;
+  blob_index_size = 4096;
+  indexer_shards = None;
+  recover_concurrency = 8;
+  flushers = 1;
+  reclaimers = 1;
+  buffer_pool_size = 2 ^ 24;
+  submit_queue_size_threshold = 2 ^ 24;
+  clean_block_threshold = 1;
+  tombstone_log = false;
+}

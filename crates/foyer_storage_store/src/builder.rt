@@ -1,5 +1,7 @@
 //! What a store is built of.
-ghost use Rattle.std.specs.Prelude.{◌≡◌, ◌≢◌, ◌+◌, ◌<◌, ◌^◌, IfOk, Err, vec_len};
+ghost use Rattle.std.specs.Arc.{arc_value};
+ghost use Rattle.std.specs.Prelude.{◌≡◌, ◌≢◌, ◌+◌, ◌<◌, ◌^◌, IfOk, Err, not, vec_len};
+ghost use Rattle.foyer_block_recover.specs.declared.block.recover.RecoverMode.TheVariants as recover_mode;
 ghost use Rattle.foyer_device_page.specs.declared.error.Error.TheVariants.{Config, Unsupported};
 ghost use Rattle.foyer_format_record.specs.declared.compress.Compression.TheVariants as compression;
 
@@ -37,7 +39,10 @@ impl<H: Drop> StoreBuilder<H, NoopEngineConfig, PsyncIoEngineConfig> {
         name: &'static str,
         hasher: H,
         shards: usize,
-    ) -> StoreBuilder<H, NoopEngineConfig, PsyncIoEngineConfig> {
+    ) -> StoreBuilder<H, NoopEngineConfig, PsyncIoEngineConfig>
+        ensures given { (result.name.now ≡ name.now) × (result.hasher ≡ hasher) × (result.shards ≡ shards) }
+        ensures defaults { (result.compression ≡ compression.None) × (result.recover_mode ≡ recover_mode.Quiet) }
+    {
         StoreBuilder {
             name,
             hasher,
@@ -127,6 +132,7 @@ impl<H: Drop, N: Drop, I: Drop> StoreBuilder<H, N, I> {
     pub fn is_noop<R: Copy, T: Clock, L: Kinds, K: Eq, V, P>(&self) -> bool
     where
         N: EngineConfig<R, EngineBuildContext<I, T>, WholeSession<L>, K, V, P>,
+        ensures { result ≡ N.keeps_nothing self.now.engine }
     {
         self.engine.is_noop()
     }
@@ -156,6 +162,14 @@ impl<H: Drop, N: Drop, I: Drop> StoreBuilder<H, N, I> {
         requires { N.fits blanks }
         ensures parts { IfOk result (λ r. r.1.steps.shares.parts + vec_len r.2.flushers + vec_len r.2.reclaimers ≡ 2 ^ 32) }
         ensures more { IfOk result (λ r. 1 < r.1.steps.shares.parts) }
+        ensures given { IfOk result (λ r. ((arc_value r.0.shared).name.now ≡ self.name.now) × ((arc_value r.0.shared).hasher ≡ self.hasher)) }
+        ensures enabled { IfOk result (λ r. (arc_value r.0.shared).is_enabled ≡ not (N.keeps_nothing self.engine)) }
+        ensures built { IfOk result (λ r. N.may_build self.engine (record {
+          io_engine_config = self.io_engine;
+          recover_mode = self.recover_mode;
+          clock = clock;
+          generator = generator;
+        }) (arc_value r.0.shared).engine (arc_value r.0.shared).throttle) }
         ensures shardless { self.shards ≡ 0 → result ≡ Err Config }
         ensures compressed { self.shards ≢ 0 → self.compression ≢ compression.None → result ≡ Err Unsupported }
     {

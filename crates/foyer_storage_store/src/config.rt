@@ -1,5 +1,5 @@
 //! What an engine is built of, and what a store asks of it.
-ghost use Rattle.std.specs.Prelude.{◌+◌, ◌<◌, ◌^◌, IfOk, vec_len};
+ghost use Rattle.std.specs.Prelude.{◌≡◌, ◌+◌, ◌<◌, ◌^◌, IfOk, vec_len};
 
 mod block;
 mod device_engine;
@@ -80,6 +80,10 @@ pub trait Engine<S: Drop, K: Eq, V, P>: Drop {
     ghost use Rattle.foyer_device_page.specs.declared.error.Error.{Error};
     ghost use Rattle.foyer_storage_engine.specs.declared.engine.Enqueued.{Enqueued};
     ghost use Rattle.foyer_storage_engine.specs.declared.load.Load.{Load};
+    ghost use Rattle.foyer_policy_filter.specs.declared.verdict.StorageFilterResult.{StorageFilterResult};
+
+    // What its admission filter may say of an entry of that hash and size.
+    ghost may_judge: { Self → ℕ → ℕ → StorageFilterResult → Type 0 };
 
     // What an enqueue of a piece of that hash and size may make of a caller's session, and answer.
     ghost may_enqueue: { Self → S → S → ℕ → ℕ → Result Enqueued Error → Type 0 };
@@ -93,8 +97,12 @@ pub trait Engine<S: Drop, K: Eq, V, P>: Drop {
     // The same of a question.
     ghost may_ask: { Self → S → S → ℕ → Result Bool Error → Type 0 };
 
-    // What a wait, a close or a destroy may make of it.
-    ghost may_end: { Self → S → S → Type 0 };
+    // The same of a wait, of a close and of a destroy.
+    ghost may_wait: { Self → S → S → Result (Unit {0}) Error → Type 0 };
+
+    ghost may_close: { Self → S → S → Result (Unit {0}) Error → Type 0 };
+
+    ghost may_destroy: { Self → S → S → Result (Unit {0}) Error → Type 0 };
 
     /// What its device has.
     fn device(&self) -> DeviceSummary;
@@ -103,7 +111,8 @@ pub trait Engine<S: Drop, K: Eq, V, P>: Drop {
     fn io_state(&self, rt: &impl Wait, now: u64) -> IoState;
 
     /// What its admission filter says of an entry of that hash and size in bytes, at a moment.
-    fn filter(&self, rt: &impl Wait, hash: u64, size: usize, now: u64) -> StorageFilterResult;
+    fn filter(&self, rt: &impl Wait, hash: u64, size: usize, now: u64) -> StorageFilterResult
+        ensures { may_judge self.now hash size result };
 
     /// Queues a piece, and keeps it in this keeper where it is queued; `size` is its estimated size in bytes.
     fn enqueue(
@@ -136,24 +145,29 @@ pub trait Engine<S: Drop, K: Eq, V, P>: Drop {
 
     /// Destroys all entries.
     fn destroy(&self, rt: &impl Wait, session: &mut S) -> Result<()>
-        ensures { may_end self.now session.old session.new };
+        ensures { may_destroy self.now session.old session.new result };
 
     /// Waits until all that was queued is written.
     fn wait(&self, rt: &impl Wait, session: &mut S) -> Result<()>
-        ensures { may_end self.now session.old session.new };
+        ensures { may_wait self.now session.old session.new result };
 
     /// Takes no more enqueues, deletes and destroys, and waits.
     fn close(&self, rt: &impl Wait, session: &mut S) -> Result<()>
-        ensures { may_end self.now session.old session.new };
+        ensures { may_close self.now session.old session.new result };
 }
 
 /// Builds engines over a runtime R; `X` is what they are built with, an `EngineBuildContext`, and `S` the session that has all
 /// parts.
 pub trait EngineConfig<R: Copy, X: Drop, S: Drop, K: Eq, V, P>: Sized + Drop {
     ghost use Rattle.foyer_core_tally.specs.declared.blanks.Blanks.{Blanks};
+    ghost use Rattle.foyer_device_throttle.specs.declared.throttle.Throttle.{Throttle};
+    ghost use Rattle.std.specs.Prelude.{Bool};
 
     // Which ledgers its steps may be counted in.
     ghost fits: { Blanks → Type 0 };
+
+    // Whether the engine keeps nothing.
+    ghost keeps_nothing: { Self → Bool };
 
     /// The engine.
     type Engine: Drop;
@@ -164,8 +178,12 @@ pub trait EngineConfig<R: Copy, X: Drop, S: Drop, K: Eq, V, P>: Sized + Drop {
     /// A reclaimer's.
     type Reclaimer: Drop;
 
+    // What it may build, with these limits of its device, of what it is built with.
+    ghost may_build: { Self → X → Self.Engine → Throttle → Type 0 };
+
     /// Whether the engine keeps nothing.
-    fn is_noop(&self) -> bool;
+    fn is_noop(&self) -> bool
+        ensures { result ≡ keeps_nothing self.now };
 
     /// The engine, whose workers aren't started: a trait's method can't start threads whose types are parameters. Refused as the
     /// engine's own config says.
@@ -178,5 +196,6 @@ pub trait EngineConfig<R: Copy, X: Drop, S: Drop, K: Eq, V, P>: Sized + Drop {
         context: X,
     ) -> Result<Built<Self::Engine, Self::Flusher, Self::Reclaimer, S>>
         requires { fits blanks }
-        ensures { IfOk result (λ b. vec_len b.flushers + vec_len b.reclaimers + 1 < 2 ^ 32) };
+        ensures parts { IfOk result (λ b. vec_len b.flushers + vec_len b.reclaimers + 1 < 2 ^ 32) }
+        ensures built { IfOk result (λ b. may_build self context b.engine b.throttle) };
 }

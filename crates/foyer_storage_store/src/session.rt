@@ -1,5 +1,5 @@
 //! The sessions that a store is asked with, and what they are made of: facts about their parts lie in their types.
-ghost use Rattle.std.specs.Prelude.{◌≡◌, ◌+◌, ◌<◌, ◌∷◌, []};
+ghost use Rattle.std.specs.Prelude.{◌≡◌, ◌+◌, ◌<◌, ◌∷◌, [], None};
 ghost use Rattle.foyer_core_tally.specs.Tally.{both, none, shown, listed};
 
 use foyer_core_tally::book::Kinds;
@@ -57,7 +57,9 @@ impl<L: Kinds> StoreSession<L> {
         requires some { 0 < parts }
         requires fewer { parts < self.old.steps.shares.parts }
         ensures given { result.steps.shares ≡ record { parts = parts; amounts = none } }
+        ensures fresh { (result.steps.newest ≡ None) × (result.steps.before ≡ None) }
         ensures left { (self.new.steps.shares.parts + parts ≡ self.old.steps.shares.parts) × (self.new.steps.shares.amounts ≡ self.old.steps.shares.amounts) }
+        ensures briefs { (self.new.steps.newest ≡ self.old.steps.newest) × (self.new.steps.before ≡ self.old.steps.before) }
     {
         StoreSession {
             steps: self.steps.split(parts),
@@ -66,10 +68,11 @@ impl<L: Kinds> StoreSession<L> {
 
     /// Takes in another session's parts and steps, and keeps its own briefs.
     pub fn join(&mut self, other: StoreSession<L>)
-        ensures { self.new.steps.shares ≡ record {
+        ensures shares { self.new.steps.shares ≡ record {
           parts = self.old.steps.shares.parts + other.steps.shares.parts;
           amounts = both self.old.steps.shares.amounts other.steps.shares.amounts;
         } }
+        ensures briefs { (self.new.steps.newest ≡ self.old.steps.newest) × (self.new.steps.before ≡ self.old.steps.before) }
     {
         self.steps.join(other.into_steps());
     }

@@ -1,11 +1,11 @@
 //! The store: a keeper of the pieces that aren't written yet, before an engine.
 ghost use Rattle.std.specs.Arc.{arc_value};
 ghost use Rattle.std.specs.declared.alloc.Global.{Global};
-ghost use Rattle.std.specs.Prelude.{◌≡◌, ◌⊎◌, ◌<◌, ℕ, Result, Ok, true, IsOkUnless};
+ghost use Rattle.std.specs.Prelude.{◌≡◌, ◌⊎◌, ◌<◌, ℕ, Result, Ok, true, IfOk, IsOkUnless};
 ghost use Rattle.foyer_device_page.specs.declared.error.Error.{Error};
 ghost use Rattle.foyer_device_page.specs.declared.error.Error.TheVariants as error;
 ghost use Rattle.foyer_storage_engine.specs.declared.load.Load.{Load};
-ghost use Rattle.foyer_storage_store.specs.Storing.{IsDecided, IsKept, IsStored};
+ghost use Rattle.foyer_storage_store.specs.Storing.{IsDecided, IsEstimated, IsKept, IsStored};
 
 use crate::config::{DeviceSummary, Engine};
 use foyer_device_page::error::Result;
@@ -61,7 +61,11 @@ impl<N: Drop, K: Eq + Drop, V: Drop, P: Drop, H: Drop> Store<N, K, V, P, H> {
         statistics: Arc<Statistics<Global>, Global>,
         throttle: Throttle,
     ) -> Result<Store<N, K, V, P, H>>
-        ensures { IsOkUnless result error.Memory }
+        ensures given { IfOk result (λ store. ((arc_value store.shared).name.now ≡ name.now) × ((arc_value store.shared).hasher ≡ hasher)
+            × ((arc_value store.shared).is_enabled ≡ is_enabled) × ((arc_value store.shared).keeper ≡ keeper)) }
+        ensures engine { IfOk result (λ store. ((arc_value store.shared).engine ≡ engine) × ((arc_value store.shared).statistics ≡ statistics)
+            × ((arc_value store.shared).throttle ≡ throttle)) }
+        ensures refused { IsOkUnless result error.Memory }
     {
         let inner = Inner {
             name,
@@ -110,6 +114,7 @@ impl<N: Drop, K: Eq + Drop, V: Drop, P: Drop, H: Drop> Store<N, K, V, P, H> {
     where
         K: Code<Global>,
         V: Code<Global>,
+        ensures { IsEstimated (V.is_encodable value.now) (V.encoding value.now) (K.is_encodable key.now) (K.encoding key.now) result }
     {
         EntrySerializer::estimated_size::<Global, K, V>(key, value)
     }
@@ -141,6 +146,7 @@ impl<N: Drop, K: Eq + Drop, V: Drop, P: Drop, H: Drop> Store<N, K, V, P, H> {
     where
         N: Engine<S, K, V, P>,
         H: HashBuilder<K>,
+        ensures { N.may_judge (arc_value self.now.shared).engine (H.hash_of (arc_value self.now.shared).hasher key.now) size result }
     {
         let hash = self.shared.hasher.hash_one(key);
         self.shared.engine.filter(rt, hash, size, now)
@@ -161,7 +167,8 @@ impl<N: Drop, K: Eq + Drop, V: Drop, P: Drop, H: Drop> Store<N, K, V, P, H> {
         N: Engine<S, K, V, P>,
         K: Code<Global>,
         V: Code<Global>,
-        ensures answered { (size : ℕ) × IsStored
+        ensures answered { (size : ℕ) × IsEstimated (V.is_encodable piece.now.value) (V.encoding piece.now.value) (K.is_encodable piece.now.key) (K.encoding piece.now.key) size × IsStored
+            (N.may_judge (arc_value self.now.shared).engine piece.now.hash size)
             (N.may_enqueue (arc_value self.now.shared).engine session.old session.new piece.now.hash size)
             (N.may_delete (arc_value self.now.shared).engine session.old session.new piece.now.hash) force result }
     {
@@ -238,7 +245,7 @@ impl<N: Drop, K: Eq + Drop, V: Drop, P: Drop, H: Drop> Store<N, K, V, P, H> {
     pub fn destroy<S: Drop>(&self, rt: &impl Wait, session: &mut S) -> Result<()>
     where
         N: Engine<S, K, V, P>,
-        ensures { N.may_end (arc_value self.now.shared).engine session.old session.new }
+        ensures { N.may_destroy (arc_value self.now.shared).engine session.old session.new result }
     {
         self.shared.engine.destroy(rt, session)
     }
@@ -247,7 +254,7 @@ impl<N: Drop, K: Eq + Drop, V: Drop, P: Drop, H: Drop> Store<N, K, V, P, H> {
     pub fn wait<S: Drop>(&self, rt: &impl Wait, session: &mut S) -> Result<()>
     where
         N: Engine<S, K, V, P>,
-        ensures { N.may_end (arc_value self.now.shared).engine session.old session.new }
+        ensures { N.may_wait (arc_value self.now.shared).engine session.old session.new result }
     {
         self.shared.engine.wait(rt, session)
     }
@@ -256,7 +263,7 @@ impl<N: Drop, K: Eq + Drop, V: Drop, P: Drop, H: Drop> Store<N, K, V, P, H> {
     pub fn close<S: Drop>(&self, rt: &impl Wait, session: &mut S) -> Result<()>
     where
         N: Engine<S, K, V, P>,
-        ensures { N.may_end (arc_value self.now.shared).engine session.old session.new }
+        ensures { N.may_close (arc_value self.now.shared).engine session.old session.new result }
     {
         self.shared.engine.close(rt, session)
     }

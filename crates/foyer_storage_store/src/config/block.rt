@@ -1,5 +1,6 @@
 //! What an engine over the blocks of a device is built of.
-ghost use Rattle.std.specs.Prelude.{◌≡◌, Some};
+ghost use Rattle.std.specs.Prelude.{◌≡◌, None, Some};
+ghost use Rattle.foyer_storage_store.specs.Storing.{default_sizes};
 
 use super::pickers::{DefaultPickers, GivenPickers, PickerSource};
 use foyer_block_manager::block::eviction::EvictionPicker;
@@ -28,7 +29,11 @@ pub struct BlockEngineConfig<
 impl<D: Device> BlockEngineConfig<D, DefaultPickers, BuiltInCondition, OpenGate> {
     /// An engine over this device, with every size at its default; all is admitted, nothing is written again, no delete is
     /// logged, and no thread is held.
-    pub fn new(device: D) -> BlockEngineConfig<D, DefaultPickers, BuiltInCondition, OpenGate> {
+    pub fn new(device: D) -> BlockEngineConfig<D, DefaultPickers, BuiltInCondition, OpenGate>
+        ensures device { result.device ≡ device }
+        ensures filters { (result.admission ≡ None) × (result.reinsertion ≡ None) }
+        ensures sizes { result.sizes ≡ default_sizes }
+    {
         BlockEngineConfig {
             device,
             sizes: EngineSizes::new(),

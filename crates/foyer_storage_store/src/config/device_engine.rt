@@ -135,7 +135,10 @@ where
 {
     ghost use Rattle.std.specs.Prelude.{◌≡◌};
     ghost use Rattle.foyer_storage_engine.specs.Calls.{IsDeleteAnswer, IsEnqueueAnswer, IsQuestionAnswer};
-    ghost use Rattle.foyer_storage_store.specs.Storing.{IsLoadedUnder};
+    ghost use Rattle.std.specs.Arc.{arc_value};
+    ghost use Rattle.foyer_storage_store.specs.Storing.{HasDestroyed, HasWaited, IsAdmission, IsLoadedUnder};
+
+    ghost may_judge = { λ b hash size verdict. IsAdmission C.may_answer b.admission hash size verdict };
 
     ghost may_enqueue = { λ _ old new hash size answer. IsEnqueueAnswer old.steps new.steps hash size answer × (new.steps.shares.parts ≡ old.steps.shares.parts) };
 
@@ -145,7 +148,11 @@ where
 
     ghost may_ask = { λ _ old new hash answer. IsQuestionAnswer old.steps new.steps hash answer × (new.steps.shares.parts ≡ old.steps.shares.parts) };
 
-    ghost may_end = { λ _ old new. new.steps.shares.parts ≡ old.steps.shares.parts };
+    ghost may_wait = { λ _ old new answer. HasWaited new.steps answer × (new.steps.shares.parts ≡ old.steps.shares.parts) };
+
+    ghost may_close = { λ _ old new answer. HasWaited new.steps answer × (new.steps.shares.parts ≡ old.steps.shares.parts) };
+
+    ghost may_destroy = { λ b old new answer. HasDestroyed (arc_value b.engine).settings.blocks new.steps answer × (new.steps.shares.parts ≡ old.steps.shares.parts) };
 
     fn device(&self) -> DeviceSummary {
         self.device

@@ -1,5 +1,6 @@
 //! How a device is divided, and gets its counters.
-ghost use Rattle.std.specs.Prelude.{◌≡◌, ◌+◌, ◌*◌, ◌<◌, ◌^◌, IfOk, OnOk};
+ghost use Rattle.std.specs.Prelude.{◌≡◌, ◌+◌, ◌*◌, ◌<◌, ◌^◌, if◌then◌else◌, IfOk, OnOk, length};
+ghost use Rattle.foyer_block_tombstone.specs.Pages.{log_pages};
 
 use super::DeviceSummary;
 use foyer_block_tombstone::block::tombstone::log_pages;
@@ -15,7 +16,9 @@ use std::rt::Files;
 use std::sync::Arc;
 
 // The bytes of the log of deletes of a device of so many bytes, 0 where there is to be none.
-fn log_size(capacity: usize, tombstone_log: bool) -> Result<usize> {
+fn log_size(capacity: usize, tombstone_log: bool) -> Result<usize>
+    ensures { IfOk result (λ size. size ≡ (if tombstone_log then log_pages capacity * 4096 else 0)) }
+{
     if !tombstone_log {
         return Ok(0);
     }
@@ -67,7 +70,7 @@ pub(super) struct Divided<D: Device> {
 
 // What a core that has so many blocks is opened with.
 fn settings_of(planned: Settings, blocks: usize) -> Result<Settings>
-    ensures { IfOk result (λ s. (s.flushers ≡ planned.flushers) × (s.reclaimers ≡ planned.reclaimers)) }
+    ensures { IfOk result (λ s. s ≡ record planned { blocks = blocks }) }
 {
     let Ok(blocks) = u32::try_from(blocks) else {
         return Err(Error::Config);
@@ -118,7 +121,8 @@ fn recorder_of(
     throttle: Throttle,
     now: u64,
 ) -> Result<(Recorder<Global>, Arc<Statistics<Global>, Global>)>
-    ensures { IfOk result (λ r. r.0.view.parts ≡ 2 ^ 32) }
+    ensures parts { IfOk result (λ r. r.0.view.parts ≡ 2 ^ 32) }
+    ensures limits { IfOk result (λ r. r.0.limits ≡ throttle) }
 {
     let (statistics, seat) = Statistics::new(alloc, throttle, now)?;
     let statistics = Arc::new(alloc, statistics)?;
@@ -148,6 +152,9 @@ pub(super) fn count<D: Device>(
 where
     D::Partition: Drop,
     ensures settings { IfOk result (λ c. c.settings ≡ divided.settings) }
+    ensures limits { IfOk result (λ c. (c.throttle ≡ D.limits divided.device) × (c.recorder.limits ≡ D.limits divided.device)) }
+    ensures summary { IfOk result (λ c. (c.summary.capacity ≡ D.room divided.device) × (c.summary.partitions ≡ length (D.sizes divided.device))) }
+    ensures partitions { IfOk result (λ c. (c.log ≡ divided.log) × (c.blocks ≡ divided.blocks)) }
     ensures parts { IfOk result (λ c. c.recorder.view.parts ≡ 2 ^ 32) }
 {
     let paths = divided.device.files(alloc)?;

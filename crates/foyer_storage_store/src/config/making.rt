@@ -72,7 +72,8 @@ where
     requires ledgers { AreOf L.name_of L.all blanks × (L.all ≡ 2 ^ 32) }
     requires parts { counted.recorder.view.parts ≡ 2 ^ 32 }
     requires seats { counted.settings.flushers + 2 * counted.settings.reclaimers + 2 < 2 ^ 32 }
-    ensures { IfOk result (λ b. vec_len b.flushers + vec_len b.reclaimers + 1 < 2 ^ 32) }
+    ensures parts { IfOk result (λ b. vec_len b.flushers + vec_len b.reclaimers + 1 < 2 ^ 32) }
+    ensures built { IfOk result (λ b. (b.engine.admission ≡ admission) × (b.engine.throttle ≡ counted.throttle) × (b.throttle ≡ counted.throttle)) }
 {
     let Counted {
         log,
@@ -144,16 +145,20 @@ where
     C: StorageFilterCondition + Send + Sync + 'static,
     G: Gate + Send + Sync + 'static,
 {
-    ghost use Rattle.std.specs.Prelude.{◌≡◌, ◌^◌};
+    ghost use Rattle.std.specs.Prelude.{◌≡◌, ◌^◌, false};
     ghost use Rattle.foyer_core_tally.specs.Ledgers.{AreOf};
 
     ghost fits = { λ blanks. AreOf L.name_of L.all blanks × (L.all ≡ 2 ^ 32) };
+
+    ghost keeps_nothing = { λ _. false };
 
     type Engine = BuiltEngine<L, K, V, P, S::Picker, C, I::Engine, D::Partition, G>;
 
     type Flusher = BlockFlusher<L, K, V, P, S::Picker, C, I::Engine, D::Partition, G>;
 
     type Reclaimer = BlockReclaimer<L, K, V, P, S::Picker, C, I::Engine, D::Partition, G, T>;
+
+    ghost may_build = { λ config _ engine throttle. (engine.admission ≡ config.admission) × (engine.throttle ≡ throttle) };
 
     fn is_noop(&self) -> bool {
         false
@@ -175,7 +180,8 @@ where
         >,
     >
         requires { AreOf L.name_of L.all blanks × (L.all ≡ 2 ^ 32) }
-        ensures { IfOk result (λ b. vec_len b.flushers + vec_len b.reclaimers + 1 < 2 ^ 32) }
+        ensures parts { IfOk result (λ b. vec_len b.flushers + vec_len b.reclaimers + 1 < 2 ^ 32) }
+        ensures built { IfOk result (λ b. (b.engine.admission ≡ self.admission) × (b.engine.throttle ≡ b.throttle)) }
     {
         let BlockEngineConfig {
             device,

@@ -46,6 +46,9 @@ impl<L: Kinds, K: Eq + Drop, V: Drop, P: Drop> Engine<StoreSession<L>, K, V, P> 
     ghost use Rattle.std.specs.Prelude.{◌≡◌, Ok, false};
     ghost use Rattle.foyer_storage_engine.specs.declared.load.Load.TheVariants as load;
     ghost use Rattle.foyer_storage_engine.specs.declared.engine.Enqueued.TheVariants as enqueued;
+    ghost use Rattle.foyer_policy_filter.specs.Verdict.{IsReject};
+
+    ghost may_judge = { λ _ _ _ verdict. IsReject verdict };
 
     ghost may_enqueue = { λ _ old new _ _ answer. (answer ≡ Ok enqueued.Ignored) × (new ≡ old) };
 
@@ -55,7 +58,11 @@ impl<L: Kinds, K: Eq + Drop, V: Drop, P: Drop> Engine<StoreSession<L>, K, V, P> 
 
     ghost may_ask = { λ _ old new _ answer. (answer ≡ Ok false) × (new ≡ old) };
 
-    ghost may_end = { λ _ old new. new ≡ old };
+    ghost may_wait = { λ _ old new answer. (answer ≡ Ok tt) × (new ≡ old) };
+
+    ghost may_close = { λ _ old new answer. (answer ≡ Ok tt) × (new ≡ old) };
+
+    ghost may_destroy = { λ _ old new answer. (answer ≡ Ok tt) × (new ≡ old) };
 
     fn device(&self) -> DeviceSummary {
         DeviceSummary {
@@ -128,16 +135,20 @@ impl<R: Copy, I: Drop, T: Clock, L: Kinds, K: Eq + Drop, V: Drop, P: Drop> Engin
     V,
     P,
 > for NoopEngineConfig {
-    ghost use Rattle.std.specs.Prelude.{◌≡◌, ◌^◌};
+    ghost use Rattle.std.specs.Prelude.{◌≡◌, ◌^◌, true, None};
     ghost use Rattle.foyer_core_tally.specs.Ledgers.{AreOf};
 
     ghost fits = { λ blanks. AreOf L.name_of L.all blanks × (L.all ≡ 2 ^ 32) };
+
+    ghost keeps_nothing = { λ _. true };
 
     type Engine = NoopEngine<L>;
 
     type Flusher = NoWorker;
 
     type Reclaimer = NoWorker;
+
+    ghost may_build = { λ _ _ _ _. Unit {0} };
 
     fn is_noop(&self) -> bool {
         true
@@ -152,7 +163,8 @@ impl<R: Copy, I: Drop, T: Clock, L: Kinds, K: Eq + Drop, V: Drop, P: Drop> Engin
         context: EngineBuildContext<I, T>,
     ) -> Result<Built<NoopEngine<L>, NoWorker, NoWorker, WholeSession<L>>>
         requires { AreOf L.name_of L.all blanks × (L.all ≡ 2 ^ 32) }
-        ensures { IfOk result (λ b. vec_len b.flushers + vec_len b.reclaimers + 1 < 2 ^ 32) }
+        ensures parts { IfOk result (λ b. vec_len b.flushers + vec_len b.reclaimers + 1 < 2 ^ 32) }
+        ensures built { IfOk result (λ _. Unit {0}) }
     {
         let throttle = Throttle::new();
         let (statistics, _) = Statistics::new(alloc, throttle, context.clock.now())?;
