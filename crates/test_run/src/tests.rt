@@ -3,6 +3,7 @@ mod driver;
 mod every_step;
 mod filled;
 mod flushers;
+mod local;
 mod random;
 mod reader;
 mod reclaimers;

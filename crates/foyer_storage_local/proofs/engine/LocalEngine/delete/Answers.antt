@@ -1,0 +1,15 @@
+use Rattle.std.proofs.Common.{refl, subst}
+use Rattle.foyer_core_laws.specs.Content.{meaning}
+use Rattle.foyer_core_run.specs.declared.moves.Move.TheVariants as move
+use Rattle.foyer_storage_local.specs.EntryCalls.{IsHashDeleted}
+use Rattle.foyer_storage_local.proofs.engine.LocalEngine.delete.Goals as goal
+
+pub returns-clause-says : goal.returns-clause-says
+returns-clause-says g c =
+    let m = meaning g.K.Code.encoding g.V.Code.encoding g.K.Code.is_encodable g.V.Code.is_encodable g.K.Code.is_decodable g.V.Code.is_decodable g.P.Properties.age in
+    let bytes = g.D.Disk.byte_at c.args.self.now.disk in
+    subst (λ h. IsHashDeleted m h c.args.self.now.core c.step.new.core bytes bytes c.answer_delete.result) c.hash_one-hash.ensures
+    (record { last = c.step.result; is = c.answer_delete.ensures; says = c.step.ensures.runs (move.Delete c.hash_one-hash.result) refl bytes })
+
+pub returns-clause-driven : goal.returns-clause-driven
+returns-clause-driven g c = c.step.ensures.drives _

@@ -1,0 +1,39 @@
+use Rattle.std.proofs.Common.{refl, ◌∙◌}
+use Rattle.foyer_core_run.proofs.WaitingLemmas.{known_more, known_none}
+use Rattle.foyer_core_laws.specs.Content.{meaning}
+use Rattle.foyer_storage_local.proofs.engine.LocalEngine.keep_clean.Goals as goal
+
+pub loop-init : goal.loop-init
+loop-init g c =
+    let m = meaning g.K.Code.encoding g.V.Code.encoding g.K.Code.is_encodable g.V.Code.is_encodable g.K.Code.is_decodable g.V.Code.is_decodable g.P.Properties.age in
+    (known_none m (g.D.Disk.is_known c.args.self.now.disk) c.args.self.now.core (g.D.Disk.byte_at c.args.self.now.disk), refl, refl, refl)
+
+pub returns-in_default : goal.returns-in_default
+returns-in_default g c =
+    let m = meaning g.K.Code.encoding g.V.Code.encoding g.K.Code.is_encodable g.V.Code.is_encodable g.K.Code.is_decodable g.V.Code.is_decodable g.P.Properties.age in
+    record {
+      waited = known_more m c.args.self.now.core c.loop.self.core c.reclaim.new.self.core (g.D.Disk.byte_at c.args.self.now.disk) (g.D.Disk.byte_at c.loop.self.disk) (g.D.Disk.byte_at c.reclaim.new.self.disk) c.loop.invariant.0 c.reclaim.ensures.waited;
+      lent = (c.reclaim.ensures.lent ∙ c.loop.invariant.1, c.reclaim.ensures.io ∙ c.loop.invariant.2);
+      hasher = c.reclaim.ensures.hasher ∙ c.loop.invariant.3;
+    }
+
+pub returns-in_default-2 : goal.returns-in_default-2
+returns-in_default-2 g c =
+    let m = meaning g.K.Code.encoding g.V.Code.encoding g.K.Code.is_encodable g.V.Code.is_encodable g.K.Code.is_decodable g.V.Code.is_decodable g.P.Properties.age in
+    record {
+      waited = known_more m c.args.self.now.core c.loop.self.core c.reclaim.new.self.core (g.D.Disk.byte_at c.args.self.now.disk) (g.D.Disk.byte_at c.loop.self.disk) (g.D.Disk.byte_at c.reclaim.new.self.disk) c.loop.invariant.0 c.reclaim.ensures.waited;
+      lent = (c.reclaim.ensures.lent ∙ c.loop.invariant.1, c.reclaim.ensures.io ∙ c.loop.invariant.2);
+      hasher = c.reclaim.ensures.hasher ∙ c.loop.invariant.3;
+    }
+
+pub loop-preserved : goal.loop-preserved
+loop-preserved g c =
+    let m = meaning g.K.Code.encoding g.V.Code.encoding g.K.Code.is_encodable g.V.Code.is_encodable g.K.Code.is_decodable g.V.Code.is_decodable g.P.Properties.age in (
+      known_more m c.args.self.now.core c.loop.self.core c.reclaim.new.self.core (g.D.Disk.byte_at c.args.self.now.disk) (g.D.Disk.byte_at c.loop.self.disk) (g.D.Disk.byte_at c.reclaim.new.self.disk) c.loop.invariant.0 c.reclaim.ensures.waited,
+      c.reclaim.ensures.lent ∙ c.loop.invariant.1,
+      c.reclaim.ensures.io ∙ c.loop.invariant.2,
+      c.reclaim.ensures.hasher ∙ c.loop.invariant.3,
+    )
+
+pub returns : goal.returns
+returns g c = record { waited = c.loop.invariant.0; lent = (c.loop.invariant.1, c.loop.invariant.2); hasher = c.loop.invariant.3 }

@@ -1,0 +1,54 @@
+use Rattle.std.proofs.Common.{refl, ◌∙◌}
+use Rattle.foyer_core_run.proofs.WaitingLemmas.{known_more, known_none}
+use Rattle.foyer_core_laws.specs.Content.{meaning}
+use Rattle.foyer_storage_local.proofs.LocalRuns.{rests}
+use Rattle.foyer_storage_local.proofs.engine.LocalEngine.wait.Goals as goal
+
+pub loop-init : goal.loop-init
+loop-init g c =
+    let m = meaning g.K.Code.encoding g.V.Code.encoding g.K.Code.is_encodable g.V.Code.is_encodable g.K.Code.is_decodable g.V.Code.is_decodable g.P.Properties.age in
+    (known_none m (g.D.Disk.is_known c.args.self.now.disk) c.args.self.now.core (g.D.Disk.byte_at c.args.self.now.disk), refl, refl, refl)
+
+pub returns-in_err-settle-clause-waited : goal.returns-in_err-settle-clause-waited
+returns-in_err-settle-clause-waited g c =
+    let m = meaning g.K.Code.encoding g.V.Code.encoding g.K.Code.is_encodable g.V.Code.is_encodable g.K.Code.is_decodable g.V.Code.is_decodable g.P.Properties.age in
+    known_more m c.args.self.now.core c.loop.self.core c.settle.new.self.core (g.D.Disk.byte_at c.args.self.now.disk) (g.D.Disk.byte_at c.loop.self.disk) (g.D.Disk.byte_at c.settle.new.self.disk) c.loop.invariant.0 c.settle.ensures.waited
+
+pub returns-in_err-settle-clause-lent : goal.returns-in_err-settle-clause-lent
+returns-in_err-settle-clause-lent g c = (c.settle.ensures.lent.0 ∙ c.loop.invariant.1, c.settle.ensures.lent.1 ∙ c.loop.invariant.2)
+
+pub returns-then-is_at_rest-clause-rest : goal.returns-then-is_at_rest-clause-rest
+returns-then-is_at_rest-clause-rest g c =
+    let m = meaning g.K.Code.encoding g.V.Code.encoding g.K.Code.is_encodable g.V.Code.is_encodable g.K.Code.is_decodable g.V.Code.is_decodable g.P.Properties.age in
+    rests m c.args.self.now.core c.keep_clean.new.self.core (c.is_at_rest.ensures c.if-is_at_rest.true)
+
+pub returns-then-is_at_rest-clause-waited : goal.returns-then-is_at_rest-clause-waited
+returns-then-is_at_rest-clause-waited g c =
+    let m = meaning g.K.Code.encoding g.V.Code.encoding g.K.Code.is_encodable g.V.Code.is_encodable g.K.Code.is_decodable g.V.Code.is_decodable g.P.Properties.age in
+    let settled = known_more m c.args.self.now.core c.loop.self.core c.settle.new.self.core (g.D.Disk.byte_at c.args.self.now.disk) (g.D.Disk.byte_at c.loop.self.disk) (g.D.Disk.byte_at c.settle.new.self.disk) c.loop.invariant.0 c.settle.ensures.waited in
+    known_more m c.args.self.now.core c.settle.new.self.core c.keep_clean.new.self.core (g.D.Disk.byte_at c.args.self.now.disk) (g.D.Disk.byte_at c.settle.new.self.disk) (g.D.Disk.byte_at c.keep_clean.new.self.disk) settled c.keep_clean.ensures.waited
+
+pub loop-preserved : goal.loop-preserved
+loop-preserved g c =
+    let m = meaning g.K.Code.encoding g.V.Code.encoding g.K.Code.is_encodable g.V.Code.is_encodable g.K.Code.is_decodable g.V.Code.is_decodable g.P.Properties.age in
+    let settled = known_more m c.args.self.now.core c.loop.self.core c.settle.new.self.core (g.D.Disk.byte_at c.args.self.now.disk) (g.D.Disk.byte_at c.loop.self.disk) (g.D.Disk.byte_at c.settle.new.self.disk) c.loop.invariant.0 c.settle.ensures.waited in (
+      known_more m c.args.self.now.core c.settle.new.self.core c.keep_clean.new.self.core (g.D.Disk.byte_at c.args.self.now.disk) (g.D.Disk.byte_at c.settle.new.self.disk) (g.D.Disk.byte_at c.keep_clean.new.self.disk) settled c.keep_clean.ensures.waited,
+      c.keep_clean.ensures.lent.0 ∙ c.settle.ensures.lent.0 ∙ c.loop.invariant.1,
+      c.keep_clean.ensures.lent.1 ∙ c.settle.ensures.lent.1 ∙ c.loop.invariant.2,
+      c.keep_clean.ensures.hasher ∙ c.settle.ensures.hasher ∙ c.loop.invariant.3,
+    )
+
+pub returns-clause-waited : goal.returns-clause-waited
+returns-clause-waited g c = c.loop.invariant.0
+
+pub returns-then-is_at_rest-clause-lent : goal.returns-then-is_at_rest-clause-lent
+returns-then-is_at_rest-clause-lent g c = (
+  c.keep_clean.ensures.lent.0 ∙ c.settle.ensures.lent.0 ∙ c.loop.invariant.1,
+  c.keep_clean.ensures.lent.1 ∙ c.settle.ensures.lent.1 ∙ c.loop.invariant.2,
+)
+
+pub returns-clause-lent : goal.returns-clause-lent
+returns-clause-lent g c = (c.loop.invariant.1, c.loop.invariant.2)
+
+pub returns-clause-hasher : goal.returns-clause-hasher
+returns-clause-hasher g c = c.loop.invariant.3

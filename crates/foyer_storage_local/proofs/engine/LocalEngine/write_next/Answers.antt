@@ -1,0 +1,39 @@
+use Rattle.std.proofs.Common.{refl}
+use Rattle.foyer_core_run.proofs.WaitingLemmas.{known_more, known_wrote}
+use Rattle.foyer_core_laws.specs.Content.{meaning}
+use Rattle.foyer_storage_local.proofs.LocalRuns.{written_alone, written_reclaimed}
+use Rattle.foyer_storage_local.proofs.engine.LocalEngine.write_next.Goals as goal
+
+pub returns-in-Err-NoSpace-clause-leads : goal.returns-in-Err-NoSpace-clause-leads
+returns-in-Err-NoSpace-clause-leads g c =
+    let m = meaning g.K.Code.encoding g.V.Code.encoding g.K.Code.is_encodable g.V.Code.is_encodable g.K.Code.is_decodable g.V.Code.is_decodable g.P.Properties.age in
+    written_reclaimed m c.args.self.now.env.reinsertion c.write_block-wrote.new.env.reinsertion c.write_block-wrote.ensures.lent.0 c.args.flusher c.args.self.now.core c.write_block-wrote.new.core c.make_room.new.self.core c.write_block-wrote.ensures.leads c.make_room.ensures.leads
+
+pub returns-in-Err-NoSpace-clause-waited : goal.returns-in-Err-NoSpace-clause-waited
+returns-in-Err-NoSpace-clause-waited g c =
+    let m = meaning g.K.Code.encoding g.V.Code.encoding g.K.Code.is_encodable g.V.Code.is_encodable g.K.Code.is_decodable g.V.Code.is_decodable g.P.Properties.age in
+    known_more m c.args.self.now.core c.write_block-wrote.new.core c.make_room.new.self.core
+    (g.D.Disk.byte_at c.args.self.now.disk) (g.D.Disk.byte_at c.write_block-wrote.new.disk) (g.D.Disk.byte_at c.make_room.new.self.disk)
+    (known_wrote m c.args.flusher c.write_block-wrote.result c.args.self.now.core c.write_block-wrote.new.core (g.D.Disk.byte_at c.args.self.now.disk) (g.D.Disk.byte_at c.write_block-wrote.new.disk) c.write_block-wrote.ensures.known c.write_block-wrote.ensures.writes)
+    c.make_room.ensures.waited
+
+pub returns-in_default : goal.returns-in_default
+returns-in_default g c =
+    let m = meaning g.K.Code.encoding g.V.Code.encoding g.K.Code.is_encodable g.V.Code.is_encodable g.K.Code.is_decodable g.V.Code.is_decodable g.P.Properties.age in
+    record {
+      leads = written_alone m c.args.self.now.env.reinsertion c.args.flusher c.args.self.now.core c.write_block-wrote.new.core c.write_block-wrote.ensures.leads;
+      waited = known_wrote m c.args.flusher c.write_block-wrote.result c.args.self.now.core c.write_block-wrote.new.core (g.D.Disk.byte_at c.args.self.now.disk) (g.D.Disk.byte_at c.write_block-wrote.new.disk) c.write_block-wrote.ensures.known c.write_block-wrote.ensures.writes;
+      lent = c.write_block-wrote.ensures.lent.0;
+      io = c.write_block-wrote.ensures.lent.1;
+      hasher = refl;
+    }
+
+pub returns-in_default-2-clause-leads : goal.returns-in_default-2-clause-leads
+returns-in_default-2-clause-leads g c =
+    let m = meaning g.K.Code.encoding g.V.Code.encoding g.K.Code.is_encodable g.V.Code.is_encodable g.K.Code.is_decodable g.V.Code.is_decodable g.P.Properties.age in
+    written_alone m c.args.self.now.env.reinsertion c.args.flusher c.args.self.now.core c.write_block-wrote.new.core c.write_block-wrote.ensures.leads
+
+pub returns-in_default-2-clause-waited : goal.returns-in_default-2-clause-waited
+returns-in_default-2-clause-waited g c =
+    let m = meaning g.K.Code.encoding g.V.Code.encoding g.K.Code.is_encodable g.V.Code.is_encodable g.K.Code.is_decodable g.V.Code.is_decodable g.P.Properties.age in
+    known_wrote m c.args.flusher c.write_block-wrote.result c.args.self.now.core c.write_block-wrote.new.core (g.D.Disk.byte_at c.args.self.now.disk) (g.D.Disk.byte_at c.write_block-wrote.new.disk) c.write_block-wrote.ensures.known c.write_block-wrote.ensures.writes

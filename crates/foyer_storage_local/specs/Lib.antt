@@ -1,0 +1,3 @@
+pub mod EntryLoads
+pub mod StepAnswers
+pub mod EntryCalls

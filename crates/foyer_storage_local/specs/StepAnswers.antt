@@ -1,0 +1,77 @@
+-- What the core's replies are answered as.
+use Rattle.std.specs.Prelude.{Bool, true, false, Option, Some, None, Result, Ok, Err}
+use Rattle.foyer_device_page.specs.declared.error.Error.{Error}
+use Rattle.foyer_device_page.specs.declared.error.Error.TheVariants as error
+use Rattle.foyer_device_page.specs.declared.error.ErrorKind.{ErrorKind}
+use Rattle.foyer_device_page.specs.declared.error.ErrorKind.TheVariants as kind
+use Rattle.foyer_core_steps.specs.declared.reply.Reply.{Reply}
+use Rattle.foyer_core_steps.specs.declared.reply.Reply.TheVariants as reply
+use Rattle.foyer_storage_local.specs.declared.load.Enqueued.{Enqueued}
+use Rattle.foyer_storage_local.specs.declared.load.Enqueued.TheVariants as enqueued
+use Rattle.foyer_storage_local.specs.declared.load.Load.{Load}
+use Rattle.foyer_storage_local.specs.declared.load.Load.TheVariants as load
+
+abbrev pub error_of : ErrorKind → Error
+error_of kind.Io = error.Io
+error_of kind.Memory = error.Memory
+error_of kind.Config = error.Config
+error_of kind.Parse = error.Parse
+error_of kind.MagicMismatch = error.MagicMismatch
+error_of kind.ChecksumMismatch = error.ChecksumMismatch
+error_of kind.OutOfRange = error.OutOfRange
+error_of kind.BufferSizeLimit = error.BufferSizeLimit
+error_of kind.NoSpace = error.NoSpace
+error_of kind.Recover = error.Recover
+error_of kind.Closed = error.Closed
+error_of kind.Unsupported = error.Unsupported
+error_of kind.SequenceEnd = error.SequenceEnd
+
+module _ {K V P A : Type 0} where
+  -- an enqueue's
+  abbrev pub enqueued_as : Reply K V P A → Result Enqueued Error
+  enqueued_as (reply.Queued sequence) = Ok enqueued.Queued
+  enqueued_as (reply.Dropped piece sequence) = Ok enqueued.Deleted
+  enqueued_as (reply.Refused kind back) = Err (error_of kind)
+  enqueued_as said = Ok enqueued.Ignored
+
+  -- a load's
+  abbrev pub loaded_as : Reply K V P A → Result (Load K V) Error
+  loaded_as (reply.Entry key value age) = Ok (load.Entry key value (record { age = age }))
+  loaded_as reply.Throttled = Ok load.Throttled
+  loaded_as (reply.Refused kind back) = Err (error_of kind)
+  loaded_as said = Ok load.Miss
+
+  -- a delete's
+  abbrev pub deleted_as : Reply K V P A → Result (Unit {0}) Error
+  deleted_as (reply.Refused kind back) = Err (error_of kind)
+  deleted_as said = Ok tt
+
+  -- a question's
+  abbrev pub contains_as : Reply K V P A → Result Bool Error
+  contains_as (reply.Answer is_there) = Ok is_there
+  contains_as (reply.Refused kind back) = Err (error_of kind)
+  contains_as said = Ok true
+
+  -- whether a step did anything, or why it was refused
+  abbrev pub done_as : Reply K V P A → Result Bool Error
+  done_as (reply.Refused kind back) = Err (error_of kind)
+  done_as (reply.NotNow back) = Ok false
+  done_as reply.Empty = Ok false
+  done_as said = Ok true
+
+  -- whether a block was written: without a clean block there is no space for it
+  abbrev pub wrote_as : Option (Reply K V P A) → Result Bool Error
+  wrote_as None = Ok true
+  wrote_as (Some reply.NoBlock) = Err error.NoSpace
+  wrote_as (Some said) = done_as said
+
+  -- a destroy's step that came back, or didn't end it
+  abbrev pub kept_as : Reply K V P A → Result (Unit {0}) Error
+  kept_as (reply.Refused kind back) = Err (error_of kind)
+  kept_as said = Err error.Io
+
+  -- the last reply of a destroy: a clean that failed isn't passed over
+  abbrev pub destroyed_as : Reply K V P A → Result (Unit {0}) Error
+  destroyed_as (reply.Destroyed None) = Ok tt
+  destroyed_as (reply.Destroyed (Some kind)) = Err (error_of kind)
+  destroyed_as said = kept_as said

@@ -1,0 +1,217 @@
+//! Puts, loads, deletes and questions.
+ghost use Rattle.std.specs.Prelude.{◌≡◌, ◌≤◌, ℕ, false, true, IfOk, IfErr};
+ghost use Rattle.foyer_device_page.specs.declared.error.Error.TheVariants.{Memory};
+ghost use Rattle.foyer_policy_piece.specs.Record.{record_of};
+ghost use Rattle.foyer_core_laws.specs.Content.{meaning};
+ghost use Rattle.foyer_core_run.specs.Driven.{Drives};
+ghost use Rattle.foyer_storage_local.specs.EntryCalls.{IsEnqueuedOrRefused, IsHashAsked, IsHashDeleted, IsHashLoadedOrRefused, IsHashMissedForCause, IsKeyLoaded, IsKeyMissedForCause, IsNewestOfHash, IsNewestOfKey, IsPieceEnqueued, IsThrottledIfSaid};
+
+use crate::engine::{LocalEngine, MarkLog};
+use crate::load::{Enqueued, Load, answer_of_key};
+use crate::replies::{answer_contains, answer_delete, answer_enqueue, answer_load};
+use foyer_block_manager::block::eviction::EvictionPicker;
+use foyer_core_run::accesses::{load, step};
+use foyer_core_steps::step::Step;
+use foyer_device_page::error::{Error, Result};
+use foyer_format_record::serde::{Code, EntrySerializer, HashBuilder, Properties};
+use foyer_io_disk::disk::Disk;
+use foyer_policy_filter::StorageFilterCondition;
+use foyer_policy_piece::keeper::{Piece, PieceRef};
+use std::alloc::Allocator;
+
+impl<K, V, P, H, A, D, L, E, C> LocalEngine<K, V, P, H, A, D, L, E, C>
+where
+    K: Code<A> + Eq + Drop,
+    V: Code<A> + Drop,
+    P: Properties + Drop,
+    H: HashBuilder<K> + Drop,
+    A: Allocator + Clone,
+    D: Disk + Drop,
+    L: MarkLog + Drop,
+    E: EvictionPicker,
+    C: StorageFilterCondition,
+{
+    /// The hash of a key.
+    pub fn hash_of(&self, key: &K) -> u64
+        ensures { result ≡ H.hash_of self.now.hasher key.now }
+    {
+        self.hasher.hash_one(key)
+    }
+
+    /// A piece of a key, with its hash. `Memory` alone; key, value and properties are dropped then.
+    pub fn piece(&self, key: K, value: V, properties: P) -> Result<Piece<K, V, P, A>>
+        ensures ok { IfOk result (λ piece. piece ≡ record_of key value (H.hash_of self.now.hasher key) properties) }
+        ensures refused { IfErr result (λ e. e ≡ Memory) }
+    {
+        let hash = self.hasher.hash_one(&key);
+        Piece::new(self.alloc.clone()?, key, value, hash, properties)
+    }
+
+    /// Queues a piece, whose hash is the one of its key (`LocalEngine::piece`): under another hash no load of its key finds it.
+    /// A piece that isn't taken is dropped. `Closed`, `Memory` and `SequenceEnd` leave the engine as it was.
+    pub fn enqueue(&mut self, piece: Piece<K, V, P, A>) -> Result<Enqueued>
+        ensures waits { self.new.next_wait ≡ self.old.next_wait }
+        ensures lent { (self.new.env.reinsertion ≡ self.old.env.reinsertion) × (self.new.env.io ≡ self.old.env.io) }
+        ensures hasher { self.new.hasher ≡ self.old.hasher }
+        ensures disk { self.new.disk ≡ self.old.disk }
+        ensures says { IsPieceEnqueued
+            (meaning K.encoding V.encoding K.is_encodable V.is_encodable K.is_decodable V.is_decodable P.age)
+            piece self.old.core self.new.core (D.byte_at self.old.disk) (D.byte_at self.new.disk) result }
+        ensures driven { Drives
+            (meaning K.encoding V.encoding K.is_encodable V.is_encodable K.is_decodable V.is_decodable P.age)
+            self.old.core self.new.core (D.byte_at self.old.disk) (D.byte_at self.new.disk) }
+    {
+        let size = EntrySerializer::estimated_size::<A, K, V>(piece.key(), piece.value());
+        // So contracts see that the hash has 64 bits.
+        let _ = piece.hash();
+        let piece = PieceRef::from(piece);
+        answer_enqueue(step(&mut self.core, &mut self.env, Step::Enqueue { piece, size }))
+    }
+
+    /// Queues a value under a key, with its properties: a piece of them. One that isn't taken is dropped. `Closed`, `Memory` and
+    /// `SequenceEnd` leave the engine as it was.
+    pub fn put(&mut self, key: K, value: V, properties: P) -> Result<Enqueued>
+        ensures waits { self.new.next_wait ≡ self.old.next_wait }
+        ensures lent { (self.new.env.reinsertion ≡ self.old.env.reinsertion) × (self.new.env.io ≡ self.old.env.io) }
+        ensures hasher { self.new.hasher ≡ self.old.hasher }
+        ensures disk { self.new.disk ≡ self.old.disk }
+        ensures says { IsEnqueuedOrRefused
+            (meaning K.encoding V.encoding K.is_encodable V.is_encodable K.is_decodable V.is_decodable P.age)
+            (record_of key value (H.hash_of self.old.hasher key) properties)
+            self.old.core self.new.core (D.byte_at self.old.disk) (D.byte_at self.new.disk) result }
+        ensures driven { Drives
+            (meaning K.encoding V.encoding K.is_encodable V.is_encodable K.is_decodable V.is_decodable P.age)
+            self.old.core self.new.core (D.byte_at self.old.disk) (D.byte_at self.new.disk) }
+    {
+        match self.piece(key, value, properties) {
+            Ok(piece) => self.enqueue(piece),
+            Err(error) => Err(error),
+        }
+    }
+
+    /// What a key has: the newest that was put, whatever came before. Where the newest event of its hash is a put of the
+    /// key, that is answered, or `Io` for a failed read, or `Memory`, unless a reclaim of its block or a destroy began
+    /// since, or under two of 2^64 - 1 steps are left. Where it is a put of another key of the same hash, it is a miss. A
+    /// record that an opening found may be none: then it is a miss, or `Parse` where its key or value doesn't decode, or
+    /// `Unsupported`.
+    pub fn get(&mut self, key: &K) -> Result<Load<K, V>>
+        ensures waits { self.new.next_wait ≡ self.old.next_wait }
+        ensures lent { (self.new.env.reinsertion ≡ self.old.env.reinsertion) × (self.new.env.io ≡ self.old.env.io) }
+        ensures hasher { self.new.hasher ≡ self.old.hasher }
+        ensures newest { D.is_known self.old.disk → IsNewestOfKey
+            (meaning K.encoding V.encoding K.is_encodable V.is_encodable K.is_decodable V.is_decodable P.age)
+            K.eq key.now (H.hash_of self.old.hasher key.now) self.old.core (D.byte_at self.old.disk) result }
+        ensures missed { D.is_known self.old.disk → IsKeyMissedForCause
+            (meaning K.encoding V.encoding K.is_encodable V.is_encodable K.is_decodable V.is_decodable P.age)
+            K.eq key.now (H.hash_of self.old.hasher key.now) self.old.core (D.byte_at self.old.disk) result }
+        ensures known { D.is_known self.old.disk → D.is_known self.new.disk }
+        ensures says { D.is_known self.old.disk → IsKeyLoaded
+            (meaning K.encoding V.encoding K.is_encodable V.is_encodable K.is_decodable V.is_decodable P.age)
+            K.eq key.now (H.hash_of self.old.hasher key.now) false self.old.core self.new.core
+            (D.byte_at self.old.disk) (D.byte_at self.new.disk) result }
+        ensures driven { D.is_known self.old.disk → Drives
+            (meaning K.encoding V.encoding K.is_encodable V.is_encodable K.is_decodable V.is_decodable P.age)
+            self.old.core self.new.core (D.byte_at self.old.disk) (D.byte_at self.new.disk) }
+    {
+        self.load(key, false)
+    }
+
+    /// What a key has, as a get answers it, where the caller says whether the device is throttled. If it is, a key whose
+    /// hash has an entry is answered `Throttled`, and nothing is read.
+    pub fn load(&mut self, key: &K, throttled: bool) -> Result<Load<K, V>>
+        ensures waits { self.new.next_wait ≡ self.old.next_wait }
+        ensures lent { (self.new.env.reinsertion ≡ self.old.env.reinsertion) × (self.new.env.io ≡ self.old.env.io) }
+        ensures hasher { self.new.hasher ≡ self.old.hasher }
+        ensures newest { D.is_known self.old.disk → IsNewestOfKey
+            (meaning K.encoding V.encoding K.is_encodable V.is_encodable K.is_decodable V.is_decodable P.age)
+            K.eq key.now (H.hash_of self.old.hasher key.now) self.old.core (D.byte_at self.old.disk) result }
+        ensures missed { D.is_known self.old.disk → throttled ≡ false → IsKeyMissedForCause
+            (meaning K.encoding V.encoding K.is_encodable V.is_encodable K.is_decodable V.is_decodable P.age)
+            K.eq key.now (H.hash_of self.old.hasher key.now) self.old.core (D.byte_at self.old.disk) result }
+        ensures unread { throttled ≡ true → self.new.disk ≡ self.old.disk }
+        ensures throttled { D.is_known self.old.disk → IsThrottledIfSaid
+            (meaning K.encoding V.encoding K.is_encodable V.is_encodable K.is_decodable V.is_decodable P.age)
+            throttled self.old.core (D.byte_at self.old.disk) result }
+        ensures known { D.is_known self.old.disk → D.is_known self.new.disk }
+        ensures says { D.is_known self.old.disk → IsKeyLoaded
+            (meaning K.encoding V.encoding K.is_encodable V.is_encodable K.is_decodable V.is_decodable P.age)
+            K.eq key.now (H.hash_of self.old.hasher key.now) throttled self.old.core self.new.core
+            (D.byte_at self.old.disk) (D.byte_at self.new.disk) result }
+        ensures driven { D.is_known self.old.disk → Drives
+            (meaning K.encoding V.encoding K.is_encodable V.is_encodable K.is_decodable V.is_decodable P.age)
+            self.old.core self.new.core (D.byte_at self.old.disk) (D.byte_at self.new.disk) }
+    {
+        let hash = self.hasher.hash_one(key);
+        match self.load_hash(hash, throttled) {
+            Ok(found) => Ok(answer_of_key(key, found)),
+            Err(error) => Err(error),
+        }
+    }
+
+    /// What a hash has, as `load` answers it, but for the key: whichever its entry has.
+    pub fn load_hash(&mut self, hash: u64, throttled: bool) -> Result<Load<K, V>>
+        ensures waits { self.new.next_wait ≡ self.old.next_wait }
+        ensures lent { (self.new.env.reinsertion ≡ self.old.env.reinsertion) × (self.new.env.io ≡ self.old.env.io) }
+        ensures hasher { self.new.hasher ≡ self.old.hasher }
+        ensures newest { D.is_known self.old.disk → IsNewestOfHash
+            (meaning K.encoding V.encoding K.is_encodable V.is_encodable K.is_decodable V.is_decodable P.age)
+            hash self.old.core (D.byte_at self.old.disk) result }
+        ensures missed { D.is_known self.old.disk → throttled ≡ false → IsHashMissedForCause
+            (meaning K.encoding V.encoding K.is_encodable V.is_encodable K.is_decodable V.is_decodable P.age)
+            hash self.old.core (D.byte_at self.old.disk) result }
+        ensures unread { throttled ≡ true → self.new.disk ≡ self.old.disk }
+        ensures throttled { D.is_known self.old.disk → IsThrottledIfSaid
+            (meaning K.encoding V.encoding K.is_encodable V.is_encodable K.is_decodable V.is_decodable P.age)
+            throttled self.old.core (D.byte_at self.old.disk) result }
+        ensures known { D.is_known self.old.disk → D.is_known self.new.disk }
+        ensures says { D.is_known self.old.disk → IsHashLoadedOrRefused
+            (meaning K.encoding V.encoding K.is_encodable V.is_encodable K.is_decodable V.is_decodable P.age)
+            hash throttled self.old.core self.new.core (D.byte_at self.old.disk) (D.byte_at self.new.disk) result }
+        ensures driven { D.is_known self.old.disk → Drives
+            (meaning K.encoding V.encoding K.is_encodable V.is_encodable K.is_decodable V.is_decodable P.age)
+            self.old.core self.new.core (D.byte_at self.old.disk) (D.byte_at self.new.disk) }
+    {
+        let (env, disk, spare) = (&mut self.env, &mut self.disk, &mut self.spare);
+        match load(&mut self.core, env, disk, spare, hash, throttled) {
+            Ok(last) => answer_load(last),
+            Err(_) => Err(Error::Memory),
+        }
+    }
+
+    /// Deletes what a key has, at once. Another key of the same hash is deleted too. `Closed`, `Memory` and `SequenceEnd`
+    /// leave the engine as it was.
+    pub fn delete(&mut self, key: &K) -> Result<()>
+        ensures waits { self.new.next_wait ≡ self.old.next_wait }
+        ensures lent { (self.new.env.reinsertion ≡ self.old.env.reinsertion) × (self.new.env.io ≡ self.old.env.io) }
+        ensures hasher { self.new.hasher ≡ self.old.hasher }
+        ensures disk { self.new.disk ≡ self.old.disk }
+        ensures says { IsHashDeleted
+            (meaning K.encoding V.encoding K.is_encodable V.is_encodable K.is_decodable V.is_decodable P.age)
+            (H.hash_of self.old.hasher key.now) self.old.core self.new.core
+            (D.byte_at self.old.disk) (D.byte_at self.new.disk) result }
+        ensures driven { Drives
+            (meaning K.encoding V.encoding K.is_encodable V.is_encodable K.is_decodable V.is_decodable P.age)
+            self.old.core self.new.core (D.byte_at self.old.disk) (D.byte_at self.new.disk) }
+    {
+        let hash = self.hasher.hash_one(key);
+        answer_delete(step(&mut self.core, &mut self.env, Step::Delete { hash }))
+    }
+
+    /// Whether a key's hash has an entry that was written: one of the key, or of another key. `SequenceEnd` alone.
+    pub fn may_contains(&mut self, key: &K) -> Result<bool>
+        ensures waits { self.new.next_wait ≡ self.old.next_wait }
+        ensures lent { (self.new.env.reinsertion ≡ self.old.env.reinsertion) × (self.new.env.io ≡ self.old.env.io) }
+        ensures hasher { self.new.hasher ≡ self.old.hasher }
+        ensures disk { self.new.disk ≡ self.old.disk }
+        ensures says { IsHashAsked
+            (meaning K.encoding V.encoding K.is_encodable V.is_encodable K.is_decodable V.is_decodable P.age)
+            (H.hash_of self.old.hasher key.now) self.old.core self.new.core
+            (D.byte_at self.old.disk) (D.byte_at self.new.disk) result }
+        ensures driven { Drives
+            (meaning K.encoding V.encoding K.is_encodable V.is_encodable K.is_decodable V.is_decodable P.age)
+            self.old.core self.new.core (D.byte_at self.old.disk) (D.byte_at self.new.disk) }
+    {
+        let hash = self.hasher.hash_one(key);
+        answer_contains(step(&mut self.core, &mut self.env, Step::MayContains { hash }))
+    }
+}

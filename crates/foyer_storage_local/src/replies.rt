@@ -1,0 +1,133 @@
+//! What the core's replies are answered as.
+ghost use Rattle.std.specs.Prelude.{◌≡◌, IsErr};
+ghost use Rattle.foyer_storage_local.specs.StepAnswers.{error_of, contains_as, deleted_as, destroyed_as, done_as, enqueued_as, kept_as, loaded_as, wrote_as};
+
+use crate::load::{Enqueued, Load, Populated};
+use foyer_core_steps::reply::Reply;
+use foyer_device_page::error::{Error, ErrorKind, Result};
+use std::alloc::Allocator;
+
+fn error_of(kind: ErrorKind) -> Error
+    ensures { result ≡ error_of kind }
+{
+    match kind {
+        ErrorKind::Io => Error::Io,
+        ErrorKind::Memory => Error::Memory,
+        ErrorKind::Config => Error::Config,
+        ErrorKind::Parse => Error::Parse,
+        ErrorKind::MagicMismatch => Error::MagicMismatch,
+        ErrorKind::ChecksumMismatch => Error::ChecksumMismatch,
+        ErrorKind::OutOfRange => Error::OutOfRange,
+        ErrorKind::BufferSizeLimit => Error::BufferSizeLimit,
+        ErrorKind::NoSpace => Error::NoSpace,
+        ErrorKind::Recover => Error::Recover,
+        ErrorKind::Closed => Error::Closed,
+        ErrorKind::Unsupported => Error::Unsupported,
+        ErrorKind::SequenceEnd => Error::SequenceEnd,
+    }
+}
+
+pub(crate) fn answer_enqueue<K: Drop, V: Drop, P: Drop, A: Allocator>(
+    last: Reply<K, V, P, A>,
+) -> Result<Enqueued>
+    ensures { result ≡ enqueued_as last }
+{
+    match last {
+        Reply::Queued(_) => Ok(Enqueued::Queued),
+        Reply::Dropped(_, _) => Ok(Enqueued::Deleted),
+        Reply::Refused(kind, _) => Err(error_of(kind)),
+        _ => Ok(Enqueued::Ignored),
+    }
+}
+
+pub(crate) fn answer_load<K: Drop, V: Drop, P: Drop, A: Allocator>(
+    last: Reply<K, V, P, A>,
+) -> Result<Load<K, V>>
+    ensures { result ≡ loaded_as last }
+{
+    match last {
+        Reply::Entry { key, value, age } => Ok(Load::Entry {
+            key,
+            value,
+            populated: Populated { age },
+        }),
+        Reply::Throttled => Ok(Load::Throttled),
+        Reply::Refused(kind, _) => Err(error_of(kind)),
+        _ => Ok(Load::Miss),
+    }
+}
+
+pub(crate) fn answer_delete<K: Drop, V: Drop, P: Drop, A: Allocator>(
+    last: Reply<K, V, P, A>,
+) -> Result<()>
+    ensures { result ≡ deleted_as last }
+{
+    match last {
+        Reply::Refused(kind, _) => Err(error_of(kind)),
+        _ => Ok(()),
+    }
+}
+
+pub(crate) fn answer_contains<K: Drop, V: Drop, P: Drop, A: Allocator>(
+    last: Reply<K, V, P, A>,
+) -> Result<bool>
+    ensures { result ≡ contains_as last }
+{
+    match last {
+        Reply::Answer(is_there) => Ok(is_there),
+        Reply::Refused(kind, _) => Err(error_of(kind)),
+        _ => Ok(true),
+    }
+}
+
+// Whether a step did anything: none did that was out of turn, or found nothing.
+pub(crate) fn answer_step<K: Drop, V: Drop, P: Drop, A: Allocator>(
+    last: Reply<K, V, P, A>,
+) -> Result<bool>
+    ensures { result ≡ done_as last }
+{
+    match last {
+        Reply::Refused(kind, _) => Err(error_of(kind)),
+        Reply::NotNow(_) | Reply::Empty => Ok(false),
+        _ => Ok(true),
+    }
+}
+
+// Whether a block was written: none was that was out of turn.
+pub(crate) fn answer_block<K: Drop, V: Drop, P: Drop, A: Allocator>(
+    last: Option<Reply<K, V, P, A>>,
+) -> Result<bool>
+    ensures { result ≡ wrote_as last }
+{
+    match last {
+        Some(Reply::NoBlock) => Err(Error::NoSpace),
+        Some(last) => answer_step(last),
+        None => Ok(true),
+    }
+}
+
+// Why the index wasn't cleared.
+pub(crate) fn answer_kept<K: Drop, V: Drop, P: Drop, A: Allocator>(
+    back: Reply<K, V, P, A>,
+) -> Result<()>
+    ensures refused { IsErr result }
+    ensures says { result ≡ kept_as back }
+{
+    match back {
+        Reply::Refused(kind, _) => Err(error_of(kind)),
+        _ => Err(Error::Io),
+    }
+}
+
+// What came of the cleans: the first fault, if one failed.
+pub(crate) fn answer_cleaned<K: Drop, V: Drop, P: Drop, A: Allocator>(
+    last: Reply<K, V, P, A>,
+) -> Result<()>
+    ensures { result ≡ destroyed_as last }
+{
+    match last {
+        Reply::Destroyed(None) => Ok(()),
+        Reply::Destroyed(Some(kind)) => Err(error_of(kind)),
+        other => answer_kept(other),
+    }
+}
