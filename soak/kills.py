@@ -11,16 +11,17 @@ that line ends with it, and the directory stays.
 Exit status: 0 when all held, 1 for a wrong answer of the program, 2 for bad arguments.
 
 Checked is, where the capacity takes all that a directory's rounds put, so that nothing is reclaimed (`roomy`):
-- killed idle or with puts queued, each key is answered by the newest text that a `wait` wrote, byte for byte, and those
-  that were never written are a `miss`. A delete is forgotten;
-- killed in a flush, each key is answered by that text, or by one that was put since and byte for byte: by a `miss` only
-  where no `wait` had written one. A process that is killed leaves a page written or not, so an index isn't torn. What was
-  answered then stays the answer at the next openings.
+- killed idle, each key is answered by the newest text that a `wait` wrote, byte for byte, and those that were never
+  written are a `miss`. A delete is forgotten;
+- killed with puts queued, which are written as they come, or in a flush, each key is answered by that text, or by one that
+  was put since and byte for byte: by a `miss` only where no `wait` had written one. A process that is killed leaves a page
+  written or not, so an index isn't torn. What was answered then stays the answer at the next openings.
 Where blocks are reclaimed (`reclaimed`), a `miss` is right too; so is, but with --strict, any older text of that very key,
 which is counted as `older`: where the block of the newer one was reclaimed before that of the older one, which is
 another order than that of the puts once a directory was opened again or texts were deleted.
 In both: an opening refuses nothing, each answer until the kill is what README says, and in a round that is under way a
-`get` answers the newest written text and no other, or `miss` where blocks are reclaimed.
+`get` answers the newest text and no other, as `piece` only until a `wait` wrote it, or `miss` where blocks are reclaimed, or
+behind a delete, which a text that isn't written yet may outlive.
 """
 
 import argparse
@@ -67,13 +68,15 @@ class Directory:
             self.blocks = self.random.randrange(2, 9)
         self.path = tempfile.mkdtemp(prefix="foyer-soak-")
         self.put_count = 0
-        # Of each key: what was put and fits, its newest put that was written, what a get may answer, and what is queued.
+        # Of each key: what was put and fits, its newest put that was written, and what is queued.
         self.puts = collections.defaultdict(list)
         self.newest = {}
-        self.shown = {}
         self.queued = collections.defaultdict(list)
-        self.deleted = set()
-        self.too_great = set()
+        # The newest put of a key in this round, or what it had at the opening; whether it is deleted since, or too great; and
+        # the newest put since the last wait, which may be answered as a piece.
+        self.last = {}
+        self.gone = set()
+        self.kept = {}
 
     # --- lines ---
 
@@ -102,41 +105,39 @@ class Directory:
         answer = self.ask(program, b"put %d %s" % (key, text_of(key, *put)))
         if answer != b"queued":
             raise Wrong(f"put {put.count} of key {key} was answered {describe(answer)}")
+        self.kept[key] = put
         if put.length <= self.max_length:
             self.puts[key].append(put)
             self.queued[key].append(put)
-            self.deleted.discard(key)
-            self.too_great.discard(key)
+            self.last[key] = put
+            self.gone.discard(key)
         else:
-            self.too_great.add(key)
+            self.gone.add(key)
         return stored_bytes(put.length)
 
     def delete(self, program):
         key = self.random.randrange(KEYS)
         if (answer := self.ask(program, b"del %d" % key)) != b"ok":
             raise Wrong(f"a delete was answered {describe(answer)}")
-        self.deleted.add(key)
-        self.shown.pop(key, None)
+        self.gone.add(key)
 
     def get(self, program):
-        """While the program runs: exactly the newest text that was written, or a miss where blocks are reclaimed."""
+        """While the program runs: the newest text, or a miss where blocks are reclaimed or it was deleted."""
         key = self.random.randrange(KEYS)
-        answer, put = self.ask(program, b"get %d" % key), self.shown.get(key)
-        if answer == b"miss" and (not put or not self.is_roomy):
-            self.shown.pop(key, None)
-        elif not put or answer != b"entry " + text_of(key, *put):
-            raise Wrong(f"key {key} was answered {describe(answer)}, where the newest written is {put}")
+        answer, last, kept = self.ask(program, b"get %d" % key), self.last.get(key), self.kept.get(key)
+        allowed = [b"piece " + text_of(key, *kept)] if kept else []
+        if last and key not in self.gone:
+            allowed.append(b"entry " + text_of(key, *last))
+        if answer == b"miss" and (not last or key in self.gone or not self.is_roomy):
+            self.gone.add(key)
+        elif answer not in allowed:
+            raise Wrong(f"key {key} was answered {describe(answer)}, where the newest is {last}, kept is {kept}")
 
     def wrote(self):
         for key, puts in self.queued.items():
             self.newest[key] = puts[-1]
-            if key not in self.deleted:
-                self.shown[key] = puts[-1]
-        # A text that is too great deletes its key when it is received; what it deleted may be found again by an opening.
-        for key in self.too_great:
-            self.shown.pop(key, None)
-        self.too_great.clear()
         self.queued.clear()
+        self.kept.clear()
 
     def wait(self, program):
         if (answer := self.ask(program, b"wait")) != b"ok":
@@ -181,11 +182,8 @@ class Directory:
         if rest:
             self.wrote()
             self.figures["after the flush"] += 1
-        elif how == FLUSH:
-            self.figures[FLUSH] += 1
         else:
             self.figures[how] += 1
-            self.queued.clear()
         self.figures["roomy" if self.is_roomy else "reclaimed"] += 1
 
     def judge(self, program):
@@ -209,9 +207,9 @@ class Directory:
             self.newest[key] = put
         self.figures["flushes cut in two"] += has_newer and has_older
         self.queued.clear()
-        self.deleted.clear()
-        self.too_great.clear()
-        self.shown = {key: put for key, put in self.newest.items() if put}
+        self.gone.clear()
+        self.kept.clear()
+        self.last = {key: put for key, put in self.newest.items() if put}
 
 
 def main():

@@ -48,7 +48,7 @@ def text_of(key, count, length):
 
 def describe(answer):
     """What an answer is, for a report: never the whole of a long text."""
-    if not answer.startswith(b"entry "):
+    if not answer.startswith((b"entry ", b"piece ")):
         return repr(answer[:80])
     text = answer[6:]
     if not text:

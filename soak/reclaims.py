@@ -8,16 +8,16 @@ same lines each time. It prints one line of figures, and on the first wrong answ
 Exit status: 0 when all held, 1 for a wrong answer or exit status of the program, 2 for bad arguments.
 
 Checked is:
-- a put is `deleted` exactly where the puts queued since the last `wait` sum to more than 16 MiB (8 bytes for the key and
+- a put is `deleted` only where the puts since the last `wait` sum to more than 16 MiB (8 bytes for the key and
   8 for the length beside each text), else `queued`; `wait`, `del` and `close` are `ok`; the exit status is 0;
-- a `get` answers the newest text that a `wait` wrote, byte for byte, or `miss`: never a text that is still queued, that
-  was too great for a block, or that a `del` or a put that was `deleted` came after; nor, after a `wait`, one that a text
-  too great for a block came after. What was missed once stays missed until it is put and written again;
+- a `get` answers the newest text, byte for byte, or `miss`: never one that was too great for a block as `entry`, or that a
+  `del`, a put that was `deleted` or a text too great for a block came after. As `piece` it answers the newest that was queued
+  since the last `wait`, also behind a `del`. What was missed once stays missed until it is put again;
 - what must be there is not missed. With N blocks one is clean after a `wait` that was `ok`, and one is being written; so
   N - 2 are full. A block is left where the next record doesn't fit in it, with the index that would begin for it. So two
   blocks that were filled one after the other hold more than a block less two indices, and less one index in 171 pages for
   each further 170 records of a page. As the block that was full first is reclaimed, the last
-  (N - 2) / 2 * (B - 8192) * 170 / 171 bytes of what was put before the last `wait` are there, counted in whole pages of
+  (N - 2) / 2 * (B - 8192) * 170 / 171 bytes of what was put are there, counted in whole pages of
   records: 3.1 MB of 8 blocks of 1 MiB. Left out is what may lie in a block that deletes make the first to be reclaimed, in
   the place of the one that was full first: deletes of eight tenths of its bytes, and those of a batch in which the block
   was reclaimed and filled again, as these count for what it holds now.
@@ -125,8 +125,9 @@ class Answers:
         # Of each key what a get may answer: the put's number, its length, and where the record begins among all bytes
         # of records.
         self.written = {}
-        # The same of what was put since the last wait; None for a text that is too great.
+        # The same of what was put since the last wait, with no place for a text that is too great; and what may be a piece.
         self.queued = {}
+        self.kept = {}
         self.queued_bytes = 0
         self.record_bytes = 0
         self.waited_bytes = 0
@@ -157,8 +158,7 @@ class Answers:
 
     def put(self, answer, key, count, length):
         self.figures["puts"] += 1
-        wanted = b"deleted" if self.queued_bytes > QUEUE_BYTES else b"queued"
-        if answer != wanted:
+        if answer != b"queued" and (answer != b"deleted" or self.queued_bytes <= QUEUE_BYTES):
             raise Wrong(f"put {count} of key {key} with {self.queued_bytes} bytes queued was answered {describe(answer)}")
         if answer == b"deleted":
             self.figures["dropped"] += 1
@@ -166,31 +166,39 @@ class Answers:
             self.forget(key)
             return
         self.queued_bytes += length + QUEUED_BYTES
+        self.kept[key] = (count, length)
         if length > self.max_length:
             self.figures["too great"] += 1
-            self.queued[key] = None
+            self.queued[key] = (count, length, None)
             return
         self.queued[key] = (count, length, self.record_bytes)
         self.record_bytes += stored_bytes(length)
 
     def get(self, answer, key):
-        put = self.written.get(key)
+        put = self.queued.get(key) or self.written.get(key)
+        may_be_read = put and put[2] is not None
         if answer == b"miss":
             self.figures["misses"] += 1
-            if put and self.must_have(put):
-                raise Wrong(f"key {key} was missed, whose put {put[0]} is {self.waited_bytes - put[2]} bytes back")
+            if may_be_read and self.must_have(put):
+                raise Wrong(f"key {key} was missed, whose put {put[0]} is {self.record_bytes - put[2]} bytes back")
             self.written.pop(key, None)
+            if may_be_read:
+                self.queued.pop(key, None)
+            return
+        kept = self.kept.get(key)
+        if kept and answer == b"piece " + text_of(key, *kept):
+            self.figures["pieces"] += 1
             return
         self.figures["entries"] += 1
-        if not put or answer != b"entry " + text_of(key, put[0], put[1]):
+        if not may_be_read or answer != b"entry " + text_of(key, put[0], put[1]):
             wanted = f"put {put[0]} of {put[1]} bytes" if put else "none"
-            raise Wrong(f"key {key} was answered {describe(answer)}, where the newest written is {wanted}")
+            raise Wrong(f"key {key} was answered {describe(answer)}, where the newest is {wanted}")
         if self.must_have(put):
             self.figures["had to be there"] += 1
 
     def must_have(self, put):
         _, _, place = put
-        if self.waited_bytes - place > self.must_bytes:
+        if self.record_bytes - place > self.must_bytes:
             return False
         first, last = (place - self.block) // self.block, (place + self.block) // self.block
         steps = range(first, last + 1)
@@ -211,11 +219,12 @@ class Answers:
     def wait(self):
         self.figures["waits"] += 1
         for key, put in self.queued.items():
-            if put:
+            if put[2] is not None:
                 self.written[key] = put
             else:
                 self.forget(key)
         self.queued.clear()
+        self.kept.clear()
         self.queued_bytes = 0
         if self.batch_deletes:
             for step in range(self.waited_bytes // self.block, self.record_bytes // self.block + 1):
@@ -252,7 +261,7 @@ def run(words, directory):
         program.kill()
         said = f"WRONG at line {answers.line}: {wrong}"
     figures = ", ".join(f"{answers.figures[it]} {it}" for it in
-                        ("puts", "dropped", "too great", "waits", "deletes", "entries", "misses", "had to be there"))
+                        ("puts", "dropped", "too great", "waits", "deletes", "entries", "pieces", "misses", "had to be there"))
     full = answers.record_bytes / (words.blocks * words.block)
     place = "memory" if words.memory else "files"
     print(f"reclaims: seed {words.seed}, {words.blocks} blocks of {words.block} bytes in {place}: {figures}; "

@@ -1,8 +1,10 @@
 //! `foyerdisk DIR CAPACITY BLOCK`: a disk cache that is asked by lines.
 #![tactic(auto)]
 
-use foyer_serve::serve::serve;
+use foyer_core_tally::book::Blanks;
+use foyer_program::serve::serve;
 use std::env;
+use std::marker::Brand;
 use std::process::ExitCode;
 
 fn main(rt: HostRuntime) -> ExitCode {
@@ -15,9 +17,11 @@ fn main(rt: HostRuntime) -> ExitCode {
             }
         }
     }
-    let status = serve(
-        &rt,
+    let blanks = Blanks::new(1 << 32);
+    let status = serve::<Brand, HostRuntime, _, _, _, _>(
+        rt,
         rt.alloc(),
+        blanks,
         words.as_slice(),
         rt.stdin(),
         rt.stdout(),

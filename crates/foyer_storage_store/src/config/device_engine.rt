@@ -20,8 +20,9 @@ use foyer_policy_keeper::keeper::Keeper;
 use foyer_policy_piece::keeper::Piece;
 use foyer_storage_engine::core_shared::notes::NoNotes;
 use foyer_storage_engine::engine::{BlockEngine, Enqueued};
+use foyer_storage_engine::hand::Hand;
 use foyer_storage_engine::load::Load;
-use foyer_storage_engine::workers::{FlusherWorker, ReclaimerWorker};
+use foyer_storage_engine::workers::{Clock, FlusherWorker, ReclaimerWorker, Worker};
 use std::alloc::Global;
 use std::sync::{Arc, Mutex, Wait};
 
@@ -45,8 +46,7 @@ pub type DeviceEngine<L, K, V, P, E, C, N, Q, G> = BlockEngine<
     NoNotes,
 >;
 
-/// A flusher's worker over them.
-pub type BlockFlusher<L, K, V, P, E, C, N, Q, G> = FlusherWorker<
+type WorkingFlusher<L, K, V, P, E, C, N, Q, G> = FlusherWorker<
     L,
     K,
     V,
@@ -60,8 +60,7 @@ pub type BlockFlusher<L, K, V, P, E, C, N, Q, G> = FlusherWorker<
     DeviceLog<N, Q>,
 >;
 
-/// A reclaimer's worker over them.
-pub type BlockReclaimer<L, K, V, P, E, C, N, Q, G, T> = ReclaimerWorker<
+type WorkingReclaimer<L, K, V, P, E, C, N, Q, G, T> = ReclaimerWorker<
     L,
     K,
     V,
@@ -74,6 +73,78 @@ pub type BlockReclaimer<L, K, V, P, E, C, N, Q, G, T> = ReclaimerWorker<
     DeviceBlocks<N, Q>,
     T,
 >;
+
+/// A flusher's worker over them. It is a type of its own, so that the proof of who passes it on doesn't go over its parts.
+#[derive(Drop)]
+pub struct BlockFlusher<L, K, V, P, E, C, N, Q, G>
+where
+    L: Kinds,
+    K: Code<Global> + Eq,
+    V: Code<Global>,
+    P: Properties + Drop,
+    E: EvictionPicker,
+    C: StorageFilterCondition,
+    N: IoEngine + Drop,
+    Q: Partition + Copy + Drop,
+    G: Gate,
+{
+    pub(super) worker: WorkingFlusher<L, K, V, P, E, C, N, Q, G>,
+}
+
+impl<L, K, V, P, E, C, N, Q, G> Worker<Hand<L>> for BlockFlusher<L, K, V, P, E, C, N, Q, G>
+where
+    L: Kinds,
+    K: Code<Global> + Eq + Drop,
+    V: Code<Global> + Drop,
+    P: Properties + Drop,
+    E: EvictionPicker,
+    C: StorageFilterCondition,
+    N: IoEngine + Drop,
+    Q: Partition + Copy + Drop,
+    G: Gate,
+{
+    fn work(self, rt: &impl Wait, hand: Hand<L>) -> Hand<L> {
+        let BlockFlusher { worker } = self;
+        worker.work(rt, hand)
+    }
+}
+
+/// A reclaimer's worker over them, a type of its own for the same reason.
+#[derive(Drop)]
+pub struct BlockReclaimer<L, K, V, P, E, C, N, Q, G, T>
+where
+    L: Kinds,
+    K: Code<Global>,
+    V: Code<Global>,
+    P: Properties + Drop,
+    E: EvictionPicker,
+    C: StorageFilterCondition,
+    N: IoEngine + Drop,
+    Q: Partition + Copy,
+    G: Gate,
+    T: Clock,
+{
+    pub(super) worker: WorkingReclaimer<L, K, V, P, E, C, N, Q, G, T>,
+}
+
+impl<L, K, V, P, E, C, N, Q, G, T> Worker<Hand<L>> for BlockReclaimer<L, K, V, P, E, C, N, Q, G, T>
+where
+    L: Kinds,
+    K: Code<Global> + Drop,
+    V: Code<Global> + Drop,
+    P: Properties + Drop,
+    E: EvictionPicker,
+    C: StorageFilterCondition,
+    N: IoEngine + Drop,
+    Q: Partition + Copy,
+    G: Gate,
+    T: Clock,
+{
+    fn work(self, rt: &impl Wait, hand: Hand<L>) -> Hand<L> {
+        let BlockReclaimer { worker } = self;
+        worker.work(rt, hand)
+    }
+}
 
 /// An engine over the blocks of a device, with its admission filter, and what asks the device's counters for all callers.
 #[derive(Drop)]

@@ -115,7 +115,8 @@ impl<R, I: IoEngineConfig<R>, Q: Partition + Copy> Disks<'_, R, I, Q> {
             log,
             keeper,
         };
-        Ok(FlusherWorker { engine, parts })
+        let worker = FlusherWorker { engine, parts };
+        Ok(BlockFlusher { worker })
     }
 
     // A worker for each flusher.
@@ -177,7 +178,8 @@ impl<R, I: IoEngineConfig<R>, Q: Partition + Copy> Disks<'_, R, I, Q> {
             recorder,
             clock,
         };
-        Ok(ReclaimerWorker { engine, parts })
+        let worker = ReclaimerWorker { engine, parts };
+        Ok(BlockReclaimer { worker })
     }
 
     // A worker for each reclaimer.

@@ -1,11 +1,46 @@
-//! The README's first example, word for word, and what it gives.
+//! README's example, word for word, and what it gives; and a core by itself, by the door alone.
+ghost use Rattle.foyer_storage.specs.Ledgers.{AreOf};
+ghost use Rattle.std.specs.Prelude.{◌≡◌, ◌^◌};
+
 use foyer_storage::error::Result;
 use foyer_storage::{
-    Core, EntrySerializer, Env, MemoryDisk, NoProperties, Piece, PieceRef, RecoverMode, Reply,
-    Settings, Step,
+    Blanks, BlockEngineConfig, Core, DeviceBuilder, EntrySerializer, Env, IdentityHashBuilder,
+    Kinds, Load, MemoryDeviceBuilder, MemoryDisk, MemoryIoEngine, Moment, NoProperties, Piece,
+    PieceRef, RecoverMode, Reply, Settings, SharedMemoryIoEngineConfig, Step, StoreBuilder,
 };
 use std::alloc::Global;
+use std::marker::Brand;
+use std::rt::Files;
+use std::sync::Wait;
 use std::test::Fail;
+use std::thread::Threads;
+
+/// A store over four blocks in memory, with its workers, reads back what was put.
+fn is_read_back<L, R>(rt: R, alloc: Global, blanks: Blanks) -> Result<bool>
+where
+    L: Kinds + Send + Sync + 'static,
+    R: Threads + Wait + Files + Copy + Send + 'static,
+    requires { AreOf L.name_of L.all blanks × (L.all ≡ 2 ^ 32) }
+{
+    let device = MemoryDeviceBuilder::new(65536).build(&rt, alloc, 0)?;
+    let mut memory = MemoryIoEngine::new(alloc);
+    memory.add_file(alloc, 65536)?;
+    let builder = StoreBuilder::new("example", IdentityHashBuilder, 4)
+        .with_engine_config(BlockEngineConfig::new(device).with_block_size(16384))
+        .with_io_engine_config(SharedMemoryIoEngineConfig::new(alloc, memory)?);
+    let moment = Moment(0);
+    let (store, mut session, workers) = builder.build::<R, Moment, L, u64, String, NoProperties>(
+        rt, alloc, blanks, moment, 0,
+    )?;
+    let value = String::from_str(alloc, "a")?;
+    let piece = Piece::new(alloc, 1, value, 1, NoProperties)?;
+    let _ = store.enqueue(&rt, &mut session, &piece, true, 0)?;
+    store.wait(&rt, &mut session)?;
+    let is_there = matches!(store.load(&rt, &mut session, &1, 0)?, Load::Entry { .. });
+    store.close(&rt, &mut session)?;
+    let _ = workers.join(&rt, session.into_steps());
+    Ok(is_there)
+}
 
 /// A core by itself gives one reply to each step, and touches a disk only where it is opened.
 fn first_sequence(alloc: Global) -> Result<Option<u64>> {
@@ -26,6 +61,13 @@ fn first_sequence(alloc: Global) -> Result<Option<u64>> {
 
 #[test]
 fn the_example_of_the_readme_runs(rt: HostRuntime) -> std::result::Result<(), Fail> {
+    let blanks = Blanks::new(1 << 32);
+    assert!(rt; is_read_back::<Brand, HostRuntime>(rt, rt.alloc(), blanks)?);
+    Ok(())
+}
+
+#[test]
+fn a_core_by_itself_gives_a_sequence(rt: HostRuntime) -> std::result::Result<(), Fail> {
     assert!(rt; first_sequence(rt.alloc())? == Some(1));
     Ok(())
 }

@@ -1,0 +1,8 @@
+//! The program over a store with its workers: lines in, answers out. It passes on the store's crate.
+#![tactic(auto)]
+
+mod lines;
+pub mod serve;
+pub mod soak;
+
+pub use foyer_storage_store as store;

@@ -1,0 +1,276 @@
+//! The whole program, over any reader and writers.
+ghost use Rattle.std.specs.Prelude.{◌≡◌, ◌^◌};
+ghost use Rattle.foyer_serve.specs.Arguments.{AreWords};
+ghost use Rattle.foyer_serve.specs.declared.options.Options.{Options};
+ghost use Rattle.foyer_core_tally.specs.Ledgers.{AreOf};
+
+use crate::lines::{Texts, answer_all};
+use foyer_core_tally::book::{Blanks, Kinds};
+use foyer_device_page::error::{ErrorKind, Result};
+use foyer_device_partition::io::device::{
+    Device, DeviceBuilder, FsDeviceBuilder, MemoryDeviceBuilder,
+};
+use foyer_format_record::serde::{IdentityHashBuilder, NoProperties};
+use foyer_io_engine::io::engine::{
+    IoEngineConfig, MemoryIoEngine, PsyncIoEngineConfig, SharedMemoryIoEngineConfig,
+};
+use foyer_serve::answer::print_fault;
+use foyer_serve::directory::{Failed, report};
+use foyer_serve::lines::Lines;
+use foyer_serve::options::{GENERATOR_SEED, Options, USAGE};
+use foyer_storage_store::builder::StoreBuilder;
+use foyer_storage_store::config::{BlockEngineConfig, Engine};
+use foyer_storage_store::engine::workers::{Moment, Workers};
+use foyer_storage_store::session::StoreSession;
+use std::alloc::{Allocator, Global};
+use std::fs::File;
+use std::io::{BufWriter, Read, Write};
+use std::rt::Files;
+use std::sync::Wait;
+use std::thread::Threads;
+
+// The bytes of the output's buffer.
+const OUTPUT_CAPACITY: usize = 64 * 1024;
+
+// Into how many shards the keeper is divided.
+const KEEPER_SHARDS: usize = 64;
+
+// All went well; something was refused, or a line was bad; the arguments were bad.
+const STATUS_OK: u8 = 0;
+
+const STATUS_FAULT: u8 = 1;
+
+const STATUS_USAGE: u8 = 2;
+
+// Answers the input's lines, unless memory is refused for what reads and writes them: whether all went well.
+fn answer_lines<S, N, R, W>(
+    rt: &impl Wait,
+    alloc: Global,
+    store: &Texts<N>,
+    session: &mut S,
+    input: R,
+    mut direct: W,
+) -> bool
+where
+    S: Drop,
+    N: Engine<S, u64, String, NoProperties>,
+    R: Read + Drop,
+    W: Write + Drop,
+{
+    let Ok(mut lines) = Lines::new(alloc, input) else {
+        let _ = print_fault(&mut direct, ErrorKind::Memory);
+        return false;
+    };
+    let Ok(mut output) = BufWriter::with_capacity(alloc, OUTPUT_CAPACITY, &mut direct) else {
+        let _ = print_fault(&mut direct, ErrorKind::Memory);
+        return false;
+    };
+    let answered = answer_all(rt, alloc, store, session, &mut lines, &mut output);
+    let is_flushed = output.flush().is_ok();
+    answered.unwrap_or(false) && is_flushed
+}
+
+// Answers the input's lines, closes the store, and joins its workers.
+fn answer_input<L, N, T, R, W>(
+    rt: &T,
+    alloc: Global,
+    store: &Texts<N>,
+    mut session: StoreSession<L>,
+    workers: Workers<L>,
+    input: R,
+    output: W,
+) -> u8
+where
+    L: Kinds,
+    N: Engine<StoreSession<L>, u64, String, NoProperties>,
+    T: Threads + Wait,
+    R: Read + Drop,
+    W: Write + Drop,
+{
+    let is_well = answer_lines(rt, alloc, store, &mut session, input, output);
+    let is_closed = store.close(rt, &mut session).is_ok();
+    let _ = workers.join(rt, session.into_steps());
+    if is_well && is_closed {
+        STATUS_OK
+    } else {
+        STATUS_FAULT
+    }
+}
+
+fn answer_fault<W: Write + Drop>(mut output: W, kind: ErrorKind) -> u8 {
+    let _ = print_fault(&mut output, kind);
+    STATUS_FAULT
+}
+
+// Builds a store over a device and I/O engines, and answers the input's lines. Where it can't be built, the fault comes back
+// beside what failed, and the output.
+fn serve_over<L, T, I, D, R, W>(
+    rt: T,
+    alloc: Global,
+    blanks: Blanks,
+    device: D,
+    io_engine: I,
+    block_size: usize,
+    input: R,
+    output: W,
+) -> std::result::Result<u8, (Failed, W)>
+where
+    L: Kinds + Send + Sync + 'static,
+    T: Threads + Wait + Files + Copy + Send + 'static,
+    I: IoEngineConfig<T> + Drop,
+    I::Engine: Send + 'static,
+    D: Device,
+    D::Partition: Drop + Send + 'static,
+    R: Read + Drop,
+    W: Write + Drop,
+    requires { AreOf L.name_of L.all blanks × (L.all ≡ 2 ^ 32) }
+{
+    let config = BlockEngineConfig::new(device).with_block_size(block_size);
+    let builder = StoreBuilder::new("foyerdisk", IdentityHashBuilder, KEEPER_SHARDS)
+        .with_engine_config(config)
+        .with_io_engine_config(io_engine);
+    let moment = Moment(0);
+    let built = builder.build::<T, Moment, L, u64, String, NoProperties>(
+        rt,
+        alloc,
+        blanks,
+        moment,
+        GENERATOR_SEED,
+    );
+    match built {
+        Ok((store, session, workers)) => Ok(answer_input(
+            &rt, alloc, &store, session, workers, input, output,
+        )),
+        Err(error) => {
+            let failed = Failed {
+                kind: error.kind(),
+                what: "the store",
+            };
+            Err((failed, output))
+        }
+    }
+}
+
+// What builds I/O engines over one memory of so many bytes.
+pub(crate) fn memory(alloc: Global, capacity: usize) -> Result<SharedMemoryIoEngineConfig<Global>> {
+    let mut engine = MemoryIoEngine::new(alloc);
+    engine.add_file(alloc, capacity)?;
+    SharedMemoryIoEngineConfig::new(alloc, engine)
+}
+
+/// Runs the program over the words `DIR CAPACITY BLOCK`, and gives its exit status: 0, or 1 where a fault or a bad line was
+/// printed, an input or output failed, or the end's close was refused, or 2 for bad words.
+///
+/// Each line of the input is answered by one line. Answers are written out before more input is asked for. Where the directory
+/// can't be opened, a line of `errors` names it and what failed, beside the fault that is answered.
+pub fn serve<L, T, B, R, W, E>(
+    rt: T,
+    alloc: Global,
+    blanks: Blanks,
+    words: &[String<B>],
+    input: R,
+    output: W,
+    mut errors: E,
+) -> u8
+where
+    L: Kinds + Send + Sync + 'static,
+    T: Threads + Wait + Files<File = File> + AllocGlobal + Copy + Send + 'static,
+    B: Allocator,
+    R: Read + Drop,
+    W: Write + Drop,
+    E: Write + Drop,
+    requires { AreOf L.name_of L.all blanks × (L.all ≡ 2 ^ 32) }
+    ensures usage { ((o : Options) → ¬ AreWords words.now o) → result ≡ 2 }
+{
+    let Some(options) = Options::parse(words) else {
+        let _ = errors.write_all(USAGE.as_bytes());
+        return STATUS_USAGE;
+    };
+    // `Config` is found before anything is touched.
+    let settings = match options.settings() {
+        Ok(settings) => settings,
+        Err(error) => return answer_fault(output, error.kind()),
+    };
+    let block_size = settings.block_size;
+    if options.is_memory() {
+        return serve_memory::<L, T, R, W>(rt, alloc, blanks, &options, block_size, input, output);
+    }
+    let served = serve_directory::<L, T, R, W>(
+        rt, alloc, blanks, &options, block_size, input, output,
+    );
+    match served {
+        Ok(status) => status,
+        Err((failed, output)) => {
+            let _ = report(&mut errors, options.directory, &failed);
+            answer_fault(output, failed.kind)
+        }
+    }
+}
+
+// As `serve_over`, over memory: the status.
+fn serve_memory<L, T, R, W>(
+    rt: T,
+    alloc: Global,
+    blanks: Blanks,
+    options: &Options<'_>,
+    block_size: usize,
+    input: R,
+    output: W,
+) -> u8
+where
+    L: Kinds + Send + Sync + 'static,
+    T: Threads + Wait + Files + Copy + Send + 'static,
+    R: Read + Drop,
+    W: Write + Drop,
+    requires { AreOf L.name_of L.all blanks × (L.all ≡ 2 ^ 32) }
+{
+    let capacity = options.capacity as usize;
+    let io_engine = match memory(alloc, capacity) {
+        Ok(config) => config,
+        Err(error) => return answer_fault(output, error.kind()),
+    };
+    let device = match MemoryDeviceBuilder::new(capacity).build(&rt, alloc, 0) {
+        Ok(device) => device,
+        Err(error) => return answer_fault(output, error.kind()),
+    };
+    match serve_over::<L, T, _, _, R, W>(
+        rt, alloc, blanks, device, io_engine, block_size, input, output,
+    ) {
+        Ok(status) => status,
+        Err((failed, output)) => answer_fault(output, failed.kind),
+    }
+}
+
+// As `serve_over`, over the files of a directory.
+fn serve_directory<L, T, R, W>(
+    rt: T,
+    alloc: Global,
+    blanks: Blanks,
+    options: &Options<'_>,
+    block_size: usize,
+    input: R,
+    output: W,
+) -> std::result::Result<u8, (Failed, W)>
+where
+    L: Kinds + Send + Sync + 'static,
+    T: Threads + Wait + Files<File = File> + AllocGlobal + Copy + Send + 'static,
+    R: Read + Drop,
+    W: Write + Drop,
+    requires { AreOf L.name_of L.all blanks × (L.all ≡ 2 ^ 32) }
+{
+    let builder = FsDeviceBuilder::new(options.directory).with_capacity(options.capacity as usize);
+    let device = match builder.build(&rt, alloc, 0) {
+        Ok(device) => device,
+        Err(error) => {
+            let failed = Failed {
+                kind: error.kind(),
+                what: "the directory",
+            };
+            return Err((failed, output));
+        }
+    };
+    let io_engine = PsyncIoEngineConfig::new();
+    serve_over::<L, T, _, _, R, W>(
+        rt, alloc, blanks, device, io_engine, block_size, input, output,
+    )
+}

@@ -1,0 +1,30 @@
+//! `foyersoak DIR CAPACITY BLOCK THREADS CALLS SEED`: threads that ask one store at once, and judge each answer.
+#![tactic(auto)]
+
+use foyer_core_tally::book::Blanks;
+use foyer_program::soak::soak;
+use std::env;
+use std::marker::Brand;
+use std::process::ExitCode;
+
+fn main(rt: HostRuntime) -> ExitCode {
+    let mut words = Vec::new(rt.alloc());
+    if let Ok(mut all) = env::args(&rt) {
+        let _ = all.next();
+        for word in all {
+            if words.push(word).is_err() {
+                return ExitCode::from(1);
+            }
+        }
+    }
+    let blanks = Blanks::new(1 << 32);
+    let status = soak::<Brand, HostRuntime, _, _, _>(
+        rt,
+        rt.alloc(),
+        blanks,
+        words.as_slice(),
+        rt.stdout(),
+        rt.stderr(),
+    );
+    ExitCode::from(status)
+}
