@@ -1,15 +1,16 @@
 //! The disk half of a hybrid cache: the engine's public names, under their modules' paths and here at the root.
 //!
-//! A door: it passes on what the six doors below it have, the store of `foyer_storage_store` with its engine, and the sizes of
-//! `foyer_storage_plan`; it has no code of its own.
+//! A door: it passes on what the six doors below it have, the store of `foyer_storage_store` with its engine, the engine on one
+//! thread of `foyer_storage_local`, and the sizes of `foyer_storage_plan`; it has no code of its own.
 //! Types with one name in two modules stand here once: `Batch` is the buffer's, `Block` the manager's, `Sequence` the one of
-//! `block::serde`. A user who
-//! cites definitions lists the crate that has them too.
+//! `block::serde`, `Enqueued`, `Load` and `Populated` those of the engine that threads share. A user who cites definitions lists
+//! the crate that has them too.
 #![tactic(auto)]
 
 pub mod block;
 pub mod engine;
 pub mod io;
+pub mod local;
 pub mod store;
 
 pub use crate::block::buffer::Batch;
@@ -178,6 +179,7 @@ pub use crate::io::engine::WriteBuffer;
 pub use crate::keeper::Keeper;
 pub use crate::keeper::Piece;
 pub use crate::keeper::PieceRef;
+pub use crate::local::LocalEngine;
 pub use crate::serde::Age;
 pub use crate::serde::Checksummer;
 pub use crate::serde::Code;

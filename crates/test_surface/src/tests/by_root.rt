@@ -98,6 +98,7 @@ use foyer_storage::KeepsNotes;
 use foyer_storage::Kinds;
 use foyer_storage::KvInfo;
 use foyer_storage::Load;
+use foyer_storage::LocalEngine;
 use foyer_storage::Locked;
 use foyer_storage::MAX_PARTITIONS;
 use foyer_storage::ManagerConfig;
