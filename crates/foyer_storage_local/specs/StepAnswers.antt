@@ -65,7 +65,7 @@ module _ {K V P A : Type 0} where
   wrote_as (Some reply.NoBlock) = Err error.NoSpace
   wrote_as (Some said) = done_as said
 
-  -- a destroy's step that came back, or didn't end it
+  -- a destroy's step that was handed back, or didn't end it
   abbrev pub kept_as : Reply K V P A → Result (Unit {0}) Error
   kept_as (reply.Refused kind back) = Err (error_of kind)
   kept_as said = Err error.Io

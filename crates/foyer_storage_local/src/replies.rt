@@ -119,7 +119,7 @@ pub(crate) fn answer_kept<K: Drop, V: Drop, P: Drop, A: Allocator>(
     }
 }
 
-// What came of the cleans: the first fault, if one failed.
+// The outcome of the cleans: the first fault, if one failed.
 pub(crate) fn answer_cleaned<K: Drop, V: Drop, P: Drop, A: Allocator>(
     last: Reply<K, V, P, A>,
 ) -> Result<()>

@@ -89,7 +89,7 @@ where
         }
     }
 
-    /// What a key has: the newest that was put, whatever came before. Where the newest event of its hash is a put of the
+    /// What a key has: the newest that was put, whatever was asked before. Where the newest event of its hash is a put of the
     /// key, that is answered, or `Io` for a failed read, or `Memory`, unless a reclaim of its block or a destroy began
     /// since, or under two of 2^64 - 1 steps are left. Where it is a put of another key of the same hash, it is a miss. A
     /// record that an opening found may be none: then it is a miss, or `Parse` where its key or value doesn't decode, or
