@@ -2,6 +2,7 @@
 ghost use Rattle.std.specs.Prelude.{◌≡◌};
 ghost use Rattle.foyer_core_shared.specs.Briefs.{len_of, listed_in, outcome_of, reply_brief, step_brief};
 ghost use Rattle.foyer_core_shared.specs.Kinds.{kind_of};
+ghost use Rattle.foyer_core_shared.specs.declared.brief.StepBrief.TheVariants as asked;
 
 use foyer_block_index::manager::BlockId;
 use foyer_core_steps::reply::Reply;
@@ -244,6 +245,19 @@ impl StepBrief {
                 outcome: outcome_of(outcome),
             },
             Step::Close => StepBrief::Close,
+        }
+    }
+
+    // Of the step that brings what was read for a ticket.
+    pub(crate) fn of_load<A: Allocator>(
+        ticket: Ticket,
+        outcome: &Result<Vec<u8, A>, Error>,
+    ) -> StepBrief
+        ensures { result ≡ asked.LoadEnd ticket (len_of outcome.now) }
+    {
+        StepBrief::LoadEnd {
+            ticket,
+            outcome: len_of(outcome),
         }
     }
 }

@@ -10,6 +10,8 @@ ghost use Rattle.foyer_core_tally.specs.Tally.{grown, none, both, shown, listed}
 ghost use Rattle.std.specs.Prelude.{◌≡◌, ◌≢◌, ◌+◌, ◌<◌, IfErr, IfOk, IsOkUnless, OnOk, None, Some, [], ◌∷◌};
 ghost use Rattle.std.specs.Option.{ForSome};
 
+mod loads;
+
 use crate::brief::{Brief, ReplyBrief, StepBrief};
 use crate::notes::{Notes, Noting};
 use foyer_block_index::tombstone::Tombstone;

@@ -1,6 +1,8 @@
 //! A core behind one lock.
 ghost use Rattle.std.specs.Prelude.{◌≡◌, ◌⊎◌, ◌<◌, true};
+ghost use Rattle.foyer_core_steps.specs.Answered.{spare_of};
 ghost use Rattle.foyer_core_steps.specs.declared.reply.Reply.TheVariants as reply;
+ghost use Rattle.foyer_core_steps.specs.declared.step.Step.TheVariants as steps;
 ghost use Rattle.foyer_device_page.specs.declared.error.ErrorKind.TheVariants as kind;
 ghost use Rattle.foyer_core_shared.specs.Answers.{IsAnswer};
 ghost use Rattle.foyer_core_shared.specs.Briefed.{IsNotedIn};
@@ -13,9 +15,9 @@ use crate::notes::Noting;
 use crate::session::Session;
 use foyer_block_manager::block::eviction::EvictionPicker;
 use foyer_core_steps::reply::Reply;
-use foyer_core_steps::step::Step;
+use foyer_core_steps::step::{Step, Ticket};
 use foyer_core_tally::book::Kinds;
-use foyer_device_page::error::ErrorKind;
+use foyer_device_page::error::{ErrorKind, Result};
 use foyer_device_statistics::IoState;
 use foyer_format_record::serde::{Code, Properties};
 use foyer_policy_filter::{StorageFilter, StorageFilterCondition};
@@ -75,6 +77,30 @@ where
         match self.inside.lock(rt).step(session, io, step) {
             Ok(reply) => reply,
             Err(step) => Reply::Refused(ErrorKind::Memory, step),
+        }
+    }
+
+    /// Brings what was read for a ticket, as `step` does with a `LoadEnd`, and gives the buffer of the read back beside the reply, for
+    /// the next read.
+    pub fn end_load(
+        &self,
+        rt: &impl Wait,
+        session: &mut Session<L>,
+        ticket: Ticket,
+        outcome: Result<Vec<u8, A>>,
+    ) -> (Reply<K, V, P, A>, Option<Vec<u8, A>>)
+        requires { 0 < session.old.shares.parts }
+        ensures answer { IsAnswer K.is_decodable V.is_decodable K.encoding V.encoding (steps.LoadEnd ticket outcome) result.0 }
+        ensures noted { IsNotedIn session.old session.new (steps.LoadEnd ticket outcome) result.0
+            ⊎ ((N.keeps ≡ true) × (result.0 ≡ reply.Refused kind.Memory (steps.LoadEnd ticket outcome)) × (session.new ≡ session.old)) }
+        ensures replied { (may_reply (steps.LoadEnd ticket outcome) result.0 ≡ true)
+            ⊎ ((N.keeps ≡ true) × (result.0 ≡ reply.Refused kind.Memory (steps.LoadEnd ticket outcome))) }
+        ensures spare { result.1 ≡ spare_of outcome result.0 }
+        ensures parts { session.new.shares.parts ≡ session.old.shares.parts }
+    {
+        match self.inside.lock(rt).end_load(session, ticket, outcome) {
+            Ok((reply, spare)) => (reply, spare),
+            Err(step) => (Reply::Refused(ErrorKind::Memory, step), None),
         }
     }
 

@@ -1,30 +1,37 @@
 //! A bell: threads wait at it until something moved.
-ghost use Rattle.std.specs.Prelude.{◌≡◌, ◌+◌, ◌%◌, ◌^◌, IsTrue, true, false};
+ghost use Rattle.std.specs.Prelude.{◌≡◌, ◌+◌, ◌%◌, ◌^◌, IsTrue, not, true, false};
 ghost use Rattle.foyer_storage_engine.specs.Ringing.{is_past};
 
+use std::mem;
 use std::sync::{Condvar, Mutex, Wait};
 
-// What stands behind the lock: a count of moves, and whether no more come.
+// What stands behind the lock: a count of moves, whether no more come, and whether a thread has begun to wait since the last
+// time that all were woken.
 #[derive(Drop)]
 struct Moves {
     count: u64,
     is_closed: bool,
+    is_awaited: bool,
 }
 
 impl Moves {
     fn new() -> Moves
-        ensures { result ≡ record { count = 0; is_closed = false } }
+        ensures { result ≡ record { count = 0; is_closed = false; is_awaited = false } }
     {
         Moves {
             count: 0,
             is_closed: false,
+            is_awaited: false,
         }
     }
 
-    fn ring(&mut self)
-        ensures { self.new ≡ record self.old { count = (self.old.count + 1) % 2 ^ 64 } }
+    // A move: whether a thread is to be woken.
+    fn ring(&mut self) -> bool
+        ensures moved { self.new ≡ record self.old { count = (self.old.count + 1) % 2 ^ 64; is_awaited = false } }
+        ensures awaited { result ≡ self.old.is_awaited }
     {
         self.count = self.count.wrapping_add(1);
+        mem::replace(&mut self.is_awaited, false)
     }
 
     fn close(&mut self)
@@ -37,6 +44,19 @@ impl Moves {
         ensures { result ≡ is_past self.now seen }
     {
         self.count != seen || self.is_closed
+    }
+
+    // Whether to wait on: who does is to be woken by the next move.
+    fn begins_to_wait(&mut self, seen: u64) -> bool
+        ensures waits { result ≡ not (is_past self.old seen) }
+        ensures awaited { result ≡ true → self.new ≡ record self.old { is_awaited = true } }
+        ensures same { result ≡ false → self.new ≡ self.old }
+    {
+        if self.is_past(seen) {
+            return false;
+        }
+        self.is_awaited = true;
+        true
     }
 
     // What a wait answers, which may end nowhere else.
@@ -67,8 +87,10 @@ impl Bell {
 
     /// Counts a move, and wakes all who wait. The count goes on at 0 behind 2^64 - 1.
     pub fn ring(&self, rt: &impl Wait) {
-        self.moves.lock(rt).ring();
-        self.moved.notify_all();
+        let is_awaited = self.moves.lock(rt).ring();
+        if is_awaited {
+            self.moved.notify_all();
+        }
     }
 
     /// Says that no more moves come, and wakes all who wait. A closed bell stays closed.
@@ -84,9 +106,11 @@ impl Bell {
 
     /// Waits until the count is another than `seen`, or the bell is closed. True once it is closed.
     pub fn wait_past(&self, rt: &impl Wait, seen: u64) -> bool {
-        let moves = self
-            .moved
-            .wait_while(rt, self.moves.lock(rt), |moves| !moves.is_past(seen));
+        let moves = self.moved.wait_while(
+            rt,
+            self.moves.lock(rt),
+            |moves| moves.begins_to_wait(seen),
+        );
         moves.is_closed_past(seen)
     }
 }

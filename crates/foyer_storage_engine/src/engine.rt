@@ -412,11 +412,18 @@ where
         };
         self.gate.pass(Point::LoadRead);
         let outcome = self.reader.lock(rt).read(&ticket)?;
-        let end = Step::LoadEnd {
-            ticket,
-            result: outcome,
-        };
-        let reply = self.shared.step(rt, session, no_io(), end);
+        let (reply, spare) = self.shared.end_load(rt, session, ticket, outcome);
+        self.keep(spare);
         load_of(reply)
+    }
+
+    // Keeps a buffer for the next read, unless another thread reads just now.
+    fn keep(&self, spare: Option<Vec<u8, A>>) {
+        let Some(bytes) = spare else {
+            return;
+        };
+        if let Some(mut reader) = self.reader.try_lock() {
+            reader.spare = bytes;
+        }
     }
 }

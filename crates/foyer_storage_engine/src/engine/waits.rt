@@ -4,6 +4,7 @@ ghost use Rattle.foyer_device_page.specs.declared.error.Error.TheVariants.{Memor
 
 use foyer_device_page::error::Result;
 use std::alloc::Allocator;
+use std::mem;
 use std::sync::{Condvar, Mutex, Wait};
 
 // A wait that flushers have yet to answer, and how many of them.
@@ -13,12 +14,14 @@ struct OpenWait {
     left: u32,
 }
 
-// What stands behind the lock: the waits that aren't answered, and whether none is answered any more.
+// What stands behind the lock: the waits that aren't answered, whether none is answered any more, and whether a caller has begun
+// to wait since the last time that all were woken.
 #[derive(Drop)]
 struct WaitTable<A: Allocator> {
     next: u64,
     waiting: Vec<OpenWait, A>,
     is_closed: bool,
+    is_awaited: bool,
 }
 
 // Where a wait stands in a list.
@@ -32,6 +35,7 @@ impl<A: Allocator> WaitTable<A> {
             next: 0,
             waiting: Vec::new(alloc),
             is_closed: false,
+            is_awaited: false,
         }
     }
 
@@ -48,19 +52,22 @@ impl<A: Allocator> WaitTable<A> {
         Ok(id)
     }
 
-    // One flusher answers a wait. A wait that isn't there, since its caller gave it up, is left alone.
-    fn answer(&mut self, id: u64) {
+    // One flusher answers a wait: whether callers are to be woken. A wait that isn't there, since its caller gave it up, is left
+    // alone.
+    fn answer(&mut self, id: u64) -> bool {
         let Some(place) = place_of(&self.waiting, id) else {
-            return;
+            return false;
         };
-        if place < self.waiting.len() {
-            let left = self.waiting[place].left;
-            if left > 1 {
-                self.waiting[place].left = left - 1;
-            } else {
-                let _ = self.waiting.swap_remove(place);
-            }
+        if place >= self.waiting.len() {
+            return false;
         }
+        let left = self.waiting[place].left;
+        if left > 1 {
+            self.waiting[place].left = left - 1;
+            return false;
+        }
+        let _ = self.waiting.swap_remove(place);
+        mem::replace(&mut self.is_awaited, false)
     }
 
     // Gives a wait up.
@@ -74,6 +81,15 @@ impl<A: Allocator> WaitTable<A> {
 
     fn is_over(&self, id: u64) -> bool {
         self.is_closed || place_of(&self.waiting, id).is_none()
+    }
+
+    // Whether to wait on: who does is to be woken where a wait ends.
+    fn begins_to_wait(&mut self, id: u64) -> bool {
+        if self.is_over(id) {
+            return false;
+        }
+        self.is_awaited = true;
+        true
     }
 }
 
@@ -102,8 +118,10 @@ impl<A: Allocator> Waits<A> {
 
     /// One flusher answers a wait.
     pub fn answer(&self, rt: &impl Wait, id: u64) {
-        self.table.lock(rt).answer(id);
-        self.answered.notify_all();
+        let is_awaited = self.table.lock(rt).answer(id);
+        if is_awaited {
+            self.answered.notify_all();
+        }
     }
 
     /// Gives a wait up: who answers it later answers nothing.
@@ -121,6 +139,6 @@ impl<A: Allocator> Waits<A> {
     pub fn wait_for(&self, rt: &impl Wait, id: u64) {
         let _table = self
             .answered
-            .wait_while(rt, self.table.lock(rt), |table| !table.is_over(id));
+            .wait_while(rt, self.table.lock(rt), |table| table.begins_to_wait(id));
     }
 }

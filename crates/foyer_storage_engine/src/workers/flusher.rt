@@ -180,17 +180,24 @@ where
     'writes: for write in writes {
         match write_one(rt, engine, disk, flusher, session, block, write) {
             Reply::Next => {}
+            Reply::Failed => {
+                // The flusher leaves the block.
+                engine.signals().reclaims.ring(rt);
+                return;
+            }
             _ => return,
         }
     }
 }
 
-// Writes the blocks of a batch, and waits for a block where none is clean.
+// Writes the blocks of a batch, and waits for a block where none is clean. A reclaim may begin where the flusher leaves its own
+// block for another, since that takes a clean one and the other may be evicted: `own` is the block that it wrote last.
 fn write_batch<L, K, V, P, A, E, C, D, G, N, O>(
     rt: &impl Wait,
     engine: &BlockEngine<L, K, V, P, A, E, C, D, G, N>,
     disk: &mut O,
     flusher: u32,
+    own: &mut Option<BlockId>,
     session: &mut Session<L>,
 )
 where
@@ -212,10 +219,14 @@ where
         let seen = engine.signals().done.count(rt);
         match engine.step_again(rt, session, no_io(), Step::FlushBlock { flusher }) {
             Reply::Write { block, writes } => {
-                engine.signals().reclaims.ring(rt);
+                if *own != Some(block) {
+                    *own = Some(block);
+                    engine.signals().reclaims.ring(rt);
+                }
                 write_block(rt, engine, disk, flusher, session, block, &writes);
             }
             Reply::NoBlock => {
+                *own = None;
                 engine.signals().reclaims.ring(rt);
                 let _ = engine.signals().done.wait_past(rt, seen);
             }
@@ -261,7 +272,6 @@ where
         }
     }
     engine.signals().done.ring(rt);
-    engine.signals().reclaims.ring(rt);
 }
 
 // Takes what is queued, and writes it as one batch: whether there was anything to do.
@@ -269,6 +279,7 @@ fn flush<L, K, V, P, A, E, C, D, G, N, O, M>(
     rt: &impl Wait,
     engine: &BlockEngine<L, K, V, P, A, E, C, D, G, N>,
     parts: &mut FlusherParts<K, V, P, A, O, M>,
+    own: &mut Option<BlockId>,
     session: &mut Session<L>,
 ) -> bool
 where
@@ -299,7 +310,7 @@ where
         let wrote = Step::LogWrote { flusher, result };
         let _ = engine.step_again(rt, session, no_io(), wrote);
     }
-    write_batch(rt, engine, &mut parts.disk, flusher, session);
+    write_batch(rt, engine, &mut parts.disk, flusher, own, session);
     end_batch(rt, engine, &*parts.keeper, flusher, session);
     true
 }
@@ -328,9 +339,10 @@ where
     ensures { session.new.shares.parts ≡ session.old.shares.parts }
 {
     let mut is_closed = false;
+    let mut own = None;
     for _ in rt.forever() {
         let seen = engine.signals().queued.count(rt);
-        if flush(rt, engine, &mut parts, session) {
+        if flush(rt, engine, &mut parts, &mut own, session) {
             continue;
         }
         if is_closed {

@@ -21,10 +21,10 @@ returns-in-Err-clause-refused g c =
 
 pub returns-clause-answer : goal.returns-clause-answer
 returns-clause-answer g c =
-    ended g.N.Noting.keeps c.args.session.now c.step.new.session c.step-reply.new.session c.args.hash c.args.throttled c.in-Ok.ticket c.in_ok-outcome.outcome
-    c.step.result c.step-reply.result c.load_of-2.result c.in-Ok.ensures c.step.ensures.noted c.step-reply.ensures.noted c.load_of-2.ensures.answer
+    ended g.N.Noting.keeps c.args.session.now c.step.new.session c.end_load-reply.new.session c.args.hash c.args.throttled c.in-Ok.ticket c.in_ok-outcome.outcome
+    c.step.result c.end_load-reply.result.0 c.load_of-2.result c.in-Ok.ensures c.step.ensures.noted c.end_load-reply.ensures.noted c.load_of-2.ensures.answer
 
 pub returns-clause-refused : goal.returns-clause-refused
 returns-clause-refused g c =
-    end_refused g.N.Noting.keeps (step.LoadEnd c.in-Ok.ticket c.in_ok-outcome.outcome) c.step-reply.result c.load_of-2.result
-    c.step-reply.ensures.replied c.load_of-2.ensures.refused c.load_of-2.ensures.answer
+    end_refused g.N.Noting.keeps (step.LoadEnd c.in-Ok.ticket c.in_ok-outcome.outcome) c.end_load-reply.result.0 c.load_of-2.result
+    c.end_load-reply.ensures.replied c.load_of-2.ensures.refused c.load_of-2.ensures.answer
