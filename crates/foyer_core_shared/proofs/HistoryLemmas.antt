@@ -10,7 +10,7 @@ use Rattle.foyer_core_steps.specs.declared.reply.Reply.{Reply}
 use Rattle.foyer_core_steps.specs.declared.state.Core.{Core}
 use Rattle.foyer_core_steps.specs.declared.step.Step.{Step}
 use Rattle.foyer_core_steps.specs.declared.step.Step.TheVariants as step
-use Rattle.foyer_core_steps.specs.Asked.{came_of, known_age, step_of, ticket_of}
+use Rattle.foyer_core_steps.specs.Asked.{known_age, step_of, ticket_of}
 use Rattle.foyer_core_steps.specs.Refines.{Refines}
 use Rattle.foyer_core_steps.specs.Replied.{IsReply}
 use Rattle.foyer_core_steps.specs.StateOf.{IsStateOf}
@@ -209,7 +209,7 @@ module _ {K V P A : Type 0} (m : Meaning K V P) where
   replied (step.LoadEnd ticket outcome) answer old new notes calls noted refines =
       ∥∥₁_elim noted (Coded-set coded_bool _ _) (λ (n : IsNoted m old notes calls).
       let it = refines n.legal.settings n.legal.sound n.legal.state n.legal.stands in
-      end_replied (machine m n.legal.settings n.legal.sound) (layout n.legal.settings) n.legal.state m (ticket_of ticket) (came_of outcome) it.after answer it.it it.reply it.follows)
+      end_replied (machine m n.legal.settings n.legal.sound) (layout n.legal.settings) n.legal.state m (ticket_of ticket) outcome it.after answer it.it it.reply it.follows)
   replied (step.Wait flusher id) answer old new notes calls noted refines =
       ∥∥₁_elim noted (Coded-set coded_bool _ _) (λ (n : IsNoted m old notes calls).
       let it = refines n.legal.settings n.legal.sound n.legal.state n.legal.stands in

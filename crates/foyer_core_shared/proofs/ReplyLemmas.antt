@@ -1,19 +1,22 @@
 -- What a caller's step is replied, and why it may be refused, by the relation of the model.
-use Rattle.std.proofs.Common.{◌≡◌, ℕ, Bool, true, false, Option, None, Some, refl, sym, subst, ◌∙◌, inl, inr}
+use Rattle.std.proofs.Common.{◌≡◌, ℕ, Bool, true, false, Option, None, Some, Result, Ok, Err, refl, sym, ap, subst, ◌∙◌, inl, inr}
+use Rattle.std.specs.Prelude.{not}
+use Rattle.std.specs.declared.vec.Vec.{Vec}
 use Rattle.foyer_core_model.specs.Follows.{Follows}
-use Rattle.foyer_core_model.specs.Load.{Looks}
-use Rattle.foyer_core_model.specs.Record.{Slot, Indexed, Mark}
+use Rattle.foyer_core_model.specs.Load.{Ends, Judges, Looks, judged}
+use Rattle.foyer_core_model.specs.Record.{Slot, Indexed, Mark, Outcome, NoRecord, NotSupported, Undecodable, Holds}
 use Rattle.foyer_core_model.specs.Refusal.{HasCause, MayRefuse}
 use Rattle.foyer_core_model.specs.Reply as model_reply
 use Rattle.foyer_core_model.specs.Rules.{Rules, Splitting}
 use Rattle.foyer_core_model.specs.State.{State}
 use Rattle.foyer_core_model.specs.Step as model_step
 use Rattle.foyer_core_laws.specs.Content.{Content, Meaning}
-use Rattle.foyer_core_steps.specs.Asked.{step_of}
+use Rattle.foyer_core_steps.specs.Asked.{came_of, step_of, went_well}
 use Rattle.foyer_core_steps.specs.Destroying.{kind_of}
 use Rattle.foyer_core_steps.specs.Replied.{IsReply}
 use Rattle.foyer_core_steps.specs.declared.reply.Reply.{Reply}
 use Rattle.foyer_core_steps.specs.declared.reply.Reply.TheVariants as reply
+use Rattle.foyer_device_page.specs.declared.error.Error.{Error}
 use Rattle.foyer_device_page.specs.declared.error.ErrorKind.{ErrorKind}
 use Rattle.foyer_device_page.specs.declared.error.ErrorKind.TheVariants as kind
 use Rattle.foyer_core_shared.specs.Replies.{is_draw_refusal, is_end_refusal, is_question_refusal, is_delete_reply, is_end_reply, is_enqueue_reply, is_look_up_reply, is_other_reply, is_question_reply}
@@ -22,14 +25,14 @@ some_same : (k j : model_reply.Kind) → ◌≡◌ {A = Option model_reply.Kind}
 some_same k j is = cc
 
 -- what a look-up may be replied
-abbrev is_look : model_reply.Reply Content → Bool
-is_look model_reply.Miss = true
-is_look model_reply.Throttled = true
-is_look (model_reply.Read t) = true
-is_look other = false
+abbrev is_look : (throttled : Bool) → model_reply.Reply Content → Bool
+is_look throttled model_reply.Miss = true
+is_look throttled model_reply.Throttled = throttled
+is_look throttled (model_reply.Read t) = not throttled
+is_look throttled other = false
 
 module _ (rules : Rules Content) (Splits : Splitting Content) (old : State Content) where
-  looked : (h : ℕ) (throttled : Bool) (slot : Option Slot) (r : model_reply.Reply Content) (new : State Content) → Looks rules old h throttled slot r new → is_look r ≡ true
+  looked : (h : ℕ) (throttled : Bool) (slot : Option Slot) (r : model_reply.Reply Content) (new : State Content) → Looks rules old h throttled slot r new → is_look throttled r ≡ true
   looked h throttled None (model_reply.NotNow back) new is = absurd is
   looked h throttled None (model_reply.Refused k back) new is = absurd is
   looked h throttled None (model_reply.Ignored c) new is = absurd is
@@ -39,8 +42,8 @@ module _ (rules : Rules Content) (Splits : Splitting Content) (old : State Conte
   looked h throttled None model_reply.Done new is = absurd is
   looked h throttled None (model_reply.Answer b) new is = absurd is
   looked h throttled None model_reply.Miss new is = refl
-  looked h throttled None model_reply.Throttled new is = refl
-  looked h throttled None (model_reply.Read t) new is = refl
+  looked h throttled None model_reply.Throttled new is = absurd is
+  looked h throttled None (model_reply.Read t) new is = absurd is
   looked h throttled None (model_reply.Entry c age) new is = absurd is
   looked h throttled None model_reply.Empty new is = absurd is
   looked h throttled None (model_reply.Received back) new is = absurd is
@@ -67,8 +70,8 @@ module _ (rules : Rules Content) (Splits : Splitting Content) (old : State Conte
   looked h throttled (Some (Mark s)) model_reply.Done new is = absurd is
   looked h throttled (Some (Mark s)) (model_reply.Answer b) new is = absurd is
   looked h throttled (Some (Mark s)) model_reply.Miss new is = refl
-  looked h throttled (Some (Mark s)) model_reply.Throttled new is = refl
-  looked h throttled (Some (Mark s)) (model_reply.Read t) new is = refl
+  looked h throttled (Some (Mark s)) model_reply.Throttled new is = absurd is
+  looked h throttled (Some (Mark s)) (model_reply.Read t) new is = absurd is
   looked h throttled (Some (Mark s)) (model_reply.Entry c age) new is = absurd is
   looked h throttled (Some (Mark s)) model_reply.Empty new is = absurd is
   looked h throttled (Some (Mark s)) (model_reply.Received back) new is = absurd is
@@ -95,8 +98,8 @@ module _ (rules : Rules Content) (Splits : Splitting Content) (old : State Conte
   looked h throttled (Some (Indexed a)) model_reply.Done new is = absurd is
   looked h throttled (Some (Indexed a)) (model_reply.Answer b) new is = absurd is
   looked h throttled (Some (Indexed a)) model_reply.Miss new is = refl
-  looked h throttled (Some (Indexed a)) model_reply.Throttled new is = refl
-  looked h throttled (Some (Indexed a)) (model_reply.Read t) new is = refl
+  looked h throttled (Some (Indexed a)) model_reply.Throttled new is = is.0
+  looked h throttled (Some (Indexed a)) (model_reply.Read t) new is = ap not is.0
   looked h throttled (Some (Indexed a)) (model_reply.Entry c age) new is = absurd is
   looked h throttled (Some (Indexed a)) model_reply.Empty new is = absurd is
   looked h throttled (Some (Indexed a)) (model_reply.Received back) new is = absurd is
@@ -192,20 +195,49 @@ module _ (rules : Rules Content) (Splits : Splitting Content) (old : State Conte
   look_up_refused h throttled kind.Unsupported k is may = absurd ((subst (λ j. MayRefuse rules Splits old j (model_step.LoadBegin h throttled)) (sym (some_same model_reply.Unsupported k is)) may).1)
   look_up_refused h throttled kind.SequenceEnd k is may = refl
 
-  end_refused : (t : model_step.Ticket) (came : model_step.ReadResult) (why : ErrorKind) (k : model_reply.Kind) → kind_of why ≡ Some k → MayRefuse rules Splits old k (model_step.LoadEnd t came) → is_end_refusal why ≡ true
-  end_refused t came kind.Io k is may = refl
-  end_refused t came kind.Memory k is may = refl
-  end_refused t came kind.Config k is may = absurd cc
-  end_refused t came kind.Parse k is may = refl
-  end_refused t came kind.MagicMismatch k is may = absurd cc
-  end_refused t came kind.ChecksumMismatch k is may = absurd cc
-  end_refused t came kind.OutOfRange k is may = absurd cc
-  end_refused t came kind.BufferSizeLimit k is may = absurd cc
-  end_refused t came kind.NoSpace k is may = absurd cc
-  end_refused t came kind.Recover k is may = absurd cc
-  end_refused t came kind.Closed k is may = absurd ((subst (λ j. MayRefuse rules Splits old j (model_step.LoadEnd t came)) (sym (some_same model_reply.Closed k is)) may).1.0)
-  end_refused t came kind.Unsupported k is may = refl
-  end_refused t came kind.SequenceEnd k is may = refl
+  -- bytes that were read aren't a fault, and a fault has none
+  end_refused : {A : Type 0} (t : model_step.Ticket) (outcome : Result (Vec ℕ A) Error) (why : ErrorKind) (k : model_reply.Kind) → kind_of why ≡ Some k → MayRefuse rules Splits old k (model_step.LoadEnd t (came_of outcome)) → is_end_refusal (went_well outcome) why ≡ true
+  end_refused t (Ok bytes) kind.Io k is may = absurd ((subst (λ j. MayRefuse rules Splits old j (model_step.LoadEnd t (model_step.Bytes bytes.items))) (sym (some_same model_reply.Io k is)) may).1)
+  end_refused t (Ok bytes) kind.Memory k is may = refl
+  end_refused t (Ok bytes) kind.Config k is may = absurd cc
+  end_refused t (Ok bytes) kind.Parse k is may = refl
+  end_refused t (Ok bytes) kind.MagicMismatch k is may = absurd cc
+  end_refused t (Ok bytes) kind.ChecksumMismatch k is may = absurd cc
+  end_refused t (Ok bytes) kind.OutOfRange k is may = absurd cc
+  end_refused t (Ok bytes) kind.BufferSizeLimit k is may = absurd cc
+  end_refused t (Ok bytes) kind.NoSpace k is may = absurd cc
+  end_refused t (Ok bytes) kind.Recover k is may = absurd cc
+  end_refused t (Ok bytes) kind.Closed k is may = absurd ((subst (λ j. MayRefuse rules Splits old j (model_step.LoadEnd t (model_step.Bytes bytes.items))) (sym (some_same model_reply.Closed k is)) may).1.0)
+  end_refused t (Ok bytes) kind.Unsupported k is may = refl
+  end_refused t (Ok bytes) kind.SequenceEnd k is may = refl
+  end_refused t (Err e) kind.Io k is may = refl
+  end_refused t (Err e) kind.Memory k is may = absurd ((subst (λ j. MayRefuse rules Splits old j (model_step.LoadEnd t model_step.Fault)) (sym (some_same model_reply.Memory k is)) may).1.1.3)
+  end_refused t (Err e) kind.Config k is may = absurd cc
+  end_refused t (Err e) kind.Parse k is may = absurd ((subst (λ j. MayRefuse rules Splits old j (model_step.LoadEnd t model_step.Fault)) (sym (some_same model_reply.Parse k is)) may).1)
+  end_refused t (Err e) kind.MagicMismatch k is may = absurd cc
+  end_refused t (Err e) kind.ChecksumMismatch k is may = absurd cc
+  end_refused t (Err e) kind.OutOfRange k is may = absurd cc
+  end_refused t (Err e) kind.BufferSizeLimit k is may = absurd cc
+  end_refused t (Err e) kind.NoSpace k is may = absurd cc
+  end_refused t (Err e) kind.Recover k is may = absurd cc
+  end_refused t (Err e) kind.Closed k is may = absurd ((subst (λ j. MayRefuse rules Splits old j (model_step.LoadEnd t model_step.Fault)) (sym (some_same model_reply.Closed k is)) may).1.0)
+  end_refused t (Err e) kind.Unsupported k is may = absurd ((subst (λ j. MayRefuse rules Splits old j (model_step.LoadEnd t model_step.Fault)) (sym (some_same model_reply.Unsupported k is)) may).1)
+  end_refused t (Err e) kind.SequenceEnd k is may = refl
+
+  -- a load ends otherwise only where its read went well
+  has_read : {A : Type 0} (t : model_step.Ticket) (outcome : Result (Vec ℕ A) Error) (r : model_reply.Reply Content) (new : State Content) → Ends rules old t (came_of outcome) r new → went_well outcome ≡ true
+  has_read t (Ok bytes) r new is = refl
+  has_read t (Err e) r new is = absurd is
+
+  unthrottled : (t : model_step.Ticket) (outcome : Outcome Content) (new : State Content) → Judges rules old t outcome model_reply.Throttled new → ⊥
+  unthrottled t NoRecord new is = is
+  unthrottled t NotSupported new is = is
+  unthrottled t Undecodable new is = is
+  unthrottled t (Holds c) new is = is
+
+  never_throttled : {A : Type 0} (t : model_step.Ticket) (outcome : Result (Vec ℕ A) Error) (new : State Content) → Ends rules old t (came_of outcome) model_reply.Throttled new → ⊥
+  never_throttled t (Ok bytes) new is = unthrottled t (judged rules old t bytes.items) new is
+  never_throttled t (Err e) new is = is
 
   module _ {K V P A : Type 0} (m : Meaning K V P) where
     pub enqueue_replied : (h n : ℕ) (age : model_step.Age) (c : Content) (new : State Content) (answer : Reply K V P A) (it : model_reply.Reply Content) → IsReply m answer it → Follows rules Splits old (model_step.Enqueue h n age c) it new → is_enqueue_reply answer ≡ true
@@ -298,7 +330,7 @@ module _ (rules : Rules Content) (Splits : Splitting Content) (old : State Conte
     question_replied h new reply.Cleared it is follows = let same = (subst (λ r. Follows rules Splits old (model_step.MayContains h) r new) is.1 follows).2.1.0 in absurd cc
     question_replied h new (reply.Destroyed first) it is follows = let same = (subst (λ r. Follows rules Splits old (model_step.MayContains h) r new) is.2 follows).2.1.0 in absurd cc
 
-    pub look_up_replied : (h : ℕ) (throttled : Bool) (new : State Content) (answer : Reply K V P A) (it : model_reply.Reply Content) → IsReply m answer it → Follows rules Splits old (model_step.LoadBegin h throttled) it new → is_look_up_reply answer ≡ true
+    pub look_up_replied : (h : ℕ) (throttled : Bool) (new : State Content) (answer : Reply K V P A) (it : model_reply.Reply Content) → IsReply m answer it → Follows rules Splits old (model_step.LoadBegin h throttled) it new → is_look_up_reply throttled answer ≡ true
     look_up_replied h throttled new (reply.NotNow back) it is follows = absurd ((subst (λ r. Follows rules Splits old (model_step.LoadBegin h throttled) r new) is follows).1.2 tt)
     look_up_replied h throttled new (reply.Refused why back) it is follows = look_up_refused h throttled why is.0 is.1 (subst (λ r. Follows rules Splits old (model_step.LoadBegin h throttled) r new) is.2 follows).1
     look_up_replied h throttled new (reply.Ignored piece) it is follows = let same = looked h throttled (old.index h) _ _ (subst (λ r. Follows rules Splits old (model_step.LoadBegin h throttled) r new) is follows).2.1 in absurd cc
@@ -308,8 +340,8 @@ module _ (rules : Rules Content) (Splits : Splitting Content) (old : State Conte
     look_up_replied h throttled new reply.Done it is follows = let same = looked h throttled (old.index h) _ _ (subst (λ r. Follows rules Splits old (model_step.LoadBegin h throttled) r new) is follows).2.1 in absurd cc
     look_up_replied h throttled new (reply.Answer answer) it is follows = let same = looked h throttled (old.index h) _ _ (subst (λ r. Follows rules Splits old (model_step.LoadBegin h throttled) r new) is follows).2.1 in absurd cc
     look_up_replied h throttled new reply.Miss it is follows = refl
-    look_up_replied h throttled new reply.Throttled it is follows = refl
-    look_up_replied h throttled new (reply.Read ticket) it is follows = refl
+    look_up_replied h throttled new reply.Throttled it is follows = looked h throttled (old.index h) _ _ (subst (λ r. Follows rules Splits old (model_step.LoadBegin h throttled) r new) is follows).2.1
+    look_up_replied h throttled new (reply.Read ticket) it is follows = looked h throttled (old.index h) _ _ (subst (λ r. Follows rules Splits old (model_step.LoadBegin h throttled) r new) is follows).2.1
     look_up_replied h throttled new (reply.Entry key value age) it is follows = let same = looked h throttled (old.index h) _ _ (subst (λ r. Follows rules Splits old (model_step.LoadBegin h throttled) r new) is follows).2.1 in absurd cc
     look_up_replied h throttled new reply.Empty it is follows = let same = looked h throttled (old.index h) _ _ (subst (λ r. Follows rules Splits old (model_step.LoadBegin h throttled) r new) is follows).2.1 in absurd cc
     look_up_replied h throttled new (reply.Received back) it is follows = let same = looked h throttled (old.index h) _ _ (subst (λ r. Follows rules Splits old (model_step.LoadBegin h throttled) r new) is follows).2.1 in absurd cc
@@ -328,35 +360,35 @@ module _ (rules : Rules Content) (Splits : Splitting Content) (old : State Conte
     look_up_replied h throttled new reply.Cleared it is follows = let same = looked h throttled (old.index h) _ _ (subst (λ r. Follows rules Splits old (model_step.LoadBegin h throttled) r new) is.1 follows).2.1 in absurd cc
     look_up_replied h throttled new (reply.Destroyed first) it is follows = let same = looked h throttled (old.index h) _ _ (subst (λ r. Follows rules Splits old (model_step.LoadBegin h throttled) r new) is.2 follows).2.1 in absurd cc
 
-    pub end_replied : (t : model_step.Ticket) (came : model_step.ReadResult) (new : State Content) (answer : Reply K V P A) (it : model_reply.Reply Content) → IsReply m answer it → Follows rules Splits old (model_step.LoadEnd t came) it new → is_end_reply answer ≡ true
-    end_replied t came new (reply.NotNow back) it is follows = refl
-    end_replied t came new (reply.Refused why back) it is follows = end_refused t came why is.0 is.1 (subst (λ r. Follows rules Splits old (model_step.LoadEnd t came) r new) is.2 follows).1
-    end_replied t came new (reply.Ignored piece) it is follows = refl
-    end_replied t came new (reply.Queued sequence) it is follows = refl
-    end_replied t came new (reply.Dropped piece sequence) it is follows = refl
-    end_replied t came new (reply.Deleted sequence) it is follows = refl
-    end_replied t came new reply.Done it is follows = refl
-    end_replied t came new (reply.Answer answer) it is follows = refl
-    end_replied t came new reply.Miss it is follows = refl
-    end_replied t came new reply.Throttled it is follows = refl
-    end_replied t came new (reply.Read ticket) it is follows = refl
-    end_replied t came new (reply.Entry key value age) it is follows = refl
-    end_replied t came new reply.Empty it is follows = refl
-    end_replied t came new (reply.Received back) it is follows = refl
-    end_replied t came new (reply.Began blocks marks) it is follows = refl
-    end_replied t came new (reply.Write block writes) it is follows = refl
-    end_replied t came new reply.NoBlock it is follows = refl
-    end_replied t came new reply.Next it is follows = refl
-    end_replied t came new (reply.Committed puts) it is follows = refl
-    end_replied t came new reply.Failed it is follows = refl
-    end_replied t came new (reply.Ended pieces waits) it is follows = refl
-    end_replied t came new (reply.Picked block answers probation) it is follows = refl
-    end_replied t came new (reply.Scan block offset len verdicts) it is follows = refl
-    end_replied t came new (reply.Listed verdicts) it is follows = refl
-    end_replied t came new (reply.Clean block) it is follows = refl
-    end_replied t came new (reply.Destroying sequence) it is follows = refl
-    end_replied t came new reply.Cleared it is follows = refl
-    end_replied t came new (reply.Destroyed first) it is follows = refl
+    pub end_replied : (t : model_step.Ticket) (outcome : Result (Vec ℕ A) Error) (new : State Content) (answer : Reply K V P A) (it : model_reply.Reply Content) → IsReply m answer it → Follows rules Splits old (model_step.LoadEnd t (came_of outcome)) it new → is_end_reply (went_well outcome) answer ≡ true
+    end_replied t outcome new (reply.NotNow back) it is follows = refl
+    end_replied t outcome new (reply.Refused why back) it is follows = end_refused t outcome why is.0 is.1 (subst (λ r. Follows rules Splits old (model_step.LoadEnd t (came_of outcome)) r new) is.2 follows).1
+    end_replied t outcome new (reply.Ignored piece) it is follows = refl
+    end_replied t outcome new (reply.Queued sequence) it is follows = refl
+    end_replied t outcome new (reply.Dropped piece sequence) it is follows = refl
+    end_replied t outcome new (reply.Deleted sequence) it is follows = refl
+    end_replied t outcome new reply.Done it is follows = refl
+    end_replied t outcome new (reply.Answer answer) it is follows = refl
+    end_replied t outcome new reply.Miss it is follows = has_read t outcome _ _ (subst (λ r. Follows rules Splits old (model_step.LoadEnd t (came_of outcome)) r new) is follows).2.1
+    end_replied t outcome new reply.Throttled it is follows = absurd (never_throttled t outcome _ (subst (λ r. Follows rules Splits old (model_step.LoadEnd t (came_of outcome)) r new) is follows).2.1)
+    end_replied t outcome new (reply.Read ticket) it is follows = refl
+    end_replied t outcome new (reply.Entry key value age) it is follows = has_read t outcome _ _ (subst (λ r. Follows rules Splits old (model_step.LoadEnd t (came_of outcome)) r new) is follows).2.1
+    end_replied t outcome new reply.Empty it is follows = refl
+    end_replied t outcome new (reply.Received back) it is follows = refl
+    end_replied t outcome new (reply.Began blocks marks) it is follows = refl
+    end_replied t outcome new (reply.Write block writes) it is follows = refl
+    end_replied t outcome new reply.NoBlock it is follows = refl
+    end_replied t outcome new reply.Next it is follows = refl
+    end_replied t outcome new (reply.Committed puts) it is follows = refl
+    end_replied t outcome new reply.Failed it is follows = refl
+    end_replied t outcome new (reply.Ended pieces waits) it is follows = refl
+    end_replied t outcome new (reply.Picked block answers probation) it is follows = refl
+    end_replied t outcome new (reply.Scan block offset len verdicts) it is follows = refl
+    end_replied t outcome new (reply.Listed verdicts) it is follows = refl
+    end_replied t outcome new (reply.Clean block) it is follows = refl
+    end_replied t outcome new (reply.Destroying sequence) it is follows = refl
+    end_replied t outcome new reply.Cleared it is follows = refl
+    end_replied t outcome new (reply.Destroyed first) it is follows = refl
 
     pub other_replied : (s : model_step.Step Content) → (HasCause rules Splits old model_reply.Io s → ⊥) → (HasCause rules Splits old model_reply.Parse s → ⊥) → (HasCause rules Splits old model_reply.Unsupported s → ⊥)
         → (new : State Content) (answer : Reply K V P A) (it : model_reply.Reply Content) → IsReply m answer it → Follows rules Splits old s it new → is_other_reply answer ≡ true

@@ -1,5 +1,6 @@
 -- Which replies a caller's step may get, and why it may be refused.
-use Rattle.std.specs.Prelude.{Bool, true, false}
+use Rattle.std.specs.Prelude.{Bool, true, false, not}
+use Rattle.foyer_core_steps.specs.Asked.{went_well}
 use Rattle.foyer_core_steps.specs.declared.reply.Reply.{Reply}
 use Rattle.foyer_core_steps.specs.declared.reply.Reply.TheVariants as reply
 use Rattle.foyer_core_steps.specs.declared.step.Step.{Step}
@@ -20,14 +21,15 @@ abbrev pub is_question_refusal : ErrorKind → Bool
 is_question_refusal kind.SequenceEnd = true
 is_question_refusal other = false
 
--- The end of a load is refused where the read failed, memory is refused, the entry isn't readable, or no step is left.
-abbrev pub is_end_refusal : ErrorKind → Bool
-is_end_refusal kind.Io = true
-is_end_refusal kind.Memory = true
-is_end_refusal kind.Parse = true
-is_end_refusal kind.Unsupported = true
-is_end_refusal kind.SequenceEnd = true
-is_end_refusal other = false
+-- The end of a load is refused where the read failed, which alone is Io; where it went well memory is refused, or the entry isn't
+-- readable; or no step is left.
+abbrev pub is_end_refusal : (has_read : Bool) → ErrorKind → Bool
+is_end_refusal has_read kind.Io = not has_read
+is_end_refusal has_read kind.Memory = has_read
+is_end_refusal has_read kind.Parse = has_read
+is_end_refusal has_read kind.Unsupported = has_read
+is_end_refusal has_read kind.SequenceEnd = true
+is_end_refusal has_read other = false
 
 module _ {K V P A : Type 0} where
   abbrev pub is_enqueue_reply : Reply K V P A → Bool
@@ -47,17 +49,21 @@ module _ {K V P A : Type 0} where
   is_question_reply (reply.Refused kind back) = is_question_refusal kind
   is_question_reply other = false
 
-  abbrev pub is_look_up_reply : Reply K V P A → Bool
-  is_look_up_reply reply.Miss = true
-  is_look_up_reply reply.Throttled = true
-  is_look_up_reply (reply.Read ticket) = true
-  is_look_up_reply (reply.Refused kind back) = is_question_refusal kind
-  is_look_up_reply other = false
+  -- Throttled is for a caller who throttles, and a read for one who doesn't
+  abbrev pub is_look_up_reply : (throttled : Bool) → Reply K V P A → Bool
+  is_look_up_reply throttled reply.Miss = true
+  is_look_up_reply throttled reply.Throttled = throttled
+  is_look_up_reply throttled (reply.Read ticket) = not throttled
+  is_look_up_reply throttled (reply.Refused kind back) = is_question_refusal kind
+  is_look_up_reply throttled other = false
 
-  -- of the end of a load the refusals alone are said
-  abbrev pub is_end_reply : Reply K V P A → Bool
-  is_end_reply (reply.Refused kind back) = is_end_refusal kind
-  is_end_reply other = true
+  -- an entry and a miss end a load only where the read went well, and nothing ends it as throttled
+  abbrev pub is_end_reply : (has_read : Bool) → Reply K V P A → Bool
+  is_end_reply has_read reply.Miss = has_read
+  is_end_reply has_read (reply.Entry key value age) = has_read
+  is_end_reply has_read reply.Throttled = false
+  is_end_reply has_read (reply.Refused kind back) = is_end_refusal has_read kind
+  is_end_reply has_read other = true
 
   -- and so of all that a worker or a wait asks
   abbrev pub is_other_reply : Reply K V P A → Bool
@@ -69,6 +75,6 @@ module _ {K V P A : Type 0} where
   may_reply (step.Enqueue piece size) answer = is_enqueue_reply answer
   may_reply (step.Delete hash) answer = is_delete_reply answer
   may_reply (step.MayContains hash) answer = is_question_reply answer
-  may_reply (step.LoadBegin hash throttled) answer = is_look_up_reply answer
-  may_reply (step.LoadEnd ticket outcome) answer = is_end_reply answer
+  may_reply (step.LoadBegin hash throttled) answer = is_look_up_reply throttled answer
+  may_reply (step.LoadEnd ticket outcome) answer = is_end_reply (went_well outcome) answer
   may_reply given answer = is_other_reply answer
