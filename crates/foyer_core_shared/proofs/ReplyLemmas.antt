@@ -1,5 +1,5 @@
 -- What a caller's step is replied, and why it may be refused, by the relation of the model.
-use Rattle.std.proofs.Common.{◌≡◌, ℕ, Bool, true, false, Option, None, Some, Result, Ok, Err, refl, sym, ap, subst, ◌∙◌, inl, inr}
+use Rattle.std.proofs.Common.{◌≡◌, ℕ, Bool, true, false, Option, None, Some, Result, Ok, Err, refl, sym, ap, subst}
 use Rattle.std.specs.Prelude.{not}
 use Rattle.std.specs.declared.vec.Vec.{Vec}
 use Rattle.foyer_core_model.specs.Follows.{Follows}
@@ -11,7 +11,7 @@ use Rattle.foyer_core_model.specs.Rules.{Rules, Splitting}
 use Rattle.foyer_core_model.specs.State.{State}
 use Rattle.foyer_core_model.specs.Step as model_step
 use Rattle.foyer_core_laws.specs.Content.{Content, Meaning}
-use Rattle.foyer_core_steps.specs.Asked.{came_of, step_of, went_well}
+use Rattle.foyer_core_steps.specs.Asked.{came_of, went_well}
 use Rattle.foyer_core_steps.specs.Destroying.{kind_of}
 use Rattle.foyer_core_steps.specs.Replied.{IsReply}
 use Rattle.foyer_core_steps.specs.declared.reply.Reply.{Reply}
