@@ -6,28 +6,12 @@ use Rattle.foyer_core_steps.specs.declared.reply.Reply.TheVariants as reply
 use Rattle.foyer_core_steps.specs.declared.step.Step.{Step}
 use Rattle.foyer_device_page.specs.declared.error.Error.{Error}
 use Rattle.foyer_device_page.specs.declared.error.Error.TheVariants as error
-use Rattle.foyer_device_page.specs.declared.error.ErrorKind.{ErrorKind}
 use Rattle.foyer_device_page.specs.declared.error.ErrorKind.TheVariants as kind
-use Rattle.foyer_core_shared.specs.Replies.{is_end_refusal, is_end_reply, is_look_up_reply, is_question_refusal}
+use Rattle.foyer_core_shared.specs.Replies.{is_end_reply, is_look_up_reply}
 use Rattle.foyer_storage_engine.specs.declared.load.Load.{Load}
+use Rattle.foyer_storage_engine.specs.declared.load.Load.TheVariants as load
 use Rattle.foyer_storage_engine.specs.Answering.{IsLoadOf, is_load_error}
 use Rattle.foyer_storage_engine.proofs.AnsweringLemmas.{refused_load}
-
--- what refuses a look-up refuses the end of a load too
-question_at_end : (why : ErrorKind) → is_question_refusal why ≡ true → is_end_refusal why ≡ true
-question_at_end kind.Io is = refl
-question_at_end kind.Memory is = refl
-question_at_end kind.Config is = is
-question_at_end kind.Parse is = refl
-question_at_end kind.MagicMismatch is = is
-question_at_end kind.ChecksumMismatch is = is
-question_at_end kind.OutOfRange is = is
-question_at_end kind.BufferSizeLimit is = is
-question_at_end kind.NoSpace is = is
-question_at_end kind.Recover is = is
-question_at_end kind.Closed is = is
-question_at_end kind.Unsupported is = refl
-question_at_end kind.SequenceEnd is = refl
 
 module _ {K V P A : Type 0} where
   -- a reply is one of its step's, or its note found no room
@@ -41,42 +25,53 @@ module _ {K V P A : Type 0} where
   refused_as keeps is_error says is_reply given answer result (inr none) refused is memory ok =
       subst (λ r. IfErr r (λ e. is_error e ≡ true)) (sym (is ∙ ap says none.1 ∙ memory)) (ok none.0)
 
-  look_up_at_end : (answer : Reply K V P A) → is_look_up_reply answer ≡ true → is_end_reply answer ≡ true
-  look_up_at_end (reply.Refused why back) is = question_at_end why is
-  look_up_at_end (reply.NotNow back) is = refl
-  look_up_at_end (reply.Ignored piece) is = refl
-  look_up_at_end (reply.Queued sequence) is = refl
-  look_up_at_end (reply.Dropped piece sequence) is = refl
-  look_up_at_end (reply.Deleted sequence) is = refl
-  look_up_at_end reply.Done is = refl
-  look_up_at_end (reply.Answer answer) is = refl
-  look_up_at_end reply.Miss is = refl
-  look_up_at_end reply.Throttled is = refl
-  look_up_at_end (reply.Read ticket) is = refl
-  look_up_at_end (reply.Entry key value age) is = refl
-  look_up_at_end reply.Empty is = refl
-  look_up_at_end (reply.Received back) is = refl
-  look_up_at_end (reply.Began blocks marks) is = refl
-  look_up_at_end (reply.Write block writes) is = refl
-  look_up_at_end reply.NoBlock is = refl
-  look_up_at_end reply.Next is = refl
-  look_up_at_end (reply.Committed puts) is = refl
-  look_up_at_end reply.Failed is = refl
-  look_up_at_end (reply.Ended pieces waits) is = refl
-  look_up_at_end (reply.Picked block answers probation) is = refl
-  look_up_at_end (reply.Scan block offset len verdicts) is = refl
-  look_up_at_end (reply.Listed verdicts) is = refl
-  look_up_at_end (reply.Clean block) is = refl
-  look_up_at_end (reply.Destroying sequence) is = refl
-  look_up_at_end reply.Cleared is = refl
-  look_up_at_end (reply.Destroyed first) is = refl
+  -- a load is answered as throttled by that reply alone
+  by_throttled : (answer : Reply K V P A) (result : Result (Load K V P A) Error) → IsLoadOf answer result → result ≡ Ok load.Throttled → answer ≡ reply.Throttled
+  by_throttled (reply.NotNow back) result is throttled = let clash = sym is ∙ throttled in absurd cc
+  by_throttled (reply.Refused why back) result is throttled = let clash = sym is ∙ throttled in absurd cc
+  by_throttled (reply.Ignored piece) result is throttled = let clash = sym is ∙ throttled in absurd cc
+  by_throttled (reply.Queued sequence) result is throttled = let clash = sym is ∙ throttled in absurd cc
+  by_throttled (reply.Dropped piece sequence) result is throttled = let clash = sym is ∙ throttled in absurd cc
+  by_throttled (reply.Deleted sequence) result is throttled = let clash = sym is ∙ throttled in absurd cc
+  by_throttled reply.Done result is throttled = let clash = sym is ∙ throttled in absurd cc
+  by_throttled (reply.Answer answer) result is throttled = let clash = sym is ∙ throttled in absurd cc
+  by_throttled reply.Miss result is throttled = let clash = sym is ∙ throttled in absurd cc
+  by_throttled reply.Throttled result is throttled = refl
+  by_throttled (reply.Read ticket) result is throttled = let clash = sym is ∙ throttled in absurd cc
+  by_throttled (reply.Entry key value age) result is throttled = let clash = sym is ∙ throttled in absurd cc
+  by_throttled reply.Empty result is throttled = let clash = sym is ∙ throttled in absurd cc
+  by_throttled (reply.Received back) result is throttled = let clash = sym is ∙ throttled in absurd cc
+  by_throttled (reply.Began blocks marks) result is throttled = let clash = sym is ∙ throttled in absurd cc
+  by_throttled (reply.Write block writes) result is throttled = let clash = sym is ∙ throttled in absurd cc
+  by_throttled reply.NoBlock result is throttled = let clash = sym is ∙ throttled in absurd cc
+  by_throttled reply.Next result is throttled = let clash = sym is ∙ throttled in absurd cc
+  by_throttled (reply.Committed puts) result is throttled = let clash = sym is ∙ throttled in absurd cc
+  by_throttled reply.Failed result is throttled = let clash = sym is ∙ throttled in absurd cc
+  by_throttled (reply.Ended pieces waits) result is throttled = let clash = sym is ∙ throttled in absurd cc
+  by_throttled (reply.Picked block answers probation) result is throttled = let clash = sym is ∙ throttled in absurd cc
+  by_throttled (reply.Scan block offset len verdicts) result is throttled = let clash = sym is ∙ throttled in absurd cc
+  by_throttled (reply.Listed verdicts) result is throttled = let clash = sym is ∙ throttled in absurd cc
+  by_throttled (reply.Clean block) result is throttled = let clash = sym is ∙ throttled in absurd cc
+  by_throttled (reply.Destroying sequence) result is throttled = let clash = sym is ∙ throttled in absurd cc
+  by_throttled reply.Cleared result is throttled = let clash = sym is ∙ throttled in absurd cc
+  by_throttled (reply.Destroyed first) result is throttled = let clash = sym is ∙ throttled in absurd cc
 
-  pub end_refused : (keeps : Bool) (given : Step K V P A) (answer : Reply K V P A) (result : Result (Load K V P A) Error) → IsNamed keeps (is_end_reply answer) given answer
-      → (is_end_reply answer ≡ true → IfErr result (λ e. is_load_error e ≡ true)) → IsLoadOf answer result → IfErr result (λ e. is_load_error e ≡ true)
-  end_refused keeps given answer result (inl named) refused is = refused named
-  end_refused keeps given answer result (inr none) refused is = subst (λ r. IfErr r (λ e. is_load_error e ≡ true)) (sym (refused_load answer given result none.1 is)) refl
+  pub look_up_throttled : (keeps throttled : Bool) (given : Step K V P A) (answer : Reply K V P A) (result : Result (Load K V P A) Error) → IsNamed keeps (is_look_up_reply throttled answer) given answer
+      → IsLoadOf answer result → result ≡ Ok load.Throttled → throttled ≡ true
+  look_up_throttled keeps throttled given answer result (inl named) is said = subst (λ r. is_look_up_reply throttled r ≡ true) (by_throttled answer result is said) named
+  look_up_throttled keeps throttled given answer result (inr none) is said = let clash : ◌≡◌ {A = Reply K V P A} reply.Throttled (reply.Refused kind.Memory given) = sym (by_throttled answer result is said) ∙ none.1 in absurd cc
 
-  pub look_up_refused : (keeps : Bool) (given : Step K V P A) (answer : Reply K V P A) (result : Result (Load K V P A) Error) → IsNamed keeps (is_look_up_reply answer) given answer
-      → (is_end_reply answer ≡ true → IfErr result (λ e. is_load_error e ≡ true)) → IsLoadOf answer result → IfErr result (λ e. is_load_error e ≡ true)
-  look_up_refused keeps given answer result (inl named) refused is = refused (look_up_at_end answer named)
-  look_up_refused keeps given answer result (inr none) refused is = subst (λ r. IfErr r (λ e. is_load_error e ≡ true)) (sym (refused_load answer given result none.1 is)) refl
+  pub end_throttled : (keeps has_read : Bool) (given : Step K V P A) (answer : Reply K V P A) (result : Result (Load K V P A) Error) → IsNamed keeps (is_end_reply has_read answer) given answer
+      → IsLoadOf answer result → result ≡ Ok load.Throttled → ⊥
+  end_throttled keeps has_read given answer result (inl named) is said = let clash = subst (λ r. is_end_reply has_read r ≡ true) (by_throttled answer result is said) named in absurd cc
+  end_throttled keeps has_read given answer result (inr none) is said = let clash : ◌≡◌ {A = Reply K V P A} reply.Throttled (reply.Refused kind.Memory given) = sym (by_throttled answer result is said) ∙ none.1 in absurd cc
+
+  pub end_refused : (keeps has_read : Bool) (given : Step K V P A) (answer : Reply K V P A) (result : Result (Load K V P A) Error) → IsNamed keeps (is_end_reply has_read answer) given answer
+      → (is_end_reply has_read answer ≡ true → IfErr result (λ e. is_load_error e ≡ true)) → IsLoadOf answer result → IfErr result (λ e. is_load_error e ≡ true)
+  end_refused keeps has_read given answer result (inl named) refused is = refused named
+  end_refused keeps has_read given answer result (inr none) refused is = subst (λ r. IfErr r (λ e. is_load_error e ≡ true)) (sym (refused_load answer given result none.1 is)) refl
+
+  pub look_up_refused : (keeps throttled : Bool) (given : Step K V P A) (answer : Reply K V P A) (result : Result (Load K V P A) Error) → IsNamed keeps (is_look_up_reply throttled answer) given answer
+      → (is_look_up_reply throttled answer ≡ true → IfErr result (λ e. is_load_error e ≡ true)) → IsLoadOf answer result → IfErr result (λ e. is_load_error e ≡ true)
+  look_up_refused keeps throttled given answer result (inl named) refused is = refused named
+  look_up_refused keeps throttled given answer result (inr none) refused is = subst (λ r. IfErr r (λ e. is_load_error e ≡ true)) (sym (refused_load answer given result none.1 is)) refl

@@ -1,5 +1,5 @@
 //! The calls of an engine, made by any thread with a session of its own.
-ghost use Rattle.std.specs.Prelude.{◌≡◌, ◌+◌, ◌<◌, IfErr, IfOk, IsOk, OnOk, OnErr, None, true, false, vec_len, ◌≤◌, ℕ};
+ghost use Rattle.std.specs.Prelude.{◌≡◌, ◌+◌, ◌<◌, IfErr, IfOk, IsOk, OnOk, OnErr, None, Ok, true, false, vec_len, ◌≤◌, ℕ, Bool};
 ghost use Rattle.foyer_format_layout.specs.Page.{page_up};
 ghost use Rattle.foyer_io_disk.specs.Disk.{IsRead, IsTorn, SurelyCame};
 ghost use Rattle.foyer_core_model.specs.Numbers.{page};
@@ -9,9 +9,10 @@ ghost use Rattle.foyer_storage_engine.specs.Keeping.{IsAnsweredUnlessFull, IsKep
 ghost use Rattle.foyer_device_page.specs.declared.error.Error.{Error as error};
 ghost use Rattle.foyer_core_shared.specs.Briefs.{reply_brief};
 ghost use Rattle.foyer_core_shared.specs.declared.brief.StepBrief.TheVariants as asked;
-ghost use Rattle.foyer_core_shared.specs.Replies.{is_delete_reply, is_end_reply, is_enqueue_reply, is_question_reply};
+ghost use Rattle.foyer_core_shared.specs.Replies.{is_delete_reply, is_end_reply, is_enqueue_reply, is_look_up_reply, is_question_reply};
 ghost use Rattle.foyer_storage_engine.specs.Answering.{IsAnsweredAs, IsLoaded, asked_as, deleted_as, enqueued_as, IsLoadOf, IsTicketOf, error_of};
 ghost use Rattle.foyer_storage_engine.specs.Answering.{is_draw_error, is_load_error, is_question_error};
+ghost use Rattle.foyer_storage_engine.specs.declared.load.Load.TheVariants as load;
 
 mod ends;
 pub mod signals;
@@ -125,7 +126,8 @@ fn load_of<K: Drop, V: Drop, P: Drop, A: Allocator>(
     reply: Reply<K, V, P, A>,
 ) -> Result<Load<K, V, P, A>>
     ensures answer { IsLoadOf reply result }
-    ensures refused { is_end_reply reply ≡ true → IfErr result (λ e. is_load_error e ≡ true) }
+    ensures refused { (has_read : Bool) → is_end_reply has_read reply ≡ true → IfErr result (λ e. is_load_error e ≡ true) }
+    ensures unread { (throttled : Bool) → is_look_up_reply throttled reply ≡ true → IfErr result (λ e. is_load_error e ≡ true) }
 {
     match reply {
         Reply::Entry { key, value, age } => Ok(Load::Entry {
@@ -402,6 +404,7 @@ where
     ) -> Result<Load<K, V, P, A>>
         requires { 0 < session.old.shares.parts }
         ensures answer { IsLoaded N.keeps session.old session.new hash throttled result }
+        ensures throttled { result ≡ Ok load.Throttled → throttled ≡ true }
         ensures refused { IfErr result (λ e. is_load_error e ≡ true) }
         ensures parts { session.new.shares.parts ≡ session.old.shares.parts }
     {

@@ -2,10 +2,11 @@ use Rattle.std.proofs.Common.{◌≡◌, true, subst}
 use Rattle.foyer_core_steps.specs.declared.step.Step.TheVariants as step
 use Rattle.foyer_core_shared.specs.Briefs.{reply_brief}
 use Rattle.foyer_storage_engine.specs.Answering.{IsLoadOf, IsRead, is_load_error}
-use Rattle.foyer_core_shared.specs.Replies.{is_end_reply}
+use Rattle.foyer_core_shared.specs.Replies.{is_look_up_reply}
+use Rattle.foyer_core_steps.specs.Asked.{went_well}
 use Rattle.std.specs.Result.{IfErr}
 use Rattle.foyer_storage_engine.proofs.AnsweringLemmas.{ended, looked_up}
-use Rattle.foyer_storage_engine.proofs.RefusalLemmas.{end_refused, look_up_refused}
+use Rattle.foyer_storage_engine.proofs.RefusalLemmas.{end_refused, end_throttled, look_up_refused, look_up_throttled}
 use Rattle.foyer_storage_engine.proofs.engine.BlockEngine.load.Goals as goal
 
 pub returns-in-Err-clause-answer : goal.returns-in-Err-clause-answer
@@ -15,8 +16,13 @@ returns-in-Err-clause-answer g c =
 
 pub returns-in-Err-clause-refused : goal.returns-in-Err-clause-refused
 returns-in-Err-clause-refused g c =
-    look_up_refused g.N.Noting.keeps (step.LoadBegin c.args.hash c.args.throttled) c.step.result c.load_of.result c.step.ensures.replied
-    (subst (λ r. is_end_reply r ≡ true → IfErr c.load_of.result (λ e. is_load_error e ≡ true)) c.in-Err.ensures.0 c.load_of.ensures.refused)
+    look_up_refused g.N.Noting.keeps c.args.throttled (step.LoadBegin c.args.hash c.args.throttled) c.step.result c.load_of.result c.step.ensures.replied
+    (subst (λ r. is_look_up_reply c.args.throttled r ≡ true → IfErr c.load_of.result (λ e. is_load_error e ≡ true)) c.in-Err.ensures.0 (c.load_of.ensures.unread c.args.throttled))
+    (subst (λ r. IsLoadOf r c.load_of.result) c.in-Err.ensures.0 c.load_of.ensures.answer)
+
+pub returns-in-Err-clause-throttled : goal.returns-in-Err-clause-throttled
+returns-in-Err-clause-throttled g c =
+    look_up_throttled g.N.Noting.keeps c.args.throttled (step.LoadBegin c.args.hash c.args.throttled) c.step.result c.load_of.result c.step.ensures.replied
     (subst (λ r. IsLoadOf r c.load_of.result) c.in-Err.ensures.0 c.load_of.ensures.answer)
 
 pub returns-clause-answer : goal.returns-clause-answer
@@ -26,5 +32,10 @@ returns-clause-answer g c =
 
 pub returns-clause-refused : goal.returns-clause-refused
 returns-clause-refused g c =
-    end_refused g.N.Noting.keeps (step.LoadEnd c.in-Ok.ticket c.in_ok-outcome.outcome) c.end_load-reply.result.0 c.load_of-2.result
-    c.end_load-reply.ensures.replied c.load_of-2.ensures.refused c.load_of-2.ensures.answer
+    end_refused g.N.Noting.keeps (went_well c.in_ok-outcome.outcome) (step.LoadEnd c.in-Ok.ticket c.in_ok-outcome.outcome) c.end_load-reply.result.0 c.load_of-2.result
+    c.end_load-reply.ensures.replied (c.load_of-2.ensures.refused (went_well c.in_ok-outcome.outcome)) c.load_of-2.ensures.answer
+
+pub returns-clause-throttled : goal.returns-clause-throttled
+returns-clause-throttled g c = λ said.
+    absurd (end_throttled g.N.Noting.keeps (went_well c.in_ok-outcome.outcome) (step.LoadEnd c.in-Ok.ticket c.in_ok-outcome.outcome) c.end_load-reply.result.0 c.load_of-2.result
+    c.end_load-reply.ensures.replied c.load_of-2.ensures.answer said)
