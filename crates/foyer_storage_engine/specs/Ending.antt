@@ -1,17 +1,39 @@
 -- What a session shows of a wait, a close or a destroy that it made.
-use Rattle.std.specs.Prelude.{◌≡◌, ℕ, Some, Result}
+use Rattle.std.specs.Prelude.{◌≡◌, ℕ, Option, None, Some, Result, Ok, Err}
+use Rattle.foyer_device_page.specs.declared.error.Error.{Error}
 use Rattle.foyer_device_page.specs.declared.error.ErrorKind.{ErrorKind}
 use Rattle.foyer_core_shared.specs.Sessions.{SessionState}
 use Rattle.foyer_core_shared.specs.declared.brief.ReplyBrief.{ReplyBrief}
+use Rattle.foyer_core_shared.specs.declared.brief.ReplyBrief.TheVariants as replied
 use Rattle.foyer_core_shared.specs.declared.brief.StepBrief.TheVariants as asked
+use Rattle.foyer_storage_engine.specs.Answering.{error_of}
 
 -- the newest step asks whether no reclaim runs, as the last one of a wait does
 pub record AsksForReclaims (session : SessionState) : Type 0 where
   pub answer : ReplyBrief
   pub newest : session.newest ≡ Some (record { step = asked.ReclaimIdle; reply = answer })
 
--- the newest step brings the outcome of this block's clean
-pub record BringsClean (block : ℕ) (session : SessionState) : Type 0 where
+-- what a destroy is answered as, by the first clean that failed
+abbrev pub destroyed_as : Option ErrorKind → Result (Unit {0}) Error
+destroyed_as None = Ok tt
+destroyed_as (Some kind) = Err (error_of kind)
+
+-- and what one clean of it is answered as: the outcome of all, where this was the last
+abbrev pub cleaned_as : ReplyBrief → Option (Result (Unit {0}) Error)
+cleaned_as (replied.Destroyed first) = Some (destroyed_as first)
+cleaned_as (replied.Refused kind) = Some (Err (error_of kind))
+cleaned_as other = None
+
+-- the newest step brings the outcome of this block's clean, and is answered so
+pub record BringsClean (block : ℕ) (session : SessionState) (answered : Option (Result (Unit {0}) Error)) : Type 0 where
   pub outcome : Result (Unit {0}) ErrorKind
   pub answer : ReplyBrief
   pub newest : session.newest ≡ Some (record { step = asked.DestroyCleaned block outcome; reply = answer })
+  pub said : answered ≡ cleaned_as answer
+
+-- the same of the last block's clean, behind which the destroy is answered so: as its reply says, where that ended the destroy
+pub record EndsWithClean (block : ℕ) (session : SessionState) (answered : Result (Unit {0}) Error) : Type 0 where
+  pub outcome : Result (Unit {0}) ErrorKind
+  pub answer : ReplyBrief
+  pub newest : session.newest ≡ Some (record { step = asked.DestroyCleaned block outcome; reply = answer })
+  pub said : (first : Option ErrorKind) → answer ≡ replied.Destroyed first → answered ≡ destroyed_as first

@@ -1,10 +1,10 @@
 //! The calls of an engine that wait for its workers.
-ghost use Rattle.std.specs.Prelude.{◌≡◌, ◌-◌, ◌<◌, IfErr, OnOk, Some, true};
+ghost use Rattle.std.specs.Prelude.{◌≡◌, ◌⊎◌, ◌-◌, ◌<◌, IfErr, OnOk, Some, true};
 ghost use Rattle.foyer_core_shared.specs.Answers.{IsAnswer};
 ghost use Rattle.foyer_core_shared.specs.Briefs.{brief_of};
 ghost use Rattle.foyer_core_shared.specs.Replies.{may_reply};
 ghost use Rattle.foyer_storage_engine.specs.Answering.{is_draw_error};
-ghost use Rattle.foyer_storage_engine.specs.Ending.{AsksForReclaims, BringsClean};
+ghost use Rattle.foyer_storage_engine.specs.Ending.{AsksForReclaims, BringsClean, EndsWithClean};
 
 use super::{BlockEngine, error_of};
 use foyer_block_index::manager::BlockId;
@@ -195,7 +195,7 @@ where
     // Cleans a block for a destroy: the outcome of all cleans, where this was the last.
     fn clean(&self, rt: &impl Wait, session: &mut Session<L>, block: BlockId) -> Option<Result<()>>
         requires { 0 < session.old.shares.parts }
-        ensures brings { BringsClean block session.new }
+        ensures brings { BringsClean block session.new result }
         ensures parts { session.new.shares.parts ≡ session.old.shares.parts }
     {
         let result = self.reader.lock(rt).clean(block);
@@ -208,10 +208,13 @@ where
     }
 
     /// Destroys all entries: waits as `wait` does, clears the index, and cleans each block, the last one last. Once it has begun it tries again
-    /// what is refused memory. `Io`, or another kind, is that of the first clean that failed: the others were done.
+    /// what is refused memory. `Closed` where the engine is closed, and `SequenceEnd` where no step is left. `Io`, or another kind, is that
+    /// of the first clean that failed: the others were done.
     pub fn destroy(&self, rt: &impl Wait, session: &mut Session<L>) -> Result<()>
         requires { 0 < session.old.shares.parts }
-        ensures cleaned { OnOk result (0 < self.now.settings.blocks → BringsClean (self.now.settings.blocks - 1) session.new) }
+        ensures cleaned { OnOk result (0 < self.now.settings.blocks → EndsWithClean (self.now.settings.blocks - 1) session.new result) }
+        ensures refused { IfErr result (λ e. (is_draw_error e ≡ true)
+            ⊎ (0 < self.now.settings.blocks → EndsWithClean (self.now.settings.blocks - 1) session.new result)) }
         ensures parts { session.new.shares.parts ≡ session.old.shares.parts }
     {
         self.begin_destroy(rt, session)?;
