@@ -1,7 +1,7 @@
 //! A reclaimer's worker: it reclaims blocks, one at a time.
-ghost use Rattle.std.specs.Prelude.{◌≡◌, ◌<◌};
+ghost use Rattle.std.specs.Prelude.{◌≡◌, ◌<◌, IfOk, vec_len};
 ghost use Rattle.foyer_core_model.specs.Numbers.{page};
-ghost use Rattle.foyer_io_disk.specs.Disk.{SurelyCame};
+ghost use Rattle.foyer_io_disk.specs.Disk.{IsRead, SurelyCame};
 ghost use Rattle.foyer_storage_engine.specs.Reporting.{ReportsClean};
 
 use super::Worker;
@@ -60,7 +60,12 @@ fn read_again<A: Allocator + Clone, O: Disk>(
     disk: &mut O,
     block: BlockId,
     part: Part,
-) -> Result<Vec<u8, A>> {
+) -> Result<Vec<u8, A>>
+    ensures read { O.is_known disk.old → IfOk result (λ bytes. IsRead (O.byte_at disk.old) block part.offset bytes.items) }
+    ensures len { IfOk result (λ bytes. vec_len bytes ≡ part.len) }
+    ensures known { O.is_known disk.old → O.is_known disk.new }
+    ensures same { O.byte_at disk.new ≡ O.byte_at disk.old }
+{
     for _ in rt.forever() {
         match read_bytes(alloc, disk, block, part) {
             Err(Error::Memory) => thread::yield_now(),
