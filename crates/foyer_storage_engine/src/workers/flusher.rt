@@ -68,8 +68,11 @@ where
     }
 }
 
-// Takes what is queued, until nothing is, or less than half of the buffer is left: whether anything was taken. A piece that is
-// handed back is released.
+// How much is taken for a batch at most, so that its pages are written while they are still in the processor's cache.
+const MOST_OF_A_BATCH: u32 = 64;
+
+// Takes what is queued, until nothing is, a batch has enough, or less than half of the buffer is left: whether anything was taken,
+// or is to be tried again for want of memory. A piece that is handed back is released.
 fn receive_all<L, K, V, P, A, E, C, D, G, N>(
     rt: &impl Wait,
     engine: &BlockEngine<L, K, V, P, A, E, C, D, G, N>,
@@ -91,8 +94,8 @@ where
     requires { 0 < session.old.shares.parts }
     ensures { session.new.shares.parts ≡ session.old.shares.parts }
 {
-    let mut has_received = false;
-    for _ in rt.forever() {
+    let mut is_busy = false;
+    for _ in 0..MOST_OF_A_BATCH {
         let (reply, wants_flush) = receive(
             &mut engine.shared().locked().lock(rt),
             session,
@@ -100,7 +103,7 @@ where
         );
         match reply {
             Reply::Received(back) => {
-                has_received = true;
+                is_busy = true;
                 if let Some(piece) = back {
                     keeper.release(rt, piece);
                 }
@@ -108,11 +111,14 @@ where
                     return true;
                 }
             }
-            Reply::Refused(ErrorKind::Memory, _step) => thread::yield_now(),
-            _other => return has_received,
+            Reply::Refused(ErrorKind::Memory, _step) => {
+                is_busy = true;
+                thread::yield_now();
+            }
+            _other => return is_busy,
         }
     }
-    unreachable!()
+    is_busy
 }
 
 // Does a write of a block, and reports its outcome.
@@ -299,11 +305,11 @@ where
     ensures { session.new.shares.parts ≡ session.old.shares.parts }
 {
     let flusher = parts.flusher;
-    let has_received = receive_all(rt, engine, &*parts.keeper, flusher, session);
+    let is_busy = receive_all(rt, engine, &*parts.keeper, flusher, session);
     let begin = Step::FlushBegin { flusher };
     let marks = match engine.step_again(rt, session, no_io(), begin) {
         Reply::Began { blocks: _, marks } => marks,
-        _ => return has_received,
+        _ => return is_busy,
     };
     if engine.settings().tombstone_log {
         let result = parts.log.lock(rt).append_marks(&marks);
