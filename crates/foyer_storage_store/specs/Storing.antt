@@ -10,7 +10,7 @@ use Rattle.foyer_policy_filter.specs.Verdict.{AreAnswers, IsAdmit, IsVerdict}
 use Rattle.foyer_policy_filter.specs.declared.verdict.StorageFilterResult.{StorageFilterResult}
 use Rattle.foyer_storage_engine.specs.Answering.{IsLoaded, is_draw_error}
 use Rattle.foyer_storage_engine.specs.Decided.{decided_load}
-use Rattle.foyer_storage_engine.specs.Ending.{AsksForReclaims, BringsClean}
+use Rattle.foyer_storage_engine.specs.Ending.{AsksForReclaims, EndsWithClean}
 use Rattle.foyer_storage_engine.specs.declared.engine.Enqueued.{Enqueued}
 use Rattle.foyer_storage_engine.specs.declared.engine.Enqueued.TheVariants as enqueued
 use Rattle.foyer_storage_engine.specs.declared.load.Load.{Load}
@@ -21,6 +21,7 @@ use Rattle.foyer_storage_plan.specs.declared.sizes.EngineSizes.{EngineSizes}
 pub record IsLoadedUnder {K V P A : Type 0} (limits : Throttle) (old new : SessionState) (hash : ℕ) (answered : Result (Load K V P A) Error) : Type 0 where
   pub throttled : Bool
   pub unlimited : limits.read_throughput ≡ None → limits.read_iops ≡ None → throttled ≡ false
+  pub said : answered ≡ Ok load.Throttled → throttled ≡ true
   pub loaded : IsLoaded false old new hash throttled answered
 
 -- what the keeper alone answers: the key's piece, young
@@ -61,9 +62,12 @@ IsStored may_judge may_enqueue may_delete force answered =
 abbrev pub HasWaited : SessionState → Result (Unit {0}) Error → Type 0
 HasWaited new answered = OnOk answered (AsksForReclaims new) × IfErr answered (λ e. is_draw_error e ≡ true)
 
--- a destroy of so many blocks that ended: its last step brings the outcome of the last block's clean
+-- a destroy of so many blocks that ended: its last step brings the outcome of the last block's clean, and it is answered so; or it is
+-- refused before that
 abbrev pub HasDestroyed : (blocks : ℕ) → SessionState → Result (Unit {0}) Error → Type 0
-HasDestroyed blocks new answered = OnOk answered (0 < blocks → BringsClean (blocks - 1) new)
+HasDestroyed blocks new answered =
+    OnOk answered (0 < blocks → EndsWithClean (blocks - 1) new answered)
+    × IfErr answered (λ e. (is_draw_error e ≡ true) ⊎ (0 < blocks → EndsWithClean (blocks - 1) new answered))
 
 -- every size at its default
 abbrev pub default_sizes : EngineSizes

@@ -81,6 +81,10 @@ pub trait Engine<S: Drop, K: Eq, V, P>: Drop {
     ghost use Rattle.foyer_storage_engine.specs.declared.engine.Enqueued.{Enqueued};
     ghost use Rattle.foyer_storage_engine.specs.declared.load.Load.{Load};
     ghost use Rattle.foyer_policy_filter.specs.declared.verdict.StorageFilterResult.{StorageFilterResult};
+    ghost use Rattle.foyer_storage_store.specs.declared.config.DeviceSummary.{DeviceSummary};
+
+    // What its device has.
+    ghost summary: { Self → DeviceSummary };
 
     // What its admission filter may say of an entry of that hash and size.
     ghost may_judge: { Self → ℕ → ℕ → StorageFilterResult → Type 0 };
@@ -105,7 +109,8 @@ pub trait Engine<S: Drop, K: Eq, V, P>: Drop {
     ghost may_destroy: { Self → S → S → Result (Unit {0}) Error → Type 0 };
 
     /// What its device has.
-    fn device(&self) -> DeviceSummary;
+    fn device(&self) -> DeviceSummary
+        ensures { result ≡ summary self.now };
 
     /// What its device did and has callers wait for, at a moment in nanoseconds.
     fn io_state(&self, rt: &impl Wait, now: u64) -> IoState;

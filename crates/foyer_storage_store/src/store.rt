@@ -123,6 +123,7 @@ impl<N: Drop, K: Eq + Drop, V: Drop, P: Drop, H: Drop> Store<N, K, V, P, H> {
     pub fn device<S: Drop>(&self) -> DeviceSummary
     where
         N: Engine<S, K, V, P>,
+        ensures { result ≡ N.summary (arc_value self.now.shared).engine }
     {
         self.shared.engine.device()
     }

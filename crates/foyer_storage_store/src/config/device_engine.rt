@@ -209,6 +209,8 @@ where
     ghost use Rattle.std.specs.Arc.{arc_value};
     ghost use Rattle.foyer_storage_store.specs.Storing.{HasDestroyed, HasWaited, IsAdmission, IsLoadedUnder};
 
+    ghost summary = { λ b. b.device };
+
     ghost may_judge = { λ b hash size verdict. IsAdmission C.may_answer b.admission hash size verdict };
 
     ghost may_enqueue = { λ _ old new hash size answer. IsEnqueueAnswer old.steps new.steps hash size answer × (new.steps.shares.parts ≡ old.steps.shares.parts) };

@@ -1,4 +1,5 @@
 //! The disks over a device's blocks, and what is opened and made with each.
+ghost use Rattle.std.specs.Arc.{arc_value};
 ghost use Rattle.std.specs.Prelude.{◌≡◌, ◌+◌, ◌*◌, ◌<◌, ◌^◌, IfOk, OnOk, vec_len};
 ghost use Rattle.foyer_core_tally.specs.Ledgers.{AreOf};
 
@@ -54,13 +55,11 @@ impl<R, I: IoEngineConfig<R>, Q: Partition + Copy> Disks<'_, R, I, Q> {
         recorder: &mut Recorder<Global>,
     ) -> Result<DeviceBlocks<I::Engine, Q>>
         requires { 1 < recorder.old.view.parts }
-        ensures { OnOk result (recorder.new.view.parts + 1 ≡ recorder.old.view.parts) }
+        ensures seats { OnOk result (recorder.new.view.parts + 1 ≡ recorder.old.view.parts) }
+        ensures blocks { IfOk result (λ d. d.blocks.items ≡ self.now.blocks.now) }
     {
         let engine = MonitoredIoEngine::new(self.engine()?, recorder.split(1)?);
-        let mut blocks = Vec::with_capacity(alloc, self.blocks.len())?;
-        for block in self.blocks {
-            blocks.push(*block)?;
-        }
+        let blocks = Vec::from_slice(alloc, self.blocks)?;
         Ok(PartitionedDisk::new(engine, blocks))
     }
 
@@ -103,7 +102,9 @@ impl<R, I: IoEngineConfig<R>, Q: Partition + Copy> Disks<'_, R, I, Q> {
         G: Gate,
         Q: Drop,
         requires { 1 < recorder.old.view.parts }
-        ensures { OnOk result (recorder.new.view.parts + 1 ≡ recorder.old.view.parts) }
+        ensures seats { OnOk result (recorder.new.view.parts + 1 ≡ recorder.old.view.parts) }
+        ensures number { IfOk result (λ w. w.worker.parts.flusher ≡ flusher) }
+        ensures blocks { IfOk result (λ w. w.worker.parts.disk.blocks.items ≡ self.now.blocks.now) }
     {
         let engine = Arc::try_clone(engine)?;
         let log = Arc::try_clone(log)?;
@@ -234,7 +235,8 @@ impl<R, I: IoEngineConfig<R>, Q: Partition + Copy> Disks<'_, R, I, Q> {
         Q: Drop,
         requires seat { 1 < recorder.old.view.parts }
         requires ledgers { AreOf L.name_of L.all blanks × (L.all ≡ 2 ^ 32) }
-        ensures { OnOk result (recorder.new.view.parts + 1 ≡ recorder.old.view.parts) }
+        ensures seats { OnOk result (recorder.new.view.parts + 1 ≡ recorder.old.view.parts) }
+        ensures settings { IfOk result (λ o. (arc_value o.engine).settings ≡ settings) }
     {
         let mut marks = Vec::new(alloc);
         let log = self.log(alloc, log, &mut marks)?;
@@ -296,6 +298,7 @@ where
     Q: Partition + Copy,
     G: Gate,
     requires { AreOf L.name_of L.all blanks × (L.all ≡ 2 ^ 32) }
+    ensures { IfOk result (λ r. (arc_value r.0).settings ≡ settings) }
 {
     let (locked, session): (Locked<L, K, V, P, Global, E, C, NoNotes>, Session<L>) = Locked::open(
         alloc,

@@ -1,6 +1,9 @@
 //! How a device is divided, and gets its counters.
-ghost use Rattle.std.specs.Prelude.{◌≡◌, ◌+◌, ◌*◌, ◌<◌, ◌^◌, if◌then◌else◌, IfOk, OnOk, length};
+ghost use Rattle.std.specs.Arc.{arc_value};
+ghost use Rattle.std.specs.Prelude.{◌≡◌, ◌+◌, ◌*◌, ◌<◌, ◌≤◌, ◌^◌, if◌then◌else◌, IfOk, IfSome, OnOk, is_some, length, map, replicate, vec_len};
 ghost use Rattle.foyer_block_tombstone.specs.Pages.{log_pages};
+ghost use Rattle.foyer_device_partition.specs.Extent.{total_size};
+ghost use Rattle.foyer_storage_plan.specs.Plans.{settings_of};
 
 use super::DeviceSummary;
 use foyer_block_tombstone::block::tombstone::log_pages;
@@ -34,7 +37,11 @@ fn make_log<D: Device, R: Files>(
     device: &mut D,
     tombstone_log: bool,
     size: usize,
-) -> Result<Option<D::Partition>> {
+) -> Result<Option<D::Partition>>
+    ensures made { IfOk result (λ log. is_some log ≡ tombstone_log) }
+    ensures size { IfOk result (λ log. IfSome log (λ p. D.Partition.bytes p ≡ size)) }
+    ensures same { (D.room device.new ≡ D.room device.old) × (D.limits device.new ≡ D.limits device.old) }
+{
     if !tombstone_log {
         return Ok(None);
     }
@@ -47,7 +54,11 @@ fn make_blocks<D: Device, R: Files>(
     alloc: Global,
     device: &mut D,
     planned: &Settings,
-) -> Result<Vec<D::Partition>> {
+) -> Result<Vec<D::Partition>>
+    ensures sizes { IfOk result (λ blocks. map D.Partition.bytes blocks.items ≡ replicate (vec_len blocks) planned.now.block_size) }
+    ensures few { IfOk result (λ blocks. vec_len blocks ≤ planned.now.blocks) }
+    ensures same { (D.room device.new ≡ D.room device.old) × (D.limits device.new ≡ D.limits device.old) }
+{
     let mut blocks = Vec::with_capacity(alloc, planned.blocks as usize)?;
     for _ in 0..planned.blocks {
         match device.create_partition(rt, planned.block_size) {
@@ -98,7 +109,12 @@ pub(super) fn divide<D: Device, R: Files>(
     mut device: D,
     sizes: &EngineSizes,
 ) -> Result<Divided<D>>
-    ensures { IfOk result (λ d. d.settings.flushers + 2 * d.settings.reclaimers + 2 < 2 ^ 32) }
+    ensures seats { IfOk result (λ d. d.settings.flushers + 2 * d.settings.reclaimers + 2 < 2 ^ 32) }
+    ensures sizes { IfOk result (λ d. d.settings ≡ settings_of sizes.now d.settings.blocks d.settings.indexer_shards) }
+    ensures blocks { IfOk result (λ d. (d.settings.blocks ≡ vec_len d.blocks)
+        × (map D.Partition.bytes d.blocks.items ≡ replicate (vec_len d.blocks) d.settings.block_size)) }
+    ensures log { IfOk result (λ d. is_some d.log ≡ sizes.now.tombstone_log) }
+    ensures device { IfOk result (λ d. (D.room d.device ≡ D.room device) × (D.limits d.device ≡ D.limits device)) }
 {
     sizes.check()?;
     let log_size = log_size(device.capacity(), sizes.tombstone_log)?;
@@ -123,6 +139,7 @@ fn recorder_of(
 ) -> Result<(Recorder<Global>, Arc<Statistics<Global>, Global>)>
     ensures parts { IfOk result (λ r. r.0.view.parts ≡ 2 ^ 32) }
     ensures limits { IfOk result (λ r. r.0.limits ≡ throttle) }
+    ensures counters { IfOk result (λ r. r.0.table ≡ (arc_value r.1).table) }
 {
     let (statistics, seat) = Statistics::new(alloc, throttle, now)?;
     let statistics = Arc::new(alloc, statistics)?;
@@ -153,7 +170,9 @@ where
     D::Partition: Drop,
     ensures settings { IfOk result (λ c. c.settings ≡ divided.settings) }
     ensures limits { IfOk result (λ c. (c.throttle ≡ D.limits divided.device) × (c.recorder.limits ≡ D.limits divided.device)) }
-    ensures summary { IfOk result (λ c. (c.summary.capacity ≡ D.room divided.device) × (c.summary.partitions ≡ length (D.sizes divided.device))) }
+    ensures summary { IfOk result (λ c. (c.summary.capacity ≡ D.room divided.device) × (c.summary.allocated ≡ total_size (D.sizes divided.device))
+        × (c.summary.partitions ≡ length (D.sizes divided.device))) }
+    ensures counters { IfOk result (λ c. c.recorder.table ≡ (arc_value c.statistics).table) }
     ensures partitions { IfOk result (λ c. (c.log ≡ divided.log) × (c.blocks ≡ divided.blocks)) }
     ensures parts { IfOk result (λ c. c.recorder.view.parts ≡ 2 ^ 32) }
 {

@@ -1,6 +1,8 @@
 //! How an engine over the blocks of a device is made.
+ghost use Rattle.std.specs.Arc.{arc_value};
 ghost use Rattle.std.specs.Prelude.{◌≡◌, ◌+◌, ◌*◌, ◌<◌, ◌^◌, IfOk, vec_len};
 ghost use Rattle.foyer_core_tally.specs.Ledgers.{AreOf};
+ghost use Rattle.foyer_core_steps.specs.Lent.{generator_of};
 
 use super::block::BlockEngineConfig;
 use super::device_engine::{BlockFlusher, BlockReclaimer, BuiltEngine};
@@ -32,7 +34,7 @@ fn env_of<E: EvictionPicker, C: StorageFilterCondition>(
     reinsertion: Option<StorageFilter<C, Global>>,
     seed: u64,
 ) -> Env<E, C>
-    ensures { (result.pickers ≡ pickers) × (result.reinsertion ≡ reinsertion) }
+    ensures { (result.pickers ≡ pickers) × (result.reinsertion ≡ reinsertion) × (result.generator ≡ generator_of seed) }
 {
     let mut env = Env::new(alloc, pickers, seed).with_reinsertion(StorageFilter::new());
     let _ = env.replace_reinsertion(reinsertion);
@@ -73,7 +75,10 @@ where
     requires parts { counted.recorder.view.parts ≡ 2 ^ 32 }
     requires seats { counted.settings.flushers + 2 * counted.settings.reclaimers + 2 < 2 ^ 32 }
     ensures parts { IfOk result (λ b. vec_len b.flushers + vec_len b.reclaimers + 1 < 2 ^ 32) }
-    ensures built { IfOk result (λ b. (b.engine.admission ≡ admission) × (b.engine.throttle ≡ counted.throttle) × (b.throttle ≡ counted.throttle)) }
+    ensures built { IfOk result (λ b. (b.engine.admission ≡ admission) × (b.engine.throttle ≡ counted.throttle) × (b.throttle ≡ counted.throttle)
+        × (b.engine.device ≡ counted.summary) × (b.statistics ≡ counted.statistics)) }
+    ensures settings { IfOk result (λ b. (arc_value b.engine.engine).settings ≡ counted.settings) }
+    ensures workers { IfOk result (λ b. (vec_len b.flushers ≡ counted.settings.flushers) × (vec_len b.reclaimers ≡ counted.settings.reclaimers)) }
 {
     let Counted {
         log,
@@ -145,7 +150,9 @@ where
     C: StorageFilterCondition + Send + Sync + 'static,
     G: Gate + Send + Sync + 'static,
 {
+    ghost use Rattle.std.specs.Arc.{arc_value};
     ghost use Rattle.std.specs.Prelude.{◌≡◌, ◌^◌, false};
+    ghost use Rattle.foyer_storage_plan.specs.Plans.{settings_of};
     ghost use Rattle.foyer_core_tally.specs.Ledgers.{AreOf};
 
     ghost fits = { λ blanks. AreOf L.name_of L.all blanks × (L.all ≡ 2 ^ 32) };
@@ -158,7 +165,10 @@ where
 
     type Reclaimer = BlockReclaimer<L, K, V, P, S::Picker, C, I::Engine, D::Partition, G, T>;
 
-    ghost may_build = { λ config _ engine throttle. (engine.admission ≡ config.admission) × (engine.throttle ≡ throttle) };
+    ghost may_build = { λ config _ engine throttle. (engine.admission ≡ config.admission) × (engine.throttle ≡ throttle)
+        × (throttle ≡ D.limits config.device) × (engine.device.capacity ≡ D.room config.device)
+        × ((arc_value engine.engine).settings
+        ≡ settings_of config.sizes (arc_value engine.engine).settings.blocks (arc_value engine.engine).settings.indexer_shards) };
 
     fn is_noop(&self) -> bool {
         false
@@ -181,7 +191,10 @@ where
     >
         requires { AreOf L.name_of L.all blanks × (L.all ≡ 2 ^ 32) }
         ensures parts { IfOk result (λ b. vec_len b.flushers + vec_len b.reclaimers + 1 < 2 ^ 32) }
-        ensures built { IfOk result (λ b. (b.engine.admission ≡ self.admission) × (b.engine.throttle ≡ b.throttle)) }
+        ensures built { IfOk result (λ b. (b.engine.admission ≡ self.admission) × (b.engine.throttle ≡ b.throttle)
+            × (b.throttle ≡ D.limits self.device) × (b.engine.device.capacity ≡ D.room self.device)
+            × ((arc_value b.engine.engine).settings
+            ≡ settings_of self.sizes (arc_value b.engine.engine).settings.blocks (arc_value b.engine.engine).settings.indexer_shards)) }
     {
         let BlockEngineConfig {
             device,

@@ -48,6 +48,8 @@ impl<L: Kinds, K: Eq + Drop, V: Drop, P: Drop> Engine<StoreSession<L>, K, V, P> 
     ghost use Rattle.foyer_storage_engine.specs.declared.engine.Enqueued.TheVariants as enqueued;
     ghost use Rattle.foyer_policy_filter.specs.Verdict.{IsReject};
 
+    ghost summary = { λ _. record { capacity = 0; allocated = 0; partitions = 0 } };
+
     ghost may_judge = { λ _ _ _ verdict. IsReject verdict };
 
     ghost may_enqueue = { λ _ old new _ _ answer. (answer ≡ Ok enqueued.Ignored) × (new ≡ old) };

@@ -1,4 +1,7 @@
 //! What gives the pickers of an engine.
+ghost use Rattle.std.specs.Prelude.{◌≡◌, [], ◌∷◌, IfOk, IsOkUnless};
+ghost use Rattle.foyer_block_manager.specs.declared.block.picker.BuiltInPicker.TheVariants as picker;
+
 use foyer_block_manager::block::eviction::{
     BuiltInPicker, EvictionPicker, FifoPicker, InvalidRatioPicker,
 };
@@ -7,10 +10,18 @@ use std::alloc::Global;
 
 /// What gives the pickers of an engine.
 pub trait PickerSource: Drop {
+    ghost use Rattle.std.specs.Prelude.{List};
+    ghost use Rattle.foyer_device_page.specs.declared.error.Error.TheVariants.{Memory};
+
     type Picker: EvictionPicker;
 
+    // Which pickers it gives, in their order.
+    ghost gives: { Self → List Self.Picker → Type 0 };
+
     /// The pickers, in the order in which they are asked. Memory.
-    fn into_pickers(self, alloc: Global) -> Result<Vec<Self::Picker>>;
+    fn into_pickers(self, alloc: Global) -> Result<Vec<Self::Picker>>
+        ensures given { IfOk result (λ pickers. gives self pickers.items) }
+        ensures refused { IsOkUnless result Memory };
 }
 
 /// By invalid bytes from 8/10 of a block on, then by age with a tenth of the blocks clean or on probation.
@@ -19,6 +30,9 @@ pub struct DefaultPickers;
 
 impl PickerSource for DefaultPickers {
     type Picker = BuiltInPicker;
+
+    ghost gives = { λ _ pickers. pickers ≡ picker.InvalidRatio (record { num = 8; den = 10; block_size = 0 })
+        ∷ picker.Fifo (record { num = 1; den = 10; queue = []; room = 0; probations = 0 }) ∷ [] };
 
     fn into_pickers(self, alloc: Global) -> Result<Vec<BuiltInPicker>> {
         let mut pickers = Vec::new(alloc);
@@ -34,6 +48,8 @@ pub struct GivenPickers<E: EvictionPicker>(pub Vec<E>);
 
 impl<E: EvictionPicker> PickerSource for GivenPickers<E> {
     type Picker = E;
+
+    ghost gives = { λ given pickers. pickers ≡ given.0.items };
 
     fn into_pickers(self, _alloc: Global) -> Result<Vec<E>> {
         let GivenPickers(pickers) = self;
