@@ -1,3 +1,5 @@
 pub mod LocalRuns
 pub mod LocalAnswers
+pub mod LoadAnswered
+pub mod RefusedSteps
 pub mod ThrottledLoads

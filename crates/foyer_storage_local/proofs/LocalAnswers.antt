@@ -13,7 +13,7 @@ use Rattle.foyer_core_run.specs.Newest.{IsMissedForCause, IsNewest, IsPutOrFault
 use Rattle.foyer_core_run.proofs.RestLemmas.{SaysNothing}
 use Rattle.foyer_storage_local.specs.EntryCalls.{IsEntryOrFault, IsHashMissedForCause, IsKeyMissedForCause, IsKeysEntryOrFault, IsNewestOfHash, IsNewestOfKey, IsThrottledIfSaid}
 use Rattle.foyer_storage_local.specs.EntryLoads.{answer_of_key}
-use Rattle.foyer_storage_local.specs.StepAnswers.{destroyed_as, done_as, error_of, loaded_as}
+use Rattle.foyer_storage_local.specs.StepAnswers.{destroyed_as, done_as, is_destroy_error, is_wait_error, loaded_as, wait_error}
 use Rattle.foyer_storage_local.specs.declared.load.Load.{Load}
 use Rattle.foyer_storage_local.specs.declared.load.Load.TheVariants as load
 use Rattle.foyer_storage_local.specs.declared.load.Populated.{Populated}
@@ -23,24 +23,29 @@ pub refused_not_ok : {X : Type 0} (said : Result X Error) (x : X) → IsErr said
 refused_not_ok (Err e) x is = λ same. cc
 refused_not_ok (Ok y) x is = absurd (let e : false ≡ true = is in cc)
 
+-- why a wait ends early is why a destroy does
+pub wait_destroys : (e : Error) → is_wait_error e ≡ true → is_destroy_error e ≡ true
+wait_destroys error.Closed is = absurd (let same : false ≡ true = is in cc)
+wait_destroys e is = is
+
 module _ {K V P A : Type 0} where
   -- what is answered as a success is the end of a destroy without a failed clean
   pub destroyed_ok : (last : Reply K V P A) (said : Result (Unit {0}) Error) → said ≡ destroyed_as last → said ≡ Ok tt → last ≡ reply.Destroyed None
   destroyed_ok (reply.Destroyed None) said says ok = refl
-  destroyed_ok (reply.Destroyed (Some why)) said says ok = absurd (let e : Err (error_of why) ≡ Ok tt = sym says ∙ ok in cc)
-  destroyed_ok (reply.Refused why back) said says ok = absurd (let e : Err (error_of why) ≡ Ok tt = sym says ∙ ok in cc)
+  destroyed_ok (reply.Destroyed (Some why)) said says ok = absurd (let e : Err (wait_error why) ≡ Ok tt = sym says ∙ ok in cc)
+  destroyed_ok (reply.Refused why back) said says ok = absurd (let e : Err (wait_error why) ≡ Ok tt = sym says ∙ ok in cc)
   destroyed_ok last said says ok = absurd (let e : Err error.Io ≡ Ok tt = sym says ∙ ok in cc)
 
   -- a step that did nothing, and one that did something
   pub done_nothing : (last : Reply K V P A) (did : Bool) → done_as last ≡ Ok did → did ≡ false → SaysNothing last
   done_nothing (reply.NotNow back) did is none = tt
   done_nothing reply.Empty did is none = tt
-  done_nothing (reply.Refused why back) did is none = absurd (let e : Err (error_of why) ≡ Ok did = is in cc)
+  done_nothing (reply.Refused why back) did is none = absurd (let e : Err (wait_error why) ≡ Ok did = is in cc)
   done_nothing last did is none = absurd (let e : Ok true ≡ Ok did = is in cc)
 
   pub done_something : (last : Reply K V P A) (did : Bool) → done_as last ≡ Ok did → did ≡ true → IsHandedBack last → ⊥
   done_something (reply.NotNow back) did is done = let e : Ok false ≡ Ok did = is in cc
-  done_something (reply.Refused why back) did is done = let e : Err (error_of why) ≡ Ok did = is in cc
+  done_something (reply.Refused why back) did is done = let e : Err (wait_error why) ≡ Ok did = is in cc
   done_something last did is done = λ back. absurd back
 
   module _ (m : Meaning K V P) where

@@ -1,5 +1,5 @@
 -- What leads an engine on, one after the other.
-use Rattle.std.proofs.Common.{◌≡◌, ℕ, [], Option, None, Ok, Err, ◌∙◌}
+use Rattle.std.proofs.Common.{◌≡◌, ℕ, [], Option, None, Ok, Err, ◌∙◌, arith}
 use Rattle.std.specs.Prelude.{IfOk, Result}
 use Rattle.foyer_core_laws.specs.Content.{Content, Meaning}
 use Rattle.foyer_core_laws.specs.Sizes.{AreValid}
@@ -15,6 +15,7 @@ use Rattle.foyer_core_run.proofs.DestroyLemmas.{destroys_more}
 use Rattle.foyer_core_run.proofs.OpenedRuns.{begun_empty}
 use Rattle.foyer_core_run.proofs.RestLemmas.{IsAny, keeps_idle, leads_more}
 use Rattle.foyer_device_page.specs.declared.error.Error.{Error}
+use Rattle.foyer_storage_local.specs.EntryCalls.{KeepsLies}
 use Rattle.foyer_storage_local.specs.declared.engine.LocalEngine.{LocalEngine}
 
 -- a wait's steps lead from one engine to another, where the disk of the one is known
@@ -24,6 +25,14 @@ Waited m is_known byte_at a b = is_known a.disk → is_known b.disk × Waits m a
 -- and a destroy's, which destroyed all where this holds
 abbrev pub Destroyed : {K V P H A D L E C : Type 0} → Type 0 → Meaning K V P → (D → Type 0) → (D → ℕ → ℕ → ℕ) → LocalEngine K V P H A D L E C → LocalEngine K V P H A D L E C → Type 0
 Destroyed IsDone m is_known byte_at a b = is_known a.disk → is_known b.disk × Destroys IsDone m a.core b.core (byte_at a.disk) (byte_at b.disk)
+
+-- what surely lies in disks, one after the other
+module _ {D : Type 0} (lies : D → ℕ → ℕ → ℕ → Type 0) (faults : D → ℕ) where
+  pub lies_none : (a : D) → KeepsLies lies faults a a
+  lies_none a = ((λ b o n lie. lie), omega arith)
+
+  pub lies_more : (a b c : D) → KeepsLies lies faults a b → KeepsLies lies faults b c → KeepsLies lies faults a c
+  lies_more a b c one two = ((λ x o n lie. two.0 x o n (one.0 x o n lie)), omega (arith, one.1, two.1))
 
 module _ {K V P A : Type 0} (m : Meaning K V P) where
   -- one destroy's steps behind another's

@@ -1,16 +1,21 @@
 -- What an engine's calls answer, and what they do.
-use Rattle.std.specs.Prelude.{◌≡◌, ◌⊎◌, ℕ, ◌+◌, ◌-◌, ◌^◌, min, Bool, true, false, List, [], ◌∷◌, length, Result, Ok, Err}
+use Rattle.std.specs.Prelude.{◌≡◌, ◌⊎◌, ℕ, ◌+◌, ◌-◌, ◌^◌, ◌≤◌, min, Bool, true, false, List, [], ◌∷◌, length, Some, Result, Ok, Err, IfErr}
+use Rattle.foyer_block_index.specs.Index.{address_at}
+use Rattle.foyer_block_index.specs.declared.indexer.EntryAddress.{EntryAddress}
 use Rattle.foyer_device_page.specs.declared.error.Error.{Error}
 use Rattle.foyer_device_page.specs.declared.error.Error.TheVariants as error
 use Rattle.foyer_device_page.specs.declared.error.ErrorKind.{ErrorKind}
 use Rattle.foyer_device_page.specs.declared.error.ErrorKind.TheVariants as kind
+use Rattle.foyer_format_layout.specs.Page.{page_up}
 use Rattle.foyer_core_model.specs.Record.{Outcome, Holds}
+use Rattle.foyer_core_model.specs.State.{State}
 use Rattle.foyer_core_model.specs.World.{World, WorldEvent}
 use Rattle.foyer_policy_piece.specs.Record.{Record}
 use Rattle.foyer_policy_piece.specs.Referred.{Referred}
 use Rattle.foyer_core_laws.specs.Content.{Content, Meaning, content}
 use Rattle.foyer_core_laws.specs.Sizes.{AreValid}
 use Rattle.foyer_core_laws.specs.declared.settings.Settings.{Settings}
+use Rattle.foyer_core_steps.specs.StateOf.{IsStateOf}
 use Rattle.foyer_core_steps.specs.declared.reply.Reply.{Reply}
 use Rattle.foyer_core_steps.specs.declared.reply.Reply.TheVariants as reply
 use Rattle.foyer_core_steps.specs.declared.state.Core.{Core}
@@ -23,6 +28,10 @@ use Rattle.foyer_storage_local.specs.StepAnswers.{contains_as, deleted_as, enque
 use Rattle.foyer_storage_local.specs.declared.load.Enqueued.{Enqueued}
 use Rattle.foyer_storage_local.specs.declared.load.Load.{Load}
 use Rattle.foyer_storage_local.specs.declared.load.Load.TheVariants as load
+
+-- From one disk to another: what surely lay in it still does, and the faults that were counted stay so.
+abbrev pub KeepsLies : {D : Type 0} → (lies : D → ℕ → ℕ → ℕ → Type 0) → (faults : D → ℕ) → (old new : D) → Type 0
+KeepsLies lies faults old new = ((b o n : ℕ) → lies old b o n → lies new b o n) × (faults old ≤ faults new)
 
 -- why a record isn't answered: its read failed, memory was refused, or what was found doesn't decode, or isn't supported
 abbrev pub IsReadFault : Outcome Content → Error → Type 0
@@ -50,6 +59,17 @@ module _ {K V P : Type 0} (m : Meaning K V P) where
   IsKeysEntryOrFault eq key x (Ok load.Throttled) = ⊥
 
 module _ {K V P A : Type 0} (m : Meaning K V P) where
+  -- from each state of the model that the core stood for, an error is one of these
+  abbrev pub IsRefusedOnlyAs : {X : Type 0} → (is_error : Error → Bool) → Core K V P A → Result X Error → Type 0
+  IsRefusedOnlyAs is_error core said =
+      (s : Settings) → AreValid s → (it : State Content) → IsStateOf m s core it → IfErr said (λ e. is_error e ≡ true)
+
+  -- And a load is answered Io only where the index has an address of the hash, of which it isn't sure that a read of it came.
+  abbrev pub IsIoForCause : (hash : ℕ) → (came : ℕ → ℕ → ℕ → Type 0) → Core K V P A → Result (Load K V) Error → Type 0
+  IsIoForCause hash came core said =
+      said ≡ Err error.Io → (s : Settings) → AreValid s → (it : State Content) → IsStateOf m s core it
+      → (a : EntryAddress) × (address_at core.index.slots hash ≡ Some a) × (came a.block a.offset (page_up a.len) → ⊥)
+
   -- an entry that is answered is the newest put of this hash, in every history that led to this core and these bytes
   abbrev pub IsNewestOfHash : ℕ → Core K V P A → (ℕ → ℕ → ℕ) → Result (Load K V) Error → Type 0
   IsNewestOfHash hash core bytes (Ok (load.Entry own value populated)) = IsNewest m hash core bytes (reply.Entry own value populated.age)

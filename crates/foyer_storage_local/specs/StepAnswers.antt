@@ -26,6 +26,47 @@ error_of kind.Closed = error.Closed
 error_of kind.Unsupported = error.Unsupported
 error_of kind.SequenceEnd = error.SequenceEnd
 
+-- why a put or a delete is refused
+abbrev pub is_draw_error : Error → Bool
+is_draw_error error.Closed = true
+is_draw_error error.Memory = true
+is_draw_error error.SequenceEnd = true
+is_draw_error other = false
+
+-- why a question is refused: no step is left
+abbrev pub is_question_error : Error → Bool
+is_question_error error.SequenceEnd = true
+is_question_error other = false
+
+-- why a load is refused
+abbrev pub is_load_error : Error → Bool
+is_load_error error.Io = true
+is_load_error error.Memory = true
+is_load_error error.Parse = true
+is_load_error error.Unsupported = true
+is_load_error error.SequenceEnd = true
+is_load_error other = false
+
+-- why a wait or a close ends early
+abbrev pub is_wait_error : Error → Bool
+is_wait_error error.Io = true
+is_wait_error error.Memory = true
+is_wait_error error.NoSpace = true
+is_wait_error error.SequenceEnd = true
+is_wait_error other = false
+
+-- why a destroy does: for one of these, or the engine was closed before it
+abbrev pub is_destroy_error : Error → Bool
+is_destroy_error error.Closed = true
+is_destroy_error e = is_wait_error e
+
+-- the error of a flusher's or a reclaim's step, or of a destroy's once it has begun: of memory and of the end of the steps
+-- their own, all else is a fault of an access
+abbrev pub wait_error : ErrorKind → Error
+wait_error kind.Memory = error.Memory
+wait_error kind.SequenceEnd = error.SequenceEnd
+wait_error other = error.Io
+
 module _ {K V P A : Type 0} where
   -- an enqueue's
   abbrev pub enqueued_as : Reply K V P A → Result Enqueued Error
@@ -54,7 +95,7 @@ module _ {K V P A : Type 0} where
 
   -- whether a step did anything, or why it was refused
   abbrev pub done_as : Reply K V P A → Result Bool Error
-  done_as (reply.Refused kind back) = Err (error_of kind)
+  done_as (reply.Refused kind back) = Err (wait_error kind)
   done_as (reply.NotNow back) = Ok false
   done_as reply.Empty = Ok false
   done_as said = Ok true
@@ -65,13 +106,19 @@ module _ {K V P A : Type 0} where
   wrote_as (Some reply.NoBlock) = Err error.NoSpace
   wrote_as (Some said) = done_as said
 
+  -- whether a destroy has begun, or had before, or why it was refused
+  abbrev pub begun_as : Reply K V P A → Result (Unit {0}) Error
+  begun_as (reply.Refused kind.Closed back) = Err error.Closed
+  begun_as (reply.Refused why back) = Err (wait_error why)
+  begun_as said = Ok tt
+
   -- a destroy's step that was handed back, or didn't end it
   abbrev pub kept_as : Reply K V P A → Result (Unit {0}) Error
-  kept_as (reply.Refused kind back) = Err (error_of kind)
+  kept_as (reply.Refused kind back) = Err (wait_error kind)
   kept_as said = Err error.Io
 
   -- the last reply of a destroy: a clean that failed isn't passed over
   abbrev pub destroyed_as : Reply K V P A → Result (Unit {0}) Error
   destroyed_as (reply.Destroyed None) = Ok tt
-  destroyed_as (reply.Destroyed (Some kind)) = Err (error_of kind)
+  destroyed_as (reply.Destroyed (Some kind)) = Err (wait_error kind)
   destroyed_as said = kept_as said

@@ -1,6 +1,7 @@
 //! What the core's replies are answered as.
-ghost use Rattle.std.specs.Prelude.{◌≡◌, IsErr};
-ghost use Rattle.foyer_storage_local.specs.StepAnswers.{error_of, contains_as, deleted_as, destroyed_as, done_as, enqueued_as, kept_as, loaded_as, wrote_as};
+ghost use Rattle.std.specs.Prelude.{◌≡◌, true, IfErr, IsErr};
+ghost use Rattle.foyer_storage_local.specs.StepAnswers.{error_of, is_destroy_error, is_wait_error, wait_error};
+ghost use Rattle.foyer_storage_local.specs.StepAnswers.{begun_as, contains_as, deleted_as, destroyed_as, done_as, enqueued_as, kept_as, loaded_as, wrote_as};
 
 use crate::load::{Enqueued, Load, Populated};
 use foyer_core_steps::reply::Reply;
@@ -24,6 +25,19 @@ fn error_of(kind: ErrorKind) -> Error
         ErrorKind::Closed => Error::Closed,
         ErrorKind::Unsupported => Error::Unsupported,
         ErrorKind::SequenceEnd => Error::SequenceEnd,
+    }
+}
+
+// Why a step of a wait, or of a destroy that has begun, was refused: for memory, or since no step is left, and for nothing
+// else. The fault of a clean is for memory, or of the device.
+fn wait_error(kind: ErrorKind) -> Error
+    ensures says { result ≡ wait_error kind }
+    ensures refused { is_wait_error result ≡ true }
+{
+    match kind {
+        ErrorKind::Memory => Error::Memory,
+        ErrorKind::SequenceEnd => Error::SequenceEnd,
+        _ => Error::Io,
     }
 }
 
@@ -84,10 +98,11 @@ pub(crate) fn answer_contains<K: Drop, V: Drop, P: Drop, A: Allocator>(
 pub(crate) fn answer_step<K: Drop, V: Drop, P: Drop, A: Allocator>(
     last: Reply<K, V, P, A>,
 ) -> Result<bool>
-    ensures { result ≡ done_as last }
+    ensures says { result ≡ done_as last }
+    ensures refused { IfErr result (λ e. is_wait_error e ≡ true) }
 {
     match last {
-        Reply::Refused(kind, _) => Err(error_of(kind)),
+        Reply::Refused(kind, _) => Err(wait_error(kind)),
         Reply::NotNow(_) | Reply::Empty => Ok(false),
         _ => Ok(true),
     }
@@ -97,7 +112,8 @@ pub(crate) fn answer_step<K: Drop, V: Drop, P: Drop, A: Allocator>(
 pub(crate) fn answer_block<K: Drop, V: Drop, P: Drop, A: Allocator>(
     last: Option<Reply<K, V, P, A>>,
 ) -> Result<bool>
-    ensures { result ≡ wrote_as last }
+    ensures says { result ≡ wrote_as last }
+    ensures refused { IfErr result (λ e. is_wait_error e ≡ true) }
 {
     match last {
         Some(Reply::NoBlock) => Err(Error::NoSpace),
@@ -106,15 +122,31 @@ pub(crate) fn answer_block<K: Drop, V: Drop, P: Drop, A: Allocator>(
     }
 }
 
+#[tactic(auto, using(crate::proofs::LocalAnswers::wait_destroys))]
+// Whether a destroy has begun, or had before. None does of a closed engine.
+pub(crate) fn answer_begun<K: Drop, V: Drop, P: Drop, A: Allocator>(
+    last: Reply<K, V, P, A>,
+) -> Result<()>
+    ensures says { result ≡ begun_as last }
+    ensures refused { IfErr result (λ e. is_destroy_error e ≡ true) }
+{
+    match last {
+        Reply::Refused(ErrorKind::Closed, _) => Err(Error::Closed),
+        Reply::Refused(kind, _) => Err(wait_error(kind)),
+        _ => Ok(()),
+    }
+}
+
 // Why the index wasn't cleared.
 pub(crate) fn answer_kept<K: Drop, V: Drop, P: Drop, A: Allocator>(
     back: Reply<K, V, P, A>,
 ) -> Result<()>
-    ensures refused { IsErr result }
+    ensures fails { IsErr result }
     ensures says { result ≡ kept_as back }
+    ensures refused { IfErr result (λ e. is_wait_error e ≡ true) }
 {
     match back {
-        Reply::Refused(kind, _) => Err(error_of(kind)),
+        Reply::Refused(kind, _) => Err(wait_error(kind)),
         _ => Err(Error::Io),
     }
 }
@@ -123,11 +155,12 @@ pub(crate) fn answer_kept<K: Drop, V: Drop, P: Drop, A: Allocator>(
 pub(crate) fn answer_cleaned<K: Drop, V: Drop, P: Drop, A: Allocator>(
     last: Reply<K, V, P, A>,
 ) -> Result<()>
-    ensures { result ≡ destroyed_as last }
+    ensures says { result ≡ destroyed_as last }
+    ensures refused { IfErr result (λ e. is_wait_error e ≡ true) }
 {
     match last {
         Reply::Destroyed(None) => Ok(()),
-        Reply::Destroyed(Some(kind)) => Err(error_of(kind)),
+        Reply::Destroyed(Some(kind)) => Err(wait_error(kind)),
         other => answer_kept(other),
     }
 }

@@ -1,10 +1,12 @@
 //! Puts, loads, deletes and questions.
 ghost use Rattle.std.specs.Prelude.{◌≡◌, ◌≤◌, ℕ, false, true, IfOk, IfErr};
 ghost use Rattle.foyer_device_page.specs.declared.error.Error.TheVariants.{Memory};
+ghost use Rattle.foyer_io_disk.specs.Disk.{SurelyCame};
 ghost use Rattle.foyer_policy_piece.specs.Record.{record_of};
 ghost use Rattle.foyer_core_laws.specs.Content.{meaning};
 ghost use Rattle.foyer_core_run.specs.Driven.{Drives};
-ghost use Rattle.foyer_storage_local.specs.EntryCalls.{IsEnqueuedOrRefused, IsHashAsked, IsHashDeleted, IsHashLoadedOrRefused, IsHashMissedForCause, IsKeyLoaded, IsKeyMissedForCause, IsNewestOfHash, IsNewestOfKey, IsPieceEnqueued, IsThrottledIfSaid};
+ghost use Rattle.foyer_storage_local.specs.EntryCalls.{IsEnqueuedOrRefused, IsHashAsked, IsHashDeleted, IsHashLoadedOrRefused, IsHashMissedForCause, IsIoForCause, IsKeyLoaded, IsKeyMissedForCause, IsNewestOfHash, IsNewestOfKey, IsPieceEnqueued, IsRefusedOnlyAs, IsThrottledIfSaid};
+ghost use Rattle.foyer_storage_local.specs.StepAnswers.{is_draw_error, is_load_error, is_question_error};
 
 use crate::engine::{LocalEngine, MarkLog};
 use crate::load::{Enqueued, Load, answer_of_key};
@@ -60,6 +62,9 @@ where
         ensures driven { Drives
             (meaning K.encoding V.encoding K.is_encodable V.is_encodable K.is_decodable V.is_decodable P.age)
             self.old.core self.new.core (D.byte_at self.old.disk) (D.byte_at self.new.disk) }
+        ensures refused { IsRefusedOnlyAs
+            (meaning K.encoding V.encoding K.is_encodable V.is_encodable K.is_decodable V.is_decodable P.age)
+            is_draw_error self.old.core result }
     {
         let size = EntrySerializer::estimated_size::<A, K, V>(piece.key(), piece.value());
         // So contracts see that the hash has 64 bits.
@@ -82,6 +87,9 @@ where
         ensures driven { Drives
             (meaning K.encoding V.encoding K.is_encodable V.is_encodable K.is_decodable V.is_decodable P.age)
             self.old.core self.new.core (D.byte_at self.old.disk) (D.byte_at self.new.disk) }
+        ensures refused { IsRefusedOnlyAs
+            (meaning K.encoding V.encoding K.is_encodable V.is_encodable K.is_decodable V.is_decodable P.age)
+            is_draw_error self.old.core result }
     {
         match self.piece(key, value, properties) {
             Ok(piece) => self.enqueue(piece),
@@ -93,7 +101,8 @@ where
     /// key, that is answered, or `Io` for a failed read, or `Memory`, unless a reclaim of its block or a destroy began
     /// since, or under two of 2^64 - 1 steps are left. Where it is a put of another key of the same hash, it is a miss. A
     /// record that an opening found may be none: then it is a miss, or `Parse` where its key or value doesn't decode, or
-    /// `Unsupported`.
+    /// `Unsupported`. `Io` is answered only where the index has an address of the hash, of which the read may have failed.
+    /// `SequenceEnd` where no step is left.
     pub fn get(&mut self, key: &K) -> Result<Load<K, V>>
         ensures waits { self.new.next_wait ≡ self.old.next_wait }
         ensures lent { (self.new.env.reinsertion ≡ self.old.env.reinsertion) × (self.new.env.io ≡ self.old.env.io) }
@@ -112,12 +121,23 @@ where
         ensures driven { D.is_known self.old.disk → Drives
             (meaning K.encoding V.encoding K.is_encodable V.is_encodable K.is_decodable V.is_decodable P.age)
             self.old.core self.new.core (D.byte_at self.old.disk) (D.byte_at self.new.disk) }
+        ensures honest { IsIoForCause
+            (meaning K.encoding V.encoding K.is_encodable V.is_encodable K.is_decodable V.is_decodable P.age)
+            (H.hash_of self.old.hasher key.now) (SurelyCame (D.surely_has self.old.disk) (D.surely_lies self.old.disk) (D.faults self.old.disk) (D.faults self.new.disk))
+            self.old.core result }
+        ensures refused { D.is_known self.old.disk → IsRefusedOnlyAs
+            (meaning K.encoding V.encoding K.is_encodable V.is_encodable K.is_decodable V.is_decodable P.age)
+            is_load_error self.old.core result }
+        ensures has { (b o n : ℕ) → D.surely_has self.old.disk b o n → D.surely_has self.new.disk b o n }
+        ensures lies { (b o n : ℕ) → D.surely_lies self.old.disk b o n → D.surely_lies self.new.disk b o n }
+        ensures counted { D.faults self.old.disk ≤ D.faults self.new.disk }
+        ensures same { D.byte_at self.new.disk ≡ D.byte_at self.old.disk }
     {
         self.load(key, false)
     }
 
     /// What a key has, as a get answers it, where the caller says whether the device is throttled. If it is, a key whose
-    /// hash has an entry is answered `Throttled`, and nothing is read.
+    /// hash has an entry is answered `Throttled`, and nothing is read. It is refused for what a get is.
     pub fn load(&mut self, key: &K, throttled: bool) -> Result<Load<K, V>>
         ensures waits { self.new.next_wait ≡ self.old.next_wait }
         ensures lent { (self.new.env.reinsertion ≡ self.old.env.reinsertion) × (self.new.env.io ≡ self.old.env.io) }
@@ -140,6 +160,17 @@ where
         ensures driven { D.is_known self.old.disk → Drives
             (meaning K.encoding V.encoding K.is_encodable V.is_encodable K.is_decodable V.is_decodable P.age)
             self.old.core self.new.core (D.byte_at self.old.disk) (D.byte_at self.new.disk) }
+        ensures honest { IsIoForCause
+            (meaning K.encoding V.encoding K.is_encodable V.is_encodable K.is_decodable V.is_decodable P.age)
+            (H.hash_of self.old.hasher key.now) (SurelyCame (D.surely_has self.old.disk) (D.surely_lies self.old.disk) (D.faults self.old.disk) (D.faults self.new.disk))
+            self.old.core result }
+        ensures refused { D.is_known self.old.disk → IsRefusedOnlyAs
+            (meaning K.encoding V.encoding K.is_encodable V.is_encodable K.is_decodable V.is_decodable P.age)
+            is_load_error self.old.core result }
+        ensures has { (b o n : ℕ) → D.surely_has self.old.disk b o n → D.surely_has self.new.disk b o n }
+        ensures lies { (b o n : ℕ) → D.surely_lies self.old.disk b o n → D.surely_lies self.new.disk b o n }
+        ensures counted { D.faults self.old.disk ≤ D.faults self.new.disk }
+        ensures same { D.byte_at self.new.disk ≡ D.byte_at self.old.disk }
     {
         let hash = self.hasher.hash_one(key);
         match self.load_hash(hash, throttled) {
@@ -170,6 +201,17 @@ where
         ensures driven { D.is_known self.old.disk → Drives
             (meaning K.encoding V.encoding K.is_encodable V.is_encodable K.is_decodable V.is_decodable P.age)
             self.old.core self.new.core (D.byte_at self.old.disk) (D.byte_at self.new.disk) }
+        ensures honest { IsIoForCause
+            (meaning K.encoding V.encoding K.is_encodable V.is_encodable K.is_decodable V.is_decodable P.age)
+            hash (SurelyCame (D.surely_has self.old.disk) (D.surely_lies self.old.disk) (D.faults self.old.disk) (D.faults self.new.disk))
+            self.old.core result }
+        ensures refused { D.is_known self.old.disk → IsRefusedOnlyAs
+            (meaning K.encoding V.encoding K.is_encodable V.is_encodable K.is_decodable V.is_decodable P.age)
+            is_load_error self.old.core result }
+        ensures has { (b o n : ℕ) → D.surely_has self.old.disk b o n → D.surely_has self.new.disk b o n }
+        ensures lies { (b o n : ℕ) → D.surely_lies self.old.disk b o n → D.surely_lies self.new.disk b o n }
+        ensures counted { D.faults self.old.disk ≤ D.faults self.new.disk }
+        ensures same { D.byte_at self.new.disk ≡ D.byte_at self.old.disk }
     {
         let (env, disk, spare) = (&mut self.env, &mut self.disk, &mut self.spare);
         match load(&mut self.core, env, disk, spare, hash, throttled) {
@@ -192,6 +234,9 @@ where
         ensures driven { Drives
             (meaning K.encoding V.encoding K.is_encodable V.is_encodable K.is_decodable V.is_decodable P.age)
             self.old.core self.new.core (D.byte_at self.old.disk) (D.byte_at self.new.disk) }
+        ensures refused { IsRefusedOnlyAs
+            (meaning K.encoding V.encoding K.is_encodable V.is_encodable K.is_decodable V.is_decodable P.age)
+            is_draw_error self.old.core result }
     {
         let hash = self.hasher.hash_one(key);
         answer_delete(step(&mut self.core, &mut self.env, Step::Delete { hash }))
@@ -210,6 +255,9 @@ where
         ensures driven { Drives
             (meaning K.encoding V.encoding K.is_encodable V.is_encodable K.is_decodable V.is_decodable P.age)
             self.old.core self.new.core (D.byte_at self.old.disk) (D.byte_at self.new.disk) }
+        ensures refused { IsRefusedOnlyAs
+            (meaning K.encoding V.encoding K.is_encodable V.is_encodable K.is_decodable V.is_decodable P.age)
+            is_question_error self.old.core result }
     {
         let hash = self.hasher.hash_one(key);
         answer_contains(step(&mut self.core, &mut self.env, Step::MayContains { hash }))

@@ -1,11 +1,13 @@
 //! The destroy of all entries.
-ghost use Rattle.std.specs.Prelude.{◌≡◌, Ok};
+ghost use Rattle.std.specs.Prelude.{◌≡◌, ◌≤◌, ℕ, true, Ok, IfErr};
 ghost use Rattle.foyer_core_laws.specs.Content.{meaning};
 ghost use Rattle.foyer_core_run.specs.Destroys.{Destroys};
 ghost use Rattle.foyer_core_run.specs.Waiting.{Waits};
+ghost use Rattle.foyer_storage_local.specs.EntryCalls.{KeepsLies};
+ghost use Rattle.foyer_storage_local.specs.StepAnswers.{is_destroy_error, is_wait_error};
 
 use crate::engine::{LocalEngine, MarkLog};
-use crate::replies::{answer_cleaned, answer_kept, answer_step};
+use crate::replies::{answer_begun, answer_cleaned, answer_kept};
 use foyer_block_manager::block::eviction::EvictionPicker;
 use foyer_core_run::accesses::step;
 use foyer_core_run::destroys::clear_blocks;
@@ -31,17 +33,20 @@ where
 {
     /// Destroys all entries: flushes as a wait does, clears the index, and cleans each block, so that an opening finds
     /// nothing of it again. Where a destroy has begun and isn't over it goes on with that one. `Closed` after a close,
-    /// `SequenceEnd` and `Memory` before it has begun; once it has, it tries again what is refused memory. Another fault
-    /// is why it stopped, as of a wait, or of the first clean that failed, after which the others were done.
+    /// `SequenceEnd` and `Memory` before it has begun; once it has, it tries again what is refused memory. `Io`, `NoSpace`
+    /// and `SequenceEnd` as of a wait. The first clean that failed is `Io`, or `Memory`; the others were done after it.
     pub fn destroy(&mut self) -> Result<()>
         ensures destroyed { D.is_known self.old.disk → D.is_known self.new.disk × Destroys (result ≡ Ok tt)
             (meaning K.encoding V.encoding K.is_encodable V.is_encodable K.is_decodable V.is_decodable P.age)
             self.old.core self.new.core (D.byte_at self.old.disk) (D.byte_at self.new.disk) }
         ensures lent { (self.new.env.reinsertion ≡ self.old.env.reinsertion) × (self.new.env.io ≡ self.old.env.io) }
         ensures hasher { self.new.hasher ≡ self.old.hasher }
+        ensures refused { IfErr result (λ e. is_destroy_error e ≡ true) }
+        ensures lies { (b o n : ℕ) → D.surely_lies self.old.disk b o n → D.surely_lies self.new.disk b o n }
+        ensures counted { D.faults self.old.disk ≤ D.faults self.new.disk }
     {
         let begun = step(&mut self.core, &mut self.env, Step::DestroyBegin);
-        answer_step(begun)?;
+        answer_begun(begun)?;
         self.flush_until_done()?;
         self.clear()
     }
@@ -53,6 +58,8 @@ where
             self.old.core self.new.core (D.byte_at self.old.disk) (D.byte_at self.new.disk) }
         ensures lent { (self.new.env.reinsertion ≡ self.old.env.reinsertion) × (self.new.env.io ≡ self.old.env.io) }
         ensures hasher { self.new.hasher ≡ self.old.hasher }
+        ensures refused { IfErr result (λ e. is_wait_error e ≡ true) }
+        ensures counts { KeepsLies D.surely_lies D.faults self.old.disk self.new.disk }
     {
         for _ in 0..u64::MAX {
             match self.flush_queued() {
@@ -70,6 +77,8 @@ where
             self.old.core self.new.core (D.byte_at self.old.disk) (D.byte_at self.new.disk) }
         ensures lent { (self.new.env.reinsertion ≡ self.old.env.reinsertion) × (self.new.env.io ≡ self.old.env.io) }
         ensures hasher { self.new.hasher ≡ self.old.hasher }
+        ensures refused { IfErr result (λ e. is_wait_error e ≡ true) }
+        ensures counts { KeepsLies D.surely_lies D.faults self.old.disk self.new.disk }
     {
         for _ in 0..u64::MAX {
             match clear_blocks(&mut self.core, &mut self.env, &mut self.disk) {

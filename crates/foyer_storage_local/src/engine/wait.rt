@@ -1,8 +1,10 @@
 //! What a wait and a close flush, and the reclaims that they need.
-ghost use Rattle.std.specs.Prelude.{◌≡◌, true, IfOk};
+ghost use Rattle.std.specs.Prelude.{◌≡◌, ◌≤◌, ℕ, true, IfErr, IfOk};
 ghost use Rattle.foyer_core_laws.specs.Content.{meaning};
 ghost use Rattle.foyer_core_run.specs.AtRest.{ComesToRest, IsAtRest, KeepsIdle, KeepsOthers, KeepsOthersIdle, Leads, LeavesAllIdle, LeavesIdle, TakesQueueIf, Without};
 ghost use Rattle.foyer_core_run.specs.Waiting.{Closes, Waits};
+ghost use Rattle.foyer_storage_local.specs.EntryCalls.{KeepsLies};
+ghost use Rattle.foyer_storage_local.specs.StepAnswers.{is_wait_error};
 
 use crate::engine::{LocalEngine, MarkLog};
 use crate::replies::{answer_block, answer_step};
@@ -44,6 +46,9 @@ where
             self.old.core self.new.core (D.byte_at self.old.disk) (D.byte_at self.new.disk) }
         ensures lent { (self.new.env.reinsertion ≡ self.old.env.reinsertion) × (self.new.env.io ≡ self.old.env.io) }
         ensures hasher { self.new.hasher ≡ self.old.hasher }
+        ensures refused { IfErr result (λ e. is_wait_error e ≡ true) }
+        ensures lies { (b o n : ℕ) → D.surely_lies self.old.disk b o n → D.surely_lies self.new.disk b o n }
+        ensures counted { D.faults self.old.disk ≤ D.faults self.new.disk }
     {
         self.rereads = self.core.settings().blocks;
         for _ in 0..u64::MAX {
@@ -66,6 +71,8 @@ where
             self.old.core self.new.core (D.byte_at self.old.disk) (D.byte_at self.new.disk) }
         ensures lent { (self.new.env.reinsertion ≡ self.old.env.reinsertion) × (self.new.env.io ≡ self.old.env.io) }
         ensures hasher { self.new.hasher ≡ self.old.hasher }
+        ensures refused { IfErr result (λ e. is_wait_error e ≡ true) }
+        ensures counts { KeepsLies D.surely_lies D.faults self.old.disk self.new.disk }
     {
         self.rereads = self.core.settings().blocks;
         self.settle()
@@ -81,6 +88,9 @@ where
             self.old.core self.new.core (D.byte_at self.old.disk) (D.byte_at self.new.disk) }
         ensures lent { (self.new.env.reinsertion ≡ self.old.env.reinsertion) × (self.new.env.io ≡ self.old.env.io) }
         ensures hasher { self.new.hasher ≡ self.old.hasher }
+        ensures refused { IfErr result (λ e. is_wait_error e ≡ true) }
+        ensures lies { (b o n : ℕ) → D.surely_lies self.old.disk b o n → D.surely_lies self.new.disk b o n }
+        ensures counted { D.faults self.old.disk ≤ D.faults self.new.disk }
     {
         let closed = step(&mut self.core, &mut self.env, Step::Close);
         answer_step(closed)?;
@@ -111,6 +121,8 @@ where
             self.old.core self.new.core (D.byte_at self.old.disk) (D.byte_at self.new.disk) }
         ensures lent { (self.new.env.reinsertion ≡ self.old.env.reinsertion) × (self.new.env.io ≡ self.old.env.io) }
         ensures hasher { self.new.hasher ≡ self.old.hasher }
+        ensures refused { IfErr result (λ e. is_wait_error e ≡ true) }
+        ensures counts { KeepsLies D.surely_lies D.faults self.old.disk self.new.disk }
     {
         for _ in 0..u64::MAX {
             self.flush_all()?;
@@ -132,6 +144,8 @@ where
         ensures lent { self.new.env.reinsertion ≡ self.old.env.reinsertion }
         ensures io { self.new.env.io ≡ self.old.env.io }
         ensures hasher { self.new.hasher ≡ self.old.hasher }
+        ensures refused { IfErr result (λ e. is_wait_error e ≡ true) }
+        ensures counts { KeepsLies D.surely_lies D.faults self.old.disk self.new.disk }
     {
         for flusher in 0..self.core.settings().flushers {
             if self.core.is_idle(flusher) {
@@ -153,6 +167,8 @@ where
         ensures lent { self.new.env.reinsertion ≡ self.old.env.reinsertion }
         ensures io { self.new.env.io ≡ self.old.env.io }
         ensures hasher { self.new.hasher ≡ self.old.hasher }
+        ensures refused { IfErr result (λ e. is_wait_error e ≡ true) }
+        ensures counts { KeepsLies D.surely_lies D.faults self.old.disk self.new.disk }
     {
         let id = self.next_wait;
         let queued = step(&mut self.core, &mut self.env, Step::Wait { flusher, id });
@@ -173,6 +189,8 @@ where
         ensures lent { self.new.env.reinsertion ≡ self.old.env.reinsertion }
         ensures io { self.new.env.io ≡ self.old.env.io }
         ensures hasher { self.new.hasher ≡ self.old.hasher }
+        ensures refused { IfErr result (λ e. is_wait_error e ≡ true) }
+        ensures counts { KeepsLies D.surely_lies D.faults self.old.disk self.new.disk }
     {
         self.queue_wait(flusher)?;
         self.flush_waiting(flusher)
@@ -191,6 +209,8 @@ where
         ensures lent { self.new.env.reinsertion ≡ self.old.env.reinsertion }
         ensures io { self.new.env.io ≡ self.old.env.io }
         ensures hasher { self.new.hasher ≡ self.old.hasher }
+        ensures refused { IfErr result (λ e. is_wait_error e ≡ true) }
+        ensures counts { KeepsLies D.surely_lies D.faults self.old.disk self.new.disk }
     {
         let mut has_ended = false;
         for _ in 0..u64::MAX {
@@ -222,6 +242,8 @@ where
         ensures lent { self.new.env.reinsertion ≡ self.old.env.reinsertion }
         ensures io { self.new.env.io ≡ self.old.env.io }
         ensures hasher { self.new.hasher ≡ self.old.hasher }
+        ensures refused { IfErr result (λ e. is_wait_error e ≡ true) }
+        ensures counts { KeepsLies D.surely_lies D.faults self.old.disk self.new.disk }
     {
         for _ in 0..u64::MAX {
             let received = step(&mut self.core, &mut self.env, Step::Receive { flusher });
@@ -246,6 +268,8 @@ where
         ensures lent { self.new.env.reinsertion ≡ self.old.env.reinsertion }
         ensures io { self.new.env.io ≡ self.old.env.io }
         ensures hasher { self.new.hasher ≡ self.old.hasher }
+        ensures refused { IfErr result (λ e. is_wait_error e ≡ true) }
+        ensures counts { KeepsLies D.surely_lies D.faults self.old.disk self.new.disk }
     {
         for _ in 0..u64::MAX {
             if !self.write_next(flusher)? {
@@ -266,6 +290,8 @@ where
         ensures lent { self.new.env.reinsertion ≡ self.old.env.reinsertion }
         ensures io { self.new.env.io ≡ self.old.env.io }
         ensures hasher { self.new.hasher ≡ self.old.hasher }
+        ensures refused { IfErr result (λ e. is_wait_error e ≡ true) }
+        ensures counts { KeepsLies D.surely_lies D.faults self.old.disk self.new.disk }
     {
         let wrote = write_block(&mut self.core, &mut self.env, &mut self.disk, flusher);
         match answer_block(wrote) {
@@ -285,6 +311,8 @@ where
         ensures lent { self.new.env.reinsertion ≡ self.old.env.reinsertion }
         ensures io { self.new.env.io ≡ self.old.env.io }
         ensures hasher { self.new.hasher ≡ self.old.hasher }
+        ensures refused { IfErr result (λ e. is_wait_error e ≡ true) }
+        ensures counts { KeepsLies D.surely_lies D.faults self.old.disk self.new.disk }
     {
         match self.reclaim() {
             Ok(false) => Err(Error::NoSpace),
@@ -304,6 +332,8 @@ where
         ensures lent { self.new.env.reinsertion ≡ self.old.env.reinsertion }
         ensures io { self.new.env.io ≡ self.old.env.io }
         ensures hasher { self.new.hasher ≡ self.old.hasher }
+        ensures refused { IfErr result (λ e. is_wait_error e ≡ true) }
+        ensures counts { KeepsLies D.surely_lies D.faults self.old.disk self.new.disk }
     {
         if self.rereads > 0 {
             self.rereads -= 1;
@@ -325,6 +355,8 @@ where
         ensures lent { self.new.env.reinsertion ≡ self.old.env.reinsertion }
         ensures io { self.new.env.io ≡ self.old.env.io }
         ensures hasher { self.new.hasher ≡ self.old.hasher }
+        ensures refused { IfErr result (λ e. is_wait_error e ≡ true) }
+        ensures counts { KeepsLies D.surely_lies D.faults self.old.disk self.new.disk }
     {
         answer_step(reclaim_block(&mut self.core, &mut self.env, &mut self.disk))
     }
@@ -336,6 +368,7 @@ where
             self.old.core self.new.core (D.byte_at self.old.disk) (D.byte_at self.new.disk) }
         ensures lent { (self.new.env.reinsertion ≡ self.old.env.reinsertion) × (self.new.env.io ≡ self.old.env.io) }
         ensures hasher { self.new.hasher ≡ self.old.hasher }
+        ensures counts { KeepsLies D.surely_lies D.faults self.old.disk self.new.disk }
     {
         for _ in 0..u64::MAX {
             match self.reclaim() {

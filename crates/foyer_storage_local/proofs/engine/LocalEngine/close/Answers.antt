@@ -33,3 +33,9 @@ returns-clause-rest g c =
     IfOk-weaker c.flush_queued.result _ _ (λ done led. comes_to_rest m c.args.self.now.core c.flush_queued.new.self.core
     (leads_more m IsAny LeavesAllIdle LeavesAllIdle c.args.self.now.core c.step-closed.new.core c.flush_queued.new.self.core (λ x y z one two. two)
     (step_leads m step.Close c.step-closed.result c.args.self.now.core c.step-closed.new.core c.step-closed.ensures.meets) led)) c.flush_queued.ensures.leads
+
+pub returns-clause-lies : goal.returns-clause-lies
+returns-clause-lies g c = (c.flush_queued.ensures.counts).0
+
+pub returns-clause-counted : goal.returns-clause-counted
+returns-clause-counted g c = (c.flush_queued.ensures.counts).1

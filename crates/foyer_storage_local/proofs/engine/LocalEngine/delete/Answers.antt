@@ -1,7 +1,9 @@
-use Rattle.std.proofs.Common.{refl, subst}
+use Rattle.std.proofs.Common.{refl, sym, subst}
 use Rattle.foyer_core_laws.specs.Content.{meaning}
 use Rattle.foyer_core_run.specs.declared.moves.Move.TheVariants as move
-use Rattle.foyer_storage_local.specs.EntryCalls.{IsHashDeleted}
+use Rattle.foyer_storage_local.specs.EntryCalls.{IsHashDeleted, IsRefusedOnlyAs}
+use Rattle.foyer_storage_local.specs.StepAnswers.{is_draw_error}
+use Rattle.foyer_storage_local.proofs.RefusedSteps.{delete_refused_as}
 use Rattle.foyer_storage_local.proofs.engine.LocalEngine.delete.Goals as goal
 
 pub returns-clause-says : goal.returns-clause-says
@@ -13,3 +15,9 @@ returns-clause-says g c =
 
 pub returns-clause-driven : goal.returns-clause-driven
 returns-clause-driven g c = c.step.ensures.drives _
+
+pub returns-clause-refused : goal.returns-clause-refused
+returns-clause-refused g c =
+    let m = meaning g.K.Code.encoding g.V.Code.encoding g.K.Code.is_encodable g.V.Code.is_encodable g.K.Code.is_decodable g.V.Code.is_decodable g.P.Properties.age in
+    subst (λ r. IsRefusedOnlyAs m is_draw_error c.args.self.now.core r) (sym c.answer_delete.ensures)
+    (delete_refused_as m c.hash_one-hash.result c.step.result c.args.self.now.core c.step.new.core c.step.ensures.meets)

@@ -1,14 +1,16 @@
-use Rattle.std.proofs.Common.{◌≡◌, Ok, refl, rules}
-use Rattle.std.specs.Prelude.{IsErr}
+use Rattle.std.proofs.Common.{◌≡◌, true, Ok, refl, rules}
+use Rattle.std.specs.Prelude.{IfErr, IsErr}
 use Rattle.foyer_core_run.specs.declared.moves.Move.TheVariants as move
 use Rattle.foyer_core_run.proofs.DestroyLemmas.{destroys_begun, destroys_if, destroys_waiting}
+use Rattle.foyer_core_run.proofs.OpenedRuns.{err_weakens}
 use Rattle.foyer_core_laws.specs.Content.{meaning}
-use Rattle.foyer_storage_local.proofs.LocalAnswers.{refused_not_ok}
-use Rattle.foyer_storage_local.proofs.LocalRuns.{known_destroys}
+use Rattle.foyer_storage_local.specs.StepAnswers.{is_wait_error}
+use Rattle.foyer_storage_local.proofs.LocalAnswers.{refused_not_ok, wait_destroys}
+use Rattle.foyer_storage_local.proofs.LocalRuns.{known_destroys, lies_more}
 use Rattle.foyer_storage_local.proofs.engine.LocalEngine.destroy.Goals as goal
 
-pub returns-in_err-answer_step-clause-destroyed : goal.returns-in_err-answer_step-clause-destroyed
-returns-in_err-answer_step-clause-destroyed g c =
+pub returns-in_err-answer_begun-clause-destroyed : goal.returns-in_err-answer_begun-clause-destroyed
+returns-in_err-answer_begun-clause-destroyed g c =
     let m = meaning g.K.Code.encoding g.V.Code.encoding g.K.Code.is_encodable g.V.Code.is_encodable g.K.Code.is_decodable g.V.Code.is_decodable g.P.Properties.age in
     λ known.
     let bytes = g.D.Disk.byte_at c.args.self.now.disk in (
@@ -41,3 +43,23 @@ returns-clause-destroyed g c =
     (λ known. (known, destroys_begun m c.step-begun.result c.args.self.now.core c.step-begun.new.core bytes (c.step-begun.ensures.runs move.DestroyBegin refl bytes)))
     (λ known. let waited = c.flush_until_done.ensures.waited known in (waited.0, destroys_waiting m c.step-begun.new.core flushed bytes after waited.1)))
     c.clear.ensures.destroyed
+
+pub returns-in_err-flush_until_done-clause-lies : goal.returns-in_err-flush_until_done-clause-lies
+returns-in_err-flush_until_done-clause-lies g c = (c.flush_until_done.ensures.counts).0
+
+pub returns-clause-lies : goal.returns-clause-lies
+returns-clause-lies g c = (lies_more g.D.Disk.surely_lies g.D.Disk.faults c.args.self.now.disk c.flush_until_done.new.self.disk c.clear.new.self.disk c.flush_until_done.ensures.counts c.clear.ensures.counts).0
+
+pub returns-in_err-flush_until_done-clause-counted : goal.returns-in_err-flush_until_done-clause-counted
+returns-in_err-flush_until_done-clause-counted g c = (c.flush_until_done.ensures.counts).1
+
+pub returns-clause-counted : goal.returns-clause-counted
+returns-clause-counted g c = (lies_more g.D.Disk.surely_lies g.D.Disk.faults c.args.self.now.disk c.flush_until_done.new.self.disk c.clear.new.self.disk c.flush_until_done.ensures.counts c.clear.ensures.counts).1
+
+pub returns-in_err-flush_until_done-clause-refused : goal.returns-in_err-flush_until_done-clause-refused
+returns-in_err-flush_until_done-clause-refused g c =
+    let waits : IfErr c.from_residual-in_err-flush_until_done.result (λ e. is_wait_error e ≡ true) = search rules in
+    err_weakens c.from_residual-in_err-flush_until_done.result _ _ (λ e is. wait_destroys e is) waits
+
+pub returns-clause-refused : goal.returns-clause-refused
+returns-clause-refused g c = err_weakens c.clear.result _ _ (λ e is. wait_destroys e is) c.clear.ensures.refused

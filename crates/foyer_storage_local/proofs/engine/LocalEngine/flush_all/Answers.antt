@@ -1,7 +1,7 @@
 use Rattle.std.proofs.Common.{◌≡◌, ◌+◌, refl, sym, ap, subst, ◌∙◌, arith}
 use Rattle.foyer_core_run.specs.AtRest.{Leads, LeavesIdle, LeavesIdleBelow}
 use Rattle.foyer_core_run.proofs.IdleLemmas.{still_idle}
-use Rattle.foyer_storage_local.proofs.LocalRuns.{left_alone}
+use Rattle.foyer_storage_local.proofs.LocalRuns.{left_alone, lies_more, lies_none}
 use Rattle.foyer_core_run.proofs.RestLemmas.{all_idle, flusher_more, leads_none}
 use Rattle.foyer_core_run.proofs.WaitingLemmas.{known_more, known_none}
 use Rattle.foyer_core_laws.specs.Content.{meaning}
@@ -15,6 +15,7 @@ loop-flusher-init g c =
       refl,
       refl,
       refl,
+      lies_none g.D.Disk.surely_lies g.D.Disk.faults c.args.self.now.disk,
     )
 
 pub returns-in_err-flush-clause-waited : goal.returns-in_err-flush-clause-waited
@@ -31,6 +32,7 @@ loop-flusher-preserved g c =
       c.flush.ensures.lent ∙ c.loop-flusher.invariant.2,
       c.flush.ensures.io ∙ c.loop-flusher.invariant.3,
       c.flush.ensures.hasher ∙ c.loop-flusher.invariant.4,
+      lies_more g.D.Disk.surely_lies g.D.Disk.faults c.args.self.now.disk c.loop-flusher.self.disk c.flush.new.self.disk c.loop-flusher.invariant.5 c.flush.ensures.counts,
     )
 
 pub loop-flusher-preserved-then-is_idle : goal.loop-flusher-preserved-then-is_idle
@@ -42,6 +44,7 @@ loop-flusher-preserved-then-is_idle g c =
       c.loop-flusher.invariant.2,
       c.loop-flusher.invariant.3,
       c.loop-flusher.invariant.4,
+      c.loop-flusher.invariant.5,
     )
 
 pub returns-clause-leads : goal.returns-clause-leads
@@ -63,3 +66,9 @@ returns-clause-io g c = c.loop-flusher.invariant.3
 
 pub returns-clause-hasher : goal.returns-clause-hasher
 returns-clause-hasher g c = c.loop-flusher.invariant.4
+
+pub returns-in_err-flush-clause-counts : goal.returns-in_err-flush-clause-counts
+returns-in_err-flush-clause-counts g c = lies_more g.D.Disk.surely_lies g.D.Disk.faults c.args.self.now.disk c.loop-flusher.self.disk c.flush.new.self.disk c.loop-flusher.invariant.5 c.flush.ensures.counts
+
+pub returns-clause-counts : goal.returns-clause-counts
+returns-clause-counts g c = c.loop-flusher.invariant.5

@@ -6,6 +6,7 @@ use Rattle.foyer_core_run.proofs.RestLemmas.{flush_more, flush_over, leads_none}
 use Rattle.foyer_core_run.proofs.WaitingLemmas.{known_more, known_none, known_said}
 use Rattle.foyer_core_laws.specs.Content.{meaning}
 use Rattle.foyer_storage_local.proofs.LocalAnswers.{done_nothing, done_something}
+use Rattle.foyer_storage_local.proofs.LocalRuns.{lies_more, lies_none}
 use Rattle.foyer_storage_local.proofs.engine.LocalEngine.flush_waiting.Goals as goal
 
 pub loop-init : goal.loop-init
@@ -16,6 +17,7 @@ loop-init g c =
       refl,
       refl,
       refl,
+      lies_none g.D.Disk.surely_lies g.D.Disk.faults c.args.self.now.disk,
     )
 
 pub returns-in_err-is_empty-clause-waited : goal.returns-in_err-is_empty-clause-waited
@@ -38,7 +40,7 @@ returns-then-not-has_begun-clause-waited g c =
 pub returns-then-not-has_begun-clause-leads : goal.returns-then-not-has_begun-clause-leads
 returns-then-not-has_begun-clause-leads g c =
     let m = meaning g.K.Code.encoding g.V.Code.encoding g.K.Code.is_encodable g.V.Code.is_encodable g.K.Code.is_decodable g.V.Code.is_decodable g.P.Properties.age in
-    let nothing = done_nothing c.begin_batch-begin.result c.in_ok-has_begun.has_begun (sym c.answer_step.ensures ∙ c.in_ok-has_begun.was) c.if-not-has_begun.true in
+    let nothing = done_nothing c.begin_batch-begin.result c.in_ok-has_begun.has_begun (sym c.answer_step.ensures.says ∙ c.in_ok-has_begun.was) c.if-not-has_begun.true in
     flush_over m c.args.self.now.env.reinsertion c.args.flusher c.loop.has_ended c.in_ok-is_empty.is_empty c.args.self.now.core c.loop.self.core c.receive_all.new.self.core c.begin_batch-begin.new.core
     c.loop.invariant.1 c.in_ok-is_empty.ensures.leads c.begin_batch-begin.result c.if-has_ended.true c.if-is_empty.true nothing
     (c.begin_batch-begin.ensures.alone (nothing_begins c.begin_batch-begin.result nothing))
@@ -76,11 +78,12 @@ loop-preserved g c =
       known_more m c.args.self.now.core c.write_all.new.self.core c.step-end.new.core (g.D.Disk.byte_at c.args.self.now.disk) (g.D.Disk.byte_at c.write_all.new.self.disk) (g.D.Disk.byte_at c.write_all.new.self.disk) written (known_said m (g.D.Disk.is_known c.write_all.new.self.disk) (move.FlushEnd c.args.flusher) c.step-end.result c.write_all.new.self.core c.step-end.new.core (g.D.Disk.byte_at c.write_all.new.self.disk) tt (c.step-end.ensures.runs (move.FlushEnd c.args.flusher) refl (g.D.Disk.byte_at c.write_all.new.self.disk))),
       flush_more m c.args.self.now.env.reinsertion c.args.flusher c.loop.has_ended c.in_ok-is_empty.is_empty c.args.self.now.core c.loop.self.core c.receive_all.new.self.core c.begin_batch-begin.new.core
           c.loop.invariant.1 c.in_ok-is_empty.ensures.leads c.begin_batch-begin.ensures.keeps c.step-end.result c.write_all.new.self.core c.step-end.new.core
-          (done_something c.step-end.result c.in_ok-answer_step.field-0 (sym c.answer_step-in-loop.ensures ∙ c.in_ok-answer_step.was) c.if-not-branch.false)
+          (done_something c.step-end.result c.in_ok-answer_step.field-0 (sym c.answer_step-in-loop.ensures.says ∙ c.in_ok-answer_step.was) c.if-not-branch.false)
           (subst (λ k. Leads m (KeepsOthersIdle k c.args.flusher) c.begin_batch-begin.new.core c.write_all.new.self.core) still c.in_ok-write_all.ensures.leads) c.step-end.ensures.meets,
       c.step-end.ensures.lent.0 ∙ c.write_all.ensures.lent ∙ still,
       c.step-end.ensures.lent.1 ∙ c.write_all.ensures.io ∙ c.begin_batch-begin.ensures.lent.1 ∙ c.receive_all.ensures.io ∙ c.loop.invariant.3,
       c.write_all.ensures.hasher ∙ c.receive_all.ensures.hasher ∙ c.loop.invariant.4,
+      lies_more g.D.Disk.surely_lies g.D.Disk.faults c.args.self.now.disk c.receive_all.new.self.disk c.write_all.new.self.disk (lies_more g.D.Disk.surely_lies g.D.Disk.faults c.args.self.now.disk c.loop.self.disk c.receive_all.new.self.disk c.loop.invariant.5 c.receive_all.ensures.counts) c.write_all.ensures.counts,
     )
 
 pub returns-clause-waited : goal.returns-clause-waited
@@ -94,3 +97,24 @@ returns-clause-io g c = c.loop.invariant.3
 
 pub returns-clause-hasher : goal.returns-clause-hasher
 returns-clause-hasher g c = c.loop.invariant.4
+
+pub returns-in_err-is_empty-clause-counts : goal.returns-in_err-is_empty-clause-counts
+returns-in_err-is_empty-clause-counts g c = lies_more g.D.Disk.surely_lies g.D.Disk.faults c.args.self.now.disk c.loop.self.disk c.receive_all.new.self.disk c.loop.invariant.5 c.receive_all.ensures.counts
+
+pub returns-in_err-has_begun-clause-counts : goal.returns-in_err-has_begun-clause-counts
+returns-in_err-has_begun-clause-counts g c = lies_more g.D.Disk.surely_lies g.D.Disk.faults c.args.self.now.disk c.loop.self.disk c.receive_all.new.self.disk c.loop.invariant.5 c.receive_all.ensures.counts
+
+pub returns-then-not-has_begun-clause-counts : goal.returns-then-not-has_begun-clause-counts
+returns-then-not-has_begun-clause-counts g c = lies_more g.D.Disk.surely_lies g.D.Disk.faults c.args.self.now.disk c.loop.self.disk c.receive_all.new.self.disk c.loop.invariant.5 c.receive_all.ensures.counts
+
+pub returns-in_err-write_all-clause-counts : goal.returns-in_err-write_all-clause-counts
+returns-in_err-write_all-clause-counts g c = lies_more g.D.Disk.surely_lies g.D.Disk.faults c.args.self.now.disk c.receive_all.new.self.disk c.write_all.new.self.disk (lies_more g.D.Disk.surely_lies g.D.Disk.faults c.args.self.now.disk c.loop.self.disk c.receive_all.new.self.disk c.loop.invariant.5 c.receive_all.ensures.counts) c.write_all.ensures.counts
+
+pub returns-in_err-answer_step-clause-counts : goal.returns-in_err-answer_step-clause-counts
+returns-in_err-answer_step-clause-counts g c = lies_more g.D.Disk.surely_lies g.D.Disk.faults c.args.self.now.disk c.receive_all.new.self.disk c.write_all.new.self.disk (lies_more g.D.Disk.surely_lies g.D.Disk.faults c.args.self.now.disk c.loop.self.disk c.receive_all.new.self.disk c.loop.invariant.5 c.receive_all.ensures.counts) c.write_all.ensures.counts
+
+pub returns-then-not-branch-clause-counts : goal.returns-then-not-branch-clause-counts
+returns-then-not-branch-clause-counts g c = lies_more g.D.Disk.surely_lies g.D.Disk.faults c.args.self.now.disk c.receive_all.new.self.disk c.write_all.new.self.disk (lies_more g.D.Disk.surely_lies g.D.Disk.faults c.args.self.now.disk c.loop.self.disk c.receive_all.new.self.disk c.loop.invariant.5 c.receive_all.ensures.counts) c.write_all.ensures.counts
+
+pub returns-clause-counts : goal.returns-clause-counts
+returns-clause-counts g c = c.loop.invariant.5

@@ -1,6 +1,8 @@
 use Rattle.std.proofs.Common.{Ok, Err, refl, sym, ap, subst}
+use Rattle.foyer_io_disk.specs.Disk.{SurelyCame}
 use Rattle.foyer_core_laws.specs.Content.{meaning}
-use Rattle.foyer_storage_local.specs.EntryCalls.{IsHashLoadedOrRefused, IsHashMissedForCause, IsKeyLoaded, IsKeyMissedForCause, IsNewestOfHash, IsNewestOfKey, IsThrottledIfSaid}
+use Rattle.foyer_storage_local.specs.EntryCalls.{IsHashLoadedOrRefused, IsHashMissedForCause, IsIoForCause, IsKeyLoaded, IsKeyMissedForCause, IsNewestOfHash, IsNewestOfKey, IsRefusedOnlyAs, IsThrottledIfSaid}
+use Rattle.foyer_storage_local.specs.StepAnswers.{is_load_error}
 use Rattle.foyer_storage_local.proofs.LocalAnswers.{missed_of_key, newest_of_key, throttled_of_key}
 use Rattle.foyer_storage_local.proofs.engine.LocalEngine.load.Goals as goal
 
@@ -69,3 +71,22 @@ returns-in-Err-clause-says g c = λ known.
     let loaded = subst (λ r. IsHashLoadedOrRefused m c.hash_one-hash.result c.args.throttled c.args.self.now.core c.load_hash.new.self.core bytes after r) c.in-Err.is (c.load_hash.ensures.says known) in
     subst (λ h. IsKeyLoaded m g.K.PartialEq.eq c.args.key.now h c.args.throttled c.args.self.now.core c.load_hash.new.self.core bytes after (Err c.in-Err.error)) c.hash_one-hash.ensures
     (record { found = Err c.in-Err.error; loaded = loaded; is = refl })
+
+pub returns-in-Ok-clause-honest : goal.returns-in-Ok-clause-honest
+returns-in-Ok-clause-honest g c = λ is s valid it at. absurd cc
+
+pub returns-in-Err-clause-honest : goal.returns-in-Err-clause-honest
+returns-in-Err-clause-honest g c =
+    let m = meaning g.K.Code.encoding g.V.Code.encoding g.K.Code.is_encodable g.V.Code.is_encodable g.K.Code.is_decodable g.V.Code.is_decodable g.P.Properties.age in
+    let core = c.args.self.now.core in
+    let came = SurelyCame (g.D.Disk.surely_has c.args.self.now.disk) (g.D.Disk.surely_lies c.args.self.now.disk) (g.D.Disk.faults c.args.self.now.disk) (g.D.Disk.faults c.load_hash.new.self.disk) in
+    subst (λ h. IsIoForCause m h came core (Err c.in-Err.error)) c.hash_one-hash.ensures
+    (subst (λ r. IsIoForCause m c.hash_one-hash.result came core r) c.in-Err.is c.load_hash.ensures.honest)
+
+pub returns-in-Ok-clause-refused : goal.returns-in-Ok-clause-refused
+returns-in-Ok-clause-refused g c = λ known s valid it at. tt
+
+pub returns-in-Err-clause-refused : goal.returns-in-Err-clause-refused
+returns-in-Err-clause-refused g c = λ known.
+    let m = meaning g.K.Code.encoding g.V.Code.encoding g.K.Code.is_encodable g.V.Code.is_encodable g.K.Code.is_decodable g.V.Code.is_decodable g.P.Properties.age in
+    subst (λ r. IsRefusedOnlyAs m is_load_error c.args.self.now.core r) c.in-Err.is (c.load_hash.ensures.refused known)

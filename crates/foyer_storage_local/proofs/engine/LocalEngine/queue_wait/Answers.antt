@@ -3,6 +3,7 @@ use Rattle.foyer_core_run.specs.declared.moves.Move.TheVariants as move
 use Rattle.foyer_core_run.proofs.RestLemmas.{wait_keeps}
 use Rattle.foyer_core_run.proofs.WaitingLemmas.{known_said}
 use Rattle.foyer_core_laws.specs.Content.{meaning}
+use Rattle.foyer_storage_local.proofs.LocalRuns.{lies_none}
 use Rattle.foyer_storage_local.proofs.engine.LocalEngine.queue_wait.Goals as goal
 
 pub returns-in_err-answer_step-clause-leads : goal.returns-in_err-answer_step-clause-leads
@@ -26,3 +27,9 @@ returns-clause-waited g c =
     let m = meaning g.K.Code.encoding g.V.Code.encoding g.K.Code.is_encodable g.V.Code.is_encodable g.K.Code.is_decodable g.V.Code.is_decodable g.P.Properties.age in
     known_said m (g.D.Disk.is_known c.args.self.now.disk) (move.Wait c.args.flusher c.args.self.now.next_wait) c.step-queued.result c.args.self.now.core c.step-queued.new.core (g.D.Disk.byte_at c.args.self.now.disk) tt
     (c.step-queued.ensures.runs (move.Wait c.args.flusher c.args.self.now.next_wait) refl (g.D.Disk.byte_at c.args.self.now.disk))
+
+pub returns-in_err-answer_step-clause-counts : goal.returns-in_err-answer_step-clause-counts
+returns-in_err-answer_step-clause-counts g c = lies_none g.D.Disk.surely_lies g.D.Disk.faults c.args.self.now.disk
+
+pub returns-clause-counts : goal.returns-clause-counts
+returns-clause-counts g c = lies_none g.D.Disk.surely_lies g.D.Disk.faults c.args.self.now.disk

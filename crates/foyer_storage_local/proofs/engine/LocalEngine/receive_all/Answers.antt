@@ -6,6 +6,7 @@ use Rattle.foyer_core_run.proofs.RestLemmas.{leads_none, receive_more, receive_o
 use Rattle.foyer_core_run.proofs.WaitingLemmas.{known_more, known_none, known_said}
 use Rattle.foyer_core_laws.specs.Content.{meaning}
 use Rattle.foyer_storage_local.proofs.LocalAnswers.{done_nothing}
+use Rattle.foyer_storage_local.proofs.LocalRuns.{lies_none}
 use Rattle.foyer_storage_local.proofs.engine.LocalEngine.receive_all.Goals as goal
 
 pub loop-init : goal.loop-init
@@ -16,6 +17,7 @@ loop-init g c =
       refl,
       refl,
       refl,
+      lies_none g.D.Disk.surely_lies g.D.Disk.faults c.args.self.now.disk,
     )
 
 pub returns-in_err-answer_step-clause-waited : goal.returns-in_err-answer_step-clause-waited
@@ -28,7 +30,7 @@ returns-then-not-branch-clause-leads g c =
     let m = meaning g.K.Code.encoding g.V.Code.encoding g.K.Code.is_encodable g.V.Code.is_encodable g.K.Code.is_decodable g.V.Code.is_decodable g.P.Properties.age in
     takes_all m c.args.flusher c.args.self.now.core c.step-received.new.core
     (receive_over m c.args.flusher c.args.self.now.core c.loop.self.core c.step-received.new.core c.step-received.result
-    (done_nothing c.step-received.result c.in_ok-answer_step.field-0 (sym c.answer_step.ensures ∙ c.in_ok-answer_step.was) c.if-not-branch.true)
+    (done_nothing c.step-received.result c.in_ok-answer_step.field-0 (sym c.answer_step.ensures.says ∙ c.in_ok-answer_step.was) c.if-not-branch.true)
     c.loop.invariant.1 c.step-received.ensures.meets)
 
 pub returns-then-wants_flush-clause-leads : goal.returns-then-wants_flush-clause-leads
@@ -55,6 +57,7 @@ loop-preserved g c =
       c.step-received.ensures.lent.0 ∙ c.loop.invariant.2,
       c.step-received.ensures.lent.1 ∙ c.loop.invariant.3,
       c.loop.invariant.4,
+      c.loop.invariant.5,
     )
 
 pub returns-clause-waited : goal.returns-clause-waited
@@ -68,3 +71,15 @@ returns-clause-io g c = c.loop.invariant.3
 
 pub returns-clause-hasher : goal.returns-clause-hasher
 returns-clause-hasher g c = c.loop.invariant.4
+
+pub returns-in_err-answer_step-clause-counts : goal.returns-in_err-answer_step-clause-counts
+returns-in_err-answer_step-clause-counts g c = c.loop.invariant.5
+
+pub returns-then-not-branch-clause-counts : goal.returns-then-not-branch-clause-counts
+returns-then-not-branch-clause-counts g c = c.loop.invariant.5
+
+pub returns-then-wants_flush-clause-counts : goal.returns-then-wants_flush-clause-counts
+returns-then-wants_flush-clause-counts g c = c.loop.invariant.5
+
+pub returns-clause-counts : goal.returns-clause-counts
+returns-clause-counts g c = c.loop.invariant.5

@@ -9,3 +9,6 @@ returns-clause-waited g c =
       c.reclaim_block.ensures.known known,
       reclaims_wait m c.reclaim_block.result c.args.self.now.core c.reclaim_block.new.core (g.D.Disk.byte_at c.args.self.now.disk) (g.D.Disk.byte_at c.reclaim_block.new.disk) (c.reclaim_block.ensures.reclaims known),
     )
+
+pub returns-clause-counts : goal.returns-clause-counts
+returns-clause-counts g c = (c.reclaim_block.ensures.lies, c.reclaim_block.ensures.counted)

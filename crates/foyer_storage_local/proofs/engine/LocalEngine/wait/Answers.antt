@@ -1,13 +1,13 @@
 use Rattle.std.proofs.Common.{refl, ◌∙◌}
 use Rattle.foyer_core_run.proofs.WaitingLemmas.{known_more, known_none}
 use Rattle.foyer_core_laws.specs.Content.{meaning}
-use Rattle.foyer_storage_local.proofs.LocalRuns.{rests}
+use Rattle.foyer_storage_local.proofs.LocalRuns.{lies_more, lies_none, rests}
 use Rattle.foyer_storage_local.proofs.engine.LocalEngine.wait.Goals as goal
 
 pub loop-init : goal.loop-init
 loop-init g c =
     let m = meaning g.K.Code.encoding g.V.Code.encoding g.K.Code.is_encodable g.V.Code.is_encodable g.K.Code.is_decodable g.V.Code.is_decodable g.P.Properties.age in
-    (known_none m (g.D.Disk.is_known c.args.self.now.disk) c.args.self.now.core (g.D.Disk.byte_at c.args.self.now.disk), refl, refl, refl)
+    (known_none m (g.D.Disk.is_known c.args.self.now.disk) c.args.self.now.core (g.D.Disk.byte_at c.args.self.now.disk), refl, refl, refl, lies_none g.D.Disk.surely_lies g.D.Disk.faults c.args.self.now.disk)
 
 pub returns-in_err-settle-clause-waited : goal.returns-in_err-settle-clause-waited
 returns-in_err-settle-clause-waited g c =
@@ -36,6 +36,7 @@ loop-preserved g c =
       c.keep_clean.ensures.lent.0 ∙ c.settle.ensures.lent.0 ∙ c.loop.invariant.1,
       c.keep_clean.ensures.lent.1 ∙ c.settle.ensures.lent.1 ∙ c.loop.invariant.2,
       c.keep_clean.ensures.hasher ∙ c.settle.ensures.hasher ∙ c.loop.invariant.3,
+      lies_more g.D.Disk.surely_lies g.D.Disk.faults c.args.self.now.disk c.settle.new.self.disk c.keep_clean.new.self.disk (lies_more g.D.Disk.surely_lies g.D.Disk.faults c.args.self.now.disk c.loop.self.disk c.settle.new.self.disk c.loop.invariant.4 c.settle.ensures.counts) c.keep_clean.ensures.counts,
     )
 
 pub returns-clause-waited : goal.returns-clause-waited
@@ -52,3 +53,21 @@ returns-clause-lent g c = (c.loop.invariant.1, c.loop.invariant.2)
 
 pub returns-clause-hasher : goal.returns-clause-hasher
 returns-clause-hasher g c = c.loop.invariant.3
+
+pub returns-in_err-settle-clause-lies : goal.returns-in_err-settle-clause-lies
+returns-in_err-settle-clause-lies g c = (lies_more g.D.Disk.surely_lies g.D.Disk.faults c.args.self.now.disk c.loop.self.disk c.settle.new.self.disk c.loop.invariant.4 c.settle.ensures.counts).0
+
+pub returns-then-is_at_rest-clause-lies : goal.returns-then-is_at_rest-clause-lies
+returns-then-is_at_rest-clause-lies g c = (lies_more g.D.Disk.surely_lies g.D.Disk.faults c.args.self.now.disk c.settle.new.self.disk c.keep_clean.new.self.disk (lies_more g.D.Disk.surely_lies g.D.Disk.faults c.args.self.now.disk c.loop.self.disk c.settle.new.self.disk c.loop.invariant.4 c.settle.ensures.counts) c.keep_clean.ensures.counts).0
+
+pub returns-clause-lies : goal.returns-clause-lies
+returns-clause-lies g c = (c.loop.invariant.4).0
+
+pub returns-in_err-settle-clause-counted : goal.returns-in_err-settle-clause-counted
+returns-in_err-settle-clause-counted g c = (lies_more g.D.Disk.surely_lies g.D.Disk.faults c.args.self.now.disk c.loop.self.disk c.settle.new.self.disk c.loop.invariant.4 c.settle.ensures.counts).1
+
+pub returns-then-is_at_rest-clause-counted : goal.returns-then-is_at_rest-clause-counted
+returns-then-is_at_rest-clause-counted g c = (lies_more g.D.Disk.surely_lies g.D.Disk.faults c.args.self.now.disk c.settle.new.self.disk c.keep_clean.new.self.disk (lies_more g.D.Disk.surely_lies g.D.Disk.faults c.args.self.now.disk c.loop.self.disk c.settle.new.self.disk c.loop.invariant.4 c.settle.ensures.counts) c.keep_clean.ensures.counts).1
+
+pub returns-clause-counted : goal.returns-clause-counted
+returns-clause-counted g c = (c.loop.invariant.4).1

@@ -3,7 +3,7 @@ use Rattle.foyer_core_run.specs.AtRest.{KeepsOthersIdle}
 use Rattle.foyer_core_run.proofs.RestLemmas.{leads_none}
 use Rattle.foyer_core_run.proofs.WaitingLemmas.{known_more, known_none}
 use Rattle.foyer_core_laws.specs.Content.{meaning}
-use Rattle.foyer_storage_local.proofs.LocalRuns.{others_more}
+use Rattle.foyer_storage_local.proofs.LocalRuns.{lies_more, lies_none, others_more}
 use Rattle.foyer_storage_local.proofs.engine.LocalEngine.write_all.Goals as goal
 
 pub loop-init : goal.loop-init
@@ -14,6 +14,7 @@ loop-init g c =
       refl,
       refl,
       refl,
+      lies_none g.D.Disk.surely_lies g.D.Disk.faults c.args.self.now.disk,
     )
 
 pub returns-in_err-write_next-clause-waited : goal.returns-in_err-write_next-clause-waited
@@ -39,6 +40,7 @@ loop-preserved g c =
       c.write_next.ensures.lent ∙ c.loop.invariant.2,
       c.write_next.ensures.io ∙ c.loop.invariant.3,
       c.write_next.ensures.hasher ∙ c.loop.invariant.4,
+      lies_more g.D.Disk.surely_lies g.D.Disk.faults c.args.self.now.disk c.loop.self.disk c.write_next.new.self.disk c.loop.invariant.5 c.write_next.ensures.counts,
     )
 
 pub returns-clause-waited : goal.returns-clause-waited
@@ -52,3 +54,12 @@ returns-clause-io g c = c.loop.invariant.3
 
 pub returns-clause-hasher : goal.returns-clause-hasher
 returns-clause-hasher g c = c.loop.invariant.4
+
+pub returns-in_err-write_next-clause-counts : goal.returns-in_err-write_next-clause-counts
+returns-in_err-write_next-clause-counts g c = lies_more g.D.Disk.surely_lies g.D.Disk.faults c.args.self.now.disk c.loop.self.disk c.write_next.new.self.disk c.loop.invariant.5 c.write_next.ensures.counts
+
+pub returns-then-not-branch-clause-counts : goal.returns-then-not-branch-clause-counts
+returns-then-not-branch-clause-counts g c = lies_more g.D.Disk.surely_lies g.D.Disk.faults c.args.self.now.disk c.loop.self.disk c.write_next.new.self.disk c.loop.invariant.5 c.write_next.ensures.counts
+
+pub returns-clause-counts : goal.returns-clause-counts
+returns-clause-counts g c = c.loop.invariant.5

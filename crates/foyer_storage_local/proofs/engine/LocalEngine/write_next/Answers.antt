@@ -1,7 +1,6 @@
-use Rattle.std.proofs.Common.{refl}
 use Rattle.foyer_core_run.proofs.WaitingLemmas.{known_more, known_wrote}
 use Rattle.foyer_core_laws.specs.Content.{meaning}
-use Rattle.foyer_storage_local.proofs.LocalRuns.{written_alone, written_reclaimed}
+use Rattle.foyer_storage_local.proofs.LocalRuns.{lies_more, written_alone, written_reclaimed}
 use Rattle.foyer_storage_local.proofs.engine.LocalEngine.write_next.Goals as goal
 
 pub returns-in-Err-NoSpace-clause-leads : goal.returns-in-Err-NoSpace-clause-leads
@@ -17,16 +16,15 @@ returns-in-Err-NoSpace-clause-waited g c =
     (known_wrote m c.args.flusher c.write_block-wrote.result c.args.self.now.core c.write_block-wrote.new.core (g.D.Disk.byte_at c.args.self.now.disk) (g.D.Disk.byte_at c.write_block-wrote.new.disk) c.write_block-wrote.ensures.known c.write_block-wrote.ensures.writes)
     c.make_room.ensures.waited
 
-pub returns-in_default : goal.returns-in_default
-returns-in_default g c =
+pub returns-in_default-clause-leads : goal.returns-in_default-clause-leads
+returns-in_default-clause-leads g c =
     let m = meaning g.K.Code.encoding g.V.Code.encoding g.K.Code.is_encodable g.V.Code.is_encodable g.K.Code.is_decodable g.V.Code.is_decodable g.P.Properties.age in
-    record {
-      leads = written_alone m c.args.self.now.env.reinsertion c.args.flusher c.args.self.now.core c.write_block-wrote.new.core c.write_block-wrote.ensures.leads;
-      waited = known_wrote m c.args.flusher c.write_block-wrote.result c.args.self.now.core c.write_block-wrote.new.core (g.D.Disk.byte_at c.args.self.now.disk) (g.D.Disk.byte_at c.write_block-wrote.new.disk) c.write_block-wrote.ensures.known c.write_block-wrote.ensures.writes;
-      lent = c.write_block-wrote.ensures.lent.0;
-      io = c.write_block-wrote.ensures.lent.1;
-      hasher = refl;
-    }
+    written_alone m c.args.self.now.env.reinsertion c.args.flusher c.args.self.now.core c.write_block-wrote.new.core c.write_block-wrote.ensures.leads
+
+pub returns-in_default-clause-waited : goal.returns-in_default-clause-waited
+returns-in_default-clause-waited g c =
+    let m = meaning g.K.Code.encoding g.V.Code.encoding g.K.Code.is_encodable g.V.Code.is_encodable g.K.Code.is_decodable g.V.Code.is_decodable g.P.Properties.age in
+    known_wrote m c.args.flusher c.write_block-wrote.result c.args.self.now.core c.write_block-wrote.new.core (g.D.Disk.byte_at c.args.self.now.disk) (g.D.Disk.byte_at c.write_block-wrote.new.disk) c.write_block-wrote.ensures.known c.write_block-wrote.ensures.writes
 
 pub returns-in_default-2-clause-leads : goal.returns-in_default-2-clause-leads
 returns-in_default-2-clause-leads g c =
@@ -37,3 +35,12 @@ pub returns-in_default-2-clause-waited : goal.returns-in_default-2-clause-waited
 returns-in_default-2-clause-waited g c =
     let m = meaning g.K.Code.encoding g.V.Code.encoding g.K.Code.is_encodable g.V.Code.is_encodable g.K.Code.is_decodable g.V.Code.is_decodable g.P.Properties.age in
     known_wrote m c.args.flusher c.write_block-wrote.result c.args.self.now.core c.write_block-wrote.new.core (g.D.Disk.byte_at c.args.self.now.disk) (g.D.Disk.byte_at c.write_block-wrote.new.disk) c.write_block-wrote.ensures.known c.write_block-wrote.ensures.writes
+
+pub returns-in-Err-NoSpace-clause-counts : goal.returns-in-Err-NoSpace-clause-counts
+returns-in-Err-NoSpace-clause-counts g c = lies_more g.D.Disk.surely_lies g.D.Disk.faults c.args.self.now.disk c.write_block-wrote.new.disk c.make_room.new.self.disk (c.write_block-wrote.ensures.lies, c.write_block-wrote.ensures.counted) c.make_room.ensures.counts
+
+pub returns-in_default-clause-counts : goal.returns-in_default-clause-counts
+returns-in_default-clause-counts g c = (c.write_block-wrote.ensures.lies, c.write_block-wrote.ensures.counted)
+
+pub returns-in_default-2-clause-counts : goal.returns-in_default-2-clause-counts
+returns-in_default-2-clause-counts g c = (c.write_block-wrote.ensures.lies, c.write_block-wrote.ensures.counted)
