@@ -1,5 +1,4 @@
-pub mod EngineLemmas
+pub mod AnswerLemmas
 pub mod LineLemmas
-pub mod ThrottledLemmas
 pub mod ArgumentLemmas
 pub mod OpeningLemmas

@@ -1,15 +1,21 @@
 -- What the program's engine answers, of keys that are numbers and values that are texts without an age of their own.
-use Rattle.std.specs.Prelude.{◌≡◌, ◌⊎◌, ℕ, ◌+◌, ◌-◌, ◌^◌, min, Bool, true, false, List, [], ◌∷◌, length, Option, Some, None, Result, Ok, Err, string_bytes}
+use Rattle.std.specs.Prelude.{◌≡◌, ◌⊎◌, ℕ, ◌+◌, ◌-◌, ◌^◌, min, Bool, true, false, List, [], ◌∷◌, length, None, Some, Result, Ok, Err, string_bytes}
 use Rattle.std.specs.declared.string.String.{String}
-use Rattle.foyer_device_page.specs.declared.error.ErrorKind.{ErrorKind}
+use Rattle.foyer_block_index.specs.Index.{address_at}
+use Rattle.foyer_block_index.specs.declared.indexer.EntryAddress.{EntryAddress}
+use Rattle.foyer_device_page.specs.Error.{kind_of}
+use Rattle.foyer_device_page.specs.declared.error.Error.{Error}
 use Rattle.foyer_device_page.specs.declared.error.ErrorKind.TheVariants as kind
 use Rattle.foyer_format_record.specs.declared.serde.ages.Age.{Age}
+use Rattle.foyer_format_layout.specs.Page.{page_up}
 use Rattle.foyer_core_model.specs.Record.{Outcome, Holds}
+use Rattle.foyer_core_model.specs.State.{State}
 use Rattle.foyer_core_model.specs.World.{World, WorldEvent}
 use Rattle.foyer_policy_piece.specs.Referred.{Referred}
 use Rattle.foyer_core_laws.specs.Content.{Content, Meaning, content}
 use Rattle.foyer_core_laws.specs.Sizes.{AreValid}
 use Rattle.foyer_core_laws.specs.declared.settings.Settings.{Settings}
+use Rattle.foyer_core_steps.specs.StateOf.{IsStateOf}
 use Rattle.foyer_core_steps.specs.declared.reply.Reply.{Reply}
 use Rattle.foyer_core_steps.specs.declared.reply.Reply.TheVariants as reply
 use Rattle.foyer_core_steps.specs.declared.state.Core.{Core}
@@ -18,6 +24,11 @@ use Rattle.foyer_core_run.specs.Newest.{IsHistory, IsNewest, MayFail, OfPut}
 use Rattle.foyer_core_run.specs.Runs.{IsFront}
 use Rattle.foyer_core_run.specs.Texts.{of_texts}
 use Rattle.foyer_core_run.specs.declared.moves.Move.TheVariants as move
+use Rattle.foyer_storage_local.specs.StepAnswers.{error_of}
+use Rattle.foyer_storage_local.specs.declared.load.Enqueued.{Enqueued}
+use Rattle.foyer_storage_local.specs.declared.load.Enqueued.TheVariants as enqueued
+use Rattle.foyer_storage_local.specs.declared.load.Load.{Load}
+use Rattle.foyer_storage_local.specs.declared.load.Load.TheVariants as load
 use Rattle.foyer_serve.specs.declared.engine.Answer.{Answer}
 use Rattle.foyer_serve.specs.declared.engine.Answer.TheVariants as answer
 use Rattle.foyer_format_record.specs.declared.serde.ages.NoProperties.{NoProperties}
@@ -106,37 +117,43 @@ pub record IsDeleted {A : Type 0} (key : ℕ) (old new : Core ℕ (String A) NoP
   pub is : answered ≡ deleted_as last
   pub says : Says plain (move.Delete key ∷ []) last old new old_bytes new_bytes
 
--- whether a step did anything, or why it was refused
-abbrev pub done_as : {A : Type 0} → Reply ℕ (String A) NoProperties A → Result Bool ErrorKind
-done_as (reply.Refused kind back) = Err kind
-done_as (reply.NotNow back) = Ok false
-done_as reply.Empty = Ok false
-done_as said = Ok true
+-- what the calls of the engine on one thread are answered as: an enqueue
+abbrev pub enqueued_answer : {A : Type 0} → Result Enqueued Error → Answer A
+enqueued_answer (Ok enqueued.Queued) = answer.Queued
+enqueued_answer (Ok enqueued.Ignored) = answer.Ignored
+enqueued_answer (Ok enqueued.Deleted) = answer.Deleted
+enqueued_answer (Err e) = answer.Fault (kind_of e)
 
--- whether a block was written: without a clean block there is no space for it
-abbrev pub wrote_as : {A : Type 0} → Option (Reply ℕ (String A) NoProperties A) → Result Bool ErrorKind
-wrote_as None = Ok true
-wrote_as (Some reply.NoBlock) = Err kind.NoSpace
-wrote_as (Some said) = done_as said
+-- a load of a hash
+abbrev pub load_answer : {A : Type 0} → Result (Load ℕ (String A)) Error → Answer A
+load_answer (Ok (load.Entry key text populated)) = answer.Entry text
+load_answer (Ok load.Throttled) = answer.Throttled
+load_answer (Ok load.Miss) = answer.Miss
+load_answer (Err e) = answer.Fault (kind_of e)
 
--- what a destroy's step that came back, or didn't end it, is answered as
-abbrev pub kept_as : {A : Type 0} → Reply ℕ (String A) NoProperties A → Answer A
-kept_as (reply.Refused kind back) = answer.Fault kind
-kept_as said = answer.Fault kind.Io
-
--- what the last reply of a destroy is answered as: a clean that failed isn't passed over
-abbrev pub destroyed_as : {A : Type 0} → Reply ℕ (String A) NoProperties A → Answer A
-destroyed_as (reply.Destroyed None) = answer.Ok
-destroyed_as (reply.Destroyed (Some kind)) = answer.Fault kind
-destroyed_as said = kept_as said
-
--- what is answered is a fault
-abbrev pub IsFault : {A : Type 0} → Answer A → Type 0
-IsFault (answer.Fault kind) = Unit {0}
-IsFault answered = ⊥
+-- and a call that gives nothing
+abbrev pub done_answer : {A : Type 0} → Result (Unit {0}) Error → Answer A
+done_answer (Ok done) = answer.Ok
+done_answer (Err e) = answer.Fault (kind_of e)
 
 -- what a wait, a close and a destroy are answered as
 abbrev pub IsOkOrFault : {A : Type 0} → Answer A → Type 0
 IsOkOrFault answer.Ok = Unit {0}
 IsOkOrFault (answer.Fault kind) = Unit {0}
 IsOkOrFault answered = ⊥
+
+-- a fault is one of these errors'
+abbrev pub IsFaultOnlyAs : {A : Type 0} → (is_error : Error → Bool) → Answer A → Type 0
+IsFaultOnlyAs is_error (answer.Fault kind) = is_error (error_of kind) ≡ true
+IsFaultOnlyAs is_error said = Unit {0}
+
+-- and so it is from each state of the model that the core stood for
+abbrev pub IsTextRefusedOnlyAs : {A : Type 0} → (is_error : Error → Bool) → Core ℕ (String A) NoProperties A → Answer A → Type 0
+IsTextRefusedOnlyAs is_error core said =
+    (s : Settings) → AreValid s → (it : State Content) → IsStateOf plain s core it → IsFaultOnlyAs is_error said
+
+-- and a load is answered Io only where the index has an address of the key, of which it isn't sure that a read of it came
+abbrev pub IsIoTextForCause : {A : Type 0} → (key : ℕ) → (came : ℕ → ℕ → ℕ → Type 0) → Core ℕ (String A) NoProperties A → Answer A → Type 0
+IsIoTextForCause key came core said =
+    said ≡ answer.Fault kind.Io → (s : Settings) → AreValid s → (it : State Content) → IsStateOf plain s core it
+    → (a : EntryAddress) × (address_at core.index.slots key ≡ Some a) × (came a.block a.offset (page_up a.len) → ⊥)

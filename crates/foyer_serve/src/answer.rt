@@ -17,7 +17,7 @@ pub fn name_of(kind: ErrorKind) -> &'static str
     kind.name()
 }
 
-/// Prints `fault` and the kind's name.
+/// Prints `fault` and the kind's name on a line. An error is the writer's.
 pub fn print_fault<W: Write>(output: &mut W, kind: ErrorKind) -> io::Result<()>
     ensures { OnOk result
         (Appends (W.contents output.old) (W.contents output.new) (ended (fault_text kind))) }
@@ -27,7 +27,7 @@ pub fn print_fault<W: Write>(output: &mut W, kind: ErrorKind) -> io::Result<()>
     output.write_all(b"\n")
 }
 
-/// Prints an answer's line.
+/// Prints an answer's line. An error is the writer's.
 pub fn print<W: Write, A: Allocator>(output: &mut W, answer: &Answer<A>) -> io::Result<()>
     ensures { OnOk result
         (Appends (W.contents output.old) (W.contents output.new) (ended (text_of answer.now))) }

@@ -9,11 +9,17 @@ use memchr::memchr;
 /// One line of the input.
 #[derive(Clone, Copy, Debug, PartialEq, Eq)]
 pub enum Command<'a> {
+    /// `put KEY TEXT`: the text is all that follows the space, and may be empty.
     Put { key: u64, text: &'a str },
+    /// `get KEY`.
     Get { key: u64 },
+    /// `del KEY`.
     Delete { key: u64 },
+    /// `wait`.
     Wait,
+    /// `destroy`.
     Destroy,
+    /// `close`.
     Close,
 }
 
@@ -61,7 +67,7 @@ pub fn number(digits: &[u8]) -> Option<u64>
 }
 
 impl<'a> Command<'a> {
-    /// Reads a line without its end. None where it is no command, or isn't UTF-8.
+    /// Reads a line without its end. None where it is no command, or its text isn't UTF-8.
     pub fn parse(line: &'a [u8]) -> Option<Command<'a>>
         ensures { MatchOption result ((c : Command) → ¬ (IsLine line.entry.now c))
             (IsLine line.entry.now) }

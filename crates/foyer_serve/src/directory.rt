@@ -47,7 +47,9 @@ pub type FileEngine<B, A> = Engine<A, FileBlocks<B, A>, Option<FileLog<B, A>>>;
 /// What of a directory couldn't be opened, and why.
 #[derive(Clone, Copy, Debug, PartialEq, Eq)]
 pub struct Failed {
+    /// Why.
     pub kind: ErrorKind,
+    /// The directory, the log of deletes, a file of a block, or the engine over them.
     pub what: &'static str,
 }
 
@@ -115,12 +117,12 @@ where
         (λ d. SurelyCame (⟦<PartitionedDisk<PsyncIoEngine<R::A>, FsPartition, A> as Disk>⟧.surely_has d)
         (⟦<PartitionedDisk<PsyncIoEngine<R::A>, FsPartition, A> as Disk>⟧.surely_lies d)
         (⟦<PartitionedDisk<PsyncIoEngine<R::A>, FsPartition, A> as Disk>⟧.faults d)
-        (⟦<PartitionedDisk<PsyncIoEngine<R::A>, FsPartition, A> as Disk>⟧.faults engine.disk))
+        (⟦<PartitionedDisk<PsyncIoEngine<R::A>, FsPartition, A> as Disk>⟧.faults engine.local.disk))
         ⟦<PartitionedDisk<PsyncIoEngine<R::A>, FsPartition, A> as Disk>⟧.is_known
         (λ d. d.blocks.items) ⟦<FsPartition as Partition>⟧.bytes ⟦<FsPartition as Partition>⟧.extent
-        mode engine.core engine.disk) }
-    ensures log { IfOk result (λ engine. IsSome engine.log ↔ (settings.tombstone_log ≡ true)) }
-    ensures filter { IfOk result (λ engine. engine.env.reinsertion ≡ None) }
+        mode engine.local.core engine.local.disk) }
+    ensures log { IfOk result (λ engine. IsSome engine.local.log ↔ (settings.tombstone_log ≡ true)) }
+    ensures filter { IfOk result (λ engine. engine.local.env.reinsertion ≡ None) }
     ensures refused { IfErr result (λ failed. MayRefuse settings mode failed.kind) }
 {
     let builder = FsDeviceBuilder::new(directory).with_capacity(capacity);
@@ -271,11 +273,11 @@ where
     B: Allocator,
     D: Disk + Drop,
     ensures begins { IfOk result (λ engine. (sound : AreValid settings) → IsBegun plain settings sound (D.byte_at disk)
-        (SurelyCame (D.surely_has disk) (D.surely_lies disk) (D.faults disk) (D.faults engine.disk)) mode (marks_of deletes.marks.items) ((mode ≡ recover_mode.None) ⊎ D.is_known disk)
-        engine.core (D.byte_at engine.disk)) }
-    ensures log { IfOk result (λ engine. engine.log ≡ deletes.log) }
-    ensures unread { IfOk result (λ engine. mode ≡ recover_mode.None → engine.disk ≡ disk) }
-    ensures filter { IfOk result (λ engine. engine.env.reinsertion ≡ None) }
+        (SurelyCame (D.surely_has disk) (D.surely_lies disk) (D.faults disk) (D.faults engine.local.disk)) mode (marks_of deletes.marks.items) ((mode ≡ recover_mode.None) ⊎ D.is_known disk)
+        engine.local.core (D.byte_at engine.local.disk)) }
+    ensures log { IfOk result (λ engine. engine.local.log ≡ deletes.log) }
+    ensures unread { IfOk result (λ engine. mode ≡ recover_mode.None → engine.local.disk ≡ disk) }
+    ensures filter { IfOk result (λ engine. engine.local.env.reinsertion ≡ None) }
     ensures refused { IfErr result (λ failed. TellsOf (MayRefuseCore settings mode) failed.kind) }
 {
     match open_core(rt, alloc, settings, disk, deletes, mode) {
@@ -298,11 +300,11 @@ where
     B: Allocator,
     D: Disk + Drop,
     ensures begins { IfOk result (λ engine. (sound : AreValid settings) → IsBegun plain settings sound (D.byte_at disk)
-        (SurelyCame (D.surely_has disk) (D.surely_lies disk) (D.faults disk) (D.faults engine.disk)) mode (marks_of deletes.marks.items) ((mode ≡ recover_mode.None) ⊎ D.is_known disk)
-        engine.core (D.byte_at engine.disk)) }
-    ensures log { IfOk result (λ engine. engine.log ≡ deletes.log) }
-    ensures unread { IfOk result (λ engine. mode ≡ recover_mode.None → engine.disk ≡ disk) }
-    ensures filter { IfOk result (λ engine. engine.env.reinsertion ≡ None) }
+        (SurelyCame (D.surely_has disk) (D.surely_lies disk) (D.faults disk) (D.faults engine.local.disk)) mode (marks_of deletes.marks.items) ((mode ≡ recover_mode.None) ⊎ D.is_known disk)
+        engine.local.core (D.byte_at engine.local.disk)) }
+    ensures log { IfOk result (λ engine. engine.local.log ≡ deletes.log) }
+    ensures unread { IfOk result (λ engine. mode ≡ recover_mode.None → engine.local.disk ≡ disk) }
+    ensures filter { IfOk result (λ engine. engine.local.env.reinsertion ≡ None) }
     ensures refused { IfErr result (MayRefuseCore settings mode) }
 {
     let env = Env::with_default_pickers(rt.alloc(), GENERATOR_SEED)?;

@@ -1,34 +1,33 @@
-//! The engine that the program keeps: a core over a disk, with a log of deletes or without one, driven on one thread.
-ghost use Rattle.std.specs.Prelude.{◌≡◌, ◌≢◌, ◌⊎◌, ◌≤◌, ◌*◌, ◌^◌, ℕ, [], true, false, None, IfOk, IfErr, string_bytes};
+//! An engine of numbers and texts, on one thread.
+ghost use Rattle.std.specs.Prelude.{◌≡◌, ◌≢◌, ◌⊎◌, ◌≤◌, ◌*◌, ◌^◌, ℕ, [], true, false, IfOk, IfErr, string_bytes};
 ghost use Rattle.foyer_io_disk.specs.Disk.{SurelyCame};
 ghost use Rattle.foyer_device_page.specs.declared.error.Error.TheVariants.{Config, Memory, OutOfRange, Recover, SequenceEnd};
 ghost use Rattle.foyer_block_recover.specs.Recovery.{marks_of};
 ghost use Rattle.foyer_block_recover.specs.declared.block.recover.RecoverMode.TheVariants as recover_mode;
 ghost use Rattle.foyer_core_laws.specs.Sizes.{AreValid};
 ghost use Rattle.foyer_core_run.specs.Driven.{Drives};
+ghost use Rattle.foyer_core_run.specs.AtRest.{ComesToRest};
 ghost use Rattle.foyer_core_run.specs.Begun.{IsBegun, IsBegunEmpty};
-ghost use Rattle.foyer_serve.specs.Texts.{IsDeleted, IsGot, IsLoadedOrRefused, IsTextMissedForCause, IsNewestText, IsPut, IsThrottledOnly, deleted_as, done_as, got, plain, put_as, wrote_as};
+ghost use Rattle.foyer_core_run.specs.Destroys.{Destroys};
+ghost use Rattle.foyer_core_run.specs.Waiting.{Closes, Waits};
+ghost use Rattle.foyer_storage_local.specs.StepAnswers.{is_destroy_error, is_draw_error, is_load_error, is_wait_error};
+ghost use Rattle.foyer_serve.specs.Texts.{IsDeleted, IsFaultOnlyAs, IsGot, IsIoTextForCause, IsLoadedOrRefused, IsTextMissedForCause, IsTextRefusedOnlyAs, IsNewestText, IsPut, IsOkOrFault, IsThrottledOnly, done_answer, enqueued_answer, load_answer, plain};
 
 use foyer_block_index::tombstone::Tombstone;
 use foyer_block_manager::block::eviction::{BuiltInPicker, EvictionPicker};
 pub use foyer_block_tombstone::block::tombstone::{MarkLog, NoLog};
-use foyer_core_run::accesses::{load, step};
 use foyer_core_steps::apply::Env;
 use foyer_core_steps::open::RecoverMode;
-use foyer_core_steps::reply::Reply;
 use foyer_core_steps::settings::Settings;
-use foyer_core_steps::state::Core;
-use foyer_core_steps::step::Step;
 use foyer_device_page::error::{ErrorKind, Result};
 use foyer_device_statistics::IoState;
-use foyer_format_record::serde::{EntrySerializer, NoProperties};
+use foyer_format_record::serde::{IdentityHashBuilder, NoProperties};
 use foyer_io_disk::disk::Disk;
 use foyer_io_disk::memory::MemoryDisk;
 use foyer_policy_filter::{BuiltInCondition, StorageFilter, StorageFilterCondition};
-use foyer_policy_piece::keeper::{Piece, PieceRef};
+use foyer_storage_local::engine::LocalEngine;
+use foyer_storage_local::load::{Enqueued, Load};
 use std::alloc::{Allocator, Global};
-
-type Key = u64;
 
 /// What a call of the engine answers.
 #[derive(Drop)]
@@ -51,70 +50,46 @@ pub enum Answer<A: Allocator> {
     Fault(ErrorKind),
 }
 
-mod destroy;
-mod wait;
-
-type EngineReply<A> = Reply<Key, String<A>, NoProperties, A>;
-
-fn answer_put<A: Allocator>(last: EngineReply<A>) -> Answer<A>
-    ensures { result ≡ put_as last }
+fn answer_put<A: Allocator>(done: Result<Enqueued>) -> Answer<A>
+    ensures { result ≡ enqueued_answer done }
 {
-    match last {
-        Reply::Queued(_) => Answer::Queued,
-        Reply::Dropped(_, _) => Answer::Deleted,
-        Reply::Refused(kind, _) => Answer::Fault(kind),
-        _ => Answer::Ignored,
+    match done {
+        Ok(Enqueued::Queued) => Answer::Queued,
+        Ok(Enqueued::Ignored) => Answer::Ignored,
+        Ok(Enqueued::Deleted) => Answer::Deleted,
+        Err(error) => Answer::Fault(error.kind()),
     }
 }
 
-fn answer_load<A: Allocator>(last: EngineReply<A>) -> Answer<A>
-    ensures { result ≡ got last }
+fn answer_load<A: Allocator>(found: Result<Load<u64, String<A>>>) -> Answer<A>
+    ensures { result ≡ load_answer found }
 {
-    match last {
-        Reply::Entry {
-            key: _,
-            value,
-            age: _,
-        } => Answer::Entry(value),
-        Reply::Throttled => Answer::Throttled,
-        Reply::Refused(kind, _) => Answer::Fault(kind),
-        _ => Answer::Miss,
+    match found {
+        Ok(
+            Load::Entry {
+                key: _,
+                value,
+                populated: _,
+            },
+        ) => Answer::Entry(value),
+        Ok(Load::Throttled) => Answer::Throttled,
+        Ok(Load::Miss) => Answer::Miss,
+        Err(error) => Answer::Fault(error.kind()),
     }
 }
 
-fn answer_delete<A: Allocator>(last: EngineReply<A>) -> Answer<A>
-    ensures { result ≡ deleted_as last }
+fn answer_done<A: Allocator>(done: Result<()>) -> Answer<A>
+    ensures answered { IsOkOrFault result }
+    ensures says { result ≡ done_answer done }
 {
-    match last {
-        Reply::Refused(kind, _) => Answer::Fault(kind),
-        _ => Answer::Ok,
+    match done {
+        Ok(()) => Answer::Ok,
+        Err(error) => Answer::Fault(error.kind()),
     }
 }
 
-// Whether a step did anything: none did that was out of turn, or found nothing.
-fn answer_step<A: Allocator>(last: EngineReply<A>) -> std::result::Result<bool, ErrorKind>
-    ensures { result ≡ done_as last }
-{
-    match last {
-        Reply::Refused(kind, _) => Err(kind),
-        Reply::NotNow(_) | Reply::Empty => Ok(false),
-        _ => Ok(true),
-    }
-}
-
-// Whether a block was written: none was that was out of turn.
-fn answer_block<A: Allocator>(last: Option<EngineReply<A>>) -> std::result::Result<bool, ErrorKind>
-    ensures { result ≡ wrote_as last }
-{
-    match last {
-        Some(Reply::NoBlock) => Err(ErrorKind::NoSpace),
-        Some(last) => answer_step(last),
-        None => Ok(true),
-    }
-}
-
-/// A core with its disk, and with what the marks of its batches are appended to. What is said of a disk's bytes is said
-/// where they are known: those of memory are, those of a system's files aren't.
+/// An engine on one thread of keys that are their own hashes, and of texts. What is said of a disk's bytes is said where they
+/// are known: those of memory are, those of a system's files aren't.
 #[derive(Drop)]
 pub struct Engine<
     A: Allocator,
@@ -123,16 +98,7 @@ pub struct Engine<
     E: EvictionPicker = BuiltInPicker,
     C: StorageFilterCondition = BuiltInCondition,
 > {
-    alloc: A,
-    core: Core<Key, String<A>, NoProperties, A>,
-    env: Env<E, C>,
-    disk: D,
-    log: L,
-    // What a load reads into.
-    spare: Vec<u8, A>,
-    next_wait: u64,
-    // How many reclaims of this call may still have records written again.
-    rereads: u32,
+    local: LocalEngine<u64, String<A>, NoProperties, IdentityHashBuilder, A, D, L, E, C>,
 }
 
 impl<A: Allocator + Clone, E: EvictionPicker, C: StorageFilterCondition> Engine<
@@ -151,15 +117,15 @@ impl<A: Allocator + Clone, E: EvictionPicker, C: StorageFilterCondition> Engine<
     ) -> Result<Engine<A, MemoryDisk<A>, NoLog, E, C>>
         ensures sound { IfOk result (λ _. AreValid settings) }
         ensures begins { IfOk result (λ engine. (sound : AreValid settings) → IsBegunEmpty plain settings sound (λ b o. 0)
-            engine.core (⟦<MemoryDisk<A> as Disk>⟧.byte_at engine.disk)) }
+            engine.local.core (⟦<MemoryDisk<A> as Disk>⟧.byte_at engine.local.disk)) }
         ensures refused { IfErr result (λ e. (e ≡ Memory) ⊎ ((e ≡ Config) × (AreValid settings → ⊥))
             ⊎ ((e ≡ OutOfRange) × (2 ^ 64 ≤ settings.blocks * settings.block_size))) }
-        ensures disk { IfOk result (λ engine. (engine.disk.blocks ≡ settings.blocks)
-            × (engine.disk.block_size ≡ settings.block_size)) }
-        ensures lent { IfOk result (λ engine. (engine.env.reinsertion ≡ env.reinsertion) × (engine.env.io ≡ env.io)) }
+        ensures disk { IfOk result (λ engine. (engine.local.disk.blocks ≡ settings.blocks)
+            × (engine.local.disk.block_size ≡ settings.block_size)) }
+        ensures lent { IfOk result (λ engine. (engine.local.env.reinsertion ≡ env.reinsertion) × (engine.local.env.io ≡ env.io)) }
     {
-        let disk = MemoryDisk::new(alloc.clone()?, settings.blocks, settings.block_size)?;
-        Engine::with_disk(alloc, env, settings, disk, RecoverMode::None)
+        let local = LocalEngine::open(alloc, IdentityHashBuilder, env, settings)?;
+        Ok(Engine { local })
     }
 }
 
@@ -183,17 +149,19 @@ impl<A: Allocator + Clone, D: Disk + Drop, E: EvictionPicker, C: StorageFilterCo
     ) -> Result<Engine<A, D, NoLog, E, C>>
         ensures sound { IfOk result (λ _. AreValid settings) }
         ensures begins { IfOk result (λ engine. (sound : AreValid settings) → IsBegun plain settings sound (D.byte_at disk)
-            (SurelyCame (D.surely_has disk) (D.surely_lies disk) (D.faults disk) (D.faults engine.disk)) mode [] ((mode ≡ recover_mode.None) ⊎ D.is_known disk) engine.core (D.byte_at engine.disk)) }
+            (SurelyCame (D.surely_has disk) (D.surely_lies disk) (D.faults disk) (D.faults engine.local.disk)) mode [] ((mode ≡ recover_mode.None) ⊎ D.is_known disk) engine.local.core (D.byte_at engine.local.disk)) }
         ensures refused { IfErr result (λ e. (e ≡ Memory) ⊎ ((e ≡ Config) × (AreValid settings → ⊥))
             ⊎ ((e ≡ Recover) × (mode ≡ recover_mode.Strict)) ⊎ ((e ≡ SequenceEnd) × (mode ≢ recover_mode.None))) }
-        ensures unread { IfOk result (λ engine. mode ≡ recover_mode.None → engine.disk ≡ disk) }
-        ensures known { IfOk result (λ engine. D.is_known disk → D.is_known engine.disk) }
-        ensures has { IfOk result (λ engine. (b o n : ℕ) → D.surely_has disk b o n → D.surely_has engine.disk b o n) }
-        ensures lent { IfOk result (λ engine. (engine.env.reinsertion ≡ env.reinsertion) × (engine.env.io ≡ env.io)) }
-        ensures lies { IfOk result (λ engine. (b o n : ℕ) → D.surely_lies disk b o n → D.surely_lies engine.disk b o n) }
-        ensures counted { IfOk result (λ engine. D.faults disk ≤ D.faults engine.disk) }
+        ensures unread { IfOk result (λ engine. mode ≡ recover_mode.None → engine.local.disk ≡ disk) }
+        ensures known { IfOk result (λ engine. D.is_known disk → D.is_known engine.local.disk) }
+        ensures has { IfOk result (λ engine. (b o n : ℕ) → D.surely_has disk b o n → D.surely_has engine.local.disk b o n) }
+        ensures lent { IfOk result (λ engine. (engine.local.env.reinsertion ≡ env.reinsertion) × (engine.local.env.io ≡ env.io)) }
+        ensures lies { IfOk result (λ engine. (b o n : ℕ) → D.surely_lies disk b o n → D.surely_lies engine.local.disk b o n) }
+        ensures counted { IfOk result (λ engine. D.faults disk ≤ D.faults engine.local.disk) }
     {
-        Engine::with_log(alloc, env, settings, disk, mode, &[], NoLog)
+        let hasher = IdentityHashBuilder;
+        let local = LocalEngine::with_disk(alloc, hasher, env, settings, disk, mode)?;
+        Ok(Engine { local })
     }
 }
 
@@ -212,37 +180,29 @@ where
     /// mark, has the last sequence; `Memory` at any time.
     pub fn with_log(
         alloc: A,
-        mut env: Env<E, C>,
+        env: Env<E, C>,
         settings: Settings,
-        mut disk: D,
+        disk: D,
         mode: RecoverMode,
         marks: &[Tombstone],
         log: L,
     ) -> Result<Engine<A, D, L, E, C>>
         ensures sound { IfOk result (λ _. AreValid settings) }
         ensures begins { IfOk result (λ engine. (sound : AreValid settings) → IsBegun plain settings sound (D.byte_at disk)
-            (SurelyCame (D.surely_has disk) (D.surely_lies disk) (D.faults disk) (D.faults engine.disk)) mode (marks_of marks.now) ((mode ≡ recover_mode.None) ⊎ D.is_known disk) engine.core (D.byte_at engine.disk)) }
+            (SurelyCame (D.surely_has disk) (D.surely_lies disk) (D.faults disk) (D.faults engine.local.disk)) mode (marks_of marks.now) ((mode ≡ recover_mode.None) ⊎ D.is_known disk) engine.local.core (D.byte_at engine.local.disk)) }
         ensures refused { IfErr result (λ e. (e ≡ Memory) ⊎ ((e ≡ Config) × (AreValid settings → ⊥))
             ⊎ ((e ≡ Recover) × (mode ≡ recover_mode.Strict)) ⊎ ((e ≡ SequenceEnd) × (mode ≡ recover_mode.None → marks.now ≢ []))) }
-        ensures unread { IfOk result (λ engine. mode ≡ recover_mode.None → engine.disk ≡ disk) }
-        ensures known { IfOk result (λ engine. D.is_known disk → D.is_known engine.disk) }
-        ensures has { IfOk result (λ engine. (b o n : ℕ) → D.surely_has disk b o n → D.surely_has engine.disk b o n) }
-        ensures lent { IfOk result (λ engine. (engine.env.reinsertion ≡ env.reinsertion) × (engine.env.io ≡ env.io)) }
-        ensures lies { IfOk result (λ engine. (b o n : ℕ) → D.surely_lies disk b o n → D.surely_lies engine.disk b o n) }
-        ensures counted { IfOk result (λ engine. D.faults disk ≤ D.faults engine.disk) }
-        ensures log { IfOk result (λ engine. engine.log ≡ log) }
+        ensures unread { IfOk result (λ engine. mode ≡ recover_mode.None → engine.local.disk ≡ disk) }
+        ensures known { IfOk result (λ engine. D.is_known disk → D.is_known engine.local.disk) }
+        ensures has { IfOk result (λ engine. (b o n : ℕ) → D.surely_has disk b o n → D.surely_has engine.local.disk b o n) }
+        ensures lent { IfOk result (λ engine. (engine.local.env.reinsertion ≡ env.reinsertion) × (engine.local.env.io ≡ env.io)) }
+        ensures lies { IfOk result (λ engine. (b o n : ℕ) → D.surely_lies disk b o n → D.surely_lies engine.local.disk b o n) }
+        ensures counted { IfOk result (λ engine. D.faults disk ≤ D.faults engine.local.disk) }
+        ensures log { IfOk result (λ engine. engine.local.log ≡ log) }
     {
-        let core = Core::open(alloc.clone()?, &mut env, settings, &mut disk, mode, marks)?;
-        Ok(Engine {
-            core,
-            env,
-            disk,
-            log,
-            spare: Vec::new(alloc.clone()?),
-            next_wait: 0,
-            rereads: 0,
-            alloc,
-        })
+        let hasher = IdentityHashBuilder;
+        let local = LocalEngine::with_log(alloc, hasher, env, settings, disk, mode, marks, log)?;
+        Ok(Engine { local })
     }
 
     /// Has reclaims write again, from now on, the records that the filter admits by their lengths in bytes, or none without a
@@ -251,60 +211,68 @@ where
         &mut self,
         filter: Option<StorageFilter<C, Global>>,
     ) -> Option<StorageFilter<C, Global>>
-        ensures before { result ≡ self.old.env.reinsertion }
-        ensures set { self.new ≡ record self.old { env = record self.old.env { reinsertion = filter } } }
+        ensures before { result ≡ self.old.local.env.reinsertion }
+        ensures set { self.new ≡ record self.old { local = record self.old.local { env = record self.old.local.env { reinsertion = filter } } } }
     {
-        self.env.replace_reinsertion(filter)
+        self.local.set_reinsertion(filter)
     }
 
     /// Shows the filter, from now on, what the device did and has callers wait for.
     pub fn set_io(&mut self, io: IoState)
-        ensures { self.new ≡ record self.old { env = record self.old.env { io = io } } }
+        ensures { self.new ≡ record self.old { local = record self.old.local { env = record self.old.local.env { io = io } } } }
     {
-        self.env.set_io(io);
+        self.local.set_io(io);
     }
 
-    fn piece(&self, key: u64, text: &str) -> Result<PieceRef<Key, String<A>, NoProperties, A>>
-        ensures memory { IfErr result (λ e. e ≡ Memory) }
-        ensures ok { IfOk result (λ piece. (piece.piece.key ≡ key) × (piece.piece.hash ≡ key) × (string_bytes piece.piece.value ≡ text.now)) }
-    {
-        let value = String::from_str(self.alloc.clone()?, text)?;
-        let piece = Piece::new(self.alloc.clone()?, key, value, key, NoProperties)?;
-        Ok(PieceRef::from(piece))
-    }
-
-    /// Queues a text under a key.
+    /// Queues a text under a key. `Closed`, `Memory` and `SequenceEnd` leave the engine as it was.
     pub fn put(&mut self, key: u64, text: &str) -> Answer<A>
-        ensures waits { self.new.next_wait ≡ self.old.next_wait }
-        ensures lent { (self.new.env.reinsertion ≡ self.old.env.reinsertion) × (self.new.env.io ≡ self.old.env.io) }
-        ensures disk { self.new.disk ≡ self.old.disk }
-        ensures says { IsPut key text.now self.old.core self.new.core
-            (D.byte_at self.old.disk) (D.byte_at self.new.disk) result }
-        ensures driven { Drives plain self.old.core self.new.core
-            (D.byte_at self.old.disk) (D.byte_at self.new.disk) }
+        ensures waits { self.new.local.next_wait ≡ self.old.local.next_wait }
+        ensures lent { (self.new.local.env.reinsertion ≡ self.old.local.env.reinsertion) × (self.new.local.env.io ≡ self.old.local.env.io) }
+        ensures disk { self.new.local.disk ≡ self.old.local.disk }
+        ensures says { IsPut key text.now self.old.local.core self.new.local.core
+            (D.byte_at self.old.local.disk) (D.byte_at self.new.local.disk) result }
+        ensures driven { Drives plain self.old.local.core self.new.local.core
+            (D.byte_at self.old.local.disk) (D.byte_at self.new.local.disk) }
+        ensures refused { IsTextRefusedOnlyAs is_draw_error self.old.local.core result }
     {
-        let piece = match self.piece(key, text) {
-            Ok(piece) => piece,
+        let value = match self.text(text) {
+            Ok(value) => value,
             Err(error) => return Answer::Fault(error.kind()),
         };
-        let size = EntrySerializer::estimated_size::<A, Key, String<A>>(piece.key(), piece.value());
-        answer_put(step(&mut self.core, &mut self.env, Step::Enqueue { piece, size }))
+        answer_put(self.local.put(key, value, NoProperties))
+    }
+
+    // A text of its own.
+    fn text(&self, text: &str) -> Result<String<A>>
+        ensures ok { IfOk result (λ value. string_bytes value ≡ text.now) }
+        ensures memory { IfErr result (λ e. e ≡ Memory) }
+    {
+        let alloc = self.local.allocator().clone()?;
+        Ok(String::from_str(alloc, text)?)
     }
 
     /// The text of a key: the newest that was put, whatever came before. Where the newest event of the key is a put,
     /// its text is answered, or `Io` for a failed read, or `Memory`, unless a reclaim of its block or a destroy began
     /// since, or under two of 2^64 - 1 steps are left. A record that an opening found may be none: then it is a miss, or
-    /// `Parse` where its key or text doesn't decode, or `Unsupported`.
+    /// `Parse` where its key or text doesn't decode, or `Unsupported`. `Io` is answered only where the index has an address of
+    /// the key, of which the read may have failed. `SequenceEnd` where no step is left.
     pub fn get(&mut self, key: u64) -> Answer<A>
-        ensures waits { self.new.next_wait ≡ self.old.next_wait }
-        ensures lent { (self.new.env.reinsertion ≡ self.old.env.reinsertion) × (self.new.env.io ≡ self.old.env.io) }
-        ensures newest { D.is_known self.old.disk → IsNewestText key self.old.core (D.byte_at self.old.disk) result }
-        ensures missed { D.is_known self.old.disk → IsTextMissedForCause key self.old.core (D.byte_at self.old.disk) result }
-        ensures known { D.is_known self.old.disk → D.is_known self.new.disk }
-        ensures says { D.is_known self.old.disk → IsGot key self.old.core self.new.core
-            (D.byte_at self.old.disk) (D.byte_at self.new.disk) result }
-        ensures driven { D.is_known self.old.disk → Drives plain self.old.core self.new.core
-            (D.byte_at self.old.disk) (D.byte_at self.new.disk) }
+        ensures waits { self.new.local.next_wait ≡ self.old.local.next_wait }
+        ensures lent { (self.new.local.env.reinsertion ≡ self.old.local.env.reinsertion) × (self.new.local.env.io ≡ self.old.local.env.io) }
+        ensures newest { D.is_known self.old.local.disk → IsNewestText key self.old.local.core (D.byte_at self.old.local.disk) result }
+        ensures missed { D.is_known self.old.local.disk → IsTextMissedForCause key self.old.local.core (D.byte_at self.old.local.disk) result }
+        ensures known { D.is_known self.old.local.disk → D.is_known self.new.local.disk }
+        ensures says { D.is_known self.old.local.disk → IsGot key self.old.local.core self.new.local.core
+            (D.byte_at self.old.local.disk) (D.byte_at self.new.local.disk) result }
+        ensures driven { D.is_known self.old.local.disk → Drives plain self.old.local.core self.new.local.core
+            (D.byte_at self.old.local.disk) (D.byte_at self.new.local.disk) }
+        ensures honest { IsIoTextForCause key (SurelyCame (D.surely_has self.old.local.disk) (D.surely_lies self.old.local.disk)
+            (D.faults self.old.local.disk) (D.faults self.new.local.disk)) self.old.local.core result }
+        ensures refused { D.is_known self.old.local.disk → IsTextRefusedOnlyAs is_load_error self.old.local.core result }
+        ensures has { (b o n : ℕ) → D.surely_has self.old.local.disk b o n → D.surely_has self.new.local.disk b o n }
+        ensures lies { (b o n : ℕ) → D.surely_lies self.old.local.disk b o n → D.surely_lies self.new.local.disk b o n }
+        ensures counted { D.faults self.old.local.disk ≤ D.faults self.new.local.disk }
+        ensures same { D.byte_at self.new.local.disk ≡ D.byte_at self.old.local.disk }
     {
         self.load(key, false)
     }
@@ -312,37 +280,90 @@ where
     /// The text of a key, as a get answers it, where the caller says whether the device is throttled. If it is, a key that
     /// has a text is answered `Throttled`, and nothing is read.
     pub fn load(&mut self, key: u64, throttled: bool) -> Answer<A>
-        ensures waits { self.new.next_wait ≡ self.old.next_wait }
-        ensures lent { (self.new.env.reinsertion ≡ self.old.env.reinsertion) × (self.new.env.io ≡ self.old.env.io) }
-        ensures newest { D.is_known self.old.disk → IsNewestText key self.old.core (D.byte_at self.old.disk) result }
-        ensures missed { D.is_known self.old.disk → throttled ≡ false
-            → IsTextMissedForCause key self.old.core (D.byte_at self.old.disk) result }
-        ensures unread { throttled ≡ true → self.new.disk ≡ self.old.disk }
-        ensures throttled { D.is_known self.old.disk
-            → IsThrottledOnly throttled self.old.core (D.byte_at self.old.disk) result }
-        ensures known { D.is_known self.old.disk → D.is_known self.new.disk }
-        ensures says { D.is_known self.old.disk → IsLoadedOrRefused key throttled self.old.core self.new.core
-            (D.byte_at self.old.disk) (D.byte_at self.new.disk) result }
-        ensures driven { D.is_known self.old.disk → Drives plain self.old.core self.new.core
-            (D.byte_at self.old.disk) (D.byte_at self.new.disk) }
+        ensures waits { self.new.local.next_wait ≡ self.old.local.next_wait }
+        ensures lent { (self.new.local.env.reinsertion ≡ self.old.local.env.reinsertion) × (self.new.local.env.io ≡ self.old.local.env.io) }
+        ensures newest { D.is_known self.old.local.disk → IsNewestText key self.old.local.core (D.byte_at self.old.local.disk) result }
+        ensures missed { D.is_known self.old.local.disk → throttled ≡ false
+            → IsTextMissedForCause key self.old.local.core (D.byte_at self.old.local.disk) result }
+        ensures unread { throttled ≡ true → self.new.local.disk ≡ self.old.local.disk }
+        ensures throttled { D.is_known self.old.local.disk
+            → IsThrottledOnly throttled self.old.local.core (D.byte_at self.old.local.disk) result }
+        ensures known { D.is_known self.old.local.disk → D.is_known self.new.local.disk }
+        ensures says { D.is_known self.old.local.disk → IsLoadedOrRefused key throttled self.old.local.core self.new.local.core
+            (D.byte_at self.old.local.disk) (D.byte_at self.new.local.disk) result }
+        ensures driven { D.is_known self.old.local.disk → Drives plain self.old.local.core self.new.local.core
+            (D.byte_at self.old.local.disk) (D.byte_at self.new.local.disk) }
+        ensures honest { IsIoTextForCause key (SurelyCame (D.surely_has self.old.local.disk) (D.surely_lies self.old.local.disk)
+            (D.faults self.old.local.disk) (D.faults self.new.local.disk)) self.old.local.core result }
+        ensures refused { D.is_known self.old.local.disk → IsTextRefusedOnlyAs is_load_error self.old.local.core result }
+        ensures has { (b o n : ℕ) → D.surely_has self.old.local.disk b o n → D.surely_has self.new.local.disk b o n }
+        ensures lies { (b o n : ℕ) → D.surely_lies self.old.local.disk b o n → D.surely_lies self.new.local.disk b o n }
+        ensures counted { D.faults self.old.local.disk ≤ D.faults self.new.local.disk }
+        ensures same { D.byte_at self.new.local.disk ≡ D.byte_at self.old.local.disk }
     {
-        let (env, disk, spare) = (&mut self.env, &mut self.disk, &mut self.spare);
-        match load(&mut self.core, env, disk, spare, key, throttled) {
-            Ok(last) => answer_load(last),
-            Err(_) => Answer::Fault(ErrorKind::Memory),
-        }
+        answer_load(self.local.load_hash(key, throttled))
     }
 
-    /// Deletes what a key has, at once.
+    /// Deletes what a key has, at once. `Closed`, `Memory` and `SequenceEnd` leave the engine as it was.
     pub fn delete(&mut self, key: u64) -> Answer<A>
-        ensures waits { self.new.next_wait ≡ self.old.next_wait }
-        ensures lent { (self.new.env.reinsertion ≡ self.old.env.reinsertion) × (self.new.env.io ≡ self.old.env.io) }
-        ensures disk { self.new.disk ≡ self.old.disk }
-        ensures says { IsDeleted key self.old.core self.new.core
-            (D.byte_at self.old.disk) (D.byte_at self.new.disk) result }
-        ensures driven { Drives plain self.old.core self.new.core
-            (D.byte_at self.old.disk) (D.byte_at self.new.disk) }
+        ensures waits { self.new.local.next_wait ≡ self.old.local.next_wait }
+        ensures lent { (self.new.local.env.reinsertion ≡ self.old.local.env.reinsertion) × (self.new.local.env.io ≡ self.old.local.env.io) }
+        ensures disk { self.new.local.disk ≡ self.old.local.disk }
+        ensures says { IsDeleted key self.old.local.core self.new.local.core
+            (D.byte_at self.old.local.disk) (D.byte_at self.new.local.disk) result }
+        ensures driven { Drives plain self.old.local.core self.new.local.core
+            (D.byte_at self.old.local.disk) (D.byte_at self.new.local.disk) }
+        ensures refused { IsTextRefusedOnlyAs is_draw_error self.old.local.core result }
     {
-        answer_delete(step(&mut self.core, &mut self.env, Step::Delete { hash: key }))
+        answer_done(self.local.delete(&key))
+    }
+
+    /// Flushes until no flusher has anything left to do, then reclaims blocks until enough are clean, as far as that goes,
+    /// and flushes the records that reclaims read back. The first reclaims of a call, as many as there are blocks, have
+    /// records written again where `env` has a filter; the others free their blocks, so that it ends. It puts, deletes and
+    /// loads nothing, and closes nothing. `Io`: a flusher's batch can't be ended, since a write of it was never reported.
+    /// `NoSpace`: no block can be reclaimed. `SequenceEnd`: the limit of steps is reached, or 2^64 - 1 turns weren't
+    /// enough. `Memory` where a reclaim or a flush is refused it.
+    pub fn wait(&mut self) -> Answer<A>
+        ensures answered { IsOkOrFault result }
+        ensures rest { result ≡ Answer.Ok → ComesToRest plain self.old.local.core self.new.local.core }
+        ensures waited { D.is_known self.old.local.disk → D.is_known self.new.local.disk × Waits plain self.old.local.core self.new.local.core
+            (D.byte_at self.old.local.disk) (D.byte_at self.new.local.disk) }
+        ensures lent { (self.new.local.env.reinsertion ≡ self.old.local.env.reinsertion) × (self.new.local.env.io ≡ self.old.local.env.io) }
+        ensures refused { IsFaultOnlyAs is_wait_error result }
+        ensures lies { (b o n : ℕ) → D.surely_lies self.old.local.disk b o n → D.surely_lies self.new.local.disk b o n }
+        ensures counted { D.faults self.old.local.disk ≤ D.faults self.new.local.disk }
+    {
+        answer_done(self.local.wait())
+    }
+
+    /// Takes no more puts, deletes and destroys, and flushes what is queued, as a wait does: nothing else.
+    pub fn close(&mut self) -> Answer<A>
+        ensures answered { IsOkOrFault result }
+        ensures rest { result ≡ Answer.Ok → ComesToRest plain self.old.local.core self.new.local.core }
+        ensures closed { D.is_known self.old.local.disk → D.is_known self.new.local.disk × Closes plain self.old.local.core self.new.local.core
+            (D.byte_at self.old.local.disk) (D.byte_at self.new.local.disk) }
+        ensures lent { (self.new.local.env.reinsertion ≡ self.old.local.env.reinsertion) × (self.new.local.env.io ≡ self.old.local.env.io) }
+        ensures refused { IsFaultOnlyAs is_wait_error result }
+        ensures lies { (b o n : ℕ) → D.surely_lies self.old.local.disk b o n → D.surely_lies self.new.local.disk b o n }
+        ensures counted { D.faults self.old.local.disk ≤ D.faults self.new.local.disk }
+    {
+        answer_done(self.local.close())
+    }
+
+    /// Destroys all entries: flushes as a wait does, clears the index, and cleans each block, so that an opening finds
+    /// nothing of it again. Where a destroy has begun and isn't over it goes on with that one. `Closed` after a close,
+    /// `SequenceEnd` and `Memory` before it has begun; once it has, it tries again what is refused memory. `Io`, `NoSpace`
+    /// and `SequenceEnd` as of a wait. The first clean that failed is `Io`, or `Memory`; the others were done after it.
+    pub fn destroy(&mut self) -> Answer<A>
+        ensures answered { IsOkOrFault result }
+        ensures destroyed { D.is_known self.old.local.disk → D.is_known self.new.local.disk × Destroys (result ≡ Answer.Ok) plain self.old.local.core self.new.local.core
+            (D.byte_at self.old.local.disk) (D.byte_at self.new.local.disk) }
+        ensures lent { (self.new.local.env.reinsertion ≡ self.old.local.env.reinsertion) × (self.new.local.env.io ≡ self.old.local.env.io) }
+        ensures refused { IsFaultOnlyAs is_destroy_error result }
+        ensures lies { (b o n : ℕ) → D.surely_lies self.old.local.disk b o n → D.surely_lies self.new.local.disk b o n }
+        ensures counted { D.faults self.old.local.disk ≤ D.faults self.new.local.disk }
+    {
+        answer_done(self.local.destroy())
     }
 }

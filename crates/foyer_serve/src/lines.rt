@@ -45,6 +45,7 @@ pub struct Lines<R: Read + Drop, A: Allocator> {
 }
 
 impl<R: Read + Drop, A: Allocator> Lines<R, A> {
+    /// The lines of a reader, of which nothing is read yet. The buffer has 64 KiB, or the call is refused.
     pub fn new(alloc: A, input: R) -> Result<Lines<R, A>, AllocError> {
         Ok(Lines {
             input,
@@ -103,8 +104,8 @@ impl<R: Read + Drop, A: Allocator> Lines<R, A> {
         }
     }
 
-    /// Reads more, again where a read was interrupted. A buffer that a line fills grows first; where it can't, nothing is
-    /// read, and the line is passed over.
+    /// Reads more, again where a read was interrupted; another error of a read is the call's. A buffer that a line fills grows
+    /// first; where it can't, nothing is read, and the line is passed over.
     pub fn fill(&mut self) -> io::Result<Filled> {
         if self.start > 0 {
             self.move_to_front();

@@ -83,19 +83,19 @@ where
     ensures limits { IfOk result (λ e. e.recorder.limits ≡ throttle) }
     ensures fresh { IfOk result (λ e. e.recorder.view ≡ view (2 ^ 31) zeros zeros) }
     ensures beside { IfOk result (λ e. mode ≡ recover_mode.None
-        → (e.engine.disk.engine.recorder.table ≡ e.recorder.table) × (e.engine.disk.engine.recorder.limits ≡ throttle)
-        × (e.engine.disk.engine.recorder.view ≡ view (2 ^ 31) zeros zeros)) }
+        → (e.engine.local.disk.engine.recorder.table ≡ e.recorder.table) × (e.engine.local.disk.engine.recorder.limits ≡ throttle)
+        × (e.engine.local.disk.engine.recorder.view ≡ view (2 ^ 31) zeros zeros)) }
     ensures begins { IfOk result (λ e. (sound : AreValid settings) → IsOpenedOver plain settings sound
         ⟦<PartitionedDisk<MonitoredIoEngine<PsyncIoEngine<R::A>, A>, FsPartition, A> as Disk>⟧.byte_at
         (λ d. SurelyCame (⟦<PartitionedDisk<MonitoredIoEngine<PsyncIoEngine<R::A>, A>, FsPartition, A> as Disk>⟧.surely_has d)
         (⟦<PartitionedDisk<MonitoredIoEngine<PsyncIoEngine<R::A>, A>, FsPartition, A> as Disk>⟧.surely_lies d)
         (⟦<PartitionedDisk<MonitoredIoEngine<PsyncIoEngine<R::A>, A>, FsPartition, A> as Disk>⟧.faults d)
-        (⟦<PartitionedDisk<MonitoredIoEngine<PsyncIoEngine<R::A>, A>, FsPartition, A> as Disk>⟧.faults e.engine.disk))
+        (⟦<PartitionedDisk<MonitoredIoEngine<PsyncIoEngine<R::A>, A>, FsPartition, A> as Disk>⟧.faults e.engine.local.disk))
         ⟦<PartitionedDisk<MonitoredIoEngine<PsyncIoEngine<R::A>, A>, FsPartition, A> as Disk>⟧.is_known
         (λ d. d.blocks.items) ⟦<FsPartition as Partition>⟧.bytes ⟦<FsPartition as Partition>⟧.extent
-        mode e.engine.core e.engine.disk) }
-    ensures log { IfOk result (λ e. IsSome e.engine.log ↔ (settings.tombstone_log ≡ true)) }
-    ensures filter { IfOk result (λ e. e.engine.env.reinsertion ≡ None) }
+        mode e.engine.local.core e.engine.local.disk) }
+    ensures log { IfOk result (λ e. IsSome e.engine.local.log ↔ (settings.tombstone_log ≡ true)) }
+    ensures filter { IfOk result (λ e. e.engine.local.env.reinsertion ≡ None) }
     ensures refused { IfErr result (λ failed. MayRefuse settings mode failed.kind) }
 {
     let builder = FsDeviceBuilder::new(directory)
@@ -146,8 +146,8 @@ impl<A: Allocator + Clone, D: Disk + Drop, L: MarkLog + Drop> MonitoredEngine<A,
         &mut self,
         filter: Option<StorageFilter<BuiltInCondition, Global>>,
     ) -> Option<StorageFilter<BuiltInCondition, Global>>
-        ensures before { result ≡ self.old.engine.env.reinsertion }
-        ensures set { self.new.engine ≡ record self.old.engine { env = record self.old.engine.env { reinsertion = filter } } }
+        ensures before { result ≡ self.old.engine.local.env.reinsertion }
+        ensures set { self.new.engine ≡ record self.old.engine { local = record self.old.engine.local { env = record self.old.engine.local.env { reinsertion = filter } } } }
         ensures recorder { self.new.recorder ≡ self.old.recorder }
     {
         self.engine.set_reinsertion(filter)
@@ -157,8 +157,8 @@ impl<A: Allocator + Clone, D: Disk + Drop, L: MarkLog + Drop> MonitoredEngine<A,
     /// nanoseconds.
     pub fn show_io(&mut self, rt: &impl Wait, now: u64)
         ensures same { (self.new.recorder.table ≡ self.old.recorder.table) × (self.new.recorder.limits ≡ self.old.recorder.limits) }
-        ensures sees { SeesState self.new.engine.env.io self.old.recorder.view self.new.recorder.view }
-        ensures engine { self.new.engine ≡ record self.old.engine { env = record self.old.engine.env { io = self.new.engine.env.io } } }
+        ensures sees { SeesState self.new.engine.local.env.io self.old.recorder.view self.new.recorder.view }
+        ensures engine { self.new.engine ≡ record self.old.engine { local = record self.old.engine.local { env = record self.old.engine.local.env { io = self.new.engine.local.env.io } } } }
     {
         let io = self.recorder.io_state(rt, now);
         self.engine.set_io(io);
@@ -167,12 +167,12 @@ impl<A: Allocator + Clone, D: Disk + Drop, L: MarkLog + Drop> MonitoredEngine<A,
     /// As `Engine::put`.
     pub fn put(&mut self, key: u64, text: &str) -> Answer<A>
         ensures recorder { self.new.recorder ≡ self.old.recorder }
-        ensures disk { self.new.engine.disk ≡ self.old.engine.disk }
-        ensures says { IsPut key text.now self.old.engine.core self.new.engine.core
-            (D.byte_at self.old.engine.disk) (D.byte_at self.new.engine.disk) result }
-        ensures driven { Drives plain self.old.engine.core self.new.engine.core
-            (D.byte_at self.old.engine.disk) (D.byte_at self.new.engine.disk) }
-        ensures lent { (self.new.engine.env.reinsertion ≡ self.old.engine.env.reinsertion) × (self.new.engine.env.io ≡ self.old.engine.env.io) }
+        ensures disk { self.new.engine.local.disk ≡ self.old.engine.local.disk }
+        ensures says { IsPut key text.now self.old.engine.local.core self.new.engine.local.core
+            (D.byte_at self.old.engine.local.disk) (D.byte_at self.new.engine.local.disk) result }
+        ensures driven { Drives plain self.old.engine.local.core self.new.engine.local.core
+            (D.byte_at self.old.engine.local.disk) (D.byte_at self.new.engine.local.disk) }
+        ensures lent { (self.new.engine.local.env.reinsertion ≡ self.old.engine.local.env.reinsertion) × (self.new.engine.local.env.io ≡ self.old.engine.local.env.io) }
     {
         self.engine.put(key, text)
     }
@@ -197,25 +197,25 @@ impl<A: Allocator + Clone, D: Disk + Drop, L: MarkLog + Drop> MonitoredEngine<A,
     pub fn get(&mut self, rt: &impl Wait, key: u64, now: u64) -> Answer<A>
         ensures same { (self.new.recorder.table ≡ self.old.recorder.table) × (self.new.recorder.limits ≡ self.old.recorder.limits) }
         ensures sees { SeesMore self.old.recorder.view self.new.recorder.view }
-        ensures newest { D.is_known self.old.engine.disk
-            → IsNewestText key self.old.engine.core (D.byte_at self.old.engine.disk) result }
-        ensures known { D.is_known self.old.engine.disk → D.is_known self.new.engine.disk }
-        ensures says { D.is_known self.old.engine.disk → (throttled : Bool) × IsLoadedOrRefused key throttled
-            self.old.engine.core self.new.engine.core (D.byte_at self.old.engine.disk) (D.byte_at self.new.engine.disk) result }
-        ensures driven { D.is_known self.old.engine.disk → Drives plain self.old.engine.core self.new.engine.core
-            (D.byte_at self.old.engine.disk) (D.byte_at self.new.engine.disk) }
+        ensures newest { D.is_known self.old.engine.local.disk
+            → IsNewestText key self.old.engine.local.core (D.byte_at self.old.engine.local.disk) result }
+        ensures known { D.is_known self.old.engine.local.disk → D.is_known self.new.engine.local.disk }
+        ensures says { D.is_known self.old.engine.local.disk → (throttled : Bool) × IsLoadedOrRefused key throttled
+            self.old.engine.local.core self.new.engine.local.core (D.byte_at self.old.engine.local.disk) (D.byte_at self.new.engine.local.disk) result }
+        ensures driven { D.is_known self.old.engine.local.disk → Drives plain self.old.engine.local.core self.new.engine.local.core
+            (D.byte_at self.old.engine.local.disk) (D.byte_at self.new.engine.local.disk) }
         ensures unasked { self.old.recorder.limits.read_throughput ≡ None → self.old.recorder.limits.read_iops ≡ None
             → self.new.recorder ≡ self.old.recorder }
         ensures missed { self.old.recorder.limits.read_throughput ≡ None → self.old.recorder.limits.read_iops ≡ None
-            → D.is_known self.old.engine.disk
-            → IsTextMissedForCause key self.old.engine.core (D.byte_at self.old.engine.disk) result }
+            → D.is_known self.old.engine.local.disk
+            → IsTextMissedForCause key self.old.engine.local.core (D.byte_at self.old.engine.local.disk) result }
         ensures free { self.old.recorder.limits.read_throughput ≡ None → self.old.recorder.limits.read_iops ≡ None
-            → D.is_known self.old.engine.disk
-            → IsThrottledOnly false self.old.engine.core (D.byte_at self.old.engine.disk) result }
+            → D.is_known self.old.engine.local.disk
+            → IsThrottledOnly false self.old.engine.local.core (D.byte_at self.old.engine.local.disk) result }
         ensures got { self.old.recorder.limits.read_throughput ≡ None → self.old.recorder.limits.read_iops ≡ None
-            → D.is_known self.old.engine.disk → IsGot key self.old.engine.core self.new.engine.core
-            (D.byte_at self.old.engine.disk) (D.byte_at self.new.engine.disk) result }
-        ensures lent { (self.new.engine.env.reinsertion ≡ self.old.engine.env.reinsertion) × (self.new.engine.env.io ≡ self.old.engine.env.io) }
+            → D.is_known self.old.engine.local.disk → IsGot key self.old.engine.local.core self.new.engine.local.core
+            (D.byte_at self.old.engine.local.disk) (D.byte_at self.new.engine.local.disk) result }
+        ensures lent { (self.new.engine.local.env.reinsertion ≡ self.old.engine.local.env.reinsertion) × (self.new.engine.local.env.io ≡ self.old.engine.local.env.io) }
     {
         let throttled = self.is_read_throttled(rt, now);
         self.engine.load(key, throttled)
@@ -224,12 +224,12 @@ impl<A: Allocator + Clone, D: Disk + Drop, L: MarkLog + Drop> MonitoredEngine<A,
     /// As `Engine::delete`.
     pub fn delete(&mut self, key: u64) -> Answer<A>
         ensures recorder { self.new.recorder ≡ self.old.recorder }
-        ensures disk { self.new.engine.disk ≡ self.old.engine.disk }
-        ensures says { IsDeleted key self.old.engine.core self.new.engine.core
-            (D.byte_at self.old.engine.disk) (D.byte_at self.new.engine.disk) result }
-        ensures driven { Drives plain self.old.engine.core self.new.engine.core
-            (D.byte_at self.old.engine.disk) (D.byte_at self.new.engine.disk) }
-        ensures lent { (self.new.engine.env.reinsertion ≡ self.old.engine.env.reinsertion) × (self.new.engine.env.io ≡ self.old.engine.env.io) }
+        ensures disk { self.new.engine.local.disk ≡ self.old.engine.local.disk }
+        ensures says { IsDeleted key self.old.engine.local.core self.new.engine.local.core
+            (D.byte_at self.old.engine.local.disk) (D.byte_at self.new.engine.local.disk) result }
+        ensures driven { Drives plain self.old.engine.local.core self.new.engine.local.core
+            (D.byte_at self.old.engine.local.disk) (D.byte_at self.new.engine.local.disk) }
+        ensures lent { (self.new.engine.local.env.reinsertion ≡ self.old.engine.local.env.reinsertion) × (self.new.engine.local.env.io ≡ self.old.engine.local.env.io) }
     {
         self.engine.delete(key)
     }
@@ -238,11 +238,11 @@ impl<A: Allocator + Clone, D: Disk + Drop, L: MarkLog + Drop> MonitoredEngine<A,
     pub fn wait(&mut self) -> Answer<A>
         ensures recorder { self.new.recorder ≡ self.old.recorder }
         ensures answered { IsOkOrFault result }
-        ensures rest { result ≡ Answer.Ok → ComesToRest plain self.old.engine.core self.new.engine.core }
-        ensures waited { D.is_known self.old.engine.disk → D.is_known self.new.engine.disk
-            × Waits plain self.old.engine.core self.new.engine.core
-            (D.byte_at self.old.engine.disk) (D.byte_at self.new.engine.disk) }
-        ensures lent { (self.new.engine.env.reinsertion ≡ self.old.engine.env.reinsertion) × (self.new.engine.env.io ≡ self.old.engine.env.io) }
+        ensures rest { result ≡ Answer.Ok → ComesToRest plain self.old.engine.local.core self.new.engine.local.core }
+        ensures waited { D.is_known self.old.engine.local.disk → D.is_known self.new.engine.local.disk
+            × Waits plain self.old.engine.local.core self.new.engine.local.core
+            (D.byte_at self.old.engine.local.disk) (D.byte_at self.new.engine.local.disk) }
+        ensures lent { (self.new.engine.local.env.reinsertion ≡ self.old.engine.local.env.reinsertion) × (self.new.engine.local.env.io ≡ self.old.engine.local.env.io) }
     {
         self.engine.wait()
     }
@@ -251,11 +251,11 @@ impl<A: Allocator + Clone, D: Disk + Drop, L: MarkLog + Drop> MonitoredEngine<A,
     pub fn close(&mut self) -> Answer<A>
         ensures recorder { self.new.recorder ≡ self.old.recorder }
         ensures answered { IsOkOrFault result }
-        ensures rest { result ≡ Answer.Ok → ComesToRest plain self.old.engine.core self.new.engine.core }
-        ensures closed { D.is_known self.old.engine.disk → D.is_known self.new.engine.disk
-            × Closes plain self.old.engine.core self.new.engine.core
-            (D.byte_at self.old.engine.disk) (D.byte_at self.new.engine.disk) }
-        ensures lent { (self.new.engine.env.reinsertion ≡ self.old.engine.env.reinsertion) × (self.new.engine.env.io ≡ self.old.engine.env.io) }
+        ensures rest { result ≡ Answer.Ok → ComesToRest plain self.old.engine.local.core self.new.engine.local.core }
+        ensures closed { D.is_known self.old.engine.local.disk → D.is_known self.new.engine.local.disk
+            × Closes plain self.old.engine.local.core self.new.engine.local.core
+            (D.byte_at self.old.engine.local.disk) (D.byte_at self.new.engine.local.disk) }
+        ensures lent { (self.new.engine.local.env.reinsertion ≡ self.old.engine.local.env.reinsertion) × (self.new.engine.local.env.io ≡ self.old.engine.local.env.io) }
     {
         self.engine.close()
     }
@@ -264,10 +264,10 @@ impl<A: Allocator + Clone, D: Disk + Drop, L: MarkLog + Drop> MonitoredEngine<A,
     pub fn destroy(&mut self) -> Answer<A>
         ensures recorder { self.new.recorder ≡ self.old.recorder }
         ensures answered { IsOkOrFault result }
-        ensures destroyed { D.is_known self.old.engine.disk → D.is_known self.new.engine.disk
-            × Destroys (result ≡ Answer.Ok) plain self.old.engine.core self.new.engine.core
-            (D.byte_at self.old.engine.disk) (D.byte_at self.new.engine.disk) }
-        ensures lent { (self.new.engine.env.reinsertion ≡ self.old.engine.env.reinsertion) × (self.new.engine.env.io ≡ self.old.engine.env.io) }
+        ensures destroyed { D.is_known self.old.engine.local.disk → D.is_known self.new.engine.local.disk
+            × Destroys (result ≡ Answer.Ok) plain self.old.engine.local.core self.new.engine.local.core
+            (D.byte_at self.old.engine.local.disk) (D.byte_at self.new.engine.local.disk) }
+        ensures lent { (self.new.engine.local.env.reinsertion ≡ self.old.engine.local.env.reinsertion) × (self.new.engine.local.env.io ≡ self.old.engine.local.env.io) }
     {
         self.engine.destroy()
     }

@@ -25,7 +25,9 @@ pub const GENERATOR_SEED: u64 = 0;
 pub struct Options<'a> {
     /// The directory's path, or `:memory:`.
     pub directory: &'a str,
+    /// What the blocks may take together, in bytes.
     pub capacity: u64,
+    /// The size of a block in bytes, before it is rounded up to whole pages of 4096.
     pub block_size: u64,
 }
 

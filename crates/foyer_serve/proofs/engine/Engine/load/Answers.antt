@@ -1,32 +1,41 @@
-use Rattle.std.proofs.Common.{◌≡◌, inr, refl, sym, subst}
-use Rattle.foyer_device_page.specs.declared.error.ErrorKind.TheVariants as kind
-use Rattle.foyer_serve.specs.declared.engine.Answer.TheVariants as answer
-use Rattle.foyer_serve.specs.Texts.{IsTextMissedForCause, IsNewestText, IsThrottledOnly}
-use Rattle.foyer_serve.proofs.EngineLemmas.{missed_got, newest_got}
-use Rattle.foyer_serve.proofs.ThrottledLemmas.{throttled_only}
+use Rattle.std.proofs.Common.{sym, subst}
+use Rattle.foyer_io_disk.specs.Disk.{SurelyCame}
+use Rattle.foyer_storage_local.specs.StepAnswers.{is_load_error}
+use Rattle.foyer_serve.specs.Texts.{IsIoTextForCause, IsLoadedOrRefused, IsNewestText, IsTextMissedForCause, IsThrottledOnly}
+use Rattle.foyer_serve.proofs.AnswerLemmas.{io_text, load_faults, loaded_text, missed_text, newest_text, throttled_text}
 use Rattle.foyer_serve.proofs.engine.Engine.load.Goals as goal
 
-pub returns-in-Ok-clause-newest : goal.returns-in-Ok-clause-newest
-returns-in-Ok-clause-newest g c = λ known.
-    let core = c.args.self.now.core in
-    let bytes = g.D.Disk.byte_at c.args.self.now.disk in
-    subst (λ said. IsNewestText c.args.key core bytes said) (sym c.answer_load.ensures) (newest_got c.args.key core bytes c.in-Ok.last (c.in-Ok.ensures.newest known))
+pub returns-clause-newest : goal.returns-clause-newest
+returns-clause-newest g c = λ known.
+    let core = c.args.self.now.local.core in
+    let bytes = g.D.Disk.byte_at c.args.self.now.local.disk in
+    subst (λ said. IsNewestText c.args.key core bytes said) (sym c.answer_load.ensures) (newest_text c.args.key core bytes c.load_hash.result (c.load_hash.ensures.newest known))
 
-pub returns-in-Ok-clause-missed : goal.returns-in-Ok-clause-missed
-returns-in-Ok-clause-missed g c = λ known not.
-    let core = c.args.self.now.core in
-    let bytes = g.D.Disk.byte_at c.args.self.now.disk in
-    subst (λ said. IsTextMissedForCause c.args.key core bytes said) (sym c.answer_load.ensures) (missed_got c.args.key core bytes c.in-Ok.last (c.in-Ok.ensures.missed known not))
+pub returns-clause-missed : goal.returns-clause-missed
+returns-clause-missed g c = λ known not.
+    let core = c.args.self.now.local.core in
+    let bytes = g.D.Disk.byte_at c.args.self.now.local.disk in
+    subst (λ said. IsTextMissedForCause c.args.key core bytes said) (sym c.answer_load.ensures) (missed_text c.args.key core bytes c.load_hash.result (c.load_hash.ensures.missed known not))
 
-pub returns-in-Err-clause-missed : goal.returns-in-Err-clause-missed
-returns-in-Err-clause-missed g c = λ known not s sound first events history few b sequence x kept newer some. inr refl
+pub returns-clause-throttled : goal.returns-clause-throttled
+returns-clause-throttled g c = λ known.
+    let core = c.args.self.now.local.core in
+    let bytes = g.D.Disk.byte_at c.args.self.now.local.disk in
+    subst (λ said. IsThrottledOnly c.args.throttled core bytes said) (sym c.answer_load.ensures) (throttled_text c.args.key core bytes c.args.throttled c.load_hash.result (c.load_hash.ensures.throttled known))
 
-pub returns-in-Ok-clause-throttled : goal.returns-in-Ok-clause-throttled
-returns-in-Ok-clause-throttled g c = λ known.
-    let core = c.args.self.now.core in
-    let bytes = g.D.Disk.byte_at c.args.self.now.disk in
-    subst (λ said. IsThrottledOnly c.args.throttled core bytes said) (sym c.answer_load.ensures)
-    (throttled_only c.args.key c.args.throttled c.in-Ok.last core c.load.new.core bytes (g.D.Disk.byte_at c.load.new.disk) (c.in-Ok.ensures.runs known))
+pub returns-clause-says : goal.returns-clause-says
+returns-clause-says g c = λ known.
+    let bytes = g.D.Disk.byte_at c.args.self.now.local.disk in
+    let after = g.D.Disk.byte_at c.load_hash.new.self.disk in
+    subst (λ said. IsLoadedOrRefused c.args.key c.args.throttled c.args.self.now.local.core c.load_hash.new.self.core bytes after said) (sym c.answer_load.ensures)
+    (loaded_text c.args.self.now.local.core c.load_hash.new.self.core bytes after c.args.key c.args.throttled c.load_hash.result (c.load_hash.ensures.says known))
 
-pub returns-in-Err-clause-throttled : goal.returns-in-Err-clause-throttled
-returns-in-Err-clause-throttled g c = λ known s sound first events history is. absurd (let e : answer.Fault kind.Memory ≡ answer.Throttled = is in cc)
+pub returns-clause-honest : goal.returns-clause-honest
+returns-clause-honest g c =
+    let core = c.args.self.now.local.core in
+    let disk = c.args.self.now.local.disk in
+    let came = SurelyCame (g.D.Disk.surely_has disk) (g.D.Disk.surely_lies disk) (g.D.Disk.faults disk) (g.D.Disk.faults c.load_hash.new.self.disk) in
+    subst (λ said. IsIoTextForCause c.args.key came core said) (sym c.answer_load.ensures) (io_text c.args.key came core c.load_hash.result c.load_hash.ensures.honest)
+
+pub returns-clause-refused : goal.returns-clause-refused
+returns-clause-refused g c = λ known s valid it at. load_faults is_load_error c.answer_load.result c.load_hash.result c.answer_load.ensures (c.load_hash.ensures.refused known s valid it at)

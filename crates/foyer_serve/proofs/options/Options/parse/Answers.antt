@@ -1,4 +1,4 @@
-use Rattle.std.proofs.Common.{◌≡◌, List, ℕ, sym, subst, ap, ◌∙◌}
+use Rattle.std.proofs.Common.{sym, subst, ap, ◌∙◌}
 use Rattle.std.specs.Prelude.{MatchOption, string_bytes}
 use Rattle.foyer_serve.specs.Arguments.{AreWords}
 use Rattle.foyer_serve.specs.Lines.{IsNumber}

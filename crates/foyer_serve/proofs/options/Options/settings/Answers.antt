@@ -1,8 +1,7 @@
-use Rattle.std.proofs.Common.{◌≡◌, ℕ, ◌+◌, ◌*◌, ◌/◌, refl, ◌<◌, ◌≤◌, ◌^◌, sym, subst, ap, ◌∙◌, arith}
+use Rattle.std.proofs.Common.{◌≡◌, ◌*◌, ◌/◌, refl, ◌<◌, ◌≤◌, ◌^◌, sym, subst, ap, ◌∙◌, arith}
 use Rattle.std.proofs.lemmas.Bool.{false≢true}
 use Rattle.foyer_format_layout.specs.Page.{page_up}
-use Rattle.foyer_format_layout.proofs.PageLaws.{page_up-holds}
-use Rattle.foyer_serve.specs.Arguments.{AreAsked, GoTogether, blocks_held}
+use Rattle.foyer_serve.specs.Arguments.{AreAsked, blocks_held}
 use Rattle.foyer_serve.proofs.ArgumentLemmas.{rounded, some_page, not_both, together_valid, valid_together}
 use Rattle.foyer_serve.proofs.options.Options.settings.Goals as goal
 
