@@ -1,0 +1,193 @@
+//! What a store is asked, by words, and what is noted of its answers. Keys have 128 bits, and their low 64 bits as hash: `1+` is
+//! the key 2^64 + 1.
+use crate::tests::gates::HoldingGate;
+use foyer_core_tally::book::Kinds;
+use foyer_device_page::error::{Error, Result};
+use foyer_format_record::serde::{HashBuilder, NoProperties};
+use foyer_policy_piece::keeper::Piece;
+use foyer_program::store::config::Engine;
+use foyer_program::store::engine::engine::Enqueued;
+use foyer_program::store::engine::load::Load;
+use foyer_program::store::session::StoreSession;
+use foyer_program::store::store::Store;
+use foyer_testing::said::Said;
+use std::alloc::Global;
+use std::sync::Wait;
+use std::thread;
+
+/// The hash of a key is its low 64 bits.
+#[derive(Clone, Copy)]
+pub(crate) struct LowBits;
+
+impl HashBuilder<u128> for LowBits {
+    ghost use Rattle.std.specs.Prelude.{◌%◌, ◌^◌};
+
+    ghost hash_of = { λ _ key. key % 2 ^ 64 };
+
+    fn hash_one(&self, key: &u128) -> u64 {
+        (*key % (1 << 64)) as u64
+    }
+}
+
+/// A store of these tests.
+pub(crate) type Texts<N> = Store<N, u128, String, NoProperties, LowBits>;
+
+fn key_of(word: &str) -> u128 {
+    match word.strip_suffix('+') {
+        Some(low) => u128::from(low.parse::<u64>().unwrap_or(0)) + (1 << 64),
+        None => u128::from(word.parse::<u64>().unwrap_or(0)),
+    }
+}
+
+fn say_fault(said: &mut Said, error: Error) {
+    said.word("fault ");
+    said.word(error.kind().name());
+}
+
+fn say_put(said: &mut Said, answer: Result<Enqueued>) {
+    match answer {
+        Ok(Enqueued::Queued) => said.word("queued"),
+        Ok(Enqueued::Ignored) => said.word("ignored"),
+        Ok(Enqueued::Deleted) => said.word("deleted"),
+        Err(error) => say_fault(said, error),
+    }
+}
+
+fn say_done(said: &mut Said, answer: Result<()>) {
+    match answer {
+        Ok(()) => said.word("ok"),
+        Err(error) => say_fault(said, error),
+    }
+}
+
+fn say_whether(said: &mut Said, answer: Result<bool>) {
+    match answer {
+        Ok(is_so) => said.flag("", is_so),
+        Err(error) => say_fault(said, error),
+    }
+}
+
+fn say_text(said: &mut Said, word: &str, text: &str) {
+    said.word(word);
+    said.word(text);
+}
+
+fn say_load(said: &mut Said, answer: Result<Load<u128, String, NoProperties, Global>>) {
+    match answer {
+        Ok(Load::Entry { value, .. }) => say_text(said, "entry ", value.as_str()),
+        Ok(Load::Piece { piece, .. }) => say_text(said, "piece ", piece.value().as_str()),
+        Ok(Load::Throttled) => said.word("throttled"),
+        Ok(Load::Miss) => said.word("miss"),
+        Err(error) => say_fault(said, error),
+    }
+}
+
+// How many steps of each kind a session made, but for those that are of no kind: a wait makes as many as it needs.
+fn say_tally<L: Kinds>(said: &mut Said, session: &StoreSession<L>) {
+    let tally = session.tally();
+    said.word("tally");
+    for count in &tally[..7] {
+        said.number(" ", *count);
+    }
+}
+
+// How many of no kind.
+fn say_others<L: Kinds>(said: &mut Said, session: &StoreSession<L>) {
+    let tally = session.tally();
+    said.number("others ", tally[7]);
+}
+
+// What became of the thread that is held.
+fn say_gate(said: &mut Said, gate: &HoldingGate, word: &str) {
+    match word {
+        "reached" => said.flag("", gate.is_reached()),
+        "held" => said.flag("", gate.is_holding()),
+        "open" => {
+            gate.open();
+            said.word("open");
+        }
+        _ => said.word("?"),
+    }
+}
+
+fn put<L: Kinds, N: Engine<StoreSession<L>, u128, String, NoProperties>>(
+    rt: &impl Wait,
+    alloc: Global,
+    store: &Texts<N>,
+    session: &mut StoreSession<L>,
+    key: u128,
+    text: &str,
+    force: bool,
+) -> Result<Enqueued> {
+    let value = String::from_str(alloc, text)?;
+    let piece = Piece::new(alloc, key, value, LowBits.hash_one(&key), NoProperties)?;
+    store.enqueue(rt, session, &piece, force, 0)
+}
+
+// Whether the device comes to have a key's hash, and no piece of it is kept.
+fn is_seen<L: Kinds, N: Engine<StoreSession<L>, u128, String, NoProperties>>(
+    rt: &impl Wait,
+    store: &Texts<N>,
+    session: &mut StoreSession<L>,
+    key: u128,
+) -> Result<bool> {
+    for _ in 0..1_000_000 {
+        if store.may_contains(rt, session, &key)? {
+            store.wait(rt, session)?;
+            return Ok(true);
+        }
+        thread::yield_now();
+    }
+    Ok(false)
+}
+
+// Notes a call's answer.
+fn say_line<L: Kinds, N: Engine<StoreSession<L>, u128, String, NoProperties>>(
+    rt: &impl Wait,
+    alloc: Global,
+    store: &Texts<N>,
+    gate: &HoldingGate,
+    session: &mut StoreSession<L>,
+    said: &mut Said,
+    line: &str,
+) {
+    let (word, rest) = line.split_once(' ').unwrap_or((line, ""));
+    let (first, text) = rest.split_once(' ').unwrap_or((rest, ""));
+    let key = key_of(first);
+    match word {
+        "put" => say_put(said, put(rt, alloc, store, session, key, text, false)),
+        "force" => say_put(said, put(rt, alloc, store, session, key, text, true)),
+        "get" => say_load(said, store.load(rt, session, &key, 0)),
+        "has" => say_whether(said, store.may_contains(rt, session, &key)),
+        "del" => say_done(said, store.delete(rt, session, &key)),
+        "wait" => say_done(said, store.wait(rt, session)),
+        "destroy" => say_done(said, store.destroy(rt, session)),
+        "close" => say_done(said, store.close(rt, session)),
+        "seen" => say_whether(said, is_seen(rt, store, session, key)),
+        "enabled" => said.flag("", store.is_enabled()),
+        "tally" => say_tally(said, &*session),
+        "others" => say_others(said, &*session),
+        _ => say_gate(said, gate, word),
+    }
+}
+
+/// What a store answers to a script.
+pub(crate) fn answers_to<L: Kinds, N: Engine<StoreSession<L>, u128, String, NoProperties>>(
+    rt: &impl Wait,
+    alloc: Global,
+    store: &Texts<N>,
+    gate: &HoldingGate,
+    session: &mut StoreSession<L>,
+    script: &str,
+) -> Said {
+    let mut said = Said::new(alloc);
+    let mut is_first = true;
+    for line in script.split(", ") {
+        if !is_first {
+            said.word(", ");
+        }
+        is_first = false;
+        say_line(rt, alloc, store, gate, session, &mut said, line);
+    }
+    said
+}

@@ -1,0 +1,207 @@
+//! Rows of text: what a store, or the program over one, is asked, and what it answers.
+use crate::tests::built::opened;
+use crate::tests::memories::SameMemory;
+use crate::tests::over::{USUAL, over_of};
+use crate::tests::programs::say_served;
+use foyer_device_page::error::Result;
+use foyer_testing::said::Said;
+use std::alloc::Global;
+use std::fs;
+use std::fs::File;
+use std::rt::Files;
+use std::sync::Wait;
+use std::test::Fail;
+use std::thread::Threads;
+
+// Each row is what is asked, and behind a bar what is answered; a name stands above those of a case. Slashes part stores that are
+// built one after the other over one memory, each with what it is built over before its script. `force` puts what a filter
+// would reject; `tally` is how many pieces were queued and dropped, hashes deleted, reads begun, look-ups missed, entries
+// found and reads missed.
+
+const CALLS: &str = "of two keys with one hash the newest is found
+force 1 foo, force 1+ bar, wait, get 1, get 1+ | queued, queued, ok, miss, entry bar
+a piece that is not admitted deletes its key
+rejects < force 1 v1, wait, get 1, put 1 v2, wait, get 1, has 1 | queued, ok, entry v1, deleted, ok, miss, no
+the oldest of twelve puts make room for the newest: two blocks have room for three records each
+blocks 2 < put 1 x, wait, put 2 x, wait, put 3 x, wait, put 4 x, wait, put 5 x, wait, put 6 x, wait, put 7 x, wait, put 8 x, wait, put 9 x, wait, put 10 x, wait, put 11 x, wait, put 12 x, wait, get 1, get 2, get 3, get 4, get 5, get 6, get 10, get 11, get 12 | queued, ok, queued, ok, queued, ok, queued, ok, queued, ok, queued, ok, queued, ok, queued, ok, queued, ok, queued, ok, queued, ok, queued, ok, miss, miss, miss, miss, miss, miss, entry x, entry x, entry x
+a destroy leaves nothing, the store goes on, and a close refuses what comes
+put 1 a, put 2 b, wait, destroy, get 1, get 2, put 3 c, wait, get 3, close, put 4 d, del 3, get 3, wait, destroy | queued, queued, ok, ok, miss, miss, queued, ok, entry c, ok, fault Closed, fault Closed, entry c, ok, fault Closed
+a block whose records were deleted is reclaimed before an older one
+blocks 3, pages 8, clean 0 < put 1 x, put 2 x, put 3 x, put 4 x, put 5 x, put 6 x, put 7 x, put 11 x, put 12 x, put 13 x, put 14 x, put 15 x, put 16 x, put 17 x, wait, del 11, del 12, del 13, del 14, del 15, del 16, del 17, wait, put 21 x, put 22 x, put 23 x, put 24 x, put 25 x, put 26 x, put 27 x, put 28 x, wait, get 1, get 7, get 11, get 21, get 28 | queued, queued, queued, queued, queued, queued, queued, queued, queued, queued, queued, queued, queued, queued, ok, ok, ok, ok, ok, ok, ok, ok, ok, queued, queued, queued, queued, queued, queued, queued, queued, ok, entry x, entry x, miss, entry x, entry x
+three flushers write what is theirs
+flushers 3 < put 1 a, put 2 b, put 3 c, put 4 d, wait, get 1, get 2, get 3, get 4 | queued, queued, queued, queued, ok, entry a, entry b, entry c, entry d
+each flusher needs a block, and a keeper a shard
+flushers 4 < enabled | yes
+flushers 5 < enabled | refused Config
+flushers 0 < enabled | refused Config
+shards 0 < enabled | refused Config
+a store without an engine keeps nothing
+nothing < force 1 v1, get 1, has 1, del 1, wait, destroy, close, force 1 v1, enabled, tally, others | ignored, miss, no, ok, ok, ok, ok, ignored, no, tally 0 0 0 0 0 0 0, others 0, noop
+a session's tally is what it was answered, and another key's entry is an entry
+rejects < force 1 a, force 2 b, wait, get 1, get 2, get 3, put 4 c, del 2, get 2, get 1+, tally | queued, queued, ok, entry a, entry b, miss, deleted, ok, miss, miss, tally 2 0 2 3 2 3 0
+";
+
+const HELD: &str = "calls are answered while the flusher is held
+holds flush < force 1 v1, reached, get 1, has 1, has 2, del 1, get 1, held, open, wait, get 1, has 1 | queued, yes, piece v1, yes, no, ok, piece v1, yes, open, ok, miss, no
+a newer piece outlives the release of an older one
+holds flush < force 1 v1, reached, force 1 v2, get 1, held, open, wait, get 1 | queued, yes, queued, piece v2, yes, open, ok, entry v2
+a piece that is kept is answered without a step, and so is the question for it
+holds flush < force 1 a, reached, get 1, has 1, get 2, has 2, del 3, tally, others, held, open | queued, yes, piece a, yes, miss, no, ok, tally 1 0 1 0 1 0 0, others 1, yes, open
+a piece that isn't taken, since too much is queued, deletes its key: the older one is answered until it is written, and no more
+holds flush, queue 0 < force 1 a, reached, force 2 b, force 1 c, get 1, tally, held, open, wait, get 1, get 2, tally | queued, yes, queued, deleted, piece a, tally 2 1 0 0 0 0 0, yes, open, ok, miss, entry b, tally 2 1 0 1 1 1 0
+calls are answered while a reclaim is held
+blocks 2, holds reclaim < put 1 x, wait, put 2 x, wait, put 3 x, wait, put 4 x, reached, has 4, del 2, has 2, held, open, wait, get 1, get 4 | queued, ok, queued, ok, queued, ok, queued, yes, yes, ok, no, yes, open, ok, miss, entry x
+calls are answered while a load is held, which another thread asked for
+holds load < put 1 a, wait, reached, has 1, put 2 b, wait, has 2, del 2, has 2, held, open & seen 1, get 1 | queued, ok, yes, yes, queued, ok, yes, ok, no, yes, open & yes, entry a
+";
+
+// Where fewer than `clean` blocks are, a reclaim begins of its own; with 0 one begins for a flusher that waits alone. Elsewhere
+// nothing that is asked for hangs on whether one was done yet.
+const BUILT_AGAIN: &str =
+    "what was put is found, also where no wait came behind it, since a close waits
+put 1 a, put 2 b, wait, put 3 c / get 1, get 2, get 3, get 4 | queued, queued, ok, queued / entry a, entry b, entry c, miss
+of two values the newer is found, from one block and from two
+put 1 a, wait, put 1 b, wait / get 1, put 1 c, wait, get 1 / get 1 | queued, ok, queued, ok / entry b, queued, ok, entry c / entry c
+so is what was put behind a delete
+put 1 a, wait, del 1, put 1 b, wait / get 1 | queued, ok, ok, queued, ok / entry b
+two flushers write into blocks of their own
+flushers 2 < put 1 a, put 2 b, put 3 c, wait / get 1, get 2, get 3 | queued, queued, queued, ok / entry a, entry b, entry c
+past the capacity the newer of two values is found while its block is there, and then neither: the first opening fills a block, and begins another by the newer value, the second fills both again
+blocks 2 < put 1 a, put 2 x, put 3 x, wait, put 1 b, wait, get 1 / get 1, put 4 x, put 5 x, put 6 x, put 7 x, wait, get 1, get 7 / get 1, get 7 | queued, queued, queued, ok, queued, ok, entry b / entry b, queued, queued, queued, queued, ok, miss, entry x / miss, entry x
+the same of three blocks: the close of the second opening takes the older value's block, a put of the third the newer one's
+blocks 3, clean 0 < put 1 a, put 2 x, put 3 x, wait, put 1 b, put 4 x, put 5 x, wait, put 6 x, wait, get 1, get 2 / get 1, get 2 / get 1, get 2, put 7 x, put 8 x, put 9 x, put 10 x, wait, get 1, get 4, get 7, get 10 / get 1, get 10 | queued, queued, queued, ok, queued, queued, queued, ok, queued, ok, entry b, entry x / entry b, entry x / entry b, miss, queued, queued, queued, queued, ok, miss, miss, entry x, entry x / miss, entry x
+both values go with the one block that had them
+blocks 1, clean 0 < put 1 a, wait, put 1 b, wait, put 2 x, wait, get 1, put 3 x, wait, get 1, get 2, get 3 / get 1, get 2, get 3 | queued, ok, queued, ok, queued, ok, entry b, queued, ok, miss, miss, entry x / miss, miss, entry x
+of twelve puts two blocks have the newest six
+blocks 2, clean 0 < put 1 x, put 2 x, put 3 x, put 4 x, put 5 x, put 6 x, put 7 x, put 8 x, put 9 x, put 10 x, put 11 x, put 12 x, wait, get 6, get 7 / get 1, get 6, get 7, get 8, get 9, get 10, get 11, get 12 | queued, queued, queued, queued, queued, queued, queued, queued, queued, queued, queued, queued, ok, miss, entry x / miss, miss, entry x, entry x, entry x, entry x, entry x, entry x
+a delete is forgotten without a log, and lasts with one, until the key is put again
+put 1 a, wait, del 1, wait, get 1 / get 1 | queued, ok, ok, ok, miss / entry a
+log < put 1 a, put 2 b, wait, del 1, wait, get 1 / get 1, get 2, put 1 c, wait / get 1, get 2 | queued, queued, ok, ok, ok, miss / miss, entry b, queued, ok / entry c, entry b
+what was destroyed stays away
+put 1 a, put 2 b, wait, destroy, put 3 c, wait / get 1, get 2, get 3 | queued, queued, ok, ok, queued, ok / miss, miss, entry c
+an opening that recovers nothing leaves what is there
+put 1 a, wait / opens none < get 1 / opens quiet < get 1 | queued, ok / miss / entry a
+a failed read refuses a strict opening, and ends its block in a quiet one
+put 1 a, wait / fails 1, opens strict < get 1 / opens quiet < get 1 / fails 0, opens strict < get 1 | queued, ok / refused Recover / miss / entry a
+";
+
+const PROGRAMS: &str = "a record goes in and comes back
+disk :memory:, 16384, 16384 < put 1 a, wait, get 1, del 1, get 1 | queued, ok, entry a, ok, miss, status 0
+one block is taken again
+disk :memory:, 16384, 16384 < put 1 a, wait, put 2 b, wait, put 3 c, wait, put 4 d, wait, get 1, get 4 | queued, ok, queued, ok, queued, ok, queued, ok, miss, entry d, status 0
+the oldest of twelve puts make room for the newest
+disk :memory:, 32768, 16384 < put 1 x, wait, put 2 x, wait, put 3 x, wait, put 4 x, wait, put 5 x, wait, put 6 x, wait, put 7 x, wait, put 8 x, wait, put 9 x, wait, put 10 x, wait, put 11 x, wait, put 12 x, wait, get 1, get 2, get 3, get 4, get 5, get 6, get 10, get 11, get 12 | queued, ok, queued, ok, queued, ok, queued, ok, queued, ok, queued, ok, queued, ok, queued, ok, queued, ok, queued, ok, queued, ok, queued, ok, miss, miss, miss, miss, miss, miss, entry x, entry x, entry x, status 0
+bad sizes are found before a store is built
+disk :memory:, 4096, 16384 < put 1 a | fault Config, status 1
+a closed store refuses a put
+disk :memory:, 16384, 16384 < close, put 1 a, bad | ok, fault Closed, bad line, status 1
+a destroy leaves nothing, and the store goes on
+disk :memory:, 65536, 16384 < put 1 a, put 2 b, wait, destroy, get 1, get 2, put 3 c, wait, get 3, wait, close, wait, destroy | queued, queued, ok, ok, miss, miss, queued, ok, entry c, ok, ok, ok, fault Closed, status 1
+without a log a delete is forgotten
+disk forgotten, 32768, 16384 < put 1 a, wait, del 1, wait, close | queued, ok, ok, ok, ok, status 0
+disk forgotten, 32768, 16384 < get 1 | entry a, status 0
+remove forgotten | yes
+what was put into a directory is found again, of two values the newer, and what was destroyed stays away
+disk again, 65536, 16384 < put 1 a, put 2 bb, wait, put 1 c | queued, queued, ok, queued, status 0
+disk again, 65536, 16384 < get 1, get 2, get 3, destroy, get 1, put 3 d | entry c, entry bb, miss, ok, miss, queued, status 0
+disk again, 65536, 16384 < get 1, get 2, get 3 | miss, miss, entry d, status 0
+remove again | yes
+";
+
+// Notes what stores answer that are built over one memory, one after the other.
+fn say_stores<R: Threads + Wait + Files + Copy + Send + Sync + 'static>(
+    rt: R,
+    alloc: Global,
+    said: &mut Said,
+    asked: &str,
+) -> Result<()> {
+    let memory = SameMemory::new(alloc)?;
+    let mut over = USUAL;
+    let mut is_first = true;
+    for part in asked.split(" / ") {
+        if !is_first {
+            said.word(" / ");
+        }
+        is_first = false;
+        let (words, script) = part.split_once(" < ").unwrap_or(("", part));
+        over = over_of(over, words);
+        let answers = opened(rt, alloc, over, script, &memory)?;
+        said.word(answers.as_str());
+    }
+    Ok(())
+}
+
+/// What stores answer that are built over one memory, one after the other.
+pub(crate) fn answers_of_stores<R: Threads + Wait + Files + Copy + Send + Sync + 'static>(
+    rt: R,
+    alloc: Global,
+    asked: &str,
+) -> Result<String> {
+    let mut said = Said::new(alloc);
+    say_stores(rt, alloc, &mut said, asked)?;
+    said.text()
+}
+
+fn say_row<R: Threads + Wait + Files<File = File> + AllocGlobal + Copy + Send + Sync + 'static>(
+    rt: R,
+    alloc: Global,
+    said: &mut Said,
+    asked: &str,
+) -> Result<()> {
+    let (word, rest) = asked.split_once(' ').unwrap_or((asked, ""));
+    match word {
+        "disk" => say_served(rt, alloc, said, rest),
+        "remove" => {
+            said.flag("", fs::remove_dir_all(&rt, rest).is_ok());
+            Ok(())
+        }
+        _ => say_stores(rt, alloc, said, asked),
+    }
+}
+
+// The rows with what is answered now; any other line stays as it is.
+fn rows_of<R: Threads + Wait + Files<File = File> + AllocGlobal + Copy + Send + Sync + 'static>(
+    rt: R,
+    alloc: Global,
+    rows: &str,
+) -> Result<String> {
+    let mut said = Said::new(alloc);
+    for row in rows.lines() {
+        let (asked, _) = row.split_once(" | ").unwrap_or((row, ""));
+        said.word(asked);
+        if asked.len() < row.len() {
+            said.word(" | ");
+            say_row(rt, alloc, &mut said, asked)?;
+        }
+        said.word("\n");
+    }
+    said.text()
+}
+
+#[test]
+fn calls_are_answered_so(rt: HostRuntime) -> std::result::Result<(), Fail> {
+    let answers = rows_of(rt, rt.alloc(), CALLS)?;
+    assert!(rt; answers.as_str() == CALLS, "{answers}");
+    Ok(())
+}
+
+#[test]
+fn calls_are_answered_so_while_a_thread_is_held(rt: HostRuntime) -> std::result::Result<(), Fail> {
+    let answers = rows_of(rt, rt.alloc(), HELD)?;
+    assert!(rt; answers.as_str() == HELD, "{answers}");
+    Ok(())
+}
+
+#[test]
+fn stores_are_built_again_so(rt: HostRuntime) -> std::result::Result<(), Fail> {
+    let answers = rows_of(rt, rt.alloc(), BUILT_AGAIN)?;
+    assert!(rt; answers.as_str() == BUILT_AGAIN, "{answers}");
+    Ok(())
+}
+
+#[test]
+fn lines_are_answered_so(rt: HostRuntime) -> std::result::Result<(), Fail> {
+    let answers = rows_of(rt, rt.alloc(), PROGRAMS)?;
+    assert!(rt; answers.as_str() == PROGRAMS, "{answers}");
+    Ok(())
+}
