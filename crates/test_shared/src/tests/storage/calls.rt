@@ -42,11 +42,15 @@ fn value_of<L: Kinds>(
 }
 
 // Whether each call answers what one would expect of it.
-fn answer_all<L: Kinds, R: Wait>(rt: &R, alloc: Global, blanks: Blanks) -> Result<bool>
-    requires { AreOf L.name_of L.all blanks × (L.all ≡ 2 ^ 32) }
+fn are_answered<L: Kinds>(
+    rt: &impl Wait,
+    alloc: Global,
+    engine: &Numbers<L, OpenGate>,
+    session: &mut Session<L>,
+) -> Result<bool>
+    requires { session.old.shares.parts ≡ 2 ^ 32 }
 {
-    let (engine, mut session) = opened::<L, OpenGate>(alloc, OpenGate, blanks)?;
-    let found = value_of(rt, &engine, &mut session.split(1), 7)? == Some(70);
+    let found = value_of(rt, engine, &mut session.split(1), 7)? == Some(70);
     let read = {
         let mut own = session.split(1);
         let _ = engine.load(rt, &mut own, 7, false)?;
@@ -59,11 +63,18 @@ fn answer_all<L: Kinds, R: Wait>(rt: &R, alloc: Global, blanks: Blanks) -> Resul
     let is_missing = !engine.may_contains(rt, &mut session.split(1), 8)?;
     let piece = piece_of(alloc, 8, 80)?;
     let queued = engine.enqueue(rt, &mut session.split(1), piece, 16)? == Enqueued::Queued;
-    let unwritten = value_of(rt, &engine, &mut session.split(1), 8)?.is_none();
+    let unwritten = value_of(rt, engine, &mut session.split(1), 8)?.is_none();
     engine.delete(rt, &mut session.split(1), 7)?;
-    let deleted = value_of(rt, &engine, &mut session.split(1), 7)?.is_none();
+    let deleted = value_of(rt, engine, &mut session.split(1), 7)?.is_none();
     let first = found && read && throttled && is_there;
     Ok(first && is_missing && queued && unwritten && deleted)
+}
+
+fn answer_all<L: Kinds, R: Wait>(rt: &R, alloc: Global, blanks: Blanks) -> Result<bool>
+    requires { AreOf L.name_of L.all blanks × (L.all ≡ 2 ^ 32) }
+{
+    let (engine, mut session) = opened::<L, OpenGate>(alloc, OpenGate, blanks)?;
+    are_answered(rt, alloc, &engine, &mut session)
 }
 
 #[test]
