@@ -1,20 +1,25 @@
 -- The blocks that were read, one more at a time.
-use Rattle.std.proofs.Common.{◌≡◌, ◌≢◌, ℕ, suc, ◌+◌, ◌<◌, ◌==◌, Bool, true, false, if◌then◌else◌, List, [], ◌∷◌, ◌++◌, refl, sym, ap, subst, ◌∙◌, arith, append-nil}
+use Rattle.std.proofs.Common.{◌≡◌, ◌≢◌, ℕ, suc, ◌+◌, ◌<◌, ◌==◌, max, Bool, true, false, if◌then◌else◌, Result, Ok, Err, IfErr, Option, Some, None, List, [], ◌∷◌, ◌++◌, length, refl, sym, ap, subst, ◌∙◌, arith, append-nil}
+use Rattle.std.proofs.lemmas.List.{length-append, nil_from_length}
 use Rattle.std.proofs.lemmas.Bool.{eqb-true, eqb-false, eq-eqb}
 use Rattle.std.specs.FinMap as finite
 use Rattle.std.specs.FinMap.{get-empty}
 use Rattle.std.specs.Ordering.{nat_cmp}
+use Rattle.foyer_device_page.specs.declared.error.Error.{Error}
+use Rattle.foyer_device_page.specs.declared.error.Error.TheVariants.{Memory, Recover}
 use Rattle.foyer_format_blob.specs.declared.blob.BlobEntryIndex.{BlobEntryIndex}
 use Rattle.foyer_block_index.specs.declared.indexer.HashedEntryAddress.{HashedEntryAddress}
 use Rattle.foyer_block_index.specs.Index.{IndexMap}
-use Rattle.foyer_block_index.specs.Insertion.{inserted_all}
+use Rattle.foyer_block_index.specs.Insertion.{inserted, inserted_all}
+use Rattle.foyer_block_index.specs.declared.indexer.Index.TheVariants.{Address}
 use Rattle.foyer_format_buffer.specs.Listing.{Lists, kept}
 use Rattle.foyer_format_layout.specs.Each.{Each}
 use Rattle.foyer_format_layout.specs.Position.{Sizes}
-use Rattle.foyer_block_recover.specs.BlocksKept.{held_by, HoldsKept, AreBlocksRead, IsBlockCut}
+use Rattle.foyer_block_recover.specs.BlocksKept.{held_by, HoldsKept, AreBlocksRead, IsBlockCut, gathered}
 use Rattle.foyer_block_recover.specs.Chained.{hashed_entries, IsKeptOf}
 use Rattle.foyer_block_recover.specs.Kept.{greatest_in}
 use Rattle.foyer_block_recover.specs.Placed.{IsPlaced, IsSomeKept, AreSomeKept}
+use Rattle.foyer_block_recover.specs.Sources.{Listing, IsSource, listing_at, sure_in, sure_of}
 use Rattle.foyer_block_recover.specs.Opening.{winner, stand_in, all_stand, greatest, is_empty, clean_from, IsCut}
 use Rattle.foyer_block_recover.specs.declared.block.blocks.BlocksRead.{BlocksRead}
 use Rattle.foyer_block_recover.proofs.FoundLemmas.{index_block, greatest_block, all_stand_push, clean_push, all_stand_same, clean_same}
@@ -40,14 +45,26 @@ pub some_kept : (b : ℕ) (es : List BlobEntryIndex) → (hashed_entries b es �
 some_kept b [] some = absurd (some refl)
 some_kept b (e ∷ es) some = refl
 
--- what a chain gave, of a disk of which no less was sure before
-pub kept_as : (size n m : ℕ) (seen bytes : ℕ → ℕ → ℕ) (now before : ℕ → ℕ → ℕ → Type 0) (b : ℕ) (old new : List HashedEntryAddress) (is_cut : Bool)
-    → m ≡ n → seen ≡ bytes → ((b o k : ℕ) → before b o k → now b o k) → old ≡ []
-    → IsKeptOf (record { block = size; index = m }) (seen b) (λ p. now b p m) b old new is_cut
-    → IsKeptOf (record { block = size; index = n }) (bytes b) (λ p. before b p n) b [] new is_cut
-kept_as size n m seen bytes now before b old new is_cut len same has empty this = record {
+-- of what it is sure in a block, where it is sure of more places of a disk
+sure_more : (o : Option Listing) (failed : ℕ → Bool) (fewer more : ℕ → Type 0) → ((p : ℕ) → fewer p → more p) → (p : ℕ) → sure_in o failed fewer p → sure_in o failed more p
+sure_more None failed fewer more within p is = within p is
+sure_more (Some l) failed fewer more within p is = is
+
+pub sure_before : (s : Sizes) (slots : List (Option Listing)) (failed : ℕ → ℕ → Bool) (fewer more : ℕ → ℕ → ℕ → Type 0) → ((b o n : ℕ) → fewer b o n → more b o n)
+    → (b o n : ℕ) → sure_of s slots failed fewer b o n → sure_of s slots failed more b o n
+sure_before s slots failed fewer more within b o n is = sure_more (listing_at s b slots) (failed b) (λ p. fewer b p n) (λ p. more b p n) (λ p. within b p n) o is
+
+-- what a block's source gave, of a disk of which no less was sure before
+pub kept_here : (size n m : ℕ) (slots : List (Option Listing)) (listing : Option Listing) (seen has bytes : ℕ → ℕ → ℕ) (failed : ℕ → ℕ → Bool) (now before : ℕ → ℕ → ℕ → Type 0)
+    (b : ℕ) (old new : List HashedEntryAddress) (is_cut : Bool) → m ≡ n → seen ≡ has → listing ≡ listing_at (record { block = size; index = n }) b slots
+    → ((b o k : ℕ) → before b o k → now b o k)
+    → (IsSource (record { block = size; index = m }) b listing (bytes b) (seen b) (failed b)
+        → IsKeptOf (record { block = size; index = m }) (bytes b) (sure_in listing (failed b) (λ p. now b p m)) b old new is_cut)
+    → IsSource (record { block = size; index = n }) b (listing_at (record { block = size; index = n }) b slots) (bytes b) (has b) (failed b)
+    → IsKeptOf (record { block = size; index = n }) (bytes b) (λ p. sure_of (record { block = size; index = n }) slots failed before b p n) b old new is_cut
+kept_here size n m slots listing seen has bytes failed now before b old new is_cut len same listing_is within keeps source = record {
   failed = here.failed;
-  faults = λ p bad sure. here.faults p bad (has b p n sure);
+  faults = λ p bad sure. here.faults p bad (sure_more (listing_at s b slots) (failed b) (λ q. before b q n) (λ q. now b q n) (λ q. within b q n) p sure);
   listed = here.listed;
   lists = here.lists;
   kept = here.kept;
@@ -55,14 +72,54 @@ kept_as size n m seen bytes now before b old new is_cut len same has empty this 
   whole = here.whole;
 }
   where
-    sized : IsKeptOf (record { block = size; index = n }) (seen b) (λ p. now b p n) b old new is_cut
-    sized = subst (λ k. IsKeptOf (record { block = size; index = k }) (seen b) (λ p. now b p k) b old new is_cut) len this
+    s : Sizes
+    s = record { block = size; index = n }
 
-    shown : IsKeptOf (record { block = size; index = n }) (bytes b) (λ p. now b p n) b old new is_cut
-    shown = subst (λ (f : ℕ → ℕ → ℕ). IsKeptOf (record { block = size; index = n }) (f b) (λ p. now b p n) b old new is_cut) same sized
+    own : IsSource s b listing (bytes b) (has b) (failed b)
+    own = subst (λ (o : Option Listing). IsSource s b o (bytes b) (has b) (failed b)) (sym listing_is) source
 
-    here : IsKeptOf (record { block = size; index = n }) (bytes b) (λ p. now b p n) b [] new is_cut
-    here = subst (λ l. IsKeptOf (record { block = size; index = n }) (bytes b) (λ p. now b p n) b l new is_cut) empty shown
+    shown : IsSource s b listing (bytes b) (seen b) (failed b)
+    shown = subst (λ (f : ℕ → ℕ → ℕ). IsSource s b listing (bytes b) (f b) (failed b)) (sym same) own
+
+    sized : IsSource (record { block = size; index = m }) b listing (bytes b) (seen b) (failed b)
+    sized = subst (λ k. IsSource (record { block = size; index = k }) b listing (bytes b) (seen b) (failed b)) (sym len) shown
+
+    as_sized : IsKeptOf s (bytes b) (sure_in listing (failed b) (λ p. now b p n)) b old new is_cut
+    as_sized = subst (λ k. IsKeptOf (record { block = size; index = k }) (bytes b) (sure_in listing (failed b) (λ p. now b p k)) b old new is_cut) len (keeps sized)
+
+    here : IsKeptOf s (bytes b) (sure_in (listing_at s b slots) (failed b) (λ p. now b p n)) b old new is_cut
+    here = subst (λ (o : Option Listing). IsKeptOf s (bytes b) (sure_in o (failed b) (λ p. now b p n)) b old new is_cut) listing_is as_sized
+
+-- the same alone, without what a batch had
+pub alone : (s : Sizes) (B : ℕ → ℕ) (surely : ℕ → Type 0) (b : ℕ) (old new : List HashedEntryAddress) (is_cut : Bool)
+    → (is : IsKeptOf s B surely b old new is_cut) → IsKeptOf s B surely b [] (hashed_entries b (kept is.listed)) is_cut
+alone s B surely b old new is_cut is = record { failed = is.failed; faults = is.faults; listed = is.listed; lists = is.lists; kept = refl; cut = is.cut; whole = is.whole }
+
+pub some_alone : (s : Sizes) (b : ℕ) (old new : List HashedEntryAddress) → (is : IsSomeKept s b old new) → IsSomeKept s b [] (hashed_entries b is.keeps)
+some_alone s b old new is = record { keeps = is.keeps; placed = is.placed; kept = refl }
+
+-- want of memory isn't a chain that is cut
+pub not_cut : {T : Type 0} (r : Result T Error) (e : Error) (P : Type 0) → r ≡ Err e → e ≡ Memory → IfErr r (λ e. e ≡ Recover → P)
+not_cut r e P is memory = subst (λ o. IfErr o (λ e. e ≡ Recover → P)) (sym is) (λ recover. absurd (let both : Memory ≡ Recover = sym memory ∙ recover in cc))
+
+-- an insertion of two batches is one of both
+pub inserted_both : (m : IndexMap) (xs ys : List HashedEntryAddress) → inserted_all m (xs ++ ys) ≡ inserted_all (inserted_all m xs) ys
+inserted_both m [] ys = refl
+inserted_both m (x ∷ xs) ys = inserted_both (inserted m x.hash (Address x.address)) xs ys
+
+pub greatest_both : (n : ℕ) (xs ys : List HashedEntryAddress) → greatest_in n (xs ++ ys) ≡ greatest_in (greatest_in n xs) ys
+greatest_both n [] ys = refl
+greatest_both n (x ∷ xs) ys = greatest_both (max n (x.address).sequence) xs ys
+
+-- a batch that didn't grow got nothing
+pub not_grown : (old es batch : List HashedEntryAddress) → batch ≡ old ++ es → length batch ≡ length old → es ≡ []
+not_grown old es batch is same =
+    let len : length (old ++ es) ≡ length old + length es = length-append old es in
+    let all : length batch ≡ length (old ++ es) = ap (λ (l : List HashedEntryAddress). length l) is in
+    nil_from_length es (omega (arith, len, all, same))
+
+pub grown_by_some : (old es batch : List HashedEntryAddress) → batch ≡ old ++ es → (length batch ≡ length old → ⊥) → es ≡ [] → ⊥
+grown_by_some old es batch is more none = more (ap (λ (l : List HashedEntryAddress). length l) (is ∙ ap (λ l. old ++ l) none ∙ append-nil old))
 
 -- a block whose chain is cut
 pub cut_here : (s : Sizes) (bytes : ℕ → ℕ → ℕ) (surely : ℕ → ℕ → ℕ → Type 0) (strict : Bool) (n b : ℕ) (old kept_of : List HashedEntryAddress) (is_cut : Bool)
@@ -109,6 +166,27 @@ module _ {A : Type 0} where
     clean = clean_is ∙ holds.clean
         ∙ sym (more_clean n keeps ∙ ap (λ (t : Bool). clean_from 0 n keeps ++ (if t then n ∷ [] else [])) some ∙ append-nil (clean_from 0 n keeps));
   }
+
+  -- what another keeps goes behind a batch, or with it into the index
+  pub gathered_some : (old new : BlocksRead A) (n : ℕ) (keeps : ℕ → List BlobEntryIndex) (before batch after : List HashedEntryAddress) → is_empty (keeps n) ≡ false
+      → batch ≡ before ++ hashed_entries n (keeps n) → (gathered new after).index.slots ≡ inserted_all old.index.slots batch
+      → (gathered new after).greatest ≡ greatest_in old.greatest batch → new.clean.items ≡ old.clean.items
+      → HoldsKept (gathered old before) n keeps → HoldsKept (gathered new after) (n + 1) keeps
+  gathered_some old new n keeps before batch after some is index_is greatest_is clean_is holds =
+      taken_some (gathered old before) (gathered new after) n keeps some
+      (index_is ∙ ap (inserted_all old.index.slots) is ∙ inserted_both old.index.slots before (hashed_entries n (keeps n)))
+      (greatest_is ∙ ap (greatest_in old.greatest) is ∙ greatest_both old.greatest before (hashed_entries n (keeps n))) clean_is holds
+
+  pub gathered_none : (old new : BlocksRead A) (n : ℕ) (keeps : ℕ → List BlobEntryIndex) (before batch : List HashedEntryAddress) → keeps n ≡ []
+      → batch ≡ before ++ hashed_entries n (keeps n) → new.index.slots ≡ old.index.slots → new.greatest ≡ old.greatest
+      → new.clean.items ≡ old.clean.items ++ n ∷ [] → HoldsKept (gathered old before) n keeps → HoldsKept (gathered new batch) (n + 1) keeps
+  gathered_none old new n keeps before batch none is index_is greatest_is clean_is holds =
+      taken_none (gathered old before) (gathered new batch) n keeps none
+      (ap (λ (m : IndexMap). inserted_all m batch) index_is ∙ ap (inserted_all old.index.slots) same)
+      (ap (λ k. greatest_in k batch) greatest_is ∙ ap (greatest_in old.greatest) same) clean_is holds
+    where
+      same : batch ≡ before
+      same = is ∙ ap (λ (es : List BlobEntryIndex). before ++ hashed_entries n es) none ∙ append-nil before
 
   -- what other blocks keep doesn't matter
   pub holds_same : (read : BlocksRead A) (n : ℕ) (keeps others : ℕ → List BlobEntryIndex) → ((k : ℕ) → k < n → keeps k ≡ others k) → HoldsKept read n keeps → HoldsKept read n others
@@ -161,6 +239,28 @@ module _ {A : Type 0} where
     kept = are.kept;
     whole = are.whole;
     holds = are.holds;
+  }
+
+  -- once the last batch went into the index
+  pub all_read : (s : Sizes) (n : ℕ) (bytes : ℕ → ℕ → ℕ) (surely : ℕ → ℕ → ℕ → Type 0) (strict : Bool) (old new : BlocksRead A) (batch : List HashedEntryAddress)
+      → new.index.slots ≡ inserted_all old.index.slots batch → new.greatest ≡ greatest_in old.greatest batch → new.clean.items ≡ old.clean.items
+      → AreBlocksRead s n bytes surely strict (gathered old batch) → AreBlocksRead s n bytes surely strict new
+  all_read s n bytes surely strict old new batch index_is greatest_is clean_is are = record {
+    failed = are.failed;
+    faults = are.faults;
+    keeps = are.keeps;
+    kept = are.kept;
+    whole = are.whole;
+    holds = holds_still (gathered old batch) new n are.keeps index_is greatest_is clean_is are.holds;
+  }
+
+  pub all_some : (s : Sizes) (n : ℕ) (old new : BlocksRead A) (batch : List HashedEntryAddress)
+      → new.index.slots ≡ inserted_all old.index.slots batch → new.greatest ≡ greatest_in old.greatest batch → new.clean.items ≡ old.clean.items
+      → AreSomeKept s n (gathered old batch) → AreSomeKept s n new
+  all_some s n old new batch index_is greatest_is clean_is are = record {
+    keeps = are.keeps;
+    placed = are.placed;
+    holds = holds_still (gathered old batch) new n are.keeps index_is greatest_is clean_is are.holds;
   }
 
   module _ (s : Sizes) (bytes : ℕ → ℕ → ℕ) (surely : ℕ → ℕ → ℕ → Type 0) (strict : Bool) where

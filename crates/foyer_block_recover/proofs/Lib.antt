@@ -8,3 +8,4 @@ pub mod OpeningLemmas
 pub mod EmptyLemmas
 mod RisingLemmas
 pub mod ForgottenLemmas
+pub mod SourcesLemmas

@@ -4,10 +4,13 @@ use Rattle.std.specs.FinMap as finite
 use Rattle.foyer_format_blob.specs.declared.blob.BlobEntryIndex.{BlobEntryIndex}
 use Rattle.foyer_block_index.specs.Index.{IndexMap}
 use Rattle.foyer_block_index.specs.declared.indexer.EntryAddress.{EntryAddress}
+use Rattle.foyer_block_index.specs.Insertion.{inserted_all}
+use Rattle.foyer_block_index.specs.declared.indexer.HashedEntryAddress.{HashedEntryAddress}
 use Rattle.foyer_block_index.specs.declared.indexer.Index.{Index}
 use Rattle.foyer_block_index.specs.declared.indexer.Index.TheVariants.{Address, Tombstone}
 use Rattle.foyer_format_buffer.specs.Listing.{Lists, kept}
 use Rattle.foyer_format_layout.specs.Position.{Sizes}
+use Rattle.foyer_block_recover.specs.Kept.{greatest_in}
 use Rattle.foyer_block_recover.specs.Opening.{Found, Stands, Marked, winner, all_stand, greatest, clean_from, Keeps, IsCut}
 use Rattle.foyer_block_recover.specs.declared.block.recover.RecoverMode.{RecoverMode}
 use Rattle.foyer_block_recover.specs.declared.block.recover.RecoverMode.TheVariants as recover_mode
@@ -81,3 +84,10 @@ pub record AreBlocksKept {A : Type 0} (s : Sizes) (n : ℕ) (bytes : ℕ → ℕ
   pub kept : (b : ℕ) → b < n → Keeps s mode (bytes b) (failed b) (keeps b)
   pub whole : mode ≡ recover_mode.Strict → (b : ℕ) → b < n → IsCut s (bytes b) (failed b) → ⊥
   pub holds : HoldsKept read n keeps
+
+-- what was read, with a batch that isn't in its index yet
+abbrev pub gathered : {A : Type 0} → BlocksRead A → List HashedEntryAddress → BlocksRead A
+gathered read batch = record read {
+  index = record (read.index) { slots = inserted_all (read.index).slots batch };
+  greatest = greatest_in read.greatest batch;
+}

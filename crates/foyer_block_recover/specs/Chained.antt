@@ -22,3 +22,11 @@ pub record IsKeptOf (s : Sizes) (B : ℕ → ℕ) (surely : ℕ → Type 0) (blo
   pub kept : new ≡ old ++ hashed_entries block (kept listed)
   pub cut : is_cut ≡ true → IsCut s B failed
   pub whole : is_cut ≡ false → IsCut s B failed → ⊥
+
+-- the same of these failed places
+pub record IsKeptBy (s : Sizes) (B : ℕ → ℕ) (failed : ℕ → Bool) (block : ℕ) (old new : List HashedEntryAddress) (is_cut : Bool) : Type 0 where
+  pub listed : List BlobEntryIndex
+  pub lists : Lists s B failed listed
+  pub kept : new ≡ old ++ hashed_entries block (kept listed)
+  pub cut : is_cut ≡ true → IsCut s B failed
+  pub whole : is_cut ≡ false → IsCut s B failed → ⊥

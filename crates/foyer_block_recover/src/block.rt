@@ -3,5 +3,6 @@
 mod blocks;
 mod chain;
 mod kept;
+pub mod listing;
 mod marks;
 pub mod recover;

@@ -16,6 +16,7 @@ use crate::brief::{Brief, ReplyBrief, StepBrief};
 use crate::notes::{Notes, Noting};
 use foyer_block_index::tombstone::Tombstone;
 use foyer_block_manager::block::eviction::EvictionPicker;
+use foyer_block_recover::block::listing::Listings;
 use foyer_core_steps::apply::Env;
 use foyer_core_steps::open::RecoverMode;
 use foyer_core_steps::reply::Reply;
@@ -233,7 +234,7 @@ where
     C: StorageFilterCondition,
     N: Noting,
 {
-    ghost use Rattle.std.specs.Prelude.{◌⊎◌, ◌≤◌, ℕ, List, ◌++◌, Result, Err, length, option_map, true};
+    ghost use Rattle.std.specs.Prelude.{◌⊎◌, ◌≤◌, ℕ, Bool, List, ◌++◌, Result, Err, length, option_map, true};
     ghost use Rattle.std.specs.declared.vec.Vec.{Vec};
     ghost use Rattle.foyer_core_steps.specs.Answered.{HandsBack, Describes, IsPicked, MayFail};
     ghost use Rattle.foyer_core_steps.specs.Opened.{IsOpenedFrom};
@@ -246,6 +247,7 @@ where
     ghost use Rattle.foyer_device_page.specs.declared.error.Error.TheVariants.{Config, Recover, SequenceEnd};
     ghost use Rattle.foyer_io_disk.specs.Disk.{SurelyCame};
     ghost use Rattle.foyer_block_recover.specs.Recovery.{IsRefused, marks_of};
+    ghost use Rattle.foyer_block_recover.specs.Sources.{AreSources, sure_of};
     ghost use Rattle.foyer_block_recover.specs.declared.block.recover.RecoverMode.TheVariants as recover_mode;
     ghost use Rattle.foyer_core_laws.specs.Sizes.{AreValid, sizes_in};
     ghost use Rattle.foyer_block_manager.specs.Shown.{evictable_below};
@@ -254,7 +256,7 @@ where
     ghost use Rattle.foyer_core_shared.specs.History.{BeginAlike, BeginsWith, IsLegal, Made};
     ghost use Rattle.foyer_core_shared.specs.Replies.{may_reply};
 
-    /// Opens a core as `Core::open` does, with the session that has all parts. Where `N` says so the notes of all steps are
+    /// Opens a core as `Core::open_with` does, with the session that has all parts. Where `N` says so the notes of all steps are
     /// kept, which take memory as long as the core is there. `Memory` also where an allocator's clone is refused.
     pub fn open<D: Disk>(
         alloc: A,
@@ -263,16 +265,21 @@ where
         disk: &mut D,
         mode: RecoverMode,
         marks: &[Tombstone],
+        listings: Listings<A, D>,
         blanks: Blanks,
     ) -> Result<(Locked<L, K, V, P, A, E, C, N>, Session<L>)>
         requires { AreOf L.name_of L.all blanks }
-        ensures opened { IfOk result (λ r. IsOpenedFrom settings (D.byte_at disk.old)
-            (SurelyCame (D.surely_has disk.old) (D.surely_lies disk.old) (D.faults disk.old) (D.faults disk.new)) mode (marks_of marks.now)
+        ensures opened { (bytes : ℕ → ℕ → ℕ) (failed : ℕ → ℕ → Bool)
+            → AreSources (sizes_in settings) settings.blocks listings.slots.items bytes (D.byte_at disk.old) failed
+            → IfOk result (λ r. IsOpenedFrom settings bytes (sure_of (sizes_in settings) listings.slots.items failed
+            (SurelyCame (D.surely_has disk.old) (D.surely_lies disk.old) (D.faults disk.old) (D.faults disk.new))) mode (marks_of marks.now)
             ((mode ≡ recover_mode.None) ⊎ D.is_known disk.old) r.0.noted.core) }
-        ensures begins { IfOk result (λ r. BeginsWith
+        ensures begins { (bytes : ℕ → ℕ → ℕ) (failed : ℕ → ℕ → Bool)
+            → AreSources (sizes_in settings) settings.blocks listings.slots.items bytes (D.byte_at disk.old) failed
+            → IfOk result (λ r. BeginsWith
             (meaning K.encoding V.encoding K.is_encodable V.is_encodable K.is_decodable V.is_decodable P.age)
-            settings (D.byte_at disk.old)
-            (SurelyCame (D.surely_has disk.old) (D.surely_lies disk.old) (D.faults disk.old) (D.faults disk.new)) mode (marks_of marks.now)
+            settings bytes (sure_of (sizes_in settings) listings.slots.items failed
+            (SurelyCame (D.surely_has disk.old) (D.surely_lies disk.old) (D.faults disk.old) (D.faults disk.new))) mode (marks_of marks.now)
             ((mode ≡ recover_mode.None) ⊎ D.is_known disk.old) r.0.noted.core) }
         ensures fresh { IfOk result (λ r. (r.0.noted.calls ≡ none) × (r.0.noted.notes ≡ notes_at_first N.keeps)) }
         ensures session { IfOk result (λ r. (r.1.shares ≡ record { parts = L.all; amounts = none }) × (r.1.newest ≡ None) × (r.1.before ≡ None)) }
@@ -283,9 +290,10 @@ where
         ensures unsound { (AreValid settings → ⊥) → result ≡ Err Config }
         ensures refused { IfErr result (λ e. (e ≡ Memory) ⊎ ((e ≡ Config) × (AreValid settings → ⊥))
             ⊎ ((e ≡ Recover) × (mode ≡ recover_mode.Strict)) ⊎ ((e ≡ SequenceEnd) × (mode ≡ recover_mode.None → marks.now ≢ []))) }
-        ensures cause { AreValid settings → (mode ≡ recover_mode.None) ⊎ D.is_known disk.old → IfErr result
-            (IsRefused (sizes_in settings) settings.blocks (D.byte_at disk.old)
-            (SurelyCame (D.surely_has disk.old) (D.surely_lies disk.old) (D.faults disk.old) (D.faults disk.new)) mode (marks_of marks.now)) }
+        ensures cause { (bytes : ℕ → ℕ → ℕ) (failed : ℕ → ℕ → Bool) → AreValid settings → (mode ≡ recover_mode.None) ⊎ D.is_known disk.old
+            → AreSources (sizes_in settings) settings.blocks listings.slots.items bytes (D.byte_at disk.old) failed
+            → IfErr result (IsRefused (sizes_in settings) settings.blocks bytes (sure_of (sizes_in settings) listings.slots.items failed
+            (SurelyCame (D.surely_has disk.old) (D.surely_lies disk.old) (D.faults disk.old) (D.faults disk.new))) mode (marks_of marks.now)) }
         ensures unread { mode ≡ recover_mode.None → disk.new ≡ disk.old }
         ensures known { D.is_known disk.old → D.is_known disk.new }
         ensures same { D.byte_at disk.new ≡ D.byte_at disk.old }
@@ -295,7 +303,7 @@ where
     {
         settings.check()?;
         let notes = first_notes(&alloc, N::keeps())?;
-        let core = Core::open(alloc, &mut env, settings, disk, mode, marks)?;
+        let core = Core::open_with(alloc, &mut env, settings, disk, mode, marks, listings)?;
         let (calls, shares) = blanks.open::<L>();
         let noted = NotedCore {
             core,

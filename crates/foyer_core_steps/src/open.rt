@@ -1,12 +1,13 @@
 //! Opening.
-ghost use Rattle.std.specs.Prelude.{◌≡◌, ◌≢◌, ◌⊎◌, ◌<◌, ◌≤◌, ℕ, [], Err, IfOk, IfErr, IsOkUnless, length, map, replicate, true, vec_len};
+ghost use Rattle.std.specs.Prelude.{◌≡◌, ◌≢◌, ◌⊎◌, ◌<◌, ◌≤◌, ℕ, Bool, [], Err, IfOk, IfErr, IsOkUnless, length, map, replicate, true, vec_len};
 ghost use Rattle.foyer_device_page.specs.declared.error.Error.TheVariants.{Memory, Config, Recover, SequenceEnd};
 ghost use Rattle.foyer_io_disk.specs.Disk.{SurelyCame};
-ghost use Rattle.foyer_core_steps.specs.Opened.{IsOpenedFrom, opened_sets};
+ghost use Rattle.foyer_core_steps.specs.Opened.{IsOpened, IsOpenedFrom, opened_sets};
 ghost use Rattle.foyer_core_flusher.specs.Idle.{idle};
 ghost use Rattle.foyer_core_flusher.specs.Seen.{seen};
 ghost use Rattle.foyer_core_model.specs.Ids.{is_id_in, AreDistinct};
-ghost use Rattle.foyer_block_recover.specs.Recovery.{IsRefused, marks_of};
+ghost use Rattle.foyer_block_recover.specs.Recovery.{IsRefused, marks_of, opened_of, sizes_of};
+ghost use Rattle.foyer_block_recover.specs.Sources.{AreSources, sure_of};
 ghost use Rattle.foyer_core_laws.specs.Sizes.{AreValid, sizes_in};
 ghost use Rattle.foyer_core_steps.specs.Showing.{HaveLearned};
 ghost use Rattle.foyer_block_manager.specs.Shown.{evictable_below};
@@ -21,6 +22,7 @@ use foyer_block_index::tombstone::Tombstone;
 use foyer_block_manager::block::eviction::EvictionPicker;
 use foyer_block_manager::block::manager::{BlockManager, ManagerConfig};
 pub use foyer_block_recover::block::recover::RecoverMode;
+use foyer_block_recover::block::listing::Listings;
 use foyer_block_recover::block::recover::{RecoverRunner, Recovered};
 use foyer_core_flusher::flusher::Flusher;
 use foyer_device_page::error::Result;
@@ -28,6 +30,20 @@ use foyer_io_disk::disk::Disk;
 use foyer_policy_filter::StorageFilterCondition;
 use std::alloc::Allocator;
 use std::collections::HashMap;
+
+/// The recovery of a core's blocks in a mode.
+pub fn runner_of(settings: &Settings, mode: RecoverMode) -> RecoverRunner
+    ensures mode { result.mode ≡ mode }
+    ensures blocks { result.blocks ≡ settings.now.blocks }
+    ensures sizes { sizes_of result ≡ sizes_in settings.now }
+{
+    RecoverRunner {
+        mode,
+        blocks: settings.blocks,
+        block_size: settings.block_size,
+        blob_index_size: settings.blob_index_size,
+    }
+}
 
 // So many flushers that have nothing.
 fn idle_flushers<K: Drop, V: Drop, P: Drop, A: Allocator + Clone>(
@@ -120,16 +136,81 @@ impl<K: Drop, V: Drop, P: Drop, A: Allocator + Clone> Core<K, V, P, A> {
         ensures counted { D.faults disk.old ≤ D.faults disk.new }
     {
         settings.check()?;
-        let runner = RecoverRunner {
-            mode,
-            blocks: settings.blocks,
-            block_size: settings.block_size,
-            blob_index_size: settings.blob_index_size,
-        };
-        let recovered = match runner.run(&alloc, disk, settings.indexer_shards, marks) {
+        let recovered =
+            match runner_of(&settings, mode).run(&alloc, disk, settings.indexer_shards, marks) {
+                Ok(recovered) => recovered,
+                Err(error) => return Err(error),
+            };
+        Core::begin(alloc, env, settings, recovered)
+    }
+
+    /// The same with what the workers of a recovery listed, as `RecoverRunner::run_with` has it: each block of which a listing came
+    /// isn't read again. Whatever bytes the listings list, together with those that the disk has in the other blocks: the core is
+    /// opened with these bytes.
+    pub fn open_with<D: Disk, E: EvictionPicker, C: StorageFilterCondition>(
+        alloc: A,
+        env: &mut Env<E, C>,
+        settings: Settings,
+        disk: &mut D,
+        mode: RecoverMode,
+        marks: &[Tombstone],
+        listings: Listings<A, D>,
+    ) -> Result<Core<K, V, P, A>>
+        ensures opened { (bytes : ℕ → ℕ → ℕ) (failed : ℕ → ℕ → Bool)
+            → AreSources (sizes_in settings) settings.blocks listings.slots.items bytes (D.byte_at disk.old) failed
+            → IfOk result (IsOpenedFrom settings bytes (sure_of (sizes_in settings) listings.slots.items failed
+            (SurelyCame (D.surely_has disk.old) (D.surely_lies disk.old) (D.faults disk.old) (D.faults disk.new))) mode (marks_of marks.now)
+            ((mode ≡ recover_mode.None) ⊎ D.is_known disk.old)) }
+        ensures some { IfOk result (IsOpenedFrom settings (D.byte_at disk.old)
+            (SurelyCame (D.surely_has disk.old) (D.surely_lies disk.old) (D.faults disk.old) (D.faults disk.new)) mode (marks_of marks.now) ⊥) }
+        ensures shown { IfOk result (λ core. HaveLearned E.begins E.learns settings.blocks settings.block_size
+            (evictable_below core.manager.blocks (length core.manager.blocks)) env.old.pickers.items env.new.pickers.items) }
+        ensures lent { (env.new.reinsertion ≡ env.old.reinsertion) × (env.new.io ≡ env.old.io) }
+        ensures sound { IfOk result (λ _. AreValid settings) }
+        ensures refused { IfErr result (λ e. (e ≡ Memory) ⊎ ((e ≡ Config) × (AreValid settings → ⊥))
+            ⊎ ((e ≡ Recover) × (mode ≡ recover_mode.Strict)) ⊎ ((e ≡ SequenceEnd) × (mode ≡ recover_mode.None → marks.now ≢ []))) }
+        ensures cause { (bytes : ℕ → ℕ → ℕ) (failed : ℕ → ℕ → Bool) → AreValid settings → (mode ≡ recover_mode.None) ⊎ D.is_known disk.old
+            → AreSources (sizes_in settings) settings.blocks listings.slots.items bytes (D.byte_at disk.old) failed
+            → IfErr result (IsRefused (sizes_in settings) settings.blocks bytes (sure_of (sizes_in settings) listings.slots.items failed
+            (SurelyCame (D.surely_has disk.old) (D.surely_lies disk.old) (D.faults disk.old) (D.faults disk.new))) mode (marks_of marks.now)) }
+        ensures unsound { (AreValid settings → ⊥) → result ≡ Err Config }
+        ensures unread { mode ≡ recover_mode.None → disk.new ≡ disk.old }
+        ensures known { D.is_known disk.old → D.is_known disk.new }
+        ensures same { D.byte_at disk.new ≡ D.byte_at disk.old }
+        ensures has { (b o n : ℕ) → D.surely_has disk.old b o n → D.surely_has disk.new b o n }
+        ensures lies { (b o n : ℕ) → D.surely_lies disk.old b o n → D.surely_lies disk.new b o n }
+        ensures counted { D.faults disk.old ≤ D.faults disk.new }
+    {
+        settings.check()?;
+        let recovered = match runner_of(&settings, mode).run_with(
+            &alloc,
+            disk,
+            settings.indexer_shards,
+            marks,
+            listings,
+        ) {
             Ok(recovered) => recovered,
             Err(error) => return Err(error),
         };
+        Core::begin(alloc, env, settings, recovered)
+    }
+
+    // The core that begins with what was recovered. The pickers learn of the blocks.
+    fn begin<E: EvictionPicker, C: StorageFilterCondition>(
+        alloc: A,
+        env: &mut Env<E, C>,
+        settings: Settings,
+        recovered: Recovered<A>,
+    ) -> Result<Core<K, V, P, A>>
+        requires sound { AreValid settings }
+        requires once { AreDistinct recovered.clean.items }
+        requires there { (b : ℕ) → is_id_in b recovered.clean.items ≡ true → b < settings.blocks }
+        ensures opened { IfOk result (IsOpened settings (opened_of recovered)) }
+        ensures shown { IfOk result (λ core. HaveLearned E.begins E.learns settings.blocks settings.block_size
+            (evictable_below core.manager.blocks (length core.manager.blocks)) env.old.pickers.items env.new.pickers.items) }
+        ensures lent { (env.new.reinsertion ≡ env.old.reinsertion) × (env.new.io ≡ env.old.io) }
+        ensures refused { IsOkUnless result Memory }
+    {
         let Recovered { index, next, clean } = recovered;
         let flushers = idle_flushers(&alloc, &settings)?;
         let manager = place_blocks(&alloc, env, &settings, &clean)?;

@@ -9,6 +9,7 @@ pub mod engine;
 pub mod enqueue;
 pub mod hand;
 pub mod load;
+pub mod recover;
 pub mod workers;
 
 pub use foyer_core_run as core_run;

@@ -1,25 +1,35 @@
 //! The blocks of a disk, one after the other, as an index.
-ghost use Rattle.std.specs.Prelude.{◌≡◌, ℕ, ◌+◌, ◌<◌, ◌≤◌, ◌^◌, ◌⊎◌, List, [], true, vec_len, IfOk, IfErr, OnOk, IsOkUnless};
+ghost use Rattle.std.specs.Prelude.{◌≡◌, ℕ, ◌+◌, ◌<◌, ◌≤◌, ◌^◌, ◌⊎◌, Bool, List, [], ◌++◌, true, length, vec_len, IfOk, IfErr, OnOk, IsOkUnless};
 ghost use Rattle.foyer_format_blob.specs.declared.blob.BlobEntryIndex.{BlobEntryIndex};
+ghost use Rattle.foyer_block_index.specs.Insertion.{inserted_all};
+ghost use Rattle.foyer_block_index.specs.declared.indexer.HashedEntryAddress.{HashedEntryAddress};
 ghost use Rattle.foyer_format_buffer.specs.Fills.{AreSizes};
 ghost use Rattle.foyer_device_page.specs.declared.error.Error.TheVariants as error;
 ghost use Rattle.foyer_io_disk.specs.Disk.{SurelyCame};
 ghost use Rattle.foyer_block_recover.specs.Chained.{hashed_entries};
-ghost use Rattle.foyer_block_recover.specs.BlocksKept.{HoldsKept, AreBlocksRead, IsBlockCut};
+ghost use Rattle.foyer_block_recover.specs.Kept.{greatest_in};
+ghost use Rattle.foyer_block_recover.specs.BlocksKept.{HoldsKept, AreBlocksRead, IsBlockCut, gathered};
+ghost use Rattle.foyer_block_recover.specs.Sources.{AreSources, sure_of};
 ghost use Rattle.foyer_block_recover.specs.Placed.{AreSomeKept};
 
-use crate::block::chain::{Chain, read_chain};
+use crate::block::chain::Chain;
 use crate::block::kept::greatest_in;
+use crate::block::listing::{Listings, list_chain};
 use foyer_block_index::indexer::{HashedEntryAddress, Indexer, Sequence};
 use foyer_block_index::manager::BlockId;
 use foyer_device_page::error::{Error, Result};
 use foyer_io_disk::disk::Disk;
 use std::alloc::Allocator;
 
+// So many entries are gathered at least before they go into the index.
+const LEAST_GATHERED: usize = 4096;
+
 // What the blocks keep that were read so far.
 #[derive(Drop)]
 pub(crate) struct BlocksRead<A: Allocator> {
     pub(crate) index: Indexer<A>,
+    // How many entries went into the index.
+    pub(crate) inserted: usize,
     // The greatest sequence, or 0.
     pub(crate) greatest: Sequence,
     // The blocks that keep nothing, in order.
@@ -35,29 +45,51 @@ impl<A: Allocator + Clone> BlocksRead<A> {
     {
         Ok(BlocksRead {
             index: Indexer::new(alloc.clone()?, shards)?,
+            inserted: 0,
             greatest: 0,
             clean: Vec::new(alloc.clone()?),
         })
     }
 
-    // Takes in what the next block keeps, and gives the empty batch back.
-    fn take_block(
+    // Takes in what was gathered, and gives the empty batch back.
+    fn take_batch(
         &mut self,
-        block: BlockId,
         batch: Vec<HashedEntryAddress, A>,
     ) -> Result<Vec<HashedEntryAddress, A>>
-        ensures taken { OnOk result ((keeps : ℕ → List BlobEntryIndex) → HoldsKept self.old block keeps
-            → batch.items ≡ hashed_entries block (keeps block) → HoldsKept self.new (block + 1) keeps) }
+        ensures index { OnOk result (self.new.index.slots ≡ inserted_all self.old.index.slots batch.items) }
+        ensures greatest { OnOk result (self.new.greatest ≡ greatest_in self.old.greatest batch.items) }
+        ensures clean { OnOk result (self.new.clean ≡ self.old.clean) }
         ensures empty { IfOk result (λ again. again.items ≡ []) }
         ensures memory { IsOkUnless result error.Memory }
     {
-        if batch.is_empty() {
+        self.greatest = greatest_in(self.greatest, &batch);
+        self.inserted = self.inserted.saturating_add(batch.len());
+        let mut again = self.index.insert_batch(batch)?;
+        again.clear();
+        Ok(again)
+    }
+
+    // Takes in what the next block keeps, behind the `before` entries that the batch had: a batch goes into the index where it
+    // has an eighth of what went there, so that an entry is moved a few times only, however many blocks there are.
+    fn take_block(
+        &mut self,
+        block: BlockId,
+        before: usize,
+        batch: Vec<HashedEntryAddress, A>,
+    ) -> Result<Vec<HashedEntryAddress, A>>
+        ensures taken { (old : List HashedEntryAddress) (keeps : ℕ → List BlobEntryIndex) → length old ≡ before
+            → batch.items ≡ old ++ hashed_entries block (keeps block) → HoldsKept (gathered self.old old) block keeps
+            → IfOk result (λ again. HoldsKept (gathered self.new again.items) (block + 1) keeps) }
+        ensures memory { IsOkUnless result error.Memory }
+    {
+        if batch.len() == before {
             self.clean.push(block)?;
             return Ok(batch);
         }
-        self.greatest = greatest_in(self.greatest, &batch);
-        let mut again = self.index.insert_batch(batch)?;
-        again.clear();
+        if batch.len() < LEAST_GATHERED.max(self.inserted / 8) {
+            return Ok(batch);
+        }
+        let again = self.take_batch(batch)?;
         Ok(again)
     }
 }
@@ -80,7 +112,8 @@ pub(crate) fn read_none<A: Allocator + Clone>(
     Ok(read)
 }
 
-// Reads the chain of each block. `Recover` where a failed read ends one and that isn't allowed.
+// What each block keeps: by the listing that came of it, else by reading its chain. `Recover` where a failed read ends one and
+// that isn't allowed.
 pub(crate) fn read_blocks<A: Allocator + Clone, D: Disk>(
     alloc: &A,
     disk: &mut D,
@@ -89,17 +122,22 @@ pub(crate) fn read_blocks<A: Allocator + Clone, D: Disk>(
     index_size: usize,
     shards: usize,
     is_strict: bool,
+    listings: Listings<A, D>,
 ) -> Result<BlocksRead<A>>
     requires sizes { AreSizes (record { block = block_size; index = index_size }) }
     requires small { block_size ≤ 2 ^ 32 }
     requires shards { 0 < shards }
-    ensures kept { D.is_known disk.old → IfOk result (λ read. AreBlocksRead (record { block = block_size; index = index_size })
-        blocks (D.byte_at disk.old)
-        (SurelyCame (D.surely_has disk.old) (D.surely_lies disk.old) (D.faults disk.old) (D.faults disk.new)) is_strict read) }
+    ensures kept { (bytes : ℕ → ℕ → ℕ) (failed : ℕ → ℕ → Bool) → D.is_known disk.old
+        → AreSources (record { block = block_size; index = index_size }) blocks listings.slots.items bytes (D.byte_at disk.old) failed
+        → IfOk result (AreBlocksRead (record { block = block_size; index = index_size }) blocks bytes
+        (sure_of (record { block = block_size; index = index_size }) listings.slots.items failed
+        (SurelyCame (D.surely_has disk.old) (D.surely_lies disk.old) (D.faults disk.old) (D.faults disk.new))) is_strict) }
     ensures some { IfOk result (AreSomeKept (record { block = block_size; index = index_size }) blocks) }
-    ensures cut { D.is_known disk.old → IfErr result (λ e. e ≡ error.Recover → IsBlockCut
-        (record { block = block_size; index = index_size }) blocks (D.byte_at disk.old)
-        (SurelyCame (D.surely_has disk.old) (D.surely_lies disk.old) (D.faults disk.old) (D.faults disk.new)) is_strict) }
+    ensures cut { (bytes : ℕ → ℕ → ℕ) (failed : ℕ → ℕ → Bool) → D.is_known disk.old
+        → AreSources (record { block = block_size; index = index_size }) blocks listings.slots.items bytes (D.byte_at disk.old) failed
+        → IfErr result (λ e. e ≡ error.Recover → IsBlockCut (record { block = block_size; index = index_size }) blocks bytes
+        (sure_of (record { block = block_size; index = index_size }) listings.slots.items failed
+        (SurelyCame (D.surely_has disk.old) (D.surely_lies disk.old) (D.faults disk.old) (D.faults disk.new))) is_strict) }
     ensures refused { IfErr result (λ e. (e ≡ error.Memory) ⊎ ((e ≡ error.Recover) × (is_strict ≡ true))) }
     ensures known { D.is_known disk.old → D.is_known disk.new }
     ensures same { D.byte_at disk.new ≡ D.byte_at disk.old }
@@ -108,19 +146,23 @@ pub(crate) fn read_blocks<A: Allocator + Clone, D: Disk>(
     ensures counted { D.faults disk.old ≤ D.faults disk.new }
 {
     let mut read = BlocksRead::none(alloc, shards)?;
+    let mut listings = listings;
     let mut buffer = vec![in alloc.clone()?; 0u8; index_size]?;
     let mut batch = Vec::new(alloc.clone()?);
     'each_block: for block in 0..blocks {
+        let before = batch.len();
+        let listing = listings.take(block, block_size, index_size);
         let Chain {
             buffer: bytes,
             kept,
             is_cut,
-        } = read_chain(alloc, disk, block, block_size, buffer, batch)?;
+        } = list_chain(alloc, disk, block, block_size, listing, buffer, batch)?;
         if is_cut && is_strict {
             return Err(Error::Recover);
         }
         buffer = bytes;
-        batch = read.take_block(block, kept)?;
+        batch = read.take_block(block, before, kept)?;
     }
+    read.take_batch(batch)?;
     Ok(read)
 }

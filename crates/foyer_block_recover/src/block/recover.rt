@@ -1,13 +1,15 @@
 //! Recovery.
-ghost use Rattle.std.specs.Prelude.{◌≡◌, ℕ, ◌<◌, ◌≤◌, ◌^◌, ◌⊎◌, [], IfOk, IfErr};
+ghost use Rattle.std.specs.Prelude.{◌≡◌, ◌≢◌, ℕ, ◌<◌, ◌≤◌, ◌^◌, ◌⊎◌, ◌++◌, ◌∷◌, if◌then◌else◌, Bool, [], vec_len, map, IfOk, IfErr, OnOk, IsOkUnless};
 ghost use Rattle.foyer_format_buffer.specs.Fills.{AreSizes};
 ghost use Rattle.foyer_device_page.specs.declared.error.Error.TheVariants as error;
 ghost use Rattle.foyer_io_disk.specs.Disk.{SurelyCame};
 ghost use Rattle.foyer_block_recover.specs.BlocksKept.{AreBlocksKept};
 ghost use Rattle.foyer_block_recover.specs.Placed.{AreSomeKept, IsOpening};
+ghost use Rattle.foyer_block_recover.specs.Sources.{AreListed, AreSources, block_of, is_shared, share_of, sure_of};
 ghost use Rattle.foyer_block_recover.specs.Recovery.{sizes_of, marks_of, opened_of, IsRecovered, IsRefused, MayRefuse};
 
 use crate::block::blocks::{BlocksRead, read_blocks, read_none};
+use crate::block::listing::{BlockListing, Listings};
 use foyer_block_index::indexer::{Indexer, Sequence};
 use foyer_block_index::manager::BlockId;
 use foyer_block_index::tombstone::Tombstone;
@@ -38,7 +40,8 @@ pub struct Recovered<A: Allocator> {
     pub clean: Vec<BlockId, A>,
 }
 
-/// The recovery of a disk's blocks, by one worker.
+/// The recovery of a disk's blocks: by `run` alone, or by workers, each of which lists some of the blocks by `list`, and then by
+/// `run_with`, which takes what they listed and reads what nobody did.
 #[derive(Clone, Copy, Debug)]
 pub struct RecoverRunner {
     pub mode: RecoverMode,
@@ -57,17 +60,22 @@ impl RecoverRunner {
         alloc: &A,
         disk: &mut D,
         shards: usize,
+        listings: Listings<A, D>,
     ) -> Result<BlocksRead<A>>
         requires sizes { AreSizes (sizes_of self.now) }
         requires small { self.now.block_size ≤ 2 ^ 32 }
         requires shards { 0 < shards }
-        ensures kept { (self.now.mode ≡ RecoverMode.None) ⊎ D.is_known disk.old → IfOk result
-            (AreBlocksKept (sizes_of self.now) self.now.blocks (D.byte_at disk.old)
-            (SurelyCame (D.surely_has disk.old) (D.surely_lies disk.old) (D.faults disk.old) (D.faults disk.new)) self.now.mode) }
+        ensures kept { (bytes : ℕ → ℕ → ℕ) (failed : ℕ → ℕ → Bool) → (self.now.mode ≡ RecoverMode.None) ⊎ D.is_known disk.old
+            → AreSources (sizes_of self.now) self.now.blocks listings.slots.items bytes (D.byte_at disk.old) failed
+            → IfOk result (AreBlocksKept (sizes_of self.now) self.now.blocks bytes
+            (sure_of (sizes_of self.now) listings.slots.items failed
+            (SurelyCame (D.surely_has disk.old) (D.surely_lies disk.old) (D.faults disk.old) (D.faults disk.new))) self.now.mode) }
         ensures some { IfOk result (AreSomeKept (sizes_of self.now) self.now.blocks) }
-        ensures refused { (self.now.mode ≡ RecoverMode.None) ⊎ D.is_known disk.old → IfErr result
-            (IsRefused (sizes_of self.now) self.now.blocks (D.byte_at disk.old)
-            (SurelyCame (D.surely_has disk.old) (D.surely_lies disk.old) (D.faults disk.old) (D.faults disk.new)) self.now.mode []) }
+        ensures refused { (bytes : ℕ → ℕ → ℕ) (failed : ℕ → ℕ → Bool) → (self.now.mode ≡ RecoverMode.None) ⊎ D.is_known disk.old
+            → AreSources (sizes_of self.now) self.now.blocks listings.slots.items bytes (D.byte_at disk.old) failed
+            → IfErr result (IsRefused (sizes_of self.now) self.now.blocks bytes
+            (sure_of (sizes_of self.now) listings.slots.items failed
+            (SurelyCame (D.surely_has disk.old) (D.surely_lies disk.old) (D.faults disk.old) (D.faults disk.new))) self.now.mode []) }
         ensures refusals { IfErr result (λ e. (e ≡ error.Memory) ⊎ ((e ≡ error.Recover) × (self.now.mode ≡ RecoverMode.Strict))) }
         ensures unread { self.now.mode ≡ RecoverMode.None → disk.new ≡ disk.old }
         ensures known { D.is_known disk.old → D.is_known disk.new }
@@ -86,6 +94,7 @@ impl RecoverRunner {
                 self.blob_index_size,
                 shards,
                 false,
+                listings,
             ),
             RecoverMode::Strict => read_blocks(
                 alloc,
@@ -95,13 +104,14 @@ impl RecoverRunner {
                 self.blob_index_size,
                 shards,
                 true,
+                listings,
             ),
         }
     }
 
     /// Reads the indices of all blocks, one block after the other, and gives what they and the marks of deletes make of
-    /// the index, of so many shards, the next sequence and the clean blocks. Allocates a buffer of one index, what one
-    /// block keeps at a time, and what is given.
+    /// the index, of so many shards, the next sequence and the clean blocks. Allocates a buffer of one index, what an eighth
+    /// of the entries or one block keeps at a time, and what is given.
     ///
     /// `Recover` where a read failed in `Strict`; else `SequenceEnd` where an entry that is kept, or a mark, has the last
     /// sequence; `Memory` at any time. What is on the disk stays as it is. Whatever was read, each address that is found
@@ -132,16 +142,130 @@ impl RecoverRunner {
         ensures lies { (b o n : ℕ) → D.surely_lies disk.old b o n → D.surely_lies disk.new b o n }
         ensures counted { D.faults disk.old ≤ D.faults disk.new }
     {
-        let mut read = self.read(alloc, disk, shards)?;
+        let none = Listings::none(alloc.clone()?);
+        self.run_with(alloc, disk, shards, marks, none)
+    }
+
+    /// The same with what workers listed, in whatever order it came: of each block of which a listing came this takes what it
+    /// keeps, and reads each other block by itself. A listing of other sizes is no listing. Whatever bytes the listings list,
+    /// together with those that the disk has in the other blocks: this gives the opening of these bytes.
+    pub fn run_with<A: Allocator + Clone, D: Disk>(
+        &self,
+        alloc: &A,
+        disk: &mut D,
+        shards: usize,
+        marks: &[Tombstone],
+        listings: Listings<A, D>,
+    ) -> Result<Recovered<A>>
+        requires sizes { AreSizes (sizes_of self.now) }
+        requires small { self.now.block_size ≤ 2 ^ 32 }
+        requires shards { 0 < shards }
+        ensures recovered { (bytes : ℕ → ℕ → ℕ) (failed : ℕ → ℕ → Bool) → (self.now.mode ≡ RecoverMode.None) ⊎ D.is_known disk.old
+            → AreSources (sizes_of self.now) self.now.blocks listings.slots.items bytes (D.byte_at disk.old) failed
+            → IfOk result (λ recovered. IsRecovered (sizes_of self.now) self.now.blocks bytes
+            (sure_of (sizes_of self.now) listings.slots.items failed
+            (SurelyCame (D.surely_has disk.old) (D.surely_lies disk.old) (D.faults disk.old) (D.faults disk.new))) self.now.mode (marks_of marks.now)
+            (opened_of recovered)) }
+        ensures some { IfOk result (λ recovered. IsOpening (sizes_of self.now) self.now.blocks (marks_of marks.now) (opened_of recovered)) }
+        ensures refused { (bytes : ℕ → ℕ → ℕ) (failed : ℕ → ℕ → Bool) → (self.now.mode ≡ RecoverMode.None) ⊎ D.is_known disk.old
+            → AreSources (sizes_of self.now) self.now.blocks listings.slots.items bytes (D.byte_at disk.old) failed
+            → IfErr result (IsRefused (sizes_of self.now) self.now.blocks bytes
+            (sure_of (sizes_of self.now) listings.slots.items failed
+            (SurelyCame (D.surely_has disk.old) (D.surely_lies disk.old) (D.faults disk.old) (D.faults disk.new))) self.now.mode (marks_of marks.now)) }
+        ensures refusals { IfErr result (MayRefuse self.now.mode) }
+        ensures unread { self.now.mode ≡ RecoverMode.None → disk.new ≡ disk.old }
+        ensures known { D.is_known disk.old → D.is_known disk.new }
+        ensures same { D.byte_at disk.new ≡ D.byte_at disk.old }
+        ensures has { (b o n : ℕ) → D.surely_has disk.old b o n → D.surely_has disk.new b o n }
+        ensures lies { (b o n : ℕ) → D.surely_lies disk.old b o n → D.surely_lies disk.new b o n }
+        ensures counted { D.faults disk.old ≤ D.faults disk.new }
+    {
+        let mut read = self.read(alloc, disk, shards, listings)?;
         read.take_marks(marks);
         let BlocksRead {
             index,
             greatest,
             clean,
+            ..
         } = read;
         let Some(next) = greatest.checked_add(1) else {
             return Err(Error::SequenceEnd);
         };
         Ok(Recovered { index, next, clean })
+    }
+
+    // Appends a listing of a block, if it is the worker's. The buffer is handed back.
+    fn list_block<A: Allocator + Clone, D: Disk>(
+        &self,
+        alloc: &A,
+        disk: &mut D,
+        worker: u32,
+        workers: u32,
+        block: BlockId,
+        buffer: Vec<u8, A>,
+        listings: &mut Vec<BlockListing<A, D>, A>,
+    ) -> Result<Vec<u8, A>>
+        requires sizes { AreSizes (sizes_of self.now) }
+        requires small { self.now.block_size ≤ 2 ^ 32 }
+        requires workers { 0 < workers }
+        requires there { block < self.now.blocks }
+        requires len { vec_len buffer ≡ self.now.blob_index_size }
+        ensures len { IfOk result (λ again. vec_len again ≡ self.now.blob_index_size) }
+        ensures listed { AreListed (sizes_of self.now) self.now.blocks worker workers (D.is_known disk.old) (D.byte_at disk.old)
+            (SurelyCame (D.surely_has disk.old) (D.surely_lies disk.old) (D.faults disk.old) (D.faults disk.new))
+            listings.old.items listings.new.items }
+        ensures all { OnOk result (map block_of listings.new.items
+            ≡ map block_of listings.old.items ++ (if is_shared worker workers block then block ∷ [] else [])) }
+        ensures refused { IsOkUnless result error.Memory }
+        ensures known { D.is_known disk.old → D.is_known disk.new }
+        ensures same { D.byte_at disk.new ≡ D.byte_at disk.old }
+        ensures has { (b o n : ℕ) → D.surely_has disk.old b o n → D.surely_has disk.new b o n }
+        ensures lies { (b o n : ℕ) → D.surely_lies disk.old b o n → D.surely_lies disk.new b o n }
+        ensures counted { D.faults disk.old ≤ D.faults disk.new }
+    {
+        if block % workers != worker {
+            return Ok(buffer);
+        }
+        let (listing, again) = BlockListing::read(alloc, disk, block, self.block_size, buffer)?;
+        listings.push(listing)?;
+        Ok(again)
+    }
+
+    /// Reads the chains of one worker's blocks, those whose id modulo the number of workers is its own, in ascending order, and
+    /// appends a listing of each; in `None` it reads nothing. Allocates a buffer of one index, and what is listed.
+    ///
+    /// `Memory` is the only refusal: what was listed before stays, and the blocks that aren't are `run_with`'s.
+    pub fn list<A: Allocator + Clone, D: Disk>(
+        &self,
+        alloc: &A,
+        disk: &mut D,
+        worker: u32,
+        workers: u32,
+        listings: &mut Vec<BlockListing<A, D>, A>,
+    ) -> Result<()>
+        requires sizes { AreSizes (sizes_of self.now) }
+        requires small { self.now.block_size ≤ 2 ^ 32 }
+        requires workers { 0 < workers }
+        ensures listed { AreListed (sizes_of self.now) self.now.blocks worker workers (D.is_known disk.old) (D.byte_at disk.old)
+            (SurelyCame (D.surely_has disk.old) (D.surely_lies disk.old) (D.faults disk.old) (D.faults disk.new))
+            listings.old.items listings.new.items }
+        ensures all { self.now.mode ≢ RecoverMode.None → OnOk result (map block_of listings.new.items
+            ≡ map block_of listings.old.items ++ share_of worker workers 0 self.now.blocks) }
+        ensures refused { IsOkUnless result error.Memory }
+        ensures unread { self.now.mode ≡ RecoverMode.None → disk.new ≡ disk.old }
+        ensures known { D.is_known disk.old → D.is_known disk.new }
+        ensures same { D.byte_at disk.new ≡ D.byte_at disk.old }
+        ensures has { (b o n : ℕ) → D.surely_has disk.old b o n → D.surely_has disk.new b o n }
+        ensures lies { (b o n : ℕ) → D.surely_lies disk.old b o n → D.surely_lies disk.new b o n }
+        ensures counted { D.faults disk.old ≤ D.faults disk.new }
+    {
+        if self.mode == RecoverMode::None {
+            return Ok(());
+        }
+        let mut buffer = vec![in alloc.clone()?; 0u8; self.blob_index_size]?;
+        'each_block: for block in 0..self.blocks {
+            buffer = self.list_block(alloc, disk, worker, workers, block, buffer, listings)?;
+        }
+        Ok(())
     }
 }

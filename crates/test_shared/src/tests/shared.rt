@@ -3,6 +3,7 @@ ghost use Rattle.std.specs.Prelude.{◌≡◌, ◌<◌, ◌^◌, IfOk};
 ghost use Rattle.foyer_core_tally.specs.Ledgers.{AreOf};
 
 use foyer_block_manager::block::eviction::BuiltInPicker;
+use foyer_block_recover::block::listing::Listings;
 use foyer_core_tally::book::{Blanks, Kinds};
 use foyer_device_page::error::{Error, Result};
 use foyer_format_record::serde::{Age, Properties};
@@ -58,7 +59,17 @@ fn opened<L: Kinds, A: Allocator + Clone, N: Noting>(
     let mut disk = MemoryDisk::new(alloc.clone()?, settings.blocks, settings.block_size)?;
     let handle = alloc.clone()?;
     let mode = RecoverMode::None;
-    Locked::open(handle, env, settings, &mut disk, mode, &[], blanks)
+    let none = Listings::none(alloc.clone()?);
+    Locked::open(
+        handle,
+        env,
+        settings,
+        &mut disk,
+        mode,
+        &[],
+        none,
+        blanks,
+    )
 }
 
 // The step of a word: `e1` enqueues, `b1` too, with more than may be queued, `d1` deletes, `m1` asks for, `l1` looks up, `f0` ends a batch of a flusher.

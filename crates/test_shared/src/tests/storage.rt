@@ -3,6 +3,7 @@ ghost use Rattle.std.specs.Prelude.{◌≡◌, ◌<◌, ◌^◌, IfOk};
 ghost use Rattle.foyer_core_tally.specs.Ledgers.{AreOf};
 
 use foyer_block_manager::block::eviction::BuiltInPicker;
+use foyer_block_recover::block::listing::Listings;
 use foyer_block_recover::gate::Gate;
 use foyer_core_tally::book::{Blanks, Kinds};
 use foyer_device_page::error::{Error, Result};
@@ -108,6 +109,7 @@ fn opened<L: Kinds, G: Gate>(
         &mut disk,
         mode,
         &[],
+        Listings::none(alloc),
         blanks,
     );
     let (locked, session) = made?;

@@ -1,24 +1,34 @@
-use Rattle.std.proofs.Common.{◌≡◌, ◌≢◌, List, length, vec_len, refl, sym, ap, ◌∙◌, arith}
-use Rattle.std.proofs.lemmas.Bool.{eqb-true, eqb-false}
-use Rattle.std.proofs.lemmas.List.{nil_from_length}
+use Rattle.std.proofs.Common.{◌≡◌, ◌≢◌, ◌∙◌, [], length, vec_len, refl, ap, arith}
 use Rattle.foyer_block_index.specs.Insertion.{inserted_all}
-use Rattle.foyer_block_index.specs.declared.indexer.HashedEntryAddress.{HashedEntryAddress}
+use Rattle.foyer_block_recover.specs.Chained.{hashed_entries}
 use Rattle.foyer_block_recover.specs.Kept.{greatest_in}
-use Rattle.foyer_block_recover.proofs.BlocksLemmas.{none_kept, some_kept, taken_none, taken_some}
+use Rattle.foyer_block_recover.proofs.BlocksLemmas.{none_kept, some_kept, not_grown, grown_by_some, gathered_none, gathered_some}
 use Rattle.foyer_block_recover.proofs.block.blocks.BlocksRead.take_block.Goals as goal
 
-pub returns-then-is_empty-clause-taken : goal.returns-then-is_empty-clause-taken
-returns-then-is_empty-clause-taken g c = λ keeps holds is.
+pub returns-then-len-before-clause-taken : goal.returns-then-len-before-clause-taken
+returns-then-len-before-clause-taken g c = λ old keeps len is holds.
     let batch = c.args.batch in
-    let len : vec_len batch ≡ 0 = eqb-true (vec_len batch) 0 (sym c.is_empty.ensures ∙ c.if-is_empty.true) in
-    let none = nil_from_length batch.items (omega (arith, batch.ok.0, len)) in
-    taken_none c.args.self.now _ c.args.block keeps (none_kept c.args.block (keeps c.args.block) (sym is ∙ none)) refl refl c.in_ok-push.ensures.items holds
+    let b = c.args.block in
+    let even : c.len.result ≡ c.args.before = c.if-len-before.true in
+    let same : length batch.items ≡ length old = omega (arith, batch.ok.0, even, len, c.len.ensures) in
+    gathered_none c.args.self.now _ b keeps old batch.items (none_kept b (keeps b) (not_grown old (hashed_entries b (keeps b)) batch.items is same)) is refl refl c.in_ok-push.ensures.items holds
+
+pub returns-then-len-max-clause-taken : goal.returns-then-len-max-clause-taken
+returns-then-len-max-clause-taken g c = λ old keeps len is holds.
+    let batch = c.args.batch in
+    let b = c.args.block in
+    let more : c.len.result ≢ c.args.before = c.if-len-before.false in
+    gathered_some c.args.self.now c.args.self.now b keeps old batch.items batch.items
+    (some_kept b (keeps b) (grown_by_some old (hashed_entries b (keeps b)) batch.items is (λ same. more (omega (arith, batch.ok.0, same, len, c.len.ensures))))) is refl refl refl holds
 
 pub returns-clause-taken : goal.returns-clause-taken
-returns-clause-taken g c = λ keeps holds is.
+returns-clause-taken g c = λ old keeps len is holds.
     let batch = c.args.batch in
-    let some : vec_len batch ≢ 0 = eqb-false (vec_len batch) 0 (sym c.is_empty.ensures ∙ c.if-is_empty.false) in
-    taken_some c.args.self.now _ c.args.block keeps
-    (some_kept c.args.block (keeps c.args.block) (λ none. some (let zero : length batch.items ≡ 0 = ap (λ (l : List HashedEntryAddress). length l) (is ∙ none) in omega (arith, batch.ok.0, zero))))
-    (c.in_ok-again.ensures.inserted ∙ ap (inserted_all c.args.self.now.index.slots) is)
-    (c.greatest_in-self.ensures ∙ ap (greatest_in c.args.self.now.greatest) (c.deref.ensures.value ∙ is)) refl holds
+    let b = c.args.block in
+    let new = c.take_batch.new.self in
+    let more : c.len.result ≢ c.args.before = c.if-len-before.false in
+    gathered_some c.args.self.now new b keeps old batch.items c.in_ok-again.again.items
+    (some_kept b (keeps b) (grown_by_some old (hashed_entries b (keeps b)) batch.items is (λ same. more (omega (arith, batch.ok.0, same, len, c.len.ensures))))) is
+    (ap (inserted_all new.index.slots) c.in_ok-again.ensures.empty ∙ c.in_ok-again.ensures.index)
+    (ap (greatest_in new.greatest) c.in_ok-again.ensures.empty ∙ c.in_ok-again.ensures.greatest)
+    (ap (λ v. v.items) c.in_ok-again.ensures.clean) holds

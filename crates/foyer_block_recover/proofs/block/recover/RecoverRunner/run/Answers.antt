@@ -1,31 +1,23 @@
-use Rattle.std.proofs.Common.{◌+◌, ◌<◌, ◌≤◌, ◌^◌, refl, arith}
+use Rattle.std.proofs.Common.{false, IfOk, IfErr}
 use Rattle.foyer_io_disk.specs.Disk.{SurelyCame}
-use Rattle.foyer_block_recover.specs.Recovery.{sizes_of, marks_of}
-use Rattle.foyer_block_recover.specs.declared.block.recover.Recovered.{Recovered}
-use Rattle.foyer_block_recover.proofs.OpeningLemmas.{opens, some_opening, at_end}
+use Rattle.foyer_block_recover.specs.Recovery.{sizes_of, marks_of, opened_of, IsRecovered, IsRefused}
+use Rattle.foyer_block_recover.proofs.SourcesLemmas.{none_listed, sure_of_none}
 use Rattle.foyer_block_recover.proofs.block.recover.RecoverRunner.run.Goals as goal
 
 pub returns-clause-recovered : goal.returns-clause-recovered
 returns-clause-recovered g c = λ seen.
     let r = c.args.self.now in
-    let after = c.take_marks.new.self in
-    let opened : Recovered g.row.A.Denot = record { index = after.index; next = c.in-Some.next; clean = after.clean } in
-    opens (sizes_of r) r.blocks (g.D.Disk.byte_at c.args.disk.now) (SurelyCame (g.D.Disk.surely_has c.args.disk.now) (g.D.Disk.surely_lies c.args.disk.now) (g.D.Disk.faults c.args.disk.now) (g.D.Disk.faults c.read.new.disk)) r.mode (marks_of c.args.marks.now) c.in_ok-read.read after
-    (c.in_ok-read.ensures.kept seen) c.take_marks.ensures.taken c.take_marks.ensures.clean opened refl c.in-Some.ensures.1 c.in-Some.ensures.0 refl
+    let B = g.D.Disk.byte_at c.args.disk.now in
+    let S = SurelyCame (g.D.Disk.surely_has c.args.disk.now) (g.D.Disk.surely_lies c.args.disk.now) (g.D.Disk.faults c.args.disk.now) (g.D.Disk.faults c.run_with.new.disk) in
+    sure_of_none (sizes_of r) c.none-none.result.slots.items c.none-none.ensures S
+    (λ Q. IfOk c.run_with.result (λ recovered. IsRecovered (sizes_of r) r.blocks B Q r.mode (marks_of c.args.marks.now) (opened_of recovered)))
+    (c.run_with.ensures.recovered B (λ b p. false) seen (none_listed (sizes_of r) r.blocks B c.none-none.result.slots.items c.none-none.ensures))
 
-pub returns-in_default-clause-refused : goal.returns-in_default-clause-refused
-returns-in_default-clause-refused g c = λ seen.
+pub returns-clause-refused : goal.returns-clause-refused
+returns-clause-refused g c = λ seen.
     let r = c.args.self.now in
-    let after = c.take_marks.new.self in
-    let no_more : after.greatest + 1 < 2 ^ 64 → ⊥ = c.in_default.ensures in
-    let last : 2 ^ 64 ≤ after.greatest + 1 = omega arith in
-    at_end (sizes_of r) r.blocks (g.D.Disk.byte_at c.args.disk.now) (SurelyCame (g.D.Disk.surely_has c.args.disk.now) (g.D.Disk.surely_lies c.args.disk.now) (g.D.Disk.faults c.args.disk.now) (g.D.Disk.faults c.read.new.disk)) r.mode (marks_of c.args.marks.now) c.in_ok-read.read after
-    (c.in_ok-read.ensures.kept seen) c.take_marks.ensures.taken c.take_marks.ensures.clean last
-
-pub returns-clause-some : goal.returns-clause-some
-returns-clause-some g c =
-    let r = c.args.self.now in
-    let after = c.take_marks.new.self in
-    let opened : Recovered g.row.A.Denot = record { index = after.index; next = c.in-Some.next; clean = after.clean } in
-    some_opening (sizes_of r) r.blocks (marks_of c.args.marks.now) c.in_ok-read.read after c.in_ok-read.ensures.some
-    c.take_marks.ensures.taken c.take_marks.ensures.clean opened refl c.in-Some.ensures.1 c.in-Some.ensures.0 refl
+    let B = g.D.Disk.byte_at c.args.disk.now in
+    let S = SurelyCame (g.D.Disk.surely_has c.args.disk.now) (g.D.Disk.surely_lies c.args.disk.now) (g.D.Disk.faults c.args.disk.now) (g.D.Disk.faults c.run_with.new.disk) in
+    sure_of_none (sizes_of r) c.none-none.result.slots.items c.none-none.ensures S
+    (λ Q. IfErr c.run_with.result (IsRefused (sizes_of r) r.blocks B Q r.mode (marks_of c.args.marks.now)))
+    (c.run_with.ensures.refused B (λ b p. false) seen (none_listed (sizes_of r) r.blocks B c.none-none.result.slots.items c.none-none.ensures))

@@ -1,0 +1,231 @@
+//! What one block lists, as a worker of a recovery read it, and the listings that came, by block.
+ghost use Rattle.std.specs.Prelude.{◌≡◌, ℕ, ◌<◌, ◌≤◌, ◌^◌, [], Bool, vec_len, replicate, slice_get, slice_set, Some, None, true, IfOk, IfSome, IsOkUnless};
+ghost use Rattle.std.specs.Bool.{OnTrue, OnFalse};
+ghost use Rattle.foyer_device_page.specs.declared.error.Error.TheVariants.{Memory};
+ghost use Rattle.foyer_format_buffer.specs.Fills.{AreSizes};
+ghost use Rattle.foyer_io_disk.specs.Disk.{SurelyCame};
+ghost use Rattle.foyer_block_recover.specs.Chained.{IsKeptOf};
+ghost use Rattle.foyer_block_recover.specs.Placed.{IsSomeKept};
+ghost use Rattle.foyer_block_recover.specs.Sources.{IsListingOf, IsSource, came, is_of, listing_at, sure_in};
+
+use crate::block::chain::{Chain, read_chain};
+use foyer_block_index::indexer::HashedEntryAddress;
+use foyer_block_index::manager::BlockId;
+use foyer_device_page::error::Result;
+use foyer_io_disk::disk::Disk;
+use std::alloc::Allocator;
+use std::marker::{Model, PhantomData};
+
+/// What is kept of one block, as one reading of its chain gave it. Some disk gave it: where contracts see that disk's bytes,
+/// it is what these list, but for reads that failed. Whatever the disk, its entries lie in the block.
+#[derive(Drop)]
+pub struct BlockListing<A: Allocator, D: Disk> {
+    block: BlockId,
+    block_size: usize,
+    index_size: usize,
+    kept: Vec<HashedEntryAddress, A>,
+    is_cut: bool,
+    disk: PhantomData<D>,
+}
+
+impl<A: Allocator, D: Disk> Model for BlockListing<A, D> {
+    ghost use Rattle.foyer_block_recover.specs.Sources.{Listing, IsRead};
+
+    ghost Value = { Listing };
+
+    ghost view = { λ l. record {
+      block = l.block;
+      sizes = record { block = l.block_size; index = l.index_size };
+      kept = l.kept.items;
+      is_cut = l.is_cut;
+    } };
+
+    ghost invariant = { λ l. IsRead D.is_known D.byte_at D.surely_has D.surely_lies D.faults (record {
+      block = l.block;
+      sizes = record { block = l.block_size; index = l.index_size };
+      kept = l.kept.items;
+      is_cut = l.is_cut;
+    }) };
+}
+
+impl<A: Allocator + Clone, D: Disk> BlockListing<A, D> {
+    // Reads the chain of a block with a buffer of one index, which is handed back.
+    pub(crate) fn read(
+        alloc: &A,
+        disk: &mut D,
+        block: BlockId,
+        block_size: usize,
+        buffer: Vec<u8, A>,
+    ) -> Result<(BlockListing<A, D>, Vec<u8, A>)>
+        requires sizes { AreSizes (record { block = block_size; index = vec_len buffer }) }
+        requires small { block_size ≤ 2 ^ 32 }
+        ensures block { IfOk result (λ r. (r.0.block ≡ block)
+            × (r.0.sizes ≡ record { block = block_size; index = vec_len buffer })) }
+        ensures lists { D.is_known disk.old → IfOk result (λ r. IsListingOf
+            (record { block = block_size; index = vec_len buffer }) (D.byte_at disk.old block)
+            (λ p. SurelyCame (D.surely_has disk.old) (D.surely_lies disk.old) (D.faults disk.old) (D.faults disk.new)
+            block p (vec_len buffer)) r.0) }
+        ensures len { IfOk result (λ r. vec_len r.1 ≡ vec_len buffer) }
+        ensures memory { IsOkUnless result Memory }
+        ensures known { D.is_known disk.old → D.is_known disk.new }
+        ensures same { D.byte_at disk.new ≡ D.byte_at disk.old }
+        ensures has { (b o n : ℕ) → D.surely_has disk.old b o n → D.surely_has disk.new b o n }
+        ensures lies { (b o n : ℕ) → D.surely_lies disk.old b o n → D.surely_lies disk.new b o n }
+        ensures counted { D.faults disk.old ≤ D.faults disk.new }
+    {
+        let index_size = buffer.len();
+        let none = Vec::new(alloc.clone()?);
+        let Chain {
+            buffer,
+            kept,
+            is_cut,
+        } = read_chain(alloc, disk, block, block_size, buffer, none)?;
+        let listing = BlockListing {
+            block,
+            block_size,
+            index_size,
+            kept,
+            is_cut,
+            disk: PhantomData,
+        };
+        Ok((listing, buffer))
+    }
+}
+
+impl<A: Allocator, D: Disk> BlockListing<A, D> {
+    /// The block that it is of.
+    pub fn block(&self) -> BlockId
+        ensures { result ≡ self.now.block }
+    {
+        self.block
+    }
+
+    // Whether it is of this block, in these sizes.
+    fn is_of(&self, block: BlockId, block_size: usize, index_size: usize) -> bool
+        ensures { result ≡ is_of (record { block = block_size; index = index_size }) block self.now }
+    {
+        self.block == block && self.block_size == block_size && self.index_size == index_size
+    }
+}
+
+// What is kept of a block, behind what a batch has: by the listing that came of it, else by reading its chain.
+pub(crate) fn list_chain<A: Allocator + Clone, D: Disk>(
+    alloc: &A,
+    disk: &mut D,
+    block: BlockId,
+    block_size: usize,
+    listing: Option<BlockListing<A, D>>,
+    buffer: Vec<u8, A>,
+    kept: Vec<HashedEntryAddress, A>,
+) -> Result<Chain<A>>
+    requires sizes { AreSizes (record { block = block_size; index = vec_len buffer }) }
+    requires small { block_size ≤ 2 ^ 32 }
+    requires own { IfSome listing (λ l. is_of (record { block = block_size; index = vec_len buffer }) block l ≡ true) }
+    ensures len { IfOk result (λ chain. vec_len chain.buffer ≡ vec_len buffer) }
+    ensures kept { (B : ℕ → ℕ) (failed : ℕ → Bool) → D.is_known disk.old
+        → IsSource (record { block = block_size; index = vec_len buffer }) block listing B (D.byte_at disk.old block) failed
+        → IfOk result (λ chain. IsKeptOf (record { block = block_size; index = vec_len buffer }) B
+        (sure_in listing failed (λ p. SurelyCame (D.surely_has disk.old) (D.surely_lies disk.old) (D.faults disk.old) (D.faults disk.new)
+        block p (vec_len buffer))) block kept.items chain.kept.items chain.is_cut) }
+    ensures some { IfOk result (λ chain. IsSomeKept
+        (record { block = block_size; index = vec_len buffer }) block kept.items chain.kept.items) }
+    ensures memory { IsOkUnless result Memory }
+    ensures known { D.is_known disk.old → D.is_known disk.new }
+    ensures same { D.byte_at disk.new ≡ D.byte_at disk.old }
+    ensures has { (b o n : ℕ) → D.surely_has disk.old b o n → D.surely_has disk.new b o n }
+    ensures lies { (b o n : ℕ) → D.surely_lies disk.old b o n → D.surely_lies disk.new b o n }
+    ensures counted { D.faults disk.old ≤ D.faults disk.new }
+{
+    let Some(listing) = listing else {
+        return read_chain(alloc, disk, block, block_size, buffer, kept);
+    };
+    let BlockListing {
+        kept: mut listed,
+        is_cut,
+        ..
+    } = listing;
+    let mut kept = kept;
+    kept.append(&mut listed)?;
+    Ok(Chain {
+        buffer,
+        kept,
+        is_cut,
+    })
+}
+
+/// The listings that came of a disk's blocks, in whatever order: of each block one at most.
+#[derive(Drop)]
+pub struct Listings<A: Allocator, D: Disk> {
+    // By block.
+    slots: Vec<Option<BlockListing<A, D>>, A>,
+}
+
+impl<A: Allocator, D: Disk> Listings<A, D> {
+    /// With room for none: a recovery that is given it reads each block by itself.
+    pub fn none(alloc: A) -> Listings<A, D>
+        ensures { result.slots.items ≡ [] }
+    {
+        Listings {
+            slots: Vec::new(alloc),
+        }
+    }
+
+    /// With room for a listing of each of so many blocks. `Memory` is the only refusal.
+    pub fn new(alloc: A, blocks: u32) -> Result<Listings<A, D>>
+        ensures empty { IfOk result (λ listings. listings.slots.items ≡ replicate blocks None) }
+        ensures refused { IsOkUnless result Memory }
+    {
+        let mut slots = Vec::with_capacity(alloc, blocks as usize)?;
+        'each_block: for _ in 0..blocks {
+            slots.push(None)?;
+        }
+        Ok(Listings { slots })
+    }
+
+    /// Takes a listing in, and answers whether it did: not where one of its block was there before, nor where there is no room
+    /// for that block.
+    pub fn add(&mut self, listing: BlockListing<A, D>) -> bool
+        ensures taken { OnTrue result ((slice_get self.old.slots.items listing.block ≡ Some None)
+            × (self.new.slots.items ≡ slice_set self.old.slots.items listing.block (Some listing))) }
+        ensures left { OnFalse result ((slice_get self.old.slots.items listing.block ≡ Some None → ⊥)
+            × (self.new.slots.items ≡ self.old.slots.items)) }
+    {
+        let at = listing.block as usize;
+        if at >= self.slots.len() || self.slots[at].is_some() {
+            return false;
+        }
+        self.slots[at] = Some(listing);
+        true
+    }
+
+    // Takes what came of a block out, and gives it, unless it is of another block or other sizes.
+    pub(crate) fn take(
+        &mut self,
+        block: BlockId,
+        block_size: usize,
+        index_size: usize,
+    ) -> Option<BlockListing<A, D>>
+        ensures taken { result ≡ listing_at (record { block = block_size; index = index_size }) block self.old.slots.items }
+        ensures left { self.new.slots.items ≡ slice_set self.old.slots.items block None }
+    {
+        let listing = take_at(&mut self.slots, block)?;
+        if !listing.is_of(block, block_size, index_size) {
+            return None;
+        }
+        Some(listing)
+    }
+}
+
+// Takes what came of a block out.
+fn take_at<A: Allocator, D: Disk>(
+    slots: &mut Vec<Option<BlockListing<A, D>>, A>,
+    block: BlockId,
+) -> Option<BlockListing<A, D>>
+    ensures taken { result ≡ came (slice_get slots.old.items block) }
+    ensures left { slots.new.items ≡ slice_set slots.old.items block None }
+{
+    let Some(slot) = slots.get_mut(block as usize) else {
+        return None;
+    };
+    slot.take()
+}
