@@ -126,3 +126,14 @@ pub refused_so : (s : Sizes) (n : ℕ) (bytes : ℕ → ℕ → ℕ) (surely : �
 refused_so s n bytes surely marks strict e (inl memory) cut = subst (IsRefused s n bytes surely recover_mode.Strict marks) (sym memory) tt
 refused_so s n bytes surely marks strict e (inr recover) cut =
     subst (IsRefused s n bytes surely recover_mode.Strict marks) (sym recover.0) (cut_short s n bytes surely strict (cut recover.0))
+
+-- a refusal that comes before the marks
+pub before_marks : {T : Type 0} (s : Sizes) (n : ℕ) (bytes : ℕ → ℕ → ℕ) (surely : ℕ → ℕ → ℕ → Type 0) (mode : RecoverMode) (marks : List (ℕ × ℕ)) (r : Result T Error) (e seen : Error)
+    → r ≡ Err e → e ≡ seen → ((seen ≡ error.Memory) ⊎ ((seen ≡ error.Recover) × (mode ≡ recover_mode.Strict)))
+    → IsRefused s n bytes surely mode [] seen → IfErr r (IsRefused s n bytes surely mode marks)
+before_marks s n bytes surely mode marks r e seen is same may refused =
+    subst (λ o. IfErr o (IsRefused s n bytes surely mode marks)) (sym is) (subst (IsRefused s n bytes surely mode marks) (sym same) (with_marks may refused))
+  where
+    with_marks : ((seen ≡ error.Memory) ⊎ ((seen ≡ error.Recover) × (mode ≡ recover_mode.Strict))) → IsRefused s n bytes surely mode [] seen → IsRefused s n bytes surely mode marks seen
+    with_marks (inl memory) refused = subst (IsRefused s n bytes surely mode marks) (sym memory) tt
+    with_marks (inr recover) refused = subst (IsRefused s n bytes surely mode marks) (sym recover.0) (let cut = subst (IsRefused s n bytes surely mode []) recover.0 refused in cut)

@@ -33,8 +33,8 @@ module _ {X : Type 0} (is_known : X → Type 0) (byte_at : X → ℕ → ℕ →
         (λ p. SurelyCame (surely_has before) (surely_lies before) (faults before) (faults after) l.block p (l.sizes).index) l
 
   -- What its type keeps: some disk gave it, and whatever that showed, its entries lie in the block.
-  abbrev pub IsRead : Listing → Type 0
-  IsRead l = ∥ IsReadFrom l ∥₁ × Each (IsWithinBlock l.sizes l.block) l.kept
+  abbrev pub IsListing : Listing → Type 0
+  IsListing l = ∥ IsReadFrom l ∥₁ × Each (IsWithinBlock l.sizes l.block) l.kept
 
 -- a listing of this block, in these sizes
 abbrev pub is_of : Sizes → ℕ → Listing → Bool

@@ -6,7 +6,7 @@ ghost use Rattle.foyer_core_steps.specs.Opened.{IsOpened, IsOpenedFrom, opened_s
 ghost use Rattle.foyer_core_flusher.specs.Idle.{idle};
 ghost use Rattle.foyer_core_flusher.specs.Seen.{seen};
 ghost use Rattle.foyer_core_model.specs.Ids.{is_id_in, AreDistinct};
-ghost use Rattle.foyer_block_recover.specs.Recovery.{IsRefused, marks_of, opened_of, sizes_of};
+ghost use Rattle.foyer_block_recover.specs.Recovery.{IsRefused, marks_of, opened_of};
 ghost use Rattle.foyer_block_recover.specs.Sources.{AreSources, sure_of};
 ghost use Rattle.foyer_core_laws.specs.Sizes.{AreValid, sizes_in};
 ghost use Rattle.foyer_core_steps.specs.Showing.{HaveLearned};
@@ -31,18 +31,25 @@ use foyer_policy_filter::StorageFilterCondition;
 use std::alloc::Allocator;
 use std::collections::HashMap;
 
-/// The recovery of a core's blocks in a mode.
-pub fn runner_of(settings: &Settings, mode: RecoverMode) -> RecoverRunner
-    ensures mode { result.mode ≡ mode }
-    ensures blocks { result.blocks ≡ settings.now.blocks }
-    ensures sizes { sizes_of result ≡ sizes_in settings.now }
+/// The recovery of a core's blocks in a mode. `Config` where the settings don't go together.
+pub fn runner_of(settings: &Settings, mode: RecoverMode) -> Result<RecoverRunner>
+    ensures runner { IfOk result (λ r. r ≡ record {
+      mode = mode;
+      blocks = settings.now.blocks;
+      block_size = settings.now.block_size;
+      blob_index_size = settings.now.blob_index_size;
+    }) }
+    ensures sound { IfOk result (λ _. AreValid settings.now) }
+    ensures refused { IfErr result (λ e. (e ≡ Config) × (AreValid settings.now → ⊥)) }
+    ensures unsound { (AreValid settings.now → ⊥) → result ≡ Err Config }
 {
-    RecoverRunner {
+    settings.check()?;
+    Ok(RecoverRunner {
         mode,
         blocks: settings.blocks,
         block_size: settings.block_size,
         blob_index_size: settings.blob_index_size,
-    }
+    })
 }
 
 // So many flushers that have nothing.
@@ -135,12 +142,11 @@ impl<K: Drop, V: Drop, P: Drop, A: Allocator + Clone> Core<K, V, P, A> {
         ensures lies { (b o n : ℕ) → D.surely_lies disk.old b o n → D.surely_lies disk.new b o n }
         ensures counted { D.faults disk.old ≤ D.faults disk.new }
     {
-        settings.check()?;
-        let recovered =
-            match runner_of(&settings, mode).run(&alloc, disk, settings.indexer_shards, marks) {
-                Ok(recovered) => recovered,
-                Err(error) => return Err(error),
-            };
+        let runner = runner_of(&settings, mode)?;
+        let recovered = match runner.run(&alloc, disk, settings.indexer_shards, marks) {
+            Ok(recovered) => recovered,
+            Err(error) => return Err(error),
+        };
         Core::begin(alloc, env, settings, recovered)
     }
 
@@ -181,14 +187,9 @@ impl<K: Drop, V: Drop, P: Drop, A: Allocator + Clone> Core<K, V, P, A> {
         ensures lies { (b o n : ℕ) → D.surely_lies disk.old b o n → D.surely_lies disk.new b o n }
         ensures counted { D.faults disk.old ≤ D.faults disk.new }
     {
-        settings.check()?;
-        let recovered = match runner_of(&settings, mode).run_with(
-            &alloc,
-            disk,
-            settings.indexer_shards,
-            marks,
-            listings,
-        ) {
+        let runner = runner_of(&settings, mode)?;
+        let shards = settings.indexer_shards;
+        let recovered = match runner.run_with(&alloc, disk, shards, marks, listings) {
             Ok(recovered) => recovered,
             Err(error) => return Err(error),
         };

@@ -1,6 +1,6 @@
 //! The workers of a recovery: each has a thread and a disk of its own, and lists some of the blocks.
-ghost use Rattle.std.specs.Prelude.{◌≡◌, ◌<◌, ℕ, Some, slice_get};
-ghost use Rattle.foyer_core_laws.specs.Sizes.{AreValid};
+ghost use Rattle.foyer_block_recover.specs.Sources.{came};
+ghost use Rattle.std.specs.Prelude.{◌≡◌, ◌<◌, ℕ, IsSome, slice_get};
 
 use foyer_block_recover::block::listing::{BlockListing, Listings};
 use foyer_core_steps::open::{RecoverMode, runner_of};
@@ -20,12 +20,13 @@ fn list_share<D: Disk + Drop>(
     worker: u32,
     workers: u32,
 ) -> Vec<BlockListing<Global, D>>
-    requires valid { AreValid settings }
-    requires workers { 0 < workers }
+    requires { 0 < workers }
 {
     let mut disk = disk;
     let mut listings = Vec::new(alloc);
-    let runner = runner_of(&settings, mode);
+    let Ok(runner) = runner_of(&settings, mode) else {
+        return listings;
+    };
     // Where memory is refused, what was listed before is of use all the same.
     let _ = runner.list(&alloc, &mut disk, worker, workers, &mut listings);
     listings
@@ -56,7 +57,6 @@ pub fn list_blocks<R, D>(
 where
     R: Threads + Wait + Copy + Send + 'static,
     D: Disk + Drop + Send + 'static,
-    requires { AreValid settings }
 {
     let Ok(workers) = u32::try_from(disks.len()) else {
         return;

@@ -29,7 +29,7 @@ pub struct BlockListing<A: Allocator, D: Disk> {
 }
 
 impl<A: Allocator, D: Disk> Model for BlockListing<A, D> {
-    ghost use Rattle.foyer_block_recover.specs.Sources.{Listing, IsRead};
+    ghost use Rattle.foyer_block_recover.specs.Sources.{Listing, IsListing};
 
     ghost Value = { Listing };
 
@@ -40,7 +40,7 @@ impl<A: Allocator, D: Disk> Model for BlockListing<A, D> {
       is_cut = l.is_cut;
     } };
 
-    ghost invariant = { λ l. IsRead D.is_known D.byte_at D.surely_has D.surely_lies D.faults (record {
+    ghost invariant = { λ l. IsListing D.is_known D.byte_at D.surely_has D.surely_lies D.faults (record {
       block = l.block;
       sizes = record { block = l.block_size; index = l.index_size };
       kept = l.kept.items;

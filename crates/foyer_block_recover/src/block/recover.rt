@@ -65,14 +65,14 @@ impl RecoverRunner {
         requires sizes { AreSizes (sizes_of self.now) }
         requires small { self.now.block_size ≤ 2 ^ 32 }
         requires shards { 0 < shards }
-        ensures kept { (bytes : ℕ → ℕ → ℕ) (failed : ℕ → ℕ → Bool) → (self.now.mode ≡ RecoverMode.None) ⊎ D.is_known disk.old
-            → AreSources (sizes_of self.now) self.now.blocks listings.slots.items bytes (D.byte_at disk.old) failed
+        ensures kept { (bytes : ℕ → ℕ → ℕ) (failed : ℕ → ℕ → Bool) → (self.now.mode ≡ RecoverMode.None)
+            ⊎ (D.is_known disk.old × AreSources (sizes_of self.now) self.now.blocks listings.slots.items bytes (D.byte_at disk.old) failed)
             → IfOk result (AreBlocksKept (sizes_of self.now) self.now.blocks bytes
             (sure_of (sizes_of self.now) listings.slots.items failed
             (SurelyCame (D.surely_has disk.old) (D.surely_lies disk.old) (D.faults disk.old) (D.faults disk.new))) self.now.mode) }
         ensures some { IfOk result (AreSomeKept (sizes_of self.now) self.now.blocks) }
-        ensures refused { (bytes : ℕ → ℕ → ℕ) (failed : ℕ → ℕ → Bool) → (self.now.mode ≡ RecoverMode.None) ⊎ D.is_known disk.old
-            → AreSources (sizes_of self.now) self.now.blocks listings.slots.items bytes (D.byte_at disk.old) failed
+        ensures refused { (bytes : ℕ → ℕ → ℕ) (failed : ℕ → ℕ → Bool) → (self.now.mode ≡ RecoverMode.None)
+            ⊎ (D.is_known disk.old × AreSources (sizes_of self.now) self.now.blocks listings.slots.items bytes (D.byte_at disk.old) failed)
             → IfErr result (IsRefused (sizes_of self.now) self.now.blocks bytes
             (sure_of (sizes_of self.now) listings.slots.items failed
             (SurelyCame (D.surely_has disk.old) (D.surely_lies disk.old) (D.faults disk.old) (D.faults disk.new))) self.now.mode []) }
@@ -160,15 +160,15 @@ impl RecoverRunner {
         requires sizes { AreSizes (sizes_of self.now) }
         requires small { self.now.block_size ≤ 2 ^ 32 }
         requires shards { 0 < shards }
-        ensures recovered { (bytes : ℕ → ℕ → ℕ) (failed : ℕ → ℕ → Bool) → (self.now.mode ≡ RecoverMode.None) ⊎ D.is_known disk.old
-            → AreSources (sizes_of self.now) self.now.blocks listings.slots.items bytes (D.byte_at disk.old) failed
+        ensures recovered { (bytes : ℕ → ℕ → ℕ) (failed : ℕ → ℕ → Bool) → (self.now.mode ≡ RecoverMode.None)
+            ⊎ (D.is_known disk.old × AreSources (sizes_of self.now) self.now.blocks listings.slots.items bytes (D.byte_at disk.old) failed)
             → IfOk result (λ recovered. IsRecovered (sizes_of self.now) self.now.blocks bytes
             (sure_of (sizes_of self.now) listings.slots.items failed
             (SurelyCame (D.surely_has disk.old) (D.surely_lies disk.old) (D.faults disk.old) (D.faults disk.new))) self.now.mode (marks_of marks.now)
             (opened_of recovered)) }
         ensures some { IfOk result (λ recovered. IsOpening (sizes_of self.now) self.now.blocks (marks_of marks.now) (opened_of recovered)) }
-        ensures refused { (bytes : ℕ → ℕ → ℕ) (failed : ℕ → ℕ → Bool) → (self.now.mode ≡ RecoverMode.None) ⊎ D.is_known disk.old
-            → AreSources (sizes_of self.now) self.now.blocks listings.slots.items bytes (D.byte_at disk.old) failed
+        ensures refused { (bytes : ℕ → ℕ → ℕ) (failed : ℕ → ℕ → Bool) → (self.now.mode ≡ RecoverMode.None)
+            ⊎ (D.is_known disk.old × AreSources (sizes_of self.now) self.now.blocks listings.slots.items bytes (D.byte_at disk.old) failed)
             → IfErr result (IsRefused (sizes_of self.now) self.now.blocks bytes
             (sure_of (sizes_of self.now) listings.slots.items failed
             (SurelyCame (D.surely_has disk.old) (D.surely_lies disk.old) (D.faults disk.old) (D.faults disk.new))) self.now.mode (marks_of marks.now)) }

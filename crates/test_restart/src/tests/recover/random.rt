@@ -1,5 +1,5 @@
 //! Random blocks, failed reads and marks.
-use crate::tests::recover::recovering::runner;
+use crate::tests::recover::recovering::{recover_by, runner};
 use crate::tests::recover::slow;
 use foyer_block_index::tombstone::Tombstone;
 use foyer_block_recover::block::recover::RecoverMode;
@@ -89,16 +89,18 @@ fn draw_marks(alloc: Global, generator: &mut Pcg32) -> Result<Vec<Tombstone>, Fa
     Ok(marks)
 }
 
-// Recovers, and compares with what the slow reader has; gives what it was refused as.
+// Recovers by so many workers, and compares with what the slow reader has; gives what it was refused as.
 fn compare(
     rt: &impl Abort,
     alloc: Global,
     disk: &mut ForgedDisk,
     mode: RecoverMode,
+    workers: u32,
     marks: &[Tombstone],
 ) -> Result<Option<Error>, Fail> {
     let expected = slow::open_slowly(alloc, disk, BLOCKS, mode, marks)?;
-    let recovered = match runner(mode, BLOCKS).run(&alloc, disk, 4, marks) {
+    let runner = runner(mode, BLOCKS);
+    let recovered = match recover_by(&alloc, disk, &runner, workers, workers == 3, marks) {
         Ok(recovered) => recovered,
         Err(error) => {
             assert_eq!(rt; Some(error), expected.refused);
@@ -140,15 +142,17 @@ fn random_blocks_are_what_a_slow_reader_has(rt: HostRuntime) -> Result<(), Fail>
         let mut disk = draw_disk(alloc, &mut generator)?;
         let marks = draw_marks(alloc, &mut generator)?;
         for mode in [RecoverMode::None, RecoverMode::Quiet, RecoverMode::Strict] {
-            match compare(&rt, alloc, &mut disk, mode, &marks)? {
-                None => opened = opened.saturating_add(1),
-                Some(Error::Recover) => cut = cut.saturating_add(1),
-                Some(_) => ended = ended.saturating_add(1),
+            for workers in [0, 1, 2, 3, 8] {
+                match compare(&rt, alloc, &mut disk, mode, workers, &marks)? {
+                    None => opened = opened.saturating_add(1),
+                    Some(Error::Recover) => cut = cut.saturating_add(1),
+                    Some(_) => ended = ended.saturating_add(1),
+                }
             }
         }
     }
-    assert!(rt; opened > 100);
-    assert!(rt; cut > 100);
-    assert!(rt; ended > 10);
+    assert!(rt; opened > 500);
+    assert!(rt; cut > 500);
+    assert!(rt; ended > 50);
     Ok(())
 }

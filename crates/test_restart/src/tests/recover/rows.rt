@@ -1,5 +1,5 @@
 //! Worked examples of recovery, and forged indices.
-use crate::tests::recover::recovering::runner;
+use crate::tests::recover::recovering::{recover_by, runner};
 use foyer_block_index::tombstone::Tombstone;
 use foyer_block_recover::block::recover::{RecoverMode, Recovered};
 use foyer_device_page::error::Error;
@@ -86,6 +86,13 @@ fn of_equal_sequences_the_later_wins(rt: HostRuntime) -> Result<(), Fail> {
     assert_eq!(rt; address.offset, 8192);
     assert_eq!(rt; address.len, 54);
     assert_eq!(rt; recovered.next, 10);
+    // whichever listing came first, and a double is refused
+    for is_turned in [false, true] {
+        let runner = runner(RecoverMode::Quiet, 2);
+        let recovered = recover_by(&alloc, &mut disk, &runner, 2, is_turned, &[])?;
+        assert_eq!(rt; block_of(&recovered, 3), Some(1));
+        assert_eq!(rt; recovered.next, 10);
+    }
     for (sequence, left, next) in [(9, None, 10), (8, Some(1), 10), (11, None, 12)] {
         let marks = [Tombstone { hash: 3, sequence }];
         let recovered = recover(alloc, &mut disk, RecoverMode::Quiet, 2, &marks)?;
@@ -218,6 +225,36 @@ fn forged_entries_that_fit_are_kept(rt: HostRuntime) -> Result<(), Fail> {
     disk.put(0, &page(&[], 0));
     let recovered = recover(alloc, &mut disk, RecoverMode::Strict, 1, &[])?;
     assert_eq!(rt; recovered.clean.as_slice(), [0].as_slice());
+    Ok(())
+}
+
+// A worker that is refused memory in the middle of its blocks leaves the others to whoever takes its listings.
+#[test]
+fn refused_workers_change_no_opening(rt: HostRuntime) -> Result<(), Fail> {
+    let mut disk = ForgedDisk::new(rt.alloc(), 2)?;
+    disk.put(0, &page(&[entry(1, 5, 4096, 53)], 1));
+    disk.put(16384, &page(&[entry(2, 6, 4096, 53)], 1));
+    let runner = runner(RecoverMode::Quiet, 2);
+    let mut listed = 0u32;
+    for n in 1..100u64 {
+        let heap = Refusing::new(rt.alloc(), n);
+        match recover_by(&&heap, &mut disk, &runner, 1, false, &[]) {
+            Err(error) => {
+                assert_eq!(rt; error, Error::Memory);
+                assert!(rt; heap.has_refused());
+            }
+            Ok(recovered) => {
+                assert_eq!(rt; recovered.next, 7);
+                assert!(rt; recovered.clean.is_empty());
+                if !heap.has_refused() {
+                    assert!(rt; listed > 2);
+                    return Ok(());
+                }
+                listed = listed.saturating_add(1);
+            }
+        }
+    }
+    assert!(rt; false);
     Ok(())
 }
 
