@@ -59,7 +59,7 @@ pub kept_here : (size n m : ℕ) (slots : List (Option Listing)) (listing : Opti
     (b : ℕ) (old new : List HashedEntryAddress) (is_cut : Bool) → m ≡ n → seen ≡ has → listing ≡ listing_at (record { block = size; index = n }) b slots
     → ((b o k : ℕ) → before b o k → now b o k)
     → (IsSource (record { block = size; index = m }) b listing (bytes b) (seen b) (failed b)
-        → IsKeptOf (record { block = size; index = m }) (bytes b) (sure_in listing (failed b) (λ p. now b p m)) b old new is_cut)
+    → IsKeptOf (record { block = size; index = m }) (bytes b) (sure_in listing (failed b) (λ p. now b p m)) b old new is_cut)
     → IsSource (record { block = size; index = n }) b (listing_at (record { block = size; index = n }) b slots) (bytes b) (has b) (failed b)
     → IsKeptOf (record { block = size; index = n }) (bytes b) (λ p. sure_of (record { block = size; index = n }) slots failed before b p n) b old new is_cut
 kept_here size n m slots listing seen has bytes failed now before b old new is_cut len same listing_is within keeps source = record {

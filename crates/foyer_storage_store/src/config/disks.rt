@@ -370,14 +370,7 @@ where
         gate: Arc::try_clone(&gate)?,
     };
     let (locked, session): (Locked<L, K, V, P, Global, E, C, NoNotes>, Session<L>) = Locked::open(
-        alloc,
-        env,
-        settings,
-        &mut gated,
-        mode,
-        marks,
-        listings,
-        blanks,
+        alloc, env, settings, &mut gated, mode, marks, listings, blanks,
     )?;
     let GatedDisk { disk: reader, .. } = gated;
     let engine = BlockEngine::new(alloc, Shared::new(locked), settings, reader, gate)?;

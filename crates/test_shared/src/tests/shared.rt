@@ -60,16 +60,7 @@ fn opened<L: Kinds, A: Allocator + Clone, N: Noting>(
     let handle = alloc.clone()?;
     let mode = RecoverMode::None;
     let none = Listings::none(alloc.clone()?);
-    Locked::open(
-        handle,
-        env,
-        settings,
-        &mut disk,
-        mode,
-        &[],
-        none,
-        blanks,
-    )
+    Locked::open(handle, env, settings, &mut disk, mode, &[], none, blanks)
 }
 
 // The step of a word: `e1` enqueues, `b1` too, with more than may be queued, `d1` deletes, `m1` asks for, `l1` looks up, `f0` ends a batch of a flusher.

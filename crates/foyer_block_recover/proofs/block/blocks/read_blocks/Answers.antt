@@ -67,11 +67,11 @@ returns-then-is_strict-clause-cut g c = λ bytes failed known sources is.
     let cut : chain.is_cut ≡ true = cc in
     cut_here s bytes (sure_of s c.args.listings.slots.items failed S) c.args.is_strict c.args.blocks b c.each_block.batch.items chain.kept.items chain.is_cut c.each_block-test.true c.if-is_strict.true cut
     (kept_here c.args.block_size n (vec_len c.each_block.buffer) c.args.listings.slots.items c.take-listing.result (g.D.Disk.byte_at c.each_block.disk) (g.D.Disk.byte_at c.args.disk.now) bytes failed
-        (SurelyCame (g.D.Disk.surely_has c.each_block.disk) (g.D.Disk.surely_lies c.each_block.disk) (g.D.Disk.faults c.each_block.disk) (g.D.Disk.faults c.list_chain.new.disk)) S b
-        c.each_block.batch.items chain.kept.items chain.is_cut inv.len inv.same found
-        (came_behind (g.D.Disk.surely_has c.args.disk.now) (g.D.Disk.surely_lies c.args.disk.now) (g.D.Disk.faults c.args.disk.now) (g.D.Disk.faults c.each_block.disk) (g.D.Disk.faults c.list_chain.new.disk)
-        inv.counted c.list_chain.ensures.counted (g.D.Disk.surely_has c.each_block.disk) (g.D.Disk.surely_lies c.each_block.disk) inv.has inv.lies)
-        (c.in_ok-bytes.ensures.kept (bytes b) (failed b) (inv.known known)) (sources b c.each_block-test.true))
+    (SurelyCame (g.D.Disk.surely_has c.each_block.disk) (g.D.Disk.surely_lies c.each_block.disk) (g.D.Disk.faults c.each_block.disk) (g.D.Disk.faults c.list_chain.new.disk)) S b
+    c.each_block.batch.items chain.kept.items chain.is_cut inv.len inv.same found
+    (came_behind (g.D.Disk.surely_has c.args.disk.now) (g.D.Disk.surely_lies c.args.disk.now) (g.D.Disk.faults c.args.disk.now) (g.D.Disk.faults c.each_block.disk) (g.D.Disk.faults c.list_chain.new.disk)
+    inv.counted c.list_chain.ensures.counted (g.D.Disk.surely_has c.each_block.disk) (g.D.Disk.surely_lies c.each_block.disk) inv.has inv.lies)
+    (c.in_ok-bytes.ensures.kept (bytes b) (failed b) (inv.known known)) (sources b c.each_block-test.true))
 
 pub returns-in_err-batch-clause-cut : goal.returns-in_err-batch-clause-cut
 returns-in_err-batch-clause-cut g c = λ bytes failed known sources.
@@ -104,12 +104,12 @@ each_block-preserved g c =
       counted = omega (arith, inv.counted, c.list_chain.ensures.counted);
       blocks = λ bytes failed known sources.
           let is : IsKeptOf s (bytes b) (λ p. sure_of s c.args.listings.slots.items failed S b p n) b c.each_block.batch.items chain.kept.items chain.is_cut =
-        kept_here c.args.block_size n (vec_len c.each_block.buffer) c.args.listings.slots.items c.take-listing.result (g.D.Disk.byte_at c.each_block.disk) (g.D.Disk.byte_at c.args.disk.now) bytes failed
-        (SurelyCame (g.D.Disk.surely_has c.each_block.disk) (g.D.Disk.surely_lies c.each_block.disk) (g.D.Disk.faults c.each_block.disk) (g.D.Disk.faults c.list_chain.new.disk)) S b
-        c.each_block.batch.items chain.kept.items chain.is_cut inv.len inv.same found
-        (came_behind (g.D.Disk.surely_has c.args.disk.now) (g.D.Disk.surely_lies c.args.disk.now) (g.D.Disk.faults c.args.disk.now) (g.D.Disk.faults c.each_block.disk) (g.D.Disk.faults c.list_chain.new.disk)
-        inv.counted c.list_chain.ensures.counted (g.D.Disk.surely_has c.each_block.disk) (g.D.Disk.surely_lies c.each_block.disk) inv.has inv.lies)
-        (c.in_ok-bytes.ensures.kept (bytes b) (failed b) (inv.known known)) (sources b c.each_block-test.true) in
+          kept_here c.args.block_size n (vec_len c.each_block.buffer) c.args.listings.slots.items c.take-listing.result (g.D.Disk.byte_at c.each_block.disk) (g.D.Disk.byte_at c.args.disk.now) bytes failed
+          (SurelyCame (g.D.Disk.surely_has c.each_block.disk) (g.D.Disk.surely_lies c.each_block.disk) (g.D.Disk.faults c.each_block.disk) (g.D.Disk.faults c.list_chain.new.disk)) S b
+          c.each_block.batch.items chain.kept.items chain.is_cut inv.len inv.same found
+          (came_behind (g.D.Disk.surely_has c.args.disk.now) (g.D.Disk.surely_lies c.args.disk.now) (g.D.Disk.faults c.args.disk.now) (g.D.Disk.faults c.each_block.disk) (g.D.Disk.faults c.list_chain.new.disk)
+          inv.counted c.list_chain.ensures.counted (g.D.Disk.surely_has c.each_block.disk) (g.D.Disk.surely_lies c.each_block.disk) inv.has inv.lies)
+          (c.in_ok-bytes.ensures.kept (bytes b) (failed b) (inv.known known)) (sources b c.each_block-test.true) in
           more_read s bytes (sure_of s c.args.listings.slots.items failed S) c.args.is_strict b
           (gathered c.each_block.read c.each_block.batch.items) (gathered c.take_block.new.self c.in_ok-batch.batch.items) (hashed_entries b (kept is.listed)) chain.is_cut
           (read_with_fewer s b bytes (sure_of s c.args.listings.slots.items failed B) (sure_of s c.args.listings.slots.items failed S) c.args.is_strict (gathered c.each_block.read c.each_block.batch.items)

@@ -28,6 +28,6 @@ returns-in_err-core-clause-cause g c = λ bytes failed valid seen sources.
     let s = c.args.settings in
     let p = err_from_is_err_and c.from_residual-in_err-core.result c.from_residual-in_err-core.ensures.1 in
     let P = IsRefused (sizes_in s) s.blocks bytes (sure_of (sizes_in s) c.args.listings.slots.items failed
-        (SurelyCame (g.D.Disk.surely_has c.args.disk.now) (g.D.Disk.surely_lies c.args.disk.now) (g.D.Disk.faults c.args.disk.now) (g.D.Disk.faults c.open_with.new.disk)))
-        c.args.mode (marks_of c.args.marks.now) in
+    (SurelyCame (g.D.Disk.surely_has c.args.disk.now) (g.D.Disk.surely_lies c.args.disk.now) (g.D.Disk.faults c.args.disk.now) (g.D.Disk.faults c.open_with.new.disk)))
+    c.args.mode (marks_of c.args.marks.now) in
     subst (λ o. IfErr o P) (sym p.1) (subst P (sym p.2) (c.in_err-core.ensures.cause bytes failed valid seen sources))

@@ -34,7 +34,7 @@ pub returns-in-Err-clause-cause : goal.returns-in-Err-clause-cause
 returns-in-Err-clause-cause g c = λ valid seen.
     let came = SurelyCame (g.D.Disk.surely_has c.args.disk.now) (g.D.Disk.surely_lies c.args.disk.now) (g.D.Disk.faults c.args.disk.now) (g.D.Disk.faults c.run.new.disk) in
     subst (λ (r : RecoverRunner). (r.mode ≡ recover_mode.None) ⊎ g.D.Disk.is_known c.args.disk.now
-        → IsRefused (sizes_of r) r.blocks (g.D.Disk.byte_at c.args.disk.now) came r.mode (marks_of c.args.marks.now) c.in-Err.error) c.in_ok-runner.ensures.runner c.in-Err.ensures.refused seen
+    → IsRefused (sizes_of r) r.blocks (g.D.Disk.byte_at c.args.disk.now) came r.mode (marks_of c.args.marks.now) c.in-Err.error) c.in_ok-runner.ensures.runner c.in-Err.ensures.refused seen
 
 pub returns-in-Err-clause-refused : goal.returns-in-Err-clause-refused
 returns-in-Err-clause-refused g c =
@@ -48,7 +48,7 @@ returns-in-Err-clause-refused g c =
         end,
         λ none unmarked.
             let refused = subst (λ (r : RecoverRunner). (r.mode ≡ recover_mode.None) ⊎ g.D.Disk.is_known c.args.disk.now
-                → IsRefused (sizes_of r) r.blocks B came r.mode (marks_of c.args.marks.now) c.in-Err.error) c.in_ok-runner.ensures.runner c.in-Err.ensures.refused (inl none) in
+            → IsRefused (sizes_of r) r.blocks B came r.mode (marks_of c.args.marks.now) c.in-Err.error) c.in_ok-runner.ensures.runner c.in-Err.ensures.refused (inl none) in
             let some = subst (λ e. IsRefused (sizes_in s) s.blocks B came c.args.mode (marks_of c.args.marks.now) e) end refused in
             let at = subst (λ l. IsRefused (sizes_in s) s.blocks B came c.args.mode l error.SequenceEnd) (ap marks_of unmarked) some in
             let empty = subst (λ m. IsRefused (sizes_in s) s.blocks B came m [] error.SequenceEnd) none at in
@@ -65,6 +65,6 @@ returns-clause-opened g c =
     let came = SurelyCame (g.D.Disk.surely_has c.args.disk.now) (g.D.Disk.surely_lies c.args.disk.now) (g.D.Disk.faults c.args.disk.now) (g.D.Disk.faults c.run.new.disk) in
     let opening = subst (λ (r : RecoverRunner). IsOpening (sizes_of r) r.blocks marks found) c.in_ok-runner.ensures.runner c.in-Ok.ensures.some in
     let recovered = subst (λ (r : RecoverRunner). (r.mode ≡ recover_mode.None) ⊎ g.D.Disk.is_known c.args.disk.now → IsRecovered (sizes_of r) r.blocks B came r.mode marks found)
-        c.in_ok-runner.ensures.runner c.in-Ok.ensures.recovered in
+    c.in_ok-runner.ensures.runner c.in-Ok.ensures.recovered in
     ok_weakens c.begin.result _ (IsOpenedFrom s B came c.args.mode marks ((c.args.mode ≡ recover_mode.None) ⊎ g.D.Disk.is_known c.args.disk.now))
     (λ core is. record { found = found; opening = opening; recovered = recovered; opened = is }) c.begin.ensures.opened

@@ -36,7 +36,7 @@ returns-in-Err-clause-cause g c = λ bytes failed valid seen sources.
     let came = SurelyCame (g.D.Disk.surely_has c.args.disk.now) (g.D.Disk.surely_lies c.args.disk.now) (g.D.Disk.faults c.args.disk.now) (g.D.Disk.faults c.run_with.new.disk) in
     let slots = c.args.listings.slots.items in
     subst (λ (r : RecoverRunner). (r.mode ≡ recover_mode.None) ⊎ (g.D.Disk.is_known c.args.disk.now × AreSources (sizes_of r) r.blocks slots bytes (g.D.Disk.byte_at c.args.disk.now) failed)
-        → IsRefused (sizes_of r) r.blocks bytes (sure_of (sizes_of r) slots failed came) r.mode (marks_of c.args.marks.now) c.in-Err.error)
+    → IsRefused (sizes_of r) r.blocks bytes (sure_of (sizes_of r) slots failed came) r.mode (marks_of c.args.marks.now) c.in-Err.error)
     c.in_ok-runner.ensures.runner (c.in-Err.ensures.refused bytes failed) (elim seen [ inl none ↦ inl none | inr known ↦ inr (known, sources) ])
 
 pub returns-in-Err-clause-refused : goal.returns-in-Err-clause-refused
@@ -54,8 +54,8 @@ returns-in-Err-clause-refused g c =
         end,
         λ none unmarked.
             let refused = subst (λ (r : RecoverRunner). (r.mode ≡ recover_mode.None) ⊎ (g.D.Disk.is_known c.args.disk.now × AreSources (sizes_of r) r.blocks slots B B none_failed)
-                → IsRefused (sizes_of r) r.blocks B (sure_of (sizes_of r) slots none_failed came) r.mode (marks_of c.args.marks.now) c.in-Err.error)
-                c.in_ok-runner.ensures.runner (c.in-Err.ensures.refused B none_failed) (inl none) in
+            → IsRefused (sizes_of r) r.blocks B (sure_of (sizes_of r) slots none_failed came) r.mode (marks_of c.args.marks.now) c.in-Err.error)
+            c.in_ok-runner.ensures.runner (c.in-Err.ensures.refused B none_failed) (inl none) in
             let some = subst (λ e. IsRefused (sizes_in s) s.blocks B sure c.args.mode (marks_of c.args.marks.now) e) end refused in
             let at = subst (λ l. IsRefused (sizes_in s) s.blocks B sure c.args.mode l error.SequenceEnd) (ap marks_of unmarked) some in
             let empty = subst (λ m. IsRefused (sizes_in s) s.blocks B sure m [] error.SequenceEnd) none at in
@@ -73,8 +73,8 @@ returns-clause-opened g c = λ bytes failed sources.
     let came = SurelyCame (g.D.Disk.surely_has c.args.disk.now) (g.D.Disk.surely_lies c.args.disk.now) (g.D.Disk.faults c.args.disk.now) (g.D.Disk.faults c.run_with.new.disk) in
     let opening = subst (λ (r : RecoverRunner). IsOpening (sizes_of r) r.blocks marks found) c.in_ok-runner.ensures.runner c.in-Ok.ensures.some in
     let recovered = subst (λ (r : RecoverRunner). (r.mode ≡ recover_mode.None) ⊎ (g.D.Disk.is_known c.args.disk.now × AreSources (sizes_of r) r.blocks slots bytes B failed)
-            → IsRecovered (sizes_of r) r.blocks bytes (sure_of (sizes_of r) slots failed came) r.mode marks found)
-        c.in_ok-runner.ensures.runner (c.in-Ok.ensures.recovered bytes failed) in
+    → IsRecovered (sizes_of r) r.blocks bytes (sure_of (sizes_of r) slots failed came) r.mode marks found)
+    c.in_ok-runner.ensures.runner (c.in-Ok.ensures.recovered bytes failed) in
     ok_weakens c.begin.result _ (IsOpenedFrom s bytes (sure_of (sizes_in s) slots failed came) c.args.mode marks ((c.args.mode ≡ recover_mode.None) ⊎ g.D.Disk.is_known c.args.disk.now))
     (λ core is. record {
       found = found;

@@ -15,8 +15,7 @@ invariant_of-listing g c =
     let len : vec_len c.args.buffer ≡ n = sym c.len-index_size.ensures in
     let some : IsSomeKept (record { block = c.args.block_size; index = n }) b [] chain.kept.items =
     subst (λ l. IsSomeKept (record { block = c.args.block_size; index = n }) b l chain.kept.items) c.new-none.ensures.items
-    (subst (λ k. IsSomeKept (record { block = c.args.block_size; index = k }) b c.new-none.result.items chain.kept.items) len c.in_ok-buffer.ensures.some) in
-    (
+    (subst (λ k. IsSomeKept (record { block = c.args.block_size; index = k }) b c.new-none.result.items chain.kept.items) len c.in_ok-buffer.ensures.some) in (
       ∣ record {
         before = c.args.disk.now;
         after = c.read_chain.new.disk;

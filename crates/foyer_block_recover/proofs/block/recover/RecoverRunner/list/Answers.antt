@@ -64,12 +64,12 @@ each_block-preserved g c =
       lies = λ x o m h. c.list_block.ensures.lies x o m (inv.lies x o m h);
       counted = omega (arith, inv.counted, c.list_block.ensures.counted);
       listed = both_listed (sizes_of r) r.blocks c.args.worker c.args.workers (g.D.Disk.is_known c.args.disk.now) (g.D.Disk.is_known c.each_block.disk) (g.D.Disk.byte_at c.args.disk.now) (g.D.Disk.byte_at c.each_block.disk)
-    (SurelyCame (g.D.Disk.surely_has c.args.disk.now) (g.D.Disk.surely_lies c.args.disk.now) (g.D.Disk.faults c.args.disk.now) (g.D.Disk.faults c.each_block.disk))
-    (SurelyCame (g.D.Disk.surely_has c.each_block.disk) (g.D.Disk.surely_lies c.each_block.disk) (g.D.Disk.faults c.each_block.disk) (g.D.Disk.faults c.list_block.new.disk))
-    (SurelyCame (g.D.Disk.surely_has c.args.disk.now) (g.D.Disk.surely_lies c.args.disk.now) (g.D.Disk.faults c.args.disk.now) (g.D.Disk.faults c.list_block.new.disk))
-    c.args.listings.now.items c.each_block.listings.items c.list_block.new.listings.items inv.known inv.same
-    (came_before (g.D.Disk.surely_has c.args.disk.now) (g.D.Disk.surely_lies c.args.disk.now) (g.D.Disk.faults c.args.disk.now) (g.D.Disk.faults c.each_block.disk) (g.D.Disk.faults c.list_block.new.disk) inv.counted c.list_block.ensures.counted)
-    (came_behind (g.D.Disk.surely_has c.args.disk.now) (g.D.Disk.surely_lies c.args.disk.now) (g.D.Disk.faults c.args.disk.now) (g.D.Disk.faults c.each_block.disk) (g.D.Disk.faults c.list_block.new.disk) inv.counted c.list_block.ensures.counted
-    (g.D.Disk.surely_has c.each_block.disk) (g.D.Disk.surely_lies c.each_block.disk) inv.has inv.lies) inv.listed c.list_block.ensures.listed;
+          (SurelyCame (g.D.Disk.surely_has c.args.disk.now) (g.D.Disk.surely_lies c.args.disk.now) (g.D.Disk.faults c.args.disk.now) (g.D.Disk.faults c.each_block.disk))
+          (SurelyCame (g.D.Disk.surely_has c.each_block.disk) (g.D.Disk.surely_lies c.each_block.disk) (g.D.Disk.faults c.each_block.disk) (g.D.Disk.faults c.list_block.new.disk))
+          (SurelyCame (g.D.Disk.surely_has c.args.disk.now) (g.D.Disk.surely_lies c.args.disk.now) (g.D.Disk.faults c.args.disk.now) (g.D.Disk.faults c.list_block.new.disk))
+          c.args.listings.now.items c.each_block.listings.items c.list_block.new.listings.items inv.known inv.same
+          (came_before (g.D.Disk.surely_has c.args.disk.now) (g.D.Disk.surely_lies c.args.disk.now) (g.D.Disk.faults c.args.disk.now) (g.D.Disk.faults c.each_block.disk) (g.D.Disk.faults c.list_block.new.disk) inv.counted c.list_block.ensures.counted)
+          (came_behind (g.D.Disk.surely_has c.args.disk.now) (g.D.Disk.surely_lies c.args.disk.now) (g.D.Disk.faults c.args.disk.now) (g.D.Disk.faults c.each_block.disk) (g.D.Disk.faults c.list_block.new.disk) inv.counted c.list_block.ensures.counted
+          (g.D.Disk.surely_has c.each_block.disk) (g.D.Disk.surely_lies c.each_block.disk) inv.has inv.lies) inv.listed c.list_block.ensures.listed;
       share = share_more (map block_of c.each_block.listings.items) (map block_of c.list_block.new.listings.items) (map block_of c.args.listings.now.items) c.args.worker c.args.workers c.each_block.block inv.share c.in_ok-buffer-2.ensures.all;
     }
