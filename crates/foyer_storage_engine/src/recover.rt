@@ -33,11 +33,11 @@ fn list_share<D: Disk + Drop>(
 }
 
 // Takes in what came, in this order.
-fn add_all<D: Disk>(listings: &mut Listings<Global, D>, came: Vec<BlockListing<Global, D>>)
+fn add_all<D: Disk>(listings: &mut Listings<Global, D>, more: Vec<BlockListing<Global, D>>)
     ensures stay { (b : ℕ) → IsSome (came (slice_get listings.old.slots.items b))
         → slice_get listings.new.slots.items b ≡ slice_get listings.old.slots.items b }
 {
-    let mut left = came;
+    let mut left = more;
     left.reverse();
     while let Some(listing) = left.pop() {
         let _ = listings.add(listing);
