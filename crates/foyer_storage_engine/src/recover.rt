@@ -19,13 +19,12 @@ fn list_share<D: Disk + Drop>(
     disk: D,
     worker: u32,
     workers: u32,
-) -> Vec<BlockListing<Global, D>>
-    requires { 0 < workers }
-{
+) -> Vec<BlockListing<Global, D>> {
     let mut disk = disk;
     let mut listings = Vec::new(alloc);
-    let Ok(runner) = runner_of(&settings, mode) else {
-        return listings;
+    let runner = match runner_of(&settings, mode) {
+        Ok(runner) if workers > 0 => runner,
+        _ => return listings,
     };
     // Where memory is refused, what was listed before is of use all the same.
     let _ = runner.list(&alloc, &mut disk, worker, workers, &mut listings);
@@ -37,9 +36,7 @@ fn add_all<D: Disk>(listings: &mut Listings<Global, D>, more: Vec<BlockListing<G
     ensures stay { (b : ℕ) → IsSome (came (slice_get listings.old.slots.items b))
         → slice_get listings.new.slots.items b ≡ slice_get listings.old.slots.items b }
 {
-    let mut left = more;
-    left.reverse();
-    while let Some(listing) = left.pop() {
+    'each_listing: for listing in more {
         let _ = listings.add(listing);
     }
 }
@@ -57,6 +54,8 @@ pub fn list_blocks<R, D>(
 where
     R: Threads + Wait + Copy + Send + 'static,
     D: Disk + Drop + Send + 'static,
+    ensures stay { (b : ℕ) → IsSome (came (slice_get listings.old.slots.items b))
+        → slice_get listings.new.slots.items b ≡ slice_get listings.old.slots.items b }
 {
     let Ok(workers) = u32::try_from(disks.len()) else {
         return;
@@ -65,16 +64,15 @@ where
     if running.reserve(disks.len()).is_err() {
         return;
     }
-    let mut left = disks;
-    for worker in 0..workers {
-        if let Some(disk) = left.pop() {
-            let job = move || list_share(alloc, settings, mode, disk, worker, workers);
-            if let Ok(thread) = thread::spawn(&rt, job) {
-                let _ = running.push(thread);
-            }
+    let mut worker = 0u32;
+    for disk in disks {
+        let job = move || list_share(alloc, settings, mode, disk, worker, workers);
+        if let Ok(thread) = thread::spawn(&rt, job) {
+            let _ = running.push(thread);
         }
+        worker = worker.wrapping_add(1);
     }
-    while let Some(thread) = running.pop() {
+    'each_thread: for thread in running {
         add_all(listings, thread.join(&rt));
     }
 }
