@@ -4,7 +4,7 @@ ghost use Rattle.std.specs.Prelude.{◌≡◌, None, false};
 use super::{DeviceSummary, Engine};
 use crate::session::StoreSession;
 use foyer_block_manager::block::eviction::EvictionPicker;
-use foyer_block_recover::gate::{Gate, GatedDisk};
+use foyer_block_recover::gate::Gate;
 use foyer_block_tombstone::block::tombstone::TombstoneLog;
 use foyer_core_tally::book::Kinds;
 use foyer_device_page::error::Result;
@@ -28,9 +28,6 @@ use std::sync::{Arc, Mutex, Wait};
 
 /// The blocks of a device, whose reads and writes are recorded.
 pub type DeviceBlocks<N, Q> = PartitionedDisk<MonitoredIoEngine<N, Global>, Q, Global>;
-
-/// The same while it is recovered: whoever reads a block first passes the gate.
-pub type RecoveredBlocks<N, Q, G> = GatedDisk<DeviceBlocks<N, Q>, Arc<G, Global>>;
 
 /// The log of deletes of a device, where there is one.
 pub type DeviceLog<N, Q> = Option<TombstoneLog<N, Q, Global>>;

@@ -1,11 +1,9 @@
 //! The disks over a device's blocks, and what is opened and made with each.
 ghost use Rattle.std.specs.Arc.{arc_value};
-ghost use Rattle.std.specs.Prelude.{◌≡◌, ◌+◌, ◌*◌, ◌<◌, ◌≤◌, ◌^◌, IfOk, OnOk, vec_len};
+ghost use Rattle.std.specs.Prelude.{◌≡◌, ◌+◌, ◌*◌, ◌<◌, ◌^◌, IfOk, OnOk, vec_len};
 ghost use Rattle.foyer_core_tally.specs.Ledgers.{AreOf};
 
-use super::device_engine::{
-    BlockFlusher, BlockReclaimer, DeviceBlocks, DeviceEngine, DeviceLog, RecoveredBlocks,
-};
+use super::device_engine::{BlockFlusher, BlockReclaimer, DeviceBlocks, DeviceEngine, DeviceLog};
 use crate::whole::WholeSession;
 use foyer_block_index::tombstone::Tombstone;
 use foyer_block_manager::block::eviction::EvictionPicker;
@@ -30,13 +28,11 @@ use foyer_storage_engine::core_steps::apply::Env;
 use foyer_storage_engine::core_steps::open::RecoverMode;
 use foyer_storage_engine::core_steps::settings::Settings;
 use foyer_storage_engine::engine::BlockEngine;
-use foyer_storage_engine::recover::list_blocks;
 use foyer_storage_engine::workers::{
     Clock, FlusherParts, FlusherWorker, ReclaimerParts, ReclaimerWorker,
 };
 use std::alloc::Global;
-use std::sync::{Arc, Mutex, Wait};
-use std::thread::Threads;
+use std::sync::{Arc, Mutex};
 
 // Disks over the same blocks, each with an I/O engine of its own.
 #[derive(Drop)]
@@ -61,65 +57,11 @@ impl<R, I: IoEngineConfig<R>, Q: Partition + Copy> Disks<'_, R, I, Q> {
     ) -> Result<DeviceBlocks<I::Engine, Q>>
         requires { 1 < recorder.old.view.parts }
         ensures seats { OnOk result (recorder.new.view.parts + 1 ≡ recorder.old.view.parts) }
-        ensures left { recorder.old.view.parts ≤ recorder.new.view.parts + 1 }
         ensures blocks { IfOk result (λ d. d.blocks.items ≡ self.now.blocks.now) }
     {
         let engine = MonitoredIoEngine::new(self.engine()?, recorder.split(1)?);
         let blocks = Vec::from_slice(alloc, self.blocks)?;
         Ok(PartitionedDisk::new(engine, blocks))
-    }
-
-    // A disk for each worker of a recovery, or for fewer where one can't be made.
-    fn recoverers<G: Gate>(
-        &self,
-        alloc: Global,
-        recorder: &mut Recorder<Global>,
-        gate: &Arc<G, Global>,
-        count: u32,
-    ) -> Vec<RecoveredBlocks<I::Engine, Q, G>>
-        requires { count < recorder.old.view.parts }
-        ensures left { recorder.old.view.parts ≤ recorder.new.view.parts + count }
-    {
-        let mut disks = Vec::new(alloc);
-        for _ in 0..count {
-            let Ok(gate) = Arc::try_clone(gate) else {
-                return disks;
-            };
-            let Ok(disk) = self.disk(alloc, recorder) else {
-                return disks;
-            };
-            if disks.push(GatedDisk { disk, gate }).is_err() {
-                return disks;
-            }
-        }
-        disks
-    }
-
-    // What the workers of a recovery list: none where one worker is enough.
-    fn list<G>(
-        &self,
-        alloc: Global,
-        recorder: &mut Recorder<Global>,
-        settings: Settings,
-        mode: RecoverMode,
-        gate: &Arc<G, Global>,
-        count: u32,
-    ) -> Result<Listings<Global, RecoveredBlocks<I::Engine, Q, G>>>
-    where
-        R: Threads + Wait + Copy + Send + 'static,
-        I::Engine: Send + 'static,
-        Q: Send + 'static,
-        G: Gate + Send + Sync + 'static,
-        requires { count < recorder.old.view.parts }
-        ensures left { recorder.old.view.parts ≤ recorder.new.view.parts + count }
-    {
-        if mode == RecoverMode::None || count < 2 {
-            return Ok(Listings::none(alloc));
-        }
-        let mut listings = Listings::new(alloc, settings.blocks)?;
-        let disks = self.recoverers(alloc, recorder, gate, count);
-        list_blocks(*self.rt, alloc, settings, mode, disks, &mut listings);
-        Ok(listings)
     }
 
     // The log in its partition, and the marks that it has.
@@ -271,7 +213,7 @@ impl<R, I: IoEngineConfig<R>, Q: Partition + Copy> Disks<'_, R, I, Q> {
         Ok(workers)
     }
 
-    // Opens the core and the engine over it: the log's marks are read first, then the blocks, by so many workers.
+    // Opens the core and the engine over it: the log's marks are read first, then the blocks, each of which passes the gate.
     pub(super) fn open<L, K, V, P, E, C, G>(
         &self,
         alloc: Global,
@@ -279,34 +221,29 @@ impl<R, I: IoEngineConfig<R>, Q: Partition + Copy> Disks<'_, R, I, Q> {
         settings: Settings,
         log: Option<Q>,
         mode: RecoverMode,
-        recoverers: u32,
         env: Env<E, C>,
         gate: G,
         blanks: Blanks,
     ) -> Result<Opened<L, K, V, P, E, C, I::Engine, Q, G>>
     where
-        R: Threads + Wait + Copy + Send + 'static,
-        I::Engine: Send + 'static,
         L: Kinds,
         K: Code<Global> + Drop,
         V: Code<Global> + Drop,
         P: Properties + Drop,
         E: EvictionPicker,
         C: StorageFilterCondition,
-        G: Gate + Send + Sync + 'static,
-        Q: Drop + Send + 'static,
-        requires seat { recoverers + 1 < recorder.old.view.parts }
+        G: Gate,
+        Q: Drop,
+        requires seat { 1 < recorder.old.view.parts }
         requires ledgers { AreOf L.name_of L.all blanks × (L.all ≡ 2 ^ 32) }
-        ensures seats { OnOk result (recorder.old.view.parts ≤ recorder.new.view.parts + recoverers + 1) }
+        ensures seats { OnOk result (recorder.new.view.parts + 1 ≡ recorder.old.view.parts) }
         ensures settings { IfOk result (λ o. (arc_value o.engine).settings ≡ settings) }
     {
         let mut marks = Vec::new(alloc);
         let log = self.log(alloc, log, &mut marks)?;
-        let gate = Arc::new(alloc, gate)?;
-        let listings = self.list(alloc, recorder, settings, mode, &gate, recoverers)?;
         let reader = self.disk(alloc, recorder)?;
         let (engine, session) = open_engine(
-            alloc, settings, reader, mode, &marks, listings, env, gate, blanks,
+            alloc, settings, reader, mode, &marks, env, gate, blanks,
         )?;
         Ok(Opened {
             engine,
@@ -335,16 +272,15 @@ where
     pub(super) log: DeviceLog<N, Q>,
 }
 
-// Opens a core over a disk, with what workers listed of its blocks, and gives the engine that reads from it.
+// Opens a core over a disk, and gives the engine that reads from it.
 fn open_engine<L, K, V, P, E, C, N, Q, G>(
     alloc: Global,
     settings: Settings,
     reader: DeviceBlocks<N, Q>,
     mode: RecoverMode,
     marks: &[Tombstone],
-    listings: Listings<Global, RecoveredBlocks<N, Q, G>>,
     env: Env<E, C>,
-    gate: Arc<G, Global>,
+    gate: G,
     blanks: Blanks,
 ) -> Result<
     (
@@ -365,12 +301,20 @@ where
     requires { AreOf L.name_of L.all blanks × (L.all ≡ 2 ^ 32) }
     ensures { IfOk result (λ r. (arc_value r.0).settings ≡ settings) }
 {
+    let gate = Arc::new(alloc, gate)?;
     let mut gated = GatedDisk {
         disk: reader,
         gate: Arc::try_clone(&gate)?,
     };
     let (locked, session): (Locked<L, K, V, P, Global, E, C, NoNotes>, Session<L>) = Locked::open(
-        alloc, env, settings, &mut gated, mode, marks, listings, blanks,
+        alloc,
+        env,
+        settings,
+        &mut gated,
+        mode,
+        marks,
+        Listings::none(alloc),
+        blanks,
     )?;
     let GatedDisk { disk: reader, .. } = gated;
     let engine = BlockEngine::new(alloc, Shared::new(locked), settings, reader, gate)?;

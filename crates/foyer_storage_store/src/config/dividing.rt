@@ -1,6 +1,6 @@
 //! How a device is divided, and gets its counters.
 ghost use Rattle.std.specs.Arc.{arc_value};
-ghost use Rattle.std.specs.Prelude.{◌≡◌, ◌+◌, ◌*◌, ◌<◌, ◌≤◌, ◌^◌, if◌then◌else◌, IfOk, IfSome, OnOk, is_some, length, map, min, replicate, vec_len};
+ghost use Rattle.std.specs.Prelude.{◌≡◌, ◌+◌, ◌*◌, ◌<◌, ◌≤◌, ◌^◌, if◌then◌else◌, IfOk, IfSome, OnOk, is_some, length, map, replicate, vec_len};
 ghost use Rattle.foyer_block_tombstone.specs.Pages.{log_pages};
 ghost use Rattle.foyer_device_partition.specs.Extent.{total_size};
 ghost use Rattle.foyer_storage_plan.specs.Plans.{settings_of};
@@ -77,18 +77,6 @@ pub(super) struct Divided<D: Device> {
     pub(super) log: Option<D::Partition>,
     pub(super) blocks: Vec<D::Partition>,
     pub(super) settings: Settings,
-    // How many workers recover the blocks.
-    pub(super) recoverers: u32,
-}
-
-// How many workers recover so many blocks: one a block at most.
-fn recoverers_of(sizes: &EngineSizes, blocks: u32) -> u32
-    ensures { result ≡ min sizes.now.recover_concurrency blocks }
-{
-    match u32::try_from(sizes.recover_concurrency) {
-        Ok(workers) => workers.min(blocks),
-        Err(_) => blocks,
-    }
 }
 
 // What a core that has so many blocks is opened with.
@@ -104,11 +92,10 @@ fn settings_of(planned: Settings, blocks: usize) -> Result<Settings>
 }
 
 // Each worker has a seat at the counters, a reclaimer two, the loads one, and all callers one.
-fn check_seats(settings: &Settings, recoverers: u32) -> Result<()>
-    ensures { OnOk result (settings.now.flushers + 2 * settings.now.reclaimers + recoverers + 2 < 2 ^ 32) }
+fn check_seats(settings: &Settings) -> Result<()>
+    ensures { OnOk result (settings.now.flushers + 2 * settings.now.reclaimers + 2 < 2 ^ 32) }
 {
-    let workers = settings.flushers as u64 + 2 * (settings.reclaimers as u64) + recoverers as u64;
-    let seats = workers + 2;
+    let seats = settings.flushers as u64 + 2 * (settings.reclaimers as u64) + 2;
     if seats > u32::MAX as u64 {
         return Err(Error::Config);
     }
@@ -122,8 +109,7 @@ pub(super) fn divide<D: Device, R: Files>(
     mut device: D,
     sizes: &EngineSizes,
 ) -> Result<Divided<D>>
-    ensures seats { IfOk result (λ d. d.settings.flushers + 2 * d.settings.reclaimers + d.recoverers + 2 < 2 ^ 32) }
-    ensures recoverers { IfOk result (λ d. d.recoverers ≡ min sizes.now.recover_concurrency d.settings.blocks) }
+    ensures seats { IfOk result (λ d. d.settings.flushers + 2 * d.settings.reclaimers + 2 < 2 ^ 32) }
     ensures sizes { IfOk result (λ d. d.settings ≡ settings_of sizes.now d.settings.blocks d.settings.indexer_shards) }
     ensures blocks { IfOk result (λ d. (d.settings.blocks ≡ vec_len d.blocks)
         × (map D.Partition.bytes d.blocks.items ≡ replicate (vec_len d.blocks) d.settings.block_size)) }
@@ -133,17 +119,15 @@ pub(super) fn divide<D: Device, R: Files>(
     sizes.check()?;
     let log_size = log_size(device.capacity(), sizes.tombstone_log)?;
     let planned = sizes.plan(device.free(), log_size)?;
-    check_seats(&planned, recoverers_of(sizes, planned.blocks))?;
+    check_seats(&planned)?;
     let log = make_log(rt, &mut device, sizes.tombstone_log, log_size)?;
     let blocks = make_blocks(rt, alloc, &mut device, &planned)?;
     let settings = settings_of(planned, blocks.len())?;
-    let recoverers = recoverers_of(sizes, settings.blocks);
     Ok(Divided {
         device,
         log,
         blocks,
         settings,
-        recoverers,
     })
 }
 
@@ -169,7 +153,6 @@ pub(super) struct Counted<Q: Drop> {
     pub(super) log: Option<Q>,
     pub(super) blocks: Vec<Q>,
     pub(super) settings: Settings,
-    pub(super) recoverers: u32,
     pub(super) summary: DeviceSummary,
     pub(super) throttle: Throttle,
     pub(super) paths: Vec<String>,
@@ -185,7 +168,7 @@ pub(super) fn count<D: Device>(
 ) -> Result<Counted<D::Partition>>
 where
     D::Partition: Drop,
-    ensures settings { IfOk result (λ c. (c.settings ≡ divided.settings) × (c.recoverers ≡ divided.recoverers)) }
+    ensures settings { IfOk result (λ c. c.settings ≡ divided.settings) }
     ensures limits { IfOk result (λ c. (c.throttle ≡ D.limits divided.device) × (c.recorder.limits ≡ D.limits divided.device)) }
     ensures summary { IfOk result (λ c. (c.summary.capacity ≡ D.room divided.device) × (c.summary.allocated ≡ total_size (D.sizes divided.device))
         × (c.summary.partitions ≡ length (D.sizes divided.device))) }
@@ -201,7 +184,6 @@ where
         log,
         blocks,
         settings,
-        recoverers,
     } = divided;
     let summary = DeviceSummary {
         capacity: device.capacity(),
@@ -212,7 +194,6 @@ where
         log,
         blocks,
         settings,
-        recoverers,
         summary,
         throttle,
         paths,

@@ -61,9 +61,7 @@ fn finish<R, I, T, L, K, V, P, E, C, Q, G>(
     >,
 >
 where
-    R: Threads + Wait + Copy + Send + 'static,
     I: IoEngineConfig<R> + Drop,
-    I::Engine: Send + 'static,
     T: Clock + Copy,
     L: Kinds,
     K: Code<Global> + Eq + Drop,
@@ -71,11 +69,11 @@ where
     P: Properties + Drop,
     E: EvictionPicker,
     C: StorageFilterCondition,
-    Q: Partition + Copy + Drop + Send + 'static,
-    G: Gate + Send + Sync + 'static,
+    Q: Partition + Copy + Drop,
+    G: Gate,
     requires ledgers { AreOf L.name_of L.all blanks × (L.all ≡ 2 ^ 32) }
     requires parts { counted.recorder.view.parts ≡ 2 ^ 32 }
-    requires seats { counted.settings.flushers + 2 * counted.settings.reclaimers + counted.recoverers + 2 < 2 ^ 32 }
+    requires seats { counted.settings.flushers + 2 * counted.settings.reclaimers + 2 < 2 ^ 32 }
     ensures parts { IfOk result (λ b. vec_len b.flushers + vec_len b.reclaimers + 1 < 2 ^ 32) }
     ensures built { IfOk result (λ b. (b.engine.admission ≡ admission) × (b.engine.throttle ≡ counted.throttle) × (b.throttle ≡ counted.throttle)
         × (b.engine.device ≡ counted.summary) × (b.statistics ≡ counted.statistics)) }
@@ -86,7 +84,6 @@ where
         log,
         blocks,
         settings,
-        recoverers,
         summary,
         throttle,
         paths,
@@ -100,17 +97,7 @@ where
         blocks: blocks.as_slice(),
     };
     let mode = context.recover_mode;
-    let opened = disks.open(
-        alloc,
-        &mut recorder,
-        settings,
-        log,
-        mode,
-        recoverers,
-        env,
-        gate,
-        blanks,
-    )?;
+    let opened = disks.open(alloc, &mut recorder, settings, log, mode, env, gate, blanks)?;
     let Opened {
         engine,
         session,

@@ -26,8 +26,7 @@ struct Flags {
     has_given_up: AtomicBool,
 }
 
-/// Holds a thread at a point until the gate is open, at most a million turns. Whoever begins to recover block 1 opens it. What is
-/// shared is the same gate.
+/// Holds a thread at a point until the gate is open, at most a million turns. What is shared is the same gate.
 #[derive(Drop)]
 pub(crate) struct HoldingGate {
     point: Option<Point>,
@@ -79,9 +78,6 @@ impl HoldingGate {
 
 impl Gate for HoldingGate {
     fn pass(&self, point: Point) {
-        if point == Point::RecoverRead(1) {
-            self.open();
-        }
         if self.point == Some(point) {
             self.flags.is_reached.store(true, Ordering::SeqCst);
             if !is_raised(&self.flags.is_open) {

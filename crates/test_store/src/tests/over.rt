@@ -72,7 +72,6 @@ fn point_of(word: &str) -> Option<Point> {
         "flush" => Some(Point::FlushWrite),
         "load" => Some(Point::LoadRead),
         "reclaim" => Some(Point::Reclaim),
-        "recover" => Some(Point::RecoverRead(0)),
         _ => None,
     }
 }

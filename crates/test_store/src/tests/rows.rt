@@ -51,8 +51,6 @@ a piece that isn't taken, since too much is queued, deletes its key: the older o
 holds flush, queue 0 < force 1 a, reached, force 2 b, force 1 c, get 1, tally, held, open, wait, get 1, get 2, tally | queued, yes, queued, deleted, piece a, tally 2 1 0 0 0 0 0, yes, open, ok, miss, entry b, tally 2 1 0 1 1 1 0
 calls are answered while a reclaim is held
 blocks 2, holds reclaim < put 1 x, wait, put 2 x, wait, put 3 x, wait, put 4 x, reached, has 4, del 2, has 2, held, open, wait, get 1, get 4 | queued, ok, queued, ok, queued, ok, queued, yes, yes, ok, no, yes, open, ok, miss, entry x
-block 0 isn't recovered before another worker begins with block 1
-blocks 2, holds recover < held, put 1 a, wait, get 1 | yes, queued, ok, entry a
 calls are answered while a load is held, which another thread asked for
 holds load < put 1 a, wait, reached, has 1, put 2 b, wait, has 2, del 2, has 2, held, open & seen 1, get 1 | queued, ok, yes, yes, queued, ok, yes, ok, no, yes, open & yes, entry a
 ";

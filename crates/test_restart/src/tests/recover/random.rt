@@ -1,6 +1,7 @@
 //! Random blocks, failed reads and marks.
 use crate::tests::recover::recovering::{recover_by, runner};
 use crate::tests::recover::slow;
+use crate::tests::recover::slow::Expected;
 use foyer_block_index::tombstone::Tombstone;
 use foyer_block_recover::block::recover::RecoverMode;
 use foyer_device_page::error::Error;
@@ -89,7 +90,7 @@ fn draw_marks(alloc: Global, generator: &mut Pcg32) -> Result<Vec<Tombstone>, Fa
     Ok(marks)
 }
 
-// Recovers by so many workers, and compares with what the slow reader has; gives what it was refused as.
+// Recovers by so many workers, and compares with what the slow reader had; gives what it was refused as.
 fn compare(
     rt: &impl Abort,
     alloc: Global,
@@ -97,8 +98,8 @@ fn compare(
     mode: RecoverMode,
     workers: u32,
     marks: &[Tombstone],
+    expected: &Expected,
 ) -> Result<Option<Error>, Fail> {
-    let expected = slow::open_slowly(alloc, disk, BLOCKS, mode, marks)?;
     let runner = runner(mode, BLOCKS);
     let recovered = match recover_by(&alloc, disk, &runner, workers, workers == 3, marks) {
         Ok(recovered) => recovered,
@@ -142,8 +143,9 @@ fn random_blocks_are_what_a_slow_reader_has(rt: HostRuntime) -> Result<(), Fail>
         let mut disk = draw_disk(alloc, &mut generator)?;
         let marks = draw_marks(alloc, &mut generator)?;
         for mode in [RecoverMode::None, RecoverMode::Quiet, RecoverMode::Strict] {
+            let expected = slow::open_slowly(alloc, &disk, BLOCKS, mode, &marks)?;
             for workers in [0, 1, 2, 3, 8] {
-                match compare(&rt, alloc, &mut disk, mode, workers, &marks)? {
+                match compare(&rt, alloc, &mut disk, mode, workers, &marks, &expected)? {
                     None => opened = opened.saturating_add(1),
                     Some(Error::Recover) => cut = cut.saturating_add(1),
                     Some(_) => ended = ended.saturating_add(1),
