@@ -1,7 +1,6 @@
 //! Random blocks, failed reads and marks.
 use crate::tests::recover::recovering::{recover_by, runner};
 use crate::tests::recover::slow;
-use crate::tests::recover::slow::Expected;
 use foyer_block_index::tombstone::Tombstone;
 use foyer_block_recover::block::recover::RecoverMode;
 use foyer_device_page::error::Error;
@@ -90,7 +89,7 @@ fn draw_marks(alloc: Global, generator: &mut Pcg32) -> Result<Vec<Tombstone>, Fa
     Ok(marks)
 }
 
-// Recovers by so many workers, and compares with what the slow reader had; gives what it was refused as.
+// Recovers by so many workers, and compares with what the slow reader has; gives what it was refused as.
 fn compare(
     rt: &impl Abort,
     alloc: Global,
@@ -98,8 +97,8 @@ fn compare(
     mode: RecoverMode,
     workers: u32,
     marks: &[Tombstone],
-    expected: &Expected,
 ) -> Result<Option<Error>, Fail> {
+    let expected = slow::open_slowly(alloc, disk, BLOCKS, mode, marks)?;
     let runner = runner(mode, BLOCKS);
     let recovered = match recover_by(&alloc, disk, &runner, workers, workers == 3, marks) {
         Ok(recovered) => recovered,
@@ -132,14 +131,8 @@ fn compare(
     Ok(None)
 }
 
-// By how many workers a mode is tried: without a listing, and by so many that list.
-fn workers_of(mode: RecoverMode) -> &'static [u32] {
-    match mode {
-        RecoverMode::None => &[0, 2],
-        RecoverMode::Quiet => &[0, 1, 2, 3, 8],
-        RecoverMode::Strict => &[0, 3],
-    }
-}
+// By how many workers a device is recovered, in turn: by none that lists, and by so many that do.
+const WORKERS: [u32; 5] = [0, 1, 2, 3, 8];
 
 #[test]
 fn random_blocks_are_what_a_slow_reader_has(rt: HostRuntime) -> Result<(), Fail> {
@@ -148,22 +141,20 @@ fn random_blocks_are_what_a_slow_reader_has(rt: HostRuntime) -> Result<(), Fail>
     let mut cut = 0u32;
     let mut ended = 0u32;
     let mut opened = 0u32;
-    for _ in 0..1000 {
+    for turn in 0..1000usize {
+        let workers = WORKERS[turn % 5];
         let mut disk = draw_disk(alloc, &mut generator)?;
         let marks = draw_marks(alloc, &mut generator)?;
         for mode in [RecoverMode::None, RecoverMode::Quiet, RecoverMode::Strict] {
-            let expected = slow::open_slowly(alloc, &disk, BLOCKS, mode, &marks)?;
-            for workers in workers_of(mode) {
-                match compare(&rt, alloc, &mut disk, mode, *workers, &marks, &expected)? {
-                    None => opened = opened.saturating_add(1),
-                    Some(Error::Recover) => cut = cut.saturating_add(1),
-                    Some(_) => ended = ended.saturating_add(1),
-                }
+            match compare(&rt, alloc, &mut disk, mode, workers, &marks)? {
+                None => opened = opened.saturating_add(1),
+                Some(Error::Recover) => cut = cut.saturating_add(1),
+                Some(_) => ended = ended.saturating_add(1),
             }
         }
     }
-    assert!(rt; opened > 300);
-    assert!(rt; cut > 200);
-    assert!(rt; ended > 30);
+    assert!(rt; opened > 100);
+    assert!(rt; cut > 100);
+    assert!(rt; ended > 10);
     Ok(())
 }
