@@ -21,7 +21,7 @@ use Rattle.foyer_storage_local.specs.declared.load.Enqueued.{Enqueued}
 use Rattle.foyer_storage_local.specs.declared.load.Enqueued.TheVariants as enqueued
 use Rattle.foyer_storage_local.specs.declared.load.Load.{Load}
 use Rattle.foyer_storage_local.specs.declared.load.Load.TheVariants as load
-use Rattle.foyer_serve.specs.Texts.{IsDeleted, IsFaultOnlyAs, IsIoTextForCause, IsLoadedOrRefused, IsNewestText, IsPut, IsTextMissedForCause, IsTextOrFault, IsThrottledOnly, deleted_as, done_answer, enqueued_answer, got, load_answer, plain, put_as}
+use Rattle.foyer_serve.specs.Texts.{IsDeleted, IsFaultOf, IsFaultOnlyAs, IsIoTextForCause, IsLoadedOrRefused, IsNewestText, IsPut, IsTextMissedForCause, IsTextOrFault, IsThrottledOnly, deleted_as, done_answer, enqueued_answer, got, load_answer, plain, put_as}
 use Rattle.foyer_serve.specs.declared.engine.Answer.{Answer}
 use Rattle.foyer_serve.specs.declared.engine.Answer.TheVariants as answer
 
@@ -155,6 +155,10 @@ module _ {A : Type 0} where
     pub done_faults : (done : Result (Unit {0}) Error) → said ≡ done_answer done → IfErr done (λ e. is_error e ≡ true) → IsFaultOnlyAs is_error said
     done_faults (Ok done) says is = subst (λ x. IsFaultOnlyAs is_error x) (sym says) tt
     done_faults (Err e) says is = subst (λ x. IsFaultOnlyAs is_error x) (sym says) (fault_as is_error e is)
+
+  pub done_fault_of : (Is : Error → Type 0) (said : Answer A) (done : Result (Unit {0}) Error) → said ≡ done_answer done → IfErr done Is → IsFaultOf Is said
+  done_fault_of Is said (Ok done) says is = subst (λ x. IsFaultOf Is x) (sym says) tt
+  done_fault_of Is said (Err e) says is = subst (λ x. IsFaultOf Is x) (sym says) (subst Is (sym (error_back e)) is)
 
   -- and Io is answered of that error alone
   io_of : (found : Result (Load ℕ (String A)) Error) → load_answer found ≡ answer.Fault kind.Io → found ≡ Err error.Io

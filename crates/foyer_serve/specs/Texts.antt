@@ -142,6 +142,11 @@ IsOkOrFault answer.Ok = Unit {0}
 IsOkOrFault (answer.Fault kind) = Unit {0}
 IsOkOrFault answered = ⊥
 
+-- a fault is of an error of which this holds
+abbrev pub IsFaultOf : {A : Type 0} → (Error → Type 0) → Answer A → Type 0
+IsFaultOf Is (answer.Fault kind) = Is (error_of kind)
+IsFaultOf Is said = Unit {0}
+
 -- a fault is one of these errors'
 abbrev pub IsFaultOnlyAs : {A : Type 0} → (is_error : Error → Bool) → Answer A → Type 0
 IsFaultOnlyAs is_error (answer.Fault kind) = is_error (error_of kind) ≡ true

@@ -10,8 +10,9 @@ ghost use Rattle.foyer_core_run.specs.AtRest.{ComesToRest};
 ghost use Rattle.foyer_core_run.specs.Begun.{IsBegun, IsBegunEmpty};
 ghost use Rattle.foyer_core_run.specs.Destroys.{Destroys};
 ghost use Rattle.foyer_core_run.specs.Waiting.{Closes, Waits};
+ghost use Rattle.foyer_storage_local.specs.EntryCalls.{IsCleanFault};
 ghost use Rattle.foyer_storage_local.specs.StepAnswers.{is_destroy_error, is_draw_error, is_load_error, is_wait_error};
-ghost use Rattle.foyer_serve.specs.Texts.{IsDeleted, IsFaultOnlyAs, IsGot, IsIoTextForCause, IsLoadedOrRefused, IsTextMissedForCause, IsTextRefusedOnlyAs, IsNewestText, IsPut, IsOkOrFault, IsThrottledOnly, done_answer, enqueued_answer, load_answer, plain};
+ghost use Rattle.foyer_serve.specs.Texts.{IsDeleted, IsFaultOf, IsFaultOnlyAs, IsGot, IsIoTextForCause, IsLoadedOrRefused, IsTextMissedForCause, IsTextRefusedOnlyAs, IsNewestText, IsPut, IsOkOrFault, IsThrottledOnly, done_answer, enqueued_answer, load_answer, plain};
 
 use foyer_block_index::tombstone::Tombstone;
 use foyer_block_manager::block::eviction::{BuiltInPicker, EvictionPicker};
@@ -354,13 +355,15 @@ where
     /// Destroys all entries: flushes as a wait does, clears the index, and cleans each block, so that an opening finds
     /// nothing of it again. Where a destroy has begun and isn't over it goes on with that one. `Closed` after a close,
     /// `SequenceEnd` and `Memory` before it has begun; once it has, it tries again what is refused memory. `Io`, `NoSpace`
-    /// and `SequenceEnd` as of a wait. The first clean that failed is `Io`, or `Memory`; the others were done after it.
+    /// and `SequenceEnd` as of a wait. The first clean that failed is answered by the disk's own error; the others were done
+    /// after it.
     pub fn destroy(&mut self) -> Answer<A>
         ensures answered { IsOkOrFault result }
         ensures destroyed { D.is_known self.old.local.disk → D.is_known self.new.local.disk × Destroys (result ≡ Answer.Ok) plain self.old.local.core self.new.local.core
             (D.byte_at self.old.local.disk) (D.byte_at self.new.local.disk) }
         ensures lent { (self.new.local.env.reinsertion ≡ self.old.local.env.reinsertion) × (self.new.local.env.io ≡ self.old.local.env.io) }
-        ensures refused { IsFaultOnlyAs is_destroy_error result }
+        ensures refused { IsFaultOf (λ e. (is_destroy_error e ≡ true)
+            ⊎ IsCleanFault D.surely_lies D.faults D.may_answer self.old.local.disk e) result }
         ensures lies { (b o n : ℕ) → D.surely_lies self.old.local.disk b o n → D.surely_lies self.new.local.disk b o n }
         ensures counted { D.faults self.old.local.disk ≤ D.faults self.new.local.disk }
     {

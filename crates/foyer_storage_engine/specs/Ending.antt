@@ -1,6 +1,7 @@
 -- What a session shows of a wait, a close or a destroy that it made.
-use Rattle.std.specs.Prelude.{◌≡◌, ℕ, Option, None, Some, Result, Ok, Err}
+use Rattle.std.specs.Prelude.{◌≡◌, ◌⊎◌, ℕ, Bool, true, false, Option, None, Some, Result, Ok, Err}
 use Rattle.foyer_device_page.specs.declared.error.Error.{Error}
+use Rattle.foyer_device_page.specs.declared.error.Error.TheVariants as error
 use Rattle.foyer_device_page.specs.declared.error.ErrorKind.{ErrorKind}
 use Rattle.foyer_core_shared.specs.Sessions.{SessionState}
 use Rattle.foyer_core_shared.specs.declared.brief.ReplyBrief.{ReplyBrief}
@@ -37,3 +38,15 @@ pub record EndsWithClean (block : ℕ) (session : SessionState) (answered : Resu
   pub answer : ReplyBrief
   pub newest : session.newest ≡ Some (record { step = asked.DestroyCleaned block outcome; reply = answer })
   pub said : (first : Option ErrorKind) → answer ≡ replied.Destroyed first → answered ≡ destroyed_as first
+
+-- why a destroy that has begun ends early: no step is left, or the engine's bells are closed
+abbrev pub is_late_error : Error → Bool
+is_late_error error.Closed = true
+is_late_error error.SequenceEnd = true
+is_late_error other = false
+
+-- A destroy hasn't begun: its first step is the newest, and was refused so; or, where notes are kept, one finds no room for it.
+abbrev pub IsUnbegun : (keeps : Bool) → SessionState → Error → Type 0
+IsUnbegun keeps session e =
+    ((keeps ≡ true) × (e ≡ error.Memory))
+    ⊎ ((why : ErrorKind) × (e ≡ error_of why) × (session.newest ≡ Some (record { step = asked.DestroyBegin; reply = replied.Refused why })))

@@ -1,6 +1,6 @@
 -- What is answered of a core's replies.
-use Rattle.std.proofs.Common.{◌≡◌, ℕ, ◌+◌, Bool, true, false, List, None, Some, Ok, Err, inl, refl, sym, subst, ◌∙◌}
-use Rattle.std.specs.Prelude.{IsErr, Result, ◌&&◌, ◌-◌, ◌^◌, min, length, if◌then◌else◌}
+use Rattle.std.proofs.Common.{◌≡◌, ℕ, ◌+◌, Bool, true, false, List, None, Some, Ok, Err, inl, inr, refl, sym, subst, ◌∙◌}
+use Rattle.std.specs.Prelude.{◌⊎◌, IfErr, IfSome, IsErr, Option, Result, ◌&&◌, ◌-◌, ◌^◌, min, length, if◌then◌else◌}
 use Rattle.foyer_device_page.specs.declared.error.Error.{Error}
 use Rattle.foyer_device_page.specs.declared.error.Error.TheVariants as error
 use Rattle.foyer_core_laws.specs.Content.{Content, Meaning, content}
@@ -13,7 +13,7 @@ use Rattle.foyer_core_run.specs.Newest.{IsMissedForCause, IsNewest, IsPutOrFault
 use Rattle.foyer_core_run.proofs.RestLemmas.{SaysNothing}
 use Rattle.foyer_storage_local.specs.EntryCalls.{IsEntryOrFault, IsHashMissedForCause, IsKeyMissedForCause, IsKeysEntryOrFault, IsNewestOfHash, IsNewestOfKey, IsThrottledIfSaid}
 use Rattle.foyer_storage_local.specs.EntryLoads.{answer_of_key}
-use Rattle.foyer_storage_local.specs.StepAnswers.{destroyed_as, done_as, is_destroy_error, is_wait_error, loaded_as, wait_error}
+use Rattle.foyer_storage_local.specs.StepAnswers.{destroyed_as, done_as, fault_in, first_of, is_destroy_error, is_wait_error, loaded_as, wait_error}
 use Rattle.foyer_storage_local.specs.declared.load.Load.{Load}
 use Rattle.foyer_storage_local.specs.declared.load.Load.TheVariants as load
 use Rattle.foyer_storage_local.specs.declared.load.Populated.{Populated}
@@ -28,13 +28,39 @@ pub wait_destroys : (e : Error) → is_wait_error e ≡ true → is_destroy_erro
 wait_destroys error.Closed is = absurd (let same : false ≡ true = is in cc)
 wait_destroys e is = is
 
+-- the first clean that failed is one before, or this one
+pub first_fault : (before : Option Error) (outcome : Result (Unit {0}) Error) (May : Error → Type 0) → IfErr outcome May → IfSome (first_of before outcome) (λ e. (before ≡ Some e) ⊎ May e)
+first_fault None (Ok done) May is = tt
+first_fault None (Err e) May is = inr is
+first_fault (Some e) outcome May is = inl refl
+
+-- so it is as those before were
+pub fault_more : (before first : Option Error) (Is May : Error → Type 0) → ((e : Error) → May e → Is e) → IfSome before Is → IfSome first (λ e. (before ≡ Some e) ⊎ May e) → IfSome first Is
+fault_more before None Is May may is said = tt
+fault_more before (Some e) Is May may is said = elim said [
+  | inl same ↦ subst (λ o. IfSome o Is) same is
+  | inr answers ↦ may e answers
+]
+
+pub some_weakens : (first : Option Error) (P Q : Error → Type 0) → ((e : Error) → P e → Q e) → IfSome first P → IfSome first Q
+some_weakens None P Q only is = tt
+some_weakens (Some e) P Q only is = only e is
+
+-- and what a destroy answers of it is
+pub fault_answered : (said : Result (Unit {0}) Error) (first : Option Error) (Other Is : Error → Type 0) → IfSome first Is → IfErr said (λ e. Other e ⊎ (first ≡ Some e)) → IfErr said (λ e. Other e ⊎ Is e)
+fault_answered (Ok done) first Other Is is refused = tt
+fault_answered (Err e) first Other Is is refused = elim refused [
+  | inl other ↦ inl other
+  | inr same ↦ inr (subst (λ o. IfSome o Is) same is)
+]
+
 module _ {K V P A : Type 0} where
   -- what is answered as a success is the end of a destroy without a failed clean
-  pub destroyed_ok : (last : Reply K V P A) (said : Result (Unit {0}) Error) → said ≡ destroyed_as last → said ≡ Ok tt → last ≡ reply.Destroyed None
-  destroyed_ok (reply.Destroyed None) said says ok = refl
-  destroyed_ok (reply.Destroyed (Some why)) said says ok = absurd (let e : Err (wait_error why) ≡ Ok tt = sym says ∙ ok in cc)
-  destroyed_ok (reply.Refused why back) said says ok = absurd (let e : Err (wait_error why) ≡ Ok tt = sym says ∙ ok in cc)
-  destroyed_ok last said says ok = absurd (let e : Err error.Io ≡ Ok tt = sym says ∙ ok in cc)
+  pub destroyed_ok : (last : Reply K V P A) (first : Option Error) (said : Result (Unit {0}) Error) → said ≡ destroyed_as last first → said ≡ Ok tt → last ≡ reply.Destroyed None
+  destroyed_ok (reply.Destroyed None) first said says ok = refl
+  destroyed_ok (reply.Destroyed (Some why)) first said says ok = absurd (let e : Err (fault_in first) ≡ Ok tt = sym says ∙ ok in cc)
+  destroyed_ok (reply.Refused why back) first said says ok = absurd (let e : Err (wait_error why) ≡ Ok tt = sym says ∙ ok in cc)
+  destroyed_ok last first said says ok = absurd (let e : Err error.Io ≡ Ok tt = sym says ∙ ok in cc)
 
   -- a step that did nothing, and one that did something
   pub done_nothing : (last : Reply K V P A) (did : Bool) → done_as last ≡ Ok did → did ≡ false → SaysNothing last

@@ -15,7 +15,7 @@ use Rattle.foyer_core_run.proofs.DestroyLemmas.{destroys_more}
 use Rattle.foyer_core_run.proofs.OpenedRuns.{begun_empty}
 use Rattle.foyer_core_run.proofs.RestLemmas.{IsAny, keeps_idle, leads_more}
 use Rattle.foyer_device_page.specs.declared.error.Error.{Error}
-use Rattle.foyer_storage_local.specs.EntryCalls.{KeepsLies}
+use Rattle.foyer_storage_local.specs.EntryCalls.{IsCleanFault, KeepsLies}
 use Rattle.foyer_storage_local.specs.declared.engine.LocalEngine.{LocalEngine}
 
 -- a wait's steps lead from one engine to another, where the disk of the one is known
@@ -33,6 +33,16 @@ module _ {D : Type 0} (lies : D → ℕ → ℕ → ℕ → Type 0) (faults : D 
 
   pub lies_more : (a b c : D) → KeepsLies lies faults a b → KeepsLies lies faults b c → KeepsLies lies faults a c
   lies_more a b c one two = ((λ x o n lie. two.0 x o n (one.0 x o n lie)), omega (arith, one.1, two.1))
+
+  -- what a disk may answer to a clean, what it was before may have become
+  pub fault_since : (may_answer : D → ℕ → ℕ → ℕ → Error → Type 0) (old later : D) (e : Error) → KeepsLies lies faults old later
+      → IsCleanFault lies faults may_answer later e → IsCleanFault lies faults may_answer old e
+  fault_since may_answer old later e keeps is = record {
+    disk = is.disk;
+    block = is.block;
+    keeps = lies_more old later is.disk keeps is.keeps;
+    answers = is.answers;
+  }
 
 module _ {K V P A : Type 0} (m : Meaning K V P) where
   -- one destroy's steps behind another's

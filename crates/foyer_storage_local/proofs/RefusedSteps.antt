@@ -1,10 +1,11 @@
 -- Why the step of a call is refused, by the relation of the model.
-use Rattle.std.proofs.Common.{◌≡◌, ℕ, Bool, true, Option, Some, inl, inr, Result, Ok, Err, refl, sym, subst}
+use Rattle.std.proofs.Common.{◌≡◌, ◌⊎◌, ℕ, Bool, true, false, Option, Some, inl, inr, Result, Ok, Err, refl, sym, ap, subst, ◌∙◌}
 use Rattle.foyer_device_page.specs.declared.error.Error.{Error}
 use Rattle.foyer_device_page.specs.declared.error.Error.TheVariants as error
 use Rattle.foyer_device_page.specs.declared.error.ErrorKind.{ErrorKind}
 use Rattle.foyer_device_page.specs.declared.error.ErrorKind.TheVariants as kind
 use Rattle.foyer_policy_piece.specs.Referred.{Referred}
+use Rattle.foyer_core_model.specs.Destroy.{BeginsDestroy}
 use Rattle.foyer_core_model.specs.Follows.{Follows}
 use Rattle.foyer_core_model.specs.Refusal.{Draws, HasCause, MayRefuse}
 use Rattle.foyer_core_model.specs.Reply as model_reply
@@ -18,6 +19,8 @@ use Rattle.foyer_core_laws.specs.declared.settings.Settings.{Settings}
 use Rattle.foyer_core_steps.specs.Asked.{step_of}
 use Rattle.foyer_core_steps.specs.Destroying.{kind_of}
 use Rattle.foyer_core_steps.specs.Refines.{Refines}
+use Rattle.foyer_core_steps.specs.Replied.{IsReply}
+use Rattle.foyer_core_steps.proofs.RefinesLemmas.{IsOrdinary}
 use Rattle.foyer_core_steps.specs.StateOf.{IsStateOf}
 use Rattle.foyer_core_steps.specs.declared.reply.Reply.{Reply}
 use Rattle.foyer_core_steps.specs.declared.reply.Reply.TheVariants as reply
@@ -26,8 +29,9 @@ use Rattle.foyer_core_steps.specs.declared.step.Step.{Step}
 use Rattle.foyer_core_steps.specs.declared.step.Step.TheVariants as step
 use Rattle.foyer_core_run.specs.Accesses.{Says, load_of}
 use Rattle.foyer_core_run.specs.Honest.{FailsAtRead}
-use Rattle.foyer_storage_local.specs.EntryCalls.{IsIoForCause, IsRefusedOnlyAs}
-use Rattle.foyer_storage_local.specs.StepAnswers.{contains_as, deleted_as, enqueued_as, error_of, is_draw_error, is_load_error, is_question_error, loaded_as}
+use Rattle.foyer_core_run.proofs.ReplyLemmas.{ordinary}
+use Rattle.foyer_storage_local.specs.EntryCalls.{IsIoForCause, IsRefusedIfClosed, IsRefusedOnlyAs}
+use Rattle.foyer_storage_local.specs.StepAnswers.{begun_as, contains_as, deleted_as, enqueued_as, error_of, is_draw_error, is_load_error, is_question_error, loaded_as}
 use Rattle.foyer_storage_local.specs.declared.load.Load.{Load}
 use Rattle.foyer_storage_local.specs.declared.load.Load.TheVariants as load
 use Rattle.foyer_storage_local.proofs.LoadAnswered.{IsAnswered, load_is_answered}
@@ -87,6 +91,37 @@ module _ (rules : Rules Content) (Splits : Splitting Content) (old : State Conte
   load_refused s draws kind.Unsupported k is may = refl
   load_refused s draws kind.SequenceEnd k is may = refl
 
+-- a core that is closed begins no destroy
+module _ (rules : Rules Content) (Splits : Splitting Content) (old : State Content) (closed : old.closed ≡ true) where
+  open_too : old.closed ≡ false → ⊥
+  open_too is = let e : true ≡ false = sym closed ∙ is in cc
+
+  begins_none : (r : model_reply.Reply Content) (new : State Content) → BeginsDestroy rules old r new → ⊥
+  begins_none (model_reply.Destroying sequence) new begins = open_too begins.1
+  begins_none r new begins = begins
+
+  only_refused : (r : model_reply.Reply Content) (new : State Content) → Follows rules Splits old model_step.DestroyBegin r new → IsOrdinary r → ⊥
+  only_refused (model_reply.NotNow back) new follows is = is
+  only_refused (model_reply.Refused k back) new follows is = is
+  only_refused r new follows is = begins_none r (follows.2).0 (follows.2).1
+
+  closed_kind : (why : ErrorKind) (k : model_reply.Kind) → kind_of why ≡ Some k → MayRefuse rules Splits old k model_step.DestroyBegin → (why ≡ kind.Closed) ⊎ (why ≡ kind.SequenceEnd)
+  closed_kind kind.Io k is may = absurd ((subst (λ j. MayRefuse rules Splits old j model_step.DestroyBegin) (sym (kind_is model_reply.Io k is)) may).1)
+  closed_kind kind.Memory k is may =
+      let needs = ((subst (λ j. MayRefuse rules Splits old j model_step.DestroyBegin) (sym (kind_is model_reply.Memory k is)) may).1).1 in
+      absurd (begins_none needs.0 needs.1 needs.2)
+  closed_kind kind.Config k is may = absurd cc
+  closed_kind kind.Parse k is may = absurd ((subst (λ j. MayRefuse rules Splits old j model_step.DestroyBegin) (sym (kind_is model_reply.Parse k is)) may).1)
+  closed_kind kind.MagicMismatch k is may = absurd cc
+  closed_kind kind.ChecksumMismatch k is may = absurd cc
+  closed_kind kind.OutOfRange k is may = absurd cc
+  closed_kind kind.BufferSizeLimit k is may = absurd cc
+  closed_kind kind.NoSpace k is may = absurd cc
+  closed_kind kind.Recover k is may = absurd cc
+  closed_kind kind.Closed k is may = inl refl
+  closed_kind kind.Unsupported k is may = absurd ((subst (λ j. MayRefuse rules Splits old j model_step.DestroyBegin) (sym (kind_is model_reply.Unsupported k is)) may).1)
+  closed_kind kind.SequenceEnd k is may = inr refl
+
 -- the kind of an Io
 io_kind : (why : ErrorKind) → error_of why ≡ error.Io → why ≡ kind.Io
 io_kind kind.Io is = refl
@@ -131,6 +166,33 @@ module _ {K V P A : Type 0} (m : Meaning K V P) where
       let refused = why_refused s sound (step.MayContains hash) back why new old it at meets in
       question_refused (machine m s sound) (layout s) it hash why refused.0 refused.1 refused.2
   question_refused_as hash last old new meets = λ s sound it at. tt
+
+  -- what a destroy's begin is answered as, where the core is closed
+  begun_closed : (s : Settings) (sound : AreValid s) (it after : State Content) (last : Reply K V P A) (r : model_reply.Reply Content) → it.closed ≡ true → IsReply m last r
+      → Follows (machine m s sound) (layout s) it model_step.DestroyBegin r after → (begun_as last ≡ Err error.Closed) ⊎ (begun_as last ≡ Err error.SequenceEnd)
+  begun_closed s sound it after (reply.Refused why back) r closed said follows =
+      let refused = subst (λ x. Follows (machine m s sound) (layout s) it model_step.DestroyBegin x after) said.2 follows in
+      elim (closed_kind (machine m s sound) (layout s) it closed why said.0 said.1 refused.1) [
+        | inl is ↦ inl (ap (λ j. begun_as {K = K} {V = V} {P = P} {A = A} (reply.Refused j back)) is)
+        | inr is ↦ inr (ap (λ j. begun_as {K = K} {V = V} {P = P} {A = A} (reply.Refused j back)) is)
+      ]
+  begun_closed s sound it after (reply.NotNow back) r closed said follows =
+      let turned = subst (λ x. Follows (machine m s sound) (layout s) it model_step.DestroyBegin x after) said follows in
+      absurd (open_too (machine m s sound) (layout s) it closed ((turned.1).1 tt))
+  begun_closed s sound it after last r closed said follows =
+      absurd (only_refused (machine m s sound) (layout s) it closed r after follows (ordinary m last r (λ back. absurd back) said))
+
+  pub destroy_refused_closed : (last : Reply K V P A) (old new : Core K V P A) → Refines m step.DestroyBegin last old new → IsRefusedIfClosed m old (begun_as last)
+  destroy_refused_closed last old new meets = λ closed s sound it at.
+      let met = meets s sound it at in
+      begun_closed s sound it met.after last met.it (at.closed ∙ closed) met.reply met.follows
+
+  -- so one that has begun wasn't closed
+  pub begun_open : {X : Type 0} (core : Core K V P A) (begun : Result (Unit {0}) Error) (said : Result X Error) → begun ≡ Ok tt → IsRefusedIfClosed m core begun → IsRefusedIfClosed m core said
+  begun_open core begun said ok refused = λ closed s sound it at. elim (refused closed s sound it at) [
+    | inl is ↦ absurd (let e : ◌≡◌ {A = Result (Unit {0}) Error} (Ok tt) (Err error.Closed) = sym ok ∙ is in cc)
+    | inr is ↦ absurd (let e : ◌≡◌ {A = Result (Unit {0}) Error} (Ok tt) (Err error.SequenceEnd) = sym ok ∙ is in cc)
+  ]
 
   load_refused_by : (s : Settings) (sound : AreValid s) (given : model_step.Step Content) → (Draws given → ⊥) → (why : ErrorKind) (back : Step K V P A)
       → IsAnswered m s sound given (reply.Refused why back) → is_load_error (error_of why) ≡ true

@@ -7,6 +7,7 @@ use Rattle.foyer_device_page.specs.declared.error.Error.TheVariants as error
 use Rattle.foyer_device_page.specs.declared.error.ErrorKind.{ErrorKind}
 use Rattle.foyer_device_page.specs.declared.error.ErrorKind.TheVariants as kind
 use Rattle.foyer_format_layout.specs.Page.{page_up}
+use Rattle.foyer_core_model.specs.Numbers.{page}
 use Rattle.foyer_core_model.specs.Record.{Outcome, Holds}
 use Rattle.foyer_core_model.specs.State.{State}
 use Rattle.foyer_core_model.specs.World.{World, WorldEvent}
@@ -32,6 +33,13 @@ use Rattle.foyer_storage_local.specs.declared.load.Load.TheVariants as load
 -- From one disk to another: what surely lay in it still does, and the faults that were counted stay so.
 abbrev pub KeepsLies : {D : Type 0} → (lies : D → ℕ → ℕ → ℕ → Type 0) → (faults : D → ℕ) → (old new : D) → Type 0
 KeepsLies lies faults old new = ((b o n : ℕ) → lies old b o n → lies new b o n) × (faults old ≤ faults new)
+
+-- an error that a disk, or what it has become by then, may answer to the clean of a block
+pub record IsCleanFault {D : Type 0} (lies : D → ℕ → ℕ → ℕ → Type 0) (faults : D → ℕ) (may_answer : D → ℕ → ℕ → ℕ → Error → Type 0) (old : D) (e : Error) : Type 0 where
+  pub disk : D
+  pub block : ℕ
+  pub keeps : KeepsLies lies faults old disk
+  pub answers : may_answer disk block 0 page e
 
 -- why a record isn't answered: its read failed, memory was refused, or what was found doesn't decode, or isn't supported
 abbrev pub IsReadFault : Outcome Content → Error → Type 0
@@ -63,6 +71,12 @@ module _ {K V P A : Type 0} (m : Meaning K V P) where
   abbrev pub IsRefusedOnlyAs : {X : Type 0} → (is_error : Error → Bool) → Core K V P A → Result X Error → Type 0
   IsRefusedOnlyAs is_error core said =
       (s : Settings) → AreValid s → (it : State Content) → IsStateOf m s core it → IfErr said (λ e. is_error e ≡ true)
+
+  -- and where it is closed, the call is refused as closed, or since no step is left
+  abbrev pub IsRefusedIfClosed : {X : Type 0} → Core K V P A → Result X Error → Type 0
+  IsRefusedIfClosed core said =
+      core.closed ≡ true → (s : Settings) → AreValid s → (it : State Content) → IsStateOf m s core it
+      → (said ≡ Err error.Closed) ⊎ (said ≡ Err error.SequenceEnd)
 
   -- And a load is answered Io only where the index has an address of the hash, of which it isn't sure that a read of it came.
   abbrev pub IsIoForCause : (hash : ℕ) → (came : ℕ → ℕ → ℕ → Type 0) → Core K V P A → Result (Load K V) Error → Type 0

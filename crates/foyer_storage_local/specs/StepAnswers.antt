@@ -60,12 +60,23 @@ abbrev pub is_destroy_error : Error → Bool
 is_destroy_error error.Closed = true
 is_destroy_error e = is_wait_error e
 
--- the error of a flusher's or a reclaim's step, or of a destroy's once it has begun: of memory and of the end of the steps
--- their own, all else is a fault of an access
+-- the error of a flusher's or a reclaim's step, or of a destroy's once it has begun, that is refused: of memory and of the end
+-- of the steps their own, all else is a fault of an access
 abbrev pub wait_error : ErrorKind → Error
 wait_error kind.Memory = error.Memory
 wait_error kind.SequenceEnd = error.SequenceEnd
 wait_error other = error.Io
+
+-- the error of the first clean that failed, of those before and this one
+abbrev pub first_of : Option Error → Result (Unit {0}) Error → Option Error
+first_of None (Ok done) = None
+first_of None (Err e) = Some e
+first_of (Some e) outcome = Some e
+
+-- and what a destroy answers of it
+abbrev pub fault_in : Option Error → Error
+fault_in None = error.Io
+fault_in (Some e) = e
 
 module _ {K V P A : Type 0} where
   -- an enqueue's
@@ -117,8 +128,8 @@ module _ {K V P A : Type 0} where
   kept_as (reply.Refused kind back) = Err (wait_error kind)
   kept_as said = Err error.Io
 
-  -- the last reply of a destroy: a clean that failed isn't passed over
-  abbrev pub destroyed_as : Reply K V P A → Result (Unit {0}) Error
-  destroyed_as (reply.Destroyed None) = Ok tt
-  destroyed_as (reply.Destroyed (Some kind)) = Err (wait_error kind)
-  destroyed_as said = kept_as said
+  -- the last reply of a destroy: a clean that failed isn't passed over, and the first is answered by the disk's own error
+  abbrev pub destroyed_as : Reply K V P A → (first : Option Error) → Result (Unit {0}) Error
+  destroyed_as (reply.Destroyed None) first = Ok tt
+  destroyed_as (reply.Destroyed (Some kind)) first = Err (fault_in first)
+  destroyed_as said first = kept_as said

@@ -1,12 +1,14 @@
 //! The engine: a core over a disk, with a log of deletes or without one, driven on one thread.
-ghost use Rattle.std.specs.Prelude.{◌≡◌, ◌≢◌, ◌⊎◌, ◌≤◌, ◌*◌, ◌^◌, ℕ, [], IfOk, IfErr};
+ghost use Rattle.std.specs.Prelude.{◌≡◌, ◌≢◌, ◌⊎◌, ◌≤◌, ◌*◌, ◌^◌, ℕ, [], length, IfOk, IfErr};
 ghost use Rattle.foyer_io_disk.specs.Disk.{SurelyCame};
 ghost use Rattle.foyer_device_page.specs.declared.error.Error.TheVariants.{Config, Memory, OutOfRange, Recover, SequenceEnd};
+ghost use Rattle.foyer_block_manager.specs.Shown.{evictable_below};
 ghost use Rattle.foyer_block_recover.specs.Recovery.{marks_of};
 ghost use Rattle.foyer_block_recover.specs.declared.block.recover.RecoverMode.TheVariants as recover_mode;
 ghost use Rattle.foyer_core_laws.specs.Content.{meaning};
 ghost use Rattle.foyer_core_laws.specs.Sizes.{AreValid};
 ghost use Rattle.foyer_core_run.specs.Begun.{IsBegun, IsBegunEmpty};
+ghost use Rattle.foyer_core_steps.specs.Showing.{HaveLearned};
 
 use foyer_block_index::tombstone::Tombstone;
 use foyer_block_manager::block::eviction::{BuiltInPicker, EvictionPicker};
@@ -80,6 +82,8 @@ where
             ⊎ ((e ≡ OutOfRange) × (2 ^ 64 ≤ settings.blocks * settings.block_size))) }
         ensures disk { IfOk result (λ engine. (engine.disk.blocks ≡ settings.blocks)
             × (engine.disk.block_size ≡ settings.block_size)) }
+        ensures shown { IfOk result (λ engine. HaveLearned E.begins E.learns settings.blocks settings.block_size
+            (evictable_below engine.core.manager.blocks (length engine.core.manager.blocks)) env.pickers.items engine.env.pickers.items) }
         ensures lent { IfOk result (λ engine. (engine.env.reinsertion ≡ env.reinsertion) × (engine.env.io ≡ env.io)) }
         ensures hasher { IfOk result (λ engine. engine.hasher ≡ hasher) }
     {
@@ -122,6 +126,8 @@ where
         ensures unread { IfOk result (λ engine. mode ≡ recover_mode.None → engine.disk ≡ disk) }
         ensures known { IfOk result (λ engine. D.is_known disk → D.is_known engine.disk) }
         ensures has { IfOk result (λ engine. (b o n : ℕ) → D.surely_has disk b o n → D.surely_has engine.disk b o n) }
+        ensures shown { IfOk result (λ engine. HaveLearned E.begins E.learns settings.blocks settings.block_size
+            (evictable_below engine.core.manager.blocks (length engine.core.manager.blocks)) env.pickers.items engine.env.pickers.items) }
         ensures lent { IfOk result (λ engine. (engine.env.reinsertion ≡ env.reinsertion) × (engine.env.io ≡ env.io)) }
         ensures lies { IfOk result (λ engine. (b o n : ℕ) → D.surely_lies disk b o n → D.surely_lies engine.disk b o n) }
         ensures counted { IfOk result (λ engine. D.faults disk ≤ D.faults engine.disk) }
@@ -169,6 +175,8 @@ where
         ensures unread { IfOk result (λ engine. mode ≡ recover_mode.None → engine.disk ≡ disk) }
         ensures known { IfOk result (λ engine. D.is_known disk → D.is_known engine.disk) }
         ensures has { IfOk result (λ engine. (b o n : ℕ) → D.surely_has disk b o n → D.surely_has engine.disk b o n) }
+        ensures shown { IfOk result (λ engine. HaveLearned E.begins E.learns settings.blocks settings.block_size
+            (evictable_below engine.core.manager.blocks (length engine.core.manager.blocks)) env.pickers.items engine.env.pickers.items) }
         ensures lent { IfOk result (λ engine. (engine.env.reinsertion ≡ env.reinsertion) × (engine.env.io ≡ env.io)) }
         ensures lies { IfOk result (λ engine. (b o n : ℕ) → D.surely_lies disk b o n → D.surely_lies engine.disk b o n) }
         ensures counted { IfOk result (λ engine. D.faults disk ≤ D.faults engine.disk) }

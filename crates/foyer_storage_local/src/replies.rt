@@ -1,5 +1,5 @@
 //! What the core's replies are answered as.
-ghost use Rattle.std.specs.Prelude.{◌≡◌, true, IfErr, IsErr};
+ghost use Rattle.std.specs.Prelude.{◌≡◌, ◌⊎◌, true, Some, IfErr, IsErr};
 ghost use Rattle.foyer_storage_local.specs.StepAnswers.{error_of, is_destroy_error, is_wait_error, wait_error};
 ghost use Rattle.foyer_storage_local.specs.StepAnswers.{begun_as, contains_as, deleted_as, destroyed_as, done_as, enqueued_as, kept_as, loaded_as, wrote_as};
 
@@ -29,7 +29,7 @@ fn error_of(kind: ErrorKind) -> Error
 }
 
 // Why a step of a wait, or of a destroy that has begun, was refused: for memory, or since no step is left, and for nothing
-// else. The fault of a clean is for memory, or of the device.
+// else.
 fn wait_error(kind: ErrorKind) -> Error
     ensures says { result ≡ wait_error kind }
     ensures refused { is_wait_error result ≡ true }
@@ -151,16 +151,17 @@ pub(crate) fn answer_kept<K: Drop, V: Drop, P: Drop, A: Allocator>(
     }
 }
 
-// The outcome of the cleans: the first fault, if one failed.
+// The outcome of the cleans, of which the first that failed did so by this error.
 pub(crate) fn answer_cleaned<K: Drop, V: Drop, P: Drop, A: Allocator>(
     last: Reply<K, V, P, A>,
+    first: Option<Error>,
 ) -> Result<()>
-    ensures says { result ≡ destroyed_as last }
-    ensures refused { IfErr result (λ e. is_wait_error e ≡ true) }
+    ensures says { result ≡ destroyed_as last first }
+    ensures refused { IfErr result (λ e. (is_wait_error e ≡ true) ⊎ (first ≡ Some e)) }
 {
     match last {
         Reply::Destroyed(None) => Ok(()),
-        Reply::Destroyed(Some(kind)) => Err(wait_error(kind)),
+        Reply::Destroyed(Some(_)) => Err(first.unwrap_or(Error::Io)),
         other => answer_kept(other),
     }
 }

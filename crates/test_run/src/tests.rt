@@ -7,6 +7,7 @@ mod local;
 mod random;
 mod reader;
 mod reclaimers;
+mod refilled;
 mod refusals;
 mod replies;
 mod runs;

@@ -1,10 +1,13 @@
 //! The calls of an engine that wait for its workers.
 ghost use Rattle.std.specs.Prelude.{◌≡◌, ◌⊎◌, ◌-◌, ◌<◌, IfErr, OnOk, Some, true};
+ghost use Rattle.foyer_core_steps.specs.declared.reply.Reply.TheVariants as reply;
+ghost use Rattle.foyer_core_steps.specs.declared.step.Step.{Step};
+ghost use Rattle.foyer_device_page.specs.declared.error.ErrorKind.TheVariants as kind;
 ghost use Rattle.foyer_core_shared.specs.Answers.{IsAnswer};
 ghost use Rattle.foyer_core_shared.specs.Briefs.{brief_of};
 ghost use Rattle.foyer_core_shared.specs.Replies.{may_reply};
 ghost use Rattle.foyer_storage_engine.specs.Answering.{is_draw_error};
-ghost use Rattle.foyer_storage_engine.specs.Ending.{AsksForReclaims, BringsClean, EndsWithClean};
+ghost use Rattle.foyer_storage_engine.specs.Ending.{AsksForReclaims, BringsClean, EndsWithClean, IsUnbegun, is_late_error};
 
 use super::{BlockEngine, error_of};
 use foyer_block_index::manager::BlockId;
@@ -51,6 +54,7 @@ where
         ensures answer { IsAnswer K.is_decodable V.is_decodable K.encoding V.encoding step result }
         ensures newest { session.new.newest ≡ Some (brief_of step result) }
         ensures replied { may_reply step result ≡ true }
+        ensures again { (back : Step K V P A) → result ≡ reply.Refused kind.Memory back → ⊥ }
         ensures parts { session.new.shares.parts ≡ session.old.shares.parts }
     {
         let mut given = step;
@@ -139,6 +143,7 @@ where
     fn begin_destroy(&self, rt: &impl Wait, session: &mut Session<L>) -> Result<()>
         requires { 0 < session.old.shares.parts }
         ensures refused { IfErr result (λ e. is_draw_error e ≡ true) }
+        ensures unbegun { IfErr result (λ e. (is_late_error e ≡ true) ⊎ IsUnbegun N.keeps session.new e) }
         ensures parts { session.new.shares.parts ≡ session.old.shares.parts }
     {
         for _ in rt.forever() {
@@ -159,7 +164,7 @@ where
     // Waits as `wait` does, again while memory is refused.
     fn wait_again(&self, rt: &impl Wait, session: &mut Session<L>) -> Result<()>
         requires { 0 < session.old.shares.parts }
-        ensures refused { IfErr result (λ e. is_draw_error e ≡ true) }
+        ensures refused { IfErr result (λ e. is_late_error e ≡ true) }
         ensures parts { session.new.shares.parts ≡ session.old.shares.parts }
     {
         for _ in rt.forever() {
@@ -174,7 +179,7 @@ where
     // Clears the index, once nothing is under way.
     fn clear(&self, rt: &impl Wait, session: &mut Session<L>) -> Result<()>
         requires { 0 < session.old.shares.parts }
-        ensures refused { IfErr result (λ e. is_draw_error e ≡ true) }
+        ensures refused { IfErr result (λ e. is_late_error e ≡ true) }
         ensures parts { session.new.shares.parts ≡ session.old.shares.parts }
     {
         for _ in rt.forever() {
@@ -215,6 +220,8 @@ where
         ensures cleaned { OnOk result (0 < self.now.settings.blocks → EndsWithClean (self.now.settings.blocks - 1) session.new result) }
         ensures refused { IfErr result (λ e. (is_draw_error e ≡ true)
             ⊎ (0 < self.now.settings.blocks → EndsWithClean (self.now.settings.blocks - 1) session.new result)) }
+        ensures unbegun { IfErr result (λ e. (is_late_error e ≡ true) ⊎ (IsUnbegun N.keeps session.new e
+            ⊎ (0 < self.now.settings.blocks → EndsWithClean (self.now.settings.blocks - 1) session.new result))) }
         ensures parts { session.new.shares.parts ≡ session.old.shares.parts }
     {
         self.begin_destroy(rt, session)?;

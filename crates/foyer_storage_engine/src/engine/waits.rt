@@ -1,6 +1,7 @@
 //! Waits of callers, which workers answer.
-ghost use Rattle.std.specs.Prelude.{◌≡◌, ◌++◌, ◌∷◌, [], IfOk, IsOkUnless, OnErr};
+ghost use Rattle.std.specs.Prelude.{◌≡◌, ◌++◌, ◌∷◌, [], true, false, not, IfOk, IsOkUnless, OnErr};
 ghost use Rattle.foyer_device_page.specs.declared.error.Error.TheVariants.{Memory};
+ghost use Rattle.foyer_storage_engine.specs.Waiting.{is_over, place_of, IsAnsweredAt, IsForgottenAt};
 
 use foyer_device_page::error::Result;
 use std::alloc::Allocator;
@@ -25,12 +26,16 @@ struct WaitTable<A: Allocator> {
 }
 
 // Where a wait stands in a list.
-fn place_of(open: &[OpenWait], id: u64) -> Option<usize> {
-    open.iter().position(|wait| wait.id == id)
+fn place_of(waiting: &[OpenWait], id: u64) -> Option<usize>
+    ensures { result ≡ place_of waiting.now id }
+{
+    waiting.iter().position(|wait| wait.id == id)
 }
 
 impl<A: Allocator> WaitTable<A> {
-    fn new(alloc: A) -> WaitTable<A> {
+    fn new(alloc: A) -> WaitTable<A>
+        ensures { (result.waiting.items ≡ []) × (result.is_closed ≡ false) }
+    {
         WaitTable {
             next: 0,
             waiting: Vec::new(alloc),
@@ -54,13 +59,12 @@ impl<A: Allocator> WaitTable<A> {
 
     // One flusher answers a wait: whether callers are to be woken. A wait that isn't there, since its caller gave it up, is left
     // alone.
-    fn answer(&mut self, id: u64) -> bool {
+    fn answer(&mut self, id: u64) -> bool
+        ensures { IsAnsweredAt (place_of self.old.waiting.items id) self.old self.new result }
+    {
         let Some(place) = place_of(&self.waiting, id) else {
             return false;
         };
-        if place >= self.waiting.len() {
-            return false;
-        }
         let left = self.waiting[place].left;
         if left > 1 {
             self.waiting[place].left = left - 1;
@@ -71,20 +75,27 @@ impl<A: Allocator> WaitTable<A> {
     }
 
     // Gives a wait up.
-    fn forget(&mut self, id: u64) {
+    fn forget(&mut self, id: u64)
+        ensures { IsForgottenAt (place_of self.old.waiting.items id) self.old self.new }
+    {
         if let Some(place) = place_of(&self.waiting, id) {
-            if place < self.waiting.len() {
-                let _ = self.waiting.swap_remove(place);
-            }
+            let _ = self.waiting.swap_remove(place);
         }
     }
 
-    fn is_over(&self, id: u64) -> bool {
+    // Whether all have answered a wait, or it was given up, or nobody answers any more.
+    fn is_over(&self, id: u64) -> bool
+        ensures { result ≡ is_over self.now id }
+    {
         self.is_closed || place_of(&self.waiting, id).is_none()
     }
 
     // Whether to wait on: who does is to be woken where a wait ends.
-    fn begins_to_wait(&mut self, id: u64) -> bool {
+    fn begins_to_wait(&mut self, id: u64) -> bool
+        ensures waits { result ≡ not (is_over self.old id) }
+        ensures awaited { result ≡ true → self.new ≡ record self.old { is_awaited = true } }
+        ensures same { result ≡ false → self.new ≡ self.old }
+    {
         if self.is_over(id) {
             return false;
         }

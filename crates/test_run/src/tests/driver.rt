@@ -1,9 +1,11 @@
 //! A core with its disk, driven by lines.
+use crate::tests::reader::{bytes_of, is_record, range};
 use crate::tests::replies::{
     TestAge, TestCore, TestReply, Value, piece_of, say_brief, say_full, say_kind, text_of,
 };
 use foyer_block_index::manager::BlockId;
 use foyer_core_run::disk::{do_read, do_write};
+use foyer_core_run::reclaims::reclaim_block;
 use foyer_core_steps::apply::Env;
 use foyer_core_steps::open::RecoverMode;
 use foyer_core_steps::reply::{Reply, Write};
@@ -58,7 +60,7 @@ struct Issued<A: Allocator> {
     next: usize,
 }
 
-// A core with its disk, the tickets that it gave, and the writes that it issued to each flusher.
+// A core with its disk, the tickets that it gave, the writes that it issued to each flusher, and what was read and kept last.
 #[derive(Drop)]
 pub struct Driver<A: Allocator + Clone> {
     pub core: TestCore<A>,
@@ -66,6 +68,7 @@ pub struct Driver<A: Allocator + Clone> {
     pub disk: Failing<MemoryDisk<A>>,
     tickets: Vec<Ticket>,
     issued: Vec<Option<Issued<A>>>,
+    kept: Vec<u8>,
     way: Way,
 }
 
@@ -95,6 +98,7 @@ pub fn new_driver<A: Allocator + Clone>(
         disk: Failing::new(memory, way.fails_at, 100),
         tickets: Vec::new(alloc),
         issued: none_issued(alloc, settings.flushers)?,
+        kept: Vec::new(alloc),
         way,
     })
 }
@@ -164,6 +168,42 @@ fn load_of<A: Allocator + Clone>(
     Ok(Some(Step::LoadEnd {
         ticket,
         result: outcome,
+    }))
+}
+
+// How many bytes of a text are ahead of what was kept, so that this begins a page behind the page that the text's record
+// begins. The header and the text's length are 44 bytes ahead of the text.
+const AHEAD: usize = 4052;
+
+// A put whose text ends with so many of the bytes that were kept.
+fn wrap_of<A: Allocator + Clone>(
+    alloc: Global,
+    driver: &Driver<A>,
+    heap: &A,
+    line: Line<'_>,
+) -> Result<Option<Life<A>>> {
+    let mut text = ".".repeat(alloc, AHEAD)?;
+    let kept = range(&driver.kept, 0, line.len as usize);
+    text.push_str(str::from_utf8(kept).unwrap_or("no text"))?;
+    Ok(Some(Step::Enqueue {
+        piece: piece_of(heap, line.number, text.as_str(), false)?,
+        size: text.len(),
+    }))
+}
+
+// The end of the load of a ticket, with the bytes that were kept.
+fn bring_of<A: Allocator + Clone>(
+    driver: &Driver<A>,
+    heap: &A,
+    number: usize,
+) -> Result<Option<Life<A>>> {
+    let Some(ticket) = driver.tickets.get(number).copied() else {
+        return Ok(None);
+    };
+    let kept = Vec::from_slice(heap.clone()?, &driver.kept)?;
+    Ok(Some(Step::LoadEnd {
+        ticket,
+        result: Ok(kept),
     }))
 }
 
@@ -238,6 +278,8 @@ fn step_of<A: Allocator + Clone>(
     match line.word {
         "put" | "young" | "long" => put_of(alloc, heap, line, driver.way.is_brief),
         "load" => load_of(driver, heap, line.number as usize),
+        "wrap" => wrap_of(alloc, driver, heap, line),
+        "bring" => bring_of(driver, heap, line.number as usize),
         "wrote" => Ok(wrote_of(driver, small_number(line.number))),
         _ => Ok(Some(plain_step(line.word, line.number, line.len))),
     }
@@ -359,6 +401,41 @@ fn answer_get<A: Allocator + Clone>(
     }
 }
 
+// Reads what stands at the place of a ticket and keeps it: whether it begins with the ticket's record.
+fn keep_page<A: Allocator + Clone>(
+    alloc: Global,
+    driver: &mut Driver<A>,
+    number: usize,
+) -> Result<bool> {
+    let Some(ticket) = driver.tickets.get(number).copied() else {
+        return Ok(false);
+    };
+    let address = ticket.address;
+    let (offset, len) = (address.offset as usize, ticket.read_len());
+    driver.kept = bytes_of(alloc, &mut driver.disk, address.block, offset, len)?;
+    let record = range(&driver.kept, 0, address.len as usize);
+    Ok(is_record(record, ticket.hash, address.sequence))
+}
+
+fn answer_keep<A: Allocator + Clone>(
+    alloc: Global,
+    said: &mut Said,
+    driver: &mut Driver<A>,
+    number: usize,
+) {
+    match keep_page(alloc, driver, number) {
+        Ok(true) => said.word("a record"),
+        Ok(false) => said.word("none"),
+        Err(_) => said.miss(),
+    }
+}
+
+// Reclaims a block.
+fn answer_reclaim<A: Allocator + Clone>(said: &mut Said, driver: &mut Driver<A>) {
+    let last = reclaim_block(&mut driver.core, &mut driver.env, &mut driver.disk);
+    say_brief(said, &last);
+}
+
 fn answer_any<A: Allocator + Clone>(
     alloc: Global,
     said: &mut Said,
@@ -366,10 +443,11 @@ fn answer_any<A: Allocator + Clone>(
     heap: &A,
     line: Line<'_>,
 ) {
-    if line.word == "get" {
-        answer_get(alloc, said, driver, heap, line.number);
-    } else {
-        answer(alloc, said, driver, heap, line);
+    match line.word {
+        "get" => answer_get(alloc, said, driver, heap, line.number),
+        "keep" => answer_keep(alloc, said, driver, line.number as usize),
+        "reclaim" => answer_reclaim(said, driver),
+        _ => answer(alloc, said, driver, heap, line),
     }
 }
 

@@ -20,7 +20,7 @@ pub struct Listed {
 }
 
 // The bytes from one place to another, as many as there are.
-fn range(bytes: &[u8], from: usize, to: usize) -> &[u8] {
+pub fn range(bytes: &[u8], from: usize, to: usize) -> &[u8] {
     if from <= to && to <= bytes.len() {
         &bytes[from..to]
     } else {
@@ -54,7 +54,7 @@ fn page_up(len: usize) -> usize {
 }
 
 // Whether the bytes are a record of this hash and sequence, of a text under a key that is its hash.
-fn is_record(record: &[u8], hash: u64, sequence: u64) -> bool {
+pub fn is_record(record: &[u8], hash: u64, sequence: u64) -> bool {
     let body = range(record, 36, record.len());
     let value_len = big(record, 4, 4);
     big(record, 0, 4) == 8

@@ -1,9 +1,11 @@
-use Rattle.std.proofs.Common.{◌≡◌, Ok, sym, ◌∙◌}
+use Rattle.std.proofs.Common.{◌≡◌, true, Ok, sym, ◌∙◌}
+use Rattle.std.specs.Prelude.{◌⊎◌}
 use Rattle.foyer_core_run.proofs.DestroyLemmas.{destroys_if}
+use Rattle.foyer_storage_local.specs.EntryCalls.{IsCleanFault}
 use Rattle.foyer_storage_local.specs.StepAnswers.{is_destroy_error}
 use Rattle.foyer_serve.specs.Texts.{plain}
 use Rattle.foyer_serve.specs.declared.engine.Answer.TheVariants as answer
-use Rattle.foyer_serve.proofs.AnswerLemmas.{done_faults, ok_of}
+use Rattle.foyer_serve.proofs.AnswerLemmas.{done_fault_of, ok_of}
 use Rattle.foyer_serve.proofs.engine.Engine.destroy.Goals as goal
 
 pub returns-clause-destroyed : goal.returns-clause-destroyed
@@ -16,4 +18,6 @@ returns-clause-destroyed g c = λ known.
     )
 
 pub returns-clause-refused : goal.returns-clause-refused
-returns-clause-refused g c = done_faults is_destroy_error c.answer_done.result c.destroy.result c.answer_done.ensures.says c.destroy.ensures.refused
+returns-clause-refused g c =
+    done_fault_of (λ e. (is_destroy_error e ≡ true) ⊎ IsCleanFault g.D.Disk.surely_lies g.D.Disk.faults g.D.Disk.may_answer c.args.self.now.local.disk e)
+    c.answer_done.result c.destroy.result c.answer_done.ensures.says c.destroy.ensures.refused

@@ -1,9 +1,12 @@
-use Rattle.std.proofs.Common.{◌≡◌, Ok, Err, refl, ◌∙◌}
+use Rattle.std.proofs.Common.{◌≡◌, true, Ok, Err, inl, refl, ◌∙◌}
 use Rattle.foyer_device_page.specs.declared.error.Error.TheVariants as error
 use Rattle.foyer_core_run.proofs.DestroyLemmas.{destroys_cleared, destroys_if, destroys_kept, destroys_none}
+use Rattle.foyer_core_run.proofs.OpenedRuns.{err_weakens}
 use Rattle.foyer_core_laws.specs.Content.{meaning}
-use Rattle.foyer_storage_local.proofs.LocalAnswers.{destroyed_ok, refused_not_ok}
-use Rattle.foyer_storage_local.proofs.LocalRuns.{known_destroys, lies_more, lies_none}
+use Rattle.foyer_storage_local.specs.EntryCalls.{IsCleanFault}
+use Rattle.foyer_storage_local.specs.StepAnswers.{is_wait_error}
+use Rattle.foyer_storage_local.proofs.LocalAnswers.{destroyed_ok, fault_answered, refused_not_ok, some_weakens}
+use Rattle.foyer_storage_local.proofs.LocalRuns.{fault_since, known_destroys, lies_more, lies_none}
 use Rattle.foyer_storage_local.proofs.engine.LocalEngine.clear.Goals as goal
 
 pub loop-init : goal.loop-init
@@ -14,32 +17,32 @@ loop-init g c =
 pub returns-in-Err-clause-destroyed : goal.returns-in-Err-clause-destroyed
 returns-in-Err-clause-destroyed g c =
     let m = meaning g.K.Code.encoding g.V.Code.encoding g.K.Code.is_encodable g.V.Code.is_encodable g.K.Code.is_decodable g.V.Code.is_decodable g.P.Properties.age in
-    known_destroys m ⊥ (c.answer_kept.result ≡ Ok tt) c.args.self.now.core c.loop.self.core c.clear_blocks.new.core (g.D.Disk.byte_at c.args.self.now.disk) (g.D.Disk.byte_at c.loop.self.disk) (g.D.Disk.byte_at c.clear_blocks.new.disk) c.loop.invariant.0
+    known_destroys m ⊥ (c.answer_kept.result ≡ Ok tt) c.args.self.now.core c.loop.self.core c.clear_blocks.new.self.core (g.D.Disk.byte_at c.args.self.now.disk) (g.D.Disk.byte_at c.loop.self.disk) (g.D.Disk.byte_at c.clear_blocks.new.self.disk) c.loop.invariant.0
     (λ known. (
       c.clear_blocks.ensures.known known,
-      destroys_if m ⊥ (c.answer_kept.result ≡ Ok tt) c.loop.self.core c.clear_blocks.new.core (g.D.Disk.byte_at c.loop.self.disk) (g.D.Disk.byte_at c.clear_blocks.new.disk) (refused_not_ok c.answer_kept.result tt c.answer_kept.ensures.fails)
-          (destroys_kept m c.in-Err.back c.loop.self.core c.clear_blocks.new.core (g.D.Disk.byte_at c.loop.self.disk) (g.D.Disk.byte_at c.clear_blocks.new.disk) c.in-Err.ensures.kept),
+      destroys_if m ⊥ (c.answer_kept.result ≡ Ok tt) c.loop.self.core c.clear_blocks.new.self.core (g.D.Disk.byte_at c.loop.self.disk) (g.D.Disk.byte_at c.clear_blocks.new.self.disk) (refused_not_ok c.answer_kept.result tt c.answer_kept.ensures.fails)
+          (destroys_kept m c.in-Err.back c.loop.self.core c.clear_blocks.new.self.core (g.D.Disk.byte_at c.loop.self.disk) (g.D.Disk.byte_at c.clear_blocks.new.self.disk) c.in-Err.ensures.kept),
     ))
 
 pub returns-in-Ok-clause-destroyed : goal.returns-in-Ok-clause-destroyed
 returns-in-Ok-clause-destroyed g c =
     let m = meaning g.K.Code.encoding g.V.Code.encoding g.K.Code.is_encodable g.V.Code.is_encodable g.K.Code.is_decodable g.V.Code.is_decodable g.P.Properties.age in
-    known_destroys m ⊥ (c.answer_cleaned.result ≡ Ok tt) c.args.self.now.core c.loop.self.core c.clear_blocks.new.core (g.D.Disk.byte_at c.args.self.now.disk) (g.D.Disk.byte_at c.loop.self.disk) (g.D.Disk.byte_at c.clear_blocks.new.disk) c.loop.invariant.0
+    known_destroys m ⊥ (c.answer_cleaned.result ≡ Ok tt) c.args.self.now.core c.loop.self.core c.clear_blocks.new.self.core (g.D.Disk.byte_at c.args.self.now.disk) (g.D.Disk.byte_at c.loop.self.disk) (g.D.Disk.byte_at c.clear_blocks.new.self.disk) c.loop.invariant.0
     (λ known. (
       c.clear_blocks.ensures.known known,
-      destroys_cleared m (c.answer_cleaned.result ≡ Ok tt) c.loop.self.core.settings.blocks c.in-Ok.last c.loop.self.core c.clear_blocks.new.core (g.D.Disk.byte_at c.loop.self.disk) (g.D.Disk.byte_at c.clear_blocks.new.disk)
-          (destroyed_ok c.in-Ok.last c.answer_cleaned.result c.answer_cleaned.ensures.says) (c.in-Ok.ensures.clears known),
+      destroys_cleared m (c.answer_cleaned.result ≡ Ok tt) c.loop.self.core.settings.blocks c.in-Ok.last c.loop.self.core c.clear_blocks.new.self.core (g.D.Disk.byte_at c.loop.self.disk) (g.D.Disk.byte_at c.clear_blocks.new.self.disk)
+          (destroyed_ok c.in-Ok.last c.in-Ok.first c.answer_cleaned.result c.answer_cleaned.ensures.says) (c.in-Ok.ensures.clears known),
     ))
 
 pub loop-preserved : goal.loop-preserved
 loop-preserved g c =
     let m = meaning g.K.Code.encoding g.V.Code.encoding g.K.Code.is_encodable g.V.Code.is_encodable g.K.Code.is_decodable g.V.Code.is_decodable g.P.Properties.age in (
-      known_destroys m ⊥ ⊥ c.args.self.now.core c.loop.self.core c.clear_blocks.new.core (g.D.Disk.byte_at c.args.self.now.disk) (g.D.Disk.byte_at c.loop.self.disk) (g.D.Disk.byte_at c.clear_blocks.new.disk) c.loop.invariant.0
-          (λ known. (c.clear_blocks.ensures.known known, destroys_kept m _ c.loop.self.core c.clear_blocks.new.core (g.D.Disk.byte_at c.loop.self.disk) (g.D.Disk.byte_at c.clear_blocks.new.disk) c.in-Err-Refused-Memory-default.ensures.kept)),
+      known_destroys m ⊥ ⊥ c.args.self.now.core c.loop.self.core c.clear_blocks.new.self.core (g.D.Disk.byte_at c.args.self.now.disk) (g.D.Disk.byte_at c.loop.self.disk) (g.D.Disk.byte_at c.clear_blocks.new.self.disk) c.loop.invariant.0
+          (λ known. (c.clear_blocks.ensures.known known, destroys_kept m _ c.loop.self.core c.clear_blocks.new.self.core (g.D.Disk.byte_at c.loop.self.disk) (g.D.Disk.byte_at c.clear_blocks.new.self.disk) c.in-Err-Refused-Memory-default.ensures.kept)),
       c.clear_blocks.ensures.lent.0 ∙ c.loop.invariant.1,
       c.clear_blocks.ensures.lent.1 ∙ c.loop.invariant.2,
-      c.loop.invariant.3,
-      lies_more g.D.Disk.surely_lies g.D.Disk.faults c.args.self.now.disk c.loop.self.disk c.clear_blocks.new.disk c.loop.invariant.4 (c.clear_blocks.ensures.lies, c.clear_blocks.ensures.counted),
+      c.clear_blocks.ensures.hasher ∙ c.loop.invariant.3,
+      lies_more g.D.Disk.surely_lies g.D.Disk.faults c.args.self.now.disk c.loop.self.disk c.clear_blocks.new.self.disk c.loop.invariant.4 c.clear_blocks.ensures.counts,
     )
 
 pub returns-clause-destroyed : goal.returns-clause-destroyed
@@ -65,10 +68,30 @@ pub returns-clause-hasher : goal.returns-clause-hasher
 returns-clause-hasher g c = c.loop.invariant.3
 
 pub returns-in-Err-clause-counts : goal.returns-in-Err-clause-counts
-returns-in-Err-clause-counts g c = lies_more g.D.Disk.surely_lies g.D.Disk.faults c.args.self.now.disk c.loop.self.disk c.clear_blocks.new.disk c.loop.invariant.4 (c.clear_blocks.ensures.lies, c.clear_blocks.ensures.counted)
+returns-in-Err-clause-counts g c = lies_more g.D.Disk.surely_lies g.D.Disk.faults c.args.self.now.disk c.loop.self.disk c.clear_blocks.new.self.disk c.loop.invariant.4 c.clear_blocks.ensures.counts
 
 pub returns-in-Ok-clause-counts : goal.returns-in-Ok-clause-counts
-returns-in-Ok-clause-counts g c = lies_more g.D.Disk.surely_lies g.D.Disk.faults c.args.self.now.disk c.loop.self.disk c.clear_blocks.new.disk c.loop.invariant.4 (c.clear_blocks.ensures.lies, c.clear_blocks.ensures.counted)
+returns-in-Ok-clause-counts g c = lies_more g.D.Disk.surely_lies g.D.Disk.faults c.args.self.now.disk c.loop.self.disk c.clear_blocks.new.self.disk c.loop.invariant.4 c.clear_blocks.ensures.counts
 
 pub returns-clause-counts : goal.returns-clause-counts
 returns-clause-counts g c = c.loop.invariant.4
+
+pub returns-in-Err-clause-hasher : goal.returns-in-Err-clause-hasher
+returns-in-Err-clause-hasher g c = c.clear_blocks.ensures.hasher ∙ c.loop.invariant.3
+
+pub returns-in-Ok-clause-hasher : goal.returns-in-Ok-clause-hasher
+returns-in-Ok-clause-hasher g c = c.clear_blocks.ensures.hasher ∙ c.loop.invariant.3
+
+pub returns-in-Err-clause-refused : goal.returns-in-Err-clause-refused
+returns-in-Err-clause-refused g c = err_weakens c.answer_kept.result _ _ (λ e is. inl is) c.answer_kept.ensures.refused
+
+pub returns-in-Ok-clause-refused : goal.returns-in-Ok-clause-refused
+returns-in-Ok-clause-refused g c =
+    let lies = g.D.Disk.surely_lies in
+    let faults = g.D.Disk.faults in
+    let may = g.D.Disk.may_answer in
+    let old = c.args.self.now.disk in
+    fault_answered c.answer_cleaned.result c.in-Ok.first (λ e. is_wait_error e ≡ true) (IsCleanFault lies faults may old)
+    (some_weakens c.in-Ok.first (IsCleanFault lies faults may c.loop.self.disk) (IsCleanFault lies faults may old)
+    (λ e is. fault_since lies faults may old c.loop.self.disk e c.loop.invariant.4 is) c.in-Ok.ensures.fault)
+    c.answer_cleaned.ensures.refused
