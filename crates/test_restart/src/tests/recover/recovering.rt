@@ -40,7 +40,7 @@ pub(crate) fn recover_by<A: Allocator + Clone>(
         came.reverse();
     }
     let mut listings = Listings::new(alloc.clone()?, runner.blocks)?;
-    while let Some(listing) = came.pop() {
+    for listing in came {
         let _ = listings.add(listing);
     }
     runner.run_with(alloc, disk, 4, marks, listings)
