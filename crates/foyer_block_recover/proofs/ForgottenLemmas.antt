@@ -1,16 +1,13 @@
 -- A mark wins over what its hash had up to its sequence.
-use Rattle.std.proofs.Common.{◌≡◌, ℕ, zero, suc, ◌+◌, ◌-◌, ◌<◌, ◌≤◌, ◌==◌, nat_lt, nat_le, ◌⊎◌, inl, inr, Bool, true, false, if◌then◌else◌, Option, Some, None, List, [], ◌∷◌, ◌++◌, length, refl, sym, ap, subst, ◌∙◌, arith}
+use Rattle.std.proofs.Common.{◌≡◌, ℕ, ◌<◌, ◌≤◌, ◌==◌, nat_lt, inl, inr, Bool, true, false, if◌then◌else◌, Option, Some, None, List, [], ◌∷◌, ◌++◌, refl, sym, ap, subst, ◌∙◌, arith}
 use Rattle.std.specs.Prelude.{Contains}
-use Rattle.std.proofs.lemmas.Bool.{eqb-true, eqb-false, eq-eqb}
+use Rattle.std.proofs.lemmas.Bool.{eq-eqb}
 use Rattle.std.proofs.lemmas.Bool.Decides.{nat_tests}
 use Rattle.std.proofs.lemmas.List.Elements.{Contains-append_cases, Contains-push_cases}
 use Rattle.foyer_block_index.specs.declared.tombstone.Tombstone.{Tombstone as Mark}
-use Rattle.foyer_format_blob.specs.declared.blob.BlobEntryIndex.{BlobEntryIndex}
-use Rattle.foyer_format_layout.specs.Position.{Sizes}
 use Rattle.foyer_core_model.specs.Record.{Address, Slot, Indexed}
-use Rattle.foyer_block_recover.specs.Forgotten.{IsForgotten, MarksForget, MarksForgetUnseen}
-use Rattle.foyer_block_recover.specs.Opening.{Found, Stands, Marked, Opened, Opens, hash_of, sequence_of, first_or, winner, all_stand, all_marked, slot_of, opened_at}
-use Rattle.foyer_block_recover.specs.Placed.{IsOpening}
+use Rattle.foyer_block_recover.specs.Forgotten.{MarksForget, MarksForgetUnseen}
+use Rattle.foyer_block_recover.specs.Opening.{Found, Stands, Marked, hash_of, sequence_of, first_or, winner, all_stand, all_marked, slot_of}
 use Rattle.foyer_block_recover.specs.Recovery.{marks_of}
 
 -- what wins over a sequence: a mark of it or a greater one, or an entry of a greater one

@@ -1,15 +1,14 @@
 -- Listings, and what is kept of their blocks.
-use Rattle.std.proofs.Common.{◌≡◌, ◌≢◌, ℕ, zero, suc, Result, IfOk, IfSome, ◌+◌, ◌<◌, ◌≤◌, ◌==◌, ◌&&◌, ◌^◌, Bool, true, false, if◌then◌else◌, Option, Some, None, List, [], ◌∷◌, ◌++◌, map, length, slice_get, slice_set, refl, sym, ap, subst, ◌∙◌, arith, append_assoc, append-nil}
-use Rattle.std.proofs.lemmas.List.{map-append}
+use Rattle.std.proofs.Common.{◌≡◌, ℕ, zero, suc, Result, IfOk, IfSome, ◌+◌, ◌<◌, ◌==◌, ◌&&◌, Bool, true, false, if◌then◌else◌, Option, Some, None, List, [], ◌∷◌, ◌++◌, map, slice_get, refl, sym, ap, subst, ◌∙◌, arith, append_assoc, append-nil}
 use Rattle.foyer_format_layout.proofs.EachLaws.{each_join}
-use Rattle.std.proofs.lemmas.Bool.{eqb-true, eqb-false, eq-eqb}
+use Rattle.std.proofs.lemmas.Bool.{eqb-true}
 use Rattle.foyer_format_layout.specs.Each.{Each}
 use Rattle.foyer_format_layout.specs.Position.{Sizes}
 use Rattle.foyer_format_blob.specs.declared.blob.BlobEntryIndex.{BlobEntryIndex}
 use Rattle.foyer_block_index.specs.declared.indexer.HashedEntryAddress.{HashedEntryAddress}
 use Rattle.foyer_block_recover.specs.Chained.{hashed_entries, IsKeptBy, IsKeptOf}
 use Rattle.foyer_block_recover.specs.Placed.{IsPlaced, IsSomeKept}
-use Rattle.foyer_block_recover.specs.Sources.{AreListed, Listing, IsListingOf, block_of, IsOwnListing, IsWithinBlock, IsSource, is_shared, share_of, AreSources, is_of, if_of, came, listing_at, sure_in, sure_of, ListingsAreSources}
+use Rattle.foyer_block_recover.specs.Sources.{AreListed, Listing, IsListingOf, IsOwnListing, IsWithinBlock, IsSource, is_shared, share_of, AreSources, is_of, if_of, came, listing_at, sure_in, sure_of, ListingsAreSources}
 
 -- an address as an entry of its block
 entry_of : HashedEntryAddress → BlobEntryIndex

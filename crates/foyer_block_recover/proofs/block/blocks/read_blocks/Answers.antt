@@ -1,4 +1,4 @@
-use Rattle.std.proofs.Common.{◌≡◌, ◌≢◌, ℕ, ◌+◌, ◌<◌, ◌≤◌, ◌++◌, Bool, None, [], IfSome, rules, vec_len, slice_get, length, true, false, refl, sym, ap, ◌∙◌, subst, arith}
+use Rattle.std.proofs.Common.{◌≡◌, ◌++◌, None, [], IfSome, vec_len, slice_get, length, true, false, refl, sym, ap, ◌∙◌, subst, arith}
 use Rattle.std.proofs.lemmas.Result.{err_from_is_err_and}
 use Rattle.foyer_io_disk.specs.Disk.{SurelyCame}
 use Rattle.foyer_io_disk.proofs.FaultLemmas.{came_before, came_behind}
@@ -8,7 +8,7 @@ use Rattle.foyer_format_buffer.specs.Listing.{kept}
 use Rattle.foyer_block_recover.specs.BlocksKept.{AreBlocksRead, gathered}
 use Rattle.foyer_block_recover.specs.Chained.{hashed_entries, IsKeptOf}
 use Rattle.foyer_block_recover.specs.Placed.{IsSomeKept, AreSomeKept}
-use Rattle.foyer_block_recover.specs.Sources.{AreSources, Listing, came, if_of, is_of, listing_at, sure_of}
+use Rattle.foyer_block_recover.specs.Sources.{Listing, came, if_of, is_of, listing_at, sure_of}
 use Rattle.foyer_block_recover.proofs.BlocksLemmas.{kept_here, not_cut, alone, some_alone, cut_here, none_kept_of, more_kept, none_read, more_read, read_with_fewer, sure_before, all_read, all_some}
 use Rattle.foyer_block_recover.proofs.SourcesLemmas.{own_listing}
 use Rattle.foyer_block_recover.proofs.block.blocks.read_blocks.Goals as goal

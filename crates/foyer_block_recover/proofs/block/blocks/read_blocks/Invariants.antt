@@ -1,4 +1,4 @@
-use Rattle.std.proofs.Common.{◌≡◌, ◌≤◌, ℕ, Bool, [], vec_len, slice_get}
+use Rattle.std.proofs.Common.{◌≡◌, ◌≤◌, ℕ, Bool, vec_len, slice_get}
 use Rattle.foyer_io_disk.specs.Disk.{SurelyCame}
 use Rattle.foyer_block_recover.specs.BlocksKept.{AreBlocksRead, gathered}
 use Rattle.foyer_block_recover.specs.Placed.{AreSomeKept}

@@ -1,4 +1,4 @@
-use Rattle.std.proofs.Common.{◌≡◌, ◌≢◌, ◌∙◌, [], length, vec_len, refl, ap, arith}
+use Rattle.std.proofs.Common.{◌≡◌, ◌≢◌, ◌∙◌, length, refl, ap, arith}
 use Rattle.foyer_block_index.specs.Insertion.{inserted_all}
 use Rattle.foyer_block_recover.specs.Chained.{hashed_entries}
 use Rattle.foyer_block_recover.specs.Kept.{greatest_in}

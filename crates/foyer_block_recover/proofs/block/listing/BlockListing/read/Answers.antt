@@ -1,6 +1,5 @@
 use Rattle.std.proofs.Common.{◌≡◌, [], vec_len, sym, subst}
 use Rattle.foyer_io_disk.specs.Disk.{SurelyCame}
-use Rattle.foyer_format_layout.specs.Position.{Sizes}
 use Rattle.foyer_block_recover.specs.Chained.{IsKeptOf}
 use Rattle.foyer_block_recover.specs.Placed.{IsSomeKept}
 use Rattle.foyer_block_recover.proofs.SourcesLemmas.{within_by}

@@ -1,8 +1,8 @@
-use Rattle.std.proofs.Common.{◌≡◌, ◌+◌, ◌<◌, ◌≤◌, ◌∙◌, ◌++◌, [], map, refl, sym, ap, subst, append-nil, arith}
+use Rattle.std.proofs.Common.{◌∙◌, map, refl, sym, append-nil, arith}
 use Rattle.foyer_io_disk.specs.Disk.{SurelyCame}
 use Rattle.foyer_io_disk.proofs.FaultLemmas.{came_before, came_behind}
 use Rattle.foyer_block_recover.specs.Recovery.{sizes_of}
-use Rattle.foyer_block_recover.specs.Sources.{block_of, share_of}
+use Rattle.foyer_block_recover.specs.Sources.{block_of}
 use Rattle.foyer_block_recover.proofs.SourcesLemmas.{none_listed_to, both_listed, share_more}
 use Rattle.foyer_block_recover.proofs.block.recover.RecoverRunner.list.Goals as goal
 

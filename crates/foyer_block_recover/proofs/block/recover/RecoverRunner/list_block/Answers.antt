@@ -1,7 +1,6 @@
-use Rattle.std.proofs.Common.{◌≡◌, ◌%◌, ◌==◌, ◌∙◌, ◌++◌, ◌∷◌, [], vec_len, true, sym, ap, subst}
+use Rattle.std.proofs.Common.{◌≡◌, ◌%◌, true, sym, subst}
 use Rattle.std.proofs.lemmas.Bool.{eq-eqb}
 use Rattle.foyer_io_disk.specs.Disk.{SurelyCame}
-use Rattle.foyer_format_layout.specs.Position.{Sizes}
 use Rattle.foyer_block_recover.specs.Recovery.{sizes_of}
 use Rattle.foyer_block_recover.specs.Sources.{AreListed, IsListingOf, is_shared}
 use Rattle.foyer_block_recover.proofs.SourcesLemmas.{none_listed_to, one_listed}
