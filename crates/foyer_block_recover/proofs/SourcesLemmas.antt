@@ -8,7 +8,7 @@ use Rattle.foyer_format_blob.specs.declared.blob.BlobEntryIndex.{BlobEntryIndex}
 use Rattle.foyer_block_index.specs.declared.indexer.HashedEntryAddress.{HashedEntryAddress}
 use Rattle.foyer_block_recover.specs.Chained.{hashed_entries, IsKeptBy, IsKeptOf}
 use Rattle.foyer_block_recover.specs.Placed.{IsPlaced, IsSomeKept}
-use Rattle.foyer_block_recover.specs.Sources.{AreListed, Listing, IsListingOf, IsOwnListing, IsWithinBlock, IsSource, is_shared, share_of, AreSources, is_of, if_of, came, listing_at, sure_in, sure_of, ListingsAreSources}
+use Rattle.foyer_block_recover.specs.Sources.{AreListed, Listing, IsListingOf, IsOwnListing, IsWithinBlock, IsSource, is_shared, share_of, AreSources, is_of, if_of, listing_in, listing_at, sure_in, sure_of, ListingsAreSources}
 
 -- an address as an entry of its block
 entry_of : HashedEntryAddress → BlobEntryIndex
@@ -165,7 +165,7 @@ listing_of s b (Some m) l is = go (is_of s b m) refl is
 
 pub own_listing : (s : Sizes) (b : ℕ) (slots : List (Option Listing)) (o : Option Listing) → o ≡ listing_at s b slots → IfSome o (λ l. is_of s b l ≡ true)
 own_listing s b slots None is = tt
-own_listing s b slots (Some l) is = listing_of s b (came (slice_get slots b)) l (sym is)
+own_listing s b slots (Some l) is = listing_of s b (listing_in (slice_get slots b)) l (sym is)
 
 -- a source of a block whose listing lists these bytes
 source_of : (s : Sizes) (b : ℕ) (o : Option Listing) (B : ℕ → ℕ) (failed : ℕ → Bool)
@@ -177,15 +177,15 @@ source_of s b (Some l) B failed lists = go (is_of s b l) refl
     go true e = lists l refl e
     go false e = refl
 
-came_some : (o : Option (Option Listing)) (l : Listing) → came o ≡ Some l → o ≡ Some (Some l)
-came_some None l is = absurd (cc)
-came_some (Some o) l is = ap Some is
+listing_there : (o : Option (Option Listing)) (l : Listing) → listing_in o ≡ Some l → o ≡ Some (Some l)
+listing_there None l is = absurd (cc)
+listing_there (Some o) l is = ap Some is
 
 pub listings_are_sources : ListingsAreSources
-listings_are_sources s n slots bytes failed lists = λ b lt. source_of s b (came (slice_get slots b)) (bytes b) (failed b)
+listings_are_sources s n slots bytes failed lists = λ b lt. source_of s b (listing_in (slice_get slots b)) (bytes b) (failed b)
     (λ l is of. let these = of_this s b l of in
     subst (λ (k : Sizes). IsKeptBy k (bytes b) (failed b) b [] l.kept l.is_cut) these.1
-    (subst (λ k. IsKeptBy l.sizes (bytes k) (failed k) k [] l.kept l.is_cut) these.0 (lists b l lt (came_some (slice_get slots b) l is))))
+    (subst (λ k. IsKeptBy l.sizes (bytes k) (failed k) k [] l.kept l.is_cut) these.0 (lists b l lt (listing_there (slice_get slots b) l is))))
 
 -- of no listing all is the disk's own
 pub none_listed : (s : Sizes) (n : ℕ) (bytes : ℕ → ℕ → ℕ) (slots : List (Option Listing)) → slots ≡ [] → AreSources s n slots bytes bytes (λ b p. false)

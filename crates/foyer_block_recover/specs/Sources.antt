@@ -44,14 +44,14 @@ abbrev pub if_of : Sizes → ℕ → Option Listing → Option Listing
 if_of s b None = None
 if_of s b (Some l) = if is_of s b l then Some l else None
 
--- what came at a place, if it is there
-abbrev pub came : Option (Option Listing) → Option Listing
-came None = None
-came (Some l) = l
+-- the listing at a place, if one is there
+abbrev pub listing_in : Option (Option Listing) → Option Listing
+listing_in None = None
+listing_in (Some l) = l
 
--- the listing of a block, if one of it came
+-- the listing of a block, if one is there
 abbrev pub listing_at : Sizes → ℕ → List (Option Listing) → Option Listing
-listing_at s b slots = if_of s b (came (slice_get slots b))
+listing_at s b slots = if_of s b (listing_in (slice_get slots b))
 
 -- Bytes B are those of a block: its listing lists them, where these reads failed, or, without a listing, the disk has them.
 abbrev pub IsSource : Sizes → ℕ → Option Listing → (B has : ℕ → ℕ) → (failed : ℕ → Bool) → Type 0

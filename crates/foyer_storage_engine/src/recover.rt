@@ -1,5 +1,5 @@
 //! The workers of a recovery: each has a thread and a disk of its own, and lists some of the blocks.
-ghost use Rattle.foyer_block_recover.specs.Sources.{came};
+ghost use Rattle.foyer_block_recover.specs.Sources.{listing_in};
 ghost use Rattle.std.specs.Prelude.{◌≡◌, ◌<◌, ℕ, IsSome, slice_get};
 
 use foyer_block_recover::block::listing::{BlockListing, Listings};
@@ -33,7 +33,7 @@ fn list_share<D: Disk + Drop>(
 
 // Takes in what came, in this order.
 fn add_all<D: Disk>(listings: &mut Listings<Global, D>, more: Vec<BlockListing<Global, D>>)
-    ensures stay { (b : ℕ) → IsSome (came (slice_get listings.old.slots.items b))
+    ensures stay { (b : ℕ) → IsSome (listing_in (slice_get listings.old.slots.items b))
         → slice_get listings.new.slots.items b ≡ slice_get listings.old.slots.items b }
 {
     'each_listing: for listing in more {
@@ -54,7 +54,7 @@ pub fn list_blocks<R, D>(
 where
     R: Threads + Wait + Copy + Send + 'static,
     D: Disk + Drop + Send + 'static,
-    ensures stay { (b : ℕ) → IsSome (came (slice_get listings.old.slots.items b))
+    ensures stay { (b : ℕ) → IsSome (listing_in (slice_get listings.old.slots.items b))
         → slice_get listings.new.slots.items b ≡ slice_get listings.old.slots.items b }
 {
     let Ok(workers) = u32::try_from(disks.len()) else {

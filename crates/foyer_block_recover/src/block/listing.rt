@@ -6,7 +6,7 @@ ghost use Rattle.foyer_format_buffer.specs.Fills.{AreSizes};
 ghost use Rattle.foyer_io_disk.specs.Disk.{SurelyCame};
 ghost use Rattle.foyer_block_recover.specs.Chained.{IsKeptOf};
 ghost use Rattle.foyer_block_recover.specs.Placed.{IsSomeKept};
-ghost use Rattle.foyer_block_recover.specs.Sources.{IsListingOf, IsSource, came, is_of, listing_at, sure_in};
+ghost use Rattle.foyer_block_recover.specs.Sources.{IsListingOf, IsSource, is_of, listing_at, listing_in, sure_in};
 
 use crate::block::chain::{Chain, read_chain};
 use foyer_block_index::indexer::HashedEntryAddress;
@@ -221,7 +221,7 @@ fn take_at<A: Allocator, D: Disk>(
     slots: &mut Vec<Option<BlockListing<A, D>>, A>,
     block: BlockId,
 ) -> Option<BlockListing<A, D>>
-    ensures taken { result ≡ came (slice_get slots.old.items block) }
+    ensures taken { result ≡ listing_in (slice_get slots.old.items block) }
     ensures left { slots.new.items ≡ slice_set slots.old.items block None }
 {
     let Some(slot) = slots.get_mut(block as usize) else {

@@ -1,6 +1,6 @@
 use Rattle.std.proofs.Common.{◌≡◌, ℕ, IsSome, slice_get}
-use Rattle.foyer_block_recover.specs.Sources.{came}
+use Rattle.foyer_block_recover.specs.Sources.{listing_in}
 use Rattle.foyer_storage_engine.proofs.recover.list_blocks.Given as goal
 
 abbrev pub invariant-each_thread : goal.invariant-each_thread
-invariant-each_thread g l = (b : ℕ) → IsSome (came (slice_get l.fn.listings.slots.items b)) → slice_get l.listings.slots.items b ≡ slice_get l.fn.listings.slots.items b
+invariant-each_thread g l = (b : ℕ) → IsSome (listing_in (slice_get l.fn.listings.slots.items b)) → slice_get l.listings.slots.items b ≡ slice_get l.fn.listings.slots.items b

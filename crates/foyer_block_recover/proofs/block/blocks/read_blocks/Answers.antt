@@ -8,7 +8,7 @@ use Rattle.foyer_format_buffer.specs.Listing.{kept}
 use Rattle.foyer_block_recover.specs.BlocksKept.{AreBlocksRead, gathered}
 use Rattle.foyer_block_recover.specs.Chained.{hashed_entries, IsKeptOf}
 use Rattle.foyer_block_recover.specs.Placed.{IsSomeKept, AreSomeKept}
-use Rattle.foyer_block_recover.specs.Sources.{Listing, came, if_of, is_of, listing_at, sure_of}
+use Rattle.foyer_block_recover.specs.Sources.{Listing, if_of, is_of, listing_at, listing_in, sure_of}
 use Rattle.foyer_block_recover.proofs.BlocksLemmas.{kept_here, not_cut, alone, some_alone, cut_here, none_kept_of, more_kept, none_read, more_read, read_with_fewer, sure_before, all_read, all_some}
 use Rattle.foyer_block_recover.proofs.SourcesLemmas.{own_listing}
 use Rattle.foyer_block_recover.proofs.block.blocks.read_blocks.Goals as goal
@@ -63,7 +63,7 @@ returns-then-is_strict-clause-cut g c = λ bytes failed known sources is.
     let s : Sizes = record { block = c.args.block_size; index = n } in
     let chain = c.in_ok-bytes.field-0 in
     let S = SurelyCame (g.D.Disk.surely_has c.args.disk.now) (g.D.Disk.surely_lies c.args.disk.now) (g.D.Disk.faults c.args.disk.now) (g.D.Disk.faults c.list_chain.new.disk) in
-    let found : c.take-listing.result ≡ listing_at s b c.args.listings.slots.items = c.take-listing.ensures.taken ∙ ap (λ o. if_of s b (came o)) (inv.slots b (omega arith)) in
+    let found : c.take-listing.result ≡ listing_at s b c.args.listings.slots.items = c.take-listing.ensures.taken ∙ ap (λ o. if_of s b (listing_in o)) (inv.slots b (omega arith)) in
     let cut : chain.is_cut ≡ true = cc in
     cut_here s bytes (sure_of s c.args.listings.slots.items failed S) c.args.is_strict c.args.blocks b c.each_block.batch.items chain.kept.items chain.is_cut c.each_block-test.true c.if-is_strict.true cut
     (kept_here c.args.block_size n (vec_len c.each_block.buffer) c.args.listings.slots.items c.take-listing.result (g.D.Disk.byte_at c.each_block.disk) (g.D.Disk.byte_at c.args.disk.now) bytes failed
@@ -87,7 +87,7 @@ each_block-preserved g c =
     let chain = c.in_ok-bytes.field-0 in
     let S = SurelyCame (g.D.Disk.surely_has c.args.disk.now) (g.D.Disk.surely_lies c.args.disk.now) (g.D.Disk.faults c.args.disk.now) (g.D.Disk.faults c.list_chain.new.disk) in
     let B = SurelyCame (g.D.Disk.surely_has c.args.disk.now) (g.D.Disk.surely_lies c.args.disk.now) (g.D.Disk.faults c.args.disk.now) (g.D.Disk.faults c.each_block.disk) in
-    let found : c.take-listing.result ≡ listing_at s b c.args.listings.slots.items = c.take-listing.ensures.taken ∙ ap (λ o. if_of s b (came o)) (inv.slots b (omega arith)) in
+    let found : c.take-listing.result ≡ listing_at s b c.args.listings.slots.items = c.take-listing.ensures.taken ∙ ap (λ o. if_of s b (listing_in o)) (inv.slots b (omega arith)) in
     let len : length c.each_block.batch.items ≡ c.len-before.result = omega (arith, c.each_block.batch.ok.0, c.len-before.ensures) in
     let uncut : c.args.is_strict ≡ true → chain.is_cut ≡ false = elim c.else-is_cut.branch [
       | else-is_cut-via-then-is_cut+else-is_strict w ↦ λ is. absurd (let may : c.args.is_strict ≡ false = w.if-is_strict.false in cc)
