@@ -11,6 +11,7 @@ pub use foyer_storage_store::engine::engine::waits::Waits;
 pub use foyer_storage_store::engine::engine::{BlockEngine, Enqueued};
 pub use foyer_storage_store::engine::hand::Hand;
 pub use foyer_storage_store::engine::load::{Load, Populated, decide_load};
+pub use foyer_storage_store::engine::recover::{NoRecoverer, Recoverer};
 pub use foyer_storage_store::engine::workers::{
     Clock, FlusherParts, FlusherWorker, Moment, NoWorker, ReclaimerParts, ReclaimerWorker, Worker,
     Workers,

@@ -55,7 +55,7 @@ pub enum Enqueued {
     Deleted,
 }
 
-// The disk that loads read from, and the memory that they read into.
+// A disk that loads read from, and the memory that they read into.
 #[derive(Drop)]
 struct Reader<D: Disk + Drop, A: Allocator> {
     disk: D,
@@ -182,6 +182,16 @@ fn answer_of<K: Drop, V: Drop, P: Drop, A: Allocator>(reply: Reply<K, V, P, A>) 
     }
 }
 
+// Keeps a buffer for the next read, unless another thread reads just now.
+fn keep<D: Disk + Drop, A: Allocator>(reader: &Mutex<Reader<D, A>>, spare: Option<Vec<u8, A>>) {
+    let Some(bytes) = spare else {
+        return;
+    };
+    if let Some(mut reader) = reader.try_lock() {
+        reader.spare = bytes;
+    }
+}
+
 // The ticket of a look-up's reply, or the reply.
 fn ticket_of<K: Drop, V: Drop, P: Drop, A: Allocator>(
     reply: Reply<K, V, P, A>,
@@ -194,7 +204,7 @@ fn ticket_of<K: Drop, V: Drop, P: Drop, A: Allocator>(
     }
 }
 
-/// An engine that threads share by reference: a core behind one lock, a disk that all loads read from behind another, bells
+/// An engine that threads share by reference: a core behind one lock, disks that loads read from, each behind another, bells
 /// that are rung where a step may let another thread go on, and a gate that each access passes before it.
 #[derive(Drop)]
 pub struct BlockEngine<L, K, V, P, A, E, C, D, G, N>
@@ -212,6 +222,7 @@ where
 {
     shared: Shared<L, K, V, P, A, E, C, N>,
     reader: Mutex<Reader<D, A>>,
+    others: Vec<Mutex<Reader<D, A>>, A>,
     signals: Arc<Signals<A>, A>,
     settings: Settings,
     gate: G,
@@ -240,6 +251,7 @@ where
         gate: G,
     ) -> Result<BlockEngine<L, K, V, P, A, E, C, D, G, N>>
         ensures settings { IfOk result (λ engine. engine.settings ≡ settings) }
+        ensures alone { IfOk result (λ engine. vec_len engine.others ≡ 0) }
         ensures refused { IfErr result (λ e. e ≡ error.Memory) }
     {
         let reader = Reader {
@@ -251,11 +263,35 @@ where
         Ok(BlockEngine {
             shared,
             reader: Mutex::new(reader),
+            others: Vec::new(alloc.clone()?),
             signals,
             settings,
             gate,
             alloc,
         })
+    }
+
+    /// The same, whose loads read from this disk too, which has the same blocks.
+    pub fn with_load_disk(self, disk: D) -> Result<BlockEngine<L, K, V, P, A, E, C, D, G, N>>
+        ensures rest { IfOk result (λ engine. (engine.settings ≡ self.settings) × (engine.shared ≡ self.shared)
+            × (engine.signals ≡ self.signals) × (engine.gate ≡ self.gate) × (engine.alloc ≡ self.alloc)) }
+        ensures more { IfOk result (λ engine. vec_len engine.others ≡ vec_len self.others + 1) }
+        ensures refused { IfErr result (λ e. e ≡ error.Memory) }
+    {
+        let mut engine = self;
+        let spare = Vec::new(engine.alloc.clone()?);
+        let alloc = engine.alloc.clone()?;
+        engine
+            .others
+            .push(Mutex::new(Reader { disk, spare, alloc }))?;
+        Ok(engine)
+    }
+
+    // The disk of this number, counted modulo how many there are.
+    fn reader(&self, number: usize) -> &Mutex<Reader<D, A>> {
+        self.others
+            .get(number % (self.others.len() + 1))
+            .unwrap_or(&self.reader)
     }
 
     /// The settings that its core was opened with.
@@ -392,9 +428,7 @@ where
         answer_of(reply)
     }
 
-    /// Looks a hash up, reads what it stands for, and gives its outcome. The caller says whether the device is throttled:
-    /// then nothing is read. The core's lock is free during the read. `Io` where the read failed, `Memory` where it or the entry
-    /// finds no memory, `Parse` and `Unsupported` where the entry isn't readable, `SequenceEnd` where no step is left.
+    /// `load_by` from the first disk.
     pub fn load(
         &self,
         rt: &impl Wait,
@@ -408,25 +442,37 @@ where
         ensures refused { IfErr result (λ e. is_load_error e ≡ true) }
         ensures parts { session.new.shares.parts ≡ session.old.shares.parts }
     {
+        self.load_by(rt, session, hash, throttled, 0)
+    }
+
+    /// Looks a hash up, reads what it stands for, and gives its outcome. The caller says whether the device is throttled:
+    /// then nothing is read; and which disk to read from, by a number that is counted modulo how many there are. No lock but
+    /// that disk's is held during the read. `Io` where the read failed, `Memory` where it or the entry finds no memory, `Parse`
+    /// and `Unsupported` where the entry isn't readable, `SequenceEnd` where no step is left.
+    pub fn load_by(
+        &self,
+        rt: &impl Wait,
+        session: &mut Session<L>,
+        hash: u64,
+        throttled: bool,
+        disk: usize,
+    ) -> Result<Load<K, V, P, A>>
+        requires { 0 < session.old.shares.parts }
+        ensures answer { IsLoaded N.keeps session.old session.new hash throttled result }
+        ensures throttled { result ≡ Ok load.Throttled → throttled ≡ true }
+        ensures refused { IfErr result (λ e. is_load_error e ≡ true) }
+        ensures parts { session.new.shares.parts ≡ session.old.shares.parts }
+    {
         let begin = Step::LoadBegin { hash, throttled };
         let ticket = match ticket_of(self.shared.step(rt, session, no_io(), begin)) {
             Ok(ticket) => ticket,
             Err(reply) => return load_of(reply),
         };
         self.gate.pass(Point::LoadRead);
-        let outcome = self.reader.lock(rt).read(&ticket)?;
+        let reader = self.reader(disk);
+        let outcome = reader.lock(rt).read(&ticket)?;
         let (reply, spare) = self.shared.end_load(rt, session, ticket, outcome);
-        self.keep(spare);
+        keep(reader, spare);
         load_of(reply)
-    }
-
-    // Keeps a buffer for the next read, unless another thread reads just now.
-    fn keep(&self, spare: Option<Vec<u8, A>>) {
-        let Some(bytes) = spare else {
-            return;
-        };
-        if let Some(mut reader) = self.reader.try_lock() {
-            reader.spare = bytes;
-        }
     }
 }

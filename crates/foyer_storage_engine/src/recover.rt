@@ -1,6 +1,6 @@
 //! The workers of a recovery: each has a thread and a disk of its own, and lists some of the blocks.
 ghost use Rattle.foyer_block_recover.specs.Sources.{listing_in};
-ghost use Rattle.std.specs.Prelude.{◌≡◌, ◌<◌, ℕ, IsSome, slice_get};
+ghost use Rattle.std.specs.Prelude.{◌≡◌, ◌<◌, ◌≤◌, ℕ, IsSome, slice_get, vec_len};
 
 use foyer_block_recover::block::listing::{BlockListing, Listings};
 use foyer_core_steps::open::{RecoverMode, runner_of};
@@ -11,68 +11,90 @@ use std::sync::Wait;
 use std::thread;
 use std::thread::{JoinHandle, Threads};
 
-// What one worker of so many lists.
-fn list_share<D: Disk + Drop>(
-    alloc: Global,
-    settings: Settings,
-    mode: RecoverMode,
-    disk: D,
-    worker: u32,
-    workers: u32,
-) -> Vec<BlockListing<Global, D>> {
-    let mut disk = disk;
-    let mut listings = Vec::new(alloc);
-    let runner = match runner_of(&settings, mode) {
-        Ok(runner) if workers > 0 => runner,
-        _ => return listings,
-    };
-    // Where memory is refused, what was listed before is of use all the same.
-    let _ = runner.list(&alloc, &mut disk, worker, workers, &mut listings);
-    listings
+/// What a thread of a recovery does; `T` is what it gives back.
+pub trait Recoverer<T: Drop>: Drop {
+    /// Reads its blocks, and gives what they list.
+    fn list(self) -> T;
 }
 
-// Takes in what came, in this order.
-fn add_all<D: Disk>(listings: &mut Listings<Global, D>, more: Vec<BlockListing<Global, D>>)
+/// What an engine that recovers nothing has in their place.
+#[derive(Clone, Copy, Debug, PartialEq, Eq)]
+pub struct NoRecoverer;
+
+impl Recoverer<NoRecoverer> for NoRecoverer {
+    fn list(self) -> NoRecoverer {
+        self
+    }
+}
+
+/// A worker of a recovery, with a disk of its own: it lists the blocks whose id modulo the number of workers is its own.
+#[derive(Drop)]
+pub struct DiskRecoverer<D: Disk + Drop> {
+    /// What the core will be opened with.
+    pub settings: Settings,
+    /// What an opening does with what it finds.
+    pub mode: RecoverMode,
+    /// The blocks.
+    pub disk: D,
+    /// Its number.
+    pub worker: u32,
+    /// How many workers there are.
+    pub workers: u32,
+}
+
+impl<D: Disk + Drop> DiskRecoverer<D> {
+    /// What its blocks list. Where memory is refused, only what was listed before: whoever opens the core reads the other blocks.
+    pub fn list(self, alloc: Global) -> Vec<BlockListing<Global, D>> {
+        let DiskRecoverer {
+            settings,
+            mode,
+            mut disk,
+            worker,
+            workers,
+        } = self;
+        let mut listings = Vec::new(alloc);
+        let runner = match runner_of(&settings, mode) {
+            Ok(runner) if workers > 0 => runner,
+            _ => return listings,
+        };
+        let _ = runner.list(&alloc, &mut disk, worker, workers, &mut listings);
+        listings
+    }
+}
+
+/// Takes in what a worker listed: of each block the listing that is there first stays.
+pub fn add_all<D: Disk>(listings: &mut Listings<Global, D>, more: Vec<BlockListing<Global, D>>)
     ensures stay { (b : ℕ) → IsSome (listing_in (slice_get listings.old.slots.items b))
         → slice_get listings.new.slots.items b ≡ slice_get listings.old.slots.items b }
+    ensures room { vec_len listings.new.slots ≡ vec_len listings.old.slots }
 {
     'each_listing: for listing in more {
         let _ = listings.add(listing);
     }
 }
 
-/// Has a thread for each disk list the blocks whose id modulo the number of disks is its own, joins them, and adds what they
-/// listed. A block of a thread that can't be started or is refused memory has no listing: `Core::open_with` reads it by itself.
-pub fn list_blocks<R, D>(
-    rt: R,
-    alloc: Global,
-    settings: Settings,
-    mode: RecoverMode,
-    disks: Vec<D>,
-    listings: &mut Listings<Global, D>,
-)
+/// Has a thread for each of them list its blocks, joins the threads, and gives what they listed, in the order of those that
+/// could be started. What one of the others would have listed, whoever opens the core reads by itself.
+pub fn list_blocks<R, W, T>(rt: R, alloc: Global, recoverers: Vec<W>) -> Vec<T>
 where
     R: Threads + Wait + Copy + Send + 'static,
-    D: Disk + Drop + Send + 'static,
-    ensures stay { (b : ℕ) → IsSome (listing_in (slice_get listings.old.slots.items b))
-        → slice_get listings.new.slots.items b ≡ slice_get listings.old.slots.items b }
+    W: Recoverer<T> + Send + 'static,
+    T: Drop + Send + 'static,
+    ensures few { vec_len result ≤ vec_len recoverers }
 {
-    let Ok(workers) = u32::try_from(disks.len()) else {
-        return;
-    };
-    let mut running: Vec<JoinHandle<Vec<BlockListing<Global, D>>>> = Vec::new(alloc);
-    if running.reserve(disks.len()).is_err() {
-        return;
+    let mut listed = Vec::new(alloc);
+    let mut running: Vec<JoinHandle<T>> = Vec::new(alloc);
+    if running.reserve(recoverers.len()).is_err() {
+        return listed;
     }
-    let mut worker = 0u32;
-    for disk in disks {
-        let job = move || list_share(alloc, settings, mode, disk, worker, workers);
+    'each_recoverer: for recoverer in recoverers {
+        let job = move || recoverer.list();
         if let Ok(thread) = thread::spawn(&rt, job) {
             let _ = running.push(thread);
         }
-        worker = worker.wrapping_add(1);
     }
     'each_thread: for thread in running {
-        add_all(listings, thread.join(&rt));
+        let _ = listed.push(thread.join(&rt));
     }
+    listed
 }

@@ -56,10 +56,10 @@ planned_valid s blocks planned enough is sizes = subst AreValid (sym is.sizes) (
   few_workers = sizes.few_workers;
 })
 
-pub valid_sizes : (s : EngineSizes) (blocks : ℕ) (planned : Settings) → 0 < s.recover_concurrency → ArePlanned s blocks planned
-    → AreValid planned → AreSizes s
+pub valid_sizes : (s : EngineSizes) (blocks : ℕ) (planned : Settings) → 0 < s.recover_concurrency → 0 < s.load_engines
+    → ArePlanned s blocks planned → AreValid planned → AreSizes s
 unfolding page_up
-valid_sizes s blocks planned some is valid =
+valid_sizes s blocks planned some load is valid =
     let v = subst AreValid is.sizes valid in
     record {
       some_block = omega (arith, v.room);
@@ -72,6 +72,7 @@ valid_sizes s blocks planned some is valid =
       few_workers = v.few_workers;
       some_shard = given_shard s.indexer_shards _ _ _ is.shards v.some_shard;
       some_recoverer = some;
+      some_load_engine = load;
     }
 
 -- a power of two below another is at most its half

@@ -45,6 +45,7 @@ pub record AreSizes (s : EngineSizes) : Type 0 where
   pub few_workers : s.flushers + s.reclaimers < 2 ^ 32
   pub some_shard : IfSome s.indexer_shards (λ given. 0 < given)
   pub some_recoverer : 0 < s.recover_concurrency
+  pub some_load_engine : 0 < s.load_engines
 
 -- The device has room for the log, and for as many blocks as there are flushers, but for no more than can be numbered.
 pub record HasRoom (s : EngineSizes) (free log : ℕ) : Type 0 where

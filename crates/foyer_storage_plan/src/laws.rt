@@ -14,7 +14,7 @@ pub fn planned_is_valid()
 /// No sizes are refused with which a core could be opened, and its disk read by some worker.
 pub fn valid_are_sizes()
     ensures { (s : EngineSizes) (blocks : ℕ) (planned : Settings) → 0 < s.recover_concurrency
-        → ArePlanned s blocks planned → AreValid planned → AreSizes s }
+        → 0 < s.load_engines → ArePlanned s blocks planned → AreValid planned → AreSizes s }
 {}
 
 /// Of sizes and a number of blocks there is one plan.

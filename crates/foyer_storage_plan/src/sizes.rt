@@ -16,6 +16,9 @@ pub const DEFAULT_BLOCK_SIZE: usize = 16 * 1024 * 1024;
 /// The workers that read the blocks at an opening where none are given.
 pub const DEFAULT_RECOVER_CONCURRENCY: usize = 8;
 
+/// The I/O engines that loads read through where no number is given.
+pub const DEFAULT_LOAD_ENGINES: usize = 1;
+
 /// The sizes of an engine, as its config gives them: any numbers; `check` refuses those that don't go together.
 #[derive(Clone, Copy, Debug, PartialEq, Eq)]
 pub struct EngineSizes {
@@ -27,6 +30,8 @@ pub struct EngineSizes {
     pub indexer_shards: Option<usize>,
     /// How many workers read the blocks at an opening.
     pub recover_concurrency: usize,
+    /// How many I/O engines loads read through, each behind a lock of its own.
+    pub load_engines: usize,
     /// How many flushers there are.
     pub flushers: u32,
     /// How many reclaims may run at a time.
@@ -49,6 +54,7 @@ impl EngineSizes {
           blob_index_size = 4096;
           indexer_shards = None;
           recover_concurrency = 8;
+          load_engines = 1;
           flushers = 1;
           reclaimers = 1;
           buffer_pool_size = 2 ^ 24;
@@ -62,6 +68,7 @@ impl EngineSizes {
             blob_index_size: DEFAULT_BLOB_INDEX_SIZE,
             indexer_shards: None,
             recover_concurrency: DEFAULT_RECOVER_CONCURRENCY,
+            load_engines: DEFAULT_LOAD_ENGINES,
             flushers: DEFAULT_FLUSHERS,
             reclaimers: DEFAULT_RECLAIMERS,
             buffer_pool_size: DEFAULT_BUFFER_POOL_SIZE,
@@ -98,13 +105,14 @@ impl EngineSizes {
 
     /// `Config` where the sizes don't go together, whatever the device: a block or an index of no bytes, a block of more than
     /// 2^32 bytes, an index that isn't smaller than a block, both in whole pages, no flusher, a share of the pool for each
-    /// flusher of less than a page, no reclaimer, 2^32 flushers and reclaimers together, no shard where a number is given, or
-    /// no worker at an opening.
+    /// flusher of less than a page, no reclaimer, 2^32 flushers and reclaimers together, no shard where a number is given, no
+    /// worker at an opening, or no I/O engine for loads.
     pub fn check(&self) -> Result<()>
         ensures sound { IsOk result ↔ AreSizes self.now }
         ensures refused { IsOkUnless result Error.Config }
     {
         if self.recover_concurrency == 0
+            || self.load_engines == 0
             || self.block_size > MAX_BLOCK_SIZE
             || self.blob_index_size > MAX_BLOCK_SIZE
         {

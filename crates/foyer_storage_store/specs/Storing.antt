@@ -76,6 +76,7 @@ default_sizes = record {
   blob_index_size = 4096;
   indexer_shards = None;
   recover_concurrency = 8;
+  load_engines = 1;
   flushers = 1;
   reclaimers = 1;
   buffer_pool_size = 2 ^ 24;

@@ -5,7 +5,7 @@ ghost use Rattle.foyer_block_recover.specs.declared.block.recover.RecoverMode.Th
 ghost use Rattle.foyer_device_page.specs.declared.error.Error.TheVariants.{Config, Unsupported};
 ghost use Rattle.foyer_format_record.specs.declared.compress.Compression.TheVariants as compression;
 
-use crate::config::{Built, EngineBuildContext, EngineConfig, NoopEngineConfig};
+use crate::config::{Built, EngineBuildContext, EngineConfig, NoopEngineConfig, Recovering};
 use crate::session::StoreSession;
 use crate::store::Store;
 use crate::whole::WholeSession;
@@ -16,6 +16,7 @@ use foyer_io_engine::io::engine::PsyncIoEngineConfig;
 use foyer_policy_keeper::keeper::Keeper;
 use foyer_storage_engine::core_steps::open::RecoverMode;
 use foyer_storage_engine::hand::Hand;
+use foyer_storage_engine::recover::{Recoverer, list_blocks};
 use foyer_storage_engine::workers::{Clock, Worker, Workers};
 use std::alloc::Global;
 use std::sync::{Arc, Wait};
@@ -137,9 +138,9 @@ impl<H: Drop, N: Drop, I: Drop> StoreBuilder<H, N, I> {
         self.engine.is_noop()
     }
 
-    /// The store, a session with all parts that its workers don't have, and the workers, which run. `Config` without a shard;
-    /// `Unsupported` with a compression; else as the engine's config refuses, or Memory, where a thread can't be started: then
-    /// those that were are joined.
+    /// The store, a session with all parts that its workers don't have, and the workers, which run. The threads of the recovery
+    /// end before. `Config` without a shard; `Unsupported` with a compression; else as the engine's config refuses, or Memory,
+    /// where a worker's thread can't be started: then those that were are joined.
     pub fn build<
         R: Threads + Wait + Copy + Send + 'static,
         T: Clock,
@@ -159,6 +160,8 @@ impl<H: Drop, N: Drop, I: Drop> StoreBuilder<H, N, I> {
         N: EngineConfig<R, EngineBuildContext<I, T>, WholeSession<L>, K, V, P>,
         N::Flusher: Worker<Hand<L>> + Send + 'static,
         N::Reclaimer: Worker<Hand<L>> + Send + 'static,
+        N::Recoverer: Recoverer<N::Listed> + Send + 'static,
+        N::Listed: Send + 'static,
         requires { N.fits blanks }
         ensures parts { IfOk result (λ r. r.1.steps.shares.parts + vec_len r.2.flushers + vec_len r.2.reclaimers ≡ 2 ^ 32) }
         ensures more { IfOk result (λ r. 1 < r.1.steps.shares.parts) }
@@ -196,7 +199,14 @@ impl<H: Drop, N: Drop, I: Drop> StoreBuilder<H, N, I> {
             clock,
             generator,
         };
-        let built = engine.build(rt, alloc, blanks, &keeper, context)?;
+        let Recovering {
+            mut opening,
+            recoverers,
+        } = engine.begin(rt, alloc, context)?;
+        'each_worker: for listed in list_blocks(rt, alloc, recoverers) {
+            opening = N::add(opening, listed);
+        }
+        let built = N::build(opening, rt, alloc, blanks, &keeper)?;
         let Built {
             engine,
             session,

@@ -8,6 +8,7 @@ mod dividing;
 mod making;
 mod noop;
 mod pickers;
+mod recoverers;
 
 pub use self::block::BlockEngineConfig;
 pub use self::device_engine::{
@@ -15,6 +16,7 @@ pub use self::device_engine::{
 };
 pub use self::noop::{NoopEngine, NoopEngineConfig};
 pub use self::pickers::{DefaultPickers, GivenPickers, PickerSource};
+pub use self::recoverers::{BlockListings, BlockRecoverer, RecoveredBlocks};
 use foyer_core_tally::book::Blanks;
 use foyer_device_page::error::Result;
 use foyer_device_statistics::{IoState, Statistics};
@@ -71,6 +73,15 @@ pub struct Built<N: Drop, F: Drop, W: Drop, S: Drop> {
     pub statistics: Arc<Statistics<Global>, Global>,
     /// The limits of its device.
     pub throttle: Throttle,
+}
+
+/// An opening that has begun, and the workers of its recovery.
+#[derive(Drop)]
+pub struct Recovering<O: Drop, W: Drop> {
+    /// What is left of the config and of what the engine is built with.
+    pub opening: O,
+    /// The workers. Whoever builds the engine reads the blocks of those that are missing.
+    pub recoverers: Vec<W>,
 }
 
 /// The calls of an engine, which threads share by reference, each with a session of this type.
@@ -183,6 +194,18 @@ pub trait EngineConfig<R: Copy, X: Drop, S: Drop, K: Eq, V, P>: Sized + Drop {
     /// A reclaimer's.
     type Reclaimer: Drop;
 
+    /// What is left of a config and of what it is built with, once its device is divided.
+    type Opening: Drop;
+
+    /// A worker of the recovery.
+    type Recoverer: Drop;
+
+    /// What one listed.
+    type Listed: Drop;
+
+    // Which opening it begins, of what it is built with.
+    ghost may_begin: { Self → X → Self.Opening → Type 0 };
+
     // What it may build, with these limits of its device, of what it is built with.
     ghost may_build: { Self → X → Self.Engine → Throttle → Type 0 };
 
@@ -190,17 +213,30 @@ pub trait EngineConfig<R: Copy, X: Drop, S: Drop, K: Eq, V, P>: Sized + Drop {
     fn is_noop(&self) -> bool
         ensures { result ≡ keeps_nothing self.now };
 
-    /// The engine, whose workers aren't started: a trait's method can't start threads whose types are parameters. Refused as the
-    /// engine's own config says.
-    fn build(
+    /// Divides the device, and gives the workers of its recovery, which aren't started: a trait's method can't start threads whose
+    /// types are parameters. None where one thread is enough. Refused as the engine's own config says.
+    fn begin(
         self,
+        rt: R,
+        alloc: Global,
+        context: X,
+    ) -> Result<Recovering<Self::Opening, Self::Recoverer>>
+        ensures begun { IfOk result (λ r. may_begin self context r.opening) };
+
+    /// The opening with what a worker of its recovery listed: of each block the listing that is there first stays.
+    fn add(opening: Self::Opening, listed: Self::Listed) -> Self::Opening
+        ensures kept { (config : Self) (context : X) → may_begin config context opening → may_begin config context result };
+
+    /// The engine of an opening, whose workers aren't started either. Blocks that no worker listed it reads by itself.
+    fn build(
+        opening: Self::Opening,
         rt: R,
         alloc: Global,
         blanks: Blanks,
         keeper: &Arc<Keeper<K, V, P, Global>, Global>,
-        context: X,
     ) -> Result<Built<Self::Engine, Self::Flusher, Self::Reclaimer, S>>
         requires { fits blanks }
         ensures parts { IfOk result (λ b. vec_len b.flushers + vec_len b.reclaimers + 1 < 2 ^ 32) }
-        ensures built { IfOk result (λ b. may_build self context b.engine b.throttle) };
+        ensures built { (config : Self) (context : X) → may_begin config context opening
+            → IfOk result (λ b. may_build config context b.engine b.throttle) };
 }

@@ -11,6 +11,8 @@ use foyer_storage_engine::core_shared::session::Session;
 #[derive(Drop)]
 pub struct StoreSession<L: Kinds> {
     pub(crate) steps: Session<L>,
+    // The number of the disk that its loads read from, from the first one on.
+    pub(crate) disk: Option<usize>,
     ghost some_part: { 0 < steps.shares.parts },
 }
 
@@ -20,14 +22,14 @@ impl<L: Kinds> StoreSession<L> {
         requires { 0 < steps.shares.parts }
         ensures { result.steps ≡ steps }
     {
-        StoreSession { steps }
+        StoreSession { steps, disk: None }
     }
 
     /// The session itself, as `Workers::join` takes it.
     pub fn into_steps(self) -> Session<L>
         ensures { result ≡ self.steps }
     {
-        let StoreSession { steps } = self;
+        let StoreSession { steps, .. } = self;
         steps
     }
 
@@ -63,6 +65,7 @@ impl<L: Kinds> StoreSession<L> {
     {
         StoreSession {
             steps: self.steps.split(parts),
+            disk: None,
         }
     }
 

@@ -100,6 +100,18 @@ impl<D: Device, S: PickerSource, C: StorageFilterCondition, G: Gate> BlockEngine
         self.with_sizes(sizes)
     }
 
+    /// How many I/O engines loads read through, each behind a lock of its own: a session keeps to one. Default:
+    /// `DEFAULT_LOAD_ENGINES`.
+    pub fn with_load_engines(self, load_engines: usize) -> BlockEngineConfig<D, S, C, G>
+        ensures { result ≡ record self { sizes = record self.sizes { load_engines = load_engines } } }
+    {
+        let sizes = EngineSizes {
+            load_engines,
+            ..self.sizes
+        };
+        self.with_sizes(sizes)
+    }
+
     /// How many flushers there are. Default: `DEFAULT_FLUSHERS`.
     pub fn with_flushers(self, flushers: u32) -> BlockEngineConfig<D, S, C, G>
         ensures { result ≡ record self { sizes = record self.sizes { flushers = flushers } } }

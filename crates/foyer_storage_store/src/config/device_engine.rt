@@ -24,6 +24,7 @@ use foyer_storage_engine::hand::Hand;
 use foyer_storage_engine::load::Load;
 use foyer_storage_engine::workers::{Clock, FlusherWorker, ReclaimerWorker, Worker};
 use std::alloc::Global;
+use std::sync::atomic::{AtomicUsize, Ordering};
 use std::sync::{Arc, Mutex, Wait};
 
 /// The blocks of a device, whose reads and writes are recorded.
@@ -161,6 +162,8 @@ where
     G: Gate,
 {
     pub(super) engine: Arc<DeviceEngine<L, K, V, P, E, C, N, Q, G>, Global>,
+    // The number of the next session that loads.
+    pub(super) callers: AtomicUsize,
     pub(super) admission: Option<StorageFilter<C, Global>>,
     pub(super) recorder: Mutex<Recorder<Global>>,
     pub(super) throttle: Throttle,
@@ -188,6 +191,14 @@ where
             return false;
         }
         self.recorder.lock(rt).is_read_throttled(rt, now)
+    }
+
+    // The number of the disk that a session reads from, which keeps to this one: the next number at its first load.
+    fn disk_of(&self, kept: Option<usize>) -> usize {
+        match kept {
+            Some(disk) => disk,
+            None => self.callers.fetch_add(1, Ordering::Relaxed),
+        }
     }
 }
 
@@ -265,7 +276,10 @@ where
         now: u64,
     ) -> Result<Load<K, V, P, Global>> {
         let throttled = self.is_read_throttled(rt, now);
-        self.engine.load(rt, &mut session.steps, hash, throttled)
+        let disk = self.disk_of(session.disk);
+        session.disk = Some(disk);
+        self.engine
+            .load_by(rt, &mut session.steps, hash, throttled, disk)
     }
 
     fn delete(&self, rt: &impl Wait, session: &mut StoreSession<L>, hash: u64) -> Result<()> {

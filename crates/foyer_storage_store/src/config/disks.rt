@@ -1,9 +1,10 @@
 //! The disks over a device's blocks, and what is opened and made with each.
 ghost use Rattle.std.specs.Arc.{arc_value};
-ghost use Rattle.std.specs.Prelude.{◌≡◌, ◌+◌, ◌*◌, ◌<◌, ◌^◌, IfOk, OnOk, vec_len};
+ghost use Rattle.std.specs.Prelude.{◌≡◌, ◌+◌, ◌*◌, ◌<◌, ◌≤◌, ◌^◌, IfOk, OnOk, vec_len};
 ghost use Rattle.foyer_core_tally.specs.Ledgers.{AreOf};
 
 use super::device_engine::{BlockFlusher, BlockReclaimer, DeviceBlocks, DeviceEngine, DeviceLog};
+use super::recoverers::{BlockRecoverer, RecoveredBlocks};
 use crate::whole::WholeSession;
 use foyer_block_index::tombstone::Tombstone;
 use foyer_block_manager::block::eviction::EvictionPicker;
@@ -28,6 +29,7 @@ use foyer_storage_engine::core_steps::apply::Env;
 use foyer_storage_engine::core_steps::open::RecoverMode;
 use foyer_storage_engine::core_steps::settings::Settings;
 use foyer_storage_engine::engine::BlockEngine;
+use foyer_storage_engine::recover::DiskRecoverer;
 use foyer_storage_engine::workers::{
     Clock, FlusherParts, FlusherWorker, ReclaimerParts, ReclaimerWorker,
 };
@@ -57,11 +59,96 @@ impl<R, I: IoEngineConfig<R>, Q: Partition + Copy> Disks<'_, R, I, Q> {
     ) -> Result<DeviceBlocks<I::Engine, Q>>
         requires { 1 < recorder.old.view.parts }
         ensures seats { OnOk result (recorder.new.view.parts + 1 ≡ recorder.old.view.parts) }
+        ensures left { recorder.old.view.parts ≤ recorder.new.view.parts + 1 }
         ensures blocks { IfOk result (λ d. d.blocks.items ≡ self.now.blocks.now) }
     {
         let engine = MonitoredIoEngine::new(self.engine()?, recorder.split(1)?);
         let blocks = Vec::from_slice(alloc, self.blocks)?;
         Ok(PartitionedDisk::new(engine, blocks))
+    }
+
+    // So many disks.
+    fn disks(
+        &self,
+        alloc: Global,
+        recorder: &mut Recorder<Global>,
+        count: u32,
+    ) -> Result<Vec<DeviceBlocks<I::Engine, Q>>>
+    where
+        Q: Drop,
+        requires { count < recorder.old.view.parts }
+        ensures count { IfOk result (λ disks. vec_len disks ≡ count) }
+        ensures seats { OnOk result (recorder.new.view.parts + count ≡ recorder.old.view.parts) }
+    {
+        let mut disks = Vec::with_capacity(alloc, count as usize)?;
+        for made in 0..count {
+            disks.push(self.disk(alloc, recorder)?)?;
+        }
+        Ok(disks)
+    }
+
+    // A worker of a recovery, by this number of so many.
+    fn recoverer<G: Gate>(
+        &self,
+        alloc: Global,
+        recorder: &mut Recorder<Global>,
+        settings: Settings,
+        mode: RecoverMode,
+        gate: &Arc<G, Global>,
+        worker: u32,
+        workers: u32,
+    ) -> Result<BlockRecoverer<I::Engine, Q, G>>
+    where
+        Q: Drop,
+        requires { 1 < recorder.old.view.parts }
+        ensures left { recorder.old.view.parts ≤ recorder.new.view.parts + 1 }
+        ensures number { IfOk result (λ r. (r.recoverer.worker ≡ worker) × (r.recoverer.workers ≡ workers)) }
+        ensures opens { IfOk result (λ r. (r.recoverer.settings ≡ settings) × (r.recoverer.mode ≡ mode)) }
+        ensures blocks { IfOk result (λ r. r.recoverer.disk.disk.blocks.items ≡ self.now.blocks.now) }
+    {
+        let gate = Arc::try_clone(gate)?;
+        let disk = self.disk(alloc, recorder)?;
+        let recoverer = DiskRecoverer {
+            settings,
+            mode,
+            disk: GatedDisk { disk, gate },
+            worker,
+            workers,
+        };
+        Ok(BlockRecoverer { recoverer, alloc })
+    }
+
+    // So many workers of a recovery, or fewer where one can't be made: whoever opens the core reads their blocks. None where nothing
+    // is read, or one thread is enough.
+    pub(super) fn recoverers<G: Gate>(
+        &self,
+        alloc: Global,
+        recorder: &mut Recorder<Global>,
+        settings: Settings,
+        mode: RecoverMode,
+        gate: &Arc<G, Global>,
+        count: u32,
+    ) -> Vec<BlockRecoverer<I::Engine, Q, G>>
+    where
+        Q: Drop,
+        requires { count < recorder.old.view.parts }
+        ensures left { recorder.old.view.parts ≤ recorder.new.view.parts + count }
+        ensures few { vec_len result ≤ count }
+    {
+        let mut recoverers = Vec::new(alloc);
+        if mode == RecoverMode::None || count < 2 {
+            return recoverers;
+        }
+        for worker in 0..count {
+            let made = self.recoverer(alloc, recorder, settings, mode, gate, worker, count);
+            let Ok(recoverer) = made else {
+                return recoverers;
+            };
+            if recoverers.push(recoverer).is_err() {
+                return recoverers;
+            }
+        }
+        recoverers
     }
 
     // The log in its partition, and the marks that it has.
@@ -213,16 +300,19 @@ impl<R, I: IoEngineConfig<R>, Q: Partition + Copy> Disks<'_, R, I, Q> {
         Ok(workers)
     }
 
-    // Opens the core and the engine over it: the log's marks are read first, then the blocks, each of which passes the gate.
+    // Opens the core and the engine over it: the log's marks are read first, then the blocks of which there is no listing, each of
+    // which passes the gate.
     pub(super) fn open<L, K, V, P, E, C, G>(
         &self,
         alloc: Global,
         recorder: &mut Recorder<Global>,
         settings: Settings,
+        loads: u32,
         log: Option<Q>,
         mode: RecoverMode,
+        listings: Listings<Global, RecoveredBlocks<I::Engine, Q, G>>,
         env: Env<E, C>,
-        gate: G,
+        gate: Arc<G, Global>,
         blanks: Blanks,
     ) -> Result<Opened<L, K, V, P, E, C, I::Engine, Q, G>>
     where
@@ -234,16 +324,19 @@ impl<R, I: IoEngineConfig<R>, Q: Partition + Copy> Disks<'_, R, I, Q> {
         C: StorageFilterCondition,
         G: Gate,
         Q: Drop,
-        requires seat { 1 < recorder.old.view.parts }
+        requires seats { loads < recorder.old.view.parts }
+        requires some { 0 < loads }
         requires ledgers { AreOf L.name_of L.all blanks × (L.all ≡ 2 ^ 32) }
-        ensures seats { OnOk result (recorder.new.view.parts + 1 ≡ recorder.old.view.parts) }
+        ensures seats { OnOk result (recorder.new.view.parts + loads ≡ recorder.old.view.parts) }
         ensures settings { IfOk result (λ o. (arc_value o.engine).settings ≡ settings) }
+        ensures loads { IfOk result (λ o. vec_len (arc_value o.engine).others + 1 ≡ loads) }
     {
         let mut marks = Vec::new(alloc);
         let log = self.log(alloc, log, &mut marks)?;
         let reader = self.disk(alloc, recorder)?;
+        let others = self.disks(alloc, recorder, loads - 1)?;
         let (engine, session) = open_engine(
-            alloc, settings, reader, mode, &marks, env, gate, blanks,
+            alloc, settings, reader, others, mode, &marks, listings, env, gate, blanks,
         )?;
         Ok(Opened {
             engine,
@@ -272,15 +365,17 @@ where
     pub(super) log: DeviceLog<N, Q>,
 }
 
-// Opens a core over a disk, and gives the engine that reads from it.
+// Opens a core over a disk, with what workers listed of its blocks, and gives the engine that reads from it and from others.
 fn open_engine<L, K, V, P, E, C, N, Q, G>(
     alloc: Global,
     settings: Settings,
     reader: DeviceBlocks<N, Q>,
+    others: Vec<DeviceBlocks<N, Q>>,
     mode: RecoverMode,
     marks: &[Tombstone],
+    listings: Listings<Global, RecoveredBlocks<N, Q, G>>,
     env: Env<E, C>,
-    gate: G,
+    gate: Arc<G, Global>,
     blanks: Blanks,
 ) -> Result<
     (
@@ -299,25 +394,21 @@ where
     Q: Partition + Copy,
     G: Gate,
     requires { AreOf L.name_of L.all blanks × (L.all ≡ 2 ^ 32) }
-    ensures { IfOk result (λ r. (arc_value r.0).settings ≡ settings) }
+    ensures settings { IfOk result (λ r. (arc_value r.0).settings ≡ settings) }
+    ensures others { IfOk result (λ r. vec_len (arc_value r.0).others ≡ vec_len others) }
 {
-    let gate = Arc::new(alloc, gate)?;
     let mut gated = GatedDisk {
         disk: reader,
         gate: Arc::try_clone(&gate)?,
     };
     let (locked, session): (Locked<L, K, V, P, Global, E, C, NoNotes>, Session<L>) = Locked::open(
-        alloc,
-        env,
-        settings,
-        &mut gated,
-        mode,
-        marks,
-        Listings::none(alloc),
-        blanks,
+        alloc, env, settings, &mut gated, mode, marks, listings, blanks,
     )?;
     let GatedDisk { disk: reader, .. } = gated;
-    let engine = BlockEngine::new(alloc, Shared::new(locked), settings, reader, gate)?;
+    let mut engine = BlockEngine::new(alloc, Shared::new(locked), settings, reader, gate)?;
+    for other in others {
+        engine = engine.with_load_disk(other)?;
+    }
     let engine = Arc::new(alloc, engine)?;
     Ok((engine, WholeSession::new(session)))
 }

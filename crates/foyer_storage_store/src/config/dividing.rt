@@ -1,6 +1,6 @@
 //! How a device is divided, and gets its counters.
 ghost use Rattle.std.specs.Arc.{arc_value};
-ghost use Rattle.std.specs.Prelude.{◌≡◌, ◌+◌, ◌*◌, ◌<◌, ◌≤◌, ◌^◌, if◌then◌else◌, IfOk, IfSome, OnOk, is_some, length, map, replicate, vec_len};
+ghost use Rattle.std.specs.Prelude.{◌≡◌, ◌+◌, ◌*◌, ◌<◌, ◌≤◌, ◌^◌, if◌then◌else◌, IfOk, IfSome, OnOk, is_some, length, map, min, replicate, vec_len};
 ghost use Rattle.foyer_block_tombstone.specs.Pages.{log_pages};
 ghost use Rattle.foyer_device_partition.specs.Extent.{total_size};
 ghost use Rattle.foyer_storage_plan.specs.Plans.{settings_of};
@@ -77,6 +77,19 @@ pub(super) struct Divided<D: Device> {
     pub(super) log: Option<D::Partition>,
     pub(super) blocks: Vec<D::Partition>,
     pub(super) settings: Settings,
+    // How many workers recover the blocks, and through how many I/O engines loads read.
+    pub(super) recoverers: u32,
+    pub(super) loads: u32,
+}
+
+// How many workers recover so many blocks: one a block at most.
+fn recoverers_of(sizes: &EngineSizes, blocks: u32) -> u32
+    ensures { result ≡ min sizes.now.recover_concurrency blocks }
+{
+    match u32::try_from(sizes.recover_concurrency) {
+        Ok(workers) => workers.min(blocks),
+        Err(_) => blocks,
+    }
 }
 
 // What a core that has so many blocks is opened with.
@@ -91,15 +104,21 @@ fn settings_of(planned: Settings, blocks: usize) -> Result<Settings>
     Ok(settings)
 }
 
-// Each worker has a seat at the counters, a reclaimer two, the loads one, and all callers one.
-fn check_seats(settings: &Settings) -> Result<()>
-    ensures { OnOk result (settings.now.flushers + 2 * settings.now.reclaimers + 2 < 2 ^ 32) }
+// Each worker has a seat at the counters, a reclaimer two, each I/O engine for loads one, and all callers one. How many I/O engines
+// for loads there are.
+fn check_seats(settings: &Settings, recoverers: u32, load_engines: usize) -> Result<u32>
+    ensures loads { IfOk result (λ loads. loads ≡ load_engines) }
+    ensures seats { IfOk result (λ loads. settings.now.flushers + 2 * settings.now.reclaimers + recoverers + loads + 1 < 2 ^ 32) }
 {
-    let seats = settings.flushers as u64 + 2 * (settings.reclaimers as u64) + 2;
+    let Ok(loads) = u32::try_from(load_engines) else {
+        return Err(Error::Config);
+    };
+    let workers = settings.flushers as u64 + 2 * (settings.reclaimers as u64) + recoverers as u64;
+    let seats = workers + loads as u64 + 1;
     if seats > u32::MAX as u64 {
         return Err(Error::Config);
     }
-    Ok(())
+    Ok(loads)
 }
 
 // Divides a device: the log comes before the blocks.
@@ -109,7 +128,9 @@ pub(super) fn divide<D: Device, R: Files>(
     mut device: D,
     sizes: &EngineSizes,
 ) -> Result<Divided<D>>
-    ensures seats { IfOk result (λ d. d.settings.flushers + 2 * d.settings.reclaimers + 2 < 2 ^ 32) }
+    ensures seats { IfOk result (λ d. d.settings.flushers + 2 * d.settings.reclaimers + d.recoverers + d.loads + 1 < 2 ^ 32) }
+    ensures recoverers { IfOk result (λ d. d.recoverers ≡ min sizes.now.recover_concurrency d.settings.blocks) }
+    ensures loads { IfOk result (λ d. (d.loads ≡ sizes.now.load_engines) × (0 < d.loads)) }
     ensures sizes { IfOk result (λ d. d.settings ≡ settings_of sizes.now d.settings.blocks d.settings.indexer_shards) }
     ensures blocks { IfOk result (λ d. (d.settings.blocks ≡ vec_len d.blocks)
         × (map D.Partition.bytes d.blocks.items ≡ replicate (vec_len d.blocks) d.settings.block_size)) }
@@ -119,15 +140,19 @@ pub(super) fn divide<D: Device, R: Files>(
     sizes.check()?;
     let log_size = log_size(device.capacity(), sizes.tombstone_log)?;
     let planned = sizes.plan(device.free(), log_size)?;
-    check_seats(&planned)?;
+    let most = recoverers_of(sizes, planned.blocks);
+    let loads = check_seats(&planned, most, sizes.load_engines)?;
     let log = make_log(rt, &mut device, sizes.tombstone_log, log_size)?;
     let blocks = make_blocks(rt, alloc, &mut device, &planned)?;
     let settings = settings_of(planned, blocks.len())?;
+    let recoverers = recoverers_of(sizes, settings.blocks);
     Ok(Divided {
         device,
         log,
         blocks,
         settings,
+        recoverers,
+        loads,
     })
 }
 
@@ -153,6 +178,8 @@ pub(super) struct Counted<Q: Drop> {
     pub(super) log: Option<Q>,
     pub(super) blocks: Vec<Q>,
     pub(super) settings: Settings,
+    pub(super) recoverers: u32,
+    pub(super) loads: u32,
     pub(super) summary: DeviceSummary,
     pub(super) throttle: Throttle,
     pub(super) paths: Vec<String>,
@@ -168,7 +195,7 @@ pub(super) fn count<D: Device>(
 ) -> Result<Counted<D::Partition>>
 where
     D::Partition: Drop,
-    ensures settings { IfOk result (λ c. c.settings ≡ divided.settings) }
+    ensures settings { IfOk result (λ c. (c.settings ≡ divided.settings) × (c.recoverers ≡ divided.recoverers) × (c.loads ≡ divided.loads)) }
     ensures limits { IfOk result (λ c. (c.throttle ≡ D.limits divided.device) × (c.recorder.limits ≡ D.limits divided.device)) }
     ensures summary { IfOk result (λ c. (c.summary.capacity ≡ D.room divided.device) × (c.summary.allocated ≡ total_size (D.sizes divided.device))
         × (c.summary.partitions ≡ length (D.sizes divided.device))) }
@@ -184,6 +211,8 @@ where
         log,
         blocks,
         settings,
+        recoverers,
+        loads,
     } = divided;
     let summary = DeviceSummary {
         capacity: device.capacity(),
@@ -194,6 +223,8 @@ where
         log,
         blocks,
         settings,
+        recoverers,
+        loads,
         summary,
         throttle,
         paths,

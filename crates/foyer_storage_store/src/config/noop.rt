@@ -2,7 +2,7 @@
 ghost use Rattle.std.specs.Prelude.{◌≡◌, ◌+◌, ◌<◌, ◌^◌, IfOk, vec_len};
 ghost use Rattle.foyer_core_tally.specs.Ledgers.{AreOf};
 
-use super::{Built, DeviceSummary, Engine, EngineBuildContext, EngineConfig};
+use super::{Built, DeviceSummary, Engine, EngineBuildContext, EngineConfig, Recovering};
 use crate::session::StoreSession;
 use crate::whole::WholeSession;
 use foyer_core_tally::book::{Blanks, Books, Kinds};
@@ -17,6 +17,7 @@ use foyer_storage_engine::core_steps::apply::no_io;
 use foyer_storage_engine::engine::Enqueued;
 use foyer_storage_engine::engine::signals::Signals;
 use foyer_storage_engine::load::Load;
+use foyer_storage_engine::recover::NoRecoverer;
 use foyer_storage_engine::workers::{Clock, NoWorker};
 use std::alloc::{AllocError, Allocator, Global};
 use std::sync::{Arc, Mutex, Wait};
@@ -33,6 +34,12 @@ impl NoopEngineConfig {
     ) -> std::result::Result<Box<NoopEngineConfig, A>, AllocError> {
         Ok(Box::new(alloc, self)?)
     }
+}
+
+/// The moment from which such an engine's counters count, in nanoseconds.
+#[derive(Clone, Copy, Debug, PartialEq, Eq)]
+pub struct NoopOpening {
+    now: u64,
 }
 
 /// An engine that keeps nothing: it queues and finds nothing, and all else is Ok.
@@ -139,6 +146,8 @@ impl<R: Copy, I: Drop, T: Clock, L: Kinds, K: Eq + Drop, V: Drop, P: Drop> Engin
 > for NoopEngineConfig {
     ghost use Rattle.std.specs.Prelude.{◌≡◌, ◌^◌, true, None};
     ghost use Rattle.foyer_core_tally.specs.Ledgers.{AreOf};
+    ghost use Rattle.foyer_storage_store.specs.declared.config.EngineBuildContext.{EngineBuildContext};
+    ghost use Rattle.foyer_storage_store.specs.declared.config.noop.NoopEngineConfig.{NoopEngineConfig};
 
     ghost fits = { λ blanks. AreOf L.name_of L.all blanks × (L.all ≡ 2 ^ 32) };
 
@@ -150,26 +159,54 @@ impl<R: Copy, I: Drop, T: Clock, L: Kinds, K: Eq + Drop, V: Drop, P: Drop> Engin
 
     type Reclaimer = NoWorker;
 
+    type Opening = NoopOpening;
+
+    type Recoverer = NoRecoverer;
+
+    type Listed = NoRecoverer;
+
+    ghost may_begin = { λ _ _ _. Unit {0} };
+
     ghost may_build = { λ _ _ _ _. Unit {0} };
 
     fn is_noop(&self) -> bool {
         true
     }
 
-    fn build(
+    fn begin(
         self,
+        _rt: R,
+        alloc: Global,
+        context: EngineBuildContext<I, T>,
+    ) -> Result<Recovering<NoopOpening, NoRecoverer>>
+        ensures begun { IfOk result (λ _. Unit {0}) }
+    {
+        let now = context.clock.now();
+        Ok(Recovering {
+            opening: NoopOpening { now },
+            recoverers: Vec::new(alloc),
+        })
+    }
+
+    fn add(opening: NoopOpening, _listed: NoRecoverer) -> NoopOpening
+        ensures kept { (config : NoopEngineConfig) (context : EngineBuildContext I T) → Unit {0} → Unit {0} }
+    {
+        opening
+    }
+
+    fn build(
+        opening: NoopOpening,
         _rt: R,
         alloc: Global,
         blanks: Blanks,
         _keeper: &Arc<Keeper<K, V, P, Global>, Global>,
-        context: EngineBuildContext<I, T>,
     ) -> Result<Built<NoopEngine<L>, NoWorker, NoWorker, WholeSession<L>>>
         requires { AreOf L.name_of L.all blanks × (L.all ≡ 2 ^ 32) }
         ensures parts { IfOk result (λ b. vec_len b.flushers + vec_len b.reclaimers + 1 < 2 ^ 32) }
-        ensures built { IfOk result (λ _. Unit {0}) }
+        ensures built { (config : NoopEngineConfig) (context : EngineBuildContext I T) → Unit {0} → IfOk result (λ _. Unit {0}) }
     {
         let throttle = Throttle::new();
-        let (statistics, _) = Statistics::new(alloc, throttle, context.clock.now())?;
+        let (statistics, _) = Statistics::new(alloc, throttle, opening.now)?;
         let statistics = Arc::new(alloc, statistics)?;
         let signals = Arc::new(alloc, Signals::new(alloc))?;
         let (books, session) = Session::first(blanks);

@@ -24,6 +24,7 @@ fn set(planned: &mut Planned, word: &str, number: usize) {
         "index" => planned.sizes.blob_index_size = number,
         "shards" => planned.sizes.indexer_shards = Some(number),
         "recover" => planned.sizes.recover_concurrency = number,
+        "loads" => planned.sizes.load_engines = number,
         "flushers" => planned.sizes.flushers = workers(number),
         "reclaimers" => planned.sizes.reclaimers = workers(number),
         "pool" => planned.sizes.buffer_pool_size = number,
@@ -106,6 +107,7 @@ no flusher: block=8192 flushers=0 free=65536: config
 no shard: block=8192 shards=0 free=65536: config
 no reclaimer: block=8192 reclaimers=0 free=65536: config
 no worker at an opening: block=8192 recover=0 free=65536: config
+no I/O engine for loads: block=8192 loads=0 free=65536: config
 the most workers: block=8192 flushers=4294967294 pool=17592186036224 free=35184372088831: 4294967295 blocks of 8192, index 4096, shards 16777216, share 4096
 one worker too many: block=8192 flushers=4294967294 reclaimers=2 pool=17592186036224 free=35184372088831: config
 a block for each flusher: block=8192 flushers=8 free=65536: 8 blocks of 8192, index 4096, shards 64, share 2097152

@@ -20,6 +20,7 @@ use foyer_program::store::config::{
     BlockEngineConfig, DefaultPickers, Engine, EngineBuildContext, EngineConfig,
 };
 use foyer_program::store::engine::hand::Hand;
+use foyer_program::store::engine::recover::Recoverer;
 use foyer_program::store::engine::workers::{Moment, Worker, Workers};
 use foyer_program::store::session::StoreSession;
 use foyer_program::store::whole::WholeSession;
@@ -131,6 +132,8 @@ where
     M::Engine: Engine<StoreSession<L>, u128, String, NoProperties> + Send + Sync,
     M::Flusher: Worker<Hand<L>> + Send + 'static,
     M::Reclaimer: Worker<Hand<L>> + Send + 'static,
+    M::Recoverer: Recoverer<M::Listed> + Send + 'static,
+    M::Listed: Send + 'static,
     I: Drop,
     requires { M.fits blanks }
 {
@@ -167,6 +170,7 @@ fn blocks_of<R: Files>(rt: &R, alloc: Global, over: Over, gate: &HoldingGate) ->
         BlockEngineConfig::new(device)
             .with_block_size(over.block_size())
             .with_flushers(over.flushers)
+            .with_load_engines(over.loads)
             .with_clean_block_threshold(over.clean)
             .with_submit_queue_size_threshold(over.queue)
             .with_tombstone_log(over.has_log)

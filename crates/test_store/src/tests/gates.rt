@@ -26,7 +26,8 @@ struct Flags {
     has_given_up: AtomicBool,
 }
 
-/// Holds a thread at a point until the gate is open, at most a million turns. What is shared is the same gate.
+/// Holds a thread at a point until the gate is open, at most a million turns. A gate that holds whoever recovers block 0 is
+/// opened by whoever recovers block 1. What is shared is the same gate.
 #[derive(Drop)]
 pub(crate) struct HoldingGate {
     point: Option<Point>,
@@ -78,6 +79,9 @@ impl HoldingGate {
 
 impl Gate for HoldingGate {
     fn pass(&self, point: Point) {
+        if self.point == Some(Point::RecoverRead(0)) && point == Point::RecoverRead(1) {
+            self.open();
+        }
         if self.point == Some(point) {
             self.flags.is_reached.store(true, Ordering::SeqCst);
             if !is_raised(&self.flags.is_open) {

@@ -15,6 +15,8 @@ pub(crate) struct Over {
     /// The clean blocks below which a reclaim may begin.
     pub(crate) clean: usize,
     pub(crate) flushers: u32,
+    /// The I/O engines that loads read through.
+    pub(crate) loads: usize,
     /// The shards of its keeper.
     pub(crate) shards: usize,
     /// The queued bytes above which pieces aren't taken.
@@ -39,6 +41,7 @@ pub(crate) const USUAL: Over = Over {
     pages: 4,
     clean: 1,
     flushers: 1,
+    loads: 1,
     shards: 4,
     queue: 16_777_216,
     has_log: false,
@@ -72,6 +75,7 @@ fn point_of(word: &str) -> Option<Point> {
         "flush" => Some(Point::FlushWrite),
         "load" => Some(Point::LoadRead),
         "reclaim" => Some(Point::Reclaim),
+        "recover" => Some(Point::RecoverRead(0)),
         _ => None,
     }
 }
@@ -107,6 +111,10 @@ fn with(over: Over, word: &str, how: &str) -> Over {
         },
         "flushers" => Over {
             flushers: count,
+            ..over
+        },
+        "loads" => Over {
+            loads: bytes,
             ..over
         },
         "shards" => Over {

@@ -30,6 +30,9 @@ a block whose records were deleted is reclaimed before an older one
 blocks 3, pages 8, clean 0 < put 1 x, put 2 x, put 3 x, put 4 x, put 5 x, put 6 x, put 7 x, put 11 x, put 12 x, put 13 x, put 14 x, put 15 x, put 16 x, put 17 x, wait, del 11, del 12, del 13, del 14, del 15, del 16, del 17, wait, put 21 x, put 22 x, put 23 x, put 24 x, put 25 x, put 26 x, put 27 x, put 28 x, wait, get 1, get 7, get 11, get 21, get 28 | queued, queued, queued, queued, queued, queued, queued, queued, queued, queued, queued, queued, queued, queued, ok, ok, ok, ok, ok, ok, ok, ok, ok, queued, queued, queued, queued, queued, queued, queued, queued, ok, entry x, entry x, miss, entry x, entry x
 three flushers write what is theirs
 flushers 3 < put 1 a, put 2 b, put 3 c, put 4 d, wait, get 1, get 2, get 3, get 4 | queued, queued, queued, queued, ok, entry a, entry b, entry c, entry d
+loads read through three I/O engines, and through none is refused
+loads 3 < put 1 a, put 2 b, wait, get 1, get 2, get 3 | queued, queued, ok, entry a, entry b, miss
+loads 0 < enabled | refused Config
 each flusher needs a block, and a keeper a shard
 flushers 4 < enabled | yes
 flushers 5 < enabled | refused Config
@@ -53,6 +56,8 @@ calls are answered while a reclaim is held
 blocks 2, holds reclaim < put 1 x, wait, put 2 x, wait, put 3 x, wait, put 4 x, reached, has 4, del 2, has 2, held, open, wait, get 1, get 4 | queued, ok, queued, ok, queued, ok, queued, yes, yes, ok, no, yes, open, ok, miss, entry x
 calls are answered while a load is held, which another thread asked for
 holds load < put 1 a, wait, reached, has 1, put 2 b, wait, has 2, del 2, has 2, held, open & seen 1, get 1 | queued, ok, yes, yes, queued, ok, yes, ok, no, yes, open & yes, entry a
+two threads load, each through an I/O engine of its own
+loads 2 < put 1 a, put 2 b, wait, seen 2, get 1, get 2 & seen 1, get 1, get 2 | queued, queued, ok, yes, entry a, entry b & yes, entry a, entry b
 ";
 
 // Where fewer than `clean` blocks are, a reclaim begins of its own; with 0 one begins for a flusher that waits alone. Elsewhere
@@ -81,6 +86,8 @@ what was destroyed stays away
 put 1 a, put 2 b, wait, destroy, put 3 c, wait / get 1, get 2, get 3 | queued, queued, ok, ok, queued, ok / miss, miss, entry c
 an opening that recovers nothing leaves what is there
 put 1 a, wait / opens none < get 1 / opens quiet < get 1 | queued, ok / miss / entry a
+a worker that is held at its block waits for no other: the one that reads the second block lets it go on
+blocks 2 < put 1 a, wait / holds recover < held, get 1, reached | queued, ok / yes, entry a, yes
 a failed read refuses a strict opening, and ends its block in a quiet one
 put 1 a, wait / fails 1, opens strict < get 1 / opens quiet < get 1 / fails 0, opens strict < get 1 | queued, ok / refused Recover / miss / entry a
 ";

@@ -1,6 +1,8 @@
-use Rattle.std.proofs.Common.{◌≡◌, ℕ, IsSome, slice_get}
-use Rattle.foyer_block_recover.specs.Sources.{listing_in}
+use Rattle.std.proofs.Common.{◌+◌, ◌≤◌, length, vec_len}
 use Rattle.foyer_storage_engine.proofs.recover.list_blocks.Given as goal
 
+abbrev pub invariant-each_recoverer : goal.invariant-each_recoverer
+invariant-each_recoverer g l = (vec_len l.listed ≤ 0) × (vec_len l.running + length l.recoverer-iterator.rest.items ≤ vec_len l.fn.recoverers)
+
 abbrev pub invariant-each_thread : goal.invariant-each_thread
-invariant-each_thread g l = (b : ℕ) → IsSome (listing_in (slice_get l.fn.listings.slots.items b)) → slice_get l.listings.slots.items b ≡ slice_get l.fn.listings.slots.items b
+invariant-each_thread g l = vec_len l.listed + length l.thread-iterator.rest.items ≤ vec_len l.fn.recoverers

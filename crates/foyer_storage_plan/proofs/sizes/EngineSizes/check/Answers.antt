@@ -8,6 +8,6 @@ returns-then-self-eq0-clause-sound c = grind (arith, small_index)
 
 pub returns-clause-sound : goal.returns-clause-sound
 returns-clause-sound c = (
-  λ ok. valid_sizes _ _ _ (omega arith) c.settings.ensures (c.check.ensures.sound.0 ok),
+  λ ok. valid_sizes _ _ _ (omega arith) (omega arith) c.settings.ensures (c.check.ensures.sound.0 ok),
   λ sizes. c.check.ensures.sound.1 (planned_valid _ _ _ (le_refl _) c.settings.ensures sizes),
 )

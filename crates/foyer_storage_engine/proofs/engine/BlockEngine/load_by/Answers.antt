@@ -7,7 +7,7 @@ use Rattle.foyer_core_steps.specs.Asked.{went_well}
 use Rattle.std.specs.Result.{IfErr}
 use Rattle.foyer_storage_engine.proofs.AnsweringLemmas.{ended, looked_up}
 use Rattle.foyer_storage_engine.proofs.RefusalLemmas.{end_refused, end_throttled, look_up_refused, look_up_throttled}
-use Rattle.foyer_storage_engine.proofs.engine.BlockEngine.load.Goals as goal
+use Rattle.foyer_storage_engine.proofs.engine.BlockEngine.load_by.Goals as goal
 
 pub returns-in-Err-clause-answer : goal.returns-in-Err-clause-answer
 returns-in-Err-clause-answer g c =
