@@ -258,7 +258,7 @@ def change_entry(draw, image):
 def change_count(draw, image):
     place = draw.choice(image.indices)
     count = struct.unpack_from(">I", image.block, place + 8)[0]
-    other = draw.choice((0, 1, count + 1, max(0, count - 1), 169, 170, 171, (1 << 32) - 1, 1 << 31))
+    other = draw.choice((0, 1, count + 1 & 0xFFFFFFFF, max(0, count - 1), 169, 170, 171, (1 << 32) - 1, 1 << 31))
     struct.pack_into(">I", image.block, place + 8, other)
     repair(draw, image, place)
 
