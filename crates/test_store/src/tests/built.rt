@@ -14,7 +14,7 @@ use foyer_device_partition::io::device::{
 };
 use foyer_format_record::serde::NoProperties;
 use foyer_io_engine::io::engine::{FaultIoEngineConfig, IoEngineConfig};
-use foyer_policy_filter::{BuiltInCondition, RejectAll, StorageFilter};
+use foyer_policy_filter::{BuiltInCondition, EstimatedSize, RejectAll, StorageFilter};
 use foyer_program::store::builder::StoreBuilder;
 use foyer_program::store::config::{
     BlockEngineConfig, DefaultPickers, Engine, EngineBuildContext, EngineConfig,
@@ -27,6 +27,7 @@ use foyer_program::store::whole::WholeSession;
 use foyer_testing::said::Said;
 use std::alloc::Global;
 use std::marker::Brand;
+use std::ops::Bound;
 use std::rt::Files;
 use std::sync::Wait;
 use std::thread;
@@ -162,19 +163,34 @@ fn filter_of(alloc: Global, admits: bool) -> Result<StorageFilter<BuiltInConditi
     filter.with_condition(alloc, BuiltInCondition::RejectAll(RejectAll))
 }
 
+// What is written again where a block is reclaimed: no record, or those of 68 bytes and more, which have texts of eight.
+fn again_of(alloc: Global, writes_again: bool) -> Result<StorageFilter<BuiltInCondition, Global>> {
+    if !writes_again {
+        return filter_of(alloc, false);
+    }
+    let long = EstimatedSize::new(Bound::Included(68), Bound::Unbounded);
+    StorageFilter::new().with_condition(alloc, BuiltInCondition::EstimatedSize(long))
+}
+
+// The bytes of all flushers' buffers: less than usual, since a buffer is zeroed, which an unproved run does byte by byte.
+const BUFFERS: usize = 262_144;
+
 fn blocks_of<R: Files>(rt: &R, alloc: Global, over: Over, gate: &HoldingGate) -> Result<Blocks> {
     let gate = gate.share()?;
     let filter = filter_of(alloc, over.admits)?;
+    let again = again_of(alloc, over.writes_again)?;
     let device = MemoryDeviceBuilder::new(over.capacity()).build(rt, alloc, 0)?;
     Ok(
         BlockEngineConfig::new(device)
             .with_block_size(over.block_size())
             .with_flushers(over.flushers)
             .with_load_engines(over.loads)
+            .with_buffer_pool_size(BUFFERS)
             .with_clean_block_threshold(over.clean)
             .with_submit_queue_size_threshold(over.queue)
             .with_tombstone_log(over.has_log)
             .with_admission_filter(filter)
+            .with_reinsertion_filter(again)
             .with_gate(gate),
     )
 }
@@ -256,7 +272,7 @@ where
     R: Threads + Wait + Files + Copy + Send + Sync + 'static,
     requires { AreOf L.name_of L.all blanks × (L.all ≡ 2 ^ 32) }
 {
-    let gate = HoldingGate::new(alloc, asked.over.point)?;
+    let gate = HoldingGate::new(alloc, asked.over.point, asked.over.naps)?;
     if asked.over.is_nothing {
         return answers_of_nothing::<L, R>(rt, alloc, blanks, asked, &gate).text();
     }

@@ -31,12 +31,17 @@ struct Flags {
 #[derive(Drop)]
 pub(crate) struct HoldingGate {
     point: Option<Point>,
+    naps: bool,
     flags: Arc<Flags, Global>,
 }
 
 impl HoldingGate {
-    /// It holds at this point, or nowhere.
-    pub(crate) fn new(alloc: Global, point: Option<Point>) -> Result<HoldingGate, AllocError> {
+    /// It holds at this point, or nowhere; where it naps, a thread lets others go first at every point.
+    pub(crate) fn new(
+        alloc: Global,
+        point: Option<Point>,
+        naps: bool,
+    ) -> Result<HoldingGate, AllocError> {
         let flags = Flags {
             is_reached: AtomicBool::new(false),
             is_open: AtomicBool::new(false),
@@ -44,6 +49,7 @@ impl HoldingGate {
         };
         Ok(HoldingGate {
             point,
+            naps,
             flags: Arc::new(alloc, flags)?,
         })
     }
@@ -52,6 +58,7 @@ impl HoldingGate {
     pub(crate) fn share(&self) -> Result<HoldingGate, AllocError> {
         Ok(HoldingGate {
             point: self.point,
+            naps: self.naps,
             flags: Arc::try_clone(&self.flags)?,
         })
     }
@@ -77,10 +84,20 @@ impl HoldingGate {
     }
 }
 
+// Lets other threads go first, a thousand times.
+fn nap() {
+    for _ in 0..1000 {
+        thread::yield_now();
+    }
+}
+
 impl Gate for HoldingGate {
     fn pass(&self, point: Point) {
         if self.point == Some(Point::RecoverRead(0)) && point == Point::RecoverRead(1) {
             self.open();
+        }
+        if self.naps {
+            nap();
         }
         if self.point == Some(point) {
             self.flags.is_reached.store(true, Ordering::SeqCst);

@@ -27,6 +27,10 @@ pub(crate) struct Over {
     pub(crate) mode: RecoverMode,
     /// Where its threads are held.
     pub(crate) point: Option<Point>,
+    /// Whether each thread lets others go first at every point.
+    pub(crate) naps: bool,
+    /// Whether reclaims have records of texts of eight bytes and more written again.
+    pub(crate) writes_again: bool,
     /// Which access of each I/O engine fails, with 0 none; a write after the bytes that are kept.
     pub(crate) access: u64,
     pub(crate) kept: usize,
@@ -48,6 +52,8 @@ pub(crate) const USUAL: Over = Over {
     admits: true,
     mode: RecoverMode::Quiet,
     point: None,
+    naps: false,
+    writes_again: false,
     access: 0,
     kept: 0,
     stops: false,
@@ -139,6 +145,11 @@ fn with(over: Over, word: &str, how: &str) -> Over {
         },
         "holds" => Over {
             point: point_of(how),
+            ..over
+        },
+        "naps" => Over { naps: true, ..over },
+        "again" => Over {
+            writes_again: true,
             ..over
         },
         "fails" => Over {

@@ -2,7 +2,7 @@
 use crate::tests::built::opened;
 use crate::tests::memories::SameMemory;
 use crate::tests::over::{USUAL, over_of};
-use crate::tests::programs::say_served;
+use crate::tests::programs::{say_broken, say_forged, say_served};
 use foyer_device_page::error::Result;
 use foyer_testing::said::Said;
 use std::alloc::Global;
@@ -54,6 +54,9 @@ a piece that isn't taken, since too much is queued, deletes its key: the older o
 holds flush, queue 0 < force 1 a, reached, force 2 b, force 1 c, get 1, tally, held, open, wait, get 1, get 2, tally | queued, yes, queued, deleted, piece a, tally 2 1 0 0 0 0 0, yes, open, ok, miss, entry b, tally 2 1 0 1 1 1 0
 calls are answered while a reclaim is held
 blocks 2, holds reclaim < put 1 x, wait, put 2 x, wait, put 3 x, wait, put 4 x, reached, has 4, del 2, has 2, held, open, wait, get 1, get 4 | queued, ok, queued, ok, queued, ok, queued, yes, yes, ok, no, yes, open, ok, miss, entry x
+calls are answered where each thread lets all others go first at each point
+naps < force 1 a, put 2 b, wait, get 1, get 2, del 2, get 2, put 3 c, put 3 d, wait, get 3, destroy, get 1, put 4 e, wait, get 4, close, get 4 | queued, queued, ok, entry a, entry b, ok, miss, queued, queued, ok, entry d, ok, miss, queued, ok, entry e, ok, entry e
+blocks 2, flushers 2, naps < put 1 x, wait, put 2 x, wait, put 3 x, wait, put 4 x, wait, put 5 x, wait, put 6 x, wait, put 7 x, wait, put 8 x, wait, get 7, get 8 | queued, ok, queued, ok, queued, ok, queued, ok, queued, ok, queued, ok, queued, ok, queued, ok, entry x, entry x
 calls are answered while a load is held, which another thread asked for
 holds load < put 1 a, wait, reached, has 1, put 2 b, wait, has 2, del 2, has 2, held, open & seen 1, get 1 | queued, ok, yes, yes, queued, ok, yes, ok, no, yes, open & yes, entry a
 two threads load, each through an I/O engine of its own
@@ -82,6 +85,8 @@ blocks 2, clean 0 < put 1 x, put 2 x, put 3 x, put 4 x, put 5 x, put 6 x, put 7 
 a delete is forgotten without a log, and lasts with one, until the key is put again
 put 1 a, wait, del 1, wait, get 1 / get 1 | queued, ok, ok, ok, miss / entry a
 log < put 1 a, put 2 b, wait, del 1, wait, get 1 / get 1, get 2, put 1 c, wait / get 1, get 2 | queued, queued, ok, ok, ok, miss / miss, entry b, queued, ok / entry c, entry b
+a long text is written again where its block is reclaimed; an opening drops it, since a newer text lies before it in its block
+blocks 3, clean 0, again < put 1 aaaaaaaa, put 2 b, put 3 c, wait, put 4 d, put 5 e, put 6 f, wait, put 7 g, put 8 h, put 9 i, wait, put 10 j, wait, wait, get 1, get 2, get 10 / get 1, get 2, get 10 | queued, queued, queued, ok, queued, queued, queued, ok, queued, queued, queued, ok, queued, ok, ok, entry aaaaaaaa, miss, entry j / miss, miss, entry j
 what was destroyed stays away
 put 1 a, put 2 b, wait, destroy, put 3 c, wait / get 1, get 2, get 3 | queued, queued, ok, ok, queued, ok / miss, miss, entry c
 an opening that recovers nothing leaves what is there
@@ -104,6 +109,14 @@ a closed store refuses a put
 disk :memory:, 16384, 16384 < close, put 1 a, bad | ok, fault Closed, bad line, status 1
 a destroy leaves nothing, and the store goes on
 disk :memory:, 65536, 16384 < put 1 a, put 2 b, wait, destroy, get 1, get 2, put 3 c, wait, get 3, wait, close, wait, destroy | queued, queued, ok, ok, miss, miss, queued, ok, entry c, ok, ok, ok, fault Closed, status 1
+a broken output, or input, ends it, and what was put before is written
+broken streams, 65536, 16384 < put 1 a, put 2 b, get 1 | status 1
+disk streams, 65536, 16384 < get 1, get 2 | entry a, entry b, status 0
+broken streams, 65536, 16384 | status 1
+disk streams, 65536, 16384 < get 1, get 2 | entry a, entry b, status 0
+remove streams | yes
+bytes that are zero are texts, and no numbers
+disk :memory:, 16384, 16384 < put 1 a\0b, wait, get 1, put 2\0 a, get 1\0, \0, put 3 \0\0, wait, get 3 | queued, ok, entry a\0b, bad line, bad line, bad line, queued, ok, entry \0\0, status 1
 without a log a delete is forgotten
 disk forgotten, 32768, 16384 < put 1 a, wait, del 1, wait, close | queued, ok, ok, ok, ok, status 0
 disk forgotten, 32768, 16384 < get 1 | entry a, status 0
@@ -113,6 +126,68 @@ disk again, 65536, 16384 < put 1 a, put 2 bb, wait, put 1 c | queued, queued, ok
 disk again, 65536, 16384 < get 1, get 2, get 3, destroy, get 1, put 3 d | entry c, entry bb, miss, ok, miss, queued, status 0
 disk again, 65536, 16384 < get 1, get 2, get 3 | miss, miss, entry d, status 0
 remove again | yes
+";
+
+// A forged block is the first of two, the other of which is clean, so that none is reclaimed. Each index has a right checksum
+// unless a bit is flipped.
+const FORGED: &str =
+    "an index that lies where an entry has its record, and an entry whose record is zeros
+forge one < index 0 1 5 4096 53; index 8192 9 6 4096 53 | yes
+disk one, 32768, 16384 < get 9, get 1, get 9, get 2 | miss, miss, miss, miss, status 0
+remove one | yes
+with a right record it is an entry
+forge two < index 0 1 5 4096 53; index 8192 9 6 4096 53; record 12288 9 9 6 plain x | yes
+disk two, 32768, 16384 < get 9, get 1, get 9 | entry x, miss, entry x, status 0
+remove two | yes
+a record that says another hash, or another sequence, is a miss
+forge three < index 0 1 5 4096 53; record 4096 1 2 5 plain x | yes
+disk three, 32768, 16384 < get 1, get 2, get 1 | miss, miss, miss, status 0
+forge three < index 0 1 5 4096 53; record 4096 1 1 6 plain x | yes
+disk three, 32768, 16384 < get 1, get 1 | miss, miss, status 0
+remove three | yes
+a record of another key is a miss
+forge key < index 0 1 5 4096 53; record 4096 9 1 5 plain x | yes
+disk key, 32768, 16384 < get 1, get 9, get 1 | miss, miss, miss, status 0
+remove key | yes
+a record that is listed shorter or longer than it is is a miss
+forge four < index 0 9 6 4096 52; record 4096 9 9 6 plain x | yes
+disk four, 32768, 16384 < get 9, get 9 | miss, miss, status 0
+forge four < index 0 9 6 4096 54; record 4096 9 9 6 plain x | yes
+disk four, 32768, 16384 < get 9, get 9 | miss, miss, status 0
+remove four | yes
+an index without entries ends the block, whatever stands behind it, and the block is written; an index that stands behind what was written then is listed with it
+forge five < index 0; full 8192 20 | yes
+disk five, 32768, 16384 < get 20, put 7 y, wait, get 7, get 20 | miss, queued, ok, entry y, miss, status 0
+disk five, 32768, 16384 < get 7, get 20, get 21, put 7 z, wait, get 7 | entry y, miss, miss, queued, ok, entry z, status 0
+remove five | yes
+entries are listed in any order of their offsets, and the next index stands behind the last of them
+forge six < index 0 1 1 8192 53, 2 2 4096 53; index 8192 9 6 4096 53; record 4096 2 2 2 plain x; record 12288 9 9 6 plain x | yes
+disk six, 32768, 16384 < get 1, get 2, get 9 | miss, entry x, entry x, status 0
+remove six | yes
+a compressed record is named each time
+forge seven < index 0 9 6 4096 53; record 4096 9 9 6 zstd x | yes
+disk seven, 32768, 16384 < get 9, get 9 | fault Unsupported, fault Unsupported, status 1
+remove seven | yes
+a text that is none is named each time
+forge eight < index 0 9 6 4096 53; record 4096 9 9 6 plain FF | yes
+disk eight, 32768, 16384 < get 9, get 9 | fault Parse, fault Parse, status 1
+remove eight | yes
+a record of an unknown compression, or of another magic number, is a miss
+forge nine < index 0 9 6 4096 53; record 4096 9 9 6 three x | yes
+disk nine, 32768, 16384 < get 9, get 9 | miss, miss, status 0
+forge nine < index 0 9 6 4096 53; record 4096 9 9 6 other x | yes
+disk nine, 32768, 16384 < get 9, get 9 | miss, miss, status 0
+remove nine | yes
+an index whose checksum is off by one bit lists nothing
+forge ten < index 0 9 6 4096 53; record 4096 9 9 6 plain x; flip 7 | yes
+disk ten, 32768, 16384 < get 9, put 1 y, wait, get 1 | miss, queued, ok, entry y, status 0
+remove ten | yes
+the last sequence refuses the opening, and the one before it leaves none to be drawn
+forge end < index 0 9 18446744073709551615 4096 53 | yes
+disk end, 32768, 16384 < get 9 | fault SequenceEnd, status 1
+forge end < index 0 9 18446744073709551614 4096 53 | yes
+disk end, 32768, 16384 < put 1 y, del 9, destroy, get 9, wait | fault SequenceEnd, fault SequenceEnd, fault SequenceEnd, miss, ok, status 1
+remove end | yes
 ";
 
 // Notes what stores answer that are built over one memory, one after the other.
@@ -158,6 +233,8 @@ fn say_row<R: Threads + Wait + Files<File = File> + AllocGlobal + Copy + Send + 
     let (word, rest) = asked.split_once(' ').unwrap_or((asked, ""));
     match word {
         "disk" => say_served(rt, alloc, said, rest),
+        "broken" => say_broken(rt, alloc, said, rest),
+        "forge" => say_forged(&rt, alloc, said, rest),
         "remove" => {
             said.flag("", fs::remove_dir_all(&rt, rest).is_ok());
             Ok(())
@@ -203,6 +280,13 @@ fn calls_are_answered_so_while_a_thread_is_held(rt: HostRuntime) -> std::result:
 fn stores_are_built_again_so(rt: HostRuntime) -> std::result::Result<(), Fail> {
     let answers = rows_of(rt, rt.alloc(), BUILT_AGAIN)?;
     assert!(rt; answers.as_str() == BUILT_AGAIN, "{answers}");
+    Ok(())
+}
+
+#[test]
+fn forged_blocks_are_answered_so(rt: HostRuntime) -> std::result::Result<(), Fail> {
+    let answers = rows_of(rt, rt.alloc(), FORGED)?;
+    assert!(rt; answers.as_str() == FORGED, "{answers}");
     Ok(())
 }
 

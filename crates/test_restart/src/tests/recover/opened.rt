@@ -1,4 +1,4 @@
-//! A core that is opened over forged blocks, and what its loads answer of forged records.
+//! A core that is opened over forged blocks: what it lists, and what its loads answer of forged records.
 use crate::tests::restart::running::TextCore;
 use foyer_core_run::accesses::load;
 use foyer_core_steps::apply::Env;
@@ -6,43 +6,13 @@ use foyer_core_steps::open::RecoverMode;
 use foyer_core_steps::reply::Reply;
 use foyer_core_steps::settings::Settings;
 use foyer_core_steps::state::Core;
-use foyer_device_page::error::{Error, ErrorKind, Result};
-use foyer_format_checksum::Checksummer;
-use foyer_testing::forged::{ForgedDisk, entry, page};
+use foyer_core_steps::step::Step;
+use foyer_device_page::error::Result;
+use foyer_testing::forged::{BLOCK_SIZE, ForgedDisk};
+use foyer_testing::images::image;
+use foyer_testing::said::Said;
 use std::alloc::Global;
 use std::test::Fail;
-
-// What differs in a record from the right one of hash 9, sequence 6 and key 9 with the text `x`.
-#[derive(Clone, Copy)]
-struct Forged {
-    hash: u64,
-    sequence: u64,
-    magic: [u8; 4],
-    text: u8,
-}
-
-const RIGHT: Forged = Forged {
-    hash: 9,
-    sequence: 6,
-    magic: [0x97, 0x03, 0x27, 0x00],
-    text: b'x',
-};
-
-// The page of such a record, of 53 bytes, under a right checksum.
-fn record(forged: Forged) -> [u8; 4096] {
-    let mut bytes = [0u8; 4096];
-    bytes[3] = 8;
-    bytes[7] = 9;
-    bytes[8..16].copy_from_slice(&forged.hash.to_be_bytes());
-    bytes[16..24].copy_from_slice(&forged.sequence.to_be_bytes());
-    bytes[32..36].copy_from_slice(&forged.magic);
-    bytes[36] = 1;
-    bytes[44] = forged.text;
-    bytes[45] = 9;
-    let checksum = Checksummer::checksum64(&bytes[36..53]);
-    bytes[24..32].copy_from_slice(&checksum.to_be_bytes());
-    bytes
-}
 
 // A core with what its loads need.
 #[derive(Drop)]
@@ -53,27 +23,14 @@ struct Opened {
     spare: Vec<u8>,
 }
 
-// A core over a block that lists hash 1 with sequence 5, whose record is none, and behind it hash 9 with sequence 6.
-fn open_forged(alloc: Global, forged: Forged, len: u32) -> Result<Opened> {
+// A core over one block of this description.
+fn open(alloc: Global, description: &str) -> Result<Opened> {
     let mut disk = ForgedDisk::new(alloc, 1)?;
-    disk.put(0, &page(&[entry(1, 5, 4096, 53)], 1));
-    disk.put(8192, &page(&[entry(9, 6, 4096, len)], 1));
-    disk.put(12288, &record(forged));
-    open_over(alloc, disk)
-}
-
-// A core over a disk of one block.
-fn open_over(alloc: Global, mut disk: ForgedDisk) -> Result<Opened> {
+    disk.bytes = image(alloc, description)?;
     let mut env = Env::with_default_pickers(alloc, 0)?;
-    let settings = Settings::new(1, 16384);
-    let core = Core::open(
-        alloc,
-        &mut env,
-        settings,
-        &mut disk,
-        RecoverMode::Quiet,
-        &[],
-    )?;
+    let settings = Settings::new(1, BLOCK_SIZE);
+    let mode = RecoverMode::Strict;
+    let core = Core::open(alloc, &mut env, settings, &mut disk, mode, &[])?;
     Ok(Opened {
         core,
         env,
@@ -82,8 +39,8 @@ fn open_over(alloc: Global, mut disk: ForgedDisk) -> Result<Opened> {
     })
 }
 
-// What a load of a hash answers, in a word.
-fn load_of(opened: &mut Opened, hash: u64) -> &'static str {
+// Notes what a load of a hash answers.
+fn say_load(said: &mut Said, opened: &mut Opened, hash: u64) {
     let Opened {
         core,
         env,
@@ -91,89 +48,125 @@ fn load_of(opened: &mut Opened, hash: u64) -> &'static str {
         spare,
     } = opened;
     match load(core, env, disk, spare, hash, false) {
-        Ok(Reply::Entry { value, .. }) => word_of(value.as_str()),
-        Ok(Reply::Miss) => "miss",
-        Ok(Reply::Refused(ErrorKind::Parse, _)) => "Parse",
-        Ok(Reply::Refused(ErrorKind::Unsupported, _)) => "Unsupported",
-        _ => "else",
+        Ok(Reply::Entry { value, .. }) => said.word(value.as_str()),
+        Ok(Reply::Miss) => said.word("miss"),
+        Ok(Reply::Refused(kind, _)) => said.word(kind.name()),
+        _ => said.word("another"),
     }
 }
 
-fn word_of(text: &str) -> &'static str {
-    if text == "x" { "x" } else { "another text" }
+// Notes whether a hash is indexed.
+fn say_whether(said: &mut Said, opened: &mut Opened, hash: u64) {
+    let step = Step::MayContains { hash };
+    match opened.core.apply(&mut opened.env, step) {
+        Reply::Answer(is) => said.flag("", is),
+        _ => said.word("another"),
+    }
 }
 
-// What two loads of hash 9 answer, one after the other.
-fn loads(alloc: Global, forged: Forged, len: u32) -> Result<(&'static str, &'static str)> {
-    let mut opened = open_forged(alloc, forged, len)?;
-    let first = load_of(&mut opened, 9);
-    Ok((first, load_of(&mut opened, 9)))
+// Notes the sequence that is drawn next.
+fn say_next(said: &mut Said, opened: &mut Opened) {
+    let step = Step::Delete { hash: 1000 };
+    match opened.core.apply(&mut opened.env, step) {
+        Reply::Deleted(sequence) => said.number("", sequence),
+        Reply::Refused(kind, _) => said.word(kind.name()),
+        _ => said.word("another"),
+    }
 }
 
-#[test]
-fn a_right_record_is_its_entry(rt: HostRuntime) -> std::result::Result<(), Fail> {
-    assert!(rt; loads(rt.alloc(), RIGHT, 53)? == ("x", "x"));
-    let mut opened = open_forged(rt.alloc(), RIGHT, 53)?;
-    assert!(rt; load_of(&mut opened, 1) == "miss");
-    assert!(rt; load_of(&mut opened, 2) == "miss");
-    Ok(())
+// Whether the block may be written: a wait makes a batch, which takes it.
+fn is_clean(opened: &mut Opened) -> bool {
+    let Opened { core, env, .. } = opened;
+    let _ = core.apply(env, Step::Wait { flusher: 0, id: 1 });
+    let _ = core.apply(env, Step::Receive { flusher: 0 });
+    let _ = core.apply(env, Step::FlushBegin { flusher: 0 });
+    match core.apply(env, Step::FlushBlock { flusher: 0 }) {
+        Reply::Write { .. } => true,
+        _ => false,
+    }
 }
 
-#[test]
-fn a_record_of_another_name_or_length_is_missed(rt: HostRuntime) -> std::result::Result<(), Fail> {
-    let alloc = rt.alloc();
-    let missed = ("miss", "miss");
-    assert!(rt; loads(alloc, Forged { hash: 2, ..RIGHT }, 53)? == missed);
-    assert!(rt;
-        loads(
-            alloc,
-            Forged {
-                sequence: 7,
-                ..RIGHT
-            },
-            53
-        )? == missed
-    );
-    assert!(rt; loads(alloc, RIGHT, 52)? == missed);
-    assert!(rt; loads(alloc, RIGHT, 54)? == missed);
-    let magic = [0x97, 0x03, 0x27, 0x03];
-    assert!(rt; loads(alloc, Forged { magic, ..RIGHT }, 53)? == missed);
-    let magic = [0x96, 0x03, 0x27, 0x00];
-    assert!(rt; loads(alloc, Forged { magic, ..RIGHT }, 53)? == missed);
-    Ok(())
+fn say_line(said: &mut Said, opened: &mut Opened, line: &str) {
+    let (word, number) = line.split_once(' ').unwrap_or((line, ""));
+    let hash = number.parse::<u64>().unwrap_or(0);
+    match word {
+        "get" => say_load(said, opened, hash),
+        "has" => say_whether(said, opened, hash),
+        "next" => say_next(said, opened),
+        _ => said.flag("", is_clean(opened)),
+    }
 }
 
-#[test]
-fn a_record_that_cannot_be_read_is_named_each_time(
-    rt: HostRuntime,
-) -> std::result::Result<(), Fail> {
-    let alloc = rt.alloc();
-    let magic = [0x97, 0x03, 0x27, 0x01];
-    assert!(rt; loads(alloc, Forged { magic, ..RIGHT }, 53)? == ("Unsupported", "Unsupported"));
-    assert!(rt;
-        loads(
-            alloc,
-            Forged {
-                text: 0xFF,
-                ..RIGHT
-            },
-            53
-        )? == ("Parse", "Parse")
-    );
-    Ok(())
-}
-
-// The next put is drawn behind the greatest sequence that was found, and where that is the last one nothing is opened.
-#[test]
-fn a_core_goes_on_behind_what_was_found(rt: HostRuntime) -> std::result::Result<(), Fail> {
-    let alloc = rt.alloc();
-    let mut disk = ForgedDisk::new(alloc, 1)?;
-    disk.put(0, &page(&[entry(9, u64::MAX, 4096, 53)], 1));
-    match open_over(alloc, disk) {
-        Ok(_) => Err(Fail::new("it is opened")),
+// Notes what a core over a block of this description answers to lines, or why it isn't opened.
+fn say_block(alloc: Global, said: &mut Said, description: &str, script: &str) {
+    match open(alloc, description) {
+        Ok(mut opened) => {
+            for line in script.split(", ") {
+                said.word(" ");
+                say_line(said, &mut opened, line);
+            }
+        }
         Err(error) => {
-            assert!(rt; error == Error::SequenceEnd);
-            Ok(())
+            said.word(" refused ");
+            said.word(error.kind().name());
         }
     }
+}
+
+fn rows_of(alloc: Global, rows: &str) -> Result<String> {
+    let mut said = Said::new(alloc);
+    for row in rows.lines() {
+        let (asked, _) = row.split_once(" | ").unwrap_or((row, ""));
+        said.word(asked);
+        if let Some((description, script)) = asked.split_once(" < ") {
+            said.word(" |");
+            say_block(alloc, &mut said, description, script);
+        }
+        said.word("\n");
+    }
+    said.text()
+}
+
+// A name, and below it the block, what is asked, and what is answered: of `get` what a load gives, of `has` whether a hash is
+// indexed, of `next` the sequence that is drawn next, of `clean` whether the block is written next. Each index has a right
+// checksum unless a bit is flipped.
+const ROWS: &str =
+    "an index that lies where an entry has its record, and an entry whose record is zeros: both are found, and each goes when it is loaded
+index 0 1 5 4096 53; index 8192 9 6 4096 53 < has 1, has 9, get 9, has 9, get 1, has 1, get 2, next | yes yes miss no miss no miss 7
+with a right record it is an entry
+index 0 1 5 4096 53; index 8192 9 6 4096 53; record 12288 9 9 6 plain x < get 9, get 9, has 9, get 1, has 1, next | x x yes miss no 7
+a record that says another hash, or another sequence, is a miss and goes
+index 0 1 5 4096 53; record 4096 1 2 5 plain x < has 1, get 1, has 1, get 2, next | yes miss no miss 6
+index 0 1 5 4096 53; record 4096 1 1 6 plain x < has 1, get 1, has 1, next | yes miss no 6
+index 0 9 6 4096 53; record 4096 9 9 7 plain x < get 9, get 9, has 9 | miss miss no
+a record that is listed shorter or longer than it is is a miss and goes
+index 0 9 6 4096 52; record 4096 9 9 6 plain x < has 9, get 9, has 9 | yes miss no
+index 0 9 6 4096 54; record 4096 9 9 6 plain x < has 9, get 9, has 9 | yes miss no
+an index without entries ends the block, whatever stands behind it
+index 0; full 8192 20 < has 20, has 189, get 20, next, clean | no no miss 1 yes
+full 0 20 < has 20, has 189, get 20, get 189, next, clean | yes yes miss miss 171 no
+entries are listed in any order of their offsets, and the next index stands behind the last of them
+index 0 1 1 8192 53, 2 2 4096 53; index 8192 9 6 4096 53; record 4096 2 2 2 plain x; record 12288 9 9 6 plain x < get 2, get 9, has 1, get 1, has 1, next, clean | x x yes miss no 7 no
+a compressed record is named each time, and stays
+index 0 9 6 4096 53; record 4096 9 9 6 zstd x < get 9, get 9, has 9 | Unsupported Unsupported yes
+a text that is none is named each time, and stays
+index 0 9 6 4096 53; record 4096 9 9 6 plain FF < get 9, get 9, has 9 | Parse Parse yes
+a record of an unknown compression, or of another magic number, is a miss and goes
+index 0 9 6 4096 53; record 4096 9 9 6 three x < has 9, get 9, has 9 | yes miss no
+index 0 9 6 4096 53; record 4096 9 9 6 other x < has 9, get 9, has 9 | yes miss no
+a record that is damaged is a miss and goes
+index 0 9 6 4096 53; record 4096 9 9 6 plain x; flip 4140 < has 9, get 9, has 9 | yes miss no
+an index whose checksum is off by one bit lists nothing
+index 0 9 6 4096 53; record 4096 9 9 6 plain x; flip 7 < has 9, get 9, next, clean | no miss 1 yes
+index 0 9 6 4096 53; record 4096 9 9 6 plain x; flip 4095 < has 9, get 9, next, clean | no miss 1 yes
+the last sequence refuses the opening, and the one before it leaves none to be drawn
+index 0 9 18446744073709551615 4096 53 < next | refused SequenceEnd
+index 0 9 18446744073709551614 4096 53 < next | SequenceEnd
+";
+
+#[test]
+fn forged_blocks_are_answered_so(rt: HostRuntime) -> std::result::Result<(), Fail> {
+    let answers = rows_of(rt.alloc(), ROWS)?;
+    assert!(rt; answers.as_str() == ROWS, "{answers}");
+    Ok(())
 }
