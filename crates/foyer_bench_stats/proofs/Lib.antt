@@ -1,2 +1,4 @@
 pub mod BucketLemmas
 pub mod HistogramLemmas
+pub mod WeightLemmas
+pub mod ZipfLemmas

@@ -1,2 +1,5 @@
 pub mod Buckets
 pub mod Histogram
+pub mod Plans
+pub mod Weights
+pub mod Zipf

@@ -1,17 +1,8 @@
 //! The words that say what a bench runs: `THREADS VALUE_BYTES SECONDS`, and settings, each `name=value`.
+ghost use Rattle.std.specs.Prelude.{◌≡◌, ℕ, ◌<◌, MatchOption, MatchResult, map, string_bytes};
+ghost use Rattle.foyer_bench_stats.specs.Plans.{AreRefused, ArePlanned, IsNumberIn, IsRefusedWord, IsSetting, greatest_of, least_of, name_of, set_to};
 
-use crate::weights::MAX_SKEW;
-use crate::zipf::MAX_KEYS;
 use std::alloc::Allocator;
-
-/// The most threads.
-pub const MAX_THREADS: u64 = 1024;
-
-/// The most bytes of a value.
-pub const MAX_VALUE_BYTES: u64 = 1 << 30;
-
-/// The most seconds.
-pub const MAX_SECONDS: u64 = 1 << 30;
 
 /// What the words ask for.
 #[derive(Clone, Copy, Debug, PartialEq, Eq)]
@@ -32,8 +23,19 @@ pub struct Plan {
     pub gets: u64,
     /// What the calls are drawn from.
     pub seed: u64,
-    /// How many keys are put before, the most frequent first.
+    /// How many keys are put before, the most frequent ones.
     pub fill: u64,
+}
+
+/// What a setting sets.
+#[derive(Clone, Copy, Debug, PartialEq, Eq)]
+pub enum Setting {
+    Calls,
+    Keys,
+    Skew,
+    Gets,
+    Seed,
+    Fill,
 }
 
 /// Why words are refused.
@@ -41,17 +43,16 @@ pub struct Plan {
 pub enum Refusal {
     /// There are fewer than three.
     Missing,
+    /// The first is no number from 1 to 1024.
     Threads,
+    /// The second is no number up to 2^30.
     ValueBytes,
+    /// The third is no number from 1 to 2^30.
     Seconds,
-    Calls,
-    Keys,
-    Skew,
-    Gets,
-    Seed,
-    Fill,
-    /// No setting has this name.
+    /// A further word is no setting's name and an equals sign.
     Unknown,
+    /// A setting's number is none that it may have.
+    Number(Setting),
 }
 
 impl Refusal {
@@ -62,105 +63,128 @@ impl Refusal {
             Refusal::Threads => "THREADS is a number from 1 to 1024",
             Refusal::ValueBytes => "VALUE_BYTES is a number up to 2^30",
             Refusal::Seconds => "SECONDS is a number from 1 to 2^30",
-            Refusal::Calls => "calls= is a number",
-            Refusal::Keys => "keys= is a number from 1 to 2^26",
-            Refusal::Skew => "skew= is a number of hundredths up to 1000",
-            Refusal::Gets => "gets= is a number of hundredths up to 100",
-            Refusal::Seed => "seed= is a number",
-            Refusal::Fill => "fill= is a number",
             Refusal::Unknown => "a setting is calls=, keys=, skew=, gets=, seed= or fill=",
+            Refusal::Number(Setting::Calls) => "calls= is a number",
+            Refusal::Number(Setting::Keys) => "keys= is a number from 1 to 2^26",
+            Refusal::Number(Setting::Skew) => "skew= is a number of hundredths up to 1000",
+            Refusal::Number(Setting::Gets) => "gets= is a number of hundredths up to 100",
+            Refusal::Number(Setting::Seed) => "seed= is a number",
+            Refusal::Number(Setting::Fill) => "fill= is a number",
         }
     }
 }
 
-// One setting.
-#[derive(Clone, Copy, Debug, PartialEq, Eq)]
-enum Setting {
-    Calls(u64),
-    Keys(u64),
-    Skew(u64),
-    Gets(u64),
-    Seed(u64),
-    Fill(u64),
-}
-
 // A decimal number from the least to the greatest.
-fn number(text: &str, least: u64, greatest: u64) -> Option<u64> {
+fn number(text: &str, least: u64, greatest: u64) -> Option<u64>
+    ensures { MatchOption result ((n : ℕ) → ¬ IsNumberIn text.now least greatest n) (IsNumberIn text.now least greatest) }
+{
     match text.parse::<u64>() {
         Ok(number) if least <= number && number <= greatest => Some(number),
         _ => None,
     }
 }
 
-fn read_setting(word: &str) -> Result<Setting, Refusal> {
-    if let Some(text) = word.strip_prefix("calls=") {
-        return match number(text, 0, u64::MAX) {
-            Some(calls) => Ok(Setting::Calls(calls)),
-            None => Err(Refusal::Calls),
-        };
+impl Setting {
+    // The setting of a name.
+    fn named(name: &str) -> Option<Setting>
+        ensures { MatchOption result ((s : Setting) → ¬ (name.now ≡ name_of s)) (λ s. name.now ≡ name_of s) }
+    {
+        match name {
+            "calls" => Some(Setting::Calls),
+            "keys" => Some(Setting::Keys),
+            "skew" => Some(Setting::Skew),
+            "gets" => Some(Setting::Gets),
+            "seed" => Some(Setting::Seed),
+            "fill" => Some(Setting::Fill),
+            _ => None,
+        }
     }
-    if let Some(text) = word.strip_prefix("keys=") {
-        return match number(text, 1, MAX_KEYS) {
-            Some(keys) => Ok(Setting::Keys(keys)),
-            None => Err(Refusal::Keys),
-        };
+
+    fn least(self) -> u64
+        ensures { result ≡ least_of self }
+    {
+        match self {
+            Setting::Keys => 1,
+            _ => 0,
+        }
     }
-    if let Some(text) = word.strip_prefix("skew=") {
-        return match number(text, 0, MAX_SKEW) {
-            Some(skew) => Ok(Setting::Skew(skew)),
-            None => Err(Refusal::Skew),
-        };
+
+    fn greatest(self) -> u64
+        ensures { result ≡ greatest_of self }
+    {
+        match self {
+            Setting::Keys => 1 << 26,
+            Setting::Skew => 1000,
+            Setting::Gets => 100,
+            _ => u64::MAX,
+        }
     }
-    if let Some(text) = word.strip_prefix("gets=") {
-        return match number(text, 0, 100) {
-            Some(gets) => Ok(Setting::Gets(gets)),
-            None => Err(Refusal::Gets),
+
+    // A setting and its number.
+    fn parse(word: &str) -> Result<(Setting, u64), Refusal>
+        ensures { MatchResult result (λ r. IsSetting word.now r.0 r.1) (IsRefusedWord word.now) }
+    {
+        let Some((name, text)) = word.split_once('=') else {
+            return Err(Refusal::Unknown);
         };
-    }
-    if let Some(text) = word.strip_prefix("seed=") {
-        return match number(text, 0, u64::MAX) {
-            Some(seed) => Ok(Setting::Seed(seed)),
-            None => Err(Refusal::Seed),
+        let Some(setting) = Setting::named(name) else {
+            return Err(Refusal::Unknown);
         };
+        match number(text, setting.least(), setting.greatest()) {
+            Some(number) => Ok((setting, number)),
+            None => Err(Refusal::Number(setting)),
+        }
     }
-    if let Some(text) = word.strip_prefix("fill=") {
-        return match number(text, 0, u64::MAX) {
-            Some(fill) => Ok(Setting::Fill(fill)),
-            None => Err(Refusal::Fill),
-        };
-    }
-    Err(Refusal::Unknown)
 }
 
 impl Plan {
     // With a setting in place of the one before.
-    fn with(self, setting: Setting) -> Plan {
+    fn with(self, setting: Setting, number: u64) -> Plan
+        ensures { result ≡ set_to setting number self }
+    {
         match setting {
-            Setting::Calls(calls) => Plan {
-                calls: Some(calls),
+            Setting::Calls => Plan {
+                calls: Some(number),
                 ..self
             },
-            Setting::Keys(keys) => Plan { keys, ..self },
-            Setting::Skew(skew) => Plan { skew, ..self },
-            Setting::Gets(gets) => Plan { gets, ..self },
-            Setting::Seed(seed) => Plan { seed, ..self },
-            Setting::Fill(fill) => Plan { fill, ..self },
+            Setting::Keys => Plan {
+                keys: number,
+                ..self
+            },
+            Setting::Skew => Plan {
+                skew: number,
+                ..self
+            },
+            Setting::Gets => Plan {
+                gets: number,
+                ..self
+            },
+            Setting::Seed => Plan {
+                seed: number,
+                ..self
+            },
+            Setting::Fill => Plan {
+                fill: number,
+                ..self
+            },
         }
     }
 
     /// Reads the words. Of settings of one name the last counts; where none is there, 100,000 keys are asked of at a skew of 0.99,
     /// 90 of a hundred calls are gets, the seed is 1, and nothing is put before.
-    pub fn parse<A: Allocator>(words: &[String<A>]) -> Result<Plan, Refusal> {
+    pub fn parse<A: Allocator>(words: &[String<A>]) -> Result<Plan, Refusal>
+        ensures { MatchResult result (ArePlanned (map string_bytes words.now)) (AreRefused (map string_bytes words.now)) }
+    {
         if words.len() < 3 {
             return Err(Refusal::Missing);
         }
-        let Some(threads) = number(words[0].as_str(), 1, MAX_THREADS) else {
+        let Some(threads) = number(words[0].as_str(), 1, 1024) else {
             return Err(Refusal::Threads);
         };
-        let Some(value_bytes) = number(words[1].as_str(), 0, MAX_VALUE_BYTES) else {
+        let Some(value_bytes) = number(words[1].as_str(), 0, 1 << 30) else {
             return Err(Refusal::ValueBytes);
         };
-        let Some(seconds) = number(words[2].as_str(), 1, MAX_SECONDS) else {
+        let Some(seconds) = number(words[2].as_str(), 1, 1 << 30) else {
             return Err(Refusal::Seconds);
         };
         let mut plan = Plan {
@@ -175,7 +199,8 @@ impl Plan {
             fill: 0,
         };
         for word in &words[3..] {
-            plan = plan.with(read_setting(word.as_str())?);
+            let (setting, number) = Setting::parse(word.as_str())?;
+            plan = plan.with(setting, number);
         }
         Ok(plan)
     }
