@@ -1,11 +1,18 @@
 //! The whole program: a store is built, filled, and called by threads.
-ghost use Rattle.std.specs.Prelude.{◌≡◌, ◌<◌, ◌^◌, length};
+ghost use Rattle.std.specs.Prelude.{◌≡◌, ◌<◌, ◌^◌, drop, length, map, string_bytes, take};
+ghost use Rattle.foyer_bench_stats.specs.declared.plan.Plan.{Plan};
+ghost use Rattle.foyer_bench_stats.specs.Plans.{ArePlanned, HasBounds};
 ghost use Rattle.foyer_core_tally.specs.Ledgers.{AreOf};
+ghost use Rattle.foyer_serve.specs.Arguments.{AreWords};
+ghost use Rattle.foyer_serve.specs.declared.options.Options.{Options};
 
-use crate::caller::{Answers, Caller, Values, key_of, piece_of};
+use crate::caller::{Caller, Values, piece_of};
 use crate::report::{Report, print};
+use foyer_bench_stats::answers::Answers;
 use foyer_bench_stats::histogram::Histogram;
-use foyer_bench_stats::plan::{Plan, Refusal};
+use foyer_bench_stats::plan::Plan;
+use foyer_bench_stats::settings::Refusal;
+use foyer_bench_stats::values::key_of;
 use foyer_bench_stats::zipf::Zipf;
 use foyer_core_tally::book::{Blanks, Kinds};
 use foyer_device_page::error::{Error, Result};
@@ -148,6 +155,7 @@ where
     L: Kinds + Send + Sync + 'static,
     N: Engine<StoreSession<L>, u64, Vec<u8>, NoProperties> + Send + Sync,
     R: Threads + Wait + Clock + Sync,
+    requires { HasBounds plan.now }
 {
     let zipf = Zipf::new(alloc, plan.keys, plan.skew)?;
     let filler = vec![in alloc; 0xA5u8; plan.value_bytes as usize]?;
@@ -170,7 +178,7 @@ fn report_of<L: Kinds>(
     nanos: u64,
 ) -> Result<Report> {
     let mut report = Report {
-        answers: Answers::NONE,
+        answers: Answers::new(),
         puts: Histogram::new(alloc)?,
         gets: Histogram::new(alloc)?,
         nanos,
@@ -201,6 +209,7 @@ where
     L: Kinds + Send + Sync + 'static,
     N: Engine<StoreSession<L>, u64, Vec<u8>, NoProperties> + Send + Sync,
     T: Threads + Wait + Clock + Sync,
+    requires { HasBounds plan.now }
 {
     let report = run_all(rt, alloc, &store, &mut session, plan);
     let closed = store.close(rt, &mut session);
@@ -226,7 +235,8 @@ where
     I::Engine: Send + 'static,
     D: Device,
     D::Partition: Drop + Send + Sync + 'static,
-    requires { AreOf L.name_of L.all blanks × (L.all ≡ 2 ^ 32) }
+    requires blanks { AreOf L.name_of L.all blanks × (L.all ≡ 2 ^ 32) }
+    requires plan { HasBounds plan.now }
 {
     let config = BlockEngineConfig::new(device).with_block_size(block_size);
     let builder = StoreBuilder::new("foyerbench", IdentityHashBuilder, 64)
@@ -253,7 +263,8 @@ fn bench_memory<L, T>(
 where
     L: Kinds + Send + Sync + 'static,
     T: Threads + Wait + Clock + Files + Copy + Send + Sync + 'static,
-    requires { AreOf L.name_of L.all blanks × (L.all ≡ 2 ^ 32) }
+    requires blanks { AreOf L.name_of L.all blanks × (L.all ≡ 2 ^ 32) }
+    requires plan { HasBounds plan.now }
 {
     let capacity = options.capacity as usize;
     let mut engine = MemoryIoEngine::new(alloc);
@@ -275,7 +286,8 @@ fn bench_directory<L, T>(
 where
     L: Kinds + Send + Sync + 'static,
     T: Threads + Wait + Clock + Files<File = File> + AllocGlobal + Copy + Send + Sync + 'static,
-    requires { AreOf L.name_of L.all blanks × (L.all ≡ 2 ^ 32) }
+    requires blanks { AreOf L.name_of L.all blanks × (L.all ≡ 2 ^ 32) }
+    requires plan { HasBounds plan.now }
 {
     let builder = FsDeviceBuilder::new(options.directory).with_capacity(options.capacity as usize);
     let device = builder.build(&rt, alloc, 0)?;
@@ -312,6 +324,8 @@ where
     E: Write + Drop,
     requires { AreOf L.name_of L.all blanks × (L.all ≡ 2 ^ 32) }
     ensures usage { length words.now < 6 → result ≡ 2 }
+    ensures options { ((o : Options) → ¬ AreWords (take 3 words.now) o) → result ≡ 2 }
+    ensures plan { ((p : Plan) → ¬ ArePlanned (map string_bytes (drop 3 words.now)) p) → result ≡ 2 }
 {
     if words.len() < 6 {
         let _ = refuse(&mut errors, None);

@@ -1,8 +1,9 @@
 //! What a bench prints.
 
-use crate::caller::Answers;
+use foyer_bench_stats::answers::Answers;
 use foyer_bench_stats::histogram::Histogram;
 use foyer_bench_stats::plan::Plan;
+use foyer_bench_stats::values::rate;
 use std::io;
 use std::io::Write;
 
@@ -16,23 +17,6 @@ pub struct Report {
     pub nanos: u64,
     /// The steps of all sessions, in the order of the kinds.
     pub steps: [u64; 8],
-}
-
-impl Answers {
-    /// Whether each call was answered once, and none wrongly or by a fault.
-    pub fn are_well(&self) -> bool {
-        self.wrong == 0
-            && self.put_faults == 0
-            && self.get_faults == 0
-            && self.queued.checked_add(self.dropped) == Some(self.puts)
-            && self.hits.checked_add(self.misses) == Some(self.gets)
-    }
-}
-
-// How many calls a second, rounded down.
-fn rate(calls: u64, nanos: u64) -> u64 {
-    let each = u128::from(calls) * 1_000_000_000;
-    u64::try_from(each / u128::from(nanos.max(1))).unwrap_or(u64::MAX)
 }
 
 fn print_times<W: Write>(output: &mut W, name: &str, times: &Histogram) -> io::Result<()> {

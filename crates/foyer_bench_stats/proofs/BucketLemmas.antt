@@ -56,7 +56,7 @@ lowest_is b s few is =
 pub highest_fits : (b : ℕ) → b < 3776 → lowest_of b + 2 ^ doublings_of b ≤ 2 ^ 64
 highest_fits b few =
     let all : (b - 64 * doublings_of b + 1) * 2 ^ doublings_of b ≤ 128 * 2 ^ 57 =
-        mul-le (b - 64 * doublings_of b + 1) (2 ^ doublings_of b) 128 (2 ^ 57) (omega arith) (let few : doublings_of b ≤ 57 = omega arith in pow_mono few) in
+    mul-le (b - 64 * doublings_of b + 1) (2 ^ doublings_of b) 128 (2 ^ 57) (omega arith) (let few : doublings_of b ≤ 57 = omega arith in pow_mono few) in
     omega arith
 
 pub one_shifted : (b s : ℕ) → b < 3776 → s ≡ b / 64 - 1 → 1 * 2 ^ s % 2 ^ 64 ≡ 2 ^ s

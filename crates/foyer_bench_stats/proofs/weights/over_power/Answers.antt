@@ -10,11 +10,11 @@ loop-place-init c = record { places = over_none c.args.exponent; small = omega a
 pub loop-place-preserved : goal.loop-place-preserved
 loop-place-preserved c =
     elim c.if-exponent-place-eq1.branch [
-      then-exponent-place-eq1 w ↦ rw w.part-is (record {
+      | then-exponent-place-eq1 w ↦ rw w.part-is (record {
         places = rw w.from.ensures (rw c.loop-place.invariant.places (over_set c.args.exponent c.loop-place.place w.if-exponent-place-eq1.true));
         small = shrunk c.loop-place.part w.from.result c.loop-place.invariant.small (rw w.from.ensures (root_fits c.loop-place.place c.loop-place-test.true));
       })
-    | else-exponent-place-eq1 w ↦ rw w.part-is (record {
+      | else-exponent-place-eq1 w ↦ rw w.part-is (record {
         places = c.loop-place.invariant.places ∙ over_clear c.args.exponent c.loop-place.place w.if-exponent-place-eq1.false;
         small = c.loop-place.invariant.small;
       })

@@ -9,12 +9,12 @@ loop-place-preserved c =
     let fits : c.loop-place.part * c.loop-place.part < 2 ^ 64 = square_fits c.loop-place.part c.loop-place.invariant.part in
     let more : 2 ^ (c.loop-place.place + 1) ≡ 2 ^ c.loop-place.place * 2 = doubled c.loop-place.place in
     elim c.if-square.branch [
-      then-square w ↦ rw w.part-is (rw w.log-is (record {
+      | then-square w ↦ rw w.part-is (rw w.log-is (record {
         part = omega arith;
         log = omega arith;
         places = place_small c.loop-place.place c.loop-place.part c.loop-place.log (omega arith) (omega arith) ∙ c.loop-place.invariant.places;
       }))
-    | else-square w ↦ rw w.part-is (rw w.log-is (record {
+      | else-square w ↦ rw w.part-is (rw w.log-is (record {
         part = omega arith;
         log = omega arith;
         places = place_large c.loop-place.place c.loop-place.part c.loop-place.log (omega arith) (omega arith) ∙ c.loop-place.invariant.places;

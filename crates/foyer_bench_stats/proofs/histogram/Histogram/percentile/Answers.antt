@@ -10,5 +10,5 @@ returns-then-from-wanted c =
     (rw (← same) (omega arith))
     c.loop-bucket.invariant.fewer
     (is_enough c.args.thousandths (sum c.args.self.now.counts) c.from.result c.from-2.result (sum (take c.loop-bucket.bucket c.args.self.now.counts)) (get_or c.args.self.now.counts c.loop-bucket.bucket 0) c.from-in-loop-bucket.result
-        (rw (← same) (omega arith)) c.from-2.ensures (rw (← c.loop-bucket.invariant.covered) (rw c.loop-bucket.invariant.items at c.from-in-loop-bucket.ensures)) c.if-from-wanted.true)
+    (rw (← same) (omega arith)) c.from-2.ensures (rw (← c.loop-bucket.invariant.covered) (rw c.loop-bucket.invariant.items at c.from-in-loop-bucket.ensures)) c.if-from-wanted.true)
     (rw (← c.self.view_is) (rw (← c.highest.ensures) c.min.ensures))
