@@ -31,15 +31,21 @@ fn print_times<W: Write>(output: &mut W, name: &str, times: &Histogram) -> io::R
 }
 
 fn print_steps<W: Write>(output: &mut W, steps: &[u64; 8]) -> io::Result<()> {
-    let [queued, dropped, deleted, read, look_up_miss, entry, end_miss, other] = *steps;
+    let [
+        queued,
+        dropped,
+        deleted,
+        read,
+        look_up_miss,
+        entry,
+        end_miss,
+        other,
+    ] = *steps;
     write!(
         output,
         "steps: queued={queued} dropped={dropped} deleted={deleted} read={read} look_up_miss={look_up_miss}"
     )?;
-    write!(
-        output,
-        " entry={entry} end_miss={end_miss} other={other}\n"
-    )
+    write!(output, " entry={entry} end_miss={end_miss} other={other}\n")
 }
 
 // Rates, answers, latencies and steps, which depend on the schedule.

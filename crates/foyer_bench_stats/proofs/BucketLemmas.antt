@@ -3,7 +3,7 @@ use Rattle.std.proofs.Common.{ℕ, ◌≡◌, ◌+◌, ◌-◌, ◌*◌, ◌/◌
 use Rattle.std.proofs.Math.Pow.{pow_mono}
 use Rattle.std.proofs.lemmas.Bool.{cases_lt}
 use Rattle.std.proofs.lemmas.Nat.{pow_pos, pow-add, div_below, le-div, shr_split, mod_below, mul-le, shl_whole, one_shl}
-use Rattle.foyer_bench_stats.specs.Buckets.{IsBucketOf, doublings_of, lowest_of, highest_of}
+use Rattle.foyer_bench_stats.specs.Buckets.{IsBucketOf, doublings_of, lowest_of}
 
 pub above_six : (v e : ℕ) → 128 ≤ v → v < 2 * 2 ^ e → 6 < e
 above_six v e large short = elim (cases_lt 6 e) [ inl h ↦ h | inr h ↦ absurd (let p : 2 ^ e ≤ 2 ^ 6 = pow_mono h in omega arith) ]

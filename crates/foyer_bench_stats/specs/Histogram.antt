@@ -1,5 +1,5 @@
 -- What a histogram shows.
-use Rattle.std.specs.Prelude.{◌≡◌, ℕ, ◌+◌, ◌-◌, ◌*◌, ◌^◌, ◌<◌, ◌≤◌, ◌↔◌, Bool, IsTrue, List, length, sum, take, max, min, slice_index, slice_set}
+use Rattle.std.specs.Prelude.{◌≡◌, ℕ, ◌+◌, ◌*◌, ◌<◌, ◌≤◌, List, length, sum, take, max, min, slice_index, slice_set}
 use Rattle.foyer_bench_stats.specs.Buckets.{IsBucketOf, highest_of}
 
 -- how many numbers each bucket has, and the greatest number

@@ -1,5 +1,5 @@
 -- How often a rank is drawn, in whole numbers.
-use Rattle.std.specs.Prelude.{◌≡◌, ℕ, zero, suc, ◌+◌, ◌-◌, ◌*◌, ◌/◌, ◌%◌, ◌^◌, ◌<◌, ◌≤◌, List, if◌then◌else◌, ◌==◌, max, nat_lt, slice_index}
+use Rattle.std.specs.Prelude.{◌≡◌, ℕ, zero, suc, ◌+◌, ◌-◌, ◌*◌, ◌/◌, ◌%◌, ◌^◌, ◌<◌, ◌≤◌, if◌then◌else◌, ◌==◌, max, nat_lt, slice_index}
 use Rattle.foyer_bench_stats.specs.declared.weights.TheConstants.{ROOTS}
 
 -- a logarithm with so many binary places more: `part` over 2^31 is what is left of the number, from 1 to 2

@@ -1,8 +1,8 @@
 //! `foyerbench DIR CAPACITY BLOCK THREADS VALUE_BYTES SECONDS [NAME=VALUE..]`: threads that call one store, and how long it takes.
 #![tactic(auto)]
 
-use foyer_core_tally::book::Blanks;
 use foyer_bench::bench::bench;
+use foyer_core_tally::book::Blanks;
 use std::env;
 use std::marker::Brand;
 use std::process::ExitCode;

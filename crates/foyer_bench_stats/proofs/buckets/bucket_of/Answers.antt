@@ -1,4 +1,4 @@
-use Rattle.std.proofs.Common.{◌/◌, ◌^◌, ◌-◌, ◌<◌, ◌≤◌, refl, arith}
+use Rattle.std.proofs.Common.{◌-◌, ◌<◌, refl, arith}
 use Rattle.foyer_bench_stats.proofs.BucketLemmas.{above_six, shifted_bucket, small_bucket, top_high}
 use Rattle.foyer_bench_stats.proofs.buckets.bucket_of.Goals as goal
 

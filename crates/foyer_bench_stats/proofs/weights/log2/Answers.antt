@@ -1,4 +1,4 @@
-use Rattle.std.proofs.Common.{◌≤◌, refl, arith}
+use Rattle.std.proofs.Common.{◌≤◌, arith}
 use Rattle.foyer_bench_stats.proofs.WeightLemmas.{at_most_26, part_fits, part_whole}
 use Rattle.foyer_bench_stats.proofs.weights.log2.Goals as goal
 

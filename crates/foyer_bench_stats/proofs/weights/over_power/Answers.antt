@@ -1,5 +1,4 @@
-use Rattle.std.proofs.Common.{◌*◌, ◌/◌, ◌^◌, ◌≤◌, ◌≡◌, ◌≢◌, ◌%◌, ◌-◌, ◌∙◌, subst, arith}
-use Rattle.foyer_bench_stats.specs.Weights.{over_places}
+use Rattle.std.proofs.Common.{◌/◌, ◌^◌, ◌∙◌, arith}
 use Rattle.foyer_bench_stats.proofs.WeightLemmas.{over_clear, over_none, over_set, over_vanishes, root_fits, shrunk}
 use Rattle.foyer_bench_stats.proofs.weights.over_power.Goals as goal
 use Rattle.foyer_bench_stats.proofs.weights.over_power.Goals.{then-exponent-place-eq1, else-exponent-place-eq1}

@@ -1,4 +1,4 @@
-use Rattle.std.proofs.Common.{◌≡◌, sum, take, length, get_or, ap, sym, ◌∙◌, arith}
+use Rattle.std.proofs.Common.{◌≡◌, sum, take, get_or, ap, arith}
 use Rattle.foyer_bench_stats.specs.Histogram.{Noted}
 use Rattle.foyer_bench_stats.proofs.HistogramLemmas.{is_enough, is_percentile}
 use Rattle.foyer_bench_stats.proofs.histogram.Histogram.percentile.Goals as goal

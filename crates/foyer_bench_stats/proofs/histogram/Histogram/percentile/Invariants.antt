@@ -1,4 +1,4 @@
-use Rattle.std.proofs.Common.{◌≡◌, ◌*◌, ◌<◌, ◌≤◌, sum, take, length}
+use Rattle.std.proofs.Common.{◌≡◌, ◌*◌, ◌<◌, sum, take}
 use Rattle.foyer_bench_stats.proofs.histogram.Histogram.percentile.Given as goal
 
 abbrev pub invariant-loop-bucket : goal.invariant-loop-bucket

@@ -1,4 +1,4 @@
-use Rattle.std.proofs.Common.{◌≡◌, ◌+◌, ◌^◌, ◌≤◌, ◌<◌, length, drop, map, string_bytes, subst, sym, refl, Err, MatchResult, arith}
+use Rattle.std.proofs.Common.{◌+◌, ◌^◌, ◌<◌, length, drop, map, string_bytes, arith}
 use Rattle.std.proofs.lemmas.List.{length-drop, length-map}
 use Rattle.std.proofs.lemmas.Result.{err_from_is_err_and}
 use Rattle.foyer_bench_stats.specs.Settings.{IsSetting}

@@ -1,4 +1,4 @@
-use Rattle.std.proofs.Common.{◌≡◌, ◌+◌, ◌-◌, ◌*◌, ◌^◌, ◌<◌, ◌≤◌, get_or}
+use Rattle.std.proofs.Common.{◌≡◌, ◌-◌, ◌*◌, ◌^◌, ◌<◌, ◌≤◌, get_or}
 use Rattle.std.specs.List.Sorted.{IsNonDecreasing}
 use Rattle.foyer_bench_stats.specs.Zipf.{AreSums}
 use Rattle.foyer_bench_stats.proofs.zipf.Zipf.new.Given as goal
