@@ -1,13 +1,14 @@
 //! The whole program: a store is built, filled, and called by threads.
-ghost use Rattle.std.specs.Prelude.{◌≡◌, ◌<◌, ◌^◌, drop, length, map, string_bytes, take};
+ghost use Rattle.std.specs.Prelude.{◌≡◌, ◌^◌};
 ghost use Rattle.foyer_bench_stats.specs.declared.plan.Plan.{Plan};
-ghost use Rattle.foyer_bench_stats.specs.Plans.{ArePlanned, HasBounds};
+ghost use Rattle.foyer_bench_stats.specs.BenchPlans.{HasBounds};
 ghost use Rattle.foyer_core_tally.specs.Ledgers.{AreOf};
-ghost use Rattle.foyer_serve.specs.Arguments.{AreWords};
+ghost use Rattle.foyer_bench.specs.BenchWords.{AreBenchWords};
 ghost use Rattle.foyer_serve.specs.declared.options.Options.{Options};
 
 use crate::caller::{Caller, Values, piece_of};
 use crate::report::{Report, print};
+use crate::words::read_words;
 use foyer_bench_stats::answers::Answers;
 use foyer_bench_stats::histogram::Histogram;
 use foyer_bench_stats::plan::Plan;
@@ -305,15 +306,50 @@ fn refuse<E: Write>(errors: &mut E, refusal: Option<Refusal>) -> io::Result<()> 
     errors.write_all(USAGE.as_bytes())
 }
 
+// As `bench`, of words that were read.
+fn run<L, T, W, E>(
+    rt: T,
+    alloc: Global,
+    blanks: Blanks,
+    options: &Options<'_>,
+    plan: &Plan,
+    mut output: W,
+    mut errors: E,
+) -> u8
+where
+    L: Kinds + Send + Sync + 'static,
+    T: Threads + Wait + Clock + Files<File = File> + AllocGlobal + Copy + Send + Sync + 'static,
+    W: Write + Drop,
+    E: Write + Drop,
+    requires blanks { AreOf L.name_of L.all blanks × (L.all ≡ 2 ^ 32) }
+    requires plan { HasBounds plan.now }
+{
+    let report = if options.is_memory() {
+        bench_memory::<L, T>(rt, alloc, blanks, options, plan)
+    } else {
+        bench_directory::<L, T>(rt, alloc, blanks, options, plan)
+    };
+    match report {
+        Ok(report) => match print(&mut output, plan, &report) {
+            Ok(true) => 0,
+            _ => 1,
+        },
+        Err(error) => {
+            let _ = write!(errors, "{error}\n");
+            1
+        }
+    }
+}
+
 /// Runs the words `DIR CAPACITY BLOCK THREADS VALUE_BYTES SECONDS [NAME=VALUE..]`: so many threads call one store for so long, and
-/// what they counted is printed. Gives the exit status: 0, or 1 where a call was refused or answered wrongly, or the store couldn't be
-/// built, or 2 for bad words.
+/// what they counted is printed. Gives the exit status: 0, or 1 where a call was refused or answered wrongly, the store couldn't be
+/// built or the output failed, or 2 for bad words.
 pub fn bench<L, T, B, W, E>(
     rt: T,
     alloc: Global,
     blanks: Blanks,
     words: &[String<B>],
-    mut output: W,
+    output: W,
     mut errors: E,
 ) -> u8
 where
@@ -323,38 +359,15 @@ where
     W: Write + Drop,
     E: Write + Drop,
     requires { AreOf L.name_of L.all blanks × (L.all ≡ 2 ^ 32) }
-    ensures usage { length words.now < 6 → result ≡ 2 }
-    ensures options { ((o : Options) → ¬ AreWords (take 3 words.now) o) → result ≡ 2 }
-    ensures plan { ((p : Plan) → ¬ ArePlanned (map string_bytes (drop 3 words.now)) p) → result ≡ 2 }
+    ensures usage { ((o : Options) (p : Plan) → ¬ AreBenchWords words.now o p) → result ≡ 2 }
 {
-    if words.len() < 6 {
-        let _ = refuse(&mut errors, None);
-        return 2;
-    }
-    let Some(options) = Options::parse(&words[..3]) else {
-        let _ = refuse(&mut errors, None);
-        return 2;
-    };
-    let plan = match Plan::parse(&words[3..]) {
-        Ok(plan) => plan,
-        Err(refusal) => {
-            let _ = refuse(&mut errors, Some(refusal));
-            return 2;
+    match read_words(words) {
+        Ok((options, plan)) => {
+            run::<L, T, W, E>(rt, alloc, blanks, &options, &plan, output, errors)
         }
-    };
-    let report = if options.is_memory() {
-        bench_memory::<L, T>(rt, alloc, blanks, &options, &plan)
-    } else {
-        bench_directory::<L, T>(rt, alloc, blanks, &options, &plan)
-    };
-    match report {
-        Ok(report) => match print(&mut output, &plan, &report) {
-            Ok(true) => 0,
-            _ => 1,
-        },
-        Err(error) => {
-            let _ = write!(errors, "{error}\n");
-            1
+        Err(refusal) => {
+            let _ = refuse(&mut errors, refusal);
+            2
         }
     }
 }

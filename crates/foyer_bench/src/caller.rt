@@ -1,6 +1,6 @@
 //! One thread's calls, and what it counts of them.
 ghost use Rattle.std.specs.Prelude.{◌≡◌, ◌*◌, ◌^◌, ◌<◌, ◌≤◌, IfOk};
-ghost use Rattle.foyer_bench.specs.Answering.{IsGetAnswer, IsPutAnswer};
+ghost use Rattle.foyer_bench.specs.StoreAnswers.{IsGetAnswer, IsPutAnswer};
 
 use foyer_bench_stats::answers::{Answers, GetAnswer, PutAnswer};
 use foyer_bench_stats::histogram::Histogram;

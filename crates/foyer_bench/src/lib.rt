@@ -4,3 +4,4 @@
 pub mod bench;
 pub mod caller;
 pub mod report;
+pub mod words;

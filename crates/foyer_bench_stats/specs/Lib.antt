@@ -1,7 +1,7 @@
-pub mod Answered
+pub mod AnswerCounts
 pub mod Buckets
 pub mod Histogram
-pub mod Plans
+pub mod BenchPlans
 pub mod Settings
 pub mod Values
 pub mod Weights

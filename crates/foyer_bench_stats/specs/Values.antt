@@ -7,5 +7,5 @@ abbrev pub start_of : ℕ → List ℕ → List ℕ
 start_of key value = take (min (length value) 8) (to_le_bytes w64 key)
 
 -- the value begins with its key's bytes, as far as it is long
-abbrev pub IsOf : ℕ → List ℕ → Type 0
-IsOf key value = take 8 value ≡ start_of key value
+abbrev pub IsValueOf : ℕ → List ℕ → Type 0
+IsValueOf key value = take 8 value ≡ start_of key value

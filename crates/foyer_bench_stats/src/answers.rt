@@ -40,7 +40,7 @@ pub struct Answers {
 
 impl Answers {
     ghost use Rattle.std.specs.Prelude.{◌≡◌, ◌+◌, ◌<◌, ◌^◌, ◌↔◌, IsTrue};
-    ghost use Rattle.foyer_bench_stats.specs.Answered.{both, got, no_answers, put, IsWell};
+    ghost use Rattle.foyer_bench_stats.specs.AnswerCounts.{both, got, no_answers, put, IsWell};
 
     /// Of no calls.
     pub fn new() -> Answers

@@ -1,6 +1,6 @@
 //! The words that say what a bench runs: `THREADS VALUE_BYTES SECONDS`, and settings, each `name=value`.
 ghost use Rattle.std.specs.Prelude.{◌≡◌, IfOk, MatchResult, map, string_bytes};
-ghost use Rattle.foyer_bench_stats.specs.Plans.{AreRefused, ArePlanned, HasBounds, set_to};
+ghost use Rattle.foyer_bench_stats.specs.BenchPlans.{AreRefused, ArePlanWords, HasBounds, set_to};
 
 use crate::settings::{Refusal, Setting, number};
 use std::alloc::Allocator;
@@ -47,7 +47,7 @@ impl Plan {
     /// Reads the words. Of settings of one name the last counts; where none is there, 100,000 keys are asked of at a skew of 0.99,
     /// 90 of a hundred calls are gets, the seed is 1, and nothing is put before.
     pub fn parse<A: Allocator>(words: &[String<A>]) -> Result<Plan, Refusal>
-        ensures read { MatchResult result (ArePlanned (map string_bytes words.now)) (AreRefused (map string_bytes words.now)) }
+        ensures read { MatchResult result (ArePlanWords (map string_bytes words.now)) (AreRefused (map string_bytes words.now)) }
         ensures bounds { IfOk result HasBounds }
     {
         if words.len() < 3 {

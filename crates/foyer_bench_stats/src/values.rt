@@ -1,6 +1,6 @@
 //! Keys of ranks, values of keys, and rates.
 ghost use Rattle.std.specs.Prelude.{◌≡◌, ◌++◌, ◌*◌, ◌/◌, ◌%◌, ◌-◌, ◌^◌, ◌↔◌, IfOk, IsTrue, drop, length, max, min};
-ghost use Rattle.foyer_bench_stats.specs.Values.{start_of, IsOf};
+ghost use Rattle.foyer_bench_stats.specs.Values.{start_of, IsValueOf};
 
 use std::alloc::{AllocError, Global};
 
@@ -24,7 +24,7 @@ pub fn value_of(alloc: Global, key: u64, filler: &[u8]) -> Result<Vec<u8>, Alloc
 
 /// Whether a value begins with its key's bytes, as far as it is long.
 pub fn is_of(key: u64, value: &[u8]) -> bool
-    ensures { IsTrue result ↔ IsOf key value.now }
+    ensures { IsTrue result ↔ IsValueOf key value.now }
 {
     let length = value.len().min(8);
     value[..length] == key.to_le_bytes()[..length]

@@ -2,7 +2,7 @@ use Rattle.std.proofs.Common.{◌+◌, ◌^◌, ◌<◌, length, drop, map, stri
 use Rattle.std.proofs.lemmas.List.{length-drop, length-map}
 use Rattle.std.proofs.lemmas.Result.{err_from_is_err_and}
 use Rattle.foyer_bench_stats.specs.Settings.{IsSetting}
-use Rattle.foyer_bench_stats.proofs.PlanLemmas.{are_refused, bounds-set, has_no_number, later_word_is, no_settings, number_at, rest_is, settings-all, settings-more, word_is}
+use Rattle.foyer_bench_stats.proofs.WordLemmas.{are_refused, bounds-set, has_no_number, later_word_is, no_settings, number_at, rest_is, settings-all, settings-more, word_is}
 use Rattle.foyer_bench_stats.proofs.plan.Plan.parse.Goals as goal
 
 pub returns-in_default-clause-read : goal.returns-in_default-clause-read

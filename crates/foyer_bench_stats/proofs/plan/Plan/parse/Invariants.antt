@@ -1,5 +1,5 @@
 use Rattle.std.proofs.Common.{take, drop, map, string_bytes}
-use Rattle.foyer_bench_stats.specs.Plans.{AreSettings, HasBounds}
+use Rattle.foyer_bench_stats.specs.BenchPlans.{AreSettings, HasBounds}
 use Rattle.foyer_bench_stats.proofs.plan.Plan.parse.Given as goal
 
 abbrev pub invariant-loop-word : goal.invariant-loop-word

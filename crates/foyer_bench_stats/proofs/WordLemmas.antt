@@ -7,7 +7,7 @@ use Rattle.foyer_bench_stats.specs.declared.settings.Setting.TheVariants as sett
 use Rattle.foyer_bench_stats.specs.declared.settings.Refusal.{Refusal}
 use Rattle.foyer_bench_stats.specs.declared.settings.Refusal.TheVariants as refusal
 use Rattle.foyer_bench_stats.specs.Settings.{IsNumberIn, IsRefusedWord, IsSetting, greatest_of, least_of}
-use Rattle.foyer_bench_stats.specs.Plans.{AreRefused, AreSettings, HasBounds, HasNoNumberIn, set_to, word_at}
+use Rattle.foyer_bench_stats.specs.BenchPlans.{AreRefused, AreSettings, HasBounds, HasNoNumberIn, set_to, word_at}
 
 -- the text of a word
 pub word_is : {X : Type 0} (f : X → List ℕ) (ws : List X) (w : X) (k : ℕ) (text : List ℕ) → w ≡ get_or ws k w → k < length ws → text ≡ f w → text ≡ word_at (map f ws) k

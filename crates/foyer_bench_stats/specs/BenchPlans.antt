@@ -48,7 +48,7 @@ pub record HasBounds (plan : Plan) : Type 0 where
   pub skew : plan.skew ≤ 1000
 
 -- three numbers, and then settings
-pub record ArePlanned (words : List (List ℕ)) (plan : Plan) : Type 0 where
+pub record ArePlanWords (words : List (List ℕ)) (plan : Plan) : Type 0 where
   pub enough : 3 ≤ length words
   pub threads : ℕ
   pub is_threads : IsNumberIn (word_at words 0) 1 1024 threads

@@ -6,7 +6,7 @@ use Rattle.foyer_bench_stats.specs.declared.answers.GetAnswer.{GetAnswer}
 use Rattle.foyer_bench_stats.specs.declared.answers.GetAnswer.TheVariants as got
 use Rattle.foyer_bench_stats.specs.declared.answers.PutAnswer.{PutAnswer}
 use Rattle.foyer_bench_stats.specs.declared.answers.PutAnswer.TheVariants as put
-use Rattle.foyer_bench_stats.specs.Values.{IsOf}
+use Rattle.foyer_bench_stats.specs.Values.{IsValueOf}
 use Rattle.foyer_device_page.specs.declared.error.Error.{Error}
 use Rattle.foyer_format_record.specs.declared.serde.NoProperties.{NoProperties}
 use Rattle.foyer_storage_engine.specs.declared.engine.Enqueued.{Enqueued}
@@ -23,7 +23,7 @@ IsPutAnswer (Err error) answer = answer ≡ put.Fault
 
 -- a value is its key's, or another
 abbrev pub IsHitOrWrong : ℕ → List ℕ → GetAnswer → Type 0
-IsHitOrWrong key value answer = ((answer ≡ got.Hit) × IsOf key value) ⊎ ((answer ≡ got.Wrong) × ¬ IsOf key value)
+IsHitOrWrong key value answer = ((answer ≡ got.Hit) × IsValueOf key value) ⊎ ((answer ≡ got.Wrong) × ¬ IsValueOf key value)
 
 -- what a get of a key is counted as
 abbrev pub IsGetAnswer : ℕ → Result (Load ℕ (Vec ℕ) NoProperties Global) Error → GetAnswer → Type 0
