@@ -64,7 +64,7 @@ fn run_one<L: Kinds, N: Engine<StoreSession<L>, u64, Vec<u8>, NoProperties>, R: 
     let Job {
         mut session,
         mut caller,
-        ..
+        is_timed: _,
     } = job;
     let ran = caller.run(rt, alloc, store, &mut session, plan, zipf, filler);
     Job {
@@ -187,11 +187,16 @@ fn report_of<L: Kinds>(
     };
     let mut is_timed = true;
     for job in done {
-        session.join(job.session);
-        report.answers = report.answers.plus(job.caller.answers);
-        let _ = report.puts.merge(&job.caller.puts);
-        let _ = report.gets.merge(&job.caller.gets);
-        is_timed = is_timed && job.is_timed;
+        let Job {
+            session: part,
+            caller,
+            is_timed: was_timed,
+        } = job;
+        session.join(part);
+        report.answers = report.answers.plus(caller.answers);
+        let _ = report.puts.merge(&caller.puts);
+        let _ = report.gets.merge(&caller.gets);
+        is_timed = is_timed && was_timed;
     }
     report.steps = session.tally();
     if is_timed { Ok(report) } else { Err(Error::Io) }

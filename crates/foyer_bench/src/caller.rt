@@ -1,6 +1,9 @@
 //! One thread's calls, and what it counts of them.
-ghost use Rattle.std.specs.Prelude.{◌≡◌, ◌*◌, ◌^◌, ◌<◌, ◌≤◌, IfOk};
-ghost use Rattle.foyer_bench.specs.StoreAnswers.{IsGetAnswer, IsPutAnswer};
+ghost use Rattle.std.specs.Prelude.{◌≡◌, ◌-◌, ◌^◌, IfOk, MatchBool, min};
+ghost use Rattle.std.specs.Time.{instant_nanos};
+ghost use Rattle.foyer_bench.specs.StoreAnswers.{IsGetAnswer, IsPieceOf, IsPutAnswer};
+ghost use Rattle.foyer_bench_stats.specs.AnswerCounts.{no_answers};
+ghost use Rattle.foyer_bench_stats.specs.Histogram.{HasNothing};
 
 use foyer_bench_stats::answers::{Answers, GetAnswer, PutAnswer};
 use foyer_bench_stats::histogram::Histogram;
@@ -30,7 +33,9 @@ pub fn piece_of(
     alloc: Global,
     key: u64,
     filler: &[u8],
-) -> Result<Piece<u64, Vec<u8>, NoProperties, Global>> {
+) -> Result<Piece<u64, Vec<u8>, NoProperties, Global>>
+    ensures { IfOk result (IsPieceOf key filler.now) }
+{
     let value = value_of(alloc, key, filler)?;
     Piece::new(alloc, key, value, key, NoProperties)
 }
@@ -46,7 +51,9 @@ pub fn put_answer(outcome: &Result<Enqueued>) -> PutAnswer
     }
 }
 
-fn hit_or_wrong(is_right: bool) -> GetAnswer {
+fn hit_or_wrong(is_right: bool) -> GetAnswer
+    ensures { MatchBool is_right (result ≡ GetAnswer.Hit) (result ≡ GetAnswer.Wrong) }
+{
     if is_right {
         GetAnswer::Hit
     } else {
@@ -67,7 +74,9 @@ pub fn get_answer(key: u64, outcome: &Result<Load<u64, Vec<u8>, NoProperties, Gl
 }
 
 // The nanoseconds from one moment to another; the greatest number of 64 bits stands for all above.
-fn nanos_between(begin: Instant, end: Instant) -> u64 {
+fn nanos_between(begin: Instant, end: Instant) -> u64
+    ensures { result ≡ min (instant_nanos end - instant_nanos begin) (2 ^ 64 - 1) }
+{
     let nanos = end.duration_since(begin).as_nanos();
     u64::try_from(nanos).unwrap_or(u64::MAX)
 }
@@ -83,7 +92,9 @@ pub struct Caller {
 
 impl Caller {
     /// Of a seed and a thread's number: each number draws calls of its own. Memory.
-    pub fn new(alloc: Global, seed: u64, number: u64) -> Result<Caller> {
+    pub fn new(alloc: Global, seed: u64, number: u64) -> Result<Caller>
+        ensures { IfOk result (λ caller. (caller.answers ≡ no_answers) × HasNothing caller.puts × HasNothing caller.gets) }
+    {
         Ok(Caller {
             words: Pcg64::new(u128::from(seed), u128::from(number)),
             answers: Answers::new(),
