@@ -1,2 +1,0 @@
-pub mod BenchWords
-pub mod StoreAnswers
