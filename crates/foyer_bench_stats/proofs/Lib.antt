@@ -1,0 +1,5 @@
+pub mod BucketLemmas
+pub mod HistogramLemmas
+pub mod WordLemmas
+pub mod WeightLemmas
+pub mod ZipfLemmas

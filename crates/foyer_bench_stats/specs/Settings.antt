@@ -1,0 +1,44 @@
+-- Settings, each a name, an equals sign and a number.
+use Rattle.std.specs.Prelude.{◌≡◌, ℕ, ◌-◌, ◌^◌, ◌≤◌, List, ◌∷◌, ◌++◌, codes}
+use Rattle.std.specs.Str.Parse.{IsNumeral, digits_value, without_leading_plus}
+use Rattle.foyer_bench_stats.specs.declared.settings.Setting.{Setting}
+use Rattle.foyer_bench_stats.specs.declared.settings.Setting.TheVariants as setting
+use Rattle.foyer_bench_stats.specs.declared.settings.Refusal.{Refusal}
+use Rattle.foyer_bench_stats.specs.declared.settings.Refusal.TheVariants as refusal
+
+-- The decimal number of a text, which may begin with a plus sign, within bounds.
+pub record IsNumberIn (text : List ℕ) (least greatest number : ℕ) : Type 0 where
+  pub digits : IsNumeral 10 (without_leading_plus text)
+  pub value : digits_value 10 (without_leading_plus text) ≡ number
+  pub low : least ≤ number
+  pub high : number ≤ greatest
+
+abbrev pub name_of : Setting → List ℕ
+name_of setting.Calls = codes "calls"
+name_of setting.Keys = codes "keys"
+name_of setting.Skew = codes "skew"
+name_of setting.Gets = codes "gets"
+name_of setting.Seed = codes "seed"
+name_of setting.Fill = codes "fill"
+
+abbrev pub least_of : Setting → ℕ
+least_of setting.Keys = 1
+least_of _ = 0
+
+abbrev pub greatest_of : Setting → ℕ
+greatest_of setting.Keys = 2 ^ 26
+greatest_of setting.Skew = 1000
+greatest_of setting.Gets = 100
+greatest_of _ = 2 ^ 64 - 1
+
+-- the word is a setting's name, an equals sign, and a number that it may have
+pub record IsSetting (word : List ℕ) (s : Setting) (number : ℕ) : Type 0 where
+  pub text : List ℕ
+  pub parts : word ≡ name_of s ++ 61 ∷ text
+  pub is_number : IsNumberIn text (least_of s) (greatest_of s) number
+
+-- why a word is no setting: its name is none's, or its number is none that the setting may have
+abbrev pub IsRefusedWord : List ℕ → Refusal → Type 0
+IsRefusedWord word refusal.Unknown = (s : Setting) (text : List ℕ) → ¬ (word ≡ name_of s ++ 61 ∷ text)
+IsRefusedWord word (refusal.Number s) = (text : List ℕ) × (word ≡ name_of s ++ 61 ∷ text) × ((number : ℕ) → ¬ IsNumberIn text (least_of s) (greatest_of s) number)
+IsRefusedWord word _ = ⊥

@@ -1,0 +1,82 @@
+//! The words that say what a bench runs: `THREADS VALUE_BYTES SECONDS`, and settings, each `name=value`.
+ghost use Rattle.std.specs.Prelude.{◌≡◌, IfOk, MatchResult, map, string_bytes};
+ghost use Rattle.foyer_bench_stats.specs.BenchPlans.{AreRefused, ArePlanWords, HasBounds, set_to};
+
+use crate::settings::{Refusal, Setting, number};
+use std::alloc::Allocator;
+
+/// What the words ask for.
+#[derive(Clone, Copy, Debug, PartialEq, Eq)]
+pub struct Plan {
+    /// How many threads call at once.
+    pub threads: u64,
+    /// The bytes of a value.
+    pub value_bytes: u64,
+    /// How long they call.
+    pub seconds: u64,
+    /// How many calls each makes, in place of the seconds.
+    pub calls: Option<u64>,
+    /// How many keys there are.
+    pub keys: u64,
+    /// The skew of the keys' distribution, in hundredths.
+    pub skew: u64,
+    /// How many calls of a hundred are gets.
+    pub gets: u64,
+    /// What the calls are drawn from.
+    pub seed: u64,
+    /// How many keys are put before, the most frequent ones.
+    pub fill: u64,
+}
+
+impl Plan {
+    // With a setting in place of the one before.
+    fn with(mut self, setting: Setting, number: u64) -> Plan
+        ensures { result ≡ set_to setting number self }
+    {
+        match setting {
+            Setting::Calls => self.calls = Some(number),
+            Setting::Keys => self.keys = number,
+            Setting::Skew => self.skew = number,
+            Setting::Gets => self.gets = number,
+            Setting::Seed => self.seed = number,
+            Setting::Fill => self.fill = number,
+        }
+        self
+    }
+
+    /// Reads the words. Of settings of one name the last counts; where none is there, 100,000 keys are asked of at a skew of 0.99,
+    /// 90 of a hundred calls are gets, the seed is 1, and nothing is put before.
+    pub fn parse<A: Allocator>(words: &[String<A>]) -> Result<Plan, Refusal>
+        ensures read { MatchResult result (ArePlanWords (map string_bytes words.now)) (AreRefused (map string_bytes words.now)) }
+        ensures bounds { IfOk result HasBounds }
+    {
+        if words.len() < 3 {
+            return Err(Refusal::Missing);
+        }
+        let Some(threads) = number(words[0].as_str(), 1, 1024) else {
+            return Err(Refusal::Threads);
+        };
+        let Some(value_bytes) = number(words[1].as_str(), 0, 1 << 30) else {
+            return Err(Refusal::ValueBytes);
+        };
+        let Some(seconds) = number(words[2].as_str(), 1, 1 << 30) else {
+            return Err(Refusal::Seconds);
+        };
+        let mut plan = Plan {
+            threads,
+            value_bytes,
+            seconds,
+            calls: None,
+            keys: 100_000,
+            skew: 99,
+            gets: 90,
+            seed: 1,
+            fill: 0,
+        };
+        for word in &words[3..] {
+            let (setting, number) = Setting::parse(word.as_str())?;
+            plan = plan.with(setting, number);
+        }
+        Ok(plan)
+    }
+}
