@@ -53,7 +53,10 @@ impl<A: Allocator> Code<A> for Number {
     }
 
     fn estimated_size(&self) -> usize {
-        8
+        match self.0 {
+            Some(number) => <u64 as Code<A>>::estimated_size(&number),
+            None => 0,
+        }
     }
 
     ghost is_encoded = { λ n. is_encoded n.0 };

@@ -34,13 +34,22 @@ fn faults_of(word: &str, number: u64) -> Faults {
     match word {
         "log" => Faults {
             log: number,
-            blocks: 0,
             kept: SLOT,
+            ..NO_FAULTS
         },
         "blocks" => Faults {
-            log: 0,
             blocks: number,
             kept: SLOT,
+            ..NO_FAULTS
+        },
+        "unwritten" => Faults {
+            blocks: number,
+            ..NO_FAULTS
+        },
+        "stops" => Faults {
+            blocks: number,
+            stops: true,
+            ..NO_FAULTS
         },
         _ => NO_FAULTS,
     }
@@ -119,6 +128,12 @@ bare 0 < put 1 a, wait, great 1, get 1, wait, get 1 | queued ok queued a ok miss
 so does a text that isn't taken, since too much is queued; the other keys keep theirs
 log 0 < put 1 a, put 2 b, wait, great 3, put 1 c, get 1, get 2, wait, get 1, get 2 | queued queued ok queued deleted miss b ok miss b / miss b
 bare 0 < put 1 a, put 2 b, wait, great 3, put 1 c, get 1, get 2, wait, get 1, get 2 | queued queued ok queued deleted miss b ok miss b / a b
+a clean that fails counts as one, and what its block had is forgotten; stopped before the next write nothing of its index is lost where nothing was written, and all where a part was: the opening reads four blocks, each of four batches writes twice, and the reclaim reads one index
+unwritten 14 < put 1 a, put 2 b, put 3 c, wait, put 4 d, put 5 e, put 6 f, wait, put 7 g, put 8 h, put 9 i, wait, put 10 j, wait, get 1, get 2, get 10 | queued queued queued ok queued queued queued ok queued queued queued ok queued ok miss miss j / a b
+blocks 14 < put 1 a, put 2 b, put 3 c, wait, put 4 d, put 5 e, put 6 f, wait, put 7 g, put 8 h, put 9 i, wait, put 10 j, wait, get 1, get 2, get 10 | queued queued queued ok queued queued queued ok queued queued queued ok queued ok miss miss j / miss miss
+stops 14 < put 1 a, put 2 b, put 3 c, wait, put 4 d, put 5 e, put 6 f, wait, put 7 g, put 8 h, put 9 i, wait, put 10 j, wait, get 1, get 2, get 10 | queued queued queued ok queued queued queued ok queued queued queued ok queued ok miss miss Io / a b
+its block is handed out again, and nothing that it had is answered, then and once it is opened again
+unwritten 14 < put 1 a, put 2 b, put 3 c, wait, put 4 d, put 5 e, put 6 f, wait, put 7 g, put 8 h, put 9 i, wait, put 10 j, wait, put 11 k, put 12 l, put 13 m, wait, get 1, get 2, get 3, get 13, put 14 n, wait, get 1, get 13, get 14 | queued queued queued ok queued queued queued ok queued queued queued ok queued ok queued queued queued ok miss miss miss m queued ok miss m n / miss miss
 a log that has wrapped forgets: one of one page has 256 slots, and the first mark is gone behind 256 others
 log 0 < put 1 a, put 2 b, wait, del 2, wait, deletes 255, wait | queued queued ok ok ok ok ok / a miss
 log 0 < put 1 a, put 2 b, wait, del 2, wait, deletes 256, wait | queued queued ok ok ok ok ok / a b

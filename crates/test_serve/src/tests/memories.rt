@@ -1,7 +1,7 @@
 //! A memory that outlives the engines over it: a log of deletes, and blocks.
+use crate::tests::over::lent;
 use foyer_block_index::tombstone::Tombstone;
 use foyer_block_tombstone::block::tombstone::TombstoneLog;
-use foyer_core_steps::apply::Env;
 use foyer_core_steps::open::RecoverMode;
 use foyer_core_steps::settings::Settings;
 use foyer_device_page::error::Result;
@@ -31,18 +31,21 @@ pub const BLOCK: usize = 16384;
 // The bytes that may be queued: less than a text that no block holds.
 const QUEUE: usize = 8192;
 
-/// Which access of the log, and which of the blocks, fails, with 0 none; a write after the bytes that are kept.
+/// Which access of the log, and which of the blocks, fails, with 0 none; a write after the bytes that are kept; and whether all
+/// later ones fail too.
 #[derive(Clone, Copy)]
 pub struct Faults {
     pub log: u64,
     pub blocks: u64,
     pub kept: usize,
+    pub stops: bool,
 }
 
 pub const NO_FAULTS: Faults = Faults {
     log: 0,
     blocks: 0,
     kept: 0,
+    stops: false,
 };
 
 #[derive(Drop)]
@@ -52,6 +55,9 @@ pub struct Memory {
     log: MemoryPartition,
     blocks: Vec<MemoryPartition, Global>,
     count: u32,
+    flushers: u32,
+    // The bytes from which on records of a reclaimed block are written again.
+    admits: Option<usize>,
 }
 
 // The bytes of a log and of so many blocks.
@@ -81,6 +87,17 @@ pub fn partitions_of<R: Files>(
 impl Memory {
     /// A log of one page and so many blocks, all zeros.
     pub fn new<R: Files>(rt: &R, alloc: Global, count: u32) -> Result<Memory> {
+        Memory::with(rt, alloc, count, 1, None)
+    }
+
+    /// The same of engines with so many flushers, whose reclaims have records of so many bytes and more written again.
+    pub fn with<R: Files>(
+        rt: &R,
+        alloc: Global,
+        count: u32,
+        flushers: u32,
+        admits: Option<usize>,
+    ) -> Result<Memory> {
         let (log, blocks) = partitions_of(rt, alloc, count)?;
         let config = SharedMemoryIoEngineConfig::new(alloc, memory_of(alloc, count)?)?;
         Ok(Memory {
@@ -89,16 +106,24 @@ impl Memory {
             log,
             blocks,
             count,
+            flushers,
+            admits,
         })
     }
 
-    fn accesses<R: Wait + Clone + Drop>(&self, rt: &R, n: u64, kept: usize) -> Result<Accesses<R>> {
+    fn accesses<R: Wait + Clone + Drop>(
+        &self,
+        rt: &R,
+        n: u64,
+        faults: Faults,
+    ) -> Result<Accesses<R>> {
         let files: Vec<String<Global>, Global> = Vec::new(self.alloc);
         let context = IoEngineBuildContext {
             files: files.as_slice(),
         };
         let engine = self.config.build(rt, &context)?;
-        Ok(FaultIoEngine::new(engine, n, kept, false))
+        let stops = faults.stops && n != 0;
+        Ok(FaultIoEngine::new(engine, n, faults.kept, stops))
     }
 
     fn open_log<R: Wait + Clone + Drop, A: Allocator + Clone>(
@@ -109,7 +134,7 @@ impl Memory {
         marks: &mut Vec<Tombstone, A>,
     ) -> Result<Log<R, A>> {
         let partitions = Vec::from_slice(alloc.clone()?, &[self.log])?;
-        let accesses = self.accesses(rt, faults.log, faults.kept)?;
+        let accesses = self.accesses(rt, faults.log, faults)?;
         TombstoneLog::open(alloc.clone()?, partitions, accesses, marks)
     }
 
@@ -120,11 +145,12 @@ impl Memory {
         faults: Faults,
     ) -> Result<Blocks<R, A>> {
         let blocks = Vec::from_slice(alloc.clone()?, &self.blocks)?;
-        Ok(PartitionedDisk::new(self.accesses(rt, faults.blocks, faults.kept)?, blocks))
+        Ok(PartitionedDisk::new(self.accesses(rt, faults.blocks, faults)?, blocks))
     }
 
     fn settings(&self, has_log: bool) -> Settings {
         Settings {
+            flushers: self.flushers,
             buffer_pool_size: 65536,
             submit_queue_size_threshold: QUEUE,
             ..Settings::new(self.count, BLOCK).with_tombstone_log(has_log)
@@ -146,7 +172,7 @@ impl Memory {
             None
         };
         let disk = self.open_blocks(rt, &alloc, faults)?;
-        let env = Env::with_default_pickers(self.alloc, 0)?;
+        let env = lent(self.alloc, self.admits)?;
         let settings = self.settings(has_log);
         Engine::with_log(alloc, env, settings, disk, RecoverMode::Quiet, &marks, log)
     }

@@ -5,7 +5,7 @@ mod script;
 
 use crate::tests::asked::number_of;
 use crate::tests::memories::{Faults, Memory, MemoryEngine, NO_FAULTS};
-use crate::tests::sweeps::judge::{Judge, judge_of, judged, met, opened};
+use crate::tests::sweeps::judge::{Judge, judge_of, judge_of_reclaims, judged, met, opened};
 use crate::tests::sweeps::known::Due;
 use crate::tests::sweeps::script::{call_of, outcome_to, say_outcome};
 use foyer_device_page::error::{Error, Result};
@@ -43,6 +43,20 @@ const GREAT_ANSWERS: &str =
     14 miss ok \
     / miss 14 miss queued queued ok queued 14 deleted miss ok \
     / miss miss 26 ";
+
+// Two flushers over three blocks, where reclaims have long texts written again: two lives with a destroy between them, and a
+// third.
+const RECLAIMS: &str =
+    "long1 put2 put3 wait get1 get2 get3 del2 wait get2 put3 put3 wait get1 get2 get3 put2 put3 wait get2 get3 \
+    destroy get1 get2 get3 long2 put3 wait get2 get3 put1 close \
+    / get1 get2 get3 put3 put3 put3 wait get3 get2 del1 put2 wait get1 get2 get3 close \
+    / get1 get2 get3";
+
+const RECLAIMS_ANSWERS: &str =
+    "queued queued queued ok 1 2 3 ok ok miss queued queued ok 1 miss 12 queued queued ok 17 18 \
+    ok miss miss miss queued queued ok 26 27 queued ok \
+    / 31 26 27 queued queued queued ok 38 26 ok queued ok miss 43 38 ok \
+    / miss 43 38 ";
 
 type Heap<'a> = &'a Refusing<Global>;
 
@@ -126,6 +140,21 @@ struct Ran {
     has_refused: bool,
 }
 
+// The memory of a script, and its judge.
+fn memory_of<R: Files>(rt: &R, alloc: Global, script: &str) -> Result<Memory> {
+    if script == RECLAIMS {
+        return Memory::with(rt, alloc, 3, 2, Some(60));
+    }
+    Memory::new(rt, alloc, BLOCKS)
+}
+
+fn first_judge(script: &str, faults: Faults) -> Judge {
+    if script == RECLAIMS {
+        return judge_of_reclaims(faults.stops);
+    }
+    judge_of()
+}
+
 // The script over a fresh memory with that fault.
 fn run<R: Files + Wait + Clone + Drop>(
     rt: &R,
@@ -133,10 +162,10 @@ fn run<R: Files + Wait + Clone + Drop>(
     script: &str,
     fault: Met,
 ) -> Result<Ran> {
-    let memory = Memory::new(rt, alloc, BLOCKS)?;
+    let memory = memory_of(rt, alloc, script)?;
     let heap = Refusing::new(alloc, fault.allocation);
     let mut said = Said::new(alloc);
-    let mut judge = judge_of();
+    let mut judge = first_judge(script, fault.faults);
     let mut life = 0usize;
     for lines in script.split(" / ") {
         let faults = if life == fault.life {
@@ -158,6 +187,7 @@ fn run<R: Files + Wait + Clone + Drop>(
 fn script_of(word: &str) -> &str {
     match word {
         "great" => GREAT,
+        "reclaims" => RECLAIMS,
         _ => SCRIPT,
     }
 }
@@ -168,13 +198,14 @@ fn faults_at(device: &str, n: u64, kept: u64) -> Faults {
     match device {
         "log" => Faults {
             log: n,
-            blocks: 0,
             kept,
+            ..NO_FAULTS
         },
         _ => Faults {
-            log: 0,
             blocks: n,
             kept,
+            stops: device == "stops",
+            ..NO_FAULTS
         },
     }
 }
@@ -242,7 +273,11 @@ fn rows_of<R: Files + Wait + Clone + Drop>(rt: &R, alloc: Global, rows: &str) ->
 
 #[test]
 fn the_scripts_are_answered(rt: HostRuntime) -> std::result::Result<(), Fail> {
-    for (script, answers) in [(SCRIPT, ANSWERS), (GREAT, GREAT_ANSWERS)] {
+    for (script, answers) in [
+        (SCRIPT, ANSWERS),
+        (GREAT, GREAT_ANSWERS),
+        (RECLAIMS, RECLAIMS_ANSWERS),
+    ] {
         let ran = run(&rt, rt.alloc(), script, NOTHING)?;
         let is_answered = ran.words.as_str() == answers && ran.judge.is_well && !ran.judge.is_met;
         assert!(rt; is_answered, "{}", ran.words);
@@ -281,6 +316,22 @@ great log 0 16 8 | 2
 great log 1 16 4 | 2
 great log 0 4096 8 | 1
 great log 1 4096 4 | 1
+reclaims blocks 0 0 60 | 33
+reclaims blocks 1 0 40 | 13
+reclaims blocks 0 100 60 | 32
+reclaims blocks 1 100 40 | 13
+reclaims blocks 0 4096 60 | 32
+reclaims blocks 1 4096 40 | 13
+reclaims log 0 0 12 | 1
+reclaims log 1 0 8 | 1
+reclaims log 0 16 12 | 1
+reclaims log 1 16 8 | 1
+reclaims stops 0 0 60 | 42
+reclaims stops 1 0 40 | 23
+reclaims stops 0 100 60 | 41
+reclaims stops 1 100 40 | 23
+reclaims stops 0 65535 60 | 41
+reclaims stops 1 65535 40 | 23
 ";
 
 #[test]
@@ -313,7 +364,7 @@ fn met_of<R: Files + Wait + Clone + Drop>(rt: &R, alloc: Global, script: &str) -
 
 #[test]
 fn each_allocation_is_refused_in_turn(rt: HostRuntime) -> std::result::Result<(), Fail> {
-    for (script, least) in [(SCRIPT, 200), (GREAT, 100)] {
+    for (script, least) in [(SCRIPT, 200), (GREAT, 100), (RECLAIMS, 100)] {
         let met = met_of(&rt, rt.alloc(), script)?;
         assert!(rt; met > least, "{met} changed an answer");
     }

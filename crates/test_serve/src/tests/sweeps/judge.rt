@@ -24,6 +24,10 @@ pub struct Judge {
     pub is_met: bool,
     // Whether so much is queued that a text isn't taken, where that is known.
     is_full: Option<bool>,
+    // Whether blocks are reclaimed, so that any text may be missed where a fault moved the reclaims.
+    is_reclaimed: bool,
+    // Whether all accesses fail from the fault on.
+    is_stopped: bool,
 }
 
 /// Before the first life.
@@ -35,14 +39,29 @@ pub fn judge_of() -> Judge {
         is_well: true,
         is_met: false,
         is_full: Some(false),
+        is_reclaimed: false,
+        is_stopped: false,
+    }
+}
+
+/// The same where blocks are reclaimed, and where one fault may be the first of all.
+pub fn judge_of_reclaims(is_stopped: bool) -> Judge {
+    Judge {
+        is_reclaimed: true,
+        is_stopped,
+        ..judge_of()
     }
 }
 
 /// Behind an opening, in a life of which such a fault is due.
 pub fn opened(judge: Judge, due: Due) -> Judge {
     let mut table = judge.table;
+    let found = Due {
+        blocks: due.blocks || judge.is_stopped,
+        ..due
+    };
     for known in table.iter_mut() {
-        *known = after_opening(*known, due);
+        *known = after_opening(*known, found);
     }
     Judge {
         table,
@@ -55,7 +74,11 @@ pub fn opened(judge: Judge, due: Due) -> Judge {
 /// Behind an answer that only the fault explains, if it does.
 pub fn met(judge: Judge, is_well: bool) -> Judge {
     Judge {
-        due: NOTHING_DUE,
+        due: if judge.is_stopped {
+            judge.due
+        } else {
+            NOTHING_DUE
+        },
         is_well: judge.is_well && is_well,
         is_met: true,
         ..judge
@@ -130,7 +153,7 @@ fn behind_delete(judge: Judge, key: usize, outcome: Outcome) -> Judge {
 // A text, or with 0 a miss.
 fn shows(judge: Judge, key: usize, text: u64) -> Judge {
     let known = known_of(judge, key);
-    if !may_show(known, text) {
+    if !may_show(known, text) && !(judge.is_reclaimed && text == 0) {
         return wrong(judge);
     }
     let judge = if known.is_shown(text) {
@@ -202,7 +225,7 @@ pub fn judged(judge: Judge, call: Call, key: usize, outcome: Outcome, has_refuse
         ..judge.due
     };
     let judge = match call {
-        Call::Put => behind_put(judge, key, outcome, false),
+        Call::Put | Call::Long => behind_put(judge, key, outcome, false),
         Call::Great => behind_put(judge, key, outcome, true),
         Call::Get => behind_get(judge, key, outcome),
         Call::Delete => behind_delete(judge, key, outcome),

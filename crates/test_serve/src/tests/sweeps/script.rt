@@ -11,6 +11,8 @@ use std::sync::Wait;
 #[derive(Clone, Copy)]
 pub enum Call {
     Put,
+    /// A put of a text whose record a reclaim has written again.
+    Long,
     /// A put of a text that no block holds.
     Great,
     Get,
@@ -39,6 +41,8 @@ pub fn call_of(word: &str) -> (Call, usize) {
         "put1" => (Call::Put, 0),
         "put2" => (Call::Put, 1),
         "put3" => (Call::Put, 2),
+        "long1" => (Call::Long, 0),
+        "long2" => (Call::Long, 1),
         "great1" => (Call::Great, 0),
         "great2" => (Call::Great, 1),
         "great3" => (Call::Great, 2),
@@ -82,9 +86,9 @@ fn outcome_of<A: Allocator>(answer: &Answer<A>, key: usize) -> Outcome {
     }
 }
 
-fn text_of(alloc: Global, number: u64) -> Result<String> {
+fn text_of(alloc: Global, number: u64, is_long: bool) -> Result<String> {
     let mut said = Said::new(alloc);
-    said.number("", number);
+    said.number(if is_long { "0000000000" } else { "" }, number);
     said.text()
 }
 
@@ -94,8 +98,9 @@ fn put<R: Wait + Clone + Drop, A: Allocator + Clone>(
     engine: &mut MemoryEngine<R, A>,
     key: usize,
     line: u64,
+    is_long: bool,
 ) -> Answer<A> {
-    match text_of(alloc, number_of(key, line)) {
+    match text_of(alloc, number_of(key, line), is_long) {
         Ok(text) => engine.put(key as u64, text.as_str()),
         Err(_) => Answer::Ignored,
     }
@@ -109,7 +114,8 @@ fn answer_to<R: Wait + Clone + Drop, A: Allocator + Clone>(
     line: u64,
 ) -> Answer<A> {
     match call {
-        Call::Put => put(alloc, engine, key, line),
+        Call::Put => put(alloc, engine, key, line, false),
+        Call::Long => put(alloc, engine, key, line, true),
         Call::Great => put_great(engine, key as u64),
         Call::Get => engine.get(key as u64),
         Call::Delete => engine.delete(key as u64),
