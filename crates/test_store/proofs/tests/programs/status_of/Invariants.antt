@@ -1,5 +1,5 @@
 use Rattle.foyer_core_tally.specs.Ledgers.{names_in}
-use Rattle.test_store.proofs.tests.programs.served.Given as goal
+use Rattle.test_store.proofs.tests.programs.status_of.Given as goal
 
 abbrev pub ghosts-serve : goal.ghosts-serve
 ghosts-serve g a = record { name_of = names_in a.blanks; all = a.blanks.queued.parts }
