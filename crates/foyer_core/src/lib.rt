@@ -15,6 +15,7 @@ pub use foyer_core_shared::session::Session;
 pub use foyer_core_shared::shared::Shared;
 pub use foyer_core_steps::apply::Env;
 pub use foyer_core_steps::laws;
+pub use foyer_core_steps::load::Judged;
 pub use foyer_core_steps::reply::Reply;
 pub use foyer_core_steps::settings::Settings;
 pub use foyer_core_steps::state::Core;

@@ -14,6 +14,7 @@ use crate::locked::Locked;
 use crate::notes::Noting;
 use crate::session::Session;
 use foyer_block_manager::block::eviction::EvictionPicker;
+use foyer_core_steps::load::Judged;
 use foyer_core_steps::reply::Reply;
 use foyer_core_steps::step::{Step, Ticket};
 use foyer_core_tally::book::Kinds;
@@ -81,11 +82,12 @@ where
     }
 
     /// Brings what was read for a ticket, as `step` does with a `LoadEnd`, and gives the buffer of the read back beside the reply, for
-    /// the next read.
+    /// the next read. What was read is judged before the lock is taken: a pair takes its memory from this allocator.
     pub fn end_load(
         &self,
         rt: &impl Wait,
         session: &mut Session<L>,
+        alloc: &A,
         ticket: Ticket,
         outcome: Result<Vec<u8, A>>,
     ) -> (Reply<K, V, P, A>, Option<Vec<u8, A>>)
@@ -98,7 +100,8 @@ where
         ensures spare { result.1 ≡ spare_of outcome result.0 }
         ensures parts { session.new.shares.parts ≡ session.old.shares.parts }
     {
-        match self.inside.lock(rt).end_load(session, ticket, outcome) {
+        let judged = Judged::of(alloc, ticket, outcome);
+        match self.inside.lock(rt).end_judged(session, judged) {
             Ok((reply, spare)) => (reply, spare),
             Err(step) => (Reply::Refused(ErrorKind::Memory, step), None),
         }

@@ -1,6 +1,7 @@
 pub mod Answered
 pub mod Asked
 pub mod Destroying
+pub mod Judging
 pub mod Lent
 pub mod Marking
 pub mod Opened

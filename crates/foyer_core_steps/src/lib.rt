@@ -11,7 +11,7 @@ pub mod destroy;
 mod env;
 mod flush;
 pub mod laws;
-mod load;
+pub mod load;
 pub mod open;
 mod queue;
 mod reclaim;

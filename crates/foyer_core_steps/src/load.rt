@@ -1,10 +1,13 @@
 //! Loads: a look-up that issues a read, and the judgement on what was read.
-ghost use Rattle.std.specs.Prelude.{◌≡◌, Option, slice_get};
+ghost use Rattle.std.specs.Prelude.{◌≡◌, ◌⊎◌, ℕ, Err, Option, drop, length, slice_get, take};
+ghost use Rattle.foyer_device_page.specs.declared.error.Error.TheVariants as error;
 ghost use Rattle.foyer_device_page.specs.declared.error.ErrorKind.TheVariants.{Memory};
+ghost use Rattle.foyer_format_layout.specs.Page.{page_up};
 ghost use Rattle.foyer_format_record.specs.declared.serde.ages.Age.{Age as age};
 ghost use Rattle.foyer_core_steps.specs.Answered.{HandsBack, AnswersPair, Describes, Looking, MayWantMemory, spare_of};
 ghost use Rattle.foyer_core_model.specs.State.{State};
 ghost use Rattle.foyer_core_laws.specs.Content.{Content, Meaning, meaning};
+ghost use Rattle.foyer_core_steps.specs.Judging.{IsJudged, IsReadAs};
 ghost use Rattle.foyer_core_steps.specs.Refines.{Refines, RefinesUncounted, missed};
 ghost use Rattle.foyer_core_steps.specs.StateOf.{IsStateOf};
 ghost use Rattle.foyer_core_laws.specs.declared.settings.Settings.{Settings};
@@ -32,6 +35,99 @@ fn load_end<K, V, P, A: Allocator>(ticket: Ticket, outcome: Result<Vec<u8, A>>) 
     Step::LoadEnd {
         ticket,
         result: outcome,
+    }
+}
+
+// What the first bytes of a read are as a record of its ticket. Nothing is looked at where the read isn't whole.
+fn judge_bytes<K: Code<A> + Drop, V: Code<A> + Drop, A: Allocator + Clone>(
+    alloc: &A,
+    ticket: &Ticket,
+    bytes: &[u8],
+) -> Result<Option<(K, V)>>
+    ensures read { length bytes.now ≡ page_up ticket.now.address.len
+        → IsReadAs K.is_decodable V.is_decodable K.encoding V.encoding K.is_encodable V.is_encodable
+        (take ticket.now.address.len bytes.now) ticket.now.hash ticket.now.address.sequence result }
+    ensures memory { result ≡ Err error.Memory → (value_len key_len : ℕ)
+        × (V.takes_memory (take value_len (drop 36 (take ticket.now.address.len bytes.now)))
+        ⊎ K.takes_memory (take key_len (drop value_len (drop 36 (take ticket.now.address.len bytes.now)))) ⊎ (A.is_infallible alloc.now → ⊥)) }
+{
+    if bytes.len() != ticket.read_len() {
+        return Ok(None);
+    }
+    let record = &bytes[..ticket.address.len as usize];
+    read_record(alloc, record, ticket.hash, ticket.address.sequence)
+}
+
+// The same of what was read, if the read went well.
+fn judge<K: Code<A> + Drop, V: Code<A> + Drop, A: Allocator + Clone>(
+    alloc: &A,
+    ticket: &Ticket,
+    outcome: &Result<Vec<u8, A>>,
+) -> Result<Option<(K, V)>>
+    ensures judged { IsJudged K.is_decodable V.is_decodable K.encoding V.encoding K.is_encodable V.is_encodable ticket.now outcome.now result }
+    ensures memory { result ≡ Err error.Memory → MayWantMemory K.takes_memory V.takes_memory (A.is_infallible alloc.now) ticket.now outcome.now }
+{
+    match outcome {
+        Ok(bytes) => judge_bytes(alloc, ticket, bytes.as_slice()),
+        Err(_) => Ok(None),
+    }
+}
+
+/// What was read for a ticket, and what it is as a record. It is judged before the core is asked, so that no other thread waits
+/// for that.
+#[derive(Drop)]
+pub struct Judged<K, V, A: Allocator> {
+    ticket: Ticket,
+    outcome: Result<Vec<u8, A>>,
+    found: Result<Option<(K, V)>>,
+}
+
+impl<K, V, A> Judged<K, V, A>
+where
+    K: Code<A> + Drop,
+    V: Code<A> + Drop,
+    A: Allocator + Clone,
+{
+    /// Judges what was read for a ticket: a pair takes its memory from this allocator.
+    pub fn of(alloc: &A, ticket: Ticket, outcome: Result<Vec<u8, A>>) -> Judged<K, V, A>
+        ensures given { (result.ticket ≡ ticket) × (result.outcome ≡ outcome) }
+        ensures judged { IsJudged K.is_decodable V.is_decodable K.encoding V.encoding K.is_encodable V.is_encodable
+            result.ticket result.outcome result.found }
+        ensures memory { result.found ≡ Err error.Memory
+            → MayWantMemory K.takes_memory V.takes_memory (A.is_infallible alloc.now) ticket outcome }
+    {
+        let found = judge(alloc, &ticket, &outcome);
+        Judged {
+            ticket,
+            outcome,
+            found,
+        }
+    }
+
+    /// The ticket.
+    pub fn ticket(&self) -> Ticket
+        ensures { result ≡ self.now.ticket }
+    {
+        self.ticket
+    }
+
+    /// What was read, or a fault of the disk.
+    pub fn outcome(&self) -> &Result<Vec<u8, A>>
+        ensures { result.now ≡ self.now.outcome }
+    {
+        &self.outcome
+    }
+
+    /// The step that brings it.
+    pub fn into_step<P>(self) -> Step<K, V, P, A>
+        ensures { result ≡ step.LoadEnd self.ticket self.outcome }
+    {
+        let Judged {
+            ticket,
+            outcome,
+            found: _,
+        } = self;
+        load_end(ticket, outcome)
     }
 }
 
@@ -76,25 +172,27 @@ impl<K, V, P, A: Allocator + Clone> Core<K, V, P, A> {
         Reply::Miss
     }
 
-    // The block may have been refilled meanwhile: its filling is compared before the bytes are judged.
-    pub(crate) fn load_end(
-        &mut self,
-        ticket: Ticket,
-        outcome: Result<Vec<u8, A>>,
-    ) -> (Reply<K, V, P, A>, Option<Vec<u8, A>>)
+    // The block may have been refilled meanwhile: its filling is compared before it counts what was read.
+    fn end_judged(&mut self, judged: Judged<K, V, A>) -> (Reply<K, V, P, A>, Option<Vec<u8, A>>)
     where
         K: Code<A> + Drop,
         V: Code<A> + Drop,
-        ensures back { HandsBack (step.LoadEnd ticket outcome) result.0 self.old self.new }
+        requires { IsJudged K.is_decodable V.is_decodable K.encoding V.encoding K.is_encodable V.is_encodable
+            judged.ticket judged.outcome judged.found }
+        ensures back { HandsBack (step.LoadEnd judged.ticket judged.outcome) result.0 self.old self.new }
         ensures pair { AnswersPair K.is_decodable V.is_decodable K.encoding V.encoding
-            (step.LoadEnd ticket outcome) result.0 }
+            (step.LoadEnd judged.ticket judged.outcome) result.0 }
         ensures meets { (age_of : P → Option age)
             → RefinesUncounted (meaning K.encoding V.encoding K.is_encodable V.is_encodable K.is_decodable V.is_decodable age_of)
-            (step.LoadEnd ticket outcome) result.0 self.old self.new }
-        ensures spare { result.1 ≡ spare_of outcome result.0 }
-        ensures memory { (back : Step K V P A) → result.0 ≡ reply.Refused Memory back
-            → MayWantMemory K.takes_memory V.takes_memory (A.is_infallible self.old.alloc) ticket outcome }
+            (step.LoadEnd judged.ticket judged.outcome) result.0 self.old self.new }
+        ensures spare { result.1 ≡ spare_of judged.outcome result.0 }
+        ensures memory { (back : Step K V P A) → result.0 ≡ reply.Refused Memory back → judged.found ≡ Err error.Memory }
     {
+        let Judged {
+            ticket,
+            outcome,
+            found,
+        } = judged;
         let address = ticket.address;
         let Some(state) = self.known(address.block) else {
             return (Reply::NotNow(load_end(ticket, outcome)), None);
@@ -119,8 +217,7 @@ impl<K, V, P, A: Allocator + Clone> Core<K, V, P, A> {
         } else {
             Age::Young
         };
-        let record = &bytes[..address.len as usize];
-        match read_record(&self.alloc, record, ticket.hash, address.sequence) {
+        match found {
             Ok(Some((key, value))) => (Reply::Entry { key, value, age }, Some(bytes)),
             Ok(None) => (self.miss(&ticket), Some(bytes)),
             Err(error) => (
@@ -128,6 +225,29 @@ impl<K, V, P, A: Allocator + Clone> Core<K, V, P, A> {
                 None,
             ),
         }
+    }
+
+    // Judges what was read, and ends the load.
+    pub(crate) fn load_end(
+        &mut self,
+        ticket: Ticket,
+        outcome: Result<Vec<u8, A>>,
+    ) -> (Reply<K, V, P, A>, Option<Vec<u8, A>>)
+    where
+        K: Code<A> + Drop,
+        V: Code<A> + Drop,
+        ensures back { HandsBack (step.LoadEnd ticket outcome) result.0 self.old self.new }
+        ensures pair { AnswersPair K.is_decodable V.is_decodable K.encoding V.encoding
+            (step.LoadEnd ticket outcome) result.0 }
+        ensures meets { (age_of : P → Option age)
+            → RefinesUncounted (meaning K.encoding V.encoding K.is_encodable V.is_encodable K.is_decodable V.is_decodable age_of)
+            (step.LoadEnd ticket outcome) result.0 self.old self.new }
+        ensures spare { result.1 ≡ spare_of outcome result.0 }
+        ensures memory { (back : Step K V P A) → result.0 ≡ reply.Refused Memory back
+            → MayWantMemory K.takes_memory V.takes_memory (A.is_infallible self.old.alloc) ticket outcome }
+    {
+        let judged = Judged::of(&self.alloc, ticket, outcome);
+        self.end_judged(judged)
     }
 }
 
@@ -139,11 +259,42 @@ where
     A: Allocator + Clone,
 {
     #[tactic(auto, using(crate::proofs::Describing::issues_counted, crate::proofs::Describing::issues_pair))]
-    /// Applies `LoadEnd` as `apply` does, and gives the buffer of the read back beside the reply, for the next read: as it
-    /// came, with all that is in it. None where the read failed, or where the step that is handed back has the buffer.
-    pub fn apply_load<E: EvictionPicker, C: StorageFilterCondition>(
+    /// Applies the `LoadEnd` of what was judged as `apply` does, and gives the buffer of the read back beside the reply, for the
+    /// next read: as it came, with all that is in it. None where the read failed, or where the step that is handed back has it.
+    pub fn apply_judged<E: EvictionPicker, C: StorageFilterCondition>(
         &mut self,
         _env: &mut Env<E, C>,
+        judged: Judged<K, V, A>,
+    ) -> (Reply<K, V, P, A>, Option<Vec<u8, A>>)
+        requires { IsJudged K.is_decodable V.is_decodable K.encoding V.encoding K.is_encodable V.is_encodable
+            judged.ticket judged.outcome judged.found }
+        ensures back { HandsBack (step.LoadEnd judged.ticket judged.outcome) result.0 self.old self.new }
+        ensures issued { Describes K.is_decodable V.is_decodable K.encoding V.encoding
+            (step.LoadEnd judged.ticket judged.outcome) result.0 self.old self.new }
+        ensures meets { Refines
+            (meaning K.encoding V.encoding K.is_encodable V.is_encodable K.is_decodable V.is_decodable P.age)
+            (step.LoadEnd judged.ticket judged.outcome) result.0 self.old self.new }
+        ensures spare { result.1 ≡ spare_of judged.outcome result.0 }
+        ensures memory { (back : Step K V P A) → result.0 ≡ reply.Refused Memory back → judged.found ≡ Err error.Memory }
+        ensures lent { _env.new ≡ _env.old }
+    {
+        if self.steps == u64::MAX {
+            let given = judged.into_step();
+            return (Reply::Refused(ErrorKind::SequenceEnd, given), None);
+        }
+        let steps = self.steps + 1;
+        let (reply, spare) = self.end_judged(judged);
+        if is_handed_back(&reply) {
+            return (reply, spare);
+        }
+        self.steps = steps;
+        (reply, spare)
+    }
+
+    /// Judges what was read for a ticket, and applies its `LoadEnd` as `apply_judged` does.
+    pub fn apply_load<E: EvictionPicker, C: StorageFilterCondition>(
+        &mut self,
+        env: &mut Env<E, C>,
         ticket: Ticket,
         outcome: Result<Vec<u8, A>>,
     ) -> (Reply<K, V, P, A>, Option<Vec<u8, A>>)
@@ -156,18 +307,9 @@ where
         ensures spare { result.1 ≡ spare_of outcome result.0 }
         ensures memory { (back : Step K V P A) → result.0 ≡ reply.Refused Memory back
             → MayWantMemory K.takes_memory V.takes_memory (A.is_infallible self.old.alloc) ticket outcome }
-        ensures lent { _env.new ≡ _env.old }
+        ensures lent { env.new ≡ env.old }
     {
-        if self.steps == u64::MAX {
-            let given = load_end(ticket, outcome);
-            return (Reply::Refused(ErrorKind::SequenceEnd, given), None);
-        }
-        let steps = self.steps + 1;
-        let (reply, spare) = self.load_end(ticket, outcome);
-        if is_handed_back(&reply) {
-            return (reply, spare);
-        }
-        self.steps = steps;
-        (reply, spare)
+        let judged = Judged::of(&self.alloc, ticket, outcome);
+        self.apply_judged(env, judged)
     }
 }

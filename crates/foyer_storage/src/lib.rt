@@ -208,6 +208,7 @@ pub use foyer_core::Blanks;
 pub use foyer_core::Brief;
 pub use foyer_core::Core;
 pub use foyer_core::Env;
+pub use foyer_core::Judged;
 pub use foyer_core::KeepsNotes;
 pub use foyer_core::Kinds;
 pub use foyer_core::Locked;

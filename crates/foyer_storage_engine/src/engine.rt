@@ -471,7 +471,9 @@ where
         self.gate.pass(Point::LoadRead);
         let reader = self.reader(disk);
         let outcome = reader.lock(rt).read(&ticket)?;
-        let (reply, spare) = self.shared.end_load(rt, session, ticket, outcome);
+        let (reply, spare) = self
+            .shared
+            .end_load(rt, session, &self.alloc, ticket, outcome);
         keep(reader, spare);
         load_of(reply)
     }

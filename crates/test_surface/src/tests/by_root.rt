@@ -95,6 +95,7 @@ use foyer_storage::IoSliceMut;
 use foyer_storage::IoState;
 use foyer_storage::IoThrottle;
 use foyer_storage::IopsCounter;
+use foyer_storage::Judged;
 use foyer_storage::Keeper;
 use foyer_storage::KeepsNotes;
 use foyer_storage::Kinds;
