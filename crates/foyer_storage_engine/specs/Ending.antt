@@ -1,5 +1,6 @@
 -- What a session shows of a wait, a close or a destroy that it made.
 use Rattle.std.specs.Prelude.{◌≡◌, ◌⊎◌, ℕ, Bool, true, false, Option, None, Some, Result, Ok, Err}
+use Rattle.std.specs.Option.{unwrap_or}
 use Rattle.foyer_device_page.specs.declared.error.Error.{Error}
 use Rattle.foyer_device_page.specs.declared.error.Error.TheVariants as error
 use Rattle.foyer_device_page.specs.declared.error.ErrorKind.{ErrorKind}
@@ -9,10 +10,25 @@ use Rattle.foyer_core_shared.specs.declared.brief.ReplyBrief.TheVariants as repl
 use Rattle.foyer_core_shared.specs.declared.brief.StepBrief.TheVariants as asked
 use Rattle.foyer_storage_engine.specs.Answering.{error_of}
 
--- the newest step asks whether no reclaim runs, as the last one of a wait does
+-- the newest step asks whether no reclaim runs, as the last one of a wait does, and is answered
 pub record AsksForReclaims (session : SessionState) : Type 0 where
+  pub is_idle : Bool
+  pub newest : session.newest ≡ Some (record { step = asked.ReclaimIdle; reply = replied.Answer is_idle })
+
+abbrev pub is_refused : ReplyBrief → Bool
+is_refused (replied.Refused kind) = true
+is_refused other = false
+
+-- the newest step queues a wait of this number at this flusher, and isn't refused
+pub record AsksToWait (flusher id : ℕ) (session : SessionState) : Type 0 where
   pub answer : ReplyBrief
-  pub newest : session.newest ≡ Some (record { step = asked.ReclaimIdle; reply = answer })
+  pub newest : session.newest ≡ Some (record { step = asked.Wait flusher id; reply = answer })
+  pub taken : is_refused answer ≡ false
+
+-- the newest step began a destroy, under this sequence
+pub record HasBegun (session : SessionState) : Type 0 where
+  pub sequence : ℕ
+  pub newest : session.newest ≡ Some (record { step = asked.DestroyBegin; reply = replied.Destroying sequence })
 
 -- what a destroy is answered as, by the first clean that failed
 abbrev pub destroyed_as : Option ErrorKind → Result (Unit {0}) Error
@@ -32,12 +48,17 @@ pub record BringsClean (block : ℕ) (session : SessionState) (answered : Option
   pub newest : session.newest ≡ Some (record { step = asked.DestroyCleaned block outcome; reply = answer })
   pub said : answered ≡ cleaned_as answer
 
--- the same of the last block's clean, behind which the destroy is answered so: as its reply says, where that ended the destroy
+-- what a destroy is answered as, by what its last clean is: it ends with none but that
+abbrev pub ended_as : Option (Result (Unit {0}) Error) → Result (Unit {0}) Error
+ended_as outcome = unwrap_or outcome (Err error.Unsupported)
+
+-- The same of the last block's clean, behind which the destroy is answered as the reply says. So it goes well only where that
+-- clean's reply says that the destroy ended, and no clean failed.
 pub record EndsWithClean (block : ℕ) (session : SessionState) (answered : Result (Unit {0}) Error) : Type 0 where
   pub outcome : Result (Unit {0}) ErrorKind
   pub answer : ReplyBrief
   pub newest : session.newest ≡ Some (record { step = asked.DestroyCleaned block outcome; reply = answer })
-  pub said : (first : Option ErrorKind) → answer ≡ replied.Destroyed first → answered ≡ destroyed_as first
+  pub said : answered ≡ ended_as (cleaned_as answer)
 
 -- why a destroy that has begun ends early: no step is left, or the engine's bells are closed
 abbrev pub is_late_error : Error → Bool

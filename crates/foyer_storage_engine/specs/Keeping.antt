@@ -1,5 +1,5 @@
 -- What an enqueue beside a keeper makes of its shard, and answers.
-use Rattle.std.specs.Prelude.{◌≡◌, ◌⊎◌, ℕ, Bool, Result, Ok, Err, Some}
+use Rattle.std.specs.Prelude.{◌≡◌, ◌⊎◌, Bool, Result, Ok, Err, Some}
 use Rattle.foyer_core_shared.specs.Sessions.{SessionState}
 use Rattle.foyer_core_shared.specs.declared.brief.StepBrief.{StepBrief}
 use Rattle.foyer_device_page.specs.declared.error.Error.{Error}

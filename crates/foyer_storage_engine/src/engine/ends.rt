@@ -1,5 +1,5 @@
 //! The calls of an engine that wait for its workers.
-ghost use Rattle.std.specs.Prelude.{◌≡◌, ◌⊎◌, ◌-◌, ◌<◌, IfErr, OnOk, Some, true};
+ghost use Rattle.std.specs.Prelude.{◌≡◌, ◌⊎◌, ◌-◌, ◌<◌, IfErr, IfOk, OnOk, Some, true};
 ghost use Rattle.foyer_core_steps.specs.declared.reply.Reply.TheVariants as reply;
 ghost use Rattle.foyer_core_steps.specs.declared.step.Step.{Step};
 ghost use Rattle.foyer_device_page.specs.declared.error.ErrorKind.TheVariants as kind;
@@ -7,7 +7,9 @@ ghost use Rattle.foyer_core_shared.specs.Answers.{IsAnswer};
 ghost use Rattle.foyer_core_shared.specs.Briefs.{brief_of};
 ghost use Rattle.foyer_core_shared.specs.Replies.{may_reply};
 ghost use Rattle.foyer_storage_engine.specs.Answering.{is_draw_error};
-ghost use Rattle.foyer_storage_engine.specs.Ending.{AsksForReclaims, BringsClean, EndsWithClean, IsUnbegun, is_late_error};
+ghost use Rattle.foyer_core_shared.specs.declared.brief.ReplyBrief.TheVariants as replied;
+ghost use Rattle.foyer_core_shared.specs.declared.brief.StepBrief.TheVariants as asked;
+ghost use Rattle.foyer_storage_engine.specs.Ending.{AsksForReclaims, AsksToWait, BringsClean, EndsWithClean, HasBegun, IsUnbegun, is_late_error};
 
 use super::{BlockEngine, error_of};
 use foyer_block_index::manager::BlockId;
@@ -73,6 +75,7 @@ where
     // Queues a wait at each flusher. Where one is refused the wait is given up, and those that are queued stay.
     fn queue_waits(&self, rt: &impl Wait, session: &mut Session<L>) -> Result<u64>
         requires { 0 < session.old.shares.parts }
+        ensures queued { IfOk result (λ id. 0 < self.now.settings.flushers → AsksToWait (self.now.settings.flushers - 1) id session.new) }
         ensures refused { IfErr result (λ e. is_draw_error e ≡ true) }
         ensures parts { session.new.shares.parts ≡ session.old.shares.parts }
     {
@@ -107,7 +110,7 @@ where
                     }
                 }
                 Reply::Refused(kind, _) => return Err(error_of(kind)),
-                _ => return Ok(()),
+                _ => thread::yield_now(),
             }
         }
         unreachable!()
@@ -142,6 +145,7 @@ where
     // Begins a destroy, once none is under way.
     fn begin_destroy(&self, rt: &impl Wait, session: &mut Session<L>) -> Result<()>
         requires { 0 < session.old.shares.parts }
+        ensures begun { OnOk result (HasBegun session.new) }
         ensures refused { IfErr result (λ e. is_draw_error e ≡ true) }
         ensures unbegun { IfErr result (λ e. (is_late_error e ≡ true) ⊎ IsUnbegun N.keeps session.new e) }
         ensures parts { session.new.shares.parts ≡ session.old.shares.parts }
@@ -149,13 +153,13 @@ where
         for _ in rt.forever() {
             let seen = self.signals.done.count(rt);
             match self.shared.step(rt, session, no_io(), Step::DestroyBegin) {
-                Reply::NotNow(_) => {
+                Reply::Destroying(_) => return Ok(()),
+                Reply::Refused(kind, _) => return Err(error_of(kind)),
+                _ => {
                     if self.signals.done.wait_past(rt, seen) {
                         return Err(Error::Closed);
                     }
                 }
-                Reply::Refused(kind, _) => return Err(error_of(kind)),
-                _ => return Ok(()),
             }
         }
         unreachable!()
@@ -164,6 +168,7 @@ where
     // Waits as `wait` does, again while memory is refused.
     fn wait_again(&self, rt: &impl Wait, session: &mut Session<L>) -> Result<()>
         requires { 0 < session.old.shares.parts }
+        ensures asks { OnOk result (AsksForReclaims session.new) }
         ensures refused { IfErr result (λ e. is_late_error e ≡ true) }
         ensures parts { session.new.shares.parts ≡ session.old.shares.parts }
     {
@@ -179,19 +184,20 @@ where
     // Clears the index, once nothing is under way.
     fn clear(&self, rt: &impl Wait, session: &mut Session<L>) -> Result<()>
         requires { 0 < session.old.shares.parts }
+        ensures cleared { OnOk result (session.new.newest ≡ Some (record { step = asked.DestroyClear; reply = replied.Cleared })) }
         ensures refused { IfErr result (λ e. is_late_error e ≡ true) }
         ensures parts { session.new.shares.parts ≡ session.old.shares.parts }
     {
         for _ in rt.forever() {
             let seen = self.signals.done.count(rt);
             match self.step_again(rt, session, no_io(), Step::DestroyClear) {
-                Reply::NotNow(_) => {
+                Reply::Cleared => return Ok(()),
+                Reply::Refused(kind, _) => return Err(error_of(kind)),
+                _ => {
                     if self.signals.done.wait_past(rt, seen) {
                         return Err(Error::Closed);
                     }
                 }
-                Reply::Refused(kind, _) => return Err(error_of(kind)),
-                _ => return Ok(()),
             }
         }
         unreachable!()
@@ -227,14 +233,12 @@ where
         self.begin_destroy(rt, session)?;
         self.wait_again(rt, session)?;
         self.clear(rt, session)?;
-        let mut answer = Ok(());
+        let mut ended = Some(Ok(()));
         for block in 0..self.settings.blocks {
-            if let Some(outcome) = self.clean(rt, session, block) {
-                answer = outcome;
-            }
+            ended = self.clean(rt, session, block);
         }
         self.signals.done.ring(rt);
         self.signals.reclaims.ring(rt);
-        answer
+        ended.unwrap_or(Err(Error::Unsupported))
     }
 }

@@ -1,0 +1,12 @@
+use Rattle.std.proofs.Common.{◌≡◌, ◌+◌, ◌-◌, sym, subst, ◌∙◌, arith}
+use Rattle.foyer_storage_engine.specs.Ending.{AsksToWait}
+use Rattle.foyer_storage_engine.proofs.EndingLemmas.{asked_to_wait}
+use Rattle.foyer_storage_engine.proofs.engine.BlockEngine.queue_waits.Goals as goal
+
+pub loop-flusher-preserved : goal.loop-flusher-preserved
+loop-flusher-preserved g c =
+    let same : c.loop-flusher.flusher + 1 - 1 ≡ c.loop-flusher.flusher = omega arith in (
+      c.step-reply.ensures.parts ∙ c.loop-flusher.invariant.0,
+      λ some. subst (λ f. AsksToWait f c.in_ok-id.id c.step-reply.new.session) (sym same)
+          (asked_to_wait g.N.Noting.keeps c.loop-flusher.session c.step-reply.new.session c.loop-flusher.flusher c.in_ok-id.id c.step-reply.result c.step-reply.ensures.noted (λ k back is. c.in_default.not-Refused k back is)),
+    )
