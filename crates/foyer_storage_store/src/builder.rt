@@ -172,7 +172,7 @@ impl<H: Drop, N: Drop, I: Drop> StoreBuilder<H, N, I> {
           recover_mode = self.recover_mode;
           clock = clock;
           generator = generator;
-        }) (arc_value r.0.shared).engine (arc_value r.0.shared).throttle) }
+        }) (arc_value r.0.shared).engine (arc_value r.0.shared).throttle (vec_len r.2.flushers) (vec_len r.2.reclaimers)) }
         ensures shardless { self.shards ≡ 0 → result ≡ Err Config }
         ensures compressed { self.shards ≢ 0 → self.compression ≢ compression.None → result ≡ Err Unsupported }
     {

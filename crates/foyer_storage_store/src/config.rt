@@ -177,7 +177,7 @@ pub trait Engine<S: Drop, K: Eq, V, P>: Drop {
 pub trait EngineConfig<R: Copy, X: Drop, S: Drop, K: Eq, V, P>: Sized + Drop {
     ghost use Rattle.foyer_core_tally.specs.declared.blanks.Blanks.{Blanks};
     ghost use Rattle.foyer_device_throttle.specs.declared.throttle.Throttle.{Throttle};
-    ghost use Rattle.std.specs.Prelude.{Bool};
+    ghost use Rattle.std.specs.Prelude.{Bool, ℕ};
 
     // Which ledgers its steps may be counted in.
     ghost fits: { Blanks → Type 0 };
@@ -206,8 +206,8 @@ pub trait EngineConfig<R: Copy, X: Drop, S: Drop, K: Eq, V, P>: Sized + Drop {
     // Which opening it begins, of what it is built with.
     ghost may_begin: { Self → X → Self.Opening → Type 0 };
 
-    // What it may build, with these limits of its device, of what it is built with.
-    ghost may_build: { Self → X → Self.Engine → Throttle → Type 0 };
+    // What it may build, with these limits of its device and so many flushers and reclaimers, of what it is built with.
+    ghost may_build: { Self → X → Self.Engine → Throttle → ℕ → ℕ → Type 0 };
 
     /// Whether the engine keeps nothing.
     fn is_noop(&self) -> bool
@@ -238,5 +238,5 @@ pub trait EngineConfig<R: Copy, X: Drop, S: Drop, K: Eq, V, P>: Sized + Drop {
         requires { fits blanks }
         ensures parts { IfOk result (λ b. vec_len b.flushers + vec_len b.reclaimers + 1 < 2 ^ 32) }
         ensures built { (config : Self) (context : X) → may_begin config context opening
-            → IfOk result (λ b. may_build config context b.engine b.throttle) };
+            → IfOk result (λ b. may_build config context b.engine b.throttle (vec_len b.flushers) (vec_len b.reclaimers)) };
 }

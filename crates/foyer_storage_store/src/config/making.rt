@@ -301,11 +301,12 @@ where
         × S.gives config.pickers opening.env.pickers.items × (opening.env.generator ≡ generator_of context.generator)
         × (opening.context ≡ context) };
 
-    ghost may_build = { λ config _ engine throttle. (engine.admission ≡ config.admission) × (engine.throttle ≡ throttle)
+    ghost may_build = { λ config _ engine throttle flushers reclaimers. (engine.admission ≡ config.admission) × (engine.throttle ≡ throttle)
         × (throttle ≡ D.limits config.device) × (engine.device.capacity ≡ D.room config.device)
         × ((arc_value engine.engine).settings
         ≡ settings_of config.sizes (arc_value engine.engine).settings.blocks (arc_value engine.engine).settings.indexer_shards)
-        × (vec_len (arc_value engine.engine).others + 1 ≡ config.sizes.load_engines) };
+        × (vec_len (arc_value engine.engine).others + 1 ≡ config.sizes.load_engines)
+        × (flushers ≡ config.sizes.flushers) × (reclaimers ≡ config.sizes.reclaimers) };
 
     fn is_noop(&self) -> bool {
         false
@@ -394,7 +395,8 @@ where
             × (b.throttle ≡ D.limits config.device) × (b.engine.device.capacity ≡ D.room config.device)
             × ((arc_value b.engine.engine).settings
             ≡ settings_of config.sizes (arc_value b.engine.engine).settings.blocks (arc_value b.engine.engine).settings.indexer_shards)
-            × (vec_len (arc_value b.engine.engine).others + 1 ≡ config.sizes.load_engines)) }
+            × (vec_len (arc_value b.engine.engine).others + 1 ≡ config.sizes.load_engines)
+            × (vec_len b.flushers ≡ config.sizes.flushers) × (vec_len b.reclaimers ≡ config.sizes.reclaimers)) }
     {
         finish(&rt, alloc, opening, blanks, keeper)
     }

@@ -146,6 +146,7 @@ impl<R: Copy, I: Drop, T: Clock, L: Kinds, K: Eq + Drop, V: Drop, P: Drop> Engin
 > for NoopEngineConfig {
     ghost use Rattle.std.specs.Prelude.{◌≡◌, ◌^◌, true, None};
     ghost use Rattle.foyer_core_tally.specs.Ledgers.{AreOf};
+    ghost use Rattle.foyer_device_partition.specs.Unlimited.{unlimited};
     ghost use Rattle.foyer_storage_store.specs.declared.config.EngineBuildContext.{EngineBuildContext};
     ghost use Rattle.foyer_storage_store.specs.declared.config.noop.NoopEngineConfig.{NoopEngineConfig};
 
@@ -167,7 +168,7 @@ impl<R: Copy, I: Drop, T: Clock, L: Kinds, K: Eq + Drop, V: Drop, P: Drop> Engin
 
     ghost may_begin = { λ _ _ _. Unit {0} };
 
-    ghost may_build = { λ _ _ _ _. Unit {0} };
+    ghost may_build = { λ _ _ _ throttle flushers reclaimers. (throttle ≡ unlimited) × (flushers ≡ 0) × (reclaimers ≡ 0) };
 
     fn is_noop(&self) -> bool {
         true
@@ -203,7 +204,8 @@ impl<R: Copy, I: Drop, T: Clock, L: Kinds, K: Eq + Drop, V: Drop, P: Drop> Engin
     ) -> Result<Built<NoopEngine<L>, NoWorker, NoWorker, WholeSession<L>>>
         requires { AreOf L.name_of L.all blanks × (L.all ≡ 2 ^ 32) }
         ensures parts { IfOk result (λ b. vec_len b.flushers + vec_len b.reclaimers + 1 < 2 ^ 32) }
-        ensures built { (config : NoopEngineConfig) (context : EngineBuildContext I T) → Unit {0} → IfOk result (λ _. Unit {0}) }
+        ensures built { (config : NoopEngineConfig) (context : EngineBuildContext I T) → Unit {0}
+            → IfOk result (λ b. (b.throttle ≡ unlimited) × (vec_len b.flushers ≡ 0) × (vec_len b.reclaimers ≡ 0)) }
     {
         let throttle = Throttle::new();
         let (statistics, _) = Statistics::new(alloc, throttle, opening.now)?;
