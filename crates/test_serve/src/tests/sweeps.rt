@@ -364,7 +364,7 @@ fn met_of<R: Files + Wait + Clone + Drop>(rt: &R, alloc: Global, script: &str) -
 
 #[test]
 fn each_allocation_is_refused_in_turn(rt: HostRuntime) -> std::result::Result<(), Fail> {
-    for (script, least) in [(SCRIPT, 200), (GREAT, 100)] {
+    for (script, least) in [(SCRIPT, 200), (GREAT, 100), (RECLAIMS, 200)] {
         let met = met_of(&rt, rt.alloc(), script)?;
         assert!(rt; met > least, "{met} changed an answer");
     }

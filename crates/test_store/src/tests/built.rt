@@ -10,7 +10,7 @@ use foyer_block_recover::gate::Gate;
 use foyer_core_tally::book::{Blanks, Kinds};
 use foyer_device_page::error::{Error, Result};
 use foyer_device_partition::io::device::{
-    Device, DeviceBuilder, MemoryDevice, MemoryDeviceBuilder,
+    Device, DeviceBuilder, MemoryDevice, MemoryDeviceBuilder, Throttle,
 };
 use foyer_format_record::serde::NoProperties;
 use foyer_io_engine::io::engine::{FaultIoEngineConfig, IoEngineConfig};
@@ -179,7 +179,10 @@ fn blocks_of<R: Files>(rt: &R, alloc: Global, over: Over, gate: &HoldingGate) ->
     let gate = gate.share()?;
     let filter = filter_of(alloc, over.admits)?;
     let again = again_of(alloc, over.writes_again)?;
-    let device = MemoryDeviceBuilder::new(over.capacity()).build(rt, alloc, 0)?;
+    let limits = Throttle::new().with_read_iops(over.reads);
+    let device = MemoryDeviceBuilder::new(over.capacity())
+        .with_throttle(limits)
+        .build(rt, alloc, 0)?;
     Ok(
         BlockEngineConfig::new(device)
             .with_block_size(over.block_size())

@@ -17,6 +17,8 @@ pub(crate) struct Over {
     pub(crate) flushers: u32,
     /// The I/O engines that loads read through.
     pub(crate) loads: usize,
+    /// The reads that the device has in a second, with 0 any number. All that is asked is asked at one moment.
+    pub(crate) reads: usize,
     /// The shards of its keeper.
     pub(crate) shards: usize,
     /// The queued bytes above which pieces aren't taken.
@@ -46,6 +48,7 @@ pub(crate) const USUAL: Over = Over {
     clean: 1,
     flushers: 1,
     loads: 1,
+    reads: 0,
     shards: 4,
     queue: 16_777_216,
     has_log: false,
@@ -121,6 +124,10 @@ fn with(over: Over, word: &str, how: &str) -> Over {
         },
         "loads" => Over {
             loads: bytes,
+            ..over
+        },
+        "reads" => Over {
+            reads: bytes,
             ..over
         },
         "shards" => Over {

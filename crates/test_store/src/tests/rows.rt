@@ -33,6 +33,9 @@ flushers 3 < put 1 a, put 2 b, put 3 c, put 4 d, wait, get 1, get 2, get 3, get 
 loads read through three I/O engines, and through none is refused
 loads 3 < put 1 a, put 2 b, wait, get 1, get 2, get 3 | queued, queued, ok, entry a, entry b, miss
 loads 0 < enabled | refused Config
+a limit of reads throttles loads of what is indexed once there was a read since the building, and the reads of an opening count too
+reads 1, opens none < put 1 a, put 2 b, wait, get 3, get 1, get 1, get 2, get 3, del 2, get 2, has 1, tally | queued, queued, ok, miss, entry a, throttled, throttled, miss, ok, miss, yes, tally 2 0 1 1 3 1 0
+reads 1 < put 1 a, wait, get 1, get 2 | queued, ok, throttled, miss
 each flusher needs a block, and a keeper a shard
 flushers 4 < enabled | yes
 flushers 5 < enabled | refused Config

@@ -23,8 +23,9 @@ pub const NOTHING_DUE: Due = Due {
 pub struct Known {
     // The text that a get answers without a fault.
     shown: u64,
-    // The one that it may answer instead.
+    // The ones that it may answer instead.
     other: u64,
+    third: u64,
     // Whether it may answer any that isn't older than `least`, or miss it.
     is_any: bool,
     // What a reopening finds without a fault, what it may find instead, and whether that may be any.
@@ -35,8 +36,9 @@ pub struct Known {
     least: u64,
     // A bit for each text that was queued.
     texts: u64,
-    // The newest text since the last wait.
+    // The newest text since the last wait, and the one before it, if there was one since then.
     queued: u64,
+    before: u64,
     // The line of the newest delete since then.
     deleted: u64,
     // The line of the newest text since then that no block holds.
@@ -46,6 +48,7 @@ pub struct Known {
 pub const NOTHING_KNOWN: Known = Known {
     shown: 0,
     other: 0,
+    third: 0,
     is_any: false,
     stored: 0,
     spare: 0,
@@ -53,6 +56,7 @@ pub const NOTHING_KNOWN: Known = Known {
     least: 0,
     texts: 0,
     queued: 0,
+    before: 0,
     deleted: 0,
     great: 0,
 };
@@ -66,6 +70,7 @@ pub fn after_put(known: Known, line: u64) -> Known {
     Known {
         texts: known.texts | bit_of(line),
         queued: line,
+        before: known.queued,
         ..known
     }
 }
@@ -83,8 +88,10 @@ pub fn after_delete(known: Known, line: u64) -> Known {
     Known {
         shown: 0,
         other: 0,
+        third: 0,
         is_any: false,
         queued: 0,
+        before: 0,
         deleted: line,
         great: 0,
         ..known
@@ -133,15 +140,17 @@ pub fn after_wait(known: Known, due: Due) -> Known {
     Known {
         shown: text,
         other: if is_sure { text } else { known.shown },
+        third: text,
         stored: text,
         spare: if is_sure { text } else { known.stored },
         is_torn: known.is_torn && !is_sure,
         queued: 0,
+        before: 0,
         ..known
     }
 }
 
-/// Behind one that was refused: what was queued may be written, or received, or not yet.
+/// Behind one that was refused: what was queued may be written, or received, or not yet, and of two texts the older one alone.
 pub fn after_fault(known: Known) -> Known {
     if known.great != 0 {
         return Known { other: 0, ..known };
@@ -151,6 +160,11 @@ pub fn after_fault(known: Known) -> Known {
     }
     Known {
         other: known.queued,
+        third: if known.before == 0 {
+            known.queued
+        } else {
+            known.before
+        },
         ..known
     }
 }
@@ -168,9 +182,11 @@ pub fn after_half_destroy(known: Known) -> Known {
     Known {
         shown: 0,
         other: 0,
+        third: 0,
         is_any: false,
         is_torn: true,
         queued: 0,
+        before: 0,
         deleted: 0,
         great: 0,
         ..known
@@ -192,9 +208,11 @@ pub fn after_opening(known: Known, due: Due) -> Known {
     Known {
         shown: known.stored,
         other: known.spare,
+        third: known.stored,
         is_any: is_torn || due.blocks,
         is_torn,
         queued: 0,
+        before: 0,
         deleted: 0,
         great: 0,
         ..known
@@ -210,7 +228,7 @@ impl Known {
 
 /// Whether a get may answer the text, or with 0 a miss.
 pub fn may_show(known: Known, text: u64) -> bool {
-    if text == known.shown || text == known.other {
+    if text == known.shown || text == known.other || text == known.third {
         return true;
     }
     known.is_any && (text == 0 || (text >= known.least && known.texts & bit_of(text) != 0))
@@ -221,6 +239,7 @@ pub fn after_get(known: Known, text: u64) -> Known {
     Known {
         shown: text,
         other: text,
+        third: text,
         is_any: false,
         ..known
     }
