@@ -15,13 +15,15 @@ set_to setting.Skew number plan = record plan { skew = number }
 set_to setting.Gets number plan = record plan { gets = number }
 set_to setting.Seed number plan = record plan { seed = number }
 set_to setting.Fill number plan = record plan { fill = number }
+set_to setting.Engines number plan = record plan { engines = number }
 
 -- each word is a setting, and the plan has the last of each name
 unfoldable pub AreSettings : Plan → List (List ℕ) → Plan → Type 0
 AreSettings plan [] after = after ≡ plan
 AreSettings plan (word ∷ words) after = (s : Setting) × (number : ℕ) × IsSetting word s number × AreSettings (set_to s number plan) words after
 
--- where nothing more is said: 100,000 keys at a skew of 0.99, 90 of a hundred calls are gets, and nothing is put before
+-- where nothing more is said: 100,000 keys at a skew of 0.99, 90 of a hundred calls are gets, nothing is put before, and loads read
+-- through one engine
 abbrev pub default_plan : ℕ → ℕ → ℕ → Plan
 default_plan threads value_bytes seconds = record {
   threads = threads;
@@ -33,6 +35,7 @@ default_plan threads value_bytes seconds = record {
   gets = 90;
   seed = 1;
   fill = 0;
+  engines = 1;
 }
 
 abbrev pub word_at : List (List ℕ) → ℕ → List ℕ

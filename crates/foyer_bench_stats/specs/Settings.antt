@@ -20,15 +20,18 @@ name_of setting.Skew = codes "skew"
 name_of setting.Gets = codes "gets"
 name_of setting.Seed = codes "seed"
 name_of setting.Fill = codes "fill"
+name_of setting.Engines = codes "engines"
 
 abbrev pub least_of : Setting → ℕ
 least_of setting.Keys = 1
+least_of setting.Engines = 1
 least_of _ = 0
 
 abbrev pub greatest_of : Setting → ℕ
 greatest_of setting.Keys = 2 ^ 26
 greatest_of setting.Skew = 1000
 greatest_of setting.Gets = 100
+greatest_of setting.Engines = 1024
 greatest_of _ = 2 ^ 64 - 1
 
 -- the word is a setting's name, an equals sign, and a number that it may have

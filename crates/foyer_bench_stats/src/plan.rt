@@ -26,6 +26,8 @@ pub struct Plan {
     pub seed: u64,
     /// How many keys are put before, the most frequent ones.
     pub fill: u64,
+    /// How many I/O engines the store's loads read through.
+    pub engines: u64,
 }
 
 impl Plan {
@@ -40,12 +42,13 @@ impl Plan {
             Setting::Gets => self.gets = number,
             Setting::Seed => self.seed = number,
             Setting::Fill => self.fill = number,
+            Setting::Engines => self.engines = number,
         }
         self
     }
 
     /// Reads the words. Of settings of one name the last counts; where none is there, 100,000 keys are asked of at a skew of 0.99,
-    /// 90 of a hundred calls are gets, the seed is 1, and nothing is put before.
+    /// 90 of a hundred calls are gets, the seed is 1, nothing is put before, and loads read through one engine.
     pub fn parse<A: Allocator>(words: &[String<A>]) -> Result<Plan, Refusal>
         ensures read { MatchResult result (ArePlanWords (map string_bytes words.now)) (AreRefused (map string_bytes words.now)) }
         ensures bounds { IfOk result HasBounds }
@@ -72,6 +75,7 @@ impl Plan {
             gets: 90,
             seed: 1,
             fill: 0,
+            engines: 1,
         };
         for word in &words[3..] {
             let (setting, number) = Setting::parse(word.as_str())?;

@@ -11,6 +11,7 @@ pub enum Setting {
     Gets,
     Seed,
     Fill,
+    Engines,
 }
 
 /// Why words are refused.
@@ -38,13 +39,15 @@ impl Refusal {
             Refusal::Threads => "THREADS is a number from 1 to 1024",
             Refusal::ValueBytes => "VALUE_BYTES is a number up to 2^30",
             Refusal::Seconds => "SECONDS is a number from 1 to 2^30",
-            Refusal::Unknown => "a setting is calls=, keys=, skew=, gets=, seed= or fill=",
+            Refusal::Unknown =>
+                "a setting is calls=, keys=, skew=, gets=, seed=, fill= or engines=",
             Refusal::Number(Setting::Calls) => "calls= is a number",
             Refusal::Number(Setting::Keys) => "keys= is a number from 1 to 2^26",
             Refusal::Number(Setting::Skew) => "skew= is a number of hundredths up to 1000",
             Refusal::Number(Setting::Gets) => "gets= is a number of hundredths up to 100",
             Refusal::Number(Setting::Seed) => "seed= is a number",
             Refusal::Number(Setting::Fill) => "fill= is a number",
+            Refusal::Number(Setting::Engines) => "engines= is a number from 1 to 1024",
         }
     }
 }
@@ -71,6 +74,7 @@ impl Setting {
             "gets" => Some(Setting::Gets),
             "seed" => Some(Setting::Seed),
             "fill" => Some(Setting::Fill),
+            "engines" => Some(Setting::Engines),
             _ => None,
         }
     }
@@ -79,7 +83,7 @@ impl Setting {
         ensures { result ≡ least_of self }
     {
         match self {
-            Setting::Keys => 1,
+            Setting::Keys | Setting::Engines => 1,
             _ => 0,
         }
     }
@@ -91,6 +95,7 @@ impl Setting {
             Setting::Keys => 1 << 26,
             Setting::Skew => 1000,
             Setting::Gets => 100,
+            Setting::Engines => 1024,
             _ => u64::MAX,
         }
     }

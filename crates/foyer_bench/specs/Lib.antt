@@ -1,0 +1,2 @@
+pub mod BenchWords
+pub mod StoreAnswers

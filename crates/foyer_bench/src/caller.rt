@@ -1,0 +1,184 @@
+//! One thread's calls, and what it counts of them.
+ghost use Rattle.std.specs.Prelude.{◌≡◌, ◌-◌, ◌^◌, IfOk, MatchBool, min};
+ghost use Rattle.std.specs.Time.{instant_nanos};
+ghost use Rattle.foyer_bench.specs.StoreAnswers.{IsGetAnswer, IsPieceOf, IsPutAnswer};
+ghost use Rattle.foyer_bench_stats.specs.AnswerCounts.{no_answers};
+ghost use Rattle.foyer_bench_stats.specs.Histogram.{HasNothing};
+
+use foyer_bench_stats::answers::{Answers, GetAnswer, PutAnswer};
+use foyer_bench_stats::histogram::Histogram;
+use foyer_bench_stats::plan::Plan;
+use foyer_bench_stats::values::{is_of, key_of, value_of};
+use foyer_bench_stats::zipf::Zipf;
+use foyer_device_page::error::Result;
+use foyer_format_record::serde::{IdentityHashBuilder, NoProperties};
+use foyer_policy_piece::keeper::Piece;
+use foyer_storage_store::config::Engine;
+use foyer_storage_store::engine::engine::Enqueued;
+use foyer_storage_store::engine::load::Load;
+use foyer_storage_store::store::Store;
+use rand_core::utils::NextWord;
+use rand_pcg::Pcg64;
+use std::alloc::Global;
+use std::io;
+use std::rt::Clock;
+use std::sync::Wait;
+use std::time::{Duration, Instant};
+
+/// What a store of the bench is.
+pub type Values<N> = Store<N, u64, Vec<u8>, NoProperties, IdentityHashBuilder>;
+
+/// A piece of a key's value under the key, which is its own hash.
+pub fn piece_of(
+    alloc: Global,
+    key: u64,
+    filler: &[u8],
+) -> Result<Piece<u64, Vec<u8>, NoProperties, Global>>
+    ensures { IfOk result (IsPieceOf key filler.now) }
+{
+    let value = value_of(alloc, key, filler)?;
+    Piece::new(alloc, key, value, key, NoProperties)
+}
+
+/// How a put was answered.
+pub fn put_answer(outcome: &Result<Enqueued>) -> PutAnswer
+    ensures { IsPutAnswer outcome.now result }
+{
+    match outcome {
+        Ok(Enqueued::Queued) => PutAnswer::Queued,
+        Ok(_) => PutAnswer::Dropped,
+        Err(_) => PutAnswer::Fault,
+    }
+}
+
+fn hit_or_wrong(is_right: bool) -> GetAnswer
+    ensures { MatchBool is_right (result ≡ GetAnswer.Hit) (result ≡ GetAnswer.Wrong) }
+{
+    if is_right {
+        GetAnswer::Hit
+    } else {
+        GetAnswer::Wrong
+    }
+}
+
+/// How a get of a key was answered.
+pub fn get_answer(key: u64, outcome: &Result<Load<u64, Vec<u8>, NoProperties, Global>>) -> GetAnswer
+    ensures { IsGetAnswer key outcome.now result }
+{
+    match outcome {
+        Ok(Load::Entry { value, .. }) => hit_or_wrong(is_of(key, value.as_slice())),
+        Ok(Load::Piece { piece, .. }) => hit_or_wrong(is_of(key, piece.value().as_slice())),
+        Ok(Load::Miss) => GetAnswer::Miss,
+        _ => GetAnswer::Fault,
+    }
+}
+
+// The nanoseconds from one moment to another; the greatest number of 64 bits stands for all above.
+fn nanos_between(begin: Instant, end: Instant) -> u64
+    ensures { result ≡ min (instant_nanos end - instant_nanos begin) (2 ^ 64 - 1) }
+{
+    let nanos = end.duration_since(begin).as_nanos();
+    u64::try_from(nanos).unwrap_or(u64::MAX)
+}
+
+/// What a thread draws its calls from, and what it counts.
+#[derive(Drop)]
+pub struct Caller {
+    words: Pcg64,
+    pub answers: Answers,
+    pub puts: Histogram,
+    pub gets: Histogram,
+}
+
+impl Caller {
+    /// Of a seed and a thread's number: each number draws calls of its own. Memory.
+    pub fn new(alloc: Global, seed: u64, number: u64) -> Result<Caller>
+        ensures { IfOk result (λ caller. (caller.answers ≡ no_answers) × HasNothing caller.puts × HasNothing caller.gets) }
+    {
+        Ok(Caller {
+            words: Pcg64::new(u128::from(seed), u128::from(number)),
+            answers: Answers::new(),
+            puts: Histogram::new(alloc)?,
+            gets: Histogram::new(alloc)?,
+        })
+    }
+
+    // Puts a key: the moment of the call's end. The piece is made before the call begins.
+    fn put<S: Drop, N: Engine<S, u64, Vec<u8>, NoProperties>, R: Wait + Clock>(
+        &mut self,
+        rt: &R,
+        alloc: Global,
+        store: &Values<N>,
+        session: &mut S,
+        key: u64,
+        filler: &[u8],
+    ) -> io::Result<Instant> {
+        let Ok(piece) = piece_of(alloc, key, filler) else {
+            self.answers.count_put(PutAnswer::Fault);
+            return Instant::now(rt);
+        };
+        let begin = Instant::now(rt)?;
+        let outcome = store.enqueue(rt, session, &piece, false, 0);
+        let end = Instant::now(rt)?;
+        self.puts.note(nanos_between(begin, end));
+        self.answers.count_put(put_answer(&outcome));
+        Ok(end)
+    }
+
+    // Gets a key: the moment of the call's end.
+    fn get<S: Drop, N: Engine<S, u64, Vec<u8>, NoProperties>, R: Wait + Clock>(
+        &mut self,
+        rt: &R,
+        store: &Values<N>,
+        session: &mut S,
+        key: u64,
+    ) -> io::Result<Instant> {
+        let begin = Instant::now(rt)?;
+        let outcome = store.load(rt, session, &key, 0);
+        let end = Instant::now(rt)?;
+        self.gets.note(nanos_between(begin, end));
+        self.answers.count_get(get_answer(key, &outcome));
+        Ok(end)
+    }
+
+    // Makes one call: the moment of its end.
+    fn call<S: Drop, N: Engine<S, u64, Vec<u8>, NoProperties>, R: Wait + Clock>(
+        &mut self,
+        rt: &R,
+        alloc: Global,
+        store: &Values<N>,
+        session: &mut S,
+        zipf: &Zipf,
+        gets: u64,
+        filler: &[u8],
+    ) -> io::Result<Instant> {
+        let key = key_of(zipf.rank(self.words.next_word()));
+        if self.words.next_word() % 100 < gets {
+            self.get(rt, store, session, key)
+        } else {
+            self.put(rt, alloc, store, session, key, filler)
+        }
+    }
+
+    /// Makes the plan's calls, until their number or time is over. What fails is the clock.
+    pub fn run<S: Drop, N: Engine<S, u64, Vec<u8>, NoProperties>, R: Wait + Clock>(
+        &mut self,
+        rt: &R,
+        alloc: Global,
+        store: &Values<N>,
+        session: &mut S,
+        plan: &Plan,
+        zipf: &Zipf,
+        filler: &[u8],
+    ) -> io::Result<()> {
+        let begin = Instant::now(rt)?;
+        let last = begin.checked_add(Duration::from_secs(plan.seconds));
+        for _ in 0..plan.calls.unwrap_or(u64::MAX) {
+            let end = self.call(rt, alloc, store, session, zipf, plan.gets, filler)?;
+            if plan.calls.is_none() && Some(end) >= last {
+                break;
+            }
+        }
+        Ok(())
+    }
+}
