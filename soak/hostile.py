@@ -84,7 +84,7 @@ def check_memory(binary, top):
     counts = {"not begun": 0, "refused": 0, "unseen": 0}
     for place in (":memory:", os.path.join(top, "memory")):
         words = [os.path.abspath(binary), place, 8 * BLOCK, BLOCK]
-        output, status, calls = inject.run(words, lines)
+        output, status, calls = inject.run(words, lines, inject.Fault("memory"))
         if status or b"fault" in output or b"miss" in b"".join(output.splitlines()[3:5]):
             raise Wrong(f"with ample memory: status {status}, {output[:200]!r}")
         for n in range(1, calls + 1):

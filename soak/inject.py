@@ -66,8 +66,8 @@ class Traced:
 
     def __init__(self, words, lines, fault, before=None):
         self.fault, self.calls, self.files, self.began = fault, 0, set(), fault.kind == "io"
-        # Of each thread what is to be answered at the end of its call; and those that were met.
-        self.answers, self.met = {}, set()
+        # Of each thread what is to be answered at the end of its call, or the word that its call had; and those that were met.
+        self.answers, self.words, self.met = {}, {}, set()
         self.input = tempfile.TemporaryFile()
         self.input.write(lines)
         self.input.seek(0)
@@ -117,7 +117,9 @@ class Traced:
         if n == 0 or not n <= self.calls <= n + self.fault.more:
             return
         if call == BRK:
+            # Asked for the end 0, the system answers as if it refused. The program expects its word back in the register.
             poke(pid, RDI, 0)
+            self.words[pid] = words[0]
         elif call == MMAP:
             poke(pid, ORIG_RAX, -1)
             self.answers[pid] = -errno.ENOMEM
@@ -129,6 +131,9 @@ class Traced:
             self.answers[pid] = -errno.EIO
 
     def leave(self, pid):
+        word = self.words.pop(pid, None)
+        if word is not None:
+            poke(pid, RDI, word)
         answer = self.answers.pop(pid, None)
         if answer is not None:
             poke(pid, RAX, answer)
