@@ -141,8 +141,8 @@ def draw(figures, path):
         f"  <style>{STYLE}  </style>",
         f'  <rect class="page" x="0.5" y="0.5" width="{width - 1}" height="{height - 1}" rx="10"/>',
         f'  <text class="n" x="{LEFT}" y="26">Thousand hits and queued puts a second</text>',
-        f'  <rect class="one" x="{LEFT + 330}" y="16" width="12" height="12"/><text x="{LEFT + 348}" y="26">gets read through one I/O engine</text>',
-        f'  <rect class="each" x="{LEFT + 570}" y="16" width="12" height="12"/><text x="{LEFT + 588}" y="26">one for each thread</text>',
+        f'  <rect class="one" x="{LEFT + 390}" y="16" width="12" height="12"/><text x="{LEFT + 408}" y="26">gets read through one I/O engine</text>',
+        f'  <rect class="each" x="{LEFT + 640}" y="16" width="12" height="12"/><text x="{LEFT + 658}" y="26">one for each thread</text>',
     ]
     for row, (place, calls) in enumerate((place, calls) for place in PLACES for calls, _ in CALLS):
         for column, size in enumerate(SIZES):
