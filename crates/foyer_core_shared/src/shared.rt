@@ -21,6 +21,7 @@ use foyer_core_tally::book::Kinds;
 use foyer_device_page::error::{ErrorKind, Result};
 use foyer_device_statistics::IoState;
 use foyer_format_record::serde::{Code, Properties};
+use foyer_lock::lock_spinning;
 use foyer_policy_filter::{StorageFilter, StorageFilterCondition};
 use std::alloc::{Allocator, Global};
 use std::sync::{Mutex, Wait};
@@ -75,7 +76,7 @@ where
         ensures replied { (may_reply step result ≡ true) ⊎ ((N.keeps ≡ true) × (result ≡ reply.Refused kind.Memory step)) }
         ensures parts { session.new.shares.parts ≡ session.old.shares.parts }
     {
-        match self.inside.lock(rt).step(session, io, step) {
+        match lock_spinning(&self.inside, rt).step(session, io, step) {
             Ok(reply) => reply,
             Err(step) => Reply::Refused(ErrorKind::Memory, step),
         }
@@ -101,7 +102,7 @@ where
         ensures parts { session.new.shares.parts ≡ session.old.shares.parts }
     {
         let judged = Judged::of(alloc, ticket, outcome);
-        match self.inside.lock(rt).end_judged(session, judged) {
+        match lock_spinning(&self.inside, rt).end_judged(session, judged) {
             Ok((reply, spare)) => (reply, spare),
             Err(step) => (Reply::Refused(ErrorKind::Memory, step), None),
         }

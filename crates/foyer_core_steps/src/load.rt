@@ -260,7 +260,7 @@ where
 {
     #[tactic(auto, using(crate::proofs::Describing::issues_counted, crate::proofs::Describing::issues_pair))]
     /// Applies the `LoadEnd` of what was judged as `apply` does, and gives the buffer of the read back beside the reply, for the
-    /// next read: as it came, with all that is in it. None where the read failed, or where the step that is handed back has it.
+    /// next read: unchanged, with all that is in it. None where the read failed, or where the step that is handed back has it.
     pub fn apply_judged<E: EvictionPicker, C: StorageFilterCondition>(
         &mut self,
         _env: &mut Env<E, C>,

@@ -2,6 +2,7 @@
 ghost use Rattle.std.specs.Prelude.{◌≡◌, ◌+◌, ◌%◌, ◌^◌, IsTrue, not, true, false};
 ghost use Rattle.foyer_storage_engine.specs.Ringing.{is_past};
 
+use foyer_lock::lock_spinning;
 use std::mem;
 use std::sync::{Condvar, Mutex, Wait};
 
@@ -87,7 +88,7 @@ impl Bell {
 
     /// Counts a move, and wakes all who wait. The count goes on at 0 behind 2^64 - 1.
     pub fn ring(&self, rt: &impl Wait) {
-        let is_awaited = self.moves.lock(rt).ring();
+        let is_awaited = lock_spinning(&self.moves, rt).ring();
         if is_awaited {
             self.moved.notify_all();
         }
@@ -95,20 +96,20 @@ impl Bell {
 
     /// Says that no more moves come, and wakes all who wait. A closed bell stays closed.
     pub fn close(&self, rt: &impl Wait) {
-        self.moves.lock(rt).close();
+        lock_spinning(&self.moves, rt).close();
         self.moved.notify_all();
     }
 
     /// The count, to be remembered before a step is tried.
     pub fn count(&self, rt: &impl Wait) -> u64 {
-        self.moves.lock(rt).count
+        lock_spinning(&self.moves, rt).count
     }
 
     /// Waits until the count is another than `seen`, or the bell is closed. True once it is closed.
     pub fn wait_past(&self, rt: &impl Wait, seen: u64) -> bool {
         let moves = self.moved.wait_while(
             rt,
-            self.moves.lock(rt),
+            lock_spinning(&self.moves, rt),
             |moves| moves.begins_to_wait(seen),
         );
         moves.is_closed_past(seen)

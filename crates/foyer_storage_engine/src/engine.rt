@@ -37,6 +37,7 @@ use foyer_core_tally::book::Kinds;
 use foyer_device_page::error::{Error, ErrorKind, Result};
 use foyer_format_record::serde::{Code, Properties};
 use foyer_io_disk::disk::Disk;
+use foyer_lock::lock_spinning;
 use foyer_policy_filter::StorageFilterCondition;
 use foyer_policy_keeper::keeper::Keeper;
 use foyer_policy_keeper::keeper::shard::Shard;
@@ -369,7 +370,7 @@ where
     {
         let reply = enqueue(
             shard,
-            &mut self.shared.locked().lock(rt),
+            &mut lock_spinning(self.shared.locked(), rt),
             session,
             no_io(),
             piece,
@@ -397,7 +398,7 @@ where
         ensures parts { session.new.shares.parts ≡ session.old.shares.parts }
     {
         let shard = keeper.shard(piece.hash());
-        let answer = self.enqueue_into(rt, session, &mut shard.lock(rt), piece, size);
+        let answer = self.enqueue_into(rt, session, &mut lock_spinning(shard, rt), piece, size);
         self.signals.queued.ring(rt);
         answer
     }
@@ -470,7 +471,7 @@ where
         };
         self.gate.pass(Point::LoadRead);
         let reader = self.reader(disk);
-        let outcome = reader.lock(rt).read(&ticket)?;
+        let outcome = lock_spinning(reader, rt).read(&ticket)?;
         let (reply, spare) = self
             .shared
             .end_load(rt, session, &self.alloc, ticket, outcome);

@@ -1,5 +1,6 @@
 mod io;
 mod keeper;
+mod lock;
 mod log;
 mod plan;
 mod statistics;

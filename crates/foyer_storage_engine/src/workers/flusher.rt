@@ -22,6 +22,7 @@ use foyer_core_tally::book::Kinds;
 use foyer_device_page::error::ErrorKind;
 use foyer_format_record::serde::{Code, Properties};
 use foyer_io_disk::disk::Disk;
+use foyer_lock::lock_spinning;
 use foyer_policy_filter::StorageFilterCondition;
 use foyer_policy_keeper::keeper::Keeper;
 use std::alloc::{Allocator, Global};
@@ -97,7 +98,7 @@ where
     let mut is_busy = false;
     for _ in 0..MOST_OF_A_BATCH {
         let (reply, wants_flush) = receive(
-            &mut engine.shared().locked().lock(rt),
+            &mut lock_spinning(engine.shared().locked(), rt),
             session,
             flusher,
         );

@@ -15,6 +15,7 @@ use foyer_format_record::serde::{Code, Properties};
 use foyer_io_disk::partitions::PartitionedDisk;
 use foyer_io_engine::io::engine::IoEngine;
 use foyer_io_monitor::MonitoredIoEngine;
+use foyer_lock::lock_spinning;
 use foyer_policy_filter::{StorageFilter, StorageFilterCondition, StorageFilterResult};
 use foyer_policy_keeper::keeper::Keeper;
 use foyer_policy_piece::keeper::Piece;
@@ -190,7 +191,7 @@ where
         if limits.read_throughput.is_none() && limits.read_iops.is_none() {
             return false;
         }
-        self.recorder.lock(rt).is_read_throttled(rt, now)
+        lock_spinning(&self.recorder, rt).is_read_throttled(rt, now)
     }
 
     // The number of the disk that a session reads from, which keeps to this one: the next number at its first load.
@@ -243,13 +244,13 @@ where
     }
 
     fn io_state(&self, rt: &impl Wait, now: u64) -> IoState {
-        self.recorder.lock(rt).io_state(rt, now)
+        lock_spinning(&self.recorder, rt).io_state(rt, now)
     }
 
     fn filter(&self, rt: &impl Wait, hash: u64, size: usize, now: u64) -> StorageFilterResult {
         match &self.admission {
             Some(filter) => {
-                let io = self.recorder.lock(rt).io_state(rt, now);
+                let io = lock_spinning(&self.recorder, rt).io_state(rt, now);
                 filter.filter(&io, hash, size)
             }
             None => StorageFilterResult::Admit,

@@ -6,6 +6,7 @@ use super::{IoEngine, IoEngineBuildContext, IoEngineConfig, IoHandle};
 use foyer_device_page::error::Result;
 use foyer_device_page::io::bytes::{IoBuf, IoBufMut};
 use foyer_device_partition::io::device::Partition;
+use foyer_lock::lock_spinning;
 use std::alloc::Allocator;
 use std::sync::{Arc, Mutex, Wait};
 
@@ -57,7 +58,7 @@ impl<R: Wait + Drop, A: Allocator> IoEngine for SharedMemoryIoEngine<R, A> {
         partition: &P,
         offset: u64,
     ) -> IoHandle<B> {
-        self.memory.lock(&self.rt).read(buffer, partition, offset)
+        lock_spinning(&*self.memory, &self.rt).read(buffer, partition, offset)
     }
 
     fn write<B: IoBuf, P: Partition>(
@@ -66,7 +67,7 @@ impl<R: Wait + Drop, A: Allocator> IoEngine for SharedMemoryIoEngine<R, A> {
         partition: &P,
         offset: u64,
     ) -> IoHandle<B> {
-        self.memory.lock(&self.rt).write(buffer, partition, offset)
+        lock_spinning(&*self.memory, &self.rt).write(buffer, partition, offset)
     }
 
     fn failures(&self) -> u64 {
