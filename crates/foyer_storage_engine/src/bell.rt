@@ -2,7 +2,7 @@
 ghost use Rattle.std.specs.Prelude.{◌≡◌, ◌+◌, ◌%◌, ◌^◌, IsTrue, not, true, false};
 ghost use Rattle.foyer_storage_engine.specs.Ringing.{is_past};
 
-use foyer_lock::lock_spinning;
+use foyer_lock::{LOOKS, lock_spinning, pause_shortly};
 use std::mem;
 use std::sync::{Condvar, Mutex, Wait};
 
@@ -105,8 +105,27 @@ impl Bell {
         lock_spinning(&self.moves, rt).count
     }
 
-    /// Waits until the count is another than `seen`, or the bell is closed. True once it is closed.
+    // What a wait answers, where it may end; None also where another thread is at the bell.
+    fn look_past(&self, seen: u64) -> Option<bool> {
+        let Some(moves) = self.moves.try_lock() else {
+            return None;
+        };
+        if moves.is_past(seen) {
+            Some(moves.is_closed_past(seen))
+        } else {
+            None
+        }
+    }
+
+    /// Waits until the count is another than `seen`, or the bell is closed. True once it is closed. Before it sleeps it looks for some
+    /// microseconds, in which no ring has to wake it.
     pub fn wait_past(&self, rt: &impl Wait, seen: u64) -> bool {
+        for _ in 0..LOOKS {
+            if let Some(is_closed) = self.look_past(seen) {
+                return is_closed;
+            }
+            pause_shortly();
+        }
         let moves = self.moved.wait_while(
             rt,
             lock_spinning(&self.moves, rt),

@@ -4,6 +4,7 @@ ghost use Rattle.foyer_device_page.specs.declared.error.Error.TheVariants.{Memor
 ghost use Rattle.foyer_storage_engine.specs.Waiting.{is_over, place_of, IsAnsweredAt, IsForgottenAt};
 
 use foyer_device_page::error::Result;
+use foyer_lock::{LOOKS, lock_spinning, pause_shortly};
 use std::alloc::Allocator;
 use std::mem;
 use std::sync::{Condvar, Mutex, Wait};
@@ -124,12 +125,12 @@ impl<A: Allocator> Waits<A> {
     pub fn begin(&self, rt: &impl Wait, flushers: u32) -> Result<u64>
         ensures refused { IsOkUnless result Memory }
     {
-        self.table.lock(rt).begin(flushers)
+        lock_spinning(&self.table, rt).begin(flushers)
     }
 
     /// One flusher answers a wait.
     pub fn answer(&self, rt: &impl Wait, id: u64) {
-        let is_awaited = self.table.lock(rt).answer(id);
+        let is_awaited = lock_spinning(&self.table, rt).answer(id);
         if is_awaited {
             self.answered.notify_all();
         }
@@ -137,19 +138,36 @@ impl<A: Allocator> Waits<A> {
 
     /// Gives a wait up: who answers it later answers nothing.
     pub fn forget(&self, rt: &impl Wait, id: u64) {
-        self.table.lock(rt).forget(id);
+        lock_spinning(&self.table, rt).forget(id);
     }
 
     /// Says that nobody answers any more, and lets all go on who wait.
     pub fn close(&self, rt: &impl Wait) {
-        self.table.lock(rt).is_closed = true;
+        lock_spinning(&self.table, rt).is_closed = true;
         self.answered.notify_all();
     }
 
-    /// Waits until all flushers have answered a wait, or nobody answers any more.
+    // Whether a wait is over; not where another thread has the lock.
+    fn looks_over(&self, id: u64) -> bool {
+        match self.table.try_lock() {
+            Some(table) => table.is_over(id),
+            None => false,
+        }
+    }
+
+    /// Waits until all flushers have answered a wait, or nobody answers any more. Before it sleeps it looks for some microseconds, in
+    /// which no answer has to wake it.
     pub fn wait_for(&self, rt: &impl Wait, id: u64) {
-        let _table = self
-            .answered
-            .wait_while(rt, self.table.lock(rt), |table| table.begins_to_wait(id));
+        for _ in 0..LOOKS {
+            if self.looks_over(id) {
+                return;
+            }
+            pause_shortly();
+        }
+        let _table = self.answered.wait_while(
+            rt,
+            lock_spinning(&self.table, rt),
+            |table| table.begins_to_wait(id),
+        );
     }
 }
