@@ -1,14 +1,19 @@
 #!/usr/bin/env python3
-"""Hit rates of the program as a read-through cache of a trace, beside an LRU and a FIFO of the same bytes.
+"""Hit rates of a store as a read-through cache of a trace, beside an LRU and a FIFO of the same bytes.
 
-    hits.py [--binary PATH] [--requests N] [--keys N] [--capacity BYTES] [--block BYTES] [--skews 0.9,1.1] [--seed N]
+    hits.py [--binary PATH] [--bench PATH] [--requests N] [--keys N] [--capacity BYTES] [--block BYTES] [--skews 0.9,1.1] [--seed N]
+            [--seconds N]
 
 Keys (1,000,000) are drawn by a Zipf distribution of each skew; each has a text of a size of its own, from 100 bytes to 64 KiB, as often
 between one power of two and the next as between any other two. Each request (300,000) gets its key, and puts it where it was missed. The
 device (512 MiB in blocks of 16 MiB, in memory) holds a part of what is asked for. LRU and FIFO have as many bytes, an object
 taking what a record of it does, whole pages; what they hold they hold without blocks, so they are what no cache of blocks
-reaches. After a fifth of the requests hits are counted. It prints one line a skew, and ends with status 0, 1 where an
-answer wasn't the key's text or a miss, 2 for bad arguments.
+reaches. After a fifth of the requests hits are counted.
+
+Then foyerbench draws keys of the same skew for some seconds (10), with values of 4 KiB: as it is, and with what was hit since the reclaim
+before written again at a reclaim (`reinsert=1`). All of its gets are counted, those of the cache that fills too.
+
+It prints two lines a skew, and ends with status 0, 1 where an answer wasn't the key's text or a miss, 2 for bad arguments.
 """
 
 import argparse
@@ -16,11 +21,17 @@ import bisect
 import collections
 import functools
 import itertools
+import os
 import random
+import re
+import subprocess
 import sys
 
 from program import BINARY, INDEX, PAGE, RECORD_BYTES, Program, text_of
 
+BENCH = os.path.join(os.path.dirname(BINARY), os.pardir, os.pardir, "foyerbench", "out", "foyerbench")
+GETS = re.compile(r"^gets: \d+ a second, (\d+) in all, hits=(\d+)", re.M)
+VALUE = 4096
 LEAST, MOST = 100, 65536
 # So many requests are sent before their answers are read, and what was missed is put behind them.
 AT_ONCE = 64
@@ -53,7 +64,12 @@ def pages_of(key):
     return -(-(RECORD_BYTES + size_of(key)) // PAGE) * PAGE
 
 
-def hits_of_list(requests, room, from_hit):
+def pages_of_value(_key):
+    """What a record of foyerbench's takes, in bytes."""
+    return -(-(RECORD_BYTES + VALUE) // PAGE) * PAGE
+
+
+def hits_of_list(requests, room, from_hit, pages=pages_of):
     """Hits of a list of so many bytes of which the oldest goes first; a hit makes young again where `from_hit` says so."""
     held, used, hits, first = collections.OrderedDict(), 0, 0, len(requests) // 5
     for number, key in enumerate(requests):
@@ -62,7 +78,7 @@ def hits_of_list(requests, room, from_hit):
             if from_hit:
                 held.move_to_end(key)
             continue
-        held[key] = pages_of(key)
+        held[key] = pages(key)
         used += held[key]
         while used > room:
             used -= held.popitem(last=False)[1]
@@ -96,6 +112,17 @@ def hits_of_program(options, requests):
     return hits / (len(requests) - first)
 
 
+def hits_of_bench(options, skew, reinsert):
+    words = [options.bench, ":memory:", options.capacity, options.block, 1, VALUE, options.seconds, f"keys={options.keys}",
+             f"skew={round(100 * skew)}", "gets=100", "through=1", f"reinsert={reinsert}", f"seed={options.seed}"]
+    ran = subprocess.run([str(it) for it in words], capture_output=True, timeout=600, check=False)
+    text = ran.stdout.decode(errors="replace")
+    found = GETS.search(text)
+    if ran.returncode or not found:
+        raise Wrong(f"status {ran.returncode}: {words}\n{text}{ran.stderr.decode(errors='replace')}")
+    return int(found[2]) / int(found[1])
+
+
 def main():
     words = argparse.ArgumentParser(description=__doc__.split("\n", maxsplit=1)[0])
     words.add_argument("--binary", default=BINARY)
@@ -105,6 +132,8 @@ def main():
     words.add_argument("--block", type=int, default=1 << 24)
     words.add_argument("--skews", type=lambda text: [float(it) for it in text.split(",")], default=[0.9, 1.1])
     words.add_argument("--seed", type=int, default=1)
+    words.add_argument("--bench", default=BENCH)
+    words.add_argument("--seconds", type=int, default=10)
     options = words.parse_args()
     # Each block has an index, and at least one block is clean.
     room = (options.capacity // options.block - 1) * (options.block - INDEX)
@@ -113,10 +142,14 @@ def main():
         lru, fifo = hits_of_list(requests, room, True), hits_of_list(requests, room, False)
         try:
             own = hits_of_program(options, requests)
+            print(f"skew {skew}: hits {own:.3f}, of LRU {lru:.3f}, of FIFO {fifo:.3f}", flush=True)
+            plain, again = hits_of_bench(options, skew, 0), hits_of_bench(options, skew, 1)
         except Wrong as wrong:
             print(f"wrong: {wrong}", file=sys.stderr)
             return 1
-        print(f"skew {skew}: hits {own:.3f}, of LRU {lru:.3f}, of FIFO {fifo:.3f}")
+        lru, fifo = (hits_of_list(requests, room, from_hit, pages_of_value) for from_hit in (True, False))
+        print(f"skew {skew}, {VALUE} bytes: hits {plain:.3f}, what was hit written again {again:.3f}, of LRU {lru:.3f}, of FIFO {fifo:.3f}",
+              flush=True)
     return 0
 
 

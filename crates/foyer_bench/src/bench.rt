@@ -6,7 +6,8 @@ ghost use Rattle.foyer_core_tally.specs.Ledgers.{AreOf};
 ghost use Rattle.foyer_bench.specs.BenchWords.{AreBenchWords};
 ghost use Rattle.foyer_serve.specs.declared.options.Options.{Options};
 
-use crate::caller::{Caller, Values, piece_of};
+use crate::asked::{AskedAgain, AskedKeys};
+use crate::caller::{Caller, Values, Work, piece_of};
 use crate::report::{Report, print};
 use crate::words::read_words;
 use foyer_bench_stats::answers::Answers;
@@ -24,6 +25,7 @@ use foyer_format_record::serde::{IdentityHashBuilder, NoProperties};
 use foyer_io_engine::io::engine::{
     IoEngineConfig, MemoryIoEngine, PsyncIoEngineConfig, SharedMemoryIoEngineConfig,
 };
+use foyer_policy_filter::StorageFilter;
 use foyer_serve::options::Options;
 use foyer_storage_store::builder::StoreBuilder;
 use foyer_storage_store::config::{BlockEngineConfig, Engine};
@@ -34,7 +36,7 @@ use std::alloc::{Allocator, Global};
 use std::fs::File;
 use std::io::Write;
 use std::rt::{Clock, Files};
-use std::sync::Wait;
+use std::sync::{Arc, Wait};
 use std::thread::Threads;
 use std::time::Instant;
 use std::{io, thread};
@@ -57,16 +59,14 @@ fn run_one<L: Kinds, N: Engine<StoreSession<L>, u64, Vec<u8>, NoProperties>, R: 
     alloc: Global,
     store: &Values<N>,
     job: Job<L>,
-    plan: &Plan,
-    zipf: &Zipf,
-    filler: &[u8],
+    work: &Work<'_>,
 ) -> Job<L> {
     let Job {
         mut session,
         mut caller,
         is_timed: _,
     } = job;
-    let ran = caller.run(rt, alloc, store, &mut session, plan, zipf, filler);
+    let ran = caller.run(rt, alloc, store, &mut session, work);
     Job {
         session,
         caller,
@@ -151,6 +151,7 @@ fn run_all<L, N, R>(
     store: &Values<N>,
     session: &mut StoreSession<L>,
     plan: &Plan,
+    asked: Option<&AskedKeys>,
 ) -> Result<Report>
 where
     L: Kinds + Send + Sync + 'static,
@@ -162,9 +163,13 @@ where
     let filler = vec![in alloc; 0xA5u8; plan.value_bytes as usize]?;
     fill(rt, alloc, store, session, plan, filler.as_slice())?;
     let jobs = jobs_of(alloc, session, plan)?;
-    let call = |job: Job<L>| -> Job<L> {
-        run_one(rt, alloc, store, job, plan, &zipf, filler.as_slice())
+    let work = Work {
+        plan,
+        zipf: &zipf,
+        filler: filler.as_slice(),
+        asked,
     };
+    let call = |job: Job<L>| -> Job<L> { run_one(rt, alloc, store, job, &work) };
     let begin = Instant::now(rt)?;
     let done = thread::map_vec(rt, jobs, &call)?;
     let nanos = nanos_since(rt, begin)?;
@@ -210,6 +215,7 @@ fn run_and_close<L, N, T>(
     mut session: StoreSession<L>,
     workers: Workers<L>,
     plan: &Plan,
+    asked: Option<&AskedKeys>,
 ) -> Result<Report>
 where
     L: Kinds + Send + Sync + 'static,
@@ -217,11 +223,35 @@ where
     T: Threads + Wait + Clock + Sync,
     requires { HasBounds plan.now }
 {
-    let report = run_all(rt, alloc, &store, &mut session, plan);
+    let report = run_all(rt, alloc, &store, &mut session, plan, asked);
     let closed = store.close(rt, &mut session);
     let _ = workers.join(rt, session.into_steps());
     closed?;
     report
+}
+
+// Where gets leave marks, where records are to be written again.
+fn asked_of(alloc: Global, plan: &Plan) -> Result<Option<Arc<AskedKeys, Global>>> {
+    if plan.reinsert == 0 {
+        return Ok(None);
+    }
+    let asked = AskedKeys::new(alloc, plan.keys)?;
+    Ok(Some(Arc::new(alloc, asked)?))
+}
+
+// What has records written again that have a mark, where there are marks.
+fn filter_of(
+    alloc: Global,
+    asked: &Option<Arc<AskedKeys, Global>>,
+) -> Result<Option<StorageFilter<AskedAgain, Global>>> {
+    let Some(asked) = asked else {
+        return Ok(None);
+    };
+    let again = AskedAgain {
+        asked: Arc::try_clone(asked)?,
+    };
+    let filter = StorageFilter::new().with_condition(alloc, again)?;
+    Ok(Some(filter))
 }
 
 // Builds a store over a device, and calls it.
@@ -244,7 +274,9 @@ where
     requires blanks { AreOf L.name_of L.all blanks × (L.all ≡ 2 ^ 32) }
     requires plan { HasBounds plan.now }
 {
+    let asked = asked_of(alloc, plan)?;
     let config = BlockEngineConfig::new(device)
+        .with_filters::<AskedAgain>(None, filter_of(alloc, &asked)?)
         .with_block_size(block_size)
         .with_load_engines(plan.engines as usize);
     let builder = StoreBuilder::new("foyerbench", IdentityHashBuilder, 64)
@@ -257,7 +289,11 @@ where
         Moment(0),
         0,
     )?;
-    run_and_close(&rt, alloc, store, session, workers, plan)
+    let marks = match &asked {
+        Some(asked) => Some(&**asked),
+        None => None,
+    };
+    run_and_close(&rt, alloc, store, session, workers, plan, marks)
 }
 
 // As `bench_over`, over memory.

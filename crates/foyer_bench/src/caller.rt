@@ -5,6 +5,7 @@ ghost use Rattle.foyer_bench.specs.StoreAnswers.{IsGetAnswer, IsPieceOf, IsPutAn
 ghost use Rattle.foyer_bench_stats.specs.AnswerCounts.{no_answers};
 ghost use Rattle.foyer_bench_stats.specs.Histogram.{HasNothing};
 
+use crate::asked::AskedKeys;
 use foyer_bench_stats::answers::{Answers, GetAnswer, PutAnswer};
 use foyer_bench_stats::histogram::Histogram;
 use foyer_bench_stats::plan::Plan;
@@ -81,6 +82,17 @@ fn nanos_between(begin: Instant, end: Instant) -> u64
     u64::try_from(nanos).unwrap_or(u64::MAX)
 }
 
+/// What the threads of a run share beside the store.
+#[derive(Drop)]
+pub struct Work<'a> {
+    pub plan: &'a Plan,
+    pub zipf: &'a Zipf,
+    /// What a value is filled with.
+    pub filler: &'a [u8],
+    /// Where a get that is a hit leaves its mark, if anywhere.
+    pub asked: Option<&'a AskedKeys>,
+}
+
 /// What a thread draws its calls from, and what it counts.
 #[derive(Drop)]
 pub struct Caller {
@@ -125,20 +137,21 @@ impl Caller {
         Ok(end)
     }
 
-    // Gets a key: the moment of the call's end.
+    // Gets a key: the moment of the call's end, and how it was answered.
     fn get<S: Drop, N: Engine<S, u64, Vec<u8>, NoProperties>, R: Wait + Clock>(
         &mut self,
         rt: &R,
         store: &Values<N>,
         session: &mut S,
         key: u64,
-    ) -> io::Result<Instant> {
+    ) -> io::Result<(Instant, GetAnswer)> {
         let begin = Instant::now(rt)?;
         let outcome = store.load(rt, session, &key, 0);
         let end = Instant::now(rt)?;
+        let answer = get_answer(key, &outcome);
         self.gets.note(nanos_between(begin, end));
-        self.answers.count_get(get_answer(key, &outcome));
-        Ok(end)
+        self.answers.count_get(answer);
+        Ok((end, answer))
     }
 
     // Makes one call: the moment of its end.
@@ -148,16 +161,21 @@ impl Caller {
         alloc: Global,
         store: &Values<N>,
         session: &mut S,
-        zipf: &Zipf,
-        gets: u64,
-        filler: &[u8],
+        work: &Work<'_>,
     ) -> io::Result<Instant> {
-        let key = key_of(zipf.rank(self.words.next_word()));
-        if self.words.next_word() % 100 < gets {
-            self.get(rt, store, session, key)
-        } else {
-            self.put(rt, alloc, store, session, key, filler)
+        let key = key_of(work.zipf.rank(self.words.next_word()));
+        if self.words.next_word() % 100 >= work.plan.gets {
+            return self.put(rt, alloc, store, session, key, work.filler);
         }
+        let (end, answer) = self.get(rt, store, session, key)?;
+        match (answer, work.asked) {
+            (GetAnswer::Hit, Some(asked)) => asked.mark(key),
+            (GetAnswer::Miss, _) if work.plan.through == 1 => {
+                return self.put(rt, alloc, store, session, key, work.filler);
+            }
+            _ => {}
+        }
+        Ok(end)
     }
 
     /// Makes the plan's calls, until their number or time is over. What fails is the clock.
@@ -167,14 +185,13 @@ impl Caller {
         alloc: Global,
         store: &Values<N>,
         session: &mut S,
-        plan: &Plan,
-        zipf: &Zipf,
-        filler: &[u8],
+        work: &Work<'_>,
     ) -> io::Result<()> {
+        let plan = work.plan;
         let begin = Instant::now(rt)?;
         let last = begin.checked_add(Duration::from_secs(plan.seconds));
         for _ in 0..plan.calls.unwrap_or(u64::MAX) {
-            let end = self.call(rt, alloc, store, session, zipf, plan.gets, filler)?;
+            let end = self.call(rt, alloc, store, session, work)?;
             if plan.calls.is_none() && Some(end) >= last {
                 break;
             }

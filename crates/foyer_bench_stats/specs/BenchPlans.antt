@@ -16,14 +16,16 @@ set_to setting.Gets number plan = record plan { gets = number }
 set_to setting.Seed number plan = record plan { seed = number }
 set_to setting.Fill number plan = record plan { fill = number }
 set_to setting.Engines number plan = record plan { engines = number }
+set_to setting.Through number plan = record plan { through = number }
+set_to setting.Reinsert number plan = record plan { reinsert = number }
 
 -- each word is a setting, and the plan has the last of each name
 unfoldable pub AreSettings : Plan → List (List ℕ) → Plan → Type 0
 AreSettings plan [] after = after ≡ plan
 AreSettings plan (word ∷ words) after = (s : Setting) × (number : ℕ) × IsSetting word s number × AreSettings (set_to s number plan) words after
 
--- where nothing more is said: 100,000 keys at a skew of 0.99, 90 of a hundred calls are gets, nothing is put before, and loads read
--- through one engine
+-- where nothing more is said: 100,000 keys at a skew of 0.99, 90 of a hundred calls are gets, nothing is put before, loads read
+-- through one engine, a miss puts nothing, and nothing is written again
 abbrev pub default_plan : ℕ → ℕ → ℕ → Plan
 default_plan threads value_bytes seconds = record {
   threads = threads;
@@ -36,6 +38,8 @@ default_plan threads value_bytes seconds = record {
   seed = 1;
   fill = 0;
   engines = 1;
+  through = 0;
+  reinsert = 0;
 }
 
 abbrev pub word_at : List (List ℕ) → ℕ → List ℕ

@@ -21,6 +21,8 @@ name_of setting.Gets = codes "gets"
 name_of setting.Seed = codes "seed"
 name_of setting.Fill = codes "fill"
 name_of setting.Engines = codes "engines"
+name_of setting.Through = codes "through"
+name_of setting.Reinsert = codes "reinsert"
 
 abbrev pub least_of : Setting → ℕ
 least_of setting.Keys = 1
@@ -32,6 +34,8 @@ greatest_of setting.Keys = 2 ^ 26
 greatest_of setting.Skew = 1000
 greatest_of setting.Gets = 100
 greatest_of setting.Engines = 1024
+greatest_of setting.Through = 1
+greatest_of setting.Reinsert = 1
 greatest_of _ = 2 ^ 64 - 1
 
 -- the word is a setting's name, an equals sign, and a number that it may have

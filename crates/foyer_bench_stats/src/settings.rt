@@ -12,6 +12,8 @@ pub enum Setting {
     Seed,
     Fill,
     Engines,
+    Through,
+    Reinsert,
 }
 
 /// Why words are refused.
@@ -40,7 +42,7 @@ impl Refusal {
             Refusal::ValueBytes => "VALUE_BYTES is a number up to 2^30",
             Refusal::Seconds => "SECONDS is a number from 1 to 2^30",
             Refusal::Unknown =>
-                "a setting is calls=, keys=, skew=, gets=, seed=, fill= or engines=",
+                "a setting is calls=, keys=, skew=, gets=, seed=, fill=, engines=, through= or reinsert=",
             Refusal::Number(Setting::Calls) => "calls= is a number",
             Refusal::Number(Setting::Keys) => "keys= is a number from 1 to 2^26",
             Refusal::Number(Setting::Skew) => "skew= is a number of hundredths up to 1000",
@@ -48,6 +50,8 @@ impl Refusal {
             Refusal::Number(Setting::Seed) => "seed= is a number",
             Refusal::Number(Setting::Fill) => "fill= is a number",
             Refusal::Number(Setting::Engines) => "engines= is a number from 1 to 1024",
+            Refusal::Number(Setting::Through) => "through= is 0 or 1",
+            Refusal::Number(Setting::Reinsert) => "reinsert= is 0 or 1",
         }
     }
 }
@@ -75,6 +79,8 @@ impl Setting {
             "seed" => Some(Setting::Seed),
             "fill" => Some(Setting::Fill),
             "engines" => Some(Setting::Engines),
+            "through" => Some(Setting::Through),
+            "reinsert" => Some(Setting::Reinsert),
             _ => None,
         }
     }
@@ -96,6 +102,7 @@ impl Setting {
             Setting::Skew => 1000,
             Setting::Gets => 100,
             Setting::Engines => 1024,
+            Setting::Through | Setting::Reinsert => 1,
             _ => u64::MAX,
         }
     }

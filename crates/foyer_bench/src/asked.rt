@@ -1,0 +1,64 @@
+//! Which keys were asked for since their records were written, and a filter that has these written again.
+ghost use Rattle.std.specs.Prelude.{◌≡◌, ◌<◌, IfOk, length};
+
+use foyer_device_page::error::Result;
+use foyer_device_statistics::IoState;
+use foyer_policy_filter::{StorageFilterCondition, StorageFilterResult};
+use std::alloc::Global;
+use std::sync::Arc;
+use std::sync::atomic::{AtomicBool, Ordering};
+
+/// A mark for each key that was asked for. Keys share marks where their hashes lie together.
+#[derive(Drop)]
+pub struct AskedKeys {
+    marks: Vec<AtomicBool>,
+    ghost some: { 0 < length marks.items },
+}
+
+impl AskedKeys {
+    /// No key was asked for, of so many, or of one where these are none. Memory.
+    pub fn new(alloc: Global, keys: u64) -> Result<AskedKeys> {
+        let mut marks = Vec::new(alloc);
+        marks.push(AtomicBool::new(false))?;
+        for _ in 1..keys {
+            marks.push(AtomicBool::new(false))?;
+        }
+        Ok(AskedKeys { marks })
+    }
+
+    fn mark_of(&self, hash: u64) -> &AtomicBool {
+        let count = self.marks.len() as u64;
+        &self.marks[(hash % count) as usize]
+    }
+
+    /// Marks a key as asked for.
+    pub fn mark(&self, hash: u64) {
+        self.mark_of(hash).store(true, Ordering::Relaxed);
+    }
+
+    /// Whether a key was asked for, which isn't marked from then on.
+    pub fn take(&self, hash: u64) -> bool {
+        self.mark_of(hash).swap(false, Ordering::Relaxed)
+    }
+}
+
+/// Lets in what was asked for, and rejects all else.
+#[derive(Drop)]
+pub struct AskedAgain {
+    pub asked: Arc<AskedKeys, Global>,
+}
+
+impl StorageFilterCondition for AskedAgain {
+    ghost use Rattle.std.specs.Prelude.{◌⊎◌};
+    ghost use Rattle.foyer_policy_filter.specs.Verdict.{IsAdmit, IsReject};
+
+    ghost may_answer = { λ _ _ _ _ a. IsAdmit a ⊎ IsReject a };
+
+    fn filter(&self, _io: &IoState, hash: u64, _size: usize) -> StorageFilterResult {
+        if self.asked.take(hash) {
+            StorageFilterResult::Admit
+        } else {
+            StorageFilterResult::Reject
+        }
+    }
+}
