@@ -2,9 +2,14 @@
 ghost use Rattle.std.specs.Prelude.{◌≡◌, ◌+◌, ◌%◌, ◌^◌, IsTrue, not, true, false};
 ghost use Rattle.foyer_storage_engine.specs.Ringing.{is_past};
 
-use foyer_lock::{LOOKS, lock_spinning, pause_shortly};
+use foyer_lock::lock_spinning;
+use std::hint::spin_loop;
 use std::mem;
 use std::sync::{Condvar, Mutex, Wait};
+
+// How often a thread looks at a bell or at its wait before it sleeps: some 25 microseconds, or 60 where the processor pauses for longer.
+// A small batch takes less, and so does what it costs to sleep and to be woken.
+pub(crate) const LOOKS: u32 = 1000;
 
 // What stands behind the lock: a count of moves, whether no more come, and whether a thread has begun to wait since the last
 // time that all were woken.
@@ -124,7 +129,7 @@ impl Bell {
             if let Some(is_closed) = self.look_past(seen) {
                 return is_closed;
             }
-            pause_shortly();
+            spin_loop();
         }
         let moves = self.moved.wait_while(
             rt,

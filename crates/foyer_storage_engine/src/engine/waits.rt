@@ -3,9 +3,11 @@ ghost use Rattle.std.specs.Prelude.{◌≡◌, ◌++◌, ◌∷◌, [], true, fa
 ghost use Rattle.foyer_device_page.specs.declared.error.Error.TheVariants.{Memory};
 ghost use Rattle.foyer_storage_engine.specs.Waiting.{is_over, place_of, IsAnsweredAt, IsForgottenAt};
 
+use crate::bell::LOOKS;
 use foyer_device_page::error::Result;
-use foyer_lock::{LOOKS, lock_spinning, pause_shortly};
+use foyer_lock::lock_spinning;
 use std::alloc::Allocator;
+use std::hint::spin_loop;
 use std::mem;
 use std::sync::{Condvar, Mutex, Wait};
 
@@ -162,7 +164,7 @@ impl<A: Allocator> Waits<A> {
             if self.looks_over(id) {
                 return;
             }
-            pause_shortly();
+            spin_loop();
         }
         let _table = self.answered.wait_while(
             rt,
