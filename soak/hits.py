@@ -11,7 +11,8 @@ taking what a record of it does, whole pages; what they hold they hold without b
 reaches. After a fifth of the requests hits are counted.
 
 Then foyerbench draws keys of the same skew for some seconds (10), with values of 4 KiB: as it is, and with what was hit since the reclaim
-before written again at a reclaim (`reinsert=1`). All of its gets are counted, those of the cache that fills too.
+before written again at a reclaim (`reinsert=1`). All of its gets are counted, those of the cache that fills too. LRU and FIFO get five
+times as many requests.
 
 It prints two lines a skew, and ends with status 0, 1 where an answer wasn't the key's text or a miss, 2 for bad arguments.
 """
@@ -147,6 +148,7 @@ def main():
         except Wrong as wrong:
             print(f"wrong: {wrong}", file=sys.stderr)
             return 1
+        requests = requests_of(skew, options.keys, 5 * options.requests, options.seed)
         lru, fifo = (hits_of_list(requests, room, from_hit, pages_of_value) for from_hit in (True, False))
         print(f"skew {skew}, {VALUE} bytes: hits {plain:.3f}, what was hit written again {again:.3f}, of LRU {lru:.3f}, of FIFO {fifo:.3f}",
               flush=True)
