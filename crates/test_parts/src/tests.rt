@@ -4,3 +4,4 @@ mod lock;
 mod log;
 mod plan;
 mod statistics;
+mod tables;

@@ -1,6 +1,7 @@
 //! Values of each type with their bytes, and bytes that decode to none.
 use foyer_device_page::error::{Error, Result};
 use foyer_format_record::serde::Code;
+use foyer_testing::said::Said;
 use std::alloc::Global;
 use std::test::Fail;
 
@@ -44,43 +45,76 @@ fn is_encodable<C: Code<Global> + PartialEq + Drop>(
     matches!(is_encoded(alloc, value, bytes), Ok(true))
 }
 
+// Notes a word, and whether the value is encodable so.
+fn say<C: Code<Global> + PartialEq + Drop>(
+    said: &mut Said,
+    alloc: Global,
+    word: &str,
+    value: &C,
+    bytes: &[u8],
+) {
+    said.flag(word, is_encodable(alloc, value, bytes));
+}
+
+fn unsigned(alloc: Global) -> Result<String> {
+    let mut said = Said::new(alloc);
+    let wide = [8, 7, 6, 5, 4, 3, 2, 1];
+    let wider = [0, 0, 0, 0, 0, 0, 0, 0, 0, 0, 0, 0, 0, 0, 2, 1];
+    say(&mut said, alloc, "u8 ", &0u8, &[0]);
+    say(&mut said, alloc, ", its last ", &u8::MAX, &[255]);
+    say(&mut said, alloc, ", u16 ", &0x0102u16, &[2, 1]);
+    say(&mut said, alloc, ", u32 ", &0x0102_0304u32, &[4, 3, 2, 1]);
+    say(&mut said, alloc, ", u64 ", &0x0102_0304_0506_0708u64, &wide);
+    say(
+        &mut said,
+        alloc,
+        ", usize ",
+        &0x0102_0304_0506_0708usize,
+        &wide,
+    );
+    say(&mut said, alloc, ", the last u64 ", &u64::MAX, &[255; 8]);
+    say(&mut said, alloc, ", u128 ", &(0x0102u128 << 112), &wider);
+    said.text()
+}
+
 #[test]
 fn numbers_have_their_lowest_byte_first(rt: HostRuntime) -> std::result::Result<(), Fail> {
-    let alloc = rt.alloc();
-    assert!(rt; is_encodable(alloc, &0u8, &[0]));
-    assert!(rt; is_encodable(alloc, &u8::MAX, &[255]));
-    assert!(rt; is_encodable(alloc, &0x0102u16, &[2, 1]));
-    assert!(rt; is_encodable(alloc, &0x0102_0304u32, &[4, 3, 2, 1]));
-    let wide = [8, 7, 6, 5, 4, 3, 2, 1];
-    assert!(rt; is_encodable(alloc, &0x0102_0304_0506_0708u64, &wide));
-    assert!(rt; is_encodable(alloc, &0x0102_0304_0506_0708usize, &wide));
-    assert!(rt; is_encodable(alloc, &u64::MAX, &[255; 8]));
-    let wider = [0, 0, 0, 0, 0, 0, 0, 0, 0, 0, 0, 0, 0, 0, 2, 1];
-    assert!(rt; is_encodable(alloc, &(0x0102u128 << 112), &wider));
+    let said = unsigned(rt.alloc())?;
+    let wanted =
+        "u8 yes, its last yes, u16 yes, u32 yes, u64 yes, usize yes, the last u64 yes, u128 yes";
+    assert!(rt; said.as_str() == wanted, "{said}");
     Ok(())
+}
+
+fn signed(alloc: Global) -> Result<String> {
+    let mut said = Said::new(alloc);
+    let least = [0, 0, 0, 0, 0, 0, 0, 128];
+    let one = [1, 0, 0, 0, 0, 0, 0, 0, 0, 0, 0, 0, 0, 0, 0, 0];
+    say(&mut said, alloc, "i8 ", &-1i8, &[255]);
+    say(&mut said, alloc, ", its least ", &i8::MIN, &[128]);
+    say(&mut said, alloc, ", i16 ", &-2i16, &[254, 255]);
+    say(&mut said, alloc, ", above 0 ", &0x0102i16, &[2, 1]);
+    say(&mut said, alloc, ", i32 ", &-2i32, &[254, 255, 255, 255]);
+    say(&mut said, alloc, ", the least i64 ", &i64::MIN, &least);
+    say(&mut said, alloc, ", isize ", &-1isize, &[255; 8]);
+    say(&mut said, alloc, ", i128 ", &-1i128, &[255; 16]);
+    say(&mut said, alloc, ", above 0 ", &1i128, &one);
+    said.text()
 }
 
 #[test]
 fn signed_numbers_keep_their_sign(rt: HostRuntime) -> std::result::Result<(), Fail> {
-    let alloc = rt.alloc();
-    assert!(rt; is_encodable(alloc, &-1i8, &[255]));
-    assert!(rt; is_encodable(alloc, &i8::MIN, &[128]));
-    assert!(rt; is_encodable(alloc, &-2i16, &[254, 255]));
-    assert!(rt; is_encodable(alloc, &0x0102i16, &[2, 1]));
-    assert!(rt; is_encodable(alloc, &-2i32, &[254, 255, 255, 255]));
-    assert!(rt; is_encodable(alloc, &i64::MIN, &[0, 0, 0, 0, 0, 0, 0, 128]));
-    assert!(rt; is_encodable(alloc, &-1isize, &[255; 8]));
-    assert!(rt; is_encodable(alloc, &-1i128, &[255; 16]));
-    let one = [1, 0, 0, 0, 0, 0, 0, 0, 0, 0, 0, 0, 0, 0, 0, 0];
-    assert!(rt; is_encodable(alloc, &1i128, &one));
+    let said = signed(rt.alloc())?;
+    let wanted =
+        "i8 yes, its least yes, i16 yes, above 0 yes, i32 yes, the least i64 yes, isize yes, i128 yes, above 0 yes";
+    assert!(rt; said.as_str() == wanted, "{said}");
     Ok(())
 }
 
 #[test]
 fn a_flag_is_one_byte_of_two(rt: HostRuntime) -> std::result::Result<(), Fail> {
     let alloc = rt.alloc();
-    assert!(rt; is_encodable(alloc, &false, &[0]));
-    assert!(rt; is_encodable(alloc, &true, &[1]));
+    assert!(rt; is_encodable(alloc, &false, &[0]) && is_encodable(alloc, &true, &[1]));
     for byte in 2..=255u8 {
         assert!(rt; is_refused::<bool>(alloc, &[byte]), "byte {byte}");
     }
@@ -100,8 +134,9 @@ fn bytes_stand_behind_their_length(rt: HostRuntime) -> std::result::Result<(), F
         [0, 0, 0, 0, 0, 0, 0, 1, 1],
         [9, 0, 0, 0, 0, 0, 0, 0, 1],
     ] {
-        assert!(rt; is_refused::<Vec<u8>>(alloc, &hostile));
-        assert!(rt; is_refused::<String>(alloc, &hostile));
+        assert!(rt;
+            is_refused::<Vec<u8>>(alloc, &hostile) && is_refused::<String>(alloc, &hostile)
+        );
     }
     Ok(())
 }

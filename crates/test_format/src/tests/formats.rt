@@ -6,6 +6,7 @@ use foyer_format_buffer::block::serde::{EntryHeader, read_record};
 use foyer_format_checksum::Checksummer;
 use foyer_format_record::compress::Compression;
 use foyer_format_record::serde::{Code, EntryDeserializer, EntrySerializer, KvInfo, TrackedWriter};
+use foyer_testing::said::Said;
 use std::alloc::Global;
 use std::test::Fail;
 
@@ -26,8 +27,8 @@ fn a_header_has_its_bytes(rt: HostRuntime) -> Result<(), Fail> {
     };
     let mut bytes = [0u8; 36];
     header.write(&mut bytes);
-    assert_eq!(rt; bytes.as_slice(), HEADER.as_slice());
-    assert!(rt; EntryHeader::read(&bytes) == Ok(header));
+    let is_written = bytes.as_slice() == HEADER.as_slice();
+    assert!(rt; is_written && EntryHeader::read(&bytes) == Ok(header));
     Ok(())
 }
 
@@ -38,8 +39,12 @@ fn checksums_are_the_published_ones(rt: HostRuntime) {
         ("a", 0xD24E_C4F1_A98C_6E5B, 0x550D_7456),
         ("abc", 0x44BC_2CF5_AD77_0999, 0x32D1_53FF),
     ] {
-        assert_eq!(rt; Checksummer::checksum64(text.as_bytes()), long);
-        assert_eq!(rt; Checksummer::checksum32(text.as_bytes()), short);
+        let bytes = text.as_bytes();
+        let is_long = Checksummer::checksum64(bytes) == long;
+        assert!(rt;
+            is_long && Checksummer::checksum32(bytes) == short,
+            "{text}"
+        );
     }
 }
 
@@ -49,10 +54,7 @@ fn a_text_has_its_bytes(rt: HostRuntime) -> Result<(), Fail> {
     let text = String::from_str(alloc, "abc")?;
     let mut bytes = Vec::new(alloc);
     text.encode(&mut bytes)?;
-    assert_eq!(rt;
-        bytes.as_slice(),
-        [3, 0, 0, 0, 0, 0, 0, 0, 97, 98, 99].as_slice()
-    );
+    assert!(rt; bytes.as_slice() == [3, 0, 0, 0, 0, 0, 0, 0, 97, 98, 99].as_slice());
     Ok(())
 }
 
@@ -74,38 +76,62 @@ fn push(
     buffer.push(&1u64, &value, 1, compression, 1)
 }
 
-// It has 53 bytes, on one page.
-#[test]
-fn a_record_takes_whole_pages(rt: HostRuntime) -> Result<(), Fail> {
-    let alloc = rt.alloc();
-    let mut buffer = two_pages(alloc, 8192)?;
-    assert!(rt; buffer.is_empty());
-    assert!(rt; push(alloc, &mut buffer, Compression::None)?);
-    assert!(rt; !buffer.is_empty());
-    assert_eq!(rt; buffer.written(), 4096);
-    assert!(rt; !push(alloc, &mut buffer, Compression::Zstd)?);
-    assert_eq!(rt; buffer.written(), 4096);
-    let (_, infos) = buffer.finish();
-    assert_eq!(rt; infos.len(), 1);
-    let info = infos.first().ok_or("no record")?;
-    assert_eq!(rt; info.offset, 0);
-    assert_eq!(rt; info.len, 53);
+fn compression_of(word: &str) -> Compression {
+    match word {
+        "zstd" => Compression::Zstd,
+        _ => Compression::None,
+    }
+}
+
+// Puts that record once for each word: whether the buffer was empty, whether it was put, and how many bytes are written.
+fn push_each(
+    said: &mut Said,
+    alloc: Global,
+    buffer: &mut Buffer<Global>,
+    words: &str,
+) -> Result<(), Error> {
+    for word in words.split(' ') {
+        said.flag("", buffer.is_empty());
+        said.flag(" ", push(alloc, buffer, compression_of(word))?);
+        said.number(" ", buffer.written() as u64);
+        said.word(", ");
+    }
     Ok(())
 }
 
+// Where the records stand, and how long they are.
+fn say_infos(said: &mut Said, buffer: Buffer<Global>) {
+    let (_, infos) = buffer.finish();
+    for info in infos.as_slice() {
+        said.number("", info.offset as u64);
+        said.number(":", info.len as u64);
+        said.word(" ");
+    }
+}
+
+fn pushed(alloc: Global, greatest: usize, words: &str) -> Result<String, Error> {
+    let mut said = Said::new(alloc);
+    let mut buffer = two_pages(alloc, greatest)?;
+    push_each(&mut said, alloc, &mut buffer, words)?;
+    say_infos(&mut said, buffer);
+    said.text()
+}
+
+// The record has 53 bytes, on one page; two of them fill both pages.
 #[test]
-fn a_record_without_room_is_not_put(rt: HostRuntime) -> Result<(), Fail> {
-    let alloc = rt.alloc();
-    let mut buffer = two_pages(alloc, 4095)?;
-    assert!(rt; !push(alloc, &mut buffer, Compression::None)?);
-    assert!(rt; buffer.is_empty());
-    assert_eq!(rt; buffer.written(), 0);
-    // two records fill both pages
-    let mut buffer = two_pages(alloc, 4096)?;
-    assert!(rt; push(alloc, &mut buffer, Compression::None)?);
-    assert!(rt; push(alloc, &mut buffer, Compression::None)?);
-    assert!(rt; !push(alloc, &mut buffer, Compression::None)?);
-    assert_eq!(rt; buffer.written(), 8192);
+fn records_take_whole_pages_while_there_is_room(rt: HostRuntime) -> Result<(), Fail> {
+    for (greatest, words, wanted) in [
+        (8192, "none zstd", "yes yes 4096, no no 4096, 0:53 "),
+        (4095, "none", "yes no 0, "),
+        (
+            4096,
+            "none none none",
+            "yes yes 4096, no yes 8192, no no 8192, 0:53 4096:53 ",
+        ),
+    ] {
+        let said = pushed(rt.alloc(), greatest, words)?;
+        assert!(rt; said.as_str() == wanted, "{words}: {said}");
+    }
     Ok(())
 }
 
@@ -128,7 +154,7 @@ const RECORD: [u8; 53] = [
 
 #[test]
 fn a_record_has_its_bytes(rt: HostRuntime) -> Result<(), Fail> {
-    assert_eq!(rt; record(rt.alloc(), 53)?.as_slice(), RECORD.as_slice());
+    assert!(rt; record(rt.alloc(), 53)?.as_slice() == RECORD.as_slice());
     Ok(())
 }
 
@@ -145,8 +171,7 @@ fn read(
 #[test]
 fn a_record_is_read_back(rt: HostRuntime) -> Result<(), Fail> {
     let (found, text) = read(rt.alloc(), 1, 1, 53)?.ok_or("no record")?;
-    assert_eq!(rt; found, 1);
-    assert_eq!(rt; text.as_str(), "a");
+    assert!(rt; found == 1 && text.as_str() == "a");
     Ok(())
 }
 
@@ -184,9 +209,7 @@ fn entry(alloc: Global) -> Result<(Vec<u8>, KvInfo), Error> {
 #[test]
 fn an_entry_is_written(rt: HostRuntime) -> Result<(), Fail> {
     let (bytes, info) = entry(rt.alloc())?;
-    assert_eq!(rt; bytes.len(), 17);
-    assert_eq!(rt; info.value_len, 9);
-    assert_eq!(rt; info.key_len, 8);
+    assert!(rt; bytes.len() == 17 && info.value_len == 9 && info.key_len == 8);
     Ok(())
 }
 
@@ -201,8 +224,7 @@ fn an_entry_is_read(rt: HostRuntime) -> Result<(), Fail> {
     let (bytes, _) = entry(alloc)?;
     let sum = Checksummer::checksum64(bytes.as_slice());
     let (found, text) = pair(alloc, bytes.as_slice(), sum)?;
-    assert_eq!(rt; found, 1);
-    assert_eq!(rt; text.as_str(), "a");
+    assert!(rt; found == 1 && text.as_str() == "a");
     let other = pair(alloc, bytes.as_slice(), 7);
     assert!(rt; matches!(other, Err(Error::ChecksumMismatch)));
     Ok(())

@@ -1,10 +1,11 @@
-//! Which blocks pickers pick and mark.
+//! Which blocks pickers pick and mark: scripts of calls, with their answers.
 use foyer_block_manager::block::eviction::{
     AnyPicker, EvictionInfo, EvictionPicker, FifoPicker, InvalidRatioPicker,
 };
 use foyer_block_manager::block::manager::{BlockId, BlockSet, BlockState, BlockStatistics};
+use foyer_device_page::error::Result;
+use foyer_testing::said::Said;
 use std::alloc::Global;
-use std::process::Abort;
 use std::test::Fail;
 
 const IDS: [BlockId; 10] = [0, 1, 2, 3, 4, 5, 6, 7, 8, 9];
@@ -37,120 +38,134 @@ fn blocks() -> [BlockState; 10] {
     ]
 }
 
-fn expect_pick<P: EvictionPicker>(
-    rt: &impl Abort,
+// The block that is picked of so many, with so many clean ones, and behind each `?` a block that is marked.
+fn say_pick<P: EvictionPicker>(said: &mut Said, alloc: Global, picker: &P, info: EvictionInfo<'_>) {
+    match Vec::with_capacity(alloc, info.blocks.len()) {
+        Ok(mut probation) => {
+            match picker.pick(info, &mut probation) {
+                Some(id) => said.number(" ", u64::from(id)),
+                None => said.word(" none"),
+            }
+            for id in probation.iter() {
+                said.number("?", u64::from(*id));
+            }
+        }
+        Err(_) => said.miss(),
+    }
+}
+
+// Readies the picker for the first so many blocks of a size.
+fn init<P: EvictionPicker>(
+    said: &mut Said,
     alloc: Global,
-    picker: &P,
-    info: EvictionInfo<'_>,
-    picked: Option<BlockId>,
-    marked: &[BlockId],
-) -> Result<(), Fail> {
-    let mut probation = Vec::with_capacity(alloc, info.blocks.len())?;
-    assert_eq!(rt; picker.pick(info, &mut probation), picked);
-    assert_eq!(rt; probation.as_slice(), marked);
+    picker: &mut P,
+    many: usize,
+    block_size: usize,
+) {
+    let ids = IDS.get(..many).unwrap_or(&IDS);
+    if picker.init(alloc, ids, block_size).is_err() {
+        said.miss();
+    }
+}
+
+fn say_call<P: EvictionPicker>(
+    said: &mut Said,
+    alloc: Global,
+    picker: &mut P,
+    blocks: &[BlockState],
+    call: &str,
+) {
+    let (word, rest) = call.split_once(' ').unwrap_or((call, ""));
+    let (first, second) = rest.split_once(' ').unwrap_or((rest, ""));
+    let number = first.parse::<u32>().unwrap_or(0);
+    let other = second.parse::<usize>().unwrap_or(0);
+    let info = EvictionInfo {
+        blocks,
+        evictable: &IDS,
+        clean: 0,
+    };
+    match word {
+        "init" => init(said, alloc, picker, number as usize, other),
+        "evictable" => picker.on_block_evictable(info, number),
+        "evict" => picker.on_block_evict(info, number),
+        _ => {
+            let info = EvictionInfo {
+                blocks,
+                evictable: IDS.get(..number as usize).unwrap_or(&IDS),
+                clean: other,
+            };
+            say_pick(said, alloc, picker, info)
+        }
+    }
+}
+
+fn say_calls<P: EvictionPicker>(said: &mut Said, alloc: Global, mut picker: P, script: &str) {
+    let blocks = blocks();
+    for call in script.split(", ") {
+        if call == "all" {
+            for id in IDS.iter() {
+                let info = EvictionInfo {
+                    blocks: &blocks,
+                    evictable: &IDS,
+                    clean: 0,
+                };
+                picker.on_block_evictable(info, *id);
+            }
+        } else {
+            say_call(said, alloc, &mut picker, &blocks, call);
+        }
+    }
+}
+
+fn any_of(alloc: Global, kind: &str) -> Result<AnyPicker> {
+    match kind {
+        "any fifo" => Ok(AnyPicker::Fifo(FifoPicker::default())),
+        "any ratio" => Ok(AnyPicker::InvalidRatio(InvalidRatioPicker::new(1, 2))),
+        _ => Ok(AnyPicker::Boxed(Box::new(alloc, FifoPicker::new(1, 10))?)),
+    }
+}
+
+fn say_row(said: &mut Said, alloc: Global, kind: &str, script: &str) -> Result<()> {
+    match kind {
+        "fifo" => say_calls(said, alloc, FifoPicker::default(), script),
+        "whole fifo" => say_calls(said, alloc, FifoPicker::new(1, 1), script),
+        "ratio" => say_calls(said, alloc, InvalidRatioPicker::new(1, 2), script),
+        _ => say_calls(said, alloc, any_of(alloc, kind)?, script),
+    }
     Ok(())
 }
 
-fn expect_fifo<P: EvictionPicker>(
-    rt: &impl Abort,
-    alloc: Global,
-    picker: &mut P,
-) -> Result<(), Fail> {
-    let blocks = blocks();
-    let info = EvictionInfo {
-        blocks: &blocks,
-        evictable: &IDS,
-        clean: 0,
-    };
-    picker.init(alloc, &IDS, 16384)?;
-    for id in IDS.iter() {
-        picker.on_block_evictable(info, *id);
+fn rows_of(alloc: Global, rows: &str) -> Result<String> {
+    let mut said = Said::new(alloc);
+    for row in rows.lines() {
+        let (asked, _) = row.split_once(" | ").unwrap_or((row, ""));
+        said.word(asked);
+        if let Some((kind, script)) = asked.split_once(" < ") {
+            said.word(" |");
+            say_row(&mut said, alloc, kind, script)?;
+        }
+        said.word("\n");
     }
-    expect_pick(rt, alloc, picker, info, Some(0), &[0])?;
-    picker.on_block_evict(info, 0);
-    expect_pick(rt, alloc, picker, info, Some(1), &[1])?;
-    picker.on_block_evict(info, 1);
-    let with_clean = EvictionInfo {
-        blocks: &blocks,
-        evictable: &IDS,
-        clean: 1,
-    };
-    expect_pick(rt, alloc, picker, with_clean, Some(2), &[])
+    said.text()
 }
 
-fn expect_ratio<P: EvictionPicker>(
-    rt: &impl Abort,
-    alloc: Global,
-    picker: &mut P,
-) -> Result<(), Fail> {
-    let blocks = blocks();
-    picker.init(alloc, &IDS, 10)?;
-    let all = EvictionInfo {
-        blocks: &blocks,
-        evictable: &IDS,
-        clean: 0,
-    };
-    expect_pick(rt, alloc, picker, all, Some(9), &[])?;
-    expect_pick(rt, alloc, picker, all, Some(9), &[])?;
-    for (left, picked) in [
-        (9, Some(8)),
-        (8, Some(7)),
-        (7, Some(6)),
-        (6, Some(5)),
-        (5, None),
-        (5, None),
-    ] {
-        let info = EvictionInfo {
-            blocks: &blocks,
-            evictable: &IDS[..left],
-            clean: 0,
-        };
-        expect_pick(rt, alloc, picker, info, picked, &[])?;
-    }
+// Names, and below each a picker, what it learns, and its picks: `pick 9 1` of the first nine blocks with one clean one, and
+// behind each `?` a block that it marks. The invalid bytes of each block are its number.
+const ROWS: &str = "fifo picks the oldest and marks a tenth
+fifo < init 10 16384, all, pick 10 0, evict 0, pick 10 0, evict 1, pick 10 1 | 0?0 1?1 2
+invalid ratio picks the worst from one half on
+ratio < init 10 10, pick 10 0, pick 10 0, pick 9 0, pick 8 0, pick 7 0, pick 6 0, pick 5 0, pick 5 0 | 9 9 8 7 6 5 none none
+any picker is the one it holds
+any fifo < init 10 16384, all, pick 10 0, evict 0, pick 10 0, evict 1, pick 10 1 | 0?0 1?1 2
+any ratio < init 10 10, pick 10 0, pick 10 0, pick 9 0, pick 8 0, pick 7 0, pick 6 0, pick 5 0, pick 5 0 | 9 9 8 7 6 5 none none
+boxed fifo < init 10 16384, all, pick 10 0, evict 0, pick 10 0, evict 1, pick 10 1 | 0?0 1?1 2
+fifo takes each block once, and none beyond its room
+whole fifo < evictable 7, pick 10 0, init 2 16384, evictable 3, evictable 3, evictable 1, evictable 5, pick 10 0, evict 8, evict 3, pick 10 0 | none 3?3?1 1?1
+";
+
+#[test]
+fn each_picker_picks_so(rt: HostRuntime) -> std::result::Result<(), Fail> {
+    let answers = rows_of(rt.alloc(), ROWS)?;
+    assert!(rt; answers.as_str() == ROWS, "{answers}");
     Ok(())
-}
-
-#[test]
-fn fifo_picks_the_oldest_and_marks_a_tenth(rt: HostRuntime) -> Result<(), Fail> {
-    expect_fifo(&rt, rt.alloc(), &mut FifoPicker::default())
-}
-
-#[test]
-fn invalid_ratio_picks_the_worst_from_one_half_on(rt: HostRuntime) -> Result<(), Fail> {
-    expect_ratio(&rt, rt.alloc(), &mut InvalidRatioPicker::new(1, 2))
-}
-
-#[test]
-fn any_picker_is_the_one_it_holds(rt: HostRuntime) -> Result<(), Fail> {
-    let alloc = rt.alloc();
-    expect_fifo(&rt, alloc, &mut AnyPicker::Fifo(FifoPicker::default()))?;
-    expect_ratio(
-        &rt,
-        alloc,
-        &mut AnyPicker::InvalidRatio(InvalidRatioPicker::new(1, 2)),
-    )?;
-    let fifo = Box::new(alloc, FifoPicker::new(1, 10))?;
-    expect_fifo(&rt, alloc, &mut AnyPicker::Boxed(fifo))
-}
-
-#[test]
-fn fifo_takes_each_block_once_and_none_beyond_its_room(rt: HostRuntime) -> Result<(), Fail> {
-    let alloc = rt.alloc();
-    let blocks = blocks();
-    let info = EvictionInfo {
-        blocks: &blocks,
-        evictable: &IDS,
-        clean: 0,
-    };
-    let mut picker = FifoPicker::new(1, 1);
-    picker.on_block_evictable(info, 7);
-    expect_pick(&rt, alloc, &picker, info, None, &[])?;
-    picker.init(alloc, &IDS[..2], 16384)?;
-    for id in [3, 3, 1, 5] {
-        picker.on_block_evictable(info, id);
-    }
-    expect_pick(&rt, alloc, &picker, info, Some(3), &[3, 1])?;
-    picker.on_block_evict(info, 8);
-    picker.on_block_evict(info, 3);
-    expect_pick(&rt, alloc, &picker, info, Some(1), &[1])
 }

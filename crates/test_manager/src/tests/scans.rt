@@ -1,9 +1,10 @@
-//! What the scan of a block lists.
-use foyer_block_scan::block::scanner::BlockScanner;
+//! What the scan of a block lists: indices that it is given, and what it answers.
+use foyer_block_scan::block::scanner::{BlockScanner, EntryInfo};
+use foyer_device_page::error::Result;
 use foyer_format_blob::BlobEntryIndex;
 use foyer_format_checksum::Checksummer;
+use foyer_testing::said::Said;
 use std::alloc::Global;
-use std::process::Abort;
 use std::test::Fail;
 
 fn entry(sequence: u64, offset: u32, len: u32) -> BlobEntryIndex {
@@ -30,100 +31,27 @@ fn page(entries: &[BlobEntryIndex], count: u32) -> [u8; 4096] {
     bytes
 }
 
-fn expect_nothing(rt: &impl Abort, alloc: Global, bytes: &[u8]) -> Result<(), Fail> {
-    let mut scanner = BlockScanner::new(0, 0, 16384, 4096);
-    assert_eq!(rt; scanner.blob_offset(), Some(0));
-    assert!(rt; scanner.next(&alloc, bytes)?.is_none());
-    assert_eq!(rt; scanner.blob_offset(), None);
-    Ok(())
+fn number(word: Option<&str>) -> u32 {
+    word.unwrap_or("").parse::<u32>().unwrap_or(0)
 }
 
-#[test]
-fn a_count_over_the_capacity_lists_nothing(rt: HostRuntime) -> Result<(), Fail> {
-    expect_nothing(&rt, rt.alloc(), &page(&[entry(1, 4096, 53)], 171))
-}
-
-#[test]
-fn an_empty_entry_lists_nothing(rt: HostRuntime) -> Result<(), Fail> {
-    expect_nothing(
-        &rt,
-        rt.alloc(),
-        &page(&[entry(1, 4096, 53), entry(2, 8192, 0)], 2),
-    )
-}
-
-#[test]
-fn an_entry_past_the_block_lists_nothing(rt: HostRuntime) -> Result<(), Fail> {
-    expect_nothing(&rt, rt.alloc(), &page(&[entry(1, 4096, 12289)], 1))
-}
-
-#[test]
-fn another_checksum_lists_nothing(rt: HostRuntime) -> Result<(), Fail> {
-    let mut bytes = page(&[entry(1, 4096, 53)], 1);
-    bytes[7] ^= 1;
-    expect_nothing(&rt, rt.alloc(), &bytes)
-}
-
-#[test]
-fn an_entry_up_to_the_block_s_end_is_listed(rt: HostRuntime) -> Result<(), Fail> {
-    let alloc = rt.alloc();
-    let mut scanner = BlockScanner::new(3, 5, 16384, 4096);
-    let listed = scanner.next(&alloc, &page(&[entry(1, 4096, 12288)], 1))?;
-    let infos = listed.ok_or("nothing is listed")?;
-    assert_eq!(rt; infos.len(), 1);
-    assert_eq!(rt; infos[0].hash, 1);
-    assert_eq!(rt; infos[0].addr.block, 3);
-    assert_eq!(rt; infos[0].addr.filling, 5);
-    assert_eq!(rt; infos[0].addr.offset, 4096);
-    assert_eq!(rt; infos[0].addr.len, 12288);
-    assert_eq!(rt; scanner.blob_offset(), None);
-    Ok(())
-}
-
-#[test]
-fn a_scan_goes_on_behind_the_last_record(rt: HostRuntime) -> Result<(), Fail> {
-    let alloc = rt.alloc();
-    let mut scanner = BlockScanner::new(0, 0, 16384, 4096);
-    let first = scanner.next(&alloc, &page(&[entry(1, 4096, 53)], 1))?;
-    assert!(rt; first.is_some());
-    assert_eq!(rt; scanner.blob_offset(), Some(8192));
-    let second = scanner.next(&alloc, &page(&[entry(9, 4096, 53)], 1))?;
-    let infos = second.ok_or("nothing is listed")?;
-    assert_eq!(rt; infos.len(), 1);
-    assert_eq!(rt; infos[0].addr.offset, 12288);
-    assert_eq!(rt; scanner.blob_offset(), None);
-    Ok(())
-}
-
-#[test]
-fn an_index_without_entries_ends_the_scan(rt: HostRuntime) -> Result<(), Fail> {
-    let alloc = rt.alloc();
-    let mut scanner = BlockScanner::new(0, 0, 16384, 4096);
-    let listed = scanner.next(&alloc, &page(&[], 0))?;
-    let infos = listed.ok_or("nothing is listed")?;
-    assert!(rt; infos.is_empty());
-    assert_eq!(rt; scanner.blob_offset(), None);
-    Ok(())
-}
-
-#[test]
-fn a_failed_read_ends_the_scan(rt: HostRuntime) -> Result<(), Fail> {
-    let alloc = rt.alloc();
-    let mut scanner = BlockScanner::new(0, 0, 16384, 4096);
-    let first = scanner.next(&alloc, &page(&[entry(1, 4096, 53)], 1))?;
-    assert!(rt; first.is_some());
-    scanner.fail();
-    assert_eq!(rt; scanner.blob_offset(), None);
-    assert!(rt;
-        scanner
-            .next(&alloc, &page(&[entry(9, 4096, 53)], 1))?
-            .is_none()
-    );
-    Ok(())
+// Entries of these words: a sequence, an offset and a length.
+fn entries_of(alloc: Global, words: &str) -> Result<Vec<BlobEntryIndex>> {
+    let mut entries = Vec::new(alloc);
+    for one in words.split(',') {
+        let mut words = one.split_whitespace();
+        let sequence = number(words.next());
+        let offset = number(words.next());
+        let len = number(words.next());
+        if sequence > 0 {
+            entries.push(entry(u64::from(sequence), offset, len))?;
+        }
+    }
+    Ok(entries)
 }
 
 // The entries of a full index of records of one page each.
-fn full(alloc: Global) -> Result<Vec<BlobEntryIndex>, Fail> {
+fn full(alloc: Global) -> Result<Vec<BlobEntryIndex>> {
     let mut entries = Vec::new(alloc);
     for index in 0..170u32 {
         entries.push(entry(u64::from(index) + 1, 4096 * (index + 1), 3124))?;
@@ -131,19 +59,120 @@ fn full(alloc: Global) -> Result<Vec<BlobEntryIndex>, Fail> {
     Ok(entries)
 }
 
-#[test]
-fn two_full_blobs_fill_a_block(rt: HostRuntime) -> Result<(), Fail> {
-    let alloc = rt.alloc();
-    let index = page(&full(alloc)?, 170);
-    let mut scanner = BlockScanner::new(0, 0, 1400832, 4096);
-    for blob_offset in [0, 700416] {
-        assert_eq!(rt; scanner.blob_offset(), Some(blob_offset));
-        let listed = scanner.next(&alloc, &index)?;
-        let infos = listed.ok_or("nothing is listed")?;
-        assert_eq!(rt; infos.len(), 170);
-        assert_eq!(rt; infos[0].addr.offset as usize, blob_offset + 4096);
-        assert_eq!(rt; infos[169].addr.offset as usize, blob_offset + 4096 * 170);
+// The index of a step: `full`, or a count and its entries; with another checksum where its words begin with `other`.
+fn index_of(alloc: Global, step: &str) -> Result<[u8; 4096]> {
+    let (count, words) = step.split_once(':').unwrap_or((step, ""));
+    if count == "full" {
+        return Ok(page(&full(alloc)?, 170));
     }
-    assert_eq!(rt; scanner.blob_offset(), None);
+    let entries = entries_of(alloc, words)?;
+    let mut index = page(&entries, number(count.split(' ').last()));
+    if step.starts_with("other") {
+        index[7] ^= 1;
+    }
+    Ok(index)
+}
+
+fn say_entry(said: &mut Said, entry: &EntryInfo) {
+    said.number("=", entry.hash);
+    said.number("@", u64::from(entry.addr.block));
+    said.number(".", entry.addr.filling);
+    said.number("+", u64::from(entry.addr.offset));
+    said.number(":", u64::from(entry.addr.len));
+}
+
+// How many entries are listed, the first, and the last where there are more.
+fn say_listed(said: &mut Said, listed: &[EntryInfo]) {
+    said.number("", listed.len() as u64);
+    if let Some(first) = listed.first() {
+        say_entry(said, first);
+    }
+    if listed.len() > 1 {
+        if let Some(last) = listed.last() {
+            say_entry(said, last);
+        }
+    }
+}
+
+fn say_offset(said: &mut Said, scanner: &BlockScanner) {
+    match scanner.blob_offset() {
+        Some(offset) => said.number(">", offset as u64),
+        None => said.word(">end"),
+    }
+}
+
+fn say_step(said: &mut Said, alloc: Global, scanner: &mut BlockScanner, step: &str) -> Result<()> {
+    if step == "fail" {
+        scanner.fail();
+        said.word("failed");
+        return Ok(());
+    }
+    let index = index_of(alloc, step)?;
+    match scanner.next(&alloc, &index)? {
+        Some(listed) => say_listed(said, &listed),
+        None => said.word("none"),
+    }
+    Ok(())
+}
+
+// A block of some number and filling, and the steps of its scan.
+fn say_scan(said: &mut Said, alloc: Global, words: &str, script: &str) -> Result<()> {
+    let mut words = words.split(' ');
+    let block = number(words.next());
+    let filling = u64::from(number(words.next()));
+    let mut scanner = match words.next() {
+        Some("1400832") => BlockScanner::new(block, filling, 1400832, 4096),
+        _ => BlockScanner::new(block, filling, 16384, 4096),
+    };
+    say_offset(said, &scanner);
+    for step in script.split("; ") {
+        said.word(" ");
+        say_step(said, alloc, &mut scanner, step)?;
+        say_offset(said, &scanner);
+    }
+    Ok(())
+}
+
+fn rows_of(alloc: Global, rows: &str) -> Result<String> {
+    let mut said = Said::new(alloc);
+    for row in rows.lines() {
+        let (asked, _) = row.split_once(" | ").unwrap_or((row, ""));
+        said.word(asked);
+        if let Some((words, script)) = asked.split_once(" < ") {
+            said.word(" | ");
+            say_scan(&mut said, alloc, words, script)?;
+        }
+        said.word("\n");
+    }
+    said.text()
+}
+
+// Names, and below each a block, its filling and its size, the indices that its scan is given, a count and entries, and what is
+// listed: how many entries, the first of them and the last, as hash@block.filling+offset:length. Behind `>` the offset that is
+// read next, also before the first.
+const ROWS: &str = "a count over the capacity lists nothing
+0 0 16384 < 171: 1 4096 53 | >0 none>end
+an empty entry lists nothing
+0 0 16384 < 2: 1 4096 53, 2 8192 0 | >0 none>end
+an entry past the block lists nothing
+0 0 16384 < 1: 1 4096 12289 | >0 none>end
+another checksum lists nothing
+0 0 16384 < other 1: 1 4096 53 | >0 none>end
+an entry up to the block's end is listed
+3 5 16384 < 1: 1 4096 12288 | >0 1=1@3.5+4096:12288>end
+a scan goes on behind the last record
+0 0 16384 < 1: 1 4096 53; 1: 9 4096 53 | >0 1=1@0.0+4096:53>8192 1=9@0.0+12288:53>end
+an index without entries ends the scan
+0 0 16384 < 0: | >0 0>end
+a failed read ends the scan
+0 0 16384 < 1: 1 4096 53; fail; 1: 9 4096 53 | >0 1=1@0.0+4096:53>8192 failed>end none>end
+two full blobs fill a block
+0 0 1400832 < full; full | >0 170=1@0.0+4096:3124=170@0.0+696320:3124>700416 170=1@0.0+704512:3124=170@0.0+1396736:3124>end
+";
+
+#[test]
+fn each_scan_lists_so(rt: HostRuntime) -> std::result::Result<(), Fail> {
+    let answers = rows_of(rt.alloc(), ROWS)?;
+    assert!(rt; answers.as_str() == ROWS, "{answers}");
     Ok(())
 }

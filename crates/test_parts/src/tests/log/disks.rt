@@ -44,6 +44,10 @@ impl Disk {
         })
     }
 
+    pub fn alloc(&self) -> Global {
+        self.alloc
+    }
+
     pub fn partitions(&self) -> Result<Vec<MemoryPartition, Global>, Error> {
         Ok(Vec::from_slice(self.alloc, &self.partitions)?)
     }

@@ -1,6 +1,8 @@
 //! Each access failed in turn, and how many there are.
-use super::disks::{Disk, appended, opened, refused, sequence_at, written};
-use foyer_device_page::error::{Error, ErrorKind};
+use super::disks::{Disk, appended, refused, sequence_at, written};
+use crate::tests::tables::{asked, number, size};
+use foyer_device_page::error::{Error, Result};
+use foyer_testing::said::Said;
 use std::alloc::Global;
 use std::rt::Files;
 use std::sync::Wait;
@@ -13,7 +15,7 @@ fn accesses<R: Wait + Clone + Drop + Files>(
     sizes: &[usize],
     pages: u64,
     count: u64,
-) -> Result<u64, Error> {
+) -> Result<u64> {
     for n in 1..20u64 {
         let disk = Disk::new(rt, alloc, sizes)?;
         if !refused(rt, &disk, pages.saturating_add(n), 0, 1, count)?.0 {
@@ -23,65 +25,53 @@ fn accesses<R: Wait + Clone + Drop + Files>(
     Err(Error::Parse)
 }
 
-// What the log counts are its writes: of one page it makes no other access.
-#[test]
-fn a_page_is_written_once(rt: HostRuntime) -> Result<(), Fail> {
-    for (count, wanted) in [(0, 0), (1, 1), (256, 1), (1000, 1)] {
-        assert_eq!(rt;
-            accesses(&rt, rt.alloc(), &[4096], 1, count)?,
-            wanted,
-            "{count} marks"
-        );
-        assert_eq!(rt;
-            written(&rt, rt.alloc(), &[4096], 1, count)?,
-            wanted,
-            "{count} marks"
-        );
+// How many accesses an append of each count makes, and how many pages the log says that it wrote.
+fn say_counts<R: Wait + Clone + Drop + Files>(
+    said: &mut Said,
+    rt: &R,
+    alloc: Global,
+    words: &str,
+    counts: &str,
+) -> Result<()> {
+    let mut sizes = Vec::new(alloc);
+    let mut pages = 0u64;
+    for word in words.split(' ') {
+        sizes.push(size(word))?;
+        pages = pages.saturating_add(number(word) / 4096);
+    }
+    for word in counts.split(' ') {
+        let count = number(word);
+        said.number(" ", accesses(rt, alloc, &sizes, pages, count)?);
+        said.number("/", written(rt, alloc, &sizes, 1, count)?);
     }
     Ok(())
 }
 
-#[test]
-fn each_page_is_read_and_written_once(rt: HostRuntime) -> Result<(), Fail> {
-    for (count, wanted) in [(255, 1), (256, 2), (5000, 2)] {
-        assert_eq!(rt;
-            accesses(&rt, rt.alloc(), &[8192], 2, count)?,
-            wanted * 2,
-            "{count} marks"
-        );
-        assert_eq!(rt;
-            written(&rt, rt.alloc(), &[8192], 1, count)?,
-            wanted,
-            "{count} marks"
-        );
+fn counts_of<R: Wait + Clone + Drop + Files>(rt: &R, alloc: Global, rows: &str) -> Result<String> {
+    let mut said = Said::new(alloc);
+    for row in rows.lines() {
+        let asked = asked(row);
+        said.word(asked);
+        said.word(" |");
+        if let Some((words, counts)) = asked.split_once(" < ") {
+            say_counts(&mut said, rt, alloc, words, counts)?;
+        }
+        said.word("\n");
     }
-    assert!(rt; accesses(&rt, rt.alloc(), &[8192, 8192], 4, 3114)? == 8);
-    assert!(rt; written(&rt, rt.alloc(), &[8192, 8192], 1, 3114)? == 4);
-    Ok(())
+    said.text()
 }
 
-#[test]
-fn a_failed_read_of_the_opening_is_io(rt: HostRuntime) -> Result<(), Fail> {
-    let disk = Disk::new(&rt, rt.alloc(), &[8192, 8192])?;
-    appended(&rt, &disk, 1, 600)?;
-    for n in 1..5u64 {
-        let mut found = Vec::new(rt.alloc());
-        let kind = disk.open(&rt, n, 0, &mut found).err().map(|e| e.kind());
-        assert!(rt; kind == Some(ErrorKind::Io) && found.is_empty());
-    }
-    Ok(())
-}
+// A log's pages, how many marks are appended, and the accesses and the writes of each. Of one page the log makes no access but
+// its writes; else each page is read and written once.
+const COUNTS: &str = "4096 < 0 1 256 1000 | 0/0 1/1 1/1 1/1
+8192 < 255 256 5000 | 2/1 4/2 4/2
+8192 8192 < 3114 | 8/4
+";
 
 #[test]
-fn a_read_that_fails_at_the_wrap(rt: HostRuntime) -> Result<(), Fail> {
-    let disk = Disk::new(&rt, rt.alloc(), &[4096, 4096])?;
-    appended(&rt, &disk, 1, 300)?;
-    // two reads of the opening, by which the page of slot 301 is loaded; its write; the read of page 0 fails
-    assert!(rt; refused(&rt, &disk, 4, 0, 301, 300)? == (true, 301));
-    // what was written stands: the log goes on behind it
-    assert!(rt; opened(&rt, &disk)? == (512, 511));
-    assert!(rt; appended(&rt, &disk, 512, 89)? == 601);
-    assert!(rt; opened(&rt, &disk)? == (89, 512));
+fn each_page_is_read_and_written_once(rt: HostRuntime) -> std::result::Result<(), Fail> {
+    let answers = counts_of(&rt, rt.alloc(), COUNTS)?;
+    assert!(rt; answers.as_str() == COUNTS, "{answers}");
     Ok(())
 }
 
@@ -92,7 +82,7 @@ fn is_refused_whole<R: Wait + Clone + Drop + Files>(
     alloc: Global,
     n: u64,
     kept: usize,
-) -> Result<bool, Error> {
+) -> Result<bool> {
     let disk = Disk::new(rt, alloc, &[8192, 8192])?;
     appended(rt, &disk, 1, 700)?;
     let failed = refused(rt, &disk, n, kept, 701, 340)? == (true, 701);
@@ -101,11 +91,14 @@ fn is_refused_whole<R: Wait + Clone + Drop + Files>(
 }
 
 #[test]
-fn each_access_of_an_append_fails_in_turn(rt: HostRuntime) -> Result<(), Fail> {
+fn each_access_of_an_append_fails_in_turn(rt: HostRuntime) -> std::result::Result<(), Fail> {
     for n in 5..11u64 {
-        assert!(rt; is_refused_whole(&rt, rt.alloc(), n, 0)?);
-        assert!(rt; is_refused_whole(&rt, rt.alloc(), n, 1000)?);
-        assert!(rt; is_refused_whole(&rt, rt.alloc(), n, 4096)?);
+        for kept in [0usize, 1000, 4096] {
+            assert!(rt;
+                is_refused_whole(&rt, rt.alloc(), n, kept)?,
+                "access {n}, {kept} bytes"
+            );
+        }
     }
     Ok(())
 }

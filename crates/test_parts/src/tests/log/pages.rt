@@ -1,101 +1,125 @@
-//! The page buffer.
+//! The page buffer: scripts of calls, with their answers.
 use super::disks::Disk;
+use crate::tests::tables::{asked, cut, number, say_done, say_runs, size};
 use foyer_block_tombstone::block::tombstone::PageBuffer;
-use foyer_device_page::error::{Error, ErrorKind};
-use foyer_io_engine::io::engine::FaultIoEngine;
+use foyer_device_page::error::Result;
+use foyer_device_partition::io::device::MemoryPartition;
+use foyer_io_engine::io::engine::{FaultIoEngine, SharedMemoryIoEngine};
+use foyer_testing::said::Said;
+use std::alloc::Global;
+use std::rt::Files;
+use std::sync::Wait;
 use std::test::Fail;
 
-fn kind_of<T: Drop>(answer: Result<T, Error>) -> Option<ErrorKind> {
-    answer.err().map(|e| e.kind())
+type Buffer<R> = PageBuffer<
+    FaultIoEngine<SharedMemoryIoEngine<R, Global>>,
+    MemoryPartition,
+    Global,
+>;
+
+// A buffer of one page of the disk, whose n-th access fails, a write after `kept` bytes.
+fn buffer<R: Wait + Clone + Drop>(
+    rt: &R,
+    disk: &Disk,
+    page: u64,
+    n: u64,
+    kept: usize,
+) -> Result<Buffer<R>> {
+    let engine = FaultIoEngine::new(disk.engine(rt)?, n, kept, false);
+    PageBuffer::open(disk.alloc(), engine, disk.partitions()?, page)
 }
 
-#[test]
-fn pages_run_through_the_partitions(rt: HostRuntime) -> Result<(), Fail> {
-    let disk = Disk::new(&rt, rt.alloc(), &[8192, 4096])?;
-    let mut buffer = PageBuffer::open(rt.alloc(), disk.engine(&rt)?, disk.partitions()?, 0)?;
-    for page in 0..3u64 {
-        buffer.load(page)?;
-        assert!(rt; buffer.as_slice().len() == 4096);
-        buffer.as_mut_slice().fill((page + 1) as u8);
-        buffer.flush()?;
+fn say_page<R: Wait + Clone + Drop>(said: &mut Said, rt: &R, disk: &Disk, page: usize) {
+    match disk.page(rt, page) {
+        Ok(bytes) => say_runs(said, bytes.as_slice()),
+        Err(error) => said.word(error.kind().name()),
     }
-    for page in 0..3usize {
-        assert!(rt;
-            disk.page(&rt, page)?
-                .as_slice()
-                .iter()
-                .all(|b| *b as usize == page + 1)
-        );
+}
+
+fn say_filled<R: Wait + Clone + Drop>(said: &mut Said, buffer: &mut Buffer<R>, byte: &str) {
+    let bytes = buffer.as_mut_slice();
+    bytes.fill(byte.parse::<u8>().unwrap_or(0));
+    said.number("", bytes.len() as u64);
+}
+
+fn say_call<R: Wait + Clone + Drop>(
+    said: &mut Said,
+    rt: &R,
+    disk: &Disk,
+    buffer: &mut Buffer<R>,
+    call: &str,
+) {
+    let (word, rest) = cut(call);
+    match word {
+        "load" => say_done(said, buffer.load(number(rest))),
+        "fill" => say_filled(said, buffer, rest),
+        "flush" => say_done(said, buffer.flush()),
+        "update" => say_done(said, buffer.update()),
+        "has" => say_runs(said, buffer.as_slice()),
+        "writes" => said.number("", buffer.writes()),
+        _ => say_page(said, rt, disk, size(rest)),
     }
-    buffer.load(1)?;
-    assert!(rt; buffer.as_slice().iter().all(|b| *b == 2));
-    assert_eq!(rt; buffer.writes(), 3);
-    Ok(())
 }
 
-#[test]
-fn an_update_reads_the_page_again(rt: HostRuntime) -> Result<(), Fail> {
-    let disk = Disk::new(&rt, rt.alloc(), &[8192])?;
-    let mut one = PageBuffer::open(rt.alloc(), disk.engine(&rt)?, disk.partitions()?, 1)?;
-    let mut other = PageBuffer::open(rt.alloc(), disk.engine(&rt)?, disk.partitions()?, 1)?;
-    one.as_mut_slice().fill(7);
-    assert!(rt; other.as_slice().iter().all(|b| *b == 0));
-    other.update()?;
-    assert!(rt; other.as_slice().iter().all(|b| *b == 0));
-    one.flush()?;
-    other.update()?;
-    assert!(rt; other.as_slice().iter().all(|b| *b == 7));
-    Ok(())
-}
-
-#[test]
-fn after_a_failed_load_no_page_is_loaded(rt: HostRuntime) -> Result<(), Fail> {
-    let disk = Disk::new(&rt, rt.alloc(), &[8192])?;
-    let engine = FaultIoEngine::new(disk.engine(&rt)?, 2, 0, false);
-    let mut buffer = PageBuffer::open(rt.alloc(), engine, disk.partitions()?, 0)?;
-    buffer.as_mut_slice().fill(3);
-    assert!(rt; kind_of(buffer.load(1)) == Some(ErrorKind::Io));
-    assert!(rt; buffer.as_slice().is_empty() && buffer.as_mut_slice().is_empty());
-    buffer.flush()?;
-    buffer.update()?;
-    assert!(rt; buffer.as_slice().is_empty());
-    assert!(rt; disk.page(&rt, 0)?.as_slice().iter().all(|b| *b == 0));
-    buffer.load(0)?;
-    assert!(rt; kind_of(buffer.load(2)) == Some(ErrorKind::OutOfRange));
-    assert!(rt; buffer.as_slice().is_empty());
-    buffer.load(1)?;
-    assert!(rt; buffer.as_slice().len() == 4096);
-    Ok(())
-}
-
-#[test]
-fn a_failed_flush_keeps_its_page(rt: HostRuntime) -> Result<(), Fail> {
-    for kept in [0usize, 4095] {
-        let disk = Disk::new(&rt, rt.alloc(), &[8192])?;
-        let engine = FaultIoEngine::new(disk.engine(&rt)?, 2, kept, false);
-        let mut buffer = PageBuffer::open(rt.alloc(), engine, disk.partitions()?, 1)?;
-        buffer.as_mut_slice().fill(5);
-        assert!(rt; kind_of(buffer.flush()) == Some(ErrorKind::Io));
-        let fives = disk
-            .page(&rt, 1)?
-            .as_slice()
-            .iter()
-            .filter(|b| **b == 5)
-            .count();
-        assert!(rt; fives == kept);
-        assert!(rt; disk.page(&rt, 0)?.as_slice().iter().all(|b| *b == 0));
-        assert!(rt; buffer.as_slice().iter().all(|b| *b == 5));
-        buffer.flush()?;
-        assert_eq!(rt; buffer.writes(), 2);
-        assert!(rt; disk.page(&rt, 1)?.as_slice().iter().all(|b| *b == 5));
+// Calls of a buffer, and behind each `other` one of another over the same disk, whose accesses don't fail.
+fn say_calls<R: Wait + Clone + Drop>(
+    said: &mut Said,
+    rt: &R,
+    disk: &Disk,
+    words: &str,
+    script: &str,
+) -> Result<()> {
+    let (page, rest) = cut(words);
+    let (n, kept) = cut(rest);
+    let mut one = buffer(rt, disk, number(page), number(n), size(kept))?;
+    let mut other = buffer(rt, disk, number(page), 0, 0)?;
+    for call in script.split(", ") {
+        said.word(" ");
+        match call.split_once("other ") {
+            Some((_, call)) => say_call(said, rt, disk, &mut other, call),
+            None => say_call(said, rt, disk, &mut one, call),
+        }
     }
     Ok(())
 }
 
+// Over a disk of a partition of two pages, and one of one.
+fn rows_of<R: Wait + Clone + Drop + Files>(rt: &R, alloc: Global, rows: &str) -> Result<String> {
+    let mut said = Said::new(alloc);
+    for row in rows.lines() {
+        let asked = asked(row);
+        said.word(asked);
+        if let Some((words, script)) = asked.split_once(" < ") {
+            said.word(" |");
+            let disk = Disk::new(rt, alloc, &[8192, 4096])?;
+            if let Err(error) = say_calls(&mut said, rt, &disk, words, script) {
+                said.word(" ");
+                said.word(error.kind().name());
+            }
+        }
+        said.word("\n");
+    }
+    said.text()
+}
+
+// Names, and below each the page of a buffer, which of its accesses fails and what that keeps, what is done, and what is
+// answered: of `fill` how many bytes there are, of `has` the buffer's bytes, of `page` those of a page of the disk.
+const ROWS: &str = "pages run through the partitions
+0 0 0 < load 0, fill 1, flush, load 1, fill 2, flush, load 2, fill 3, flush, page 0, page 1, page 2, load 1, has, writes | ok 4096 ok ok 4096 ok ok 4096 ok 4096*1 4096*2 4096*3 ok 4096*2 3
+an update reads the page again
+1 0 0 < fill 7, other has, other update, other has, flush, other update, other has | 4096 4096*0 ok 4096*0 ok ok 4096*7
+after a failed load no page is loaded
+0 2 0 < fill 3, load 1, has, fill 3, flush, update, has, page 0, load 0, load 3, has, load 1, has | 4096 Io  0 ok ok  4096*0 ok OutOfRange  ok 4096*0
+a failed flush keeps its page
+1 2 0 < fill 5, flush, page 1, page 0, has, flush, writes, page 1 | 4096 Io 4096*0 4096*0 4096*5 ok 2 4096*5
+1 2 4095 < fill 5, flush, page 1, page 0, has, flush, writes, page 1 | 4096 Io 4095*5+1*0 4096*0 4096*5 ok 2 4096*5
+a page that is not there is refused
+3 0 0 < has | OutOfRange
+";
+
 #[test]
-fn a_page_that_is_not_there_is_refused(rt: HostRuntime) -> Result<(), Fail> {
-    let disk = Disk::new(&rt, rt.alloc(), &[8192])?;
-    let refused = PageBuffer::open(rt.alloc(), disk.engine(&rt)?, disk.partitions()?, 2);
-    assert!(rt; kind_of(refused) == Some(ErrorKind::OutOfRange));
+fn the_page_buffer_answers_so(rt: HostRuntime) -> std::result::Result<(), Fail> {
+    let answers = rows_of(&rt, rt.alloc(), ROWS)?;
+    assert!(rt; answers.as_str() == ROWS, "{answers}");
     Ok(())
 }

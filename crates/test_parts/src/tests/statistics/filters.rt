@@ -1,12 +1,15 @@
-//! What filters answer.
+//! What filters answer: their conditions, what is asked, and what they answer.
 ghost use Rattle.std.specs.Prelude.{◌≡◌};
 
-use foyer_device_page::error::Error;
+use super::limits::say_wait;
+use crate::tests::tables::{asked, cut, number, size};
+use foyer_device_page::error::Result;
 use foyer_device_statistics::IoState;
 use foyer_policy_filter::{
     AdmitAll, AnyCondition, BuiltInCondition, EstimatedSize, IoThrottle, RejectAll, StorageFilter,
     StorageFilterCondition, StorageFilterResult,
 };
+use foyer_testing::said::Said;
 use std::alloc::Global;
 use std::ops::Bound;
 use std::test::Fail;
@@ -35,88 +38,161 @@ fn state(write_throttle: Duration) -> IoState {
     }
 }
 
-// What a filter of two conditions answers, each giving one answer.
-fn verdict(
-    alloc: Global,
-    first: StorageFilterResult,
-    second: StorageFilterResult,
-) -> Result<StorageFilterResult, Error> {
-    let filter = StorageFilter::new()
-        .with_condition(alloc, Always(first))?
-        .with_condition(alloc, Always(second))?;
-    Ok(filter.filter(&state(Duration::ZERO), 1, 2))
+// `admit`, `reject`, `most`, or a wait of so many seconds.
+fn answer_of(word: &str) -> StorageFilterResult {
+    match word {
+        "admit" => StorageFilterResult::Admit,
+        "reject" => StorageFilterResult::Reject,
+        "most" => StorageFilterResult::Throttled(Duration::MAX),
+        _ => StorageFilterResult::Throttled(Duration::from_secs(number(word))),
+    }
 }
 
-fn seconds(n: u64) -> StorageFilterResult {
-    StorageFilterResult::Throttled(Duration::from_secs(n))
+// A bound: `any`, or a size that is `in` or `out`.
+fn bound_of(word: &str, size: usize) -> Bound<usize> {
+    match word {
+        "in" => Bound::Included(size),
+        "out" => Bound::Excluded(size),
+        _ => Bound::Unbounded,
+    }
+}
+
+fn sizes_of(lower: &str, upper: &str) -> EstimatedSize {
+    let (from, first) = cut(lower);
+    let (to, end) = cut(upper);
+    EstimatedSize::new(bound_of(from, size(first)), bound_of(to, size(end)))
+}
+
+// One of the conditions that are shipped: `all`, `none`, `throttle`, or sizes up to a last one.
+fn condition_of(word: &str) -> BuiltInCondition {
+    match word {
+        "all" => BuiltInCondition::AdmitAll(AdmitAll),
+        "none" => BuiltInCondition::RejectAll(RejectAll),
+        "throttle" => BuiltInCondition::IoThrottle(IoThrottle),
+        _ => BuiltInCondition::EstimatedSize(sizes_of("any", word)),
+    }
+}
+
+// The answer, and whether it says that it admits and that it rejects.
+fn say_answer(said: &mut Said, answer: StorageFilterResult) {
+    match answer {
+        StorageFilterResult::Admit => said.word(" admit"),
+        StorageFilterResult::Reject => said.word(" reject"),
+        StorageFilterResult::Throttled(wait) => say_wait(said, wait),
+    }
+    if answer.is_admitted() {
+        said.word("!");
+    }
+    if answer.is_rejected() {
+        said.word("?");
+    }
+}
+
+// A wait in seconds and a size, as they are asked.
+fn say_asked<C: StorageFilterCondition>(said: &mut Said, condition: &C, words: &str) {
+    let (wait, len) = cut(words);
+    let state = state(Duration::from_secs(number(wait)));
+    say_answer(said, condition.filter(&state, 1, size(len)));
+}
+
+fn say_always(said: &mut Said, alloc: Global, words: &str) -> Result<()> {
+    let mut filter: StorageFilter<Always, Global> = StorageFilter::new();
+    for word in words.split_whitespace() {
+        filter = filter.with_condition(alloc, Always(answer_of(word)))?;
+    }
+    say_answer(said, filter.filter(&state(Duration::ZERO), 1, 2));
+    Ok(())
+}
+
+fn say_built_in(said: &mut Said, alloc: Global, words: &str, script: &str) -> Result<()> {
+    let mut filter: StorageFilter<BuiltInCondition, Global> = StorageFilter::new();
+    for word in words.split(", ") {
+        filter = filter.with_condition(alloc, condition_of(word))?;
+    }
+    for words in script.split(", ") {
+        let (wait, len) = cut(words);
+        let state = state(Duration::from_secs(number(wait)));
+        say_answer(said, filter.filter(&state, 1, size(len)));
+    }
+    Ok(())
+}
+
+fn say_sizes(said: &mut Said, bounds: &str, script: &str) {
+    let (lower, upper) = bounds.split_once(" to ").unwrap_or((bounds, ""));
+    let condition = sizes_of(lower, upper);
+    for len in script.split(' ') {
+        say_answer(said, condition.filter(&state(Duration::ZERO), 1, size(len)));
+    }
+}
+
+fn say_row(said: &mut Said, alloc: Global, opening: &str, script: &str) -> Result<()> {
+    let (kind, words) = opening.split_once(": ").unwrap_or((opening, ""));
+    match kind {
+        "always" => say_always(said, alloc, words)?,
+        "built in" => say_built_in(said, alloc, words, script)?,
+        _ => say_sizes(said, words, script),
+    }
+    Ok(())
+}
+
+fn rows_of(alloc: Global, rows: &str) -> Result<String> {
+    let mut said = Said::new(alloc);
+    for row in rows.lines() {
+        let asked = asked(row);
+        said.word(asked);
+        if let Some((opening, script)) = asked.split_once(" < ") {
+            said.word(" |");
+            say_row(&mut said, alloc, opening, script)?;
+        }
+        said.word("\n");
+    }
+    said.text()
+}
+
+// Names, and below each the conditions of a filter, what they are asked, and what is answered: a wait in seconds and nanoseconds,
+// `!` where it says that it admits, `?` that it rejects.
+const ROWS: &str = "waits are added up
+always: 2 3 < once | 5+0
+always: 2 reject < once | reject?
+always: reject 2 < once | reject?
+always: 0 admit < once | admit!
+always: admit 1 < once | 1+0
+always: most most < once | 18446744073709551615+999999999
+a filter of no condition admits
+always:  < once | admit!
+sizes are admitted within their bounds
+sizes: in 10 to out 20 < 15 10 5 20 | admit! admit! reject? reject?
+sizes: out 10 to in 20 < 10 11 20 21 | reject? admit! admit! reject?
+sizes: any to any < 0 18446744073709551614 18446744073709551615 | admit! admit! reject?
+sizes: out 18446744073709551615 to in 18446744073709551615 < 18446744073709551615 | reject?
+shipped conditions are held by value
+built in: all, in 9, throttle < 0 9, 4 9, 4 10 | admit! 4+0 reject?
+built in: all, in 9, throttle, none < 0 9 | reject?
+";
+
+#[test]
+fn filters_answer_so(rt: HostRuntime) -> std::result::Result<(), Fail> {
+    let answers = rows_of(rt.alloc(), ROWS)?;
+    assert!(rt; answers.as_str() == ROWS, "{answers}");
+    Ok(())
 }
 
 #[test]
-fn waits_are_added_up(rt: HostRuntime) -> Result<(), Fail> {
-    let alloc = rt.alloc();
-    let admit = StorageFilterResult::Admit;
-    let reject = StorageFilterResult::Reject;
-    assert!(rt; verdict(alloc, seconds(2), seconds(3))? == seconds(5));
-    assert!(rt; verdict(alloc, seconds(2), reject)? == reject);
-    assert!(rt; verdict(alloc, reject, seconds(2))? == reject);
-    assert!(rt; verdict(alloc, seconds(0), admit)? == admit);
-    assert!(rt; verdict(alloc, admit, seconds(1))? == seconds(1));
-    let most = StorageFilterResult::Throttled(Duration::MAX);
-    assert!(rt; verdict(alloc, most, most)? == most);
+fn a_filter_prints_its_name(rt: HostRuntime) -> std::result::Result<(), Fail> {
     let none: StorageFilter<Always, Global> = StorageFilter::default();
-    assert_eq!(rt; format!(in alloc; "{none:?}")?.as_str(), "StorageFilter");
-    assert!(rt; none.filter(&state(Duration::ZERO), 1, 2) == admit);
-    assert!(rt; admit.is_admitted() && !admit.is_rejected() && reject.is_rejected());
-    assert!(rt; !most.is_admitted() && !most.is_rejected());
-    Ok(())
-}
-
-fn answer(condition: &EstimatedSize, size: usize) -> StorageFilterResult {
-    condition.filter(&state(Duration::ZERO), 1, size)
-}
-
-#[test]
-fn sizes_are_admitted_within_their_bounds(rt: HostRuntime) -> Result<(), Fail> {
-    let some = EstimatedSize::new(Bound::Included(10), Bound::Excluded(20));
-    assert!(rt; answer(&some, 15).is_admitted() && answer(&some, 10).is_admitted());
-    assert!(rt; answer(&some, 5).is_rejected() && answer(&some, 20).is_rejected());
-    let other = EstimatedSize::new(Bound::Excluded(10), Bound::Included(20));
-    assert!(rt; answer(&other, 10).is_rejected() && answer(&other, 11).is_admitted());
-    assert!(rt; answer(&other, 20).is_admitted() && answer(&other, 21).is_rejected());
-    let all = EstimatedSize::new(Bound::Unbounded, Bound::Unbounded);
-    assert!(rt; answer(&all, 0).is_admitted() && answer(&all, usize::MAX - 1).is_admitted());
-    assert!(rt; answer(&all, usize::MAX).is_rejected());
-    let none = EstimatedSize::new(Bound::Excluded(usize::MAX), Bound::Included(usize::MAX));
-    assert!(rt; answer(&none, usize::MAX).is_rejected());
+    let text = format!(in rt.alloc(); "{none:?}")?;
+    assert!(rt; text.as_str() == "StorageFilter");
     Ok(())
 }
 
 #[test]
-fn shipped_conditions_are_held_by_value(rt: HostRuntime) -> Result<(), Fail> {
-    let alloc = rt.alloc();
-    let sizes = EstimatedSize::new(Bound::Unbounded, Bound::Included(9));
-    let filter: StorageFilter<BuiltInCondition, Global> = StorageFilter::new()
-        .with_condition(alloc, BuiltInCondition::AdmitAll(AdmitAll))?
-        .with_condition(alloc, BuiltInCondition::EstimatedSize(sizes))?
-        .with_condition(alloc, BuiltInCondition::IoThrottle(IoThrottle))?;
-    assert!(rt; filter.filter(&state(Duration::ZERO), 1, 9).is_admitted());
-    assert!(rt; filter.filter(&state(Duration::from_secs(4)), 1, 9) == seconds(4));
-    assert!(rt;
-        filter
-            .filter(&state(Duration::from_secs(4)), 1, 10)
-            .is_rejected()
-    );
-    let filter = filter.with_condition(alloc, BuiltInCondition::RejectAll(RejectAll))?;
-    assert!(rt; filter.filter(&state(Duration::ZERO), 1, 9).is_rejected());
-    Ok(())
-}
-
-#[test]
-fn a_callers_condition_is_boxed(rt: HostRuntime) -> Result<(), Fail> {
-    let own: Box<dyn StorageFilterCondition + Send> = Box::new(rt.alloc(), Always(seconds(2)))?;
-    let boxed = AnyCondition::Boxed(own);
-    assert!(rt; boxed.filter(&state(Duration::from_secs(1)), 1, 9) == seconds(2));
+fn a_callers_condition_is_boxed(rt: HostRuntime) -> std::result::Result<(), Fail> {
+    let mut said = Said::new(rt.alloc());
+    let own: Box<dyn StorageFilterCondition + Send> = Box::new(rt.alloc(), Always(answer_of("2")))?;
+    say_asked(&mut said, &AnyCondition::Boxed(own), "1 9");
     let held = AnyCondition::BuiltIn(BuiltInCondition::IoThrottle(IoThrottle));
-    assert!(rt; held.filter(&state(Duration::from_secs(1)), 1, 9) == seconds(1));
+    say_asked(&mut said, &held, "1 9");
+    let answers = said.text()?;
+    assert!(rt; answers.as_str() == " 2+0 1+0", "{answers}");
     Ok(())
 }

@@ -1,43 +1,41 @@
 //! An engine that counts what it does.
-use foyer_device_page::error::Error;
-use foyer_device_page::io::bytes::Raw;
-use foyer_device_partition::io::device::{Device, DeviceBuilder, MemoryDeviceBuilder};
+use crate::tests::io::engines::{memory, partitions_of, say_calls};
+use foyer_device_page::error::Result;
 use foyer_device_statistics::{Recorder, Statistics};
 use foyer_device_throttle::Throttle;
-use foyer_io_engine::io::engine::{FaultIoEngine, IoEngine, MemoryIoEngine};
+use foyer_io_engine::io::engine::FaultIoEngine;
 use foyer_io_monitor::MonitoredIoEngine;
+use foyer_testing::said::Said;
 use std::alloc::Global;
 use std::sync::Arc;
 use std::test::Fail;
 
-fn recorder(alloc: Global) -> Result<Recorder<Global>, Error> {
+fn recorder(alloc: Global) -> Result<Recorder<Global>> {
     let (statistics, seat) = Statistics::new(alloc, Throttle::new(), 0)?;
     let statistics = Arc::new(alloc, statistics)?;
     Ok(Recorder::new(seat, statistics))
 }
 
-#[test]
-fn each_call_that_completes_is_recorded(rt: HostRuntime) -> Result<(), Fail> {
-    let alloc = rt.alloc();
-    let mut device = MemoryDeviceBuilder::new(8192).build(&rt, alloc, 0)?;
-    let partition = device.create_partition(&rt, 8192)?;
-    let mut memory = MemoryIoEngine::new(alloc);
-    memory.add_file(alloc, 8192)?;
-    // the fourth call fails
-    let faulty = FaultIoEngine::new(memory, 4, 0, false);
-    let mut engine = MonitoredIoEngine::new(faulty, recorder(alloc)?);
-    let (page, outcome) = engine
-        .write(Raw::new(alloc, 4096)?, &partition, 0)
-        .into_inner();
-    assert!(rt; outcome.is_ok());
-    let (page, outcome) = engine.read(page, &partition, 4096).into_inner();
-    assert!(rt; outcome.is_ok());
-    let (page, outcome) = engine.read(page, &partition, 8192).into_inner();
-    assert!(rt; outcome == Err(Error::OutOfRange));
-    let (page, outcome) = engine.write(page, &partition, 0).into_inner();
-    assert!(rt; outcome == Err(Error::Io) && page.len() == 4096 && engine.failures() == 1);
+// What an engine answers whose fourth call fails, and what it recorded: bytes and calls of writes and of reads.
+fn answers(rt: &HostRuntime, calls: &str) -> Result<String> {
+    let mut said = Said::new(rt.alloc());
+    let partitions = partitions_of(rt, "8192")?;
+    let faulty = FaultIoEngine::new(memory(rt.alloc())?, 4, 0, false);
+    let mut engine = MonitoredIoEngine::new(faulty, recorder(rt.alloc())?);
+    say_calls(&mut said, rt, &mut engine, &partitions, calls);
     let (_, mut recorder) = engine.into_parts();
-    assert!(rt; recorder.disk_write_bytes() == 8192 && recorder.disk_write_ios() == 2);
-    assert!(rt; recorder.disk_read_bytes() == 8192 && recorder.disk_read_ios() == 2);
+    said.number(" ", recorder.disk_write_bytes());
+    said.number(" ", recorder.disk_write_ios());
+    said.number(" ", recorder.disk_read_bytes());
+    said.number(" ", recorder.disk_read_ios());
+    said.text()
+}
+
+#[test]
+fn each_call_that_completes_is_recorded(rt: HostRuntime) -> std::result::Result<(), Fail> {
+    let calls = "write 0 0 0, read 0 4096, read 0 8192, write 0 0 0, failures";
+    let answers = answers(&rt, calls)?;
+    let wanted = " ok 4096*0 OutOfRange Io 1 8192 2 8192 2";
+    assert!(rt; answers.as_str() == wanted, "{answers}");
     Ok(())
 }

@@ -2,14 +2,13 @@
 use crate::tests::recover::recovering::{recover_by, runner};
 use crate::tests::recover::slow;
 use foyer_block_index::tombstone::Tombstone;
-use foyer_block_recover::block::recover::RecoverMode;
+use foyer_block_recover::block::recover::{RecoverMode, Recovered};
 use foyer_device_page::error::Error;
 use foyer_format_blob::BlobEntryIndex;
 use foyer_testing::forged::{ForgedDisk, entry, page};
 use rand_core::utils::NextWord;
 use rand_pcg::Pcg32;
 use std::alloc::Global;
-use std::process::Abort;
 use std::test::Fail;
 
 const BLOCKS: u32 = 3;
@@ -89,46 +88,48 @@ fn draw_marks(alloc: Global, generator: &mut Pcg32) -> Result<Vec<Tombstone>, Fa
     Ok(marks)
 }
 
-// Recovers by so many workers, and compares with what the slow reader has; gives what it was refused as.
+// Whether a hash is found where the slow reader found it.
+fn is_found_so(recovered: &Recovered<Global>, expected: &slow::Expected, hash: u64) -> bool {
+    match (
+        recovered.index.get(hash),
+        slow::winner(&expected.found, hash),
+    ) {
+        (Some(address), Some(found)) => {
+            address.block == found.block
+                && address.offset as usize == found.offset
+                && address.len == found.len
+                && address.sequence == found.sequence
+                && address.filling == 0
+        }
+        (address, found) => address.is_none() && found.is_none(),
+    }
+}
+
+fn are_found_so(recovered: &Recovered<Global>, expected: &slow::Expected) -> bool {
+    for hash in 0..6u64 {
+        if !is_found_so(recovered, expected, hash) {
+            return false;
+        }
+    }
+    expected.refused.is_none()
+        && recovered.next == expected.next
+        && recovered.clean.as_slice() == expected.clean.as_slice()
+}
+
+// Recovers by so many workers: what it was refused as, and whether that, or what was recovered, is what the slow reader has.
 fn compare(
-    rt: &impl Abort,
     alloc: Global,
     disk: &mut ForgedDisk,
     mode: RecoverMode,
     workers: u32,
     marks: &[Tombstone],
-) -> Result<Option<Error>, Fail> {
+) -> Result<(Option<Error>, bool), Fail> {
     let expected = slow::open_slowly(alloc, disk, BLOCKS, mode, marks)?;
     let runner = runner(mode, BLOCKS);
-    let recovered = match recover_by(&alloc, disk, &runner, workers, workers == 3, marks) {
-        Ok(recovered) => recovered,
-        Err(error) => {
-            assert_eq!(rt; Some(error), expected.refused);
-            return Ok(Some(error));
-        }
-    };
-    assert_eq!(rt; expected.refused, None);
-    assert_eq!(rt; recovered.next, expected.next);
-    assert_eq!(rt; recovered.clean.as_slice(), expected.clean.as_slice());
-    for hash in 0..6u64 {
-        match (
-            recovered.index.get(hash),
-            slow::winner(&expected.found, hash),
-        ) {
-            (Some(address), Some(found)) => {
-                assert_eq!(rt; address.block, found.block);
-                assert_eq!(rt; address.offset as usize, found.offset);
-                assert_eq!(rt; address.len, found.len);
-                assert_eq!(rt; address.sequence, found.sequence);
-                assert_eq!(rt; address.filling, 0);
-            }
-            (address, found) => {
-                assert!(rt; address.is_none());
-                assert!(rt; found.is_none());
-            }
-        }
+    match recover_by(&alloc, disk, &runner, workers, workers == 3, marks) {
+        Ok(recovered) => Ok((None, are_found_so(&recovered, &expected))),
+        Err(error) => Ok((Some(error), expected.refused == Some(error))),
     }
-    Ok(None)
 }
 
 // By how many workers a device is recovered, in turn: by none that lists, and by so many that do.
@@ -146,7 +147,9 @@ fn random_blocks_are_what_a_slow_reader_has(rt: HostRuntime) -> Result<(), Fail>
         let mut disk = draw_disk(alloc, &mut generator)?;
         let marks = draw_marks(alloc, &mut generator)?;
         for mode in [RecoverMode::None, RecoverMode::Quiet, RecoverMode::Strict] {
-            match compare(&rt, alloc, &mut disk, mode, workers, &marks)? {
+            let (refused, is_so) = compare(alloc, &mut disk, mode, workers, &marks)?;
+            assert!(rt; is_so, "turn {turn}");
+            match refused {
                 None => opened = opened.saturating_add(1),
                 Some(Error::Recover) => cut = cut.saturating_add(1),
                 Some(_) => ended = ended.saturating_add(1),

@@ -67,16 +67,17 @@ fn stop_twice(
     stop(alloc, run, torn, &[None, None], tally)
 }
 
-// The first three puts stand in the block that is reclaimed, the other two in another.
-#[test]
-fn a_run_stopped_inside_a_clean_is_found_again(rt: HostRuntime) -> std::result::Result<(), Fail> {
-    let alloc = rt.alloc();
+// Reclaims the block of the first three puts, where the other two stand in another, and stops before its clean, inside, and
+// behind it.
+fn stop_around_a_clean(alloc: Global) -> Result<Tally> {
     let settings = Settings {
         clean_block_threshold: 3,
         ..sizes(1)
     };
     let mut run = begin(alloc, settings)?;
-    assert!(rt; flush_puts(alloc, &mut run, 5)?);
+    if !flush_puts(alloc, &mut run, 5)? {
+        return Err(Error::Config);
+    }
     let block = reclaim_up_to_clean(alloc, &mut run)?;
     let zeros = [0u8; 4096];
     let mut tally = Tally::default();
@@ -91,11 +92,16 @@ fn a_run_stopped_inside_a_clean_is_found_again(rt: HostRuntime) -> std::result::
     run.disk.write(block, 0, &zeros)?;
     let result = Ok(());
     let Reply::Done = apply(&mut run, Step::ReclaimCleaned { block, result }) else {
-        return Err(Fail::new("the clean was out of turn"));
+        return Err(Error::Config);
     };
     stop_twice(alloc, &mut run, None, &mut tally)?;
-    assert_eq!(rt; tally.stops, 10);
-    assert_eq!(rt; tally.again, 20);
+    Ok(tally)
+}
+
+#[test]
+fn a_run_stopped_inside_a_clean_is_found_again(rt: HostRuntime) -> std::result::Result<(), Fail> {
+    let tally = stop_around_a_clean(rt.alloc())?;
+    assert!(rt; tally.stops == 10 && tally.again == 20);
     assert!(rt; tally.wrong == 0 && tally.lost == 0 && tally.newer == 0);
     Ok(())
 }

@@ -26,37 +26,34 @@ fn add_flush(alloc: Global, moves: &mut Vec<TextMove>, put: u64, writes: u32) ->
     Ok(())
 }
 
-// The put of another key stands in the block that is being written, and its index isn't written yet.
-#[test]
-fn moves_that_end_inside_a_flush_leave_what_was_committed(
-    rt: HostRuntime,
-) -> std::result::Result<(), Fail> {
-    let alloc = rt.alloc();
+// The put of another key stands in the block that is being written, and its index isn't written yet: how many replies there
+// were, whether the first put is found, and whether the second is.
+fn found_in_a_flush(alloc: Global) -> Result<(usize, bool, bool)> {
     let mut moves = Vec::new(alloc);
     add_flush(alloc, &mut moves, 1, 2)?;
     moves.push(Move::FlushEnd { flusher: 0 })?;
     add_flush(alloc, &mut moves, 2, 1)?;
     let mut first = Env::with_default_pickers(alloc, 0)?;
     let mut env = Env::with_default_pickers(alloc, 0)?;
-    let left = run_and_reopen(
-        alloc,
-        &mut first,
-        &mut env,
-        sizes(1),
-        RecoverMode::Quiet,
-        moves,
-    )?;
-    assert_eq!(rt; left.replies.len(), 12);
+    let mode = RecoverMode::Quiet;
+    let left = run_and_reopen(alloc, &mut first, &mut env, sizes(1), mode, moves)?;
+    let replies = left.replies.len();
     let mut opened = Reopened {
         core: left.core,
         env,
         disk: left.disk,
     };
-    let Some(found) = find(alloc, &mut opened, key_of(1))? else {
-        return Err(Fail::from(foyer_device_page::error::Error::Config));
-    };
-    assert!(rt; found.is_text);
-    assert!(rt; find(alloc, &mut opened, key_of(2))?.is_none());
+    let one = find(alloc, &mut opened, key_of(1))?;
+    let two = find(alloc, &mut opened, key_of(2))?;
+    let is_text = one.is_some_and(|found| found.is_text);
+    Ok((replies, is_text, two.is_some()))
+}
+
+#[test]
+fn moves_that_end_inside_a_flush_leave_what_was_committed(
+    rt: HostRuntime,
+) -> std::result::Result<(), Fail> {
+    assert!(rt; found_in_a_flush(rt.alloc())? == (12, true, false));
     Ok(())
 }
 

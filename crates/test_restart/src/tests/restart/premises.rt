@@ -11,52 +11,57 @@ use foyer_core_steps::settings::Settings;
 use foyer_core_steps::step::Step;
 use foyer_device_page::error::{Error, Result};
 use foyer_io_disk::disk::Disk;
+use foyer_testing::said::Said;
 use std::alloc::Global;
 use std::test::Fail;
 
-// The sequences under which a key is indexed, and is found again.
-fn sequences(
+// Config where a step was out of turn.
+fn in_turn(is: bool) -> Result<()> {
+    if is { Ok(()) } else { Err(Error::Config) }
+}
+
+// A run of so many puts that were flushed.
+fn begin_with(alloc: Global, settings: Settings, puts: u32) -> Result<Running> {
+    let mut run = begin(alloc, settings)?;
+    in_turn(flush_puts(alloc, &mut run, puts)?)?;
+    Ok(run)
+}
+
+fn say_sequence(said: &mut Said, sequence: Option<u64>) {
+    match sequence {
+        Some(sequence) => said.number(" ", sequence),
+        None => said.word(" none"),
+    }
+}
+
+// The sequences under which the first put's key is indexed, and is found again.
+fn say_sequences(
+    said: &mut Said,
     alloc: Global,
     run: &mut Running,
-    put: u64,
     mode: RecoverMode,
-) -> Result<(Option<u64>, Option<u64>)> {
-    let key = key_of(put);
-    let before = address_of(run, key).map(|address| address.sequence);
+) -> Result<()> {
+    let key = key_of(1);
+    say_sequence(said, address_of(run, key).map(|address| address.sequence));
     let mut opened = reopen(alloc, run, None, mode)?;
-    let found = find(alloc, &mut opened, key)?.map(|found| found.address.sequence);
-    Ok((before, found))
+    let found = find(alloc, &mut opened, key)?;
+    say_sequence(said, found.map(|found| found.address.sequence));
+    Ok(())
 }
 
-// The seventh put is of the first one's key, and stands in the last block.
-#[test]
-fn what_an_earlier_run_left_wins_over_what_is_put(
-    rt: HostRuntime,
-) -> std::result::Result<(), Fail> {
-    let alloc = rt.alloc();
-    let mut earlier = begin(alloc, sizes(1))?;
-    assert!(rt; flush_puts(alloc, &mut earlier, 7)?);
+// The seventh put of the earlier run is of the first one's key, and stands in the last block.
+fn over_an_earlier_run(alloc: Global) -> Result<Running> {
+    let mut earlier = begin_with(alloc, sizes(1), 7)?;
     let disk = copy_of(alloc, &mut earlier)?;
     let mut run = begin_over(alloc, sizes(1), disk)?;
-    assert!(rt; flush_puts(alloc, &mut run, 1)?);
-    assert!(rt; sequences(alloc, &mut run, 1, RecoverMode::Strict)? == (Some(1), Some(7)));
-    Ok(())
-}
-
-#[test]
-fn nothing_is_found_where_no_block_is_read(rt: HostRuntime) -> std::result::Result<(), Fail> {
-    let alloc = rt.alloc();
-    let mut run = begin(alloc, sizes(1))?;
-    assert!(rt; flush_puts(alloc, &mut run, 1)?);
-    assert!(rt; sequences(alloc, &mut run, 1, RecoverMode::Strict)? == (Some(1), Some(1)));
-    assert!(rt; sequences(alloc, &mut run, 1, RecoverMode::None)? == (Some(1), None));
-    Ok(())
+    in_turn(flush_puts(alloc, &mut run, 1)?)?;
+    Ok(run)
 }
 
 // The front of an index comes, and the write is reported as a fault.
-fn fail_index(run: &mut Running) -> Result<bool> {
+fn fail_index(run: &mut Running) -> Result<()> {
     let Some(issued) = take_issued(run, 0) else {
-        return Ok(false);
+        return Err(Error::Config);
     };
     if let Some(write) = issued.writes.get(issued.next) {
         let bytes = write.bytes.as_slice();
@@ -68,37 +73,32 @@ fn fail_index(run: &mut Running) -> Result<bool> {
         result: Err(Error::Io),
     };
     match apply(run, failed) {
-        Reply::Failed => Ok(end_flush(run, 0)),
-        _ => Ok(false),
+        Reply::Failed => in_turn(end_flush(run, 0)),
+        _ => Err(Error::Config),
     }
 }
 
-#[test]
-fn a_write_that_fails_may_lose_what_its_block_had(
-    rt: HostRuntime,
-) -> std::result::Result<(), Fail> {
-    let alloc = rt.alloc();
-    let mut run = begin(alloc, sizes(1))?;
-    assert!(rt; flush_puts(alloc, &mut run, 1)?);
-    assert!(rt; put(alloc, &mut run)? && begin_flush(&mut run, 0));
-    assert!(rt; next_block(&mut run, 0) == NextBlock::Given);
+// The second put's index fails, in the block of the first.
+fn with_a_failed_index(alloc: Global) -> Result<Running> {
+    let mut run = begin_with(alloc, sizes(1), 1)?;
+    in_turn(put(alloc, &mut run)?)?;
+    in_turn(begin_flush(&mut run, 0) && next_block(&mut run, 0) == NextBlock::Given)?;
     if let Some(issued) = take_issued(&mut run, 0) {
-        assert!(rt; do_next(&mut run, 0, issued));
+        in_turn(do_next(&mut run, 0, issued))?;
     }
-    assert!(rt; fail_index(&mut run)?);
-    assert!(rt; sequences(alloc, &mut run, 1, RecoverMode::Strict)? == (Some(1), None));
-    Ok(())
+    fail_index(&mut run)?;
+    Ok(run)
 }
 
 // Cleans a block whose reclaim was brought a fault in place of its index.
-fn reclaim_unread(run: &mut Running, block: BlockId) -> Result<bool> {
+fn reclaim_unread(run: &mut Running, block: BlockId) -> Result<()> {
     let read = Step::ReclaimRead {
         block,
         result: Err(Error::Io),
     };
     let _ = apply(run, read);
     let Reply::Clean(_) = apply(run, Step::ReclaimForget { block }) else {
-        return Ok(false);
+        return Err(Error::Config);
     };
     run.disk.write(block, 0, &[0; 4096])?;
     let cleaned = Step::ReclaimCleaned {
@@ -106,41 +106,76 @@ fn reclaim_unread(run: &mut Running, block: BlockId) -> Result<bool> {
         result: Ok(()),
     };
     match apply(run, cleaned) {
-        Reply::Done => Ok(true),
-        _ => Ok(false),
+        Reply::Done => Ok(()),
+        _ => Err(Error::Config),
     }
 }
 
-#[test]
-fn a_reclaim_that_reads_a_fault_cleans_what_the_index_keeps(
-    rt: HostRuntime,
-) -> std::result::Result<(), Fail> {
-    let alloc = rt.alloc();
+fn with_a_reclaim_that_read_a_fault(alloc: Global) -> Result<Running> {
     let settings = Settings {
         clean_block_threshold: 3,
         ..sizes(1)
     };
-    let mut run = begin(alloc, settings)?;
-    assert!(rt; flush_puts(alloc, &mut run, 5)?);
+    let mut run = begin_with(alloc, settings, 5)?;
     let Reply::Picked {
         block,
         answers: _,
         probation: _,
     } = apply(&mut run, Step::ReclaimBegin)
     else {
-        return Err(Fail::from(Error::Config));
+        return Err(Error::Config);
     };
-    assert!(rt; reclaim_unread(&mut run, block)?);
-    assert!(rt; sequences(alloc, &mut run, 1, RecoverMode::Strict)? == (Some(1), None));
+    reclaim_unread(&mut run, block)?;
+    Ok(run)
+}
+
+fn run_of(alloc: Global, name: &str) -> Result<Running> {
+    match name {
+        "what an earlier run left wins over what is put" => over_an_earlier_run(alloc),
+        "a write that fails may lose what its block had" => with_a_failed_index(alloc),
+        "a reclaim that reads a fault cleans what the index keeps" => {
+            with_a_reclaim_that_read_a_fault(alloc)
+        }
+        _ => begin_with(alloc, sizes(1), 1),
+    }
+}
+
+fn rows_of(alloc: Global, rows: &str) -> Result<String> {
+    let mut said = Said::new(alloc);
+    for row in rows.lines() {
+        let (name, _) = row.split_once(": ").unwrap_or((row, ""));
+        said.word(name);
+        said.word(":");
+        let mode = if name == "nothing is found where no block is read" {
+            RecoverMode::None
+        } else {
+            RecoverMode::Strict
+        };
+        let mut run = run_of(alloc, name)?;
+        say_sequences(&mut said, alloc, &mut run, mode)?;
+        said.word("\n");
+    }
+    said.text()
+}
+
+// Runs, and the sequences under which the first put's key is indexed and is found again.
+const ROWS: &str = "what is written is found: 1 1
+nothing is found where no block is read: 1 none
+what an earlier run left wins over what is put: 1 7
+a write that fails may lose what its block had: 1 none
+a reclaim that reads a fault cleans what the index keeps: 1 none
+";
+
+#[test]
+fn what_the_law_leaves_out_is_lost_so(rt: HostRuntime) -> std::result::Result<(), Fail> {
+    let answers = rows_of(rt.alloc(), ROWS)?;
+    assert!(rt; answers.as_str() == ROWS, "{answers}");
     Ok(())
 }
 
 // The very index stands a second time, behind its record: of two equals the last one wins, and no record stands where it says.
-#[test]
-fn a_stray_index_hides_a_record(rt: HostRuntime) -> std::result::Result<(), Fail> {
-    let alloc = rt.alloc();
-    let mut run = begin(alloc, sizes(1))?;
-    assert!(rt; flush_puts(alloc, &mut run, 1)?);
+fn is_hidden(alloc: Global) -> Result<bool> {
+    let mut run = begin_with(alloc, sizes(1), 1)?;
     let mut page = Vec::new(alloc);
     page.resize(4096, 0)?;
     let (page, outcome) = run.disk.read(0, 0, page);
@@ -148,6 +183,11 @@ fn a_stray_index_hides_a_record(rt: HostRuntime) -> std::result::Result<(), Fail
     run.disk.write(0, 8192, page.as_slice())?;
     let mut opened = reopen(alloc, &mut run, None, RecoverMode::Strict)?;
     let found = find(alloc, &mut opened, key_of(1))?;
-    assert!(rt; found.is_some_and(|found| !found.is_text));
+    Ok(found.is_some_and(|found| !found.is_text))
+}
+
+#[test]
+fn a_stray_index_hides_a_record(rt: HostRuntime) -> std::result::Result<(), Fail> {
+    assert!(rt; is_hidden(rt.alloc())?);
     Ok(())
 }
