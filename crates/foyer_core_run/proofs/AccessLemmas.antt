@@ -28,7 +28,7 @@ use Rattle.foyer_core_run.specs.declared.moves.Asked.TheVariants as asks
 use Rattle.foyer_core_run.specs.declared.moves.Move.{Move}
 use Rattle.foyer_core_run.specs.declared.moves.Move.TheVariants as move
 use Rattle.foyer_core_run.specs.declared.moves.kept.Issued.{Issued}
-use Rattle.foyer_core_run.specs.declared.reclaims.Part.{Part}
+use Rattle.foyer_core_access.specs.declared.reclaims.Part.{Part}
 use Rattle.foyer_core_run.proofs.BlockLemmas.{block_moves, flusher_there}
 use Rattle.foyer_core_run.proofs.LoadLemmas.{IsCome, load_moves, load_passes}
 use Rattle.foyer_core_run.proofs.RunLemmas.{IsGoing, going_first, going_on, gone}

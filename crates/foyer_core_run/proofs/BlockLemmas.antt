@@ -25,7 +25,7 @@ use Rattle.foyer_core_blocks.proofs.ListLemmas.{set_here, set_there, set_count}
 use Rattle.foyer_core_run.specs.Running.{IsDue, IsMoved, IsRunning, at, block_in, ticket_in, with_ticket}
 use Rattle.foyer_core_run.specs.declared.moves.Asked.TheVariants as asks
 use Rattle.foyer_core_run.specs.declared.moves.kept.Issued.{Issued}
-use Rattle.foyer_core_run.specs.declared.reclaims.Part.{Part}
+use Rattle.foyer_core_access.specs.declared.reclaims.Part.{Part}
 use Rattle.foyer_core_run.proofs.DueBlocks.{cleans_beside, scans_beside}
 use Rattle.foyer_core_run.proofs.DueLemmas.{block_writes_untold, due_of}
 use Rattle.foyer_core_run.proofs.ListLemmas.{get_here}

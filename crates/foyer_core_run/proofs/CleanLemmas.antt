@@ -26,7 +26,7 @@ use Rattle.foyer_core_blocks.proofs.ListLemmas.{set_here, set_there, set_count}
 use Rattle.foyer_core_run.specs.Running.{IsCleanDue, IsDue, IsMoved, IsRunning, at, is_set, ticket_in, with_ticket}
 use Rattle.foyer_core_run.specs.declared.moves.Asked.TheVariants as asks
 use Rattle.foyer_core_run.specs.declared.moves.kept.Issued.{Issued}
-use Rattle.foyer_core_run.specs.declared.reclaims.Part.{Part}
+use Rattle.foyer_core_access.specs.declared.reclaims.Part.{Part}
 use Rattle.foyer_core_run.proofs.DestroyRuns.{cleans_other, went_fault}
 use Rattle.foyer_core_run.proofs.DueBlocks.{IsNoScan, scans_beside, scans_torn}
 use Rattle.foyer_core_run.proofs.DueLemmas.{IsBeside, block_writes_stay, unread_torn}

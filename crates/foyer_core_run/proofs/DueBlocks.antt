@@ -25,10 +25,10 @@ use Rattle.foyer_core_steps.specs.declared.step.Step.TheVariants as step
 use Rattle.foyer_block_manager.proofs.InitialLemmas.{in_ids}
 use Rattle.foyer_core_blocks.proofs.ListLemmas.{set_here, set_there, set_count}
 use Rattle.foyer_core_run.specs.Due.{IsUnscanned}
-use Rattle.foyer_core_run.specs.Reclaims.{part_in}
+use Rattle.foyer_core_access.specs.Reclaims.{part_in}
 use Rattle.foyer_core_run.specs.Running.{IsCleanDue, IsFree, IsScanDue, at, cleans_noted, is_set, issuing_in, scans_noted}
 use Rattle.foyer_core_run.specs.declared.moves.steps.Issuing.TheVariants as issuing
-use Rattle.foyer_core_run.specs.declared.reclaims.Part.{Part}
+use Rattle.foyer_core_access.specs.declared.reclaims.Part.{Part}
 use Rattle.foyer_core_run.proofs.ReplyLemmas.{Sort, Picks, Scans, Cleans, Clears, sort, sorted}
 
 -- of each block

@@ -28,7 +28,7 @@ use Rattle.foyer_core_run.specs.Due.{unread}
 use Rattle.foyer_core_run.specs.Running.{IsDue, IsMoved, IsRunning, at, issued_of, ticket_in, with_ticket}
 use Rattle.foyer_core_run.specs.declared.moves.Asked.TheVariants as asks
 use Rattle.foyer_core_run.specs.declared.moves.kept.Issued.{Issued}
-use Rattle.foyer_core_run.specs.declared.reclaims.Part.{Part}
+use Rattle.foyer_core_access.specs.declared.reclaims.Part.{Part}
 use Rattle.foyer_core_run.proofs.DueBlocks.{cleans_beside, scans_beside}
 use Rattle.foyer_core_run.proofs.DueLemmas.{unread_is, block_writes_stay}
 use Rattle.foyer_core_run.proofs.ListLemmas.{append_none, past_end, at_is}

@@ -27,9 +27,10 @@ use Rattle.foyer_core_steps.specs.declared.reply.Reply.TheVariants as reply
 use Rattle.foyer_core_steps.specs.declared.state.Core.{Core}
 use Rattle.foyer_core_steps.specs.declared.step.Step.TheVariants as step
 use Rattle.foyer_core_run.specs.Driven.{IsDriven}
-use Rattle.foyer_core_run.specs.Reclaims.{AreReclaiming, EndsBy, GoesOn, IsAwaited, IsCleaned, IsReclaim, Reads, Reclaims, part_in}
+use Rattle.foyer_core_run.specs.Reclaims.{AreReclaiming, EndsBy, GoesOn, IsAwaited, IsReclaim, Reads, Reclaims}
+use Rattle.foyer_core_access.specs.Reclaims.{IsCleaned, part_in}
 use Rattle.foyer_core_run.specs.Waiting.{AllSteps, IsWaiting, Waits}
-use Rattle.foyer_core_run.specs.declared.reclaims.Part.{Part}
+use Rattle.foyer_core_access.specs.declared.reclaims.Part.{Part}
 use Rattle.foyer_core_run.proofs.ListLemmas.{append_twice}
 use Rattle.foyer_core_run.proofs.RunLemmas.{after_more, happen_more}
 
@@ -42,24 +43,6 @@ pub part_come : {A : Type 0} (bytes : ℕ → ℕ → ℕ) (b : ℕ) (part : Par
     → IfOk outcome (λ got. IsRead bytes b part.offset got.items) → IfOk outcome (λ got. vec_len got ≡ part.len) → IsPartCome bytes b part outcome
 part_come bytes b part (Ok got) read len = (read, omega (arith, got.ok, len))
 part_come bytes b part (Err e) read len = tt
-
-abbrev no_byte : ℕ
-no_byte = 0
-
-zero_at : (n i : ℕ) → i < n → slice_index (replicate n no_byte) i ≡ no_byte
-zero_at zero i lt = absurd (omega (arith, lt))
-zero_at (suc n) zero lt = refl
-zero_at (suc n) (suc i) lt = zero_at n i (omega (arith, lt))
-
--- a page of zeros is written
-pub zeros_clean : (old new : ℕ → ℕ → ℕ) (b : ℕ) (outcome : Result Unit Error) → OnOk outcome (IsWritten old b 0 (replicate page no_byte) new) → OnOk outcome (IsCleaned old b new)
-zeros_clean old new b (Ok x) is = (
-  λ o lt.
-      let at : 0 + o ≡ o = omega arith in
-      sym (ap (new b) at) ∙ sym (is.0 o (omega (arith, lt, length-replicate page no_byte))) ∙ zero_at page o lt,
-  subst (λ n. IsTorn old b 0 n new) (length-replicate page no_byte) is.1,
-)
-zeros_clean old new b (Err e) is = tt
 
 -- what a clean did
 abbrev pub IsCleanDone : (old new : ℕ → ℕ → ℕ) → ℕ → Bool → Type 0

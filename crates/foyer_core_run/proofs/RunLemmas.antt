@@ -20,7 +20,7 @@ use Rattle.foyer_core_run.specs.Running.{IsCleanDue, IsDue, IsMoved, IsRunning, 
 use Rattle.foyer_core_run.specs.Runs.{IsFront, IsRun}
 use Rattle.foyer_core_run.specs.declared.moves.Move.{Move}
 use Rattle.foyer_core_run.specs.declared.moves.kept.Issued.{Issued}
-use Rattle.foyer_core_run.specs.declared.reclaims.Part.{Part}
+use Rattle.foyer_core_access.specs.declared.reclaims.Part.{Part}
 use Rattle.foyer_core_run.proofs.ListLemmas.{append_none, append_twice}
 
 pub after_more : {C : Type 0} (rules : Rules C) (w : World C) (xs ys : List (WorldEvent C)) → after_all rules w (xs ++ ys) ≡ after_all rules (after_all rules w xs) ys

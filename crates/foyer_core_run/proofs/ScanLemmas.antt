@@ -21,11 +21,11 @@ use Rattle.foyer_core_steps.specs.declared.step.Step.TheVariants as step
 use Rattle.foyer_core_steps.specs.declared.step.Ticket.{Ticket}
 use Rattle.foyer_core_blocks.proofs.ListLemmas.{set_here, set_there, set_count}
 use Rattle.foyer_core_run.specs.Due.{IsUnscanned}
-use Rattle.foyer_core_run.specs.Reclaims.{part_in}
+use Rattle.foyer_core_access.specs.Reclaims.{part_in}
 use Rattle.foyer_core_run.specs.Running.{IsDue, IsMoved, IsRunning, IsScanDue, at, ticket_in, with_ticket}
 use Rattle.foyer_core_run.specs.declared.moves.Asked.TheVariants as asks
 use Rattle.foyer_core_run.specs.declared.moves.kept.Issued.{Issued}
-use Rattle.foyer_core_run.specs.declared.reclaims.Part.{Part}
+use Rattle.foyer_core_access.specs.declared.reclaims.Part.{Part}
 use Rattle.foyer_core_run.proofs.DueBlocks.{cleans_beside, scan_next, scans_elsewhere}
 use Rattle.foyer_core_run.proofs.DueLemmas.{block_writes_stay}
 use Rattle.foyer_core_run.proofs.ListLemmas.{append_none, at_is}

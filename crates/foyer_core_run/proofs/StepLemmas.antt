@@ -26,7 +26,7 @@ use Rattle.foyer_core_run.specs.Due.{unread}
 use Rattle.foyer_core_run.specs.Running.{IsDue, IsFree, IsMoved, IsRunning, at, cleans_noted, issued_of, issuing_in, scans_noted, ticket_in, with_ticket}
 use Rattle.foyer_core_run.specs.declared.moves.Asked.TheVariants as asks
 use Rattle.foyer_core_run.specs.declared.moves.kept.Issued.{Issued}
-use Rattle.foyer_core_run.specs.declared.reclaims.Part.{Part}
+use Rattle.foyer_core_access.specs.declared.reclaims.Part.{Part}
 use Rattle.foyer_core_run.proofs.DueBlocks.{AreCleansDue, AreScansDue, cleans_go, scans_go}
 use Rattle.foyer_core_run.proofs.DueLemmas.{loads_stay, issued_stays, block_writes_stay, IsBeside}
 use Rattle.foyer_core_run.proofs.ListLemmas.{get_left, get_pushed, pushed_count}

@@ -32,7 +32,7 @@ use Rattle.foyer_core_run.specs.Due.{due}
 use Rattle.foyer_core_run.specs.Running.{IsDue, IsMoved, IsRunning, IsIssued, at, next_of, ticket_in, with_ticket, write_at}
 use Rattle.foyer_core_run.specs.declared.moves.Asked.TheVariants as asks
 use Rattle.foyer_core_run.specs.declared.moves.kept.Issued.{Issued}
-use Rattle.foyer_core_run.specs.declared.reclaims.Part.{Part}
+use Rattle.foyer_core_access.specs.declared.reclaims.Part.{Part}
 use Rattle.foyer_core_run.proofs.DueBlocks.{cleans_beside, scans_beside, scans_torn}
 use Rattle.foyer_core_run.proofs.DueLemmas.{due_is, due_next, due_ended, due_failed, block_writes_elsewhere, unread_torn}
 use Rattle.foyer_core_run.proofs.ListLemmas.{append_none, at_is, drop_at, drop_past, get_left}

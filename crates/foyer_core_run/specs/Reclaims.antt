@@ -2,7 +2,6 @@
 use Rattle.std.specs.Prelude.{◌≡◌, ◌⊎◌, ℕ, ◌<◌, List, [], ◌∷◌, ◌++◌, Option, Some, None}
 use Rattle.foyer_core_run.specs.AtRest.{KeepsIdle}
 use Rattle.foyer_core_model.specs.Access.{ReadIssued}
-use Rattle.foyer_core_model.specs.Numbers.{page}
 use Rattle.foyer_core_model.specs.Reply as model_reply
 use Rattle.foyer_core_model.specs.State.{AtRecord, Reclaim, Stage, State}
 use Rattle.foyer_core_model.specs.Step as model_step
@@ -17,10 +16,9 @@ use Rattle.foyer_core_steps.specs.StateOf.{IsStateOf}
 use Rattle.foyer_core_steps.specs.declared.reply.Reply.{Reply}
 use Rattle.foyer_core_steps.specs.declared.reply.Reply.TheVariants as reply
 use Rattle.foyer_core_steps.specs.declared.state.Core.{Core}
-use Rattle.foyer_io_disk.specs.Disk.{IsTorn}
 use Rattle.foyer_core_run.specs.Driven.{IsDriven}
 use Rattle.foyer_core_run.specs.Waiting.{DrivesBy}
-use Rattle.foyer_core_run.specs.declared.reclaims.Part.{Part}
+use Rattle.foyer_core_access.specs.declared.reclaims.Part.{Part}
 
 -- a step or an access of the reclaim of this block, behind its beginning
 abbrev pub IsReclaiming : {C : Type 0} → (block : ℕ) → WorldEvent C → Type 0
@@ -71,11 +69,6 @@ module _ {K V P A : Type 0} (m : Meaning K V P) where
   abbrev pub IsOver : Core K V P A → Reply K V P A → Type 0
   IsOver old last = (s : Settings) → AreValid s → (it : State Content) → IsStateOf m s old it → (last ≡ reply.Done) ⊎ IsHandedBack last
 
--- the part that a reply has a reclaim read next
-abbrev pub part_in : {K V P A : Type 0} → Reply K V P A → Option Part
-part_in (reply.Scan b offset len verdicts) = Some (record { offset = offset; len = len })
-part_in answer = None
-
 -- in this world the reclaim of a block awaits this part, if any
 abbrev pub IsAwaited : {C : Type 0} → (block : ℕ) → Option Part → World C → Type 0
 IsAwaited b None w = Unit {0}
@@ -87,10 +80,6 @@ abbrev pub Reads : {K V P A : Type 0} → Meaning K V P → (block : ℕ) → (p
 Reads m b part next old new bytes =
     (s : Settings) (sound : AreValid s) (w : World Content) → IsStateOf m s old w.core → ((b o : ℕ) → w.bytes b o ≡ bytes b o) → IsAwaited b part w
     → (driven : IsDriven m s sound w new bytes) × AreReclaiming b driven.events × IsAwaited b next (after_all (machine m s sound) w driven.events)
-
--- the first page of a block is zeros, and all else is as before
-abbrev pub IsCleaned : (ℕ → ℕ → ℕ) → ℕ → (ℕ → ℕ → ℕ) → Type 0
-IsCleaned old block new = ((o : ℕ) → o < page → new block o ≡ 0) × IsTorn old block 0 page new
 
 -- no record is read
 abbrev pub IsUnread : Stage → Type 0

@@ -30,7 +30,7 @@ use Rattle.foyer_core_run.specs.declared.moves.kept.Issued.{Issued}
 use Rattle.foyer_core_run.specs.declared.moves.kept.Kept.{Kept}
 use Rattle.foyer_core_run.specs.declared.moves.steps.Issuing.{Issuing}
 use Rattle.foyer_core_run.specs.declared.moves.steps.Issuing.TheVariants as issuing
-use Rattle.foyer_core_run.specs.declared.reclaims.Part.{Part}
+use Rattle.foyer_core_access.specs.declared.reclaims.Part.{Part}
 
 abbrev pub ticket_in : {K V P A : Type 0} → Reply K V P A → Option Ticket
 ticket_in (reply.Read ticket) = Some ticket

@@ -18,9 +18,9 @@ ghost use Rattle.foyer_core_run.specs.declared.moves.Move.{Move};
 ghost use Rattle.foyer_core_run.specs.Running.{IsFree};
 ghost use Rattle.foyer_core_run.specs.Runs.{IsFront};
 
-use crate::disk::{do_read, do_write};
 use crate::moves::writes::wants_next_write;
 use foyer_block_manager::block::eviction::EvictionPicker;
+use foyer_core_access::disk::{do_read, do_write};
 use foyer_core_steps::apply::Env;
 use foyer_core_steps::reply::Reply;
 use foyer_core_steps::state::Core;

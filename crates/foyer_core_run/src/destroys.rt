@@ -4,9 +4,9 @@ ghost use Rattle.foyer_core_laws.specs.Content.{meaning};
 ghost use Rattle.foyer_core_run.specs.Destroys.{Cleans, IsClearing, IsUncleared};
 ghost use Rattle.foyer_core_run.specs.Waiting.{DrivesBy};
 
-use crate::reclaims::BlockCleaner;
 use foyer_block_index::manager::BlockId;
 use foyer_block_manager::block::eviction::EvictionPicker;
+use foyer_core_access::reclaims::BlockCleaner;
 use foyer_core_steps::apply::Env;
 use foyer_core_steps::reply::Reply;
 use foyer_core_steps::state::Core;

@@ -4,7 +4,6 @@
 pub mod accesses;
 pub mod batches;
 pub mod destroys;
-pub mod disk;
 pub mod moves;
 pub mod opened;
 pub mod reclaims;

@@ -19,8 +19,8 @@ use foyer_core_steps::settings::Settings;
 use foyer_core_steps::state::Core;
 use foyer_device_page::error::Result;
 use foyer_format_record::serde::{Code, Properties};
+use foyer_io_blocks::memory::MemoryDisk;
 use foyer_io_disk::disk::Disk;
-use foyer_io_disk::memory::MemoryDisk;
 use foyer_policy_filter::StorageFilterCondition;
 use std::alloc::{Allocator, Global};
 

@@ -1,76 +1,21 @@
 //! A reclaim of a block, with its accesses in their place.
-ghost use Rattle.std.specs.Prelude.{◌≡◌, ℕ, vec_len, Some, None, IfOk, OnOk, OnErr, ◌≤◌, IfErr, ◌⊎◌};
-ghost use Rattle.foyer_device_page.specs.declared.error.Error.TheVariants.{Memory};
-ghost use Rattle.foyer_core_model.specs.Numbers.{page};
+ghost use Rattle.std.specs.Prelude.{◌≡◌, ℕ, Some, None, ◌≤◌};
 ghost use Rattle.foyer_core_laws.specs.Content.{meaning};
-ghost use Rattle.foyer_io_disk.specs.Disk.{IsRead, IsTorn, SurelyCame};
 ghost use Rattle.foyer_core_run.specs.AtRest.{KeepsIdle, Leads, Without};
-ghost use Rattle.foyer_core_run.specs.Reclaims.{IsCleaned, IsOver, KeepsUnread, Reads, Reclaims, part_in};
+ghost use Rattle.foyer_core_run.specs.Reclaims.{IsOver, KeepsUnread, Reads, Reclaims};
 
 use foyer_block_index::manager::BlockId;
 use foyer_block_manager::block::eviction::EvictionPicker;
+use foyer_core_access::reclaims::{BlockCleaner, Part, next_part, read_bytes};
 use foyer_core_steps::apply::Env;
 use foyer_core_steps::reply::Reply;
 use foyer_core_steps::state::Core;
 use foyer_core_steps::step::Step;
-use foyer_device_page::error::{Error, Result};
-use foyer_format_record::block::buffer::PAGE;
+use foyer_device_page::error::Error;
 use foyer_format_record::serde::{Code, Properties};
 use foyer_io_disk::disk::Disk;
 use foyer_policy_filter::StorageFilterCondition;
 use std::alloc::Allocator;
-
-/// What a reclaim reads of its block: so many bytes from an offset on.
-#[derive(Clone, Copy, Debug, PartialEq, Eq)]
-pub struct Part {
-    /// Where it begins in the block, in bytes.
-    pub offset: usize,
-    /// Its length in bytes.
-    pub len: usize,
-}
-
-/// What a reply has a reclaim read next.
-pub fn next_part<K, V, P, A: Allocator>(reply: &Reply<K, V, P, A>) -> Option<Part>
-    ensures { result ≡ part_in reply.now }
-{
-    match reply {
-        Reply::Scan {
-            block: _,
-            offset,
-            len,
-            verdicts: _,
-        } => Some(Part {
-            offset: *offset,
-            len: *len,
-        }),
-        _ => None,
-    }
-}
-
-/// Reads a part of a block. Memory that is refused for it is a fault too.
-pub fn read_bytes<A: Allocator + Clone, D: Disk>(
-    alloc: &A,
-    disk: &mut D,
-    block: BlockId,
-    part: Part,
-) -> Result<Vec<u8, A>>
-    ensures read { D.is_known disk.old → IfOk result (λ bytes. IsRead (D.byte_at disk.old) block part.offset bytes.items) }
-    ensures len { IfOk result (λ bytes. vec_len bytes ≡ part.len) }
-    ensures fails { IfErr result (λ e. (e ≡ Memory) ⊎ (SurelyCame (D.surely_has disk.old) (D.surely_lies disk.old) (D.faults disk.old) (D.faults disk.new)
-        block part.offset part.len → ⊥)) }
-    ensures known { D.is_known disk.old → D.is_known disk.new }
-    ensures lies { (b o n : ℕ) → D.surely_lies disk.old b o n → D.surely_lies disk.new b o n }
-    ensures counted { D.faults disk.old ≤ D.faults disk.new }
-    ensures same { D.byte_at disk.new ≡ D.byte_at disk.old }
-{
-    let mut buffer = Vec::new(alloc.clone()?);
-    buffer.resize(part.len, 0)?;
-    let (buffer, outcome) = disk.read(block, part.offset, buffer);
-    match outcome {
-        Ok(()) => Ok(buffer),
-        Err(error) => Err(error),
-    }
-}
 
 // Reads a part for the reclaim of a block and brings it, or a fault where memory is refused for it: what is to be read
 // next, if anything is.
@@ -156,26 +101,6 @@ where
             Some(next) => part = next,
             None => return,
         }
-    }
-}
-
-/// Cleans blocks.
-#[derive(Clone, Copy, Debug, Default)]
-pub struct BlockCleaner;
-
-impl BlockCleaner {
-    /// Cleans a block: its first page becomes zeros. A clean that fails changes nothing but bytes of that page.
-    pub fn clean<D: Disk>(disk: &mut D, block: BlockId) -> Result<()>
-        ensures cleaned { D.is_known disk.old → OnOk result (IsCleaned (D.byte_at disk.old) block (D.byte_at disk.new)) }
-        ensures torn { D.is_known disk.old → OnErr result (IsTorn (D.byte_at disk.old) block 0 page (D.byte_at disk.new)) }
-        ensures fails { OnErr result (SurelyCame (D.surely_has disk.old) (D.surely_lies disk.old) (D.faults disk.old) (D.faults disk.new)
-            block 0 page → ⊥) }
-        ensures known { D.is_known disk.old → D.is_known disk.new }
-        ensures lies { (b o n : ℕ) → D.surely_lies disk.old b o n → D.surely_lies disk.new b o n }
-        ensures counted { D.faults disk.old ≤ D.faults disk.new }
-    {
-        let zeros = [0u8; PAGE];
-        disk.write(block, 0, &zeros)
     }
 }
 

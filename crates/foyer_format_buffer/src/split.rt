@@ -193,6 +193,3 @@ impl Splitter {
         Ok(Batch { blocks, bytes })
     }
 }
-
-#[cfg(test)]
-mod tests;

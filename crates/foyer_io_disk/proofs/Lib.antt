@@ -1,3 +1,1 @@
-pub mod BlockPlaces
-pub mod PartitionLemmas
 pub mod FaultLemmas

@@ -1,6 +1,5 @@
-//! The blocks of a device, read and written by their offsets: over memory, or over the partitions of any device.
+//! What the engine's reads and writes go to: blocks of bytes, by their offsets. `foyer_io_blocks` has those over memory and over the
+//! partitions of any device.
 #![tactic(auto)]
 
 pub mod disk;
-pub mod memory;
-pub mod partitions;

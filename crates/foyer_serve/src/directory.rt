@@ -24,8 +24,8 @@ use foyer_device_partition::io::device::{
     Device, DeviceBuilder, FsDeviceBuilder, FsPartition, Partition,
 };
 use foyer_format_record::block::buffer::PAGE;
+use foyer_io_blocks::partitions::{PartitionedDisk, create_blocks};
 use foyer_io_disk::disk::Disk;
-use foyer_io_disk::partitions::{PartitionedDisk, create_blocks};
 use foyer_io_engine::io::engine::{
     IoEngineBuildContext, IoEngineConfig, PsyncIoEngine, PsyncIoEngineConfig,
 };

@@ -9,10 +9,10 @@ pub use foyer_storage_store::engine::bell::Bell;
 pub use foyer_storage_store::engine::engine::signals::Signals;
 pub use foyer_storage_store::engine::engine::waits::Waits;
 pub use foyer_storage_store::engine::engine::{BlockEngine, Enqueued};
-pub use foyer_storage_store::engine::hand::Hand;
 pub use foyer_storage_store::engine::load::{Load, Populated, decide_load};
-pub use foyer_storage_store::engine::recover::{NoRecoverer, Recoverer};
-pub use foyer_storage_store::engine::workers::{
+pub use foyer_storage_store::threads::hand::Hand;
+pub use foyer_storage_store::threads::recover::{NoRecoverer, Recoverer};
+pub use foyer_storage_store::threads::workers::{
     Clock, FlusherParts, FlusherWorker, Moment, NoWorker, ReclaimerParts, ReclaimerWorker, Worker,
     Workers,
 };

@@ -6,7 +6,6 @@ pub mod Keeping
 pub mod Kept
 pub mod Entering
 pub mod Ending
-pub mod Reporting
 pub mod Waiting
 pub mod Calls
 pub use Rattle.foyer_core_shared.specs.Sessions

@@ -20,8 +20,8 @@ use foyer_core_steps::state::Core;
 use foyer_device_page::error::Result;
 use foyer_device_statistics::IoState;
 use foyer_format_record::serde::{Code, Properties};
+use foyer_io_blocks::memory::MemoryDisk;
 use foyer_io_disk::disk::Disk;
-use foyer_io_disk::memory::MemoryDisk;
 use foyer_policy_filter::{BuiltInCondition, StorageFilter, StorageFilterCondition};
 use std::alloc::{Allocator, Global};
 

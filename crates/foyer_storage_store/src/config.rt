@@ -28,7 +28,7 @@ use foyer_storage_engine::core_steps::open::RecoverMode;
 use foyer_storage_engine::engine::Enqueued;
 use foyer_storage_engine::engine::signals::Signals;
 use foyer_storage_engine::load::Load;
-use foyer_storage_engine::workers::Clock;
+use foyer_storage_workers::workers::Clock;
 use std::alloc::Global;
 use std::sync::{Arc, Wait};
 

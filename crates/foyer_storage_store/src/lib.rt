@@ -1,6 +1,6 @@
 //! The store: a keeper of the pieces that aren't written yet, before an engine; and what both are built of.
 //!
-//! It passes on the engine's crate, so that whoever stands on the store lists it alone.
+//! It passes on the crates of the engine and its threads, so that whoever stands on the store lists it alone.
 #![tactic(auto)]
 
 pub mod builder;
@@ -10,3 +10,4 @@ pub mod store;
 pub mod whole;
 
 pub use foyer_storage_engine as engine;
+pub use foyer_storage_workers as threads;

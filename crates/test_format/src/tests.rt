@@ -6,3 +6,4 @@ mod formats;
 mod hashes;
 mod indices;
 mod keys;
+mod split;

@@ -1,5 +1,5 @@
-//! Tests of the programs and their engine: over directories, over devices whose calls fail, and where reclaims have records
-//! written again.
+//! Tests of the engine on one thread and its programs: their lines, over directories, over devices whose calls fail, and where reclaims
+//! have records written again.
 #![tactic(auto)]
 
 #[cfg(test)]

@@ -16,5 +16,6 @@ mod rows;
 mod same;
 mod scripts;
 mod settled;
+mod single;
 mod steps;
 mod sweeps;

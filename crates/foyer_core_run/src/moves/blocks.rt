@@ -5,9 +5,9 @@ ghost use Rattle.foyer_core_run.specs.Running.{Moves};
 
 use super::Asked;
 use super::kept::{Kept, get_due, is_clean_due, note_ticket, set_due};
-use crate::reclaims::{BlockCleaner, next_part, read_bytes};
 use foyer_block_index::manager::BlockId;
 use foyer_block_manager::block::eviction::EvictionPicker;
+use foyer_core_access::reclaims::{BlockCleaner, next_part, read_bytes};
 use foyer_core_steps::apply::Env;
 use foyer_core_steps::state::Core;
 use foyer_core_steps::step::Step;

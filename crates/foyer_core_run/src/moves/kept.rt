@@ -2,8 +2,8 @@
 ghost use Rattle.std.specs.Prelude.{◌≡◌, [], replicate, ◌<◌, ◌≤◌, vec_len, vec_capacity, slice_get, slice_set, false, None, IfOk};
 ghost use Rattle.foyer_core_run.specs.Running.{ticket_in, with_ticket, at, is_set};
 
-use crate::reclaims::Part;
 use foyer_block_index::manager::BlockId;
+use foyer_core_access::reclaims::Part;
 use foyer_core_steps::reply::Reply;
 use foyer_core_steps::settings::Settings;
 use foyer_core_steps::step::Ticket;

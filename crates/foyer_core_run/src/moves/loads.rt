@@ -5,8 +5,8 @@ ghost use Rattle.foyer_core_run.specs.Running.{Moves};
 
 use super::Asked;
 use super::kept::{Kept, get_due, note_ticket, set_due};
-use crate::disk::do_read;
 use foyer_block_manager::block::eviction::EvictionPicker;
+use foyer_core_access::disk::do_read;
 use foyer_core_steps::apply::Env;
 use foyer_core_steps::state::Core;
 use foyer_core_steps::step::Step;

@@ -5,9 +5,9 @@ ghost use Rattle.foyer_core_run.specs.Running.{IsFree, Moves, cleans_noted, issu
 
 use super::Asked;
 use super::kept::{Kept, note_ticket, set_due};
-use crate::reclaims::Part;
 use foyer_block_index::manager::BlockId;
 use foyer_block_manager::block::eviction::EvictionPicker;
+use foyer_core_access::reclaims::Part;
 use foyer_core_steps::apply::Env;
 use foyer_core_steps::reply::Reply;
 use foyer_core_steps::state::Core;

@@ -5,9 +5,9 @@ ghost use Rattle.foyer_core_run.specs.Running.{Moves, block_in, write_at};
 
 use super::Asked;
 use super::kept::{Issued, Kept, get_due, note_ticket, set_due};
-use crate::disk::do_write;
 use foyer_block_index::manager::BlockId;
 use foyer_block_manager::block::eviction::EvictionPicker;
+use foyer_core_access::disk::do_write;
 use foyer_core_steps::apply::Env;
 use foyer_core_steps::reply::{Reply, Write};
 use foyer_core_steps::state::Core;

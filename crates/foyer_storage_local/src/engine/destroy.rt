@@ -3,7 +3,7 @@ ghost use Rattle.std.specs.Prelude.{◌≡◌, ◌⊎◌, ◌≤◌, ℕ, true, 
 ghost use Rattle.foyer_core_model.specs.Numbers.{page};
 ghost use Rattle.foyer_core_laws.specs.Content.{meaning};
 ghost use Rattle.foyer_core_run.specs.Destroys.{Cleans, Destroys, IsClearing, IsUncleared};
-ghost use Rattle.foyer_core_run.specs.Reclaims.{IsCleaned};
+ghost use Rattle.foyer_core_access.specs.Reclaims.{IsCleaned};
 ghost use Rattle.foyer_core_run.specs.Waiting.{DrivesBy, Waits};
 ghost use Rattle.foyer_io_disk.specs.Disk.{IsTorn};
 ghost use Rattle.foyer_storage_local.specs.EntryCalls.{IsCleanFault, IsRefusedIfClosed, KeepsLies};

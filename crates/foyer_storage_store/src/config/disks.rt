@@ -16,7 +16,7 @@ use foyer_device_page::error::Result;
 use foyer_device_partition::io::device::Partition;
 use foyer_device_statistics::Recorder;
 use foyer_format_record::serde::{Code, Properties};
-use foyer_io_disk::partitions::PartitionedDisk;
+use foyer_io_blocks::partitions::PartitionedDisk;
 use foyer_io_engine::io::engine::{IoEngine, IoEngineBuildContext, IoEngineConfig};
 use foyer_io_monitor::MonitoredIoEngine;
 use foyer_policy_filter::StorageFilterCondition;
@@ -29,8 +29,8 @@ use foyer_storage_engine::core_steps::apply::Env;
 use foyer_storage_engine::core_steps::open::RecoverMode;
 use foyer_storage_engine::core_steps::settings::Settings;
 use foyer_storage_engine::engine::BlockEngine;
-use foyer_storage_engine::recover::DiskRecoverer;
-use foyer_storage_engine::workers::{
+use foyer_storage_workers::recover::DiskRecoverer;
+use foyer_storage_workers::workers::{
     Clock, FlusherParts, FlusherWorker, ReclaimerParts, ReclaimerWorker,
 };
 use std::alloc::Global;

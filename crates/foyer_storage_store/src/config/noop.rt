@@ -17,8 +17,8 @@ use foyer_storage_engine::core_steps::apply::no_io;
 use foyer_storage_engine::engine::Enqueued;
 use foyer_storage_engine::engine::signals::Signals;
 use foyer_storage_engine::load::Load;
-use foyer_storage_engine::recover::NoRecoverer;
-use foyer_storage_engine::workers::{Clock, NoWorker};
+use foyer_storage_workers::recover::NoRecoverer;
+use foyer_storage_workers::workers::{Clock, NoWorker};
 use std::alloc::{AllocError, Allocator, Global};
 use std::sync::{Arc, Mutex, Wait};
 

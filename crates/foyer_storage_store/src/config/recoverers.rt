@@ -5,7 +5,7 @@ use foyer_block_recover::gate::{Gate, GatedDisk};
 use foyer_device_page::error::Result;
 use foyer_device_partition::io::device::Partition;
 use foyer_io_engine::io::engine::IoEngine;
-use foyer_storage_engine::recover::{DiskRecoverer, Recoverer};
+use foyer_storage_workers::recover::{DiskRecoverer, Recoverer};
 use std::alloc::Global;
 use std::sync::Arc;
 

@@ -4,7 +4,7 @@ use crate::tests::replies::{
     TestAge, TestCore, TestReply, Value, piece_of, say_brief, say_full, say_kind, text_of,
 };
 use foyer_block_index::manager::BlockId;
-use foyer_core_run::disk::{do_read, do_write};
+use foyer_core_access::disk::{do_read, do_write};
 use foyer_core_run::reclaims::reclaim_block;
 use foyer_core_steps::apply::Env;
 use foyer_core_steps::open::RecoverMode;
@@ -13,7 +13,7 @@ use foyer_core_steps::settings::Settings;
 use foyer_core_steps::state::Core;
 use foyer_core_steps::step::{Step, Ticket};
 use foyer_device_page::error::{Error, ErrorKind, Result};
-use foyer_io_disk::memory::MemoryDisk;
+use foyer_io_blocks::memory::MemoryDisk;
 use foyer_testing::failing::Failing;
 use foyer_testing::said::Said;
 use std::alloc::{Allocator, Global};

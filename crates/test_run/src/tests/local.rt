@@ -11,7 +11,7 @@ use foyer_core_steps::open::RecoverMode;
 use foyer_core_steps::settings::Settings;
 use foyer_device_page::error::{Error, Result};
 use foyer_format_record::serde::{Age, Code, HashBuilder, Sink};
-use foyer_io_disk::memory::MemoryDisk;
+use foyer_io_blocks::memory::MemoryDisk;
 use foyer_storage_local::engine::{LocalEngine, MarkLog, NoLog};
 use foyer_storage_local::load::{Enqueued, Load};
 use foyer_testing::said::Said;

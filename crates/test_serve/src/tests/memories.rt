@@ -8,7 +8,7 @@ use foyer_device_page::error::Result;
 use foyer_device_partition::io::device::{
     Device, DeviceBuilder, MemoryDevice, MemoryDeviceBuilder, MemoryPartition,
 };
-use foyer_io_disk::partitions::{PartitionedDisk, create_blocks};
+use foyer_io_blocks::partitions::{PartitionedDisk, create_blocks};
 use foyer_io_engine::io::engine::{
     FaultIoEngine, IoEngineBuildContext, IoEngineConfig, MemoryIoEngine, SharedMemoryIoEngine,
     SharedMemoryIoEngineConfig,

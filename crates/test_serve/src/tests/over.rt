@@ -6,7 +6,7 @@ use foyer_core_steps::open::RecoverMode;
 use foyer_core_steps::settings::Settings;
 use foyer_device_page::error::Result;
 use foyer_device_partition::io::device::MemoryPartition;
-use foyer_io_disk::partitions::PartitionedDisk;
+use foyer_io_blocks::partitions::PartitionedDisk;
 use foyer_io_engine::io::engine::{FaultIoEngine, MemoryIoEngine};
 use foyer_policy_filter::{BuiltInCondition, EstimatedSize, StorageFilter};
 use foyer_serve::engine::{Engine, NoLog};

@@ -20,7 +20,7 @@ use foyer_core_steps::step::Step;
 use foyer_device_page::error::{Error, Result};
 use foyer_device_statistics::IoState;
 use foyer_format_record::serde::NoProperties;
-use foyer_io_disk::memory::MemoryDisk;
+use foyer_io_blocks::memory::MemoryDisk;
 use foyer_policy_filter::{
     BuiltInCondition, StorageFilter, StorageFilterCondition, StorageFilterResult,
 };

@@ -12,7 +12,7 @@ use foyer_core_steps::state::Core;
 use foyer_core_steps::step::Step;
 use foyer_device_page::error::Result;
 use foyer_format_record::serde::NoProperties;
-use foyer_io_disk::memory::MemoryDisk;
+use foyer_io_blocks::memory::MemoryDisk;
 use foyer_policy_piece::keeper::{Piece, PieceRef};
 use foyer_testing::said::Said;
 use std::alloc::Global;

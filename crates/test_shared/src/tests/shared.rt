@@ -7,7 +7,7 @@ use foyer_block_recover::block::listing::Listings;
 use foyer_core_tally::book::{Blanks, Kinds};
 use foyer_device_page::error::{Error, Result};
 use foyer_format_record::serde::{Age, Properties};
-use foyer_io_disk::memory::MemoryDisk;
+use foyer_io_blocks::memory::MemoryDisk;
 use foyer_policy_filter::BuiltInCondition;
 use foyer_policy_piece::keeper::{Piece, PieceRef};
 use foyer_storage_engine::core_shared::locked::Locked;

@@ -19,10 +19,10 @@ use foyer_program::store::builder::StoreBuilder;
 use foyer_program::store::config::{
     BlockEngineConfig, DefaultPickers, Engine, EngineBuildContext, EngineConfig,
 };
-use foyer_program::store::engine::hand::Hand;
-use foyer_program::store::engine::recover::Recoverer;
-use foyer_program::store::engine::workers::{Moment, Worker, Workers};
 use foyer_program::store::session::StoreSession;
+use foyer_program::store::threads::hand::Hand;
+use foyer_program::store::threads::recover::Recoverer;
+use foyer_program::store::threads::workers::{Moment, Worker, Workers};
 use foyer_program::store::whole::WholeSession;
 use foyer_testing::said::Said;
 use std::alloc::Global;

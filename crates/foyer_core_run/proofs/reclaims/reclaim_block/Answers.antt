@@ -5,7 +5,7 @@ use Rattle.foyer_core_steps.specs.Refines.{Refines}
 use Rattle.foyer_core_steps.specs.declared.step.Step.TheVariants as step
 use Rattle.foyer_core_run.specs.AtRest.{KeepsIdle, Without}
 use Rattle.foyer_core_run.specs.Reclaims.{Reclaims}
-use Rattle.foyer_core_run.specs.declared.reclaims.Part.{Part}
+use Rattle.foyer_core_access.specs.declared.reclaims.Part.{Part}
 use Rattle.foyer_core_run.proofs.ReclaimIdle.{begin_over, cleaned_over, forget_over, idle_kept, idle_more, over_behind, unread_picked}
 use Rattle.foyer_core_run.proofs.ReclaimRuns.{IsCleanDone, clean_done, reclaims_kept, reclaims_none, reclaims_whole}
 use Rattle.foyer_core_run.proofs.reclaims.reclaim_block.Goals as goal

@@ -1,4 +1,4 @@
-use Rattle.foyer_core_run.proofs.ReclaimRuns.{zeros_clean}
+use Rattle.foyer_core_access.proofs.CleanLemmas.{zeros_clean}
 use Rattle.foyer_storage_local.proofs.engine.destroy.clean_page.Goals as goal
 
 pub returns-clause-cleaned : goal.returns-clause-cleaned

@@ -1,0 +1,5 @@
+//! What a core asks of a disk, done there once: the reads of tickets and reclaims, the writes of batches, and cleans.
+#![tactic(auto)]
+
+pub mod disk;
+pub mod reclaims;

@@ -1,0 +1,2 @@
+pub mod BlockPlaces
+pub mod PartitionLemmas

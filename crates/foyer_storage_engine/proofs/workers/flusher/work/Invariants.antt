@@ -1,5 +1,0 @@
-use Rattle.std.specs.Prelude.{◌≡◌}
-use Rattle.foyer_storage_engine.proofs.workers.flusher.work.Given as goal
-
-abbrev pub invariant-loop : goal.invariant-loop
-invariant-loop g l = l.session.shares.parts ≡ l.fn.session.shares.parts

@@ -1,0 +1,5 @@
+use Rattle.std.specs.Prelude.{◌≡◌}
+use Rattle.foyer_storage_workers.proofs.workers.flusher.receive_all.Given as goal
+
+abbrev pub invariant-loop : goal.invariant-loop
+invariant-loop g l = l.session.shares.parts ≡ l.fn.session.shares.parts

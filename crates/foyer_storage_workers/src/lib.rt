@@ -1,0 +1,7 @@
+//! The threads of an engine: a worker for each flusher, which writes what is queued, one for each reclaimer, and those that list the
+//! blocks at an opening; and the session that each takes along.
+#![tactic(auto)]
+
+pub mod hand;
+pub mod recover;
+pub mod workers;

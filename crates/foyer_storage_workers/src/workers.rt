@@ -1,0 +1,145 @@
+//! The threads, from their start to their join.
+ghost use Rattle.std.specs.Prelude.{◌≡◌, ◌+◌, ◌<◌, vec_len, OnOk};
+
+mod flusher;
+mod reclaimer;
+
+pub use self::flusher::{FlusherParts, FlusherWorker};
+pub use self::reclaimer::{Clock, Moment, ReclaimerParts, ReclaimerWorker};
+use crate::hand::Hand;
+use foyer_core_shared::session::Session;
+use foyer_core_tally::book::Kinds;
+use foyer_storage_engine::engine::signals::Signals;
+use std::alloc::{AllocError, Global};
+use std::sync::{Arc, Wait};
+use std::thread;
+use std::thread::{JoinHandle, Threads};
+
+/// What a thread of an engine does, which takes a session along, as `Hand` has it.
+pub trait Worker<H: Drop>: Drop {
+    /// Works until its bell is closed and nothing is left to do, and gives its session back.
+    fn work(self, rt: &impl Wait, hand: H) -> H;
+}
+
+/// What an engine without threads has in their place.
+#[derive(Clone, Copy, Debug, PartialEq, Eq)]
+pub struct NoWorker;
+
+impl<H: Drop> Worker<H> for NoWorker {
+    fn work(self, _rt: &impl Wait, hand: H) -> H {
+        hand
+    }
+}
+
+// Starts a worker's thread. AllocError, where none can be made: its part is lost then.
+fn start<L, W, R>(rt: R, worker: W, hand: Hand<L>) -> Result<JoinHandle<Hand<L>>, AllocError>
+where
+    L: Kinds + Send + Sync + 'static,
+    W: Worker<Hand<L>> + Send + 'static,
+    R: Threads + Wait + Copy + Send + 'static,
+{
+    let job = move || worker.work(&rt, hand);
+    Ok(thread::spawn(&rt, job)?)
+}
+
+// Starts a thread for each worker, with a part of the session's each. Where one can't be made those that were stay.
+fn start_each<L, W, R>(
+    rt: R,
+    workers: Vec<W>,
+    session: &mut Session<L>,
+    running: &mut Vec<JoinHandle<Hand<L>>>,
+) -> Result<(), AllocError>
+where
+    L: Kinds + Send + Sync + 'static,
+    W: Worker<Hand<L>> + Send + 'static,
+    R: Threads + Wait + Copy + Send + 'static,
+    requires { vec_len workers < session.old.shares.parts }
+    ensures started { OnOk result (session.new.shares.parts + vec_len running.new ≡ session.old.shares.parts + vec_len running.old) }
+    ensures all { OnOk result (vec_len running.new ≡ vec_len running.old + vec_len workers) }
+{
+    running.reserve(workers.len())?;
+    let mut left = workers;
+    left.reverse();
+    while let Some(worker) = left.pop() {
+        let hand = Hand::of(session);
+        running.push(start(rt, worker, hand)?)?;
+    }
+    Ok(())
+}
+
+/// The running threads of an engine, each of which has one part of the count of steps.
+#[derive(Drop)]
+pub struct Workers<L: Kinds> {
+    signals: Arc<Signals<Global>, Global>,
+    flushers: Vec<JoinHandle<Hand<L>>>,
+    reclaimers: Vec<JoinHandle<Hand<L>>>,
+}
+
+// Joins the threads, and their sessions into this one.
+fn join_all<L: Kinds>(
+    rt: &impl Threads,
+    mut threads: Vec<JoinHandle<Hand<L>>>,
+    session: Session<L>,
+) -> Session<L>
+    ensures { result.shares.parts ≡ session.shares.parts + vec_len threads }
+{
+    let mut all = session;
+    while let Some(thread) = threads.pop() {
+        let hand = thread.join(rt);
+        all.join(hand.into_session());
+    }
+    all
+}
+
+impl<L: Kinds> Workers<L> {
+    /// No thread.
+    pub fn none(signals: Arc<Signals<Global>, Global>, alloc: Global) -> Workers<L>
+        ensures { (vec_len result.flushers ≡ 0) × (vec_len result.reclaimers ≡ 0) }
+    {
+        Workers {
+            signals,
+            flushers: Vec::new(alloc),
+            reclaimers: Vec::new(alloc),
+        }
+    }
+
+    /// Starts a thread for each flusher and each reclaimer. AllocError, where one can't be made: those that were stay.
+    pub fn start<F, W, R>(
+        &mut self,
+        rt: R,
+        flushers: Vec<F>,
+        reclaimers: Vec<W>,
+        session: &mut Session<L>,
+    ) -> Result<(), AllocError>
+    where
+        L: Send + Sync + 'static,
+        F: Worker<Hand<L>> + Send + 'static,
+        W: Worker<Hand<L>> + Send + 'static,
+        R: Threads + Wait + Copy + Send + 'static,
+        requires parts { vec_len flushers + vec_len reclaimers < session.old.shares.parts }
+        requires none { (vec_len self.old.flushers ≡ 0) × (vec_len self.old.reclaimers ≡ 0) }
+        ensures parts { OnOk result (session.new.shares.parts + vec_len self.new.flushers + vec_len self.new.reclaimers ≡ session.old.shares.parts) }
+        ensures all { OnOk result ((vec_len self.new.flushers ≡ vec_len flushers) × (vec_len self.new.reclaimers ≡ vec_len reclaimers)) }
+    {
+        start_each(rt, flushers, session, &mut self.flushers)?;
+        start_each(rt, reclaimers, session, &mut self.reclaimers)
+    }
+
+    /// Has the threads do what is left to do and end, the flushers first, since they may need a reclaim; joins them, and their
+    /// sessions into this one. It comes after the engine's `close`: what is queued later may not be written, and no wait lasts.
+    pub fn join<R: Threads + Wait>(self, rt: &R, session: Session<L>) -> Session<L>
+        ensures { result.shares.parts ≡ session.shares.parts + vec_len self.flushers + vec_len self.reclaimers }
+    {
+        let Workers {
+            signals,
+            flushers,
+            reclaimers,
+        } = self;
+        signals.queued.close(rt);
+        let flushed = join_all(rt, flushers, session);
+        signals.reclaims.close(rt);
+        let all = join_all(rt, reclaimers, flushed);
+        signals.close(rt);
+        all
+    }
+}

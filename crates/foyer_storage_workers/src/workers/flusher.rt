@@ -1,0 +1,405 @@
+//! A flusher's worker: it takes what is queued, writes it in batches, and gives back what was written.
+ghost use Rattle.std.specs.Prelude.{◌≡◌, ◌<◌, length};
+ghost use Rattle.foyer_core_flusher.specs.Issuing.{written_bytes};
+ghost use Rattle.foyer_io_disk.specs.Disk.{SurelyCame};
+ghost use Rattle.foyer_storage_workers.specs.Reporting.{ReportsWrite};
+
+use super::Worker;
+use crate::hand::Hand;
+use foyer_block_index::manager::BlockId;
+use foyer_block_manager::block::eviction::EvictionPicker;
+use foyer_block_recover::gate::{Gate, Point};
+use foyer_block_tombstone::block::tombstone::MarkLog;
+use foyer_core_access::disk::do_write;
+use foyer_core_shared::locked::Locked;
+use foyer_core_shared::notes::Noting;
+use foyer_core_shared::session::Session;
+use foyer_core_steps::apply::no_io;
+use foyer_core_steps::reply::{Reply, Write};
+use foyer_core_steps::step::Step;
+use foyer_core_tally::book::Kinds;
+use foyer_device_page::error::ErrorKind;
+use foyer_format_record::serde::{Code, Properties};
+use foyer_io_disk::disk::Disk;
+use foyer_lock::lock_spinning;
+use foyer_policy_filter::StorageFilterCondition;
+use foyer_policy_keeper::keeper::Keeper;
+use foyer_storage_engine::engine::BlockEngine;
+use std::alloc::{Allocator, Global};
+use std::sync::{Arc, Mutex, Wait};
+use std::thread;
+
+/// What a flusher's worker has of its own, beside the engine.
+#[derive(Drop)]
+pub struct FlusherParts<K: Eq, V, P, A: Allocator, D: Disk + Drop, M: MarkLog + Drop> {
+    /// Its number.
+    pub flusher: u32,
+    /// The disk that it writes to.
+    pub disk: D,
+    /// What all flushers append marks to.
+    pub log: Arc<Mutex<M>, Global>,
+    /// What has the pieces that aren't written yet.
+    pub keeper: Arc<Keeper<K, V, P, A>, Global>,
+}
+
+// Takes the front of the queue: the reply, and whether a flush is wanted then.
+fn receive<L, K, V, P, A, E, C, N>(
+    locked: &mut Locked<L, K, V, P, A, E, C, N>,
+    session: &mut Session<L>,
+    flusher: u32,
+) -> (Reply<K, V, P, A>, bool)
+where
+    L: Kinds,
+    K: Code<A> + Drop,
+    V: Code<A> + Drop,
+    P: Properties + Drop,
+    A: Allocator + Clone,
+    E: EvictionPicker,
+    C: StorageFilterCondition,
+    N: Noting,
+    requires { 0 < session.old.shares.parts }
+    ensures { session.new.shares.parts ≡ session.old.shares.parts }
+{
+    match locked.step(session, no_io(), Step::Receive { flusher }) {
+        Ok(reply) => {
+            let wants_flush = locked.core().wants_flush(flusher);
+            (reply, wants_flush)
+        }
+        Err(step) => (Reply::Refused(ErrorKind::Memory, step), false),
+    }
+}
+
+// How much is taken for a batch at most, so that its pages are written while they are still in the processor's cache.
+const MOST_OF_A_BATCH: u32 = 64;
+
+// Takes what is queued, until nothing is, a batch has enough, or less than half of the buffer is left: whether anything was taken,
+// or is to be tried again for want of memory. A piece that is handed back is released.
+fn receive_all<L, K, V, P, A, E, C, D, G, N>(
+    rt: &impl Wait,
+    engine: &BlockEngine<L, K, V, P, A, E, C, D, G, N>,
+    keeper: &Keeper<K, V, P, A>,
+    flusher: u32,
+    session: &mut Session<L>,
+) -> bool
+where
+    L: Kinds,
+    K: Code<A> + Eq + Drop,
+    V: Code<A> + Drop,
+    P: Properties + Drop,
+    A: Allocator + Clone,
+    E: EvictionPicker,
+    C: StorageFilterCondition,
+    D: Disk + Drop,
+    G: Gate,
+    N: Noting,
+    requires { 0 < session.old.shares.parts }
+    ensures { session.new.shares.parts ≡ session.old.shares.parts }
+{
+    let mut is_busy = false;
+    for _ in 0..MOST_OF_A_BATCH {
+        let (reply, wants_flush) = receive(
+            &mut lock_spinning(engine.shared().locked(), rt),
+            session,
+            flusher,
+        );
+        match reply {
+            Reply::Received(back) => {
+                is_busy = true;
+                if let Some(piece) = back {
+                    keeper.release(rt, piece);
+                }
+                if wants_flush {
+                    return true;
+                }
+            }
+            Reply::Refused(ErrorKind::Memory, _step) => {
+                is_busy = true;
+                thread::yield_now();
+            }
+            _other => return is_busy,
+        }
+    }
+    is_busy
+}
+
+// Does a write of a block, and reports its outcome.
+fn write_one<L, K, V, P, A, E, C, D, G, N, O>(
+    rt: &impl Wait,
+    engine: &BlockEngine<L, K, V, P, A, E, C, D, G, N>,
+    disk: &mut O,
+    flusher: u32,
+    session: &mut Session<L>,
+    block: BlockId,
+    write: &Write<A>,
+) -> Reply<K, V, P, A>
+where
+    L: Kinds,
+    K: Code<A> + Drop,
+    V: Code<A> + Drop,
+    P: Properties + Drop,
+    A: Allocator + Clone,
+    E: EvictionPicker,
+    C: StorageFilterCondition,
+    D: Disk + Drop,
+    G: Gate,
+    N: Noting,
+    O: Disk,
+    requires { 0 < session.old.shares.parts }
+    ensures parts { session.new.shares.parts ≡ session.old.shares.parts }
+    ensures reports { O.is_known disk.old → ReportsWrite flusher block write.now.offset (written_bytes write.now.bytes) (O.byte_at disk.old) (O.byte_at disk.new)
+        (SurelyCame (O.surely_has disk.old) (O.surely_lies disk.old) (O.faults disk.old) (O.faults disk.new)
+        block write.now.offset (length (written_bytes write.now.bytes))) session.new }
+{
+    let result = do_write(disk, block, write);
+    let step = Step::FlushWrote { flusher, result };
+    engine.step_again(rt, session, no_io(), step)
+}
+
+// Does a block's writes, and reports each, until one fails or ends the block.
+fn write_block<L, K, V, P, A, E, C, D, G, N, O>(
+    rt: &impl Wait,
+    engine: &BlockEngine<L, K, V, P, A, E, C, D, G, N>,
+    disk: &mut O,
+    flusher: u32,
+    session: &mut Session<L>,
+    block: BlockId,
+    writes: &[Write<A>],
+)
+where
+    L: Kinds,
+    K: Code<A> + Drop,
+    V: Code<A> + Drop,
+    P: Properties + Drop,
+    A: Allocator + Clone,
+    E: EvictionPicker,
+    C: StorageFilterCondition,
+    D: Disk + Drop,
+    G: Gate,
+    N: Noting,
+    O: Disk,
+    requires { 0 < session.old.shares.parts }
+    ensures { session.new.shares.parts ≡ session.old.shares.parts }
+{
+    if writes.is_empty() {
+        return;
+    }
+    engine.gate().pass(Point::FlushWrite);
+    'writes: for write in writes {
+        match write_one(rt, engine, disk, flusher, session, block, write) {
+            Reply::Next => {}
+            Reply::Failed => {
+                // The flusher leaves the block.
+                engine.signals().reclaims.ring(rt);
+                return;
+            }
+            _ => return,
+        }
+    }
+}
+
+// Writes the blocks of a batch, and waits for a block where none is clean. A reclaim may begin where the flusher leaves its own
+// block for another, since that takes a clean one and the other may be evicted: `own` is the block that it wrote last.
+fn write_batch<L, K, V, P, A, E, C, D, G, N, O>(
+    rt: &impl Wait,
+    engine: &BlockEngine<L, K, V, P, A, E, C, D, G, N>,
+    disk: &mut O,
+    flusher: u32,
+    own: &mut Option<BlockId>,
+    session: &mut Session<L>,
+)
+where
+    L: Kinds,
+    K: Code<A> + Drop,
+    V: Code<A> + Drop,
+    P: Properties + Drop,
+    A: Allocator + Clone,
+    E: EvictionPicker,
+    C: StorageFilterCondition,
+    D: Disk + Drop,
+    G: Gate,
+    N: Noting,
+    O: Disk,
+    requires { 0 < session.old.shares.parts }
+    ensures { session.new.shares.parts ≡ session.old.shares.parts }
+{
+    for _ in rt.forever() {
+        let seen = engine.signals().done.count(rt);
+        match engine.step_again(rt, session, no_io(), Step::FlushBlock { flusher }) {
+            Reply::Write { block, writes } => {
+                if *own != Some(block) {
+                    *own = Some(block);
+                    engine.signals().reclaims.ring(rt);
+                }
+                write_block(rt, engine, disk, flusher, session, block, &writes);
+            }
+            Reply::NoBlock => {
+                *own = None;
+                engine.signals().reclaims.ring(rt);
+                let _ = engine.signals().done.wait_past(rt, seen);
+            }
+            _ => return,
+        }
+    }
+    unreachable!()
+}
+
+// Ends a batch: its pieces are released in order, then its waits are answered.
+fn end_batch<L, K, V, P, A, E, C, D, G, N>(
+    rt: &impl Wait,
+    engine: &BlockEngine<L, K, V, P, A, E, C, D, G, N>,
+    keeper: &Keeper<K, V, P, A>,
+    flusher: u32,
+    session: &mut Session<L>,
+)
+where
+    L: Kinds,
+    K: Code<A> + Eq + Drop,
+    V: Code<A> + Drop,
+    P: Properties + Drop,
+    A: Allocator + Clone,
+    E: EvictionPicker,
+    C: StorageFilterCondition,
+    D: Disk + Drop,
+    G: Gate,
+    N: Noting,
+    requires { 0 < session.old.shares.parts }
+    ensures { session.new.shares.parts ≡ session.old.shares.parts }
+{
+    if let Reply::Ended { pieces, waits } = engine.step_again(
+        rt,
+        session,
+        no_io(),
+        Step::FlushEnd { flusher },
+    ) {
+        for piece in pieces {
+            keeper.release(rt, piece);
+        }
+        'waits: for id in &waits {
+            engine.signals().waits.answer(rt, *id);
+        }
+    }
+    engine.signals().done.ring(rt);
+}
+
+// Takes what is queued, and writes it as one batch: whether there was anything to do.
+fn flush<L, K, V, P, A, E, C, D, G, N, O, M>(
+    rt: &impl Wait,
+    engine: &BlockEngine<L, K, V, P, A, E, C, D, G, N>,
+    parts: &mut FlusherParts<K, V, P, A, O, M>,
+    own: &mut Option<BlockId>,
+    session: &mut Session<L>,
+) -> bool
+where
+    L: Kinds,
+    K: Code<A> + Eq + Drop,
+    V: Code<A> + Drop,
+    P: Properties + Drop,
+    A: Allocator + Clone,
+    E: EvictionPicker,
+    C: StorageFilterCondition,
+    D: Disk + Drop,
+    G: Gate,
+    N: Noting,
+    O: Disk + Drop,
+    M: MarkLog + Drop,
+    requires { 0 < session.old.shares.parts }
+    ensures { session.new.shares.parts ≡ session.old.shares.parts }
+{
+    let flusher = parts.flusher;
+    let is_busy = receive_all(rt, engine, &*parts.keeper, flusher, session);
+    let begin = Step::FlushBegin { flusher };
+    let marks = match engine.step_again(rt, session, no_io(), begin) {
+        Reply::Began { blocks: _, marks } => marks,
+        _ => return is_busy,
+    };
+    if engine.settings().tombstone_log {
+        let result = parts.log.lock(rt).append_marks(&marks);
+        let wrote = Step::LogWrote { flusher, result };
+        let _ = engine.step_again(rt, session, no_io(), wrote);
+    }
+    write_batch(rt, engine, &mut parts.disk, flusher, own, session);
+    end_batch(rt, engine, &*parts.keeper, flusher, session);
+    true
+}
+
+// Flushes until the bell of what is queued is closed, and nothing is left.
+fn work<L, K, V, P, A, E, C, D, G, N, O, M>(
+    rt: &impl Wait,
+    engine: &BlockEngine<L, K, V, P, A, E, C, D, G, N>,
+    mut parts: FlusherParts<K, V, P, A, O, M>,
+    session: &mut Session<L>,
+)
+where
+    L: Kinds,
+    K: Code<A> + Eq + Drop,
+    V: Code<A> + Drop,
+    P: Properties + Drop,
+    A: Allocator + Clone,
+    E: EvictionPicker,
+    C: StorageFilterCondition,
+    D: Disk + Drop,
+    G: Gate,
+    N: Noting,
+    O: Disk + Drop,
+    M: MarkLog + Drop,
+    requires { 0 < session.old.shares.parts }
+    ensures { session.new.shares.parts ≡ session.old.shares.parts }
+{
+    let mut is_closed = false;
+    let mut own = None;
+    for _ in rt.forever() {
+        let seen = engine.signals().queued.count(rt);
+        if flush(rt, engine, &mut parts, &mut own, session) {
+            continue;
+        }
+        if is_closed {
+            return;
+        }
+        is_closed = engine.signals().queued.wait_past(rt, seen);
+    }
+}
+
+/// A flusher's worker, before its thread is started.
+#[derive(Drop)]
+pub struct FlusherWorker<L, K, V, P, E, C, D, G, N, O, M>
+where
+    L: Kinds,
+    K: Code<Global> + Eq,
+    V: Code<Global>,
+    P: Properties + Drop,
+    E: EvictionPicker,
+    C: StorageFilterCondition,
+    D: Disk + Drop,
+    G: Gate,
+    N: Noting,
+    O: Disk + Drop,
+    M: MarkLog + Drop,
+{
+    /// The engine.
+    pub engine: Arc<BlockEngine<L, K, V, P, Global, E, C, D, G, N>, Global>,
+    /// What the worker has of its own.
+    pub parts: FlusherParts<K, V, P, Global, O, M>,
+}
+
+impl<L, K, V, P, E, C, D, G, N, O, M> Worker<Hand<L>>
+    for FlusherWorker<L, K, V, P, E, C, D, G, N, O, M>
+where
+    L: Kinds,
+    K: Code<Global> + Eq + Drop,
+    V: Code<Global> + Drop,
+    P: Properties + Drop,
+    E: EvictionPicker,
+    C: StorageFilterCondition,
+    D: Disk + Drop,
+    G: Gate,
+    N: Noting,
+    O: Disk + Drop,
+    M: MarkLog + Drop,
+{
+    fn work(self, rt: &impl Wait, hand: Hand<L>) -> Hand<L> {
+        let FlusherWorker { engine, parts } = self;
+        let mut session = hand.into_session();
+        work(rt, &*engine, parts, &mut session);
+        Hand::from_session(session)
+    }
+}

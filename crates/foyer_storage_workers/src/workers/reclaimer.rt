@@ -1,0 +1,258 @@
+//! A reclaimer's worker: it reclaims blocks, one at a time.
+ghost use Rattle.std.specs.Prelude.{◌≡◌, ◌<◌, IfOk, vec_len};
+ghost use Rattle.foyer_core_model.specs.Numbers.{page};
+ghost use Rattle.foyer_io_disk.specs.Disk.{IsRead, SurelyCame};
+ghost use Rattle.foyer_storage_workers.specs.Reporting.{ReportsClean};
+
+use super::Worker;
+use crate::hand::Hand;
+use foyer_block_index::manager::BlockId;
+use foyer_block_manager::block::eviction::EvictionPicker;
+use foyer_block_recover::gate::{Gate, Point};
+use foyer_core_access::reclaims::{BlockCleaner, Part, next_part, read_bytes};
+use foyer_core_shared::notes::Noting;
+use foyer_core_shared::session::Session;
+use foyer_core_steps::apply::no_io;
+use foyer_core_steps::reply::Reply;
+use foyer_core_steps::step::Step;
+use foyer_core_tally::book::Kinds;
+use foyer_device_page::error::{Error, Result};
+use foyer_device_statistics::Recorder;
+use foyer_format_record::serde::{Code, Properties};
+use foyer_io_disk::disk::Disk;
+use foyer_policy_filter::StorageFilterCondition;
+use foyer_storage_engine::engine::BlockEngine;
+use std::alloc::{Allocator, Global};
+use std::sync::{Arc, Wait};
+use std::thread;
+
+/// What gives the moment.
+pub trait Clock: Drop {
+    /// The moment, in nanoseconds.
+    fn now(&self) -> u64;
+}
+
+/// A clock that stands still.
+#[derive(Clone, Copy, Debug, Default, PartialEq, Eq)]
+pub struct Moment(pub u64);
+
+impl Clock for Moment {
+    fn now(&self) -> u64 {
+        self.0
+    }
+}
+
+/// What a reclaimer's worker has of its own, beside the engine.
+#[derive(Drop)]
+pub struct ReclaimerParts<A: Allocator, D: Disk + Drop, T: Clock> {
+    /// The disk that it reads and cleans.
+    pub disk: D,
+    /// What shows the filter of reinsertions what the device did and has callers wait for.
+    pub recorder: Recorder<A>,
+    /// What gives the moment.
+    pub clock: T,
+}
+
+// Reads a part of a block, again while memory is refused for it.
+fn read_again<A: Allocator + Clone, O: Disk>(
+    rt: &impl Wait,
+    alloc: &A,
+    disk: &mut O,
+    block: BlockId,
+    part: Part,
+) -> Result<Vec<u8, A>>
+    ensures read { O.is_known disk.old → IfOk result (λ bytes. IsRead (O.byte_at disk.old) block part.offset bytes.items) }
+    ensures len { IfOk result (λ bytes. vec_len bytes ≡ part.len) }
+    ensures known { O.is_known disk.old → O.is_known disk.new }
+    ensures same { O.byte_at disk.new ≡ O.byte_at disk.old }
+{
+    for _ in rt.forever() {
+        match read_bytes(alloc, disk, block, part) {
+            Err(Error::Memory) => thread::yield_now(),
+            outcome => return outcome,
+        }
+    }
+    unreachable!()
+}
+
+// Reads what the reclaim of a block asks for, from its first index on.
+fn read_block<L, K, V, P, A, E, C, D, G, N, O, T>(
+    rt: &impl Wait,
+    engine: &BlockEngine<L, K, V, P, A, E, C, D, G, N>,
+    parts: &mut ReclaimerParts<A, O, T>,
+    session: &mut Session<L>,
+    block: BlockId,
+)
+where
+    L: Kinds,
+    K: Code<A> + Drop,
+    V: Code<A> + Drop,
+    P: Properties + Drop,
+    A: Allocator + Clone,
+    E: EvictionPicker,
+    C: StorageFilterCondition,
+    D: Disk + Drop,
+    G: Gate,
+    N: Noting,
+    O: Disk + Drop,
+    T: Clock,
+    requires { 0 < session.old.shares.parts }
+    ensures { session.new.shares.parts ≡ session.old.shares.parts }
+{
+    let mut part = Part {
+        offset: 0,
+        len: engine.settings().blob_index_size,
+    };
+    for _ in rt.forever() {
+        let result = read_again(rt, engine.allocator(), &mut parts.disk, block, part);
+        let io = parts.recorder.io_state(rt, parts.clock.now());
+        let reply = engine.step_again(rt, session, io, Step::ReclaimRead { block, result });
+        match next_part(&reply) {
+            Some(next) => part = next,
+            None => return,
+        }
+    }
+}
+
+// Cleans a block that is reclaimed, and reports the outcome.
+fn clean<L, K, V, P, A, E, C, D, G, N, O>(
+    rt: &impl Wait,
+    engine: &BlockEngine<L, K, V, P, A, E, C, D, G, N>,
+    disk: &mut O,
+    session: &mut Session<L>,
+    block: BlockId,
+)
+where
+    L: Kinds,
+    K: Code<A> + Drop,
+    V: Code<A> + Drop,
+    P: Properties + Drop,
+    A: Allocator + Clone,
+    E: EvictionPicker,
+    C: StorageFilterCondition,
+    D: Disk + Drop,
+    G: Gate,
+    N: Noting,
+    O: Disk,
+    requires { 0 < session.old.shares.parts }
+    ensures parts { session.new.shares.parts ≡ session.old.shares.parts }
+    ensures reports { O.is_known disk.old → ReportsClean block (O.byte_at disk.old) (O.byte_at disk.new)
+        (SurelyCame (O.surely_has disk.old) (O.surely_lies disk.old) (O.faults disk.old) (O.faults disk.new) block 0 page) session.new }
+{
+    let result = BlockCleaner::clean(disk, block);
+    let cleaned = Step::ReclaimCleaned { block, result };
+    let _ = engine.step_again(rt, session, no_io(), cleaned);
+}
+
+// Reads a block that is reclaimed, then has its entries forgotten, and cleans it.
+fn reclaim<L, K, V, P, A, E, C, D, G, N, O, T>(
+    rt: &impl Wait,
+    engine: &BlockEngine<L, K, V, P, A, E, C, D, G, N>,
+    parts: &mut ReclaimerParts<A, O, T>,
+    session: &mut Session<L>,
+    block: BlockId,
+)
+where
+    L: Kinds,
+    K: Code<A> + Drop,
+    V: Code<A> + Drop,
+    P: Properties + Drop,
+    A: Allocator + Clone,
+    E: EvictionPicker,
+    C: StorageFilterCondition,
+    D: Disk + Drop,
+    G: Gate,
+    N: Noting,
+    O: Disk + Drop,
+    T: Clock,
+    requires { 0 < session.old.shares.parts }
+    ensures { session.new.shares.parts ≡ session.old.shares.parts }
+{
+    engine.gate().pass(Point::Reclaim);
+    read_block(rt, engine, parts, session, block);
+    engine.signals().queued.ring(rt);
+    let _ = engine.step_again(rt, session, no_io(), Step::ReclaimForget { block });
+    clean(rt, engine, &mut parts.disk, session, block);
+    engine.signals().done.ring(rt);
+}
+
+// Reclaims until the bell of reclaims is closed, and none may begin.
+fn work<L, K, V, P, A, E, C, D, G, N, O, T>(
+    rt: &impl Wait,
+    engine: &BlockEngine<L, K, V, P, A, E, C, D, G, N>,
+    mut parts: ReclaimerParts<A, O, T>,
+    session: &mut Session<L>,
+)
+where
+    L: Kinds,
+    K: Code<A> + Drop,
+    V: Code<A> + Drop,
+    P: Properties + Drop,
+    A: Allocator + Clone,
+    E: EvictionPicker,
+    C: StorageFilterCondition,
+    D: Disk + Drop,
+    G: Gate,
+    N: Noting,
+    O: Disk + Drop,
+    T: Clock,
+    requires { 0 < session.old.shares.parts }
+    ensures { session.new.shares.parts ≡ session.old.shares.parts }
+{
+    for _ in rt.forever() {
+        let seen = engine.signals().reclaims.count(rt);
+        match engine.step_again(rt, session, no_io(), Step::ReclaimBegin) {
+            Reply::Picked { block, .. } => reclaim(rt, engine, &mut parts, session, block),
+            _ => {
+                if engine.signals().reclaims.wait_past(rt, seen) {
+                    return;
+                }
+            }
+        }
+    }
+}
+
+/// A reclaimer's worker, before its thread is started.
+#[derive(Drop)]
+pub struct ReclaimerWorker<L, K, V, P, E, C, D, G, N, O, T>
+where
+    L: Kinds,
+    K: Code<Global>,
+    V: Code<Global>,
+    P: Properties + Drop,
+    E: EvictionPicker,
+    C: StorageFilterCondition,
+    D: Disk + Drop,
+    G: Gate,
+    N: Noting,
+    O: Disk + Drop,
+    T: Clock,
+{
+    /// The engine.
+    pub engine: Arc<BlockEngine<L, K, V, P, Global, E, C, D, G, N>, Global>,
+    /// What the worker has of its own.
+    pub parts: ReclaimerParts<Global, O, T>,
+}
+
+impl<L, K, V, P, E, C, D, G, N, O, T> Worker<Hand<L>>
+    for ReclaimerWorker<L, K, V, P, E, C, D, G, N, O, T>
+where
+    L: Kinds,
+    K: Code<Global> + Drop,
+    V: Code<Global> + Drop,
+    P: Properties + Drop,
+    E: EvictionPicker,
+    C: StorageFilterCondition,
+    D: Disk + Drop,
+    G: Gate,
+    N: Noting,
+    O: Disk + Drop,
+    T: Clock,
+{
+    fn work(self, rt: &impl Wait, hand: Hand<L>) -> Hand<L> {
+        let ReclaimerWorker { engine, parts } = self;
+        let mut session = hand.into_session();
+        work(rt, &*engine, parts, &mut session);
+        Hand::from_session(session)
+    }
+}

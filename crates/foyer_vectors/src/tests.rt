@@ -1,5 +1,0 @@
-mod destroys;
-mod program;
-mod program_sweeps;
-mod readme;
-mod sweeps;

@@ -1,2 +1,0 @@
-mod recover;
-pub(crate) mod restart;
