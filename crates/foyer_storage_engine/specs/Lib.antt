@@ -7,5 +7,6 @@ pub mod Kept
 pub mod Entering
 pub mod Ending
 pub mod Waiting
+pub mod Reporting
 pub mod Calls
 pub use Rattle.foyer_core_shared.specs.Sessions

@@ -9,5 +9,6 @@ pub mod engine;
 pub mod enqueue;
 pub mod load;
 
+pub use foyer_core_access as core_access;
 pub use foyer_core_shared as core_shared;
 pub use foyer_core_steps as core_steps;

@@ -1,8 +1,8 @@
 //! A session that goes through a thread.
 ghost use Rattle.std.specs.Prelude.{◌≡◌, ◌+◌, ◌<◌};
 
-use foyer_core_shared::session::Session;
 use foyer_core_tally::book::Kinds;
+use foyer_storage_engine::core_shared::session::Session;
 
 /// A session with one part, which a thread takes along and gives back.
 #[derive(Drop)]

@@ -3,9 +3,9 @@ ghost use Rattle.foyer_block_recover.specs.Sources.{listing_in};
 ghost use Rattle.std.specs.Prelude.{◌≡◌, ◌<◌, ◌≤◌, ℕ, IsSome, slice_get, vec_len};
 
 use foyer_block_recover::block::listing::{BlockListing, Listings};
-use foyer_core_steps::open::{RecoverMode, runner_of};
-use foyer_core_steps::settings::Settings;
 use foyer_io_disk::disk::Disk;
+use foyer_storage_engine::core_steps::open::{RecoverMode, runner_of};
+use foyer_storage_engine::core_steps::settings::Settings;
 use std::alloc::Global;
 use std::sync::Wait;
 use std::thread;
