@@ -1,11 +1,10 @@
 -- A reclaim's steps and accesses are events of the world.
-use Rattle.std.proofs.Common.{◌≡◌, ℕ, zero, suc, ◌+◌, ◌<◌, ◌≤◌, Bool, true, false, if◌then◌else◌, List, [], ◌∷◌, ◌++◌, inl, inr, length, replicate, slice_index, Option, Some, None, Result, Ok, Err, refl, sym, ap, subst, ◌∙◌, arith}
+use Rattle.std.proofs.Common.{◌≡◌, ℕ, ◌+◌, ◌<◌, ◌≤◌, Bool, true, false, if◌then◌else◌, List, [], ◌∷◌, ◌++◌, inl, inr, length, Option, Some, None, Result, Ok, Err, refl, sym, ap, subst, ◌∙◌, arith}
 use Rattle.std.proofs.lemmas.Bool.Decides.{nat_tests}
-use Rattle.std.proofs.lemmas.List.{length-replicate}
 use Rattle.std.specs.Prelude.{IfOk, OnOk, OnErr, nat_lt, vec_len}
 use Rattle.std.specs.declared.vec.Vec.{Vec}
 use Rattle.foyer_device_page.specs.declared.error.Error.{Error}
-use Rattle.foyer_io_disk.specs.Disk.{IsRead, IsTorn, IsWritten}
+use Rattle.foyer_io_disk.specs.Disk.{IsRead, IsTorn}
 use Rattle.foyer_core_model.specs.Access.{ReadState, ReadIssued, Reading, ReadDone, Scan, CleanIssued, CleanInFlight, CleanDone, at_scan, begun, came, clean_begun, clean_ended, cleaned_page, bytes_cleaned, cleans_after, scans_after, IsRead as IsReadFrom, IsTornClean}
 use Rattle.foyer_core_model.specs.Numbers.{page, put}
 use Rattle.foyer_core_model.specs.Reply as model_reply

@@ -1,5 +1,5 @@
 -- A reclaim of a block, with its accesses in their place.
-use Rattle.std.specs.Prelude.{◌≡◌, ◌⊎◌, ℕ, ◌<◌, List, [], ◌∷◌, ◌++◌, Option, Some, None}
+use Rattle.std.specs.Prelude.{◌≡◌, ◌⊎◌, ℕ, List, [], ◌∷◌, ◌++◌, Option, Some, None}
 use Rattle.foyer_core_run.specs.AtRest.{KeepsIdle}
 use Rattle.foyer_core_model.specs.Access.{ReadIssued}
 use Rattle.foyer_core_model.specs.Reply as model_reply

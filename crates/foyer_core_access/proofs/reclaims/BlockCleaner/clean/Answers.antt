@@ -1,4 +1,3 @@
-use Rattle.std.proofs.Common.{◌<◌, refl, sym, ◌∙◌, arith}
 use Rattle.foyer_core_access.proofs.CleanLemmas.{zeros_clean}
 use Rattle.foyer_core_access.proofs.reclaims.BlockCleaner.clean.Goals as goal
 
