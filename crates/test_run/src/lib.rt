@@ -1,6 +1,5 @@
-//! Tests of a core over a disk, step by step: of recovery over forged and random blocks, of what an opening finds on a stopped run's
-//! bytes, of a core whose memory is refused at any place, and of an engine whose keys, values, pickers, conditions and hashers are
-//! careless.
+//! Tests of a core over a disk, step by step; of a core whose memory is refused at any place; and of an engine whose keys, values,
+//! pickers, conditions and hashers are careless.
 #![tactic(auto)]
 
 #[cfg(test)]

@@ -1,0 +1,2 @@
+mod recover;
+pub(crate) mod restart;
