@@ -1,4 +1,4 @@
-//! What a core asks of a disk, done there once: the reads of tickets and reclaims, the writes of batches, and cleans.
+//! What a core asks of a disk: the reads of tickets and reclaims, the writes of batches, and cleans.
 #![tactic(auto)]
 
 pub mod disk;
