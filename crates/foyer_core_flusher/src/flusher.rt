@@ -42,7 +42,6 @@ use std::collections::VecDeque;
 use std::mem;
 
 /// One flusher: its queue, what it received since the batch before, and its batch. Its fields are public for the core alone.
-#[derive(Drop)]
 pub struct Flusher<K, V, P, A: Allocator> {
     /// What waits for it, the oldest first.
     pub queue: VecDeque<Submission<K, V, P, A>, A>,
@@ -68,6 +67,25 @@ pub struct Flusher<K, V, P, A: Allocator> {
     pub batch: Option<Batch<K, V, P, A>>,
     ghost fits: { context.sizes.index + filled.greatest ≤ context.sizes.block },
     ghost small: { context.sizes.block ≤ 2 ^ 32 },
+}
+
+// Written out, so that it is proved once.
+impl<K: Drop, V: Drop, P: Drop, A: Allocator> Drop for Flusher<K, V, P, A> {
+    fn drop(self) {
+        let Flusher {
+            queue: _,
+            filled: _,
+            sources: _,
+            spare: _,
+            marks: _,
+            invalid: _,
+            pieces: _,
+            waits: _,
+            context: _,
+            own: _,
+            batch: _,
+        } = self;
+    }
 }
 
 impl<K, V, P, A: Allocator> Flusher<K, V, P, A> {

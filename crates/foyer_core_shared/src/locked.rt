@@ -34,11 +34,21 @@ use std::marker::{Model, PhantomData};
 
 /// A caller's shares of the book of steps, and what it asked last. Contracts see of how many parts each share is, and how many
 /// steps of each kind were noted with it.
-#[derive(Drop)]
 pub struct Session<L: Kinds> {
     shares: Shares<L>,
     newest: Option<Brief>,
     before: Option<Brief>,
+}
+
+// Written out, so that it is proved once.
+impl<L: Kinds> Drop for Session<L> {
+    fn drop(self) {
+        let Session {
+            shares: _,
+            newest: _,
+            before: _,
+        } = self;
+    }
 }
 
 impl<L: Kinds> Model for Session<L> {
@@ -129,7 +139,6 @@ impl<L: Kinds> Session<L> {
 
 /// A core, the book of the steps that were made of it, by their kinds, and, where `N` says so, their notes. Some history of such
 /// steps leads from an opening to the core.
-#[derive(Drop)]
 pub struct NotedCore<L, K, V, P, A, N>
 where
     L: Kinds,
@@ -143,6 +152,26 @@ where
     notes: Option<Notes<A>>,
     calls: Books<L>,
     noting: PhantomData<N>,
+}
+
+// Written out, so that it is proved once.
+impl<L, K, V, P, A, N> Drop for NotedCore<L, K, V, P, A, N>
+where
+    L: Kinds,
+    K: Code<A> + Drop,
+    V: Code<A> + Drop,
+    P: Properties + Drop,
+    A: Allocator,
+    N: Noting,
+{
+    fn drop(self) {
+        let NotedCore {
+            core: _,
+            notes: _,
+            calls: _,
+            noting: _,
+        } = self;
+    }
 }
 
 impl<L, K, V, P, A, N> Model for NotedCore<L, K, V, P, A, N>
@@ -173,7 +202,6 @@ where
 }
 
 /// A noted core with what it is lent at each step.
-#[derive(Drop)]
 pub struct Locked<L, K, V, P, A, E, C, N>
 where
     L: Kinds,
@@ -187,6 +215,23 @@ where
 {
     noted: NotedCore<L, K, V, P, A, N>,
     env: Env<E, C>,
+}
+
+// Written out, so that it is proved once.
+impl<L, K, V, P, A, E, C, N> Drop for Locked<L, K, V, P, A, E, C, N>
+where
+    L: Kinds,
+    K: Code<A> + Drop,
+    V: Code<A> + Drop,
+    P: Properties + Drop,
+    A: Allocator,
+    E: EvictionPicker,
+    C: StorageFilterCondition,
+    N: Noting,
+{
+    fn drop(self) {
+        let Locked { noted: _, env: _ } = self;
+    }
 }
 
 // No note yet, where notes are kept.

@@ -50,11 +50,21 @@ impl Noting for NoNotes {
 }
 
 /// Notes, in the order of their steps. They lie in chunks, so that making room copies none of them.
-#[derive(Drop)]
 pub struct Notes<A: Allocator> {
     pub(crate) full: Vec<Vec<Brief, A>, A>,
     pub(crate) last: Vec<Brief, A>,
     alloc: A,
+}
+
+// Written out, so that it is proved once.
+impl<A: Allocator> Drop for Notes<A> {
+    fn drop(self) {
+        let Notes {
+            full: _,
+            last: _,
+            alloc: _,
+        } = self;
+    }
 }
 
 impl<A: Allocator + Clone> Notes<A> {

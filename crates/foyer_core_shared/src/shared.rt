@@ -27,7 +27,6 @@ use std::alloc::{Allocator, Global};
 use std::sync::{Mutex, Wait};
 
 /// A core behind one lock. Threads share it by reference, and each asks it with a session of its own.
-#[derive(Drop)]
 pub struct Shared<L, K, V, P, A, E, C, N>
 where
     L: Kinds,
@@ -40,6 +39,23 @@ where
     N: Noting,
 {
     inside: Mutex<Locked<L, K, V, P, A, E, C, N>>,
+}
+
+// Written out, so that it is proved once.
+impl<L, K, V, P, A, E, C, N> Drop for Shared<L, K, V, P, A, E, C, N>
+where
+    L: Kinds,
+    K: Code<A> + Drop,
+    V: Code<A> + Drop,
+    P: Properties + Drop,
+    A: Allocator,
+    E: EvictionPicker,
+    C: StorageFilterCondition,
+    N: Noting,
+{
+    fn drop(self) {
+        let Shared { inside: _ } = self;
+    }
 }
 
 impl<L, K, V, P, A, E, C, N> Shared<L, K, V, P, A, E, C, N>

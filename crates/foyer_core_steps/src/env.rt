@@ -22,7 +22,6 @@ use std::time::Duration;
 /// reclaimed next, the generator that chooses where none of them picks, and the filter of which records of a reclaimed block
 /// are written again. Pickers and conditions are those of this project, or of the caller's own types, boxed ones among them
 /// (`foyer_block_manager`'s `AnyPicker`, `foyer_policy_filter`'s `AnyCondition`).
-#[derive(Drop)]
 pub struct Env<E: EvictionPicker = BuiltInPicker, C: StorageFilterCondition = BuiltInCondition> {
     pub(crate) pickers: Vec<E>,
     // The ids that pickers learn of, or put on probation.
@@ -32,6 +31,19 @@ pub struct Env<E: EvictionPicker = BuiltInPicker, C: StorageFilterCondition = Bu
     pub(crate) reinsertion: Option<StorageFilter<C, Global>>,
     // What the device did and has callers wait for, as the filter is shown it.
     pub(crate) io: IoState,
+}
+
+// Written out, so that it is proved once.
+impl<E: EvictionPicker, C: StorageFilterCondition> Drop for Env<E, C> {
+    fn drop(self) {
+        let Env {
+            pickers: _,
+            own: _,
+            generator: _,
+            reinsertion: _,
+            io: _,
+        } = self;
+    }
 }
 
 /// Of a device that did nothing, and where nothing is to be waited for: what a filter is shown that nobody showed another.

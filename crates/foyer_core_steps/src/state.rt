@@ -10,7 +10,6 @@ use foyer_core_flusher::flusher::Flusher;
 use std::alloc::Allocator;
 
 /// The engine's state. `Core::apply` changes it.
-#[derive(Drop)]
 pub struct Core<K, V, P, A: Allocator> {
     pub(crate) alloc: A,
     pub(crate) settings: Settings,
@@ -31,6 +30,25 @@ pub struct Core<K, V, P, A: Allocator> {
     ghost some_flusher: { 0 < vec_len flushers },
     ghost all_flushers: { length manager.ready ≡ vec_len flushers },
     ghost small_blocks: { settings.block_size ≤ 2 ^ 32 },
+}
+
+// Written out, so that it is proved once.
+impl<K: Drop, V: Drop, P: Drop, A: Allocator> Drop for Core<K, V, P, A> {
+    fn drop(self) {
+        let Core {
+            alloc: _,
+            settings: _,
+            index: _,
+            next: _,
+            steps: _,
+            closed: _,
+            queued: _,
+            flushers: _,
+            manager: _,
+            reclaims: _,
+            destroy: _,
+        } = self;
+    }
 }
 
 impl<K, V, P, A: Allocator> Core<K, V, P, A> {

@@ -16,10 +16,19 @@ use std::sync::{Arc, Wait};
 use std::time::Duration;
 
 /// What a caller carries to record and to read, with no word of which counters these are.
-#[derive(Drop)]
 pub struct Recorder<A: Allocator> {
     seat: Seat,
     statistics: Arc<Statistics<A>, A>,
+}
+
+// Written out, so that it is proved once.
+impl<A: Allocator> Drop for Recorder<A> {
+    fn drop(self) {
+        let Recorder {
+            seat: _,
+            statistics: _,
+        } = self;
+    }
 }
 
 impl<A: Allocator> Model for Recorder<A> {

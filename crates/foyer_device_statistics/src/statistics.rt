@@ -45,12 +45,23 @@ impl Model for Seat {
 }
 
 /// The counters and the limits of a device.
-#[derive(Drop)]
 pub struct Statistics<A: Allocator> {
     table: Table<(), View, (), Counts, A>,
     throttle: Throttle,
     writes: Mutex<Meters>,
     reads: Mutex<Meters>,
+}
+
+// Written out, so that it is proved once.
+impl<A: Allocator> Drop for Statistics<A> {
+    fn drop(self) {
+        let Statistics {
+            table: _,
+            throttle: _,
+            writes: _,
+            reads: _,
+        } = self;
+    }
 }
 
 impl<A: Allocator> Model for Statistics<A> {

@@ -10,7 +10,6 @@ use foyer_io_engine::io::engine::MemoryFile;
 use std::alloc::Allocator;
 
 /// The blocks of a device in one piece of memory. What was never written is zeros.
-#[derive(Drop)]
 pub struct MemoryDisk<A: Allocator> {
     // The blocks one after another.
     file: MemoryFile<A>,
@@ -20,6 +19,17 @@ pub struct MemoryDisk<A: Allocator> {
     pub block_size: usize,
     ghost room: { file.len ≡ blocks * block_size },
     ghost small: { blocks * block_size < 2 ^ 64 },
+}
+
+// Written out, so that it is proved once.
+impl<A: Allocator> Drop for MemoryDisk<A> {
+    fn drop(self) {
+        let MemoryDisk {
+            file: _,
+            blocks: _,
+            block_size: _,
+        } = self;
+    }
 }
 
 impl<A: Allocator> MemoryDisk<A> {

@@ -16,10 +16,19 @@ use std::alloc::Allocator;
 use std::rt::Files;
 
 /// Blocks that are partitions of a device, and the engine that reads and writes them.
-#[derive(Drop)]
 pub struct PartitionedDisk<E: IoEngine + Drop, P: Partition + Copy, A: Allocator> {
     engine: E,
     blocks: Vec<P, A>,
+}
+
+// Written out, so that it is proved once.
+impl<E: IoEngine + Drop, P: Partition + Copy, A: Allocator> Drop for PartitionedDisk<E, P, A> {
+    fn drop(self) {
+        let PartitionedDisk {
+            engine: _,
+            blocks: _,
+        } = self;
+    }
 }
 
 impl<E: IoEngine + Drop, P: Partition + Copy, A: Allocator> PartitionedDisk<E, P, A> {
@@ -42,7 +51,7 @@ impl<E: IoEngine + Drop, P: Partition + Copy, A: Allocator> PartitionedDisk<E, P
     pub fn into_engine(self) -> E
         ensures { result ≡ self.engine }
     {
-        let PartitionedDisk { engine, .. } = self;
+        let PartitionedDisk { engine, blocks: _ } = self;
         engine
     }
 

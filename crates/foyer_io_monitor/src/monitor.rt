@@ -12,10 +12,19 @@ use foyer_io_engine::io::engine::{IoEngine, IoHandle};
 use std::alloc::Allocator;
 
 /// An engine whose reads and writes are recorded, those that were refused too.
-#[derive(Drop)]
 pub struct MonitoredIoEngine<E: IoEngine + Drop, A: Allocator> {
     inner: E,
     recorder: Recorder<A>,
+}
+
+// Written out, so that it is proved once.
+impl<E: IoEngine + Drop, A: Allocator> Drop for MonitoredIoEngine<E, A> {
+    fn drop(self) {
+        let MonitoredIoEngine {
+            inner: _,
+            recorder: _,
+        } = self;
+    }
 }
 
 impl<E: IoEngine + Drop, A: Allocator> MonitoredIoEngine<E, A> {

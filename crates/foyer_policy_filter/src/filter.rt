@@ -29,10 +29,16 @@ pub trait StorageFilterCondition: Drop {
 }
 
 /// Conditions that are asked one after the other. Contracts see them as a list.
-#[derive(Drop)]
 pub struct StorageFilter<C: StorageFilterCondition, A: Allocator> {
     // None until the first condition comes, with an allocator.
     conditions: Option<Vec<C, A>>,
+}
+
+// Written out, so that it is proved once.
+impl<C: StorageFilterCondition, A: Allocator> Drop for StorageFilter<C, A> {
+    fn drop(self) {
+        let StorageFilter { conditions: _ } = self;
+    }
 }
 
 impl<C: StorageFilterCondition, A: Allocator> Model for StorageFilter<C, A> {

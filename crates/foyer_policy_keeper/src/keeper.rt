@@ -14,9 +14,15 @@ use std::sync::{Mutex, Wait};
 
 /// The pieces that aren't flushed yet, by hash and key. Contracts see how many shards it has. Threads share it by
 /// reference; each call takes the lock of one shard, and holds no other.
-#[derive(Drop)]
 pub struct Keeper<K: Eq, V, P, A: Allocator> {
     shards: Vec<Mutex<Shard<K, V, P, A>>, A>,
+}
+
+// Written out, so that it is proved once.
+impl<K: Eq + Drop, V: Drop, P: Drop, A: Allocator> Drop for Keeper<K, V, P, A> {
+    fn drop(self) {
+        let Keeper { shards: _ } = self;
+    }
 }
 
 impl<K: Eq, V, P, A: Allocator> Model for Keeper<K, V, P, A> {

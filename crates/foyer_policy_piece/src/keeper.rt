@@ -19,9 +19,15 @@ struct Parts<K, V, P> {
 
 /// An entry in memory: key, value, the key's hash, and the properties that it was put with. It is
 /// one allocation, which its clones share, and never changes.
-#[derive(Drop)]
 pub struct Piece<K, V, P, A: Allocator> {
     shared: Arc<Parts<K, V, P>, A>,
+}
+
+// Written out, so that it is proved once.
+impl<K: Drop, V: Drop, P: Drop, A: Allocator> Drop for Piece<K, V, P, A> {
+    fn drop(self) {
+        let Piece { shared: _ } = self;
+    }
 }
 
 impl<K, V, P, A: Allocator> Model for Piece<K, V, P, A> {
@@ -95,10 +101,19 @@ impl<K: Drop, V: Drop, P: Drop, A: Allocator> Clone for Piece<K, V, P, A> {
 }
 
 /// A piece that a keeper may have. One that is dropped releases nothing.
-#[derive(Drop)]
 pub struct PieceRef<K, V, P, A: Allocator> {
     piece: Piece<K, V, P, A>,
     number: u64,
+}
+
+// Written out, so that it is proved once.
+impl<K: Drop, V: Drop, P: Drop, A: Allocator> Drop for PieceRef<K, V, P, A> {
+    fn drop(self) {
+        let PieceRef {
+            piece: _,
+            number: _,
+        } = self;
+    }
 }
 
 impl<K, V, P, A: Allocator> Model for PieceRef<K, V, P, A> {

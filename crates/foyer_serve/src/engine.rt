@@ -91,7 +91,6 @@ fn answer_done<A: Allocator>(done: Result<()>) -> Answer<A>
 
 /// An engine on one thread of keys that are their own hashes, and of texts. What is said of a disk's bytes is said where they
 /// are known: those of memory are, those of a system's files aren't.
-#[derive(Drop)]
 pub struct Engine<
     A: Allocator,
     D: Disk + Drop,
@@ -100,6 +99,19 @@ pub struct Engine<
     C: StorageFilterCondition = BuiltInCondition,
 > {
     local: LocalEngine<u64, String<A>, NoProperties, IdentityHashBuilder, A, D, L, E, C>,
+}
+
+// Written out, so that it is proved once.
+impl<
+    A: Allocator,
+    D: Disk + Drop,
+    L: MarkLog + Drop,
+    E: EvictionPicker,
+    C: StorageFilterCondition,
+> Drop for Engine<A, D, L, E, C> {
+    fn drop(self) {
+        let Engine { local: _ } = self;
+    }
 }
 
 impl<A: Allocator + Clone, E: EvictionPicker, C: StorageFilterCondition> Engine<

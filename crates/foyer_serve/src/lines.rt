@@ -28,7 +28,6 @@ pub enum Filled {
 }
 
 /// A reader's lines. A line is lent from the buffer, which grows only where one line is longer than it.
-#[derive(Drop)]
 pub struct Lines<R: Read + Drop, A: Allocator> {
     input: R,
     buffer: Vec<u8, A>,
@@ -42,6 +41,20 @@ pub struct Lines<R: Read + Drop, A: Allocator> {
     ghost searched_in: { searched ≤ end },
     ghost in_buffer: { end ≤ vec_len buffer },
     ghost some_room: { 0 < vec_len buffer },
+}
+
+// Written out, so that it is proved once.
+impl<R: Read + Drop, A: Allocator> Drop for Lines<R, A> {
+    fn drop(self) {
+        let Lines {
+            input: _,
+            buffer: _,
+            start: _,
+            searched: _,
+            end: _,
+            is_skipping: _,
+        } = self;
+    }
 }
 
 impl<R: Read + Drop, A: Allocator> Lines<R, A> {

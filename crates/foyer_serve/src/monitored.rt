@@ -117,10 +117,19 @@ where
 }
 
 /// An engine beside its caller's recorder at the counters of its device.
-#[derive(Drop)]
 pub struct MonitoredEngine<A: Allocator, D: Disk + Drop, L: MarkLog + Drop> {
     engine: Engine<A, D, L>,
     recorder: Recorder<A>,
+}
+
+// Written out, so that it is proved once.
+impl<A: Allocator, D: Disk + Drop, L: MarkLog + Drop> Drop for MonitoredEngine<A, D, L> {
+    fn drop(self) {
+        let MonitoredEngine {
+            engine: _,
+            recorder: _,
+        } = self;
+    }
 }
 
 impl<A: Allocator + Clone, D: Disk + Drop, L: MarkLog + Drop> MonitoredEngine<A, D, L> {

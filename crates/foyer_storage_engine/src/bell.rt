@@ -76,10 +76,16 @@ impl Moves {
 
 /// A count of moves, which threads share by reference. A thread remembers the count, tries its step, and where it can't
 /// it waits for a move since: so none between the two is missed. Each call takes the bell's lock, and no other.
-#[derive(Drop)]
 pub struct Bell {
     moves: Mutex<Moves>,
     moved: Condvar,
+}
+
+// Written out, so that it is proved once.
+impl Drop for Bell {
+    fn drop(self) {
+        let Bell { moves: _, moved: _ } = self;
+    }
 }
 
 impl Bell {

@@ -1,9 +1,5 @@
 //! The calls of an engine, made by any thread with a session of its own.
-ghost use Rattle.std.specs.Prelude.{◌≡◌, ◌+◌, ◌<◌, IfErr, IfOk, IsOk, OnOk, OnErr, None, Ok, true, false, vec_len, ◌≤◌, ℕ, Bool};
-ghost use Rattle.foyer_format_layout.specs.Page.{page_up};
-ghost use Rattle.foyer_io_disk.specs.Disk.{IsRead, IsTorn, SurelyCame};
-ghost use Rattle.foyer_core_model.specs.Numbers.{page};
-ghost use Rattle.foyer_core_access.specs.Reclaims.{IsCleaned};
+ghost use Rattle.std.specs.Prelude.{◌≡◌, ◌+◌, ◌<◌, IfErr, IfOk, None, Ok, true, false, vec_len, Bool};
 ghost use Rattle.foyer_storage_engine.specs.Kept.{reference_of};
 ghost use Rattle.foyer_storage_engine.specs.Keeping.{IsAnsweredUnlessFull, IsKeptWhereQueued};
 ghost use Rattle.foyer_device_page.specs.declared.error.Error.{Error as error};
@@ -15,17 +11,16 @@ ghost use Rattle.foyer_storage_engine.specs.Answering.{is_draw_error, is_load_er
 ghost use Rattle.foyer_storage_engine.specs.declared.load.Load.TheVariants as load;
 
 mod ends;
+mod reader;
 pub mod signals;
 pub mod waits;
 
+use self::reader::Reader;
 use self::signals::Signals;
 use crate::enqueue::enqueue;
 use crate::load::{Load, Populated};
-use foyer_block_index::manager::BlockId;
 use foyer_block_manager::block::eviction::EvictionPicker;
 use foyer_block_recover::gate::{Gate, Point};
-use foyer_core_access::disk::do_read;
-use foyer_core_access::reclaims::BlockCleaner;
 use foyer_core_shared::notes::Noting;
 use foyer_core_shared::session::Session;
 use foyer_core_shared::shared::Shared;
@@ -54,51 +49,6 @@ pub enum Enqueued {
     Ignored,
     /// It isn't taken, since too much is queued, and its hash is deleted.
     Deleted,
-}
-
-// A disk that loads read from, and the memory that they read into.
-#[derive(Drop)]
-struct Reader<D: Disk + Drop, A: Allocator> {
-    disk: D,
-    spare: Vec<u8, A>,
-    alloc: A,
-}
-
-impl<D: Disk + Drop, A: Allocator + Clone> Reader<D, A> {
-    // Does the read of a ticket, as `do_read` does. `Err` is a refused allocation.
-    fn read(&mut self, ticket: &Ticket) -> Result<Result<Vec<u8, A>>>
-        ensures read { D.is_known self.old.disk → IfOk result (λ outcome. IfOk outcome (λ bytes.
-            IsRead (D.byte_at self.old.disk) ticket.now.address.block ticket.now.address.offset bytes.items)) }
-        ensures len { IfOk result (λ outcome. IfOk outcome (λ bytes. vec_len bytes ≡ page_up ticket.now.address.len)) }
-        ensures succeeds { D.surely_has self.old.disk ticket.now.address.block ticket.now.address.offset (page_up ticket.now.address.len)
-            → IfOk result IsOk }
-        ensures fails { IfOk result (λ outcome. OnErr outcome (SurelyCame (D.surely_has self.old.disk) (D.surely_lies self.old.disk) (D.faults self.old.disk) (D.faults self.new.disk)
-            ticket.now.address.block ticket.now.address.offset (page_up ticket.now.address.len) → ⊥)) }
-        ensures fault { IfOk result (λ outcome. IfErr outcome (D.may_answer self.old.disk ticket.now.address.block
-            ticket.now.address.offset (page_up ticket.now.address.len))) }
-        ensures known { D.is_known self.old.disk → D.is_known self.new.disk }
-        ensures has { (b o n : ℕ) → D.surely_has self.old.disk b o n → D.surely_has self.new.disk b o n }
-        ensures lies { (b o n : ℕ) → D.surely_lies self.old.disk b o n → D.surely_lies self.new.disk b o n }
-        ensures counted { D.faults self.old.disk ≤ D.faults self.new.disk }
-        ensures same { D.byte_at self.new.disk ≡ D.byte_at self.old.disk }
-        ensures refused { IfErr result (λ e. e ≡ error.Memory) }
-    {
-        let alloc = self.alloc.clone()?;
-        Ok(do_read(alloc, &mut self.disk, ticket, &mut self.spare)?)
-    }
-
-    // Cleans a block: its first page becomes zeros.
-    fn clean(&mut self, block: BlockId) -> Result<()>
-        ensures cleaned { D.is_known self.old.disk → OnOk result (IsCleaned (D.byte_at self.old.disk) block (D.byte_at self.new.disk)) }
-        ensures torn { D.is_known self.old.disk → OnErr result (IsTorn (D.byte_at self.old.disk) block 0 page (D.byte_at self.new.disk)) }
-        ensures fails { OnErr result (SurelyCame (D.surely_has self.old.disk) (D.surely_lies self.old.disk) (D.faults self.old.disk) (D.faults self.new.disk)
-            block 0 page → ⊥) }
-        ensures known { D.is_known self.old.disk → D.is_known self.new.disk }
-        ensures lies { (b o n : ℕ) → D.surely_lies self.old.disk b o n → D.surely_lies self.new.disk b o n }
-        ensures counted { D.faults self.old.disk ≤ D.faults self.new.disk }
-    {
-        BlockCleaner::clean(&mut self.disk, block)
-    }
 }
 
 /// The error of a kind.
@@ -207,7 +157,6 @@ fn ticket_of<K: Drop, V: Drop, P: Drop, A: Allocator>(
 
 /// An engine that threads share by reference: a core behind one lock, disks that loads read from, each behind another, bells
 /// that are rung where a step may let another thread go on, and a gate that each access passes before it.
-#[derive(Drop)]
 pub struct BlockEngine<L, K, V, P, A, E, C, D, G, N>
 where
     L: Kinds,
@@ -228,6 +177,33 @@ where
     settings: Settings,
     gate: G,
     alloc: A,
+}
+
+// Written out, so that it is proved once.
+impl<L, K, V, P, A, E, C, D, G, N> Drop for BlockEngine<L, K, V, P, A, E, C, D, G, N>
+where
+    L: Kinds,
+    K: Code<A> + Drop,
+    V: Code<A> + Drop,
+    P: Properties + Drop,
+    A: Allocator,
+    E: EvictionPicker,
+    C: StorageFilterCondition,
+    D: Disk + Drop,
+    G: Gate,
+    N: Noting,
+{
+    fn drop(self) {
+        let BlockEngine {
+            shared: _,
+            reader: _,
+            others: _,
+            signals: _,
+            settings: _,
+            gate: _,
+            alloc: _,
+        } = self;
+    }
 }
 
 impl<L, K, V, P, A, E, C, D, G, N> BlockEngine<L, K, V, P, A, E, C, D, G, N>

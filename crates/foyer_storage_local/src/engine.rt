@@ -31,7 +31,6 @@ mod wait;
 
 /// A core with its disk, with what the marks of its batches are appended to, and with what gives the hashes of keys. What is
 /// said of a disk's bytes is said where they are known: those of memory are, those of a system's files aren't.
-#[derive(Drop)]
 pub struct LocalEngine<
     K,
     V,
@@ -54,6 +53,33 @@ pub struct LocalEngine<
     next_wait: u64,
     // How many reclaims of this call may still have records written again.
     rereads: u32,
+}
+
+// Written out, so that it is proved once.
+impl<
+    K: Drop,
+    V: Drop,
+    P: Drop,
+    H: Drop,
+    A: Allocator,
+    D: Disk + Drop,
+    L: MarkLog + Drop,
+    E: EvictionPicker,
+    C: StorageFilterCondition,
+> Drop for LocalEngine<K, V, P, H, A, D, L, E, C> {
+    fn drop(self) {
+        let LocalEngine {
+            alloc: _,
+            hasher: _,
+            core: _,
+            env: _,
+            disk: _,
+            log: _,
+            spare: _,
+            next_wait: _,
+            rereads: _,
+        } = self;
+    }
 }
 
 impl<K, V, P, H, A, E, C> LocalEngine<K, V, P, H, A, MemoryDisk<A>, NoLog, E, C>

@@ -8,12 +8,18 @@ use foyer_storage_engine::core_shared::session::Session;
 
 /// A caller's share of the count of steps, of one part at least, with the last two steps that it made. Each thread asks with its
 /// own.
-#[derive(Drop)]
 pub struct StoreSession<L: Kinds> {
     pub(crate) steps: Session<L>,
     // The number of the disk that its loads read from, from the first one on.
     pub(crate) disk: Option<usize>,
     ghost some_part: { 0 < steps.shares.parts },
+}
+
+// Written out, so that it is proved once.
+impl<L: Kinds> Drop for StoreSession<L> {
+    fn drop(self) {
+        let StoreSession { steps: _, disk: _ } = self;
+    }
 }
 
 impl<L: Kinds> StoreSession<L> {
@@ -29,7 +35,7 @@ impl<L: Kinds> StoreSession<L> {
     pub fn into_steps(self) -> Session<L>
         ensures { result ≡ self.steps }
     {
-        let StoreSession { steps, .. } = self;
+        let StoreSession { steps, disk: _ } = self;
         steps
     }
 

@@ -21,7 +21,6 @@ use std::alloc::{AllocError, Global};
 use std::sync::{Arc, Wait};
 
 // What the clones of a store share.
-#[derive(Drop)]
 struct Inner<N: Drop, K: Eq, V, P, H: Drop> {
     name: &'static str,
     hasher: H,
@@ -32,10 +31,31 @@ struct Inner<N: Drop, K: Eq, V, P, H: Drop> {
     throttle: Throttle,
 }
 
+// Written out, so that it is proved once.
+impl<N: Drop, K: Eq + Drop, V: Drop, P: Drop, H: Drop> Drop for Inner<N, K, V, P, H> {
+    fn drop(self) {
+        let Inner {
+            name: _,
+            hasher: _,
+            is_enabled: _,
+            keeper: _,
+            engine: _,
+            statistics: _,
+            throttle: _,
+        } = self;
+    }
+}
+
 /// A store. Its clones are the same store; threads may share one by reference as well, each with a session of its own.
-#[derive(Drop)]
 pub struct Store<N: Drop, K: Eq, V, P, H: Drop> {
     shared: Arc<Inner<N, K, V, P, H>, Global>,
+}
+
+// Written out, so that it is proved once.
+impl<N: Drop, K: Eq + Drop, V: Drop, P: Drop, H: Drop> Drop for Store<N, K, V, P, H> {
+    fn drop(self) {
+        let Store { shared: _ } = self;
+    }
 }
 
 /// The same store. AllocError comes only where 2^63 - 1 clones are there.

@@ -5,10 +5,16 @@ use foyer_core_tally::book::Kinds;
 use foyer_storage_engine::core_shared::session::Session;
 
 /// A session that has all parts.
-#[derive(Drop)]
 pub struct WholeSession<L: Kinds> {
     steps: Session<L>,
     ghost whole: { steps.shares.parts ≡ 2 ^ 32 },
+}
+
+// Written out, so that it is proved once.
+impl<L: Kinds> Drop for WholeSession<L> {
+    fn drop(self) {
+        let WholeSession { steps: _ } = self;
+    }
 }
 
 impl<L: Kinds> WholeSession<L> {

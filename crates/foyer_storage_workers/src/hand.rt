@@ -5,10 +5,16 @@ use foyer_core_tally::book::Kinds;
 use foyer_storage_engine::core_shared::session::Session;
 
 /// A session with one part, which a thread takes along and gives back.
-#[derive(Drop)]
 pub struct Hand<L: Kinds> {
     session: Session<L>,
     ghost one_part: { session.shares.parts ≡ 1 },
+}
+
+// Written out, so that it is proved once.
+impl<L: Kinds> Drop for Hand<L> {
+    fn drop(self) {
+        let Hand { session: _ } = self;
+    }
 }
 
 impl<L: Kinds> Hand<L> {

@@ -68,11 +68,21 @@ where
 }
 
 /// The running threads of an engine, each of which has one part of the count of steps.
-#[derive(Drop)]
 pub struct Workers<L: Kinds> {
     signals: Arc<Signals<Global>, Global>,
     flushers: Vec<JoinHandle<Hand<L>>>,
     reclaimers: Vec<JoinHandle<Hand<L>>>,
+}
+
+// Written out, so that it is proved once.
+impl<L: Kinds> Drop for Workers<L> {
+    fn drop(self) {
+        let Workers {
+            signals: _,
+            flushers: _,
+            reclaimers: _,
+        } = self;
+    }
 }
 
 // Joins the threads, and their sessions into this one.

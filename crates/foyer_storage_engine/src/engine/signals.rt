@@ -5,7 +5,6 @@ use std::alloc::Allocator;
 use std::sync::Wait;
 
 /// The bells of an engine, and the waits of its callers. No call holds one of their locks while it takes another.
-#[derive(Drop)]
 pub struct Signals<A: Allocator> {
     /// Rung where something may be queued at a flusher.
     pub queued: Bell,
@@ -15,6 +14,18 @@ pub struct Signals<A: Allocator> {
     pub done: Bell,
     /// The waits that flushers have yet to answer.
     pub waits: Waits<A>,
+}
+
+// Written out, so that it is proved once.
+impl<A: Allocator> Drop for Signals<A> {
+    fn drop(self) {
+        let Signals {
+            queued: _,
+            reclaims: _,
+            done: _,
+            waits: _,
+        } = self;
+    }
 }
 
 impl<A: Allocator> Signals<A> {

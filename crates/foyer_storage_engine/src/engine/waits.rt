@@ -108,10 +108,19 @@ impl<A: Allocator> WaitTable<A> {
 }
 
 /// Waits of callers, each of which all flushers answer. Threads share it by reference; each call takes its lock, and no other.
-#[derive(Drop)]
 pub struct Waits<A: Allocator> {
     table: Mutex<WaitTable<A>>,
     answered: Condvar,
+}
+
+// Written out, so that it is proved once.
+impl<A: Allocator> Drop for Waits<A> {
+    fn drop(self) {
+        let Waits {
+            table: _,
+            answered: _,
+        } = self;
+    }
 }
 
 impl<A: Allocator> Waits<A> {

@@ -77,7 +77,6 @@ type WorkingReclaimer<L, K, V, P, E, C, N, Q, G, T> = ReclaimerWorker<
 >;
 
 /// A flusher's worker over them. It is a type of its own, so that the proof of who passes it on doesn't go over its parts.
-#[derive(Drop)]
 pub struct BlockFlusher<L, K, V, P, E, C, N, Q, G>
 where
     L: Kinds,
@@ -91,6 +90,24 @@ where
     G: Gate,
 {
     pub(super) worker: WorkingFlusher<L, K, V, P, E, C, N, Q, G>,
+}
+
+// Written out, so that it is proved once.
+impl<L, K, V, P, E, C, N, Q, G> Drop for BlockFlusher<L, K, V, P, E, C, N, Q, G>
+where
+    L: Kinds,
+    K: Code<Global> + Eq + Drop,
+    V: Code<Global> + Drop,
+    P: Properties + Drop,
+    E: EvictionPicker,
+    C: StorageFilterCondition,
+    N: IoEngine + Drop,
+    Q: Partition + Copy,
+    G: Gate,
+{
+    fn drop(self) {
+        let BlockFlusher { worker: _ } = self;
+    }
 }
 
 impl<L, K, V, P, E, C, N, Q, G> Worker<Hand<L>> for BlockFlusher<L, K, V, P, E, C, N, Q, G>
@@ -112,7 +129,6 @@ where
 }
 
 /// A reclaimer's worker over them, a type of its own for the same reason.
-#[derive(Drop)]
 pub struct BlockReclaimer<L, K, V, P, E, C, N, Q, G, T>
 where
     L: Kinds,
@@ -127,6 +143,25 @@ where
     T: Clock,
 {
     pub(super) worker: WorkingReclaimer<L, K, V, P, E, C, N, Q, G, T>,
+}
+
+// Written out, so that it is proved once.
+impl<L, K, V, P, E, C, N, Q, G, T> Drop for BlockReclaimer<L, K, V, P, E, C, N, Q, G, T>
+where
+    L: Kinds,
+    K: Code<Global> + Drop,
+    V: Code<Global> + Drop,
+    P: Properties + Drop,
+    E: EvictionPicker,
+    C: StorageFilterCondition,
+    N: IoEngine + Drop,
+    Q: Partition + Copy,
+    G: Gate,
+    T: Clock,
+{
+    fn drop(self) {
+        let BlockReclaimer { worker: _ } = self;
+    }
 }
 
 impl<L, K, V, P, E, C, N, Q, G, T> Worker<Hand<L>> for BlockReclaimer<L, K, V, P, E, C, N, Q, G, T>
@@ -149,7 +184,6 @@ where
 }
 
 /// An engine over the blocks of a device, with its admission filter, and what asks the device's counters for all callers.
-#[derive(Drop)]
 pub struct BuiltEngine<L, K, V, P, E, C, N, Q, G>
 where
     L: Kinds,
@@ -169,6 +203,31 @@ where
     pub(super) recorder: Mutex<Recorder<Global>>,
     pub(super) throttle: Throttle,
     pub(super) device: DeviceSummary,
+}
+
+// Written out, so that it is proved once.
+impl<L, K, V, P, E, C, N, Q, G> Drop for BuiltEngine<L, K, V, P, E, C, N, Q, G>
+where
+    L: Kinds,
+    K: Code<Global> + Drop,
+    V: Code<Global> + Drop,
+    P: Properties + Drop,
+    E: EvictionPicker,
+    C: StorageFilterCondition,
+    N: IoEngine + Drop,
+    Q: Partition + Copy,
+    G: Gate,
+{
+    fn drop(self) {
+        let BuiltEngine {
+            engine: _,
+            callers: _,
+            admission: _,
+            recorder: _,
+            throttle: _,
+            device: _,
+        } = self;
+    }
 }
 
 impl<L, K, V, P, E, C, N, Q, G> BuiltEngine<L, K, V, P, E, C, N, Q, G>

@@ -360,7 +360,6 @@ where
 }
 
 /// A flusher's worker, before its thread is started.
-#[derive(Drop)]
 pub struct FlusherWorker<L, K, V, P, E, C, D, G, N, O, M>
 where
     L: Kinds,
@@ -379,6 +378,29 @@ where
     pub engine: Arc<BlockEngine<L, K, V, P, Global, E, C, D, G, N>, Global>,
     /// What the worker has of its own.
     pub parts: FlusherParts<K, V, P, Global, O, M>,
+}
+
+// Written out, so that it is proved once.
+impl<L, K, V, P, E, C, D, G, N, O, M> Drop for FlusherWorker<L, K, V, P, E, C, D, G, N, O, M>
+where
+    L: Kinds,
+    K: Code<Global> + Eq + Drop,
+    V: Code<Global> + Drop,
+    P: Properties + Drop,
+    E: EvictionPicker,
+    C: StorageFilterCondition,
+    D: Disk + Drop,
+    G: Gate,
+    N: Noting,
+    O: Disk + Drop,
+    M: MarkLog + Drop,
+{
+    fn drop(self) {
+        let FlusherWorker {
+            engine: _,
+            parts: _,
+        } = self;
+    }
 }
 
 impl<L, K, V, P, E, C, D, G, N, O, M> Worker<Hand<L>>

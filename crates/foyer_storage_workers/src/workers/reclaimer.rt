@@ -213,7 +213,6 @@ where
 }
 
 /// A reclaimer's worker, before its thread is started.
-#[derive(Drop)]
 pub struct ReclaimerWorker<L, K, V, P, E, C, D, G, N, O, T>
 where
     L: Kinds,
@@ -232,6 +231,29 @@ where
     pub engine: Arc<BlockEngine<L, K, V, P, Global, E, C, D, G, N>, Global>,
     /// What the worker has of its own.
     pub parts: ReclaimerParts<Global, O, T>,
+}
+
+// Written out, so that it is proved once.
+impl<L, K, V, P, E, C, D, G, N, O, T> Drop for ReclaimerWorker<L, K, V, P, E, C, D, G, N, O, T>
+where
+    L: Kinds,
+    K: Code<Global> + Drop,
+    V: Code<Global> + Drop,
+    P: Properties + Drop,
+    E: EvictionPicker,
+    C: StorageFilterCondition,
+    D: Disk + Drop,
+    G: Gate,
+    N: Noting,
+    O: Disk + Drop,
+    T: Clock,
+{
+    fn drop(self) {
+        let ReclaimerWorker {
+            engine: _,
+            parts: _,
+        } = self;
+    }
 }
 
 impl<L, K, V, P, E, C, D, G, N, O, T> Worker<Hand<L>>

@@ -18,11 +18,21 @@ use std::marker::Model;
 
 /// A ring of marks over the pages of partitions, in order: the mark that is put at a number stands in the slot of that
 /// number modulo the number of slots.
-#[derive(Drop)]
 pub struct TombstoneLog<E: IoEngine + Drop, P: Partition + Drop, A: Allocator> {
     buffer: PageBuffer<E, P, A>,
     pages: u64,
     slot: u64,
+}
+
+// Written out, so that it is proved once.
+impl<E: IoEngine + Drop, P: Partition + Drop, A: Allocator> Drop for TombstoneLog<E, P, A> {
+    fn drop(self) {
+        let TombstoneLog {
+            buffer: _,
+            pages: _,
+            slot: _,
+        } = self;
+    }
 }
 
 impl<E: IoEngine + Drop, P: Partition + Drop, A: Allocator> Model for TombstoneLog<E, P, A> {

@@ -25,7 +25,6 @@ use std::mem::swap;
 
 /// One page of those that run through the partitions in order, in memory of its own. Where no page is loaded, its bytes
 /// are none.
-#[derive(Drop)]
 pub struct PageBuffer<E: IoEngine + Drop, P: Partition + Drop, A: Allocator> {
     engine: E,
     partitions: Vec<P, A>,
@@ -36,6 +35,20 @@ pub struct PageBuffer<E: IoEngine + Drop, P: Partition + Drop, A: Allocator> {
     page: Option<u64>,
     // How many writes of pages its engine was asked for, modulo 2^64.
     writes: u64,
+}
+
+// Written out, so that it is proved once.
+impl<E: IoEngine + Drop, P: Partition + Drop, A: Allocator> Drop for PageBuffer<E, P, A> {
+    fn drop(self) {
+        let PageBuffer {
+            engine: _,
+            partitions: _,
+            shown: _,
+            spare: _,
+            page: _,
+            writes: _,
+        } = self;
+    }
 }
 
 impl<E: IoEngine + Drop, P: Partition + Drop, A: Allocator> Model for PageBuffer<E, P, A> {

@@ -13,9 +13,15 @@ use std::alloc::Allocator;
 use std::marker::Model;
 
 /// The files of a device in memory, whose bytes contracts see. It never fails.
-#[derive(Drop)]
 pub struct MemoryIoEngine<A: Allocator> {
     files: Vec<MemoryFile<A>, A>,
+}
+
+// Written out, so that it is proved once.
+impl<A: Allocator> Drop for MemoryIoEngine<A> {
+    fn drop(self) {
+        let MemoryIoEngine { files: _ } = self;
+    }
 }
 
 impl<A: Allocator> Model for MemoryIoEngine<A> {

@@ -47,10 +47,19 @@ impl<R: Files<File = File> + Alloc> IoEngineConfig<R> for PsyncIoEngineConfig {
 }
 
 /// Files of its own, each opened once, which it reads and writes at a place and in full: a short read is Io.
-#[derive(Drop)]
 pub struct PsyncIoEngine<A: Allocator> {
     files: Vec<File, A>,
     failures: u64,
+}
+
+// Written out, so that it is proved once.
+impl<A: Allocator> Drop for PsyncIoEngine<A> {
+    fn drop(self) {
+        let PsyncIoEngine {
+            files: _,
+            failures: _,
+        } = self;
+    }
 }
 
 impl<A: Allocator> PsyncIoEngine<A> {

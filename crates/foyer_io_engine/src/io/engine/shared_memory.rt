@@ -11,9 +11,15 @@ use std::alloc::Allocator;
 use std::sync::{Arc, Mutex, Wait};
 
 /// Builds engines over one memory.
-#[derive(Drop)]
 pub struct SharedMemoryIoEngineConfig<A: Allocator> {
     memory: Arc<Mutex<MemoryIoEngine<A>>, A>,
+}
+
+// Written out, so that it is proved once.
+impl<A: Allocator> Drop for SharedMemoryIoEngineConfig<A> {
+    fn drop(self) {
+        let SharedMemoryIoEngineConfig { memory: _ } = self;
+    }
 }
 
 impl<A: Allocator> SharedMemoryIoEngineConfig<A> {
@@ -39,10 +45,16 @@ impl<R: Wait + Clone + Drop, A: Allocator> IoEngineConfig<R> for SharedMemoryIoE
 }
 
 /// An engine over memory that others read and write too, which it locks for each call.
-#[derive(Drop)]
 pub struct SharedMemoryIoEngine<R: Wait + Drop, A: Allocator> {
     rt: R,
     memory: Arc<Mutex<MemoryIoEngine<A>>, A>,
+}
+
+// Written out, so that it is proved once.
+impl<R: Wait + Drop, A: Allocator> Drop for SharedMemoryIoEngine<R, A> {
+    fn drop(self) {
+        let SharedMemoryIoEngine { rt: _, memory: _ } = self;
+    }
 }
 
 impl<R: Wait + Drop, A: Allocator> IoEngine for SharedMemoryIoEngine<R, A> {
