@@ -4,8 +4,8 @@ use Rattle.std.specs.declared.string.String.{String}
 use Rattle.foyer_bench_stats.specs.declared.plan.Plan.{Plan}
 use Rattle.foyer_bench_stats.specs.declared.settings.Refusal.{Refusal}
 use Rattle.foyer_bench_stats.specs.BenchPlans.{AreRefused, ArePlanWords}
-use Rattle.foyer_serve.specs.Arguments.{AreWords}
-use Rattle.foyer_serve.specs.declared.options.Options.{Options}
+use Rattle.foyer_cli.specs.Arguments.{AreWords}
+use Rattle.foyer_cli.specs.declared.options.Options.{Options}
 
 -- three words of sizes, and those of a plan
 pub record AreBenchWords {A : Type 0} (words : List (String A)) (options : Options) (plan : Plan) : Type 0 where

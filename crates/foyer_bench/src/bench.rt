@@ -4,7 +4,7 @@ ghost use Rattle.foyer_bench_stats.specs.declared.plan.Plan.{Plan};
 ghost use Rattle.foyer_bench_stats.specs.BenchPlans.{HasBounds};
 ghost use Rattle.foyer_core_tally.specs.Ledgers.{AreOf};
 ghost use Rattle.foyer_bench.specs.BenchWords.{AreBenchWords};
-ghost use Rattle.foyer_serve.specs.declared.options.Options.{Options};
+ghost use Rattle.foyer_cli.specs.declared.options.Options.{Options};
 
 use crate::asked::{AskedAgain, AskedKeys};
 use crate::caller::{Caller, Values, Work, piece_of};
@@ -16,6 +16,7 @@ use foyer_bench_stats::plan::Plan;
 use foyer_bench_stats::settings::Refusal;
 use foyer_bench_stats::values::key_of;
 use foyer_bench_stats::zipf::Zipf;
+use foyer_cli::options::Options;
 use foyer_core_tally::book::{Blanks, Kinds};
 use foyer_device_page::error::{Error, Result};
 use foyer_device_partition::io::device::{
@@ -26,7 +27,6 @@ use foyer_io_engine::io::engine::{
     IoEngineConfig, MemoryIoEngine, PsyncIoEngineConfig, SharedMemoryIoEngineConfig,
 };
 use foyer_policy_filter::StorageFilter;
-use foyer_serve::options::Options;
 use foyer_storage_store::builder::StoreBuilder;
 use foyer_storage_store::config::{BlockEngineConfig, Engine};
 use foyer_storage_store::engine::engine::Enqueued;

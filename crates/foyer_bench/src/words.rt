@@ -5,7 +5,7 @@ ghost use Rattle.foyer_bench_stats.specs.BenchPlans.{HasBounds};
 
 use foyer_bench_stats::plan::Plan;
 use foyer_bench_stats::settings::Refusal;
-use foyer_serve::options::Options;
+use foyer_cli::options::Options;
 use std::alloc::Allocator;
 
 /// Reads the words. Where the first three are no sizes, no refusal is named.

@@ -1,11 +1,11 @@
 //! The answers to lines, by a store.
 
+use foyer_cli::command::Command;
+use foyer_cli::faults::print_fault;
+use foyer_cli::lines::{Filled, Lines};
 use foyer_device_page::error::{ErrorKind, Result};
 use foyer_format_record::serde::{IdentityHashBuilder, NoProperties};
 use foyer_policy_piece::keeper::Piece;
-use foyer_serve::answer::print_fault;
-use foyer_serve::command::Command;
-use foyer_serve::lines::{Filled, Lines};
 use foyer_storage_store::config::Engine;
 use foyer_storage_store::engine::engine::Enqueued;
 use foyer_storage_store::engine::load::Load;

@@ -1,10 +1,13 @@
 //! The whole program, over any reader and writers.
 ghost use Rattle.std.specs.Prelude.{◌≡◌, ◌^◌};
-ghost use Rattle.foyer_serve.specs.Arguments.{AreWords};
-ghost use Rattle.foyer_serve.specs.declared.options.Options.{Options};
+ghost use Rattle.foyer_cli.specs.Arguments.{AreWords};
+ghost use Rattle.foyer_cli.specs.declared.options.Options.{Options};
 ghost use Rattle.foyer_core_tally.specs.Ledgers.{AreOf};
 
 use crate::lines::{Texts, answer_all};
+use foyer_cli::faults::{Failed, print_fault, report};
+use foyer_cli::lines::Lines;
+use foyer_cli::options::{GENERATOR_SEED, Options, USAGE};
 use foyer_core_tally::book::{Blanks, Kinds};
 use foyer_device_page::error::{ErrorKind, Result};
 use foyer_device_partition::io::device::{
@@ -14,10 +17,6 @@ use foyer_format_record::serde::{IdentityHashBuilder, NoProperties};
 use foyer_io_engine::io::engine::{
     IoEngineConfig, MemoryIoEngine, PsyncIoEngineConfig, SharedMemoryIoEngineConfig,
 };
-use foyer_serve::answer::print_fault;
-use foyer_serve::directory::{Failed, report};
-use foyer_serve::lines::Lines;
-use foyer_serve::options::{GENERATOR_SEED, Options, USAGE};
 use foyer_storage_store::builder::StoreBuilder;
 use foyer_storage_store::config::{BlockEngineConfig, Engine};
 use foyer_storage_store::session::StoreSession;

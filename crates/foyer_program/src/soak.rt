@@ -6,6 +6,8 @@ mod asker;
 
 use crate::serve::memory;
 use asker::{Asker, Plan, Values};
+use foyer_cli::command::number;
+use foyer_cli::options::Options;
 use foyer_core_tally::book::{Blanks, Kinds};
 use foyer_device_page::error::Result;
 use foyer_device_partition::io::device::{
@@ -15,8 +17,6 @@ use foyer_format_record::serde::{IdentityHashBuilder, NoProperties};
 use foyer_io_engine::io::engine::{
     IoEngineConfig, PsyncIoEngineConfig, SharedMemoryIoEngineConfig,
 };
-use foyer_serve::command::number;
-use foyer_serve::options::Options;
 use foyer_storage_store::builder::StoreBuilder;
 use foyer_storage_store::config::{BlockEngineConfig, Engine};
 use foyer_storage_store::session::StoreSession;

@@ -1,4 +1,2 @@
 pub mod AnswerLemmas
-pub mod LineLemmas
-pub mod ArgumentLemmas
 pub mod OpeningLemmas

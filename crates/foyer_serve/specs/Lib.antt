@@ -1,4 +1,3 @@
-pub mod Lines
+pub mod Printed
 pub mod Texts
-pub mod Arguments
 pub mod OpenedFiles

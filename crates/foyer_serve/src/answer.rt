@@ -1,31 +1,14 @@
 //! The lines that the program prints.
 ghost use Rattle.std.specs.Prelude.{◌≡◌, OnOk};
 ghost use Rattle.std.specs.Io.KnownBytes.{Appends};
-ghost use Rattle.foyer_device_page.specs.Error.{kind_name};
-ghost use Rattle.foyer_serve.specs.Lines.{ended, fault_text, text_of};
+ghost use Rattle.foyer_cli.specs.Lines.{ended};
+ghost use Rattle.foyer_serve.specs.Printed.{text_of};
 
 use crate::engine::Answer;
-use foyer_device_page::error::ErrorKind;
+use foyer_cli::faults::print_fault;
 use std::alloc::Allocator;
 use std::io;
 use std::io::Write;
-
-/// The name of a kind of error, as a fault prints it.
-pub fn name_of(kind: ErrorKind) -> &'static str
-    ensures { result.now ≡ kind_name kind }
-{
-    kind.name()
-}
-
-/// Prints `fault` and the kind's name on a line. An error is the writer's.
-pub fn print_fault<W: Write>(output: &mut W, kind: ErrorKind) -> io::Result<()>
-    ensures { OnOk result
-        (Appends (W.contents output.old) (W.contents output.new) (ended (fault_text kind))) }
-{
-    output.write_all(b"fault ")?;
-    output.write_all(name_of(kind).as_bytes())?;
-    output.write_all(b"\n")
-}
 
 /// Prints an answer's line. An error is the writer's.
 pub fn print<W: Write, A: Allocator>(output: &mut W, answer: &Answer<A>) -> io::Result<()>

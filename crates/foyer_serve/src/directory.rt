@@ -1,5 +1,5 @@
 //! An engine over the files of a directory.
-ghost use Rattle.std.specs.Prelude.{◌≡◌, ◌⊎◌, ◌↔◌, ◌-◌, ◌/◌, ◌<◌, ◌≤◌, ◌++◌, ◌∷◌, ◌*◌, [], map, replicate, true, false, Ok, Some, None, IfOk, IfErr, IfSome, IsSome, OnErr};
+ghost use Rattle.std.specs.Prelude.{◌≡◌, ◌⊎◌, ◌↔◌, ◌++◌, ◌∷◌, ◌*◌, [], map, replicate, true, false, Ok, Some, None, IfOk, IfErr, IfSome, IsSome, OnErr};
 ghost use Rattle.foyer_io_disk.specs.Disk.{SurelyCame};
 ghost use Rattle.foyer_block_tombstone.specs.Pages.{log_pages, places};
 ghost use Rattle.foyer_block_recover.specs.Recovery.{marks_of};
@@ -11,15 +11,15 @@ ghost use Rattle.foyer_device_page.specs.declared.error.Error.TheVariants as err
 ghost use Rattle.foyer_serve.specs.OpenedFiles.{AreBlockFiles, IsOpenedOver, MayRefuse, MayRefuseCore, MayRefuseFiles, TellsOf};
 ghost use Rattle.foyer_serve.specs.Texts.{plain};
 
-use crate::answer::name_of;
 use crate::engine::Engine;
-use crate::options::GENERATOR_SEED;
 use foyer_block_index::tombstone::Tombstone;
 use foyer_block_tombstone::block::tombstone::{TombstoneLog, log_pages};
+use foyer_cli::faults::Failed;
+use foyer_cli::options::GENERATOR_SEED;
 use foyer_core_steps::apply::Env;
 use foyer_core_steps::open::RecoverMode;
 use foyer_core_steps::settings::Settings;
-use foyer_device_page::error::{Error, ErrorKind};
+use foyer_device_page::error::Error;
 use foyer_device_partition::io::device::{
     Device, DeviceBuilder, FsDeviceBuilder, FsPartition, Partition,
 };
@@ -31,8 +31,6 @@ use foyer_io_engine::io::engine::{
 };
 use std::alloc::Allocator;
 use std::fs::File;
-use std::io;
-use std::io::Write;
 use std::rt::Files;
 
 /// The blocks of a directory: a file for each.
@@ -44,41 +42,13 @@ pub type FileLog<B, A> = TombstoneLog<PsyncIoEngine<B>, FsPartition, A>;
 /// An engine over a directory, whose log is there where its settings say so.
 pub type FileEngine<B, A> = Engine<A, FileBlocks<B, A>, Option<FileLog<B, A>>>;
 
-/// What of a directory couldn't be opened, and why.
-#[derive(Clone, Copy, Debug, PartialEq, Eq)]
-pub struct Failed {
-    /// Why.
-    pub kind: ErrorKind,
-    /// The directory, the log of deletes, a file of a block, or the engine over them.
-    pub what: &'static str,
-}
-
+// What couldn't be opened, and why.
 pub(crate) fn stopped_at(what: &'static str, error: Error) -> Failed
     ensures { result.kind ≡ kind_of error }
 {
     Failed {
         kind: error.kind(),
         what,
-    }
-}
-
-/// How many blocks of so many bytes a device of so many bytes has room for, beside the pages of its log of deletes where it
-/// has one; none of less than a page.
-pub fn blocks_in(capacity: usize, block_size: usize, tombstone_log: bool) -> usize
-    ensures bare { tombstone_log ≡ false → 4096 ≤ block_size → result ≡ capacity / 4096 / (block_size / 4096) }
-    ensures logged { tombstone_log ≡ true → 4096 ≤ block_size
-        → result ≡ (capacity / 4096 - log_pages capacity) / (block_size / 4096) }
-    ensures none { block_size < 4096 → result ≡ 0 }
-{
-    let block_pages = block_size / PAGE;
-    if block_pages == 0 {
-        return 0;
-    }
-    let pages = capacity / PAGE;
-    if tombstone_log {
-        pages.saturating_sub(log_pages(capacity)) / block_pages
-    } else {
-        pages / block_pages
     }
 }
 
@@ -310,15 +280,4 @@ where
     let env = Env::with_default_pickers(rt.alloc(), GENERATOR_SEED)?;
     let Deletes { log, marks } = deletes;
     Engine::with_log(alloc.clone()?, env, settings, disk, mode, &marks, log)
-}
-
-/// Says on a line of its own what of a directory couldn't be opened.
-pub fn report<W: Write>(errors: &mut W, directory: &str, failed: &Failed) -> io::Result<()> {
-    errors.write_all(b"foyerdisk: ")?;
-    errors.write_all(directory.as_bytes())?;
-    errors.write_all(b": ")?;
-    errors.write_all(failed.what.as_bytes())?;
-    errors.write_all(b" couldn't be opened: ")?;
-    errors.write_all(name_of(failed.kind).as_bytes())?;
-    errors.write_all(b"\n")
 }

@@ -5,10 +5,7 @@
 #![tactic(auto)]
 
 pub mod answer;
-pub mod command;
 pub mod directory;
 pub mod engine;
-pub mod lines;
 pub mod monitored;
-pub mod options;
 pub mod serve;

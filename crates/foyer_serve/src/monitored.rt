@@ -12,8 +12,9 @@ ghost use Rattle.foyer_core_run.specs.Waiting.{Closes, Waits};
 ghost use Rattle.foyer_device_statistics.specs.Counted.{Sees, SeesMore, SeesState, view, zeros};
 ghost use Rattle.foyer_serve.specs.Texts.{IsDeleted, IsGot, IsLoadedOrRefused, IsTextMissedForCause, IsNewestText, IsOkOrFault, IsPut, IsThrottledOnly, plain};
 
-use crate::directory::{DeviceParts, Failed, FileLog, open_engine, open_parts, stopped_at};
+use crate::directory::{DeviceParts, FileLog, open_engine, open_parts, stopped_at};
 use crate::engine::{Answer, Engine, MarkLog};
+use foyer_cli::faults::Failed;
 use foyer_core_steps::open::RecoverMode;
 use foyer_core_steps::settings::Settings;
 use foyer_device_page::error::Error;

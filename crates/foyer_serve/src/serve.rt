@@ -1,10 +1,11 @@
 //! The program.
-use crate::answer::{print, print_fault};
-use crate::command::Command;
-use crate::directory::{open_directory, report};
+use crate::answer::print;
+use crate::directory::open_directory;
 use crate::engine::{Answer, Engine, MarkLog, NoLog};
-use crate::lines::{Filled, Lines};
-use crate::options::{GENERATOR_SEED, Options, USAGE};
+use foyer_cli::command::Command;
+use foyer_cli::faults::{print_fault, report};
+use foyer_cli::lines::{Filled, Lines};
+use foyer_cli::options::{GENERATOR_SEED, Options, USAGE};
 use foyer_core_steps::apply::Env;
 use foyer_core_steps::open::RecoverMode;
 use foyer_core_steps::settings::Settings;

@@ -3,10 +3,12 @@
 //! directory can't be opened its fault is all. `soak/images.py` runs it.
 #![tactic(auto)]
 
+use foyer_cli::faults::print_fault;
+use foyer_cli::options::blocks_in;
 use foyer_core_steps::open::RecoverMode;
 use foyer_core_steps::settings::Settings;
-use foyer_serve::answer::{print, print_fault};
-use foyer_serve::directory::{FileEngine, blocks_in, open_directory};
+use foyer_serve::answer::print;
+use foyer_serve::directory::{FileEngine, open_directory};
 use std::alloc::Global;
 use std::io;
 use std::io::{BufWriter, Write};

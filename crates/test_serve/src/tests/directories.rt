@@ -1,6 +1,6 @@
 //! What the programs and an engine answer over directories, and what is there then.
 use crate::tests::files::rows_of;
-use foyer_serve::directory::blocks_in;
+use foyer_cli::options::blocks_in;
 use std::test::Fail;
 
 // Each row is a call and its answers; a name stands above those of a case. A program's answers end with its status, those of an

@@ -1,5 +1,6 @@
 //! What is asked of directories, by rows: of both programs, of an engine over a directory, and of the files in it.
 use crate::tests::asked::{answer_of, number_of, word_of};
+use foyer_cli::options::blocks_in;
 use foyer_core_steps::open::RecoverMode;
 use foyer_core_steps::settings::Settings;
 use foyer_device_page::error::Result;
@@ -7,7 +8,7 @@ use foyer_format_blob::BlobEntryIndex;
 use foyer_format_checksum::Checksummer;
 use foyer_io_disk::disk::Disk;
 use foyer_list::list::list;
-use foyer_serve::directory::{blocks_in, open_directory};
+use foyer_serve::directory::open_directory;
 use foyer_serve::engine::{Engine, MarkLog};
 use foyer_serve::serve::serve;
 use foyer_testing::forged::{entry, page};

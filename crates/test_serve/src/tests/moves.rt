@@ -1,6 +1,7 @@
 //! Runs of moves that reclaim blocks, have records written again, and destroy.
 use crate::tests::asked::number_of;
 use crate::tests::over::{Over, blocks, lent, over_of, settings};
+use foyer_cli::faults::name_of;
 use foyer_core_run::moves::{Move, run};
 use foyer_core_steps::apply::Env;
 use foyer_core_steps::open::RecoverMode;
@@ -10,7 +11,6 @@ use foyer_device_page::error::{Error, ErrorKind, Result};
 use foyer_format_record::serde::NoProperties;
 use foyer_io_disk::disk::Disk;
 use foyer_policy_piece::keeper::{Piece, PieceRef};
-use foyer_serve::answer::name_of;
 use foyer_testing::refusing::Refusing;
 use foyer_testing::said::Said;
 use std::alloc::{Allocator, Global};

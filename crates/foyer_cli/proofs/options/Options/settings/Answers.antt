@@ -1,9 +1,9 @@
 use Rattle.std.proofs.Common.{◌≡◌, ◌*◌, ◌/◌, refl, ◌<◌, ◌≤◌, ◌^◌, sym, subst, ap, ◌∙◌, arith}
 use Rattle.std.proofs.lemmas.Bool.{false≢true}
 use Rattle.foyer_format_layout.specs.Page.{page_up}
-use Rattle.foyer_serve.specs.Arguments.{AreAsked, blocks_held}
-use Rattle.foyer_serve.proofs.ArgumentLemmas.{rounded, some_page, not_both, together_valid, valid_together}
-use Rattle.foyer_serve.proofs.options.Options.settings.Goals as goal
+use Rattle.foyer_cli.specs.Arguments.{AreAsked, blocks_held}
+use Rattle.foyer_cli.proofs.ArgumentLemmas.{rounded, some_page, not_both, together_valid, valid_together}
+use Rattle.foyer_cli.proofs.options.Options.settings.Goals as goal
 
 pub returns-then-blocks-clause-together : goal.returns-then-blocks-clause-together
 returns-then-blocks-clause-together c =

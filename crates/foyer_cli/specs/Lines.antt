@@ -1,14 +1,12 @@
 -- The lines that the program reads and prints.
-use Rattle.std.specs.Prelude.{◌≡◌, ℕ, ◌+◌, ◌-◌, ◌*◌, ◌^◌, ◌<◌, List, [], ◌∷◌, ◌++◌, codes, slice_index, string_bytes}
+use Rattle.std.specs.Prelude.{◌≡◌, ℕ, ◌+◌, ◌-◌, ◌*◌, ◌^◌, ◌<◌, List, [], ◌∷◌, ◌++◌, codes, slice_index}
 use Rattle.std.specs.Char.{IsAsciiDigit}
 use Rattle.std.specs.Str.{IsUtf8}
 use Rattle.std.specs.Str.Parse.{IsNumeral, digits_value}
 use Rattle.foyer_device_page.specs.declared.error.ErrorKind.{ErrorKind}
 use Rattle.foyer_device_page.specs.Error.{kind_name}
-use Rattle.foyer_serve.specs.declared.command.Command.{Command}
-use Rattle.foyer_serve.specs.declared.command.Command.TheVariants as command
-use Rattle.foyer_serve.specs.declared.engine.Answer.{Answer}
-use Rattle.foyer_serve.specs.declared.engine.Answer.TheVariants as answer
+use Rattle.foyer_cli.specs.declared.command.Command.{Command}
+use Rattle.foyer_cli.specs.declared.command.Command.TheVariants as command
 
 -- one decimal digit or more, and nothing else, that write the number, which fits 64 bits
 abbrev pub IsNumber : List ℕ → ℕ → Type 0
@@ -36,14 +34,3 @@ ended text = text ++ 10 ∷ []
 -- the line, without its end, that a fault is printed as
 abbrev pub fault_text : ErrorKind → List ℕ
 fault_text kind = codes "fault " ++ kind_name kind
-
--- the line, without its end, that an answer is printed as
-abbrev pub text_of : {A : Type 0} → Answer A → List ℕ
-text_of answer.Queued = codes "queued"
-text_of answer.Ignored = codes "ignored"
-text_of answer.Deleted = codes "deleted"
-text_of (answer.Entry text) = codes "entry " ++ string_bytes text
-text_of answer.Throttled = codes "throttled"
-text_of answer.Miss = codes "miss"
-text_of answer.Ok = codes "ok"
-text_of (answer.Fault kind) = fault_text kind

@@ -13,9 +13,9 @@ use Rattle.std.proofs.lemmas.List.{drop-drop, get_or-drop, get_or-take, get_or_a
 use Rattle.std.proofs.lemmas.Str.{digit_value_digit}
 use Rattle.std.proofs.lemmas.Str.Parse.{digit_at, digits_value-take-le}
 use Rattle.memchr.specs.Find.{IsFirstByte, is_byte}
-use Rattle.foyer_serve.specs.Lines.{AreFour, IsLine, IsNumber}
-use Rattle.foyer_serve.specs.declared.command.Command.{Command}
-use Rattle.foyer_serve.specs.declared.command.Command.TheVariants as command
+use Rattle.foyer_cli.specs.Lines.{AreFour, IsLine, IsNumber}
+use Rattle.foyer_cli.specs.declared.command.Command.{Command}
+use Rattle.foyer_cli.specs.declared.command.Command.TheVariants as command
 
 module _ (digits : List ℕ) (i : ℕ) (within : i < length digits) (byte : ℕ) (byte_is : byte ≡ get_or digits i 0) where
   pub no_digit : IsNotAsciiDigit byte → (n : ℕ) → IsNumber digits n → ⊥

@@ -1,6 +1,6 @@
 use Rattle.std.proofs.Common.{arith}
-use Rattle.foyer_serve.proofs.LineLemmas.{no_space, number_of, put_of, text_of_put, word_from}
-use Rattle.foyer_serve.proofs.command.Command.parse.Goals as goal
+use Rattle.foyer_cli.proofs.LineLemmas.{no_space, number_of, put_of, text_of_put, word_from}
+use Rattle.foyer_cli.proofs.command.Command.parse.Goals as goal
 
 pub returns-in_err-end : goal.returns-in_err-end
 returns-in_err-end c =

@@ -1,6 +1,6 @@
 use Rattle.std.proofs.Common.{◌≡◌, ◌+◌, ◌*◌, ◌/◌, ◌<◌, ◌^◌, length, take}
 use Rattle.std.specs.Str.Parse.{AllDigits, digits_value}
-use Rattle.foyer_serve.proofs.command.number.Given as goal
+use Rattle.foyer_cli.proofs.command.number.Given as goal
 
 abbrev pub invariant-loop-four : goal.invariant-loop-four
 invariant-loop-four l = record {

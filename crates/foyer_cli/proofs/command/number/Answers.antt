@@ -1,6 +1,6 @@
 use Rattle.std.proofs.Common.{◌+◌, ◌*◌, ◌/◌, length, arith}
-use Rattle.foyer_serve.proofs.LineLemmas.{byte_of, no_digit, too_large, one_more, digits_one_more, no_four, four_more, digits_four_more, too_large_four}
-use Rattle.foyer_serve.proofs.command.number.Goals as goal
+use Rattle.foyer_cli.proofs.LineLemmas.{byte_of, no_digit, too_large, one_more, digits_one_more, no_four, four_more, digits_four_more, too_large_four}
+use Rattle.foyer_cli.proofs.command.number.Goals as goal
 
 pub returns-in_err-number : goal.returns-in_err-number
 returns-in_err-number c =

@@ -10,9 +10,9 @@ use Rattle.foyer_format_layout.specs.Page.{page_up}
 use Rattle.foyer_format_layout.proofs.PageLaws.{page_up-holds, even-page_up, page_up-least}
 use Rattle.foyer_core_laws.specs.Sizes.{AreValid}
 use Rattle.foyer_core_laws.specs.declared.settings.Settings.{Settings}
-use Rattle.foyer_serve.specs.Arguments.{AreWords, AreAsked, GoTogether}
-use Rattle.foyer_serve.specs.Lines.{IsNumber}
-use Rattle.foyer_serve.specs.declared.options.Options.{Options}
+use Rattle.foyer_cli.specs.Arguments.{AreWords, AreAsked, GoTogether}
+use Rattle.foyer_cli.specs.Lines.{IsNumber}
+use Rattle.foyer_cli.specs.declared.options.Options.{Options}
 
 module _ {A : Type 0} where
   pub first_number : (words : List (String A)) (o : Options) (d : String A) → AreWords words o → IsNumber (string_bytes (slice_index_or words 1 d)) o.capacity

@@ -1,10 +1,10 @@
 use Rattle.std.proofs.Common.{sym, subst, ap, ◌∙◌}
 use Rattle.std.specs.Prelude.{MatchOption, string_bytes}
-use Rattle.foyer_serve.specs.Arguments.{AreWords}
-use Rattle.foyer_serve.specs.Lines.{IsNumber}
-use Rattle.foyer_serve.specs.declared.options.Options.{Options}
-use Rattle.foyer_serve.proofs.ArgumentLemmas.{second_number}
-use Rattle.foyer_serve.proofs.options.Options.parse.Goals as goal
+use Rattle.foyer_cli.specs.Arguments.{AreWords}
+use Rattle.foyer_cli.specs.Lines.{IsNumber}
+use Rattle.foyer_cli.specs.declared.options.Options.{Options}
+use Rattle.foyer_cli.proofs.ArgumentLemmas.{second_number}
+use Rattle.foyer_cli.proofs.options.Options.parse.Goals as goal
 
 pub returns-in_err-number-2 : goal.returns-in_err-number-2
 returns-in_err-number-2 g c =

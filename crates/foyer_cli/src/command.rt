@@ -1,8 +1,8 @@
 //! The lines that the program understands.
 ghost use Rattle.std.specs.Prelude.{◌≡◌, ℕ, ◌-◌, ◌<◌, IfSome, MatchOption, slice_index};
-ghost use Rattle.foyer_serve.specs.declared.command.Command.{Command};
+ghost use Rattle.foyer_cli.specs.declared.command.Command.{Command};
 ghost use Rattle.std.specs.Char.{IsAsciiDigit, IsNotAsciiDigit};
-ghost use Rattle.foyer_serve.specs.Lines.{AreFour, IsLine, IsNumber};
+ghost use Rattle.foyer_cli.specs.Lines.{AreFour, IsLine, IsNumber};
 
 use memchr::memchr;
 

@@ -4,8 +4,8 @@ use Rattle.std.specs.declared.string.String.{String}
 use Rattle.foyer_format_layout.specs.Page.{page_up}
 use Rattle.foyer_core_laws.specs.Sizes.{IsDefaultShardCount}
 use Rattle.foyer_core_laws.specs.declared.settings.Settings.{Settings}
-use Rattle.foyer_serve.specs.Lines.{IsNumber}
-use Rattle.foyer_serve.specs.declared.options.Options.{Options}
+use Rattle.foyer_cli.specs.Lines.{IsNumber}
+use Rattle.foyer_cli.specs.declared.options.Options.{Options}
 
 -- three words are these: the directory as it stands, and two numbers
 abbrev pub AreWords : {A : Type 0} → List (String A) → Options → Type 0

@@ -1,12 +1,13 @@
 //! The program's arguments.
-ghost use Rattle.std.specs.Prelude.{◌≡◌, ◌↔◌, IfOk, IsOk, IsOkUnless, IsTrue, MatchOption, codes};
+ghost use Rattle.std.specs.Prelude.{◌≡◌, ◌↔◌, ◌-◌, ◌/◌, ◌<◌, ◌≤◌, true, false, IfOk, IsOk, IsOkUnless, IsTrue, MatchOption, codes};
+ghost use Rattle.foyer_block_tombstone.specs.Pages.{log_pages};
 ghost use Rattle.foyer_device_page.specs.declared.error.Error.TheVariants.{Config};
 ghost use Rattle.foyer_core_laws.specs.Sizes.{AreValid};
-ghost use Rattle.foyer_serve.specs.Arguments.{AreAsked, AreWords, GoTogether};
+ghost use Rattle.foyer_cli.specs.Arguments.{AreAsked, AreWords, GoTogether};
 
 use crate::command::number;
-use crate::directory::blocks_in;
-use foyer_core_steps::settings::{DEFAULT_TOMBSTONE_LOG, MAX_BLOCK_SIZE, Settings};
+use foyer_block_tombstone::block::tombstone::log_pages;
+use foyer_core_laws::settings::{DEFAULT_TOMBSTONE_LOG, MAX_BLOCK_SIZE, Settings};
 use foyer_device_page::error::{Error, Result};
 use foyer_format_record::block::buffer::PAGE;
 use std::alloc::Allocator;
@@ -29,6 +30,26 @@ pub struct Options<'a> {
     pub capacity: u64,
     /// The size of a block in bytes, before it is rounded up to whole pages of 4096.
     pub block_size: u64,
+}
+
+/// How many blocks of so many bytes a device of so many bytes has room for, beside the pages of its log of deletes where it
+/// has one; none of less than a page.
+pub fn blocks_in(capacity: usize, block_size: usize, tombstone_log: bool) -> usize
+    ensures bare { tombstone_log ≡ false → 4096 ≤ block_size → result ≡ capacity / 4096 / (block_size / 4096) }
+    ensures logged { tombstone_log ≡ true → 4096 ≤ block_size
+        → result ≡ (capacity / 4096 - log_pages capacity) / (block_size / 4096) }
+    ensures none { block_size < 4096 → result ≡ 0 }
+{
+    let block_pages = block_size / PAGE;
+    if block_pages == 0 {
+        return 0;
+    }
+    let pages = capacity / PAGE;
+    if tombstone_log {
+        pages.saturating_sub(log_pages(capacity)) / block_pages
+    } else {
+        pages / block_pages
+    }
 }
 
 impl<'a> Options<'a> {
