@@ -16,17 +16,3 @@ returns-clause-lawful g c = λ known sound bytes same.
     c.args.moves.items c.in_ok-replies.replies.items c.run.new.core (g.D.Disk.byte_at c.open.new.disk) (g.D.Disk.byte_at c.run.new.disk)
     (λ b o. same b o ∙ ap (λ (f : ℕ → ℕ → ℕ). f b o) (sym c.open.ensures.same))
     (c.in_ok-replies.ensures.runs (c.open.ensures.known known))
-
-pub invariant_of-core : goal.invariant_of-core
-invariant_of-core g c = record {
-  some_flusher = c.run.new.core.some_flusher;
-  all_flushers = c.run.new.core.all_flushers;
-  small_blocks = c.run.new.core.small_blocks;
-}
-
-pub invariant_of-core-2 : goal.invariant_of-core-2
-invariant_of-core-2 g c = record {
-  some_flusher = c.run.new.core.some_flusher;
-  all_flushers = c.run.new.core.all_flushers;
-  small_blocks = c.run.new.core.small_blocks;
-}

@@ -10,17 +10,3 @@ returns-clause-runs g c = λ sound.
     over_zeros m c.args.settings sound c.in_ok-core.core c.run.new.core (g.D.Disk.byte_at c.args.disk.now) (g.D.Disk.byte_at c.open.new.disk) (g.D.Disk.byte_at c.run.new.disk)
     (SurelyCame (g.D.Disk.surely_has c.args.disk.now) (g.D.Disk.surely_lies c.args.disk.now) (g.D.Disk.faults c.args.disk.now) (g.D.Disk.faults c.open.new.disk)) _ (inr c.requires.known) c.in_ok-core.ensures.opened (sym c.open.ensures.same) c.requires.zeros
     c.args.moves.items c.in_ok-replies.replies.items (c.in_ok-replies.ensures.runs (c.open.ensures.known c.requires.known))
-
-pub invariant_of-core : goal.invariant_of-core
-invariant_of-core g c = record {
-  some_flusher = c.run.new.core.some_flusher;
-  all_flushers = c.run.new.core.all_flushers;
-  small_blocks = c.run.new.core.small_blocks;
-}
-
-pub invariant_of-core-2 : goal.invariant_of-core-2
-invariant_of-core-2 g c = record {
-  some_flusher = c.run.new.core.some_flusher;
-  all_flushers = c.run.new.core.all_flushers;
-  small_blocks = c.run.new.core.small_blocks;
-}
