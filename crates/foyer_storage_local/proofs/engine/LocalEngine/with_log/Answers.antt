@@ -10,10 +10,3 @@ returns-clause-begins g c = λ sound.
     let m = meaning g.K.Code.encoding g.V.Code.encoding g.K.Code.is_encodable g.V.Code.is_encodable g.K.Code.is_decodable g.V.Code.is_decodable g.P.Properties.age in
     begun m c.args.settings sound c.in_ok-core.core (g.D.Disk.byte_at c.args.disk) (g.D.Disk.byte_at c.open.new.disk) (SurelyCame (g.D.Disk.surely_has c.args.disk) (g.D.Disk.surely_lies c.args.disk) (g.D.Disk.faults c.args.disk) (g.D.Disk.faults c.open.new.disk)) c.args.mode (marks_of c.args.marks.now) _
     c.in_ok-core.ensures.opened (sym c.open.ensures.same)
-
-pub invariant_of-core : goal.invariant_of-core
-invariant_of-core g c = record {
-  some_flusher = c.in_ok-core.core.some_flusher;
-  all_flushers = c.in_ok-core.core.all_flushers;
-  small_blocks = c.in_ok-core.core.small_blocks;
-}
