@@ -10,6 +10,7 @@ use foyer_storage_store::config::Engine;
 use foyer_storage_store::engine::engine::Enqueued;
 use foyer_storage_store::engine::load::Load;
 use foyer_storage_store::store::Store;
+use foyer_storage_store::threads::workers::Clock;
 use std::alloc::Global;
 use std::io;
 use std::io::{Read, Write};
@@ -78,16 +79,6 @@ fn print<W: Write>(output: &mut W, answer: &Answer) -> io::Result<()> {
     }
 }
 
-// A piece of a text under a key, which is its own hash.
-fn piece_of(
-    alloc: Global,
-    key: u64,
-    text: &str,
-) -> Result<Piece<u64, String, NoProperties, Global>> {
-    let value = String::from_str(alloc, text)?;
-    Piece::new(alloc, key, value, key, NoProperties)
-}
-
 fn put<S: Drop, N: Engine<S, u64, String, NoProperties>>(
     rt: &impl Wait,
     alloc: Global,
@@ -95,22 +86,24 @@ fn put<S: Drop, N: Engine<S, u64, String, NoProperties>>(
     session: &mut S,
     key: u64,
     text: &str,
+    now: u64,
 ) -> Result<Enqueued> {
-    let piece = piece_of(alloc, key, text)?;
-    store.enqueue(rt, session, &piece, false, 0)
+    let value = String::from_str(alloc, text)?;
+    store.put(rt, alloc, session, key, value, NoProperties, now)
 }
 
-// What a command is answered with.
+// What a command is answered with at a moment.
 fn reply_to<S: Drop, N: Engine<S, u64, String, NoProperties>>(
     rt: &impl Wait,
     alloc: Global,
     store: &Texts<N>,
     session: &mut S,
     command: Command<'_>,
+    now: u64,
 ) -> Answer {
     match command {
-        Command::Put { key, text } => answer_put(put(rt, alloc, store, session, key, text)),
-        Command::Get { key } => answer_load(store.load(rt, session, &key, 0)),
+        Command::Put { key, text } => answer_put(put(rt, alloc, store, session, key, text, now)),
+        Command::Get { key } => answer_load(store.load(rt, session, &key, now)),
         Command::Delete { key } => answer_end(store.delete(rt, session, &key)),
         Command::Wait => answer_end(store.wait(rt, session)),
         Command::Destroy => answer_end(store.destroy(rt, session)),
@@ -126,12 +119,13 @@ fn answer_line<S: Drop, N: Engine<S, u64, String, NoProperties>, W: Write>(
     session: &mut S,
     line: &[u8],
     output: &mut W,
+    now: u64,
 ) -> io::Result<bool> {
     let Some(command) = Command::parse(line) else {
         output.write_all(b"bad line\n")?;
         return Ok(false);
     };
-    let answer = reply_to(rt, alloc, store, session, command);
+    let answer = reply_to(rt, alloc, store, session, command, now);
     print(output, &answer)?;
     match &answer {
         Answer::Fault(_) => Ok(false),
@@ -145,6 +139,7 @@ fn answer_whole<S, N, R, W>(
     alloc: Global,
     store: &Texts<N>,
     session: &mut S,
+    clock: &impl Clock,
     lines: &mut Lines<R, Global>,
     output: &mut W,
 ) -> io::Result<bool>
@@ -159,7 +154,8 @@ where
         let Some(line) = lines.next_whole() else {
             break;
         };
-        let was_well = answer_line(rt, alloc, store, session, lines.bytes(line), output)?;
+        let now = clock.now();
+        let was_well = answer_line(rt, alloc, store, session, lines.bytes(line), output, now)?;
         is_well = is_well && was_well;
     }
     Ok(is_well)
@@ -172,6 +168,7 @@ pub(crate) fn answer_all<S, N, R, W>(
     alloc: Global,
     store: &Texts<N>,
     session: &mut S,
+    clock: &impl Clock,
     lines: &mut Lines<R, Global>,
     output: &mut W,
 ) -> io::Result<bool>
@@ -183,7 +180,7 @@ where
 {
     let mut is_well = true;
     for _ in 0..u64::MAX {
-        let was_well = answer_whole(rt, alloc, store, session, lines, output)?;
+        let was_well = answer_whole(rt, alloc, store, session, clock, lines, output)?;
         is_well = is_well && was_well;
         output.flush()?;
         match lines.fill()? {
@@ -201,6 +198,7 @@ where
                         session,
                         lines.bytes(line),
                         output,
+                        clock.now(),
                     )?;
                     is_well = is_well && was_well;
                 }

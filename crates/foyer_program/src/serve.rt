@@ -20,7 +20,7 @@ use foyer_io_engine::io::engine::{
 use foyer_storage_store::builder::StoreBuilder;
 use foyer_storage_store::config::{BlockEngineConfig, Engine};
 use foyer_storage_store::session::StoreSession;
-use foyer_storage_store::threads::workers::{Moment, Workers};
+use foyer_storage_store::threads::workers::{Clock, SystemClock, Workers};
 use std::alloc::{Allocator, Global};
 use std::fs::File;
 use std::io::{BufWriter, Read, Write};
@@ -47,6 +47,7 @@ fn answer_lines<S, N, R, W>(
     alloc: Global,
     store: &Texts<N>,
     session: &mut S,
+    clock: &impl Clock,
     input: R,
     mut direct: W,
 ) -> bool
@@ -64,7 +65,7 @@ where
         let _ = print_fault(&mut direct, ErrorKind::Memory);
         return false;
     };
-    let answered = answer_all(rt, alloc, store, session, &mut lines, &mut output);
+    let answered = answer_all(rt, alloc, store, session, clock, &mut lines, &mut output);
     let is_flushed = output.flush().is_ok();
     answered.unwrap_or(false) && is_flushed
 }
@@ -76,6 +77,7 @@ fn answer_input<L, N, T, R, W>(
     store: &Texts<N>,
     mut session: StoreSession<L>,
     workers: Workers<L>,
+    clock: &impl Clock,
     input: R,
     output: W,
 ) -> u8
@@ -86,7 +88,7 @@ where
     R: Read + Drop,
     W: Write + Drop,
 {
-    let is_well = answer_lines(rt, alloc, store, &mut session, input, output);
+    let is_well = answer_lines(rt, alloc, store, &mut session, clock, input, output);
     let is_closed = store.close(rt, &mut session).is_ok();
     let _ = workers.join(rt, session.into_steps());
     if is_well && is_closed {
@@ -115,7 +117,7 @@ fn serve_over<L, T, I, D, R, W>(
 ) -> std::result::Result<u8, (Failed, W)>
 where
     L: Kinds + Send + Sync + 'static,
-    T: Threads + Wait + Files + Copy + Send + 'static,
+    T: Threads + Wait + std::rt::Clock + Files + Copy + Send + 'static,
     I: IoEngineConfig<T> + Drop,
     I::Engine: Send + 'static,
     D: Device,
@@ -128,17 +130,26 @@ where
     let builder = StoreBuilder::new("foyerdisk", IdentityHashBuilder, KEEPER_SHARDS)
         .with_engine_config(config)
         .with_io_engine_config(io_engine);
-    let moment = Moment(0);
-    let built = builder.build::<T, Moment, L, u64, String, NoProperties>(
+    let clock = match SystemClock::start(rt) {
+        Ok(clock) => clock,
+        Err(error) => {
+            let failed = Failed {
+                kind: error.kind(),
+                what: "the clock",
+            };
+            return Err((failed, output));
+        }
+    };
+    let built = builder.build::<T, SystemClock<T>, L, u64, String, NoProperties>(
         rt,
         alloc,
         blanks,
-        moment,
+        clock,
         GENERATOR_SEED,
     );
     match built {
         Ok((store, session, workers)) => Ok(answer_input(
-            &rt, alloc, &store, session, workers, input, output,
+            &rt, alloc, &store, session, workers, &clock, input, output,
         )),
         Err(error) => {
             let failed = Failed {
@@ -173,7 +184,7 @@ pub fn serve<L, T, B, R, W, E>(
 ) -> u8
 where
     L: Kinds + Send + Sync + 'static,
-    T: Threads + Wait + Files<File = File> + AllocGlobal + Copy + Send + 'static,
+    T: Threads + Wait + std::rt::Clock + Files<File = File> + AllocGlobal + Copy + Send + 'static,
     B: Allocator,
     R: Read + Drop,
     W: Write + Drop,
@@ -218,7 +229,7 @@ fn serve_memory<L, T, R, W>(
 ) -> u8
 where
     L: Kinds + Send + Sync + 'static,
-    T: Threads + Wait + Files + Copy + Send + 'static,
+    T: Threads + Wait + std::rt::Clock + Files + Copy + Send + 'static,
     R: Read + Drop,
     W: Write + Drop,
     requires { AreOf L.name_of L.all blanks × (L.all ≡ 2 ^ 32) }
@@ -252,7 +263,7 @@ fn serve_directory<L, T, R, W>(
 ) -> std::result::Result<u8, (Failed, W)>
 where
     L: Kinds + Send + Sync + 'static,
-    T: Threads + Wait + Files<File = File> + AllocGlobal + Copy + Send + 'static,
+    T: Threads + Wait + std::rt::Clock + Files<File = File> + AllocGlobal + Copy + Send + 'static,
     R: Read + Drop,
     W: Write + Drop,
     requires { AreOf L.name_of L.all blanks × (L.all ≡ 2 ^ 32) }

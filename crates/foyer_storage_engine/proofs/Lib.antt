@@ -1,3 +1,4 @@
 pub mod AnsweringLemmas
 pub mod RefusalLemmas
 pub mod EndingLemmas
+pub mod HoldingLemmas

@@ -1,7 +1,12 @@
 -- What an engine's calls answer: what their sessions' briefs say.
-use Rattle.std.specs.Prelude.{◌≡◌, ◌⊎◌, ℕ, Bool, true, false, Some, Result, Ok, Err}
+use Rattle.std.specs.Prelude.{◌≡◌, ◌⊎◌, ℕ, Bool, true, false, List, Some, Result, Ok, Err, IfOk, vec_len}
+use Rattle.std.specs.declared.vec.Vec.{Vec}
+use Rattle.foyer_format_layout.specs.Page.{page_up}
+use Rattle.foyer_core_steps.specs.Answered.{BringsPair}
 use Rattle.foyer_core_steps.specs.declared.reply.Reply.{Reply}
 use Rattle.foyer_core_steps.specs.declared.reply.Reply.TheVariants as reply
+use Rattle.foyer_core_steps.specs.declared.step.Step.{Step}
+use Rattle.foyer_core_steps.specs.declared.step.Step.TheVariants as step
 use Rattle.foyer_core_steps.specs.declared.step.Ticket.{Ticket}
 use Rattle.foyer_device_page.specs.declared.error.Error.{Error}
 use Rattle.foyer_device_page.specs.declared.error.Error.TheVariants as error
@@ -9,7 +14,7 @@ use Rattle.foyer_device_page.specs.declared.error.ErrorKind.{ErrorKind}
 use Rattle.foyer_device_page.specs.declared.error.ErrorKind.TheVariants as kind
 use Rattle.foyer_storage_engine.specs.declared.load.Load.{Load}
 use Rattle.foyer_storage_engine.specs.declared.load.Load.TheVariants as load
-use Rattle.foyer_core_shared.specs.Briefs.{reply_brief}
+use Rattle.foyer_core_shared.specs.Briefs.{len_of, reply_brief}
 use Rattle.foyer_core_shared.specs.declared.brief.ReplyBrief.{ReplyBrief}
 use Rattle.foyer_core_shared.specs.declared.brief.ReplyBrief.TheVariants as replied
 use Rattle.foyer_core_shared.specs.declared.brief.StepBrief.{StepBrief}
@@ -128,14 +133,6 @@ module _ {K V P A : Type 0} where
   IsLoadAs (replied.Refused kind) answered = answered ≡ Err (error_of kind)
   IsLoadAs other answered = answered ≡ Err error.Unsupported
 
-  -- the look-up was answered at once
-  pub record IsLookedUp (old new : SessionState) (hash : ℕ) (throttled : Bool) (answered : Result (Load K V P A) Error) : Type 0 where
-    pub answer : ReplyBrief
-    pub noted : IsNewest new old.shares.amounts (asked.LoadBegin hash throttled) answer
-    pub before : new.before ≡ old.newest
-    pub unread : IsRead answer → ⊥
-    pub said : IsLoadAs answer answered
-
   -- it got a ticket, but no memory to read into, or none for the note of the load's end
   pub record IsCutShort (old new : SessionState) (hash : ℕ) (throttled : Bool) (answered : Result (Load K V P A) Error) : Type 0 where
     pub ticket : Ticket
@@ -143,16 +140,48 @@ module _ {K V P A : Type 0} where
     pub before : new.before ≡ old.newest
     pub said : answered ≡ Err error.Memory
 
-  -- what was read for the ticket ended the load
+module _ {K V P A : Type 0} (is_key is_value : List ℕ → Bool) (key_of : K → List ℕ) (value_of : V → List ℕ) where
+  -- an entry is answered to a step alone that brings bytes, and its pair is the one that they are
+  abbrev pub IsPairOf : Step K V P A → Result (Load K V P A) Error → Type 0
+  IsPairOf given (Ok (load.Entry key value populated)) = BringsPair is_key is_value (key_of key) (value_of value) given
+  IsPairOf given answered = Unit {0}
+
+  -- the look-up was answered at once
+  pub record IsLookedUp (old new : SessionState) (hash : ℕ) (throttled : Bool) (answered : Result (Load K V P A) Error) : Type 0 where
+    pub answer : ReplyBrief
+    pub noted : IsNewest new old.shares.amounts (asked.LoadBegin hash throttled) answer
+    pub before : new.before ≡ old.newest
+    pub unread : IsRead answer → ⊥
+    pub said : IsLoadAs answer answered
+    pub pair : IsPairOf (step.LoadBegin hash throttled) answered
+
+  -- what was read for a ticket, bytes or a fault, ended its load, of which an entry is the pair of these bytes
+  pub record IsEndedWith (old new : SessionState) (ticket : Ticket) (came : Result (Vec ℕ A) Error) (answered : Result (Load K V P A) Error) : Type 0 where
+    pub answer : ReplyBrief
+    pub noted : IsNewest new old.shares.amounts (asked.LoadEnd ticket (len_of came)) answer
+    pub before : new.before ≡ old.newest
+    pub said : IsLoadAs answer answered
+    pub pair : IsPairOf (step.LoadEnd ticket came) answered
+
+  -- so it ended; or, where notes are kept, nothing was noted
+  abbrev pub IsEndOf : (keeps : Bool) → SessionState → SessionState → Ticket → Result (Vec ℕ A) Error → Result (Load K V P A) Error → Type 0
+  IsEndOf keeps old new ticket came answered =
+      IsEndedWith old new ticket came answered ⊎ ((keeps ≡ true) × (answered ≡ Err error.Memory) × (new ≡ old))
+
+  -- what was read for the ticket ended the load: as many bytes as its pages have, of which an entry is the pair, or a fault
   pub record IsEnded (old new : SessionState) (hash : ℕ) (throttled : Bool) (answered : Result (Load K V P A) Error) : Type 0 where
     pub ticket : Ticket
-    pub outcome : Result ℕ ErrorKind
+    pub came : Result (Vec ℕ A) Error
     pub answer : ReplyBrief
-    pub noted : IsNewest new (grown Read old.shares.amounts) (asked.LoadEnd ticket outcome) answer
+    pub noted : IsNewest new (grown Read old.shares.amounts) (asked.LoadEnd ticket (len_of came)) answer
     pub before : new.before ≡ Some (record { step = asked.LoadBegin hash throttled; reply = replied.Read ticket })
     pub said : IsLoadAs answer answered
+    pub own : (ticket.hash ≡ hash) × (throttled ≡ false)
+    pub len : IfOk came (λ bytes. vec_len bytes ≡ page_up ticket.address.len)
+    pub pair : IsPairOf (step.LoadEnd ticket came) answered
 
-  -- A load makes one step, or two where it reads, and answers what their briefs say; or, where notes are kept, nothing was noted.
+  -- A load makes one step, or two where it reads, and answers what their briefs say, and an entry only of the bytes that it read; or,
+  -- where notes are kept, nothing was noted.
   abbrev pub IsLoaded : (keeps : Bool) → SessionState → SessionState → (hash : ℕ) → (throttled : Bool) → Result (Load K V P A) Error → Type 0
   IsLoaded keeps old new hash throttled answered =
       IsLookedUp old new hash throttled answered ⊎ (IsCutShort old new hash throttled answered

@@ -1,14 +1,30 @@
 -- What a session shows of a wait, a close or a destroy that it made.
-use Rattle.std.specs.Prelude.{◌≡◌, ◌⊎◌, ℕ, Bool, true, false, Option, None, Some, Result, Ok, Err}
+use Rattle.std.specs.Prelude.{◌≡◌, ◌⊎◌, ◌≤◌, ℕ, Bool, true, false, Option, None, Some, Result, Ok, Err}
 use Rattle.std.specs.Option.{unwrap_or}
 use Rattle.foyer_device_page.specs.declared.error.Error.{Error}
 use Rattle.foyer_device_page.specs.declared.error.Error.TheVariants as error
 use Rattle.foyer_device_page.specs.declared.error.ErrorKind.{ErrorKind}
 use Rattle.foyer_core_shared.specs.Sessions.{SessionState}
+use Rattle.foyer_core_shared.specs.Kinds.{kind_in}
 use Rattle.foyer_core_shared.specs.declared.brief.ReplyBrief.{ReplyBrief}
 use Rattle.foyer_core_shared.specs.declared.brief.ReplyBrief.TheVariants as replied
+use Rattle.foyer_core_shared.specs.declared.brief.StepBrief.{StepBrief}
 use Rattle.foyer_core_shared.specs.declared.brief.StepBrief.TheVariants as asked
+use Rattle.foyer_core_tally.specs.Tally.{grown, none}
 use Rattle.foyer_storage_engine.specs.Answering.{error_of}
+
+-- The session counts no step of the seven named kinds beside those that it had: it made no put, no delete and no load.
+abbrev pub HoldsNamed : SessionState → SessionState → Type 0
+HoldsNamed old new = new.shares.amounts ≡ record old.shares.amounts { other = new.shares.amounts.other }
+
+-- all steps that it counts are of no named kind
+abbrev pub CountsUnnamed : SessionState → Type 0
+CountsUnnamed session = session.shares.amounts ≡ record none { other = session.shares.amounts.other }
+
+-- it counts the step as one of its kind, and besides only refusals of it, which are of no named kind
+pub record CountsStep (old new : SessionState) (given : StepBrief) (answer : ReplyBrief) : Type 0 where
+  pub others : ℕ
+  pub counted : new.shares.amounts ≡ grown (kind_in given answer) (record old.shares.amounts { other = others })
 
 -- the newest step asks whether no reclaim runs, as the last one of a wait does, and is answered
 pub record AsksForReclaims (session : SessionState) : Type 0 where

@@ -6,10 +6,11 @@ ghost use Rattle.foyer_device_page.specs.declared.error.Error.{Error as error};
 ghost use Rattle.foyer_core_shared.specs.Briefs.{reply_brief};
 ghost use Rattle.foyer_core_shared.specs.declared.brief.StepBrief.TheVariants as asked;
 ghost use Rattle.foyer_core_shared.specs.Replies.{is_delete_reply, is_end_reply, is_enqueue_reply, is_look_up_reply, is_question_reply};
-ghost use Rattle.foyer_storage_engine.specs.Answering.{IsAnsweredAs, IsLoaded, asked_as, deleted_as, enqueued_as, IsLoadOf, IsTicketOf, error_of};
+ghost use Rattle.foyer_storage_engine.specs.Answering.{IsAnsweredAs, IsEndOf, IsLoaded, asked_as, deleted_as, enqueued_as, IsLoadOf, IsTicketOf, error_of};
 ghost use Rattle.foyer_storage_engine.specs.Answering.{is_draw_error, is_load_error, is_question_error};
 ghost use Rattle.foyer_storage_engine.specs.declared.load.Load.TheVariants as load;
 
+pub mod counts;
 mod ends;
 mod reader;
 pub mod signals;
@@ -405,6 +406,28 @@ where
         answer_of(reply)
     }
 
+    // Ends a load with what was read for its ticket: an entry is the pair of these very bytes. Their buffer is kept for the next read.
+    fn end_load(
+        &self,
+        rt: &impl Wait,
+        session: &mut Session<L>,
+        reader: &Mutex<Reader<D, A>>,
+        ticket: Ticket,
+        outcome: Result<Vec<u8, A>>,
+    ) -> Result<Load<K, V, P, A>>
+        requires { 0 < session.old.shares.parts }
+        ensures answer { IsEndOf K.is_decodable V.is_decodable K.encoding V.encoding N.keeps session.old session.new ticket outcome result }
+        ensures throttled { result ≡ Ok load.Throttled → ⊥ }
+        ensures refused { IfErr result (λ e. is_load_error e ≡ true) }
+        ensures parts { session.new.shares.parts ≡ session.old.shares.parts }
+    {
+        let (reply, spare) = self
+            .shared
+            .end_load(rt, session, &self.alloc, ticket, outcome);
+        keep(reader, spare);
+        load_of(reply)
+    }
+
     /// `load_by` from the first disk.
     pub fn load(
         &self,
@@ -414,7 +437,7 @@ where
         throttled: bool,
     ) -> Result<Load<K, V, P, A>>
         requires { 0 < session.old.shares.parts }
-        ensures answer { IsLoaded N.keeps session.old session.new hash throttled result }
+        ensures answer { IsLoaded K.is_decodable V.is_decodable K.encoding V.encoding N.keeps session.old session.new hash throttled result }
         ensures throttled { result ≡ Ok load.Throttled → throttled ≡ true }
         ensures refused { IfErr result (λ e. is_load_error e ≡ true) }
         ensures parts { session.new.shares.parts ≡ session.old.shares.parts }
@@ -435,7 +458,7 @@ where
         disk: usize,
     ) -> Result<Load<K, V, P, A>>
         requires { 0 < session.old.shares.parts }
-        ensures answer { IsLoaded N.keeps session.old session.new hash throttled result }
+        ensures answer { IsLoaded K.is_decodable V.is_decodable K.encoding V.encoding N.keeps session.old session.new hash throttled result }
         ensures throttled { result ≡ Ok load.Throttled → throttled ≡ true }
         ensures refused { IfErr result (λ e. is_load_error e ≡ true) }
         ensures parts { session.new.shares.parts ≡ session.old.shares.parts }
@@ -448,10 +471,6 @@ where
         self.gate.pass(Point::LoadRead);
         let reader = self.reader(disk);
         let outcome = lock_spinning(reader, rt).read(&ticket)?;
-        let (reply, spare) = self
-            .shared
-            .end_load(rt, session, &self.alloc, ticket, outcome);
-        keep(reader, spare);
-        load_of(reply)
+        self.end_load(rt, session, reader, ticket, outcome)
     }
 }

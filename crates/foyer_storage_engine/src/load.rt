@@ -6,6 +6,8 @@ ghost use Rattle.foyer_storage_engine.specs.Decided.{decided_load};
 use foyer_format_record::serde::Age;
 use foyer_policy_piece::keeper::Piece;
 use std::alloc::Allocator;
+use std::fmt;
+use std::fmt::{Debug, Formatter};
 
 /// Where a loaded entry comes from.
 #[derive(Clone, Copy, Debug, PartialEq, Eq)]
@@ -32,6 +34,18 @@ pub enum Load<K, V, P, A: Allocator> {
     Throttled,
     /// There is none, or another key's.
     Miss,
+}
+
+/// Which answer it is.
+impl<K, V, P, A: Allocator> Debug for Load<K, V, P, A> {
+    fn fmt<W: fmt::Write>(&self, f: &mut Formatter<W>) -> fmt::Result {
+        f.write_str(match self {
+            Load::Entry { .. } => "Entry",
+            Load::Piece { .. } => "Piece",
+            Load::Throttled => "Throttled",
+            Load::Miss => "Miss",
+        })
+    }
 }
 
 impl<K: Drop, V: Drop, P: Drop, A: Allocator> Load<K, V, P, A> {

@@ -6,8 +6,12 @@ use Rattle.foyer_device_page.specs.declared.error.Error.TheVariants as error
 use Rattle.foyer_device_throttle.specs.declared.throttle.Throttle.{Throttle}
 use Rattle.foyer_device_statistics.specs.declared.state.IoState.{IoState}
 use Rattle.foyer_format_record.specs.declared.serde.ages.Age.TheVariants as age
-use Rattle.foyer_policy_filter.specs.Verdict.{AreAnswers, IsAdmit, IsVerdict}
+use Rattle.foyer_policy_filter.specs.Conditions.{IsThrottledBy}
+use Rattle.foyer_policy_filter.specs.Verdict.{AreAnswers, IsAdmit, IsReject, IsVerdict}
 use Rattle.foyer_policy_filter.specs.declared.verdict.StorageFilterResult.{StorageFilterResult}
+use Rattle.foyer_policy_filter.specs.declared.verdict.StorageFilterResult.TheVariants.{Admit, Reject, Throttled}
+use Rattle.std.specs.Duration.{as_nanos, max_nanos}
+use Rattle.std.specs.declared.time.Duration.{Duration}
 use Rattle.foyer_storage_engine.specs.Answering.{IsLoaded, is_draw_error}
 use Rattle.foyer_storage_engine.specs.Decided.{decided_load}
 use Rattle.foyer_storage_engine.specs.Ending.{AsksForReclaims, EndsWithClean}
@@ -17,12 +21,13 @@ use Rattle.foyer_storage_engine.specs.declared.load.Load.{Load}
 use Rattle.foyer_storage_engine.specs.declared.load.Load.TheVariants as load
 use Rattle.foyer_storage_plan.specs.declared.sizes.EngineSizes.{EngineSizes}
 
--- A load looks its hash up, throttled only where there is a limit of reads.
-pub record IsLoadedUnder {K V P A : Type 0} (limits : Throttle) (old new : SessionState) (hash : ℕ) (answered : Result (Load K V P A) Error) : Type 0 where
+-- A load looks its hash up, throttled only where there is a limit of reads; an entry that it answers is the pair of what it read.
+pub record IsLoadedUnder {K V P A : Type 0} (is_key is_value : List ℕ → Bool) (key_of : K → List ℕ) (value_of : V → List ℕ) (limits : Throttle)
+    (old new : SessionState) (hash : ℕ) (answered : Result (Load K V P A) Error) : Type 0 where
   pub throttled : Bool
   pub unlimited : limits.read_throughput ≡ None → limits.read_iops ≡ None → throttled ≡ false
   pub said : answered ≡ Ok load.Throttled → throttled ≡ true
-  pub loaded : IsLoaded false old new hash throttled answered
+  pub loaded : IsLoaded is_key is_value key_of value_of false old new hash throttled answered
 
 -- what the keeper alone answers: the key's piece, young
 abbrev pub IsKept : {K V P A : Type 0} → (K → K → Bool) → K → Result (Load K V P A) Error → Type 0
@@ -45,11 +50,31 @@ abbrev pub IsEstimated : (is_encodable : Bool) → (encoding : List ℕ) → (is
 IsEstimated is_encodable encoding is_key_encodable key size =
     is_key_encodable ≡ true → is_encodable ≡ true → size ≡ min (length encoding + length key) (2 ^ 64 - 1)
 
--- what an admission filter may say of a hash and a size: all is admitted where there is none
-abbrev pub IsAdmission : {C : Type 0} → (C → IoState → ℕ → ℕ → StorageFilterResult → Type 0) → Option (List C) → (hash size : ℕ) → StorageFilterResult → Type 0
-IsAdmission may None hash size verdict = IsAdmit verdict
-IsAdmission may (Some conditions) hash size verdict =
-    (io : IoState) × (answers : List StorageFilterResult) × AreAnswers (λ c a. may c io hash size a) conditions answers × IsVerdict answers verdict
+-- What conditions said, and a wait that is asked for last: a rejection stays one, and else the wait comes on top, saturating.
+abbrev pub IsVerdictWithWait : (before : StorageFilterResult) → (wait : Duration) → StorageFilterResult → Type 0
+IsVerdictWithWait Reject wait verdict = IsReject verdict
+IsVerdictWithWait Admit wait verdict = IsThrottledBy wait verdict
+IsVerdictWithWait (Throttled other) wait Admit = as_nanos other + as_nanos wait ≡ 0
+IsVerdictWithWait (Throttled other) wait Reject = ⊥
+IsVerdictWithWait (Throttled other) wait (Throttled both) = (0 < as_nanos both) × (as_nanos both ≡ min (as_nanos other + as_nanos wait) max_nanos)
+
+-- what the conditions of a filter, if there is one, may say of a hash and a size, by what the device did: all is admitted without one
+abbrev pub IsFiltered : {C : Type 0} → (C → IoState → ℕ → ℕ → StorageFilterResult → Type 0) → Option (List C) → IoState → (hash size : ℕ) → StorageFilterResult → Type 0
+IsFiltered may None io hash size verdict = IsAdmit verdict
+IsFiltered may (Some conditions) io hash size verdict =
+    (answers : List StorageFilterResult) × AreAnswers (λ c a. may c io hash size a) conditions answers × IsVerdict answers verdict
+
+-- What an engine says of an entry: its admission filter, and last, whether the device's limits have writes wait.
+pub record IsAdmission {C : Type 0} (may : C → IoState → ℕ → ℕ → StorageFilterResult → Type 0) (admission : Option (List C)) (io : IoState) (hash size : ℕ) (verdict : StorageFilterResult) : Type 0 where
+  pub before : StorageFilterResult
+  pub filtered : IsFiltered may admission io hash size before
+  pub last : IsVerdictWithWait before io.write_throttle verdict
+
+-- The same by what the device did just then. Without a limit of writes none waits.
+pub record IsAdmissionUnder {C : Type 0} (may : C → IoState → ℕ → ℕ → StorageFilterResult → Type 0) (limits : Throttle) (admission : Option (List C)) (hash size : ℕ) (verdict : StorageFilterResult) : Type 0 where
+  pub io : IoState
+  pub unlimited : limits.write_throughput ≡ None → limits.write_iops ≡ None → as_nanos io.write_throttle ≡ 0
+  pub admitted : IsAdmission may admission io hash size verdict
 
 -- A piece that is forced goes to the engine; another one where the filter admits it, and else its hash is deleted there.
 abbrev pub IsStored : (StorageFilterResult → Type 0) → (Result Enqueued Error → Type 0) → (Result (Unit {0}) Error → Type 0) → Bool → Result Enqueued Error → Type 0

@@ -1,8 +1,8 @@
 //! What a store is built of.
 ghost use Rattle.std.specs.Arc.{arc_value};
-ghost use Rattle.std.specs.Prelude.{◌≡◌, ◌≢◌, ◌+◌, ◌<◌, ◌^◌, IfOk, Err, not, vec_len};
+ghost use Rattle.std.specs.Prelude.{◌≡◌, ◌≢◌, ◌⊎◌, ◌+◌, ◌<◌, ◌^◌, IfErr, IfOk, Err, not, vec_len};
 ghost use Rattle.foyer_block_recover.specs.declared.block.recover.RecoverMode.TheVariants as recover_mode;
-ghost use Rattle.foyer_device_page.specs.declared.error.Error.TheVariants.{Config, Unsupported};
+ghost use Rattle.foyer_device_page.specs.declared.error.Error.TheVariants.{Config, Memory, Unsupported};
 ghost use Rattle.foyer_format_record.specs.declared.compress.Compression.TheVariants as compression;
 
 use crate::config::{Built, EngineBuildContext, EngineConfig, NoopEngineConfig, Recovering};
@@ -19,6 +19,8 @@ use foyer_storage_workers::hand::Hand;
 use foyer_storage_workers::recover::{Recoverer, list_blocks};
 use foyer_storage_workers::workers::{Clock, Worker, Workers};
 use std::alloc::Global;
+use std::fmt;
+use std::fmt::{Debug, Formatter};
 use std::sync::{Arc, Wait};
 use std::thread::Threads;
 
@@ -32,6 +34,13 @@ pub struct StoreBuilder<H: Drop, N: Drop, I: Drop> {
     io_engine: I,
     compression: Compression,
     recover_mode: RecoverMode,
+}
+
+/// The type's name.
+impl<H: Drop, N: Drop, I: Drop> Debug for StoreBuilder<H, N, I> {
+    fn fmt<W: fmt::Write>(&self, f: &mut Formatter<W>) -> fmt::Result {
+        f.write_str("StoreBuilder")
+    }
 }
 
 impl<H: Drop> StoreBuilder<H, NoopEngineConfig, PsyncIoEngineConfig> {
@@ -139,8 +148,9 @@ impl<H: Drop, N: Drop, I: Drop> StoreBuilder<H, N, I> {
     }
 
     /// The store, a session with all parts that its workers don't have, and the workers, which run. The threads of the recovery
-    /// end before. `Config` without a shard; `Unsupported` with a compression; else as the engine's config refuses, or Memory,
-    /// where a worker's thread can't be started: then those that were are joined.
+    /// end before. The clock gives the moments at which reclaims ask their filter; the moments of the device's builder and of each call
+    /// count from the same origin (`SystemClock`). `Config` without a shard; `Unsupported` with a compression; else as the engine's config
+    /// refuses, or Memory, if a worker's thread can't be started: then those that were are joined.
     pub fn build<
         R: Threads + Wait + Copy + Send + 'static,
         T: Clock,
@@ -175,6 +185,12 @@ impl<H: Drop, N: Drop, I: Drop> StoreBuilder<H, N, I> {
         }) (arc_value r.0.shared).engine (arc_value r.0.shared).throttle (vec_len r.2.flushers) (vec_len r.2.reclaimers)) }
         ensures shardless { self.shards ≡ 0 → result ≡ Err Config }
         ensures compressed { self.shards ≢ 0 → self.compression ≢ compression.None → result ≡ Err Unsupported }
+        ensures refused { self.shards ≢ 0 → self.compression ≡ compression.None → IfErr result (λ e. (e ≡ Memory) ⊎ N.may_refuse self.engine (record {
+          io_engine_config = self.io_engine;
+          recover_mode = self.recover_mode;
+          clock = clock;
+          generator = generator;
+        }) e) }
     {
         let StoreBuilder {
             name,

@@ -1,5 +1,5 @@
 //! What an engine is built of, and what a store asks of it.
-ghost use Rattle.std.specs.Prelude.{◌≡◌, ◌+◌, ◌<◌, ◌^◌, IfOk, vec_len};
+ghost use Rattle.std.specs.Prelude.{◌≡◌, ◌+◌, ◌<◌, ◌^◌, IfErr, IfOk, vec_len};
 
 mod block;
 mod device_engine;
@@ -26,6 +26,7 @@ use foyer_policy_keeper::keeper::Keeper;
 use foyer_policy_piece::keeper::Piece;
 use foyer_storage_engine::core_steps::open::RecoverMode;
 use foyer_storage_engine::engine::Enqueued;
+use foyer_storage_engine::engine::counts::WorkCounts;
 use foyer_storage_engine::engine::signals::Signals;
 use foyer_storage_engine::load::Load;
 use foyer_storage_workers::workers::Clock;
@@ -86,8 +87,9 @@ pub struct Recovering<O: Drop, W: Drop> {
 
 /// The calls of an engine, which threads share by reference, each with a session of this type.
 pub trait Engine<S: Drop, K: Eq, V, P>: Drop {
-    ghost use Rattle.std.specs.Prelude.{ℕ, Bool, Result};
+    ghost use Rattle.std.specs.Prelude.{◌≡◌, ℕ, Bool, true, false, Result, IfErr};
     ghost use Rattle.std.specs.declared.alloc.Global.{Global};
+    ghost use Rattle.foyer_storage_engine.specs.Answering.{is_draw_error, is_load_error, is_question_error};
     ghost use Rattle.foyer_device_page.specs.declared.error.Error.{Error};
     ghost use Rattle.foyer_storage_engine.specs.declared.engine.Enqueued.{Enqueued};
     ghost use Rattle.foyer_storage_engine.specs.declared.load.Load.{Load};
@@ -126,11 +128,15 @@ pub trait Engine<S: Drop, K: Eq, V, P>: Drop {
     /// What its device did and has callers wait for, at a moment in nanoseconds.
     fn io_state(&self, rt: &impl Wait, now: u64) -> IoState;
 
+    /// What its threads did since it was opened.
+    fn work(&self) -> WorkCounts;
+
     /// What its admission filter says of an entry of that hash and size in bytes, at a moment.
     fn filter(&self, rt: &impl Wait, hash: u64, size: usize, now: u64) -> StorageFilterResult
         ensures { may_judge self.now hash size result };
 
-    /// Queues a piece, and keeps it in this keeper where it is queued; `size` is its estimated size in bytes.
+    /// Queues a piece, and keeps it in this keeper where it is queued; `size` is its estimated size in bytes. `Closed`, `Memory`,
+    /// `SequenceEnd`.
     fn enqueue(
         &self,
         rt: &impl Wait,
@@ -139,9 +145,10 @@ pub trait Engine<S: Drop, K: Eq, V, P>: Drop {
         piece: &Piece<K, V, P, Global>,
         size: usize,
     ) -> Result<Enqueued>
-        ensures answered { may_enqueue self.now session.old session.new piece.now.hash size result };
+        ensures answered { may_enqueue self.now session.old session.new piece.now.hash size result }
+        ensures refused { IfErr result (λ e. is_draw_error e ≡ true) };
 
-    /// Looks a hash up at a moment, and reads what it stands for.
+    /// Looks a hash up at a moment, and reads what it stands for. `Io`, `Memory`, `Parse`, `Unsupported`, `SequenceEnd`.
     fn load(
         &self,
         rt: &impl Wait,
@@ -149,15 +156,18 @@ pub trait Engine<S: Drop, K: Eq, V, P>: Drop {
         hash: u64,
         now: u64,
     ) -> Result<Load<K, V, P, Global>>
-        ensures answered { may_load self.now session.old session.new hash result };
+        ensures answered { may_load self.now session.old session.new hash result }
+        ensures refused { IfErr result (λ e. is_load_error e ≡ true) };
 
-    /// Accepts a delete of a hash.
+    /// Accepts a delete of a hash. `Closed`, `Memory`, `SequenceEnd`.
     fn delete(&self, rt: &impl Wait, session: &mut S, hash: u64) -> Result<()>
-        ensures answered { may_delete self.now session.old session.new hash result };
+        ensures answered { may_delete self.now session.old session.new hash result }
+        ensures refused { IfErr result (λ e. is_draw_error e ≡ true) };
 
-    /// Whether a hash is indexed.
+    /// Whether a hash is indexed. `SequenceEnd`.
     fn may_contains(&self, rt: &impl Wait, session: &mut S, hash: u64) -> Result<bool>
-        ensures answered { may_ask self.now session.old session.new hash result };
+        ensures answered { may_ask self.now session.old session.new hash result }
+        ensures refused { IfErr result (λ e. is_question_error false e ≡ true) };
 
     /// Destroys all entries.
     fn destroy(&self, rt: &impl Wait, session: &mut S) -> Result<()>
@@ -175,6 +185,7 @@ pub trait Engine<S: Drop, K: Eq, V, P>: Drop {
 /// Builds engines over a runtime R; `X` is what they are built with, an `EngineBuildContext`, and `S` the session that has all
 /// parts.
 pub trait EngineConfig<R: Copy, X: Drop, S: Drop, K: Eq, V, P>: Sized + Drop {
+    ghost use Rattle.foyer_device_page.specs.declared.error.Error.{Error};
     ghost use Rattle.foyer_core_tally.specs.declared.blanks.Blanks.{Blanks};
     ghost use Rattle.foyer_device_throttle.specs.declared.throttle.Throttle.{Throttle};
     ghost use Rattle.std.specs.Prelude.{Bool, ℕ};
@@ -206,6 +217,9 @@ pub trait EngineConfig<R: Copy, X: Drop, S: Drop, K: Eq, V, P>: Sized + Drop {
     // Which opening it begins, of what it is built with.
     ghost may_begin: { Self → X → Self.Opening → Type 0 };
 
+    // Why it may be refused, of what it is built with.
+    ghost may_refuse: { Self → X → Error → Type 0 };
+
     // What it may build, with these limits of its device and so many flushers and reclaimers, of what it is built with.
     ghost may_build: { Self → X → Self.Engine → Throttle → ℕ → ℕ → Type 0 };
 
@@ -221,7 +235,8 @@ pub trait EngineConfig<R: Copy, X: Drop, S: Drop, K: Eq, V, P>: Sized + Drop {
         alloc: Global,
         context: X,
     ) -> Result<Recovering<Self::Opening, Self::Recoverer>>
-        ensures begun { IfOk result (λ r. may_begin self context r.opening) };
+        ensures begun { IfOk result (λ r. may_begin self context r.opening) }
+        ensures refused { IfErr result (λ e. may_refuse self context e) };
 
     /// The opening with what a worker of its recovery listed: of each block the listing that is there first stays.
     fn add(opening: Self::Opening, listed: Self::Listed) -> Self::Opening
@@ -238,5 +253,6 @@ pub trait EngineConfig<R: Copy, X: Drop, S: Drop, K: Eq, V, P>: Sized + Drop {
         requires { fits blanks }
         ensures parts { IfOk result (λ b. vec_len b.flushers + vec_len b.reclaimers + 1 < 2 ^ 32) }
         ensures built { (config : Self) (context : X) → may_begin config context opening
-            → IfOk result (λ b. may_build config context b.engine b.throttle (vec_len b.flushers) (vec_len b.reclaimers)) };
+            → IfOk result (λ b. may_build config context b.engine b.throttle (vec_len b.flushers) (vec_len b.reclaimers)) }
+        ensures refused { (config : Self) (context : X) → may_begin config context opening → IfErr result (λ e. may_refuse config context e) };
 }

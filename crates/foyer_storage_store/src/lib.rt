@@ -5,6 +5,7 @@
 
 pub mod builder;
 pub mod config;
+pub mod counters;
 pub mod session;
 pub mod store;
 pub mod whole;

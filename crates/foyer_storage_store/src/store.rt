@@ -1,13 +1,16 @@
 //! The store: a keeper of the pieces that aren't written yet, before an engine.
 ghost use Rattle.std.specs.Arc.{arc_value};
 ghost use Rattle.std.specs.declared.alloc.Global.{Global};
-ghost use Rattle.std.specs.Prelude.{◌≡◌, ◌⊎◌, ◌<◌, ℕ, Result, Ok, true, IfOk, IsOkUnless};
+ghost use Rattle.std.specs.Prelude.{◌≡◌, ◌⊎◌, ◌<◌, ℕ, Result, Ok, Err, true, false, IfErr, IfOk, IsOkUnless};
+ghost use Rattle.foyer_policy_piece.specs.Record.{record_of};
 ghost use Rattle.foyer_device_page.specs.declared.error.Error.{Error};
 ghost use Rattle.foyer_device_page.specs.declared.error.Error.TheVariants as error;
+ghost use Rattle.foyer_storage_engine.specs.Answering.{is_draw_error, is_load_error, is_question_error};
 ghost use Rattle.foyer_storage_engine.specs.declared.load.Load.{Load};
 ghost use Rattle.foyer_storage_store.specs.Storing.{IsDecided, IsEstimated, IsKept, IsStored};
 
 use crate::config::{DeviceSummary, Engine};
+use crate::counters::{CallCounters, StoreCounters};
 use foyer_device_page::error::Result;
 use foyer_device_statistics::{IoState, Statistics};
 use foyer_device_throttle::Throttle;
@@ -18,6 +21,8 @@ use foyer_policy_piece::keeper::Piece;
 use foyer_storage_engine::engine::Enqueued;
 use foyer_storage_engine::load::{Load, decide_load};
 use std::alloc::{AllocError, Global};
+use std::fmt;
+use std::fmt::{Debug, Formatter};
 use std::sync::{Arc, Wait};
 
 // What the clones of a store share.
@@ -29,6 +34,7 @@ struct Inner<N: Drop, K: Eq, V, P, H: Drop> {
     engine: N,
     statistics: Arc<Statistics<Global>, Global>,
     throttle: Throttle,
+    calls: CallCounters,
 }
 
 // Written out, so that it is proved once.
@@ -42,6 +48,7 @@ impl<N: Drop, K: Eq + Drop, V: Drop, P: Drop, H: Drop> Drop for Inner<N, K, V, P
             engine: _,
             statistics: _,
             throttle: _,
+            calls: _,
         } = self;
     }
 }
@@ -55,6 +62,13 @@ pub struct Store<N: Drop, K: Eq, V, P, H: Drop> {
 impl<N: Drop, K: Eq + Drop, V: Drop, P: Drop, H: Drop> Drop for Store<N, K, V, P, H> {
     fn drop(self) {
         let Store { shared: _ } = self;
+    }
+}
+
+/// The type's name.
+impl<N: Drop, K: Eq, V, P, H: Drop> Debug for Store<N, K, V, P, H> {
+    fn fmt<W: fmt::Write>(&self, f: &mut Formatter<W>) -> fmt::Result {
+        f.write_str("Store")
     }
 }
 
@@ -87,6 +101,7 @@ impl<N: Drop, K: Eq + Drop, V: Drop, P: Drop, H: Drop> Store<N, K, V, P, H> {
             × ((arc_value store.shared).throttle ≡ throttle)) }
         ensures refused { IsOkUnless result error.Memory }
     {
+        let calls = CallCounters::new(alloc)?;
         let inner = Inner {
             name,
             hasher,
@@ -95,6 +110,7 @@ impl<N: Drop, K: Eq + Drop, V: Drop, P: Drop, H: Drop> Store<N, K, V, P, H> {
             engine,
             statistics,
             throttle,
+            calls,
         };
         Ok(Store {
             shared: Arc::new(alloc, inner)?,
@@ -156,7 +172,71 @@ impl<N: Drop, K: Eq + Drop, V: Drop, P: Drop, H: Drop> Store<N, K, V, P, H> {
         self.shared.engine.io_state(rt, now)
     }
 
-    /// What the admission filter says of a key and an estimated size in bytes, at a moment in nanoseconds.
+    /// What it did since it was built, for all its callers, at a moment in nanoseconds. No clause says what these numbers are; a session's
+    /// `tally` is exact.
+    pub fn counters<S: Drop>(&self, rt: &impl Wait, now: u64) -> StoreCounters
+    where
+        N: Engine<S, K, V, P>,
+    {
+        let io = self.shared.engine.io_state(rt, now);
+        self.shared.calls.with(&io, self.shared.engine.work())
+    }
+
+    /// The hash of a key.
+    pub fn hash_of(&self, key: &K) -> u64
+    where
+        H: HashBuilder<K>,
+        ensures { result ≡ H.hash_of (arc_value self.now.shared).hasher key.now }
+    {
+        self.shared.hasher.hash_one(key)
+    }
+
+    /// A piece of a key, with its hash. `Memory` alone; key, value and properties are dropped then.
+    pub fn piece(
+        &self,
+        alloc: Global,
+        key: K,
+        value: V,
+        properties: P,
+    ) -> Result<Piece<K, V, P, Global>>
+    where
+        H: HashBuilder<K>,
+        ensures ok { IfOk result (λ piece. piece ≡ record_of key value (H.hash_of (arc_value self.now.shared).hasher key) properties) }
+        ensures refused { IfErr result (λ e. e ≡ error.Memory) }
+    {
+        let hash = self.shared.hasher.hash_one(&key);
+        Piece::new(alloc, key, value, hash, properties)
+    }
+
+    /// Puts a value under a key, with its properties, at a moment in nanoseconds: a piece of them that isn't forced, as `enqueue` does.
+    /// `Closed`, `Memory` and `SequenceEnd` leave the store as it was.
+    pub fn put<S: Drop>(
+        &self,
+        rt: &impl Wait,
+        alloc: Global,
+        session: &mut S,
+        key: K,
+        value: V,
+        properties: P,
+        now: u64,
+    ) -> Result<Enqueued>
+    where
+        N: Engine<S, K, V, P>,
+        K: Code<Global>,
+        V: Code<Global>,
+        H: HashBuilder<K>,
+        ensures answered { ((result ≡ Err error.Memory) × (session.new ≡ session.old))
+            ⊎ ((size : ℕ) × IsEstimated (V.is_encodable value) (V.encoding value) (K.is_encodable key) (K.encoding key) size × IsStored
+            (N.may_judge (arc_value self.now.shared).engine (H.hash_of (arc_value self.now.shared).hasher key) size)
+            (N.may_enqueue (arc_value self.now.shared).engine session.old session.new (H.hash_of (arc_value self.now.shared).hasher key) size)
+            (N.may_delete (arc_value self.now.shared).engine session.old session.new (H.hash_of (arc_value self.now.shared).hasher key)) false result) }
+        ensures refused { IfErr result (λ e. is_draw_error e ≡ true) }
+    {
+        let piece = self.piece(alloc, key, value, properties)?;
+        self.enqueue(rt, session, &piece, false, now)
+    }
+
+    /// What the admission filter and a limit of writes say of a key and an estimated size in bytes, at a moment in nanoseconds.
     pub fn filter<S: Drop>(
         &self,
         rt: &impl Wait,
@@ -173,9 +253,9 @@ impl<N: Drop, K: Eq + Drop, V: Drop, P: Drop, H: Drop> Store<N, K, V, P, H> {
         self.shared.engine.filter(rt, hash, size, now)
     }
 
-    /// Hands a piece in, whose hash is the hasher's of its key: where it is forced or admitted it is queued at the engine, and
-    /// kept until it is written; else its key is deleted. A piece that isn't queued isn't kept, and replaces none that is.
-    /// `Closed`, `Memory` and `SequenceEnd` leave the store as it was.
+    /// Hands a piece in, whose hash is the hasher's of its key, as `piece` makes it. If it is forced, or the admission filter and the
+    /// limits of writes admit it, it is queued at the engine, and kept until it is written; else its key is deleted. A piece that isn't
+    /// queued isn't kept, and replaces none that is. `Closed`, `Memory` and `SequenceEnd` leave the store as it was.
     pub fn enqueue<S: Drop>(
         &self,
         rt: &impl Wait,
@@ -188,10 +268,13 @@ impl<N: Drop, K: Eq + Drop, V: Drop, P: Drop, H: Drop> Store<N, K, V, P, H> {
         N: Engine<S, K, V, P>,
         K: Code<Global>,
         V: Code<Global>,
+        H: HashBuilder<K>,
+        requires own { piece.now.hash ≡ H.hash_of (arc_value self.now.shared).hasher piece.now.key }
         ensures answered { (size : ℕ) × IsEstimated (V.is_encodable piece.now.value) (V.encoding piece.now.value) (K.is_encodable piece.now.key) (K.encoding piece.now.key) size × IsStored
             (N.may_judge (arc_value self.now.shared).engine piece.now.hash size)
             (N.may_enqueue (arc_value self.now.shared).engine session.old session.new piece.now.hash size)
             (N.may_delete (arc_value self.now.shared).engine session.old session.new piece.now.hash) force result }
+        ensures refused { IfErr result (λ e. is_draw_error e ≡ true) }
     {
         let inner = &self.shared;
         let size = EntrySerializer::estimated_size::<Global, K, V>(piece.key(), piece.value());
@@ -201,15 +284,20 @@ impl<N: Drop, K: Eq + Drop, V: Drop, P: Drop, H: Drop> Store<N, K, V, P, H> {
                 .filter(rt, piece.hash(), size, now)
                 .is_admitted()
         {
-            return inner
+            let enqueued = inner
                 .engine
-                .enqueue(rt, session, &inner.keeper, piece, size);
+                .enqueue(rt, session, &inner.keeper, piece, size)?;
+            inner.calls.add_put(piece.hash(), enqueued);
+            return Ok(enqueued);
         }
         inner.engine.delete(rt, session, piece.hash())?;
+        inner.calls.add_rejected(piece.hash());
         Ok(Enqueued::Deleted)
     }
 
-    /// What a key has, at a moment in nanoseconds: the keeper's piece, else what the engine reads; another key's is a miss.
+    /// What a key has, at a moment in nanoseconds: the keeper's piece, else what the engine reads; another key's is a miss. `Io` where
+    /// the read failed, `Memory` where it or the entry finds no memory, `Parse` and `Unsupported` where the entry isn't readable,
+    /// `SequenceEnd` where no step is left.
     pub fn load<S: Drop>(
         &self,
         rt: &impl Wait,
@@ -224,35 +312,46 @@ impl<N: Drop, K: Eq + Drop, V: Drop, P: Drop, H: Drop> Store<N, K, V, P, H> {
             ⊎ ((answer : Result (Load K V P Global) Error)
             × N.may_load (arc_value self.now.shared).engine session.old session.new (H.hash_of (arc_value self.now.shared).hasher key.now) answer
             × IsDecided K.eq key.now answer result) }
+        ensures refused { IfErr result (λ e. is_load_error e ≡ true) }
     {
         let inner = &self.shared;
         let hash = inner.hasher.hash_one(key);
         let kept = inner.keeper.get(rt, hash, key)?;
         if kept.is_some() {
-            return Ok(decide_load(key, kept, Load::Miss));
+            let answer = decide_load(key, kept, Load::Miss);
+            inner.calls.add_load(hash, &answer);
+            return Ok(answer);
         }
-        let answer = inner.engine.load(rt, session, hash, now)?;
-        Ok(decide_load(key, None, answer))
+        let answer = decide_load(key, None, inner.engine.load(rt, session, hash, now)?);
+        inner.calls.add_load(hash, &answer);
+        Ok(answer)
     }
 
-    /// Deletes a key. A piece that is still kept stays until it is written.
+    /// Deletes a key. A piece that is still kept stays until it is written. `Closed`, `Memory` and `SequenceEnd` leave the store as
+    /// it was.
     pub fn delete<S: Drop>(&self, rt: &impl Wait, session: &mut S, key: &K) -> Result<()>
     where
         N: Engine<S, K, V, P>,
         H: HashBuilder<K>,
         ensures answered { N.may_delete (arc_value self.now.shared).engine session.old session.new (H.hash_of (arc_value self.now.shared).hasher key.now) result }
+        ensures refused { IfErr result (λ e. is_draw_error e ≡ true) }
     {
         let hash = self.shared.hasher.hash_one(key);
-        self.shared.engine.delete(rt, session, hash)
+        let deleted = self.shared.engine.delete(rt, session, hash);
+        if deleted.is_ok() {
+            self.shared.calls.add_delete(hash);
+        }
+        deleted
     }
 
-    /// Whether the keeper has the key, or the engine has its hash.
+    /// Whether the keeper has the key, or the engine has its hash. `SequenceEnd` where no step is left.
     pub fn may_contains<S: Drop>(&self, rt: &impl Wait, session: &mut S, key: &K) -> Result<bool>
     where
         N: Engine<S, K, V, P>,
         H: HashBuilder<K>,
         ensures answered { ((session.new ≡ session.old) × (result ≡ Ok true))
             ⊎ N.may_ask (arc_value self.now.shared).engine session.old session.new (H.hash_of (arc_value self.now.shared).hasher key.now) result }
+        ensures refused { IfErr result (λ e. is_question_error false e ≡ true) }
     {
         let hash = self.shared.hasher.hash_one(key);
         if self.shared.keeper.contains(rt, hash, key) {

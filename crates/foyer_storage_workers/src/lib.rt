@@ -2,6 +2,7 @@
 //! blocks at an opening; and the session that each takes along.
 #![tactic(auto)]
 
+pub mod clock;
 pub mod hand;
 pub mod recover;
 pub mod workers;

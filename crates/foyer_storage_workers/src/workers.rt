@@ -1,11 +1,13 @@
 //! The threads, from their start to their join.
 ghost use Rattle.std.specs.Prelude.{◌≡◌, ◌+◌, ◌<◌, vec_len, OnOk};
+ghost use Rattle.foyer_storage_engine.specs.Ending.{HoldsNamed};
 
 mod flusher;
 mod reclaimer;
 
 pub use self::flusher::{FlusherParts, FlusherWorker};
-pub use self::reclaimer::{Clock, Moment, ReclaimerParts, ReclaimerWorker};
+pub use self::reclaimer::{ReclaimerParts, ReclaimerWorker};
+pub use crate::clock::{Clock, Moment, SystemClock};
 use crate::hand::Hand;
 use foyer_core_tally::book::Kinds;
 use foyer_storage_engine::core_shared::session::Session;
@@ -86,12 +88,15 @@ impl<L: Kinds> Drop for Workers<L> {
 }
 
 // Joins the threads, and their sessions into this one.
+#[tactic(auto, using(foyer_storage_engine::proofs::HoldingLemmas::held_on, foyer_storage_engine::proofs::HoldingLemmas::held_by_unnamed))]
 fn join_all<L: Kinds>(
     rt: &impl Threads,
     mut threads: Vec<JoinHandle<Hand<L>>>,
     session: Session<L>,
 ) -> Session<L>
-    ensures { result.shares.parts ≡ session.shares.parts + vec_len threads }
+    ensures parts { result.shares.parts ≡ session.shares.parts + vec_len threads }
+    ensures named { HoldsNamed session result }
+    ensures briefs { (result.newest ≡ session.newest) × (result.before ≡ session.before) }
 {
     let mut all = session;
     while let Some(thread) = threads.pop() {
@@ -136,9 +141,13 @@ impl<L: Kinds> Workers<L> {
     }
 
     /// Has the threads do what is left to do and end, the flushers first, since they may need a reclaim; joins them, and their
-    /// sessions into this one. It comes after the engine's `close`: what is queued later may not be written, and no wait lasts.
+    /// sessions into this one, which keeps its briefs: they made no put, no delete and no load. It comes after the engine's `close`:
+    /// what is queued later may not be written, and no wait lasts.
+    #[tactic(auto, using(foyer_storage_engine::proofs::HoldingLemmas::held_on))]
     pub fn join<R: Threads + Wait>(self, rt: &R, session: Session<L>) -> Session<L>
-        ensures { result.shares.parts ≡ session.shares.parts + vec_len self.flushers + vec_len self.reclaimers }
+        ensures parts { result.shares.parts ≡ session.shares.parts + vec_len self.flushers + vec_len self.reclaimers }
+        ensures named { HoldsNamed session result }
+        ensures briefs { (result.newest ≡ session.newest) × (result.before ≡ session.before) }
     {
         let Workers {
             signals,

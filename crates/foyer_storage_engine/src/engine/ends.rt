@@ -4,12 +4,12 @@ ghost use Rattle.foyer_core_steps.specs.declared.reply.Reply.TheVariants as repl
 ghost use Rattle.foyer_core_steps.specs.declared.step.Step.{Step};
 ghost use Rattle.foyer_device_page.specs.declared.error.ErrorKind.TheVariants as kind;
 ghost use Rattle.foyer_core_shared.specs.Answers.{IsAnswer};
-ghost use Rattle.foyer_core_shared.specs.Briefs.{brief_of};
+ghost use Rattle.foyer_core_shared.specs.Briefs.{brief_of, reply_brief, step_brief};
 ghost use Rattle.foyer_core_shared.specs.Replies.{may_reply};
 ghost use Rattle.foyer_storage_engine.specs.Answering.{is_draw_error};
 ghost use Rattle.foyer_core_shared.specs.declared.brief.ReplyBrief.TheVariants as replied;
 ghost use Rattle.foyer_core_shared.specs.declared.brief.StepBrief.TheVariants as asked;
-ghost use Rattle.foyer_storage_engine.specs.Ending.{AsksForReclaims, AsksToWait, BringsClean, EndsWithClean, HasBegun, IsUnbegun, is_late_error};
+ghost use Rattle.foyer_storage_engine.specs.Ending.{AsksForReclaims, AsksToWait, BringsClean, CountsStep, EndsWithClean, HasBegun, HoldsNamed, IsUnbegun, is_late_error};
 
 use super::{BlockEngine, error_of};
 use foyer_block_index::manager::BlockId;
@@ -45,6 +45,7 @@ where
 {
     /// One step, at which a filter that is asked is shown `io`, made again while memory is refused for it. The session's newest
     /// brief is then that of this step and of this very reply.
+    #[tactic(auto, using(crate::proofs::HoldingLemmas::counts_step, crate::proofs::HoldingLemmas::held_by_refusal))]
     pub fn step_again(
         &self,
         rt: &impl Wait,
@@ -57,6 +58,7 @@ where
         ensures newest { session.new.newest ≡ Some (brief_of step result) }
         ensures replied { may_reply step result ≡ true }
         ensures again { (back : Step K V P A) → result ≡ reply.Refused kind.Memory back → ⊥ }
+        ensures counted { CountsStep session.old session.new (step_brief step) (reply_brief result) }
         ensures parts { session.new.shares.parts ≡ session.old.shares.parts }
     {
         let mut given = step;
@@ -73,10 +75,12 @@ where
     }
 
     // Queues a wait at each flusher. Where one is refused the wait is given up, and those that are queued stay.
+    #[tactic(auto, using(crate::proofs::HoldingLemmas::held_by_made, crate::proofs::HoldingLemmas::held_on))]
     fn queue_waits(&self, rt: &impl Wait, session: &mut Session<L>) -> Result<u64>
         requires { 0 < session.old.shares.parts }
         ensures queued { IfOk result (λ id. 0 < self.now.settings.flushers → AsksToWait (self.now.settings.flushers - 1) id session.new) }
         ensures refused { IfErr result (λ e. is_draw_error e ≡ true) }
+        ensures named { HoldsNamed session.old session.new }
         ensures parts { session.new.shares.parts ≡ session.old.shares.parts }
     {
         let id = self.signals.waits.begin(rt, self.settings.flushers)?;
@@ -95,10 +99,12 @@ where
     }
 
     // Waits until no reclaim runs.
+    #[tactic(auto, using(crate::proofs::HoldingLemmas::held_by_made, crate::proofs::HoldingLemmas::held_on))]
     fn wait_for_reclaims(&self, rt: &impl Wait, session: &mut Session<L>) -> Result<()>
         requires { 0 < session.old.shares.parts }
         ensures asks { OnOk result (AsksForReclaims session.new) }
         ensures refused { IfErr result (λ e. is_draw_error e ≡ true) }
+        ensures named { HoldsNamed session.old session.new }
         ensures parts { session.new.shares.parts ≡ session.old.shares.parts }
     {
         for _ in rt.forever() {
@@ -117,11 +123,14 @@ where
     }
 
     /// Waits until all that was queued before is written, and then until no reclaim runs, which is its last step. `Memory` where a
-    /// step is refused it, and `SequenceEnd` where none is left: what the steps before it did stays.
+    /// step is refused it, and `SequenceEnd` where none is left: what the steps before it did stays. The clause also leaves `Closed` open,
+    /// which no core answers to a wait.
+    #[tactic(auto, using(crate::proofs::HoldingLemmas::held_on))]
     pub fn wait(&self, rt: &impl Wait, session: &mut Session<L>) -> Result<()>
         requires { 0 < session.old.shares.parts }
         ensures asks { OnOk result (AsksForReclaims session.new) }
         ensures refused { IfErr result (λ e. is_draw_error e ≡ true) }
+        ensures named { HoldsNamed session.old session.new }
         ensures parts { session.new.shares.parts ≡ session.old.shares.parts }
     {
         let id = self.queue_waits(rt, session)?;
@@ -130,10 +139,12 @@ where
     }
 
     /// Takes no more enqueues, deletes and destroys, and waits as `wait` does.
+    #[tactic(auto, using(crate::proofs::HoldingLemmas::held_by_made, crate::proofs::HoldingLemmas::held_on))]
     pub fn close(&self, rt: &impl Wait, session: &mut Session<L>) -> Result<()>
         requires { 0 < session.old.shares.parts }
         ensures asks { OnOk result (AsksForReclaims session.new) }
         ensures refused { IfErr result (λ e. is_draw_error e ≡ true) }
+        ensures named { HoldsNamed session.old session.new }
         ensures parts { session.new.shares.parts ≡ session.old.shares.parts }
     {
         if let Reply::Refused(kind, _) = self.shared.step(rt, session, no_io(), Step::Close) {
@@ -143,11 +154,13 @@ where
     }
 
     // Begins a destroy, once none is under way.
+    #[tactic(auto, using(crate::proofs::HoldingLemmas::held_by_made, crate::proofs::HoldingLemmas::held_on))]
     fn begin_destroy(&self, rt: &impl Wait, session: &mut Session<L>) -> Result<()>
         requires { 0 < session.old.shares.parts }
         ensures begun { OnOk result (HasBegun session.new) }
         ensures refused { IfErr result (λ e. is_draw_error e ≡ true) }
         ensures unbegun { IfErr result (λ e. (is_late_error e ≡ true) ⊎ IsUnbegun N.keeps session.new e) }
+        ensures named { HoldsNamed session.old session.new }
         ensures parts { session.new.shares.parts ≡ session.old.shares.parts }
     {
         for _ in rt.forever() {
@@ -166,10 +179,12 @@ where
     }
 
     // Waits as `wait` does, again while memory is refused.
+    #[tactic(auto, using(crate::proofs::HoldingLemmas::held_on))]
     fn wait_again(&self, rt: &impl Wait, session: &mut Session<L>) -> Result<()>
         requires { 0 < session.old.shares.parts }
         ensures asks { OnOk result (AsksForReclaims session.new) }
         ensures refused { IfErr result (λ e. is_late_error e ≡ true) }
+        ensures named { HoldsNamed session.old session.new }
         ensures parts { session.new.shares.parts ≡ session.old.shares.parts }
     {
         for _ in rt.forever() {
@@ -182,10 +197,12 @@ where
     }
 
     // Clears the index, once nothing is under way.
+    #[tactic(auto, using(crate::proofs::HoldingLemmas::held_by_step, crate::proofs::HoldingLemmas::held_on))]
     fn clear(&self, rt: &impl Wait, session: &mut Session<L>) -> Result<()>
         requires { 0 < session.old.shares.parts }
         ensures cleared { OnOk result (session.new.newest ≡ Some (record { step = asked.DestroyClear; reply = replied.Cleared })) }
         ensures refused { IfErr result (λ e. is_late_error e ≡ true) }
+        ensures named { HoldsNamed session.old session.new }
         ensures parts { session.new.shares.parts ≡ session.old.shares.parts }
     {
         for _ in rt.forever() {
@@ -204,9 +221,11 @@ where
     }
 
     // Cleans a block for a destroy: the outcome of all cleans, where this was the last.
+    #[tactic(auto, using(crate::proofs::HoldingLemmas::held_by_step, crate::proofs::HoldingLemmas::held_on))]
     fn clean(&self, rt: &impl Wait, session: &mut Session<L>, block: BlockId) -> Option<Result<()>>
         requires { 0 < session.old.shares.parts }
         ensures brings { BringsClean block session.new result }
+        ensures named { HoldsNamed session.old session.new }
         ensures parts { session.new.shares.parts ≡ session.old.shares.parts }
     {
         let result = self.reader.lock(rt).clean(block);
@@ -221,6 +240,7 @@ where
     /// Destroys all entries: waits as `wait` does, clears the index, and cleans each block, the last one last. Once it has begun it tries again
     /// what is refused memory. `Closed` where the engine is closed, and `SequenceEnd` where no step is left. `Io`, or another kind, is that
     /// of the first clean that failed: the others were done.
+    #[tactic(auto, using(crate::proofs::HoldingLemmas::held_on))]
     pub fn destroy(&self, rt: &impl Wait, session: &mut Session<L>) -> Result<()>
         requires { 0 < session.old.shares.parts }
         ensures cleaned { OnOk result (0 < self.now.settings.blocks → EndsWithClean (self.now.settings.blocks - 1) session.new result) }
@@ -228,6 +248,7 @@ where
             ⊎ (0 < self.now.settings.blocks → EndsWithClean (self.now.settings.blocks - 1) session.new result)) }
         ensures unbegun { IfErr result (λ e. (is_late_error e ≡ true) ⊎ (IsUnbegun N.keeps session.new e
             ⊎ (0 < self.now.settings.blocks → EndsWithClean (self.now.settings.blocks - 1) session.new result))) }
+        ensures named { HoldsNamed session.old session.new }
         ensures parts { session.new.shares.parts ≡ session.old.shares.parts }
     {
         self.begin_destroy(rt, session)?;

@@ -1,4 +1,5 @@
 //! What the workers of an engine and its callers tell one another.
+use super::counts::WorkCounters;
 use super::waits::Waits;
 use crate::bell::Bell;
 use std::alloc::Allocator;
@@ -14,6 +15,8 @@ pub struct Signals<A: Allocator> {
     pub done: Bell,
     /// The waits that flushers have yet to answer.
     pub waits: Waits<A>,
+    /// What its threads did.
+    pub work: WorkCounters,
 }
 
 // Written out, so that it is proved once.
@@ -24,18 +27,20 @@ impl<A: Allocator> Drop for Signals<A> {
             reclaims: _,
             done: _,
             waits: _,
+            work: _,
         } = self;
     }
 }
 
 impl<A: Allocator> Signals<A> {
-    /// Bells that nobody rang, and no wait.
+    /// Bells that nobody rang, no wait, and nothing done.
     pub fn new(alloc: A) -> Signals<A> {
         Signals {
             queued: Bell::new(),
             reclaims: Bell::new(),
             done: Bell::new(),
             waits: Waits::new(alloc),
+            work: WorkCounters::new(),
         }
     }
 

@@ -9,6 +9,8 @@ use foyer_device_partition::io::device::Device;
 use foyer_policy_filter::{BuiltInCondition, StorageFilter, StorageFilterCondition};
 use foyer_storage_plan::sizes::EngineSizes;
 use std::alloc::{AllocError, Allocator, Global};
+use std::fmt;
+use std::fmt::{Debug, Formatter};
 
 /// Builds an engine over the blocks of a device.
 #[derive(Drop)]
@@ -26,9 +28,17 @@ pub struct BlockEngineConfig<
     pub(super) gate: G,
 }
 
+/// The type's name.
+impl<D: Device, S: PickerSource, C: StorageFilterCondition, G: Gate> Debug
+    for BlockEngineConfig<D, S, C, G> {
+    fn fmt<W: fmt::Write>(&self, f: &mut Formatter<W>) -> fmt::Result {
+        f.write_str("BlockEngineConfig")
+    }
+}
+
 impl<D: Device> BlockEngineConfig<D, DefaultPickers, BuiltInCondition, OpenGate> {
-    /// An engine over this device, with every size at its default; all is admitted, nothing is written again, no delete is
-    /// logged, and no thread is held.
+    /// An engine over this device, with every size at its default; all is admitted that the device's limits admit, nothing is written again,
+    /// no delete is logged, and no thread is held.
     pub fn new(device: D) -> BlockEngineConfig<D, DefaultPickers, BuiltInCondition, OpenGate>
         ensures device { result.device ≡ device }
         ensures filters { (result.admission ≡ None) × (result.reinsertion ≡ None) }
@@ -145,7 +155,7 @@ impl<D: Device, S: PickerSource, C: StorageFilterCondition, G: Gate> BlockEngine
         self.with_sizes(sizes)
     }
 
-    /// The queued bytes above which pieces are ignored. Default: `DEFAULT_SUBMIT_QUEUE_SIZE_THRESHOLD`.
+    /// The queued bytes above which puts aren't taken: their keys are deleted. Default: `DEFAULT_SUBMIT_QUEUE_SIZE_THRESHOLD`.
     pub fn with_submit_queue_size_threshold(
         self,
         submit_queue_size_threshold: usize,
@@ -159,7 +169,8 @@ impl<D: Device, S: PickerSource, C: StorageFilterCondition, G: Gate> BlockEngine
         self.with_sizes(sizes)
     }
 
-    /// The clean blocks below which a reclaim may begin. Default: `DEFAULT_CLEAN_BLOCK_THRESHOLD`.
+    /// The clean blocks below which a reclaim may begin. Default: `DEFAULT_CLEAN_BLOCK_THRESHOLD`. Above 1 it is `Config` at `build` unless there
+    /// are more blocks: with as many clean blocks as there are nothing would be kept.
     pub fn with_clean_block_threshold(
         self,
         clean_block_threshold: usize,
@@ -212,8 +223,8 @@ impl<D: Device, S: PickerSource, C: StorageFilterCondition, G: Gate> BlockEngine
         }
     }
 
-    /// What decides which entries are written, and which records of a reclaimed block are written again: conditions of one
-    /// type. Default: all entries, and no record.
+    /// What decides which entries are written, before the device's limits of writes are asked, and which records of a reclaimed block are
+    /// written again: conditions of one type. Default: all entries, and no record.
     pub fn with_filters<F: StorageFilterCondition>(
         self,
         admission: Option<StorageFilter<F, Global>>,
@@ -240,7 +251,7 @@ impl<D: Device, S: PickerSource, C: StorageFilterCondition, G: Gate> BlockEngine
         }
     }
 
-    /// What decides which entries are written. Default: all are.
+    /// What decides which entries are written, before the device's limits of writes are asked. Default: all are.
     pub fn with_admission_filter(
         self,
         filter: StorageFilter<C, Global>,

@@ -1,5 +1,8 @@
 //! An engine over the blocks of a device, with its admission filter.
 ghost use Rattle.std.specs.Prelude.{◌≡◌, None, false};
+ghost use Rattle.std.specs.Duration.{as_nanos};
+ghost use Rattle.foyer_policy_filter.specs.Conditions.{IsThrottledBy};
+ghost use Rattle.foyer_storage_store.specs.Storing.{IsAdmission, IsVerdictWithWait};
 
 use super::{DeviceSummary, Engine};
 use crate::session::StoreSession;
@@ -20,6 +23,8 @@ use foyer_policy_filter::{StorageFilter, StorageFilterCondition, StorageFilterRe
 use foyer_policy_keeper::keeper::Keeper;
 use foyer_policy_piece::keeper::Piece;
 use foyer_storage_engine::core_shared::notes::NoNotes;
+use foyer_storage_engine::core_steps::apply::no_io;
+use foyer_storage_engine::engine::counts::WorkCounts;
 use foyer_storage_engine::engine::{BlockEngine, Enqueued};
 use foyer_storage_engine::load::Load;
 use foyer_storage_workers::hand::Hand;
@@ -27,12 +32,13 @@ use foyer_storage_workers::workers::{Clock, FlusherWorker, ReclaimerWorker, Work
 use std::alloc::Global;
 use std::sync::atomic::{AtomicUsize, Ordering};
 use std::sync::{Arc, Mutex, Wait};
+use std::time::Duration;
 
 /// The blocks of a device, whose reads and writes are recorded.
 pub type DeviceBlocks<N, Q> = PartitionedDisk<MonitoredIoEngine<N, Global>, Q, Global>;
 
-/// The log of deletes of a device, where there is one.
-pub type DeviceLog<N, Q> = Option<TombstoneLog<N, Q, Global>>;
+/// The log of deletes of a device, if there is one. Its reads and writes are recorded too.
+pub type DeviceLog<N, Q> = Option<TombstoneLog<MonitoredIoEngine<N, Global>, Q, Global>>;
 
 /// The engine over them, whose core keeps no notes.
 pub type DeviceEngine<L, K, V, P, E, C, N, Q, G> = BlockEngine<
@@ -183,6 +189,54 @@ where
     }
 }
 
+// What a wait has a put answered as.
+fn throttled_by(wait: Duration) -> StorageFilterResult
+    ensures { IsThrottledBy wait result }
+{
+    if wait.is_zero() {
+        StorageFilterResult::Admit
+    } else {
+        StorageFilterResult::Throttled(wait)
+    }
+}
+
+// What conditions say of a put, and then what the device has writes wait for, which is asked last.
+fn with_wait(before: StorageFilterResult, wait: Duration) -> StorageFilterResult
+    ensures { IsVerdictWithWait before wait result }
+{
+    match before {
+        StorageFilterResult::Reject => before,
+        StorageFilterResult::Admit => throttled_by(wait),
+        StorageFilterResult::Throttled(other) => throttled_by(other.saturating_add(wait)),
+    }
+}
+
+// What an admission filter, if there is one, says of an entry, and then the device.
+fn admission_of<C: StorageFilterCondition>(
+    admission: &Option<StorageFilter<C, Global>>,
+    io: &IoState,
+    hash: u64,
+    size: usize,
+) -> StorageFilterResult
+    ensures { IsAdmission C.may_answer admission.now io.now hash size result }
+{
+    let before = match admission {
+        Some(filter) => filter.filter(io, hash, size),
+        None => StorageFilterResult::Admit,
+    };
+    with_wait(before, io.write_throttle)
+}
+
+// The same state, in which no write waits.
+fn without_wait(io: IoState) -> IoState
+    ensures { as_nanos result.write_throttle ≡ 0 }
+{
+    IoState {
+        write_throttle: Duration::ZERO,
+        ..io
+    }
+}
+
 /// An engine over the blocks of a device, with its admission filter, and what asks the device's counters for all callers.
 pub struct BuiltEngine<L, K, V, P, E, C, N, Q, G>
 where
@@ -253,6 +307,13 @@ where
         lock_spinning(&self.recorder, rt).is_read_throttled(rt, now)
     }
 
+    // Whether writes have a limit.
+    fn limits_writes(&self) -> bool
+        ensures { self.now.throttle.write_throughput ≡ None → self.now.throttle.write_iops ≡ None → result ≡ false }
+    {
+        self.throttle.write_throughput.is_some() || self.throttle.write_iops.is_some()
+    }
+
     // The number of the disk that a session reads from, which keeps to this one: the next number at its first load.
     fn disk_of(&self, kept: Option<usize>) -> usize {
         match kept {
@@ -278,15 +339,15 @@ where
     ghost use Rattle.std.specs.Prelude.{◌≡◌};
     ghost use Rattle.foyer_storage_engine.specs.Calls.{IsDeleteAnswer, IsEnqueueAnswer, IsQuestionAnswer};
     ghost use Rattle.std.specs.Arc.{arc_value};
-    ghost use Rattle.foyer_storage_store.specs.Storing.{HasDestroyed, HasWaited, IsAdmission, IsLoadedUnder};
+    ghost use Rattle.foyer_storage_store.specs.Storing.{HasDestroyed, HasWaited, IsAdmissionUnder, IsLoadedUnder};
 
     ghost summary = { λ b. b.device };
 
-    ghost may_judge = { λ b hash size verdict. IsAdmission C.may_answer b.admission hash size verdict };
+    ghost may_judge = { λ b hash size verdict. IsAdmissionUnder C.may_answer b.throttle b.admission hash size verdict };
 
     ghost may_enqueue = { λ _ old new hash size answer. IsEnqueueAnswer old.steps new.steps hash size answer × (new.steps.shares.parts ≡ old.steps.shares.parts) };
 
-    ghost may_load = { λ b old new hash answer. IsLoadedUnder b.throttle old.steps new.steps hash answer × (new.steps.shares.parts ≡ old.steps.shares.parts) };
+    ghost may_load = { λ b old new hash answer. IsLoadedUnder K.is_decodable V.is_decodable K.encoding V.encoding b.throttle old.steps new.steps hash answer × (new.steps.shares.parts ≡ old.steps.shares.parts) };
 
     ghost may_delete = { λ _ old new hash answer. IsDeleteAnswer old.steps new.steps hash answer × (new.steps.shares.parts ≡ old.steps.shares.parts) };
 
@@ -307,13 +368,20 @@ where
     }
 
     fn filter(&self, rt: &impl Wait, hash: u64, size: usize, now: u64) -> StorageFilterResult {
-        match &self.admission {
-            Some(filter) => {
-                let io = lock_spinning(&self.recorder, rt).io_state(rt, now);
-                filter.filter(&io, hash, size)
-            }
-            None => StorageFilterResult::Admit,
+        let is_limited = self.limits_writes();
+        if self.admission.is_none() && !is_limited {
+            return admission_of(&self.admission, &no_io(), hash, size);
         }
+        let io = lock_spinning(&self.recorder, rt).io_state(rt, now);
+        if is_limited {
+            admission_of(&self.admission, &io, hash, size)
+        } else {
+            admission_of(&self.admission, &without_wait(io), hash, size)
+        }
+    }
+
+    fn work(&self) -> WorkCounts {
+        self.engine.signals().work.shown()
     }
 
     fn enqueue(

@@ -1,6 +1,8 @@
 //! The disks over a device's blocks, and what is opened and made with each.
 ghost use Rattle.std.specs.Arc.{arc_value};
-ghost use Rattle.std.specs.Prelude.{◌≡◌, ◌+◌, ◌*◌, ◌<◌, ◌≤◌, ◌^◌, IfOk, OnOk, vec_len};
+ghost use Rattle.std.specs.Prelude.{◌≡◌, ◌⊎◌, ◌+◌, ◌*◌, ◌<◌, ◌≤◌, ◌^◌, IfErr, IfOk, OnOk, true, vec_len};
+ghost use Rattle.foyer_device_page.specs.declared.error.Error.TheVariants as error;
+ghost use Rattle.foyer_storage_store.specs.Building.{IsOpenError, is_disk_error};
 ghost use Rattle.foyer_core_tally.specs.Ledgers.{AreOf};
 
 use super::device_engine::{BlockFlusher, BlockReclaimer, DeviceBlocks, DeviceEngine, DeviceLog};
@@ -46,7 +48,9 @@ pub(super) struct Disks<'a, R, I, Q> {
 }
 
 impl<R, I: IoEngineConfig<R>, Q: Partition + Copy> Disks<'_, R, I, Q> {
-    fn engine(&self) -> Result<I::Engine> {
+    fn engine(&self) -> Result<I::Engine>
+        ensures refused { IfErr result (λ e. is_disk_error e ≡ true) }
+    {
         self.config
             .build(self.rt, &IoEngineBuildContext { files: self.paths })
     }
@@ -61,6 +65,7 @@ impl<R, I: IoEngineConfig<R>, Q: Partition + Copy> Disks<'_, R, I, Q> {
         ensures seats { OnOk result (recorder.new.view.parts + 1 ≡ recorder.old.view.parts) }
         ensures left { recorder.old.view.parts ≤ recorder.new.view.parts + 1 }
         ensures blocks { IfOk result (λ d. d.blocks.items ≡ self.now.blocks.now) }
+        ensures refused { IfErr result (λ e. is_disk_error e ≡ true) }
     {
         let engine = MonitoredIoEngine::new(self.engine()?, recorder.split(1)?);
         let blocks = Vec::from_slice(alloc, self.blocks)?;
@@ -79,6 +84,7 @@ impl<R, I: IoEngineConfig<R>, Q: Partition + Copy> Disks<'_, R, I, Q> {
         requires { count < recorder.old.view.parts }
         ensures count { IfOk result (λ disks. vec_len disks ≡ count) }
         ensures seats { OnOk result (recorder.new.view.parts + count ≡ recorder.old.view.parts) }
+        ensures refused { IfErr result (λ e. is_disk_error e ≡ true) }
     {
         let mut disks = Vec::with_capacity(alloc, count as usize)?;
         for made in 0..count {
@@ -151,22 +157,27 @@ impl<R, I: IoEngineConfig<R>, Q: Partition + Copy> Disks<'_, R, I, Q> {
         recoverers
     }
 
-    // The log in its partition, and the marks that it has.
+    // The log in its partition, whose accesses one of this one's parts records, and the marks that it has.
     fn log(
         &self,
         alloc: Global,
+        recorder: &mut Recorder<Global>,
         partition: Option<Q>,
         marks: &mut Vec<Tombstone>,
     ) -> Result<DeviceLog<I::Engine, Q>>
     where
         Q: Drop,
+        requires { 1 < recorder.old.view.parts }
+        ensures left { recorder.old.view.parts ≤ recorder.new.view.parts + 1 }
+        ensures refused { IfErr result (λ e. (is_disk_error e ≡ true) ⊎ (e ≡ error.OutOfRange)) }
     {
         let Some(partition) = partition else {
             return Ok(None);
         };
         let mut partitions = Vec::new(alloc);
         partitions.push(partition)?;
-        let log = TombstoneLog::open(alloc, partitions, self.engine()?, marks)?;
+        let engine = MonitoredIoEngine::new(self.engine()?, recorder.split(1)?);
+        let log = TombstoneLog::open(alloc, partitions, engine, marks)?;
         Ok(Some(log))
     }
 
@@ -193,6 +204,7 @@ impl<R, I: IoEngineConfig<R>, Q: Partition + Copy> Disks<'_, R, I, Q> {
         ensures seats { OnOk result (recorder.new.view.parts + 1 ≡ recorder.old.view.parts) }
         ensures number { IfOk result (λ w. w.worker.parts.flusher ≡ flusher) }
         ensures blocks { IfOk result (λ w. w.worker.parts.disk.blocks.items ≡ self.now.blocks.now) }
+        ensures refused { IfErr result (λ e. is_disk_error e ≡ true) }
     {
         let engine = Arc::try_clone(engine)?;
         let log = Arc::try_clone(log)?;
@@ -230,6 +242,7 @@ impl<R, I: IoEngineConfig<R>, Q: Partition + Copy> Disks<'_, R, I, Q> {
         requires { count < recorder.old.view.parts }
         ensures count { IfOk result (λ workers. vec_len workers ≡ count) }
         ensures seats { OnOk result (recorder.new.view.parts + count ≡ recorder.old.view.parts) }
+        ensures refused { IfErr result (λ e. is_disk_error e ≡ true) }
     {
         let log = Arc::new(alloc, Mutex::new(log))?;
         let mut workers = Vec::with_capacity(alloc, count as usize)?;
@@ -257,7 +270,8 @@ impl<R, I: IoEngineConfig<R>, Q: Partition + Copy> Disks<'_, R, I, Q> {
         G: Gate,
         T: Clock + Copy,
         requires { 2 < recorder.old.view.parts }
-        ensures { OnOk result (recorder.new.view.parts + 2 ≡ recorder.old.view.parts) }
+        ensures seats { OnOk result (recorder.new.view.parts + 2 ≡ recorder.old.view.parts) }
+        ensures refused { IfErr result (λ e. is_disk_error e ≡ true) }
     {
         let engine = Arc::try_clone(engine)?;
         let disk = self.disk(alloc, recorder)?;
@@ -292,6 +306,7 @@ impl<R, I: IoEngineConfig<R>, Q: Partition + Copy> Disks<'_, R, I, Q> {
         requires { 2 * count < recorder.old.view.parts }
         ensures count { IfOk result (λ workers. vec_len workers ≡ count) }
         ensures seats { OnOk result (recorder.new.view.parts + 2 * count ≡ recorder.old.view.parts) }
+        ensures refused { IfErr result (λ e. is_disk_error e ≡ true) }
     {
         let mut workers = Vec::with_capacity(alloc, count as usize)?;
         for _ in 0..count {
@@ -324,15 +339,16 @@ impl<R, I: IoEngineConfig<R>, Q: Partition + Copy> Disks<'_, R, I, Q> {
         C: StorageFilterCondition,
         G: Gate,
         Q: Drop,
-        requires seats { loads < recorder.old.view.parts }
+        requires seats { loads + 1 < recorder.old.view.parts }
         requires some { 0 < loads }
         requires ledgers { AreOf L.name_of L.all blanks × (L.all ≡ 2 ^ 32) }
-        ensures seats { OnOk result (recorder.new.view.parts + loads ≡ recorder.old.view.parts) }
+        ensures seats { OnOk result (recorder.old.view.parts ≤ recorder.new.view.parts + loads + 1) }
         ensures settings { IfOk result (λ o. (arc_value o.engine).settings ≡ settings) }
         ensures loads { IfOk result (λ o. vec_len (arc_value o.engine).others + 1 ≡ loads) }
+        ensures refused { IfErr result (λ e. IsOpenError mode e) }
     {
         let mut marks = Vec::new(alloc);
-        let log = self.log(alloc, log, &mut marks)?;
+        let log = self.log(alloc, recorder, log, &mut marks)?;
         let reader = self.disk(alloc, recorder)?;
         let others = self.disks(alloc, recorder, loads - 1)?;
         let (engine, session) = open_engine(
@@ -396,6 +412,7 @@ where
     requires { AreOf L.name_of L.all blanks × (L.all ≡ 2 ^ 32) }
     ensures settings { IfOk result (λ r. (arc_value r.0).settings ≡ settings) }
     ensures others { IfOk result (λ r. vec_len (arc_value r.0).others ≡ vec_len others) }
+    ensures refused { IfErr result (λ e. IsOpenError mode e) }
 {
     let mut gated = GatedDisk {
         disk: reader,

@@ -1,8 +1,9 @@
 //! How a device is divided, and gets its counters.
 ghost use Rattle.std.specs.Arc.{arc_value};
-ghost use Rattle.std.specs.Prelude.{◌≡◌, ◌+◌, ◌*◌, ◌<◌, ◌≤◌, ◌^◌, if◌then◌else◌, IfOk, IfSome, OnOk, is_some, length, map, min, replicate, vec_len};
+ghost use Rattle.std.specs.Prelude.{◌≡◌, ◌⊎◌, ◌+◌, ◌++◌, ◌*◌, ◌<◌, ◌≤◌, ◌^◌, ◌||◌, if◌then◌else◌, IfErr, IfOk, IfSome, OnOk, is_some, length, map, min, nat_le, nat_lt, replicate, true, vec_len};
+ghost use Rattle.foyer_storage_store.specs.Building.{is_begin_error};
 ghost use Rattle.foyer_block_tombstone.specs.Pages.{log_pages};
-ghost use Rattle.foyer_device_partition.specs.Extent.{total_size};
+ghost use Rattle.foyer_device_partition.specs.Extent.{AreDisjoint, total_size};
 ghost use Rattle.foyer_storage_plan.specs.Plans.{settings_of};
 
 use super::DeviceSummary;
@@ -20,7 +21,8 @@ use std::sync::Arc;
 
 // The bytes of the log of deletes of a device of so many bytes, 0 where there is to be none.
 fn log_size(capacity: usize, tombstone_log: bool) -> Result<usize>
-    ensures { IfOk result (λ size. size ≡ (if tombstone_log then log_pages capacity * 4096 else 0)) }
+    ensures refused { IfErr result (λ e. e ≡ Error.OutOfRange) }
+    ensures size { IfOk result (λ size. size ≡ (if tombstone_log then log_pages capacity * 4096 else 0)) }
 {
     if !tombstone_log {
         return Ok(0);
@@ -39,6 +41,7 @@ fn make_log<D: Device, R: Files>(
     size: usize,
 ) -> Result<Option<D::Partition>>
     ensures made { IfOk result (λ log. is_some log ≡ tombstone_log) }
+    ensures refused { IfErr result (λ e. is_begin_error e ≡ true) }
     ensures size { IfOk result (λ log. IfSome log (λ p. D.Partition.bytes p ≡ size)) }
     ensures same { (D.room device.new ≡ D.room device.old) × (D.limits device.new ≡ D.limits device.old) }
 {
@@ -48,7 +51,7 @@ fn make_log<D: Device, R: Files>(
     Ok(Some(device.create_partition(rt, size)?))
 }
 
-// Makes a partition of that many bytes for each block, as many as there is room for, but no more than were planned.
+// Makes a partition of that many bytes for each block, as many as there is room for, but no more than were planned. No two share a byte.
 fn make_blocks<D: Device, R: Files>(
     rt: &R,
     alloc: Global,
@@ -57,6 +60,9 @@ fn make_blocks<D: Device, R: Files>(
 ) -> Result<Vec<D::Partition>>
     ensures sizes { IfOk result (λ blocks. map D.Partition.bytes blocks.items ≡ replicate (vec_len blocks) planned.now.block_size) }
     ensures few { IfOk result (λ blocks. vec_len blocks ≤ planned.now.blocks) }
+    ensures made { IfOk result (λ blocks. D.extents device.new ≡ D.extents device.old ++ map D.Partition.extent blocks.items) }
+    ensures apart { IfOk result (λ blocks. AreDisjoint (map D.Partition.extent blocks.items)) }
+    ensures refused { IfErr result (λ e. is_begin_error e ≡ true) }
     ensures same { (D.room device.new ≡ D.room device.old) × (D.limits device.new ≡ D.limits device.old) }
 {
     let mut blocks = Vec::with_capacity(alloc, planned.blocks as usize)?;
@@ -67,6 +73,8 @@ fn make_blocks<D: Device, R: Files>(
             Err(error) => return Err(error),
         }
     }
+    // So contracts see that the partitions of a device lie apart.
+    let _ = device.file_count();
     Ok(blocks)
 }
 
@@ -92,29 +100,43 @@ fn recoverers_of(sizes: &EngineSizes, blocks: u32) -> u32
     }
 }
 
+// Whether reclaims leave most blocks alone. If as many blocks are to be clean as there are, each block is reclaimed as soon as it is full, and
+// nothing is kept; one clean block is asked of any number, since a store of one block is a store too.
+fn leaves_blocks(settings: &Settings) -> bool
+    ensures { result ≡ (nat_le settings.now.clean_block_threshold 1 || nat_lt settings.now.clean_block_threshold settings.now.blocks) }
+{
+    settings.clean_block_threshold <= 1 || settings.clean_block_threshold < settings.blocks as usize
+}
+
 // What a core that has so many blocks is opened with.
 fn settings_of(planned: Settings, blocks: usize) -> Result<Settings>
-    ensures { IfOk result (λ s. s ≡ record planned { blocks = blocks }) }
+    ensures settings { IfOk result (λ s. s ≡ record planned { blocks = blocks }) }
+    ensures threshold { IfOk result (λ s. (s.clean_block_threshold ≤ 1) ⊎ (s.clean_block_threshold < s.blocks)) }
+    ensures refused { IfErr result (λ e. e ≡ Error.Config) }
 {
     let Ok(blocks) = u32::try_from(blocks) else {
         return Err(Error::Config);
     };
     let settings = Settings { blocks, ..planned };
     settings.check()?;
+    if !leaves_blocks(&settings) {
+        return Err(Error::Config);
+    }
     Ok(settings)
 }
 
-// Each worker has a seat at the counters, a reclaimer two, each I/O engine for loads one, and all callers one. How many I/O engines
-// for loads there are.
+// Each worker has a seat at the counters, a reclaimer two, each I/O engine for loads one, the log of deletes one, and all callers one. How
+// many I/O engines for loads there are.
 fn check_seats(settings: &Settings, recoverers: u32, load_engines: usize) -> Result<u32>
     ensures loads { IfOk result (λ loads. loads ≡ load_engines) }
-    ensures seats { IfOk result (λ loads. settings.now.flushers + 2 * settings.now.reclaimers + recoverers + loads + 1 < 2 ^ 32) }
+    ensures seats { IfOk result (λ loads. settings.now.flushers + 2 * settings.now.reclaimers + recoverers + loads + 2 < 2 ^ 32) }
+    ensures refused { IfErr result (λ e. e ≡ Error.Config) }
 {
     let Ok(loads) = u32::try_from(load_engines) else {
         return Err(Error::Config);
     };
     let workers = settings.flushers as u64 + 2 * (settings.reclaimers as u64) + recoverers as u64;
-    let seats = workers + loads as u64 + 1;
+    let seats = workers + loads as u64 + 2;
     if seats > u32::MAX as u64 {
         return Err(Error::Config);
     }
@@ -128,14 +150,17 @@ pub(super) fn divide<D: Device, R: Files>(
     mut device: D,
     sizes: &EngineSizes,
 ) -> Result<Divided<D>>
-    ensures seats { IfOk result (λ d. d.settings.flushers + 2 * d.settings.reclaimers + d.recoverers + d.loads + 1 < 2 ^ 32) }
+    ensures seats { IfOk result (λ d. d.settings.flushers + 2 * d.settings.reclaimers + d.recoverers + d.loads + 2 < 2 ^ 32) }
     ensures recoverers { IfOk result (λ d. d.recoverers ≡ min sizes.now.recover_concurrency d.settings.blocks) }
     ensures loads { IfOk result (λ d. (d.loads ≡ sizes.now.load_engines) × (0 < d.loads)) }
     ensures sizes { IfOk result (λ d. d.settings ≡ settings_of sizes.now d.settings.blocks d.settings.indexer_shards) }
     ensures blocks { IfOk result (λ d. (d.settings.blocks ≡ vec_len d.blocks)
         × (map D.Partition.bytes d.blocks.items ≡ replicate (vec_len d.blocks) d.settings.block_size)) }
+    ensures apart { IfOk result (λ d. AreDisjoint (map D.Partition.extent d.blocks.items)) }
+    ensures threshold { IfOk result (λ d. (d.settings.clean_block_threshold ≤ 1) ⊎ (d.settings.clean_block_threshold < d.settings.blocks)) }
     ensures log { IfOk result (λ d. is_some d.log ≡ sizes.now.tombstone_log) }
     ensures device { IfOk result (λ d. (D.room d.device ≡ D.room device) × (D.limits d.device ≡ D.limits device)) }
+    ensures refused { IfErr result (λ e. is_begin_error e ≡ true) }
 {
     sizes.check()?;
     let log_size = log_size(device.capacity(), sizes.tombstone_log)?;
@@ -165,6 +190,7 @@ fn recorder_of(
     ensures parts { IfOk result (λ r. r.0.view.parts ≡ 2 ^ 32) }
     ensures limits { IfOk result (λ r. r.0.limits ≡ throttle) }
     ensures counters { IfOk result (λ r. r.0.table ≡ (arc_value r.1).table) }
+    ensures refused { IfErr result (λ e. e ≡ Error.Memory) }
 {
     let (statistics, seat) = Statistics::new(alloc, throttle, now)?;
     let statistics = Arc::new(alloc, statistics)?;
@@ -202,6 +228,7 @@ where
     ensures counters { IfOk result (λ c. c.recorder.table ≡ (arc_value c.statistics).table) }
     ensures partitions { IfOk result (λ c. (c.log ≡ divided.log) × (c.blocks ≡ divided.blocks)) }
     ensures parts { IfOk result (λ c. c.recorder.view.parts ≡ 2 ^ 32) }
+    ensures refused { IfErr result (λ e. e ≡ Error.Memory) }
 {
     let paths = divided.device.files(alloc)?;
     let throttle = *divided.device.throttle();

@@ -1,6 +1,8 @@
 //! How an engine over the blocks of a device is made.
 ghost use Rattle.std.specs.Arc.{arc_value};
-ghost use Rattle.std.specs.Prelude.{◌≡◌, ◌+◌, ◌*◌, ◌<◌, ◌≤◌, ◌^◌, IfOk, vec_len};
+ghost use Rattle.std.specs.Prelude.{◌≡◌, ◌+◌, ◌*◌, ◌<◌, ◌≤◌, ◌^◌, IfErr, IfOk, vec_len};
+ghost use Rattle.foyer_device_page.specs.declared.error.Error.TheVariants as error;
+ghost use Rattle.foyer_storage_store.specs.Building.{IsOpenError};
 ghost use Rattle.foyer_core_tally.specs.Ledgers.{AreOf};
 ghost use Rattle.foyer_core_steps.specs.Lent.{generator_of};
 
@@ -64,7 +66,7 @@ where
     admission: Option<StorageFilter<C, Global>>,
     gate: Arc<G, Global>,
     context: EngineBuildContext<I, T>,
-    ghost seats: { counted.settings.flushers + 2 * counted.settings.reclaimers + counted.loads + 1 < counted.recorder.view.parts },
+    ghost seats: { counted.settings.flushers + 2 * counted.settings.reclaimers + counted.loads + 2 < counted.recorder.view.parts },
     ghost loads: { 0 < counted.loads },
     ghost few: { counted.settings.flushers + 2 * counted.settings.reclaimers + 2 < 2 ^ 32 },
 }
@@ -87,13 +89,14 @@ where
     Q: Partition + Copy + Drop,
     G: Gate,
     requires parts { counted.recorder.view.parts ≡ 2 ^ 32 }
-    requires seats { counted.settings.flushers + 2 * counted.settings.reclaimers + counted.recoverers + counted.loads + 1 < 2 ^ 32 }
+    requires seats { counted.settings.flushers + 2 * counted.settings.reclaimers + counted.recoverers + counted.loads + 2 < 2 ^ 32 }
     requires loads { 0 < counted.loads }
     ensures counted { IfOk result (λ r. (r.opening.counted.settings ≡ counted.settings) × (r.opening.counted.throttle ≡ counted.throttle)
         × (r.opening.counted.summary ≡ counted.summary) × (r.opening.counted.log ≡ counted.log)
         × (r.opening.counted.blocks ≡ counted.blocks) × (r.opening.counted.loads ≡ counted.loads)) }
     ensures lent { IfOk result (λ r. (r.opening.env ≡ env) × (r.opening.admission ≡ admission) × (r.opening.context ≡ context)) }
     ensures few { IfOk result (λ r. vec_len r.recoverers ≤ counted.recoverers) }
+    ensures refused { IfErr result (λ e. e ≡ error.Memory) }
 {
     let gate = Arc::new(alloc, gate)?;
     let mode = context.recover_mode;
@@ -177,6 +180,7 @@ where
     ensures workers { IfOk result (λ b. (vec_len b.flushers ≡ opening.counted.settings.flushers)
         × (vec_len b.reclaimers ≡ opening.counted.settings.reclaimers)) }
     ensures loads { IfOk result (λ b. vec_len (arc_value b.engine.engine).others + 1 ≡ opening.counted.loads) }
+    ensures refused { IfErr result (λ e. IsOpenError opening.context.recover_mode e) }
 {
     let BlockOpening {
         counted,
@@ -275,6 +279,7 @@ where
     ghost use Rattle.foyer_storage_plan.specs.Plans.{settings_of};
     ghost use Rattle.foyer_core_tally.specs.Ledgers.{AreOf};
     ghost use Rattle.foyer_core_steps.specs.Lent.{generator_of};
+    ghost use Rattle.foyer_storage_store.specs.Building.{IsOpenError};
     ghost use Rattle.foyer_storage_store.specs.declared.config.EngineBuildContext.{EngineBuildContext};
     ghost use Rattle.foyer_storage_store.specs.declared.config.block.BlockEngineConfig.{BlockEngineConfig};
 
@@ -300,6 +305,8 @@ where
         × (opening.counted.loads ≡ config.sizes.load_engines) × (opening.env.reinsertion ≡ config.reinsertion)
         × S.gives config.pickers opening.env.pickers.items × (opening.env.generator ≡ generator_of context.generator)
         × (opening.context ≡ context) };
+
+    ghost may_refuse = { λ _ context e. IsOpenError context.recover_mode e };
 
     ghost may_build = { λ config _ engine throttle flushers reclaimers. (engine.admission ≡ config.admission) × (engine.throttle ≡ throttle)
         × (throttle ≡ D.limits config.device) × (engine.device.capacity ≡ D.room config.device)
@@ -329,6 +336,7 @@ where
             × (r.opening.counted.loads ≡ self.sizes.load_engines) × (r.opening.env.reinsertion ≡ self.reinsertion)
             × S.gives self.pickers r.opening.env.pickers.items × (r.opening.env.generator ≡ generator_of context.generator)
             × (r.opening.context ≡ context)) }
+        ensures refused { IfErr result (λ e. IsOpenError context.recover_mode e) }
     {
         let BlockEngineConfig {
             device,
@@ -397,6 +405,13 @@ where
             ≡ settings_of config.sizes (arc_value b.engine.engine).settings.blocks (arc_value b.engine.engine).settings.indexer_shards)
             × (vec_len (arc_value b.engine.engine).others + 1 ≡ config.sizes.load_engines)
             × (vec_len b.flushers ≡ config.sizes.flushers) × (vec_len b.reclaimers ≡ config.sizes.reclaimers)) }
+        ensures refused { (config : BlockEngineConfig D S C G D.Partition S.Picker) (context : EngineBuildContext I T) → (opening.admission ≡ config.admission)
+            × (opening.counted.throttle ≡ D.limits config.device) × (opening.counted.summary.capacity ≡ D.room config.device)
+            × (opening.counted.settings
+            ≡ settings_of config.sizes opening.counted.settings.blocks opening.counted.settings.indexer_shards)
+            × (opening.counted.loads ≡ config.sizes.load_engines) × (opening.env.reinsertion ≡ config.reinsertion)
+            × S.gives config.pickers opening.env.pickers.items × (opening.env.generator ≡ generator_of context.generator)
+            × (opening.context ≡ context) → IfErr result (λ e. IsOpenError context.recover_mode e) }
     {
         finish(&rt, alloc, opening, blanks, keeper)
     }

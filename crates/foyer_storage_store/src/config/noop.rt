@@ -1,5 +1,6 @@
 //! An engine that keeps nothing.
-ghost use Rattle.std.specs.Prelude.{◌≡◌, ◌+◌, ◌<◌, ◌^◌, IfOk, vec_len};
+ghost use Rattle.std.specs.Prelude.{◌≡◌, ◌+◌, ◌<◌, ◌^◌, IfErr, IfOk, vec_len};
+ghost use Rattle.foyer_device_page.specs.declared.error.Error.TheVariants as error;
 ghost use Rattle.foyer_core_tally.specs.Ledgers.{AreOf};
 
 use super::{Built, DeviceSummary, Engine, EngineBuildContext, EngineConfig, Recovering};
@@ -15,6 +16,7 @@ use foyer_policy_piece::keeper::Piece;
 use foyer_storage_engine::core_shared::session::Session;
 use foyer_storage_engine::core_steps::apply::no_io;
 use foyer_storage_engine::engine::Enqueued;
+use foyer_storage_engine::engine::counts::WorkCounts;
 use foyer_storage_engine::engine::signals::Signals;
 use foyer_storage_engine::load::Load;
 use foyer_storage_workers::recover::NoRecoverer;
@@ -91,6 +93,10 @@ impl<L: Kinds, K: Eq + Drop, V: Drop, P: Drop> Engine<StoreSession<L>, K, V, P> 
         no_io()
     }
 
+    fn work(&self) -> WorkCounts {
+        WorkCounts::default()
+    }
+
     fn filter(&self, _rt: &impl Wait, _hash: u64, _size: usize, _now: u64) -> StorageFilterResult {
         StorageFilterResult::Reject
     }
@@ -151,6 +157,7 @@ impl<R: Copy, I: Drop, T: Clock, L: Kinds, K: Eq + Drop, V: Drop, P: Drop> Engin
     P,
 > for NoopEngineConfig {
     ghost use Rattle.std.specs.Prelude.{◌≡◌, ◌^◌, true, None};
+    ghost use Rattle.foyer_device_page.specs.declared.error.Error.TheVariants as error;
     ghost use Rattle.foyer_core_tally.specs.Ledgers.{AreOf};
     ghost use Rattle.foyer_device_partition.specs.Unlimited.{unlimited};
     ghost use Rattle.foyer_storage_store.specs.declared.config.EngineBuildContext.{EngineBuildContext};
@@ -174,6 +181,8 @@ impl<R: Copy, I: Drop, T: Clock, L: Kinds, K: Eq + Drop, V: Drop, P: Drop> Engin
 
     ghost may_begin = { λ _ _ _. Unit {0} };
 
+    ghost may_refuse = { λ _ _ e. e ≡ error.Memory };
+
     ghost may_build = { λ _ _ _ throttle flushers reclaimers. (throttle ≡ unlimited) × (flushers ≡ 0) × (reclaimers ≡ 0) };
 
     fn is_noop(&self) -> bool {
@@ -187,6 +196,7 @@ impl<R: Copy, I: Drop, T: Clock, L: Kinds, K: Eq + Drop, V: Drop, P: Drop> Engin
         context: EngineBuildContext<I, T>,
     ) -> Result<Recovering<NoopOpening, NoRecoverer>>
         ensures begun { IfOk result (λ _. Unit {0}) }
+        ensures refused { IfErr result (λ e. e ≡ error.Memory) }
     {
         let now = context.clock.now();
         Ok(Recovering {
@@ -212,6 +222,7 @@ impl<R: Copy, I: Drop, T: Clock, L: Kinds, K: Eq + Drop, V: Drop, P: Drop> Engin
         ensures parts { IfOk result (λ b. vec_len b.flushers + vec_len b.reclaimers + 1 < 2 ^ 32) }
         ensures built { (config : NoopEngineConfig) (context : EngineBuildContext I T) → Unit {0}
             → IfOk result (λ b. (b.throttle ≡ unlimited) × (vec_len b.flushers ≡ 0) × (vec_len b.reclaimers ≡ 0)) }
+        ensures refused { (config : NoopEngineConfig) (context : EngineBuildContext I T) → Unit {0} → IfErr result (λ e. e ≡ error.Memory) }
     {
         let throttle = Throttle::new();
         let (statistics, _) = Statistics::new(alloc, throttle, opening.now)?;

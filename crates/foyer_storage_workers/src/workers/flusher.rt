@@ -2,6 +2,7 @@
 ghost use Rattle.std.specs.Prelude.{◌≡◌, ◌<◌, length};
 ghost use Rattle.foyer_core_flusher.specs.Issuing.{written_bytes};
 ghost use Rattle.foyer_io_disk.specs.Disk.{SurelyCame};
+ghost use Rattle.foyer_storage_engine.specs.Ending.{HoldsNamed};
 ghost use Rattle.foyer_storage_engine.specs.Reporting.{ReportsWrite};
 
 use super::Worker;
@@ -43,6 +44,7 @@ pub struct FlusherParts<K: Eq, V, P, A: Allocator, D: Disk + Drop, M: MarkLog + 
 }
 
 // Takes the front of the queue: the reply, and whether a flush is wanted then.
+#[tactic(auto, using(foyer_storage_engine::proofs::HoldingLemmas::held_by, foyer_storage_engine::proofs::HoldingLemmas::held_same))]
 fn receive<L, K, V, P, A, E, C, N>(
     locked: &mut Locked<L, K, V, P, A, E, C, N>,
     session: &mut Session<L>,
@@ -58,7 +60,8 @@ where
     C: StorageFilterCondition,
     N: Noting,
     requires { 0 < session.old.shares.parts }
-    ensures { session.new.shares.parts ≡ session.old.shares.parts }
+    ensures named { HoldsNamed session.old session.new }
+    ensures parts { session.new.shares.parts ≡ session.old.shares.parts }
 {
     match locked.step(session, no_io(), Step::Receive { flusher }) {
         Ok(reply) => {
@@ -74,6 +77,7 @@ const MOST_OF_A_BATCH: u32 = 64;
 
 // Takes what is queued, until nothing is, a batch has enough, or less than half of the buffer is left: whether anything was taken,
 // or is to be tried again for want of memory. A piece that is handed back is released.
+#[tactic(auto, using(foyer_storage_engine::proofs::HoldingLemmas::held_on, foyer_storage_engine::proofs::HoldingLemmas::held_by_step))]
 fn receive_all<L, K, V, P, A, E, C, D, G, N>(
     rt: &impl Wait,
     engine: &BlockEngine<L, K, V, P, A, E, C, D, G, N>,
@@ -93,7 +97,8 @@ where
     G: Gate,
     N: Noting,
     requires { 0 < session.old.shares.parts }
-    ensures { session.new.shares.parts ≡ session.old.shares.parts }
+    ensures named { HoldsNamed session.old session.new }
+    ensures parts { session.new.shares.parts ≡ session.old.shares.parts }
 {
     let mut is_busy = false;
     for _ in 0..MOST_OF_A_BATCH {
@@ -106,6 +111,7 @@ where
             Reply::Received(back) => {
                 is_busy = true;
                 if let Some(piece) = back {
+                    engine.signals().work.add_returned_put();
                     keeper.release(rt, piece);
                 }
                 if wants_flush {
@@ -123,6 +129,7 @@ where
 }
 
 // Does a write of a block, and reports its outcome.
+#[tactic(auto, using(foyer_storage_engine::proofs::HoldingLemmas::held_on, foyer_storage_engine::proofs::HoldingLemmas::held_by_step))]
 fn write_one<L, K, V, P, A, E, C, D, G, N, O>(
     rt: &impl Wait,
     engine: &BlockEngine<L, K, V, P, A, E, C, D, G, N>,
@@ -145,6 +152,7 @@ where
     N: Noting,
     O: Disk,
     requires { 0 < session.old.shares.parts }
+    ensures named { HoldsNamed session.old session.new }
     ensures parts { session.new.shares.parts ≡ session.old.shares.parts }
     ensures reports { O.is_known disk.old → ReportsWrite flusher block write.now.offset (written_bytes write.now.bytes) (O.byte_at disk.old) (O.byte_at disk.new)
         (SurelyCame (O.surely_has disk.old) (O.surely_lies disk.old) (O.faults disk.old) (O.faults disk.new)
@@ -156,6 +164,7 @@ where
 }
 
 // Does a block's writes, and reports each, until one fails or ends the block.
+#[tactic(auto, using(foyer_storage_engine::proofs::HoldingLemmas::held_on, foyer_storage_engine::proofs::HoldingLemmas::held_by_step))]
 fn write_block<L, K, V, P, A, E, C, D, G, N, O>(
     rt: &impl Wait,
     engine: &BlockEngine<L, K, V, P, A, E, C, D, G, N>,
@@ -178,7 +187,8 @@ where
     N: Noting,
     O: Disk,
     requires { 0 < session.old.shares.parts }
-    ensures { session.new.shares.parts ≡ session.old.shares.parts }
+    ensures named { HoldsNamed session.old session.new }
+    ensures parts { session.new.shares.parts ≡ session.old.shares.parts }
 {
     if writes.is_empty() {
         return;
@@ -188,6 +198,7 @@ where
         match write_one(rt, engine, disk, flusher, session, block, write) {
             Reply::Next => {}
             Reply::Failed => {
+                engine.signals().work.add_failed_block();
                 // The flusher leaves the block.
                 engine.signals().reclaims.ring(rt);
                 return;
@@ -199,6 +210,7 @@ where
 
 // Writes the blocks of a batch, and waits for a block where none is clean. A reclaim may begin where the flusher leaves its own
 // block for another, since that takes a clean one and the other may be evicted: `own` is the block that it wrote last.
+#[tactic(auto, using(foyer_storage_engine::proofs::HoldingLemmas::held_on, foyer_storage_engine::proofs::HoldingLemmas::held_by_step))]
 fn write_batch<L, K, V, P, A, E, C, D, G, N, O>(
     rt: &impl Wait,
     engine: &BlockEngine<L, K, V, P, A, E, C, D, G, N>,
@@ -220,7 +232,8 @@ where
     N: Noting,
     O: Disk,
     requires { 0 < session.old.shares.parts }
-    ensures { session.new.shares.parts ≡ session.old.shares.parts }
+    ensures named { HoldsNamed session.old session.new }
+    ensures parts { session.new.shares.parts ≡ session.old.shares.parts }
 {
     for _ in rt.forever() {
         let seen = engine.signals().done.count(rt);
@@ -244,6 +257,7 @@ where
 }
 
 // Ends a batch: its pieces are released in order, then its waits are answered.
+#[tactic(auto, using(foyer_storage_engine::proofs::HoldingLemmas::held_on, foyer_storage_engine::proofs::HoldingLemmas::held_by_step))]
 fn end_batch<L, K, V, P, A, E, C, D, G, N>(
     rt: &impl Wait,
     engine: &BlockEngine<L, K, V, P, A, E, C, D, G, N>,
@@ -263,7 +277,8 @@ where
     G: Gate,
     N: Noting,
     requires { 0 < session.old.shares.parts }
-    ensures { session.new.shares.parts ≡ session.old.shares.parts }
+    ensures named { HoldsNamed session.old session.new }
+    ensures parts { session.new.shares.parts ≡ session.old.shares.parts }
 {
     if let Reply::Ended { pieces, waits } = engine.step_again(
         rt,
@@ -282,6 +297,7 @@ where
 }
 
 // Takes what is queued, and writes it as one batch: whether there was anything to do.
+#[tactic(auto, using(foyer_storage_engine::proofs::HoldingLemmas::held_on, foyer_storage_engine::proofs::HoldingLemmas::held_by_step))]
 fn flush<L, K, V, P, A, E, C, D, G, N, O, M>(
     rt: &impl Wait,
     engine: &BlockEngine<L, K, V, P, A, E, C, D, G, N>,
@@ -303,7 +319,8 @@ where
     O: Disk + Drop,
     M: MarkLog + Drop,
     requires { 0 < session.old.shares.parts }
-    ensures { session.new.shares.parts ≡ session.old.shares.parts }
+    ensures named { HoldsNamed session.old session.new }
+    ensures parts { session.new.shares.parts ≡ session.old.shares.parts }
 {
     let flusher = parts.flusher;
     let is_busy = receive_all(rt, engine, &*parts.keeper, flusher, session);
@@ -312,6 +329,7 @@ where
         Reply::Began { blocks: _, marks } => marks,
         _ => return is_busy,
     };
+    engine.signals().work.add_batch();
     if engine.settings().tombstone_log {
         let result = parts.log.lock(rt).append_marks(&marks);
         let wrote = Step::LogWrote { flusher, result };
@@ -323,6 +341,7 @@ where
 }
 
 // Flushes until the bell of what is queued is closed, and nothing is left.
+#[tactic(auto, using(foyer_storage_engine::proofs::HoldingLemmas::held_on, foyer_storage_engine::proofs::HoldingLemmas::held_by_step))]
 fn work<L, K, V, P, A, E, C, D, G, N, O, M>(
     rt: &impl Wait,
     engine: &BlockEngine<L, K, V, P, A, E, C, D, G, N>,
@@ -343,7 +362,8 @@ where
     O: Disk + Drop,
     M: MarkLog + Drop,
     requires { 0 < session.old.shares.parts }
-    ensures { session.new.shares.parts ≡ session.old.shares.parts }
+    ensures named { HoldsNamed session.old session.new }
+    ensures parts { session.new.shares.parts ≡ session.old.shares.parts }
 {
     let mut is_closed = false;
     let mut own = None;
@@ -418,6 +438,7 @@ where
     O: Disk + Drop,
     M: MarkLog + Drop,
 {
+    #[tactic(auto, using(foyer_storage_engine::proofs::HoldingLemmas::unnamed_still))]
     fn work(self, rt: &impl Wait, hand: Hand<L>) -> Hand<L> {
         let FlusherWorker { engine, parts } = self;
         let mut session = hand.into_session();

@@ -2,9 +2,11 @@
 ghost use Rattle.std.specs.Prelude.{◌≡◌, ◌<◌, IfOk, vec_len};
 ghost use Rattle.foyer_core_model.specs.Numbers.{page};
 ghost use Rattle.foyer_io_disk.specs.Disk.{IsRead, SurelyCame};
+ghost use Rattle.foyer_storage_engine.specs.Ending.{HoldsNamed};
 ghost use Rattle.foyer_storage_engine.specs.Reporting.{ReportsClean};
 
 use super::Worker;
+use crate::clock::Clock;
 use crate::hand::Hand;
 use foyer_block_index::manager::BlockId;
 use foyer_block_manager::block::eviction::EvictionPicker;
@@ -25,22 +27,6 @@ use foyer_storage_engine::engine::BlockEngine;
 use std::alloc::{Allocator, Global};
 use std::sync::{Arc, Wait};
 use std::thread;
-
-/// What gives the moment.
-pub trait Clock: Drop {
-    /// The moment, in nanoseconds.
-    fn now(&self) -> u64;
-}
-
-/// A clock that stands still.
-#[derive(Clone, Copy, Debug, Default, PartialEq, Eq)]
-pub struct Moment(pub u64);
-
-impl Clock for Moment {
-    fn now(&self) -> u64 {
-        self.0
-    }
-}
 
 /// What a reclaimer's worker has of its own, beside the engine.
 #[derive(Drop)]
@@ -75,7 +61,24 @@ fn read_again<A: Allocator + Clone, O: Disk>(
     unreachable!()
 }
 
+// How many records of the index that was listed are admitted for reinsertion.
+fn admitted<K, V, P, A: Allocator>(reply: &Reply<K, V, P, A>) -> u64 {
+    match reply {
+        Reply::Scan {
+            block: _,
+            offset: _,
+            len: _,
+            verdicts: Some(verdicts),
+        } => verdicts.iter().filter(|is_admitted| **is_admitted).count() as u64,
+        Reply::Listed {
+            verdicts: Some(verdicts),
+        } => verdicts.iter().filter(|is_admitted| **is_admitted).count() as u64,
+        _ => 0,
+    }
+}
+
 // Reads what the reclaim of a block asks for, from its first index on.
+#[tactic(auto, using(foyer_storage_engine::proofs::HoldingLemmas::held_on, foyer_storage_engine::proofs::HoldingLemmas::held_by_step))]
 fn read_block<L, K, V, P, A, E, C, D, G, N, O, T>(
     rt: &impl Wait,
     engine: &BlockEngine<L, K, V, P, A, E, C, D, G, N>,
@@ -97,7 +100,8 @@ where
     O: Disk + Drop,
     T: Clock,
     requires { 0 < session.old.shares.parts }
-    ensures { session.new.shares.parts ≡ session.old.shares.parts }
+    ensures named { HoldsNamed session.old session.new }
+    ensures parts { session.new.shares.parts ≡ session.old.shares.parts }
 {
     let mut part = Part {
         offset: 0,
@@ -107,6 +111,7 @@ where
         let result = read_again(rt, engine.allocator(), &mut parts.disk, block, part);
         let io = parts.recorder.io_state(rt, parts.clock.now());
         let reply = engine.step_again(rt, session, io, Step::ReclaimRead { block, result });
+        engine.signals().work.add_reinsertions(admitted(&reply));
         match next_part(&reply) {
             Some(next) => part = next,
             None => return,
@@ -115,6 +120,7 @@ where
 }
 
 // Cleans a block that is reclaimed, and reports the outcome.
+#[tactic(auto, using(foyer_storage_engine::proofs::HoldingLemmas::held_on, foyer_storage_engine::proofs::HoldingLemmas::held_by_step))]
 fn clean<L, K, V, P, A, E, C, D, G, N, O>(
     rt: &impl Wait,
     engine: &BlockEngine<L, K, V, P, A, E, C, D, G, N>,
@@ -135,6 +141,7 @@ where
     N: Noting,
     O: Disk,
     requires { 0 < session.old.shares.parts }
+    ensures named { HoldsNamed session.old session.new }
     ensures parts { session.new.shares.parts ≡ session.old.shares.parts }
     ensures reports { O.is_known disk.old → ReportsClean block (O.byte_at disk.old) (O.byte_at disk.new)
         (SurelyCame (O.surely_has disk.old) (O.surely_lies disk.old) (O.faults disk.old) (O.faults disk.new) block 0 page) session.new }
@@ -145,6 +152,7 @@ where
 }
 
 // Reads a block that is reclaimed, then has its entries forgotten, and cleans it.
+#[tactic(auto, using(foyer_storage_engine::proofs::HoldingLemmas::held_on, foyer_storage_engine::proofs::HoldingLemmas::held_by_step))]
 fn reclaim<L, K, V, P, A, E, C, D, G, N, O, T>(
     rt: &impl Wait,
     engine: &BlockEngine<L, K, V, P, A, E, C, D, G, N>,
@@ -166,7 +174,8 @@ where
     O: Disk + Drop,
     T: Clock,
     requires { 0 < session.old.shares.parts }
-    ensures { session.new.shares.parts ≡ session.old.shares.parts }
+    ensures named { HoldsNamed session.old session.new }
+    ensures parts { session.new.shares.parts ≡ session.old.shares.parts }
 {
     engine.gate().pass(Point::Reclaim);
     read_block(rt, engine, parts, session, block);
@@ -177,6 +186,7 @@ where
 }
 
 // Reclaims until the bell of reclaims is closed, and none may begin.
+#[tactic(auto, using(foyer_storage_engine::proofs::HoldingLemmas::held_on, foyer_storage_engine::proofs::HoldingLemmas::held_by_step))]
 fn work<L, K, V, P, A, E, C, D, G, N, O, T>(
     rt: &impl Wait,
     engine: &BlockEngine<L, K, V, P, A, E, C, D, G, N>,
@@ -197,12 +207,16 @@ where
     O: Disk + Drop,
     T: Clock,
     requires { 0 < session.old.shares.parts }
-    ensures { session.new.shares.parts ≡ session.old.shares.parts }
+    ensures named { HoldsNamed session.old session.new }
+    ensures parts { session.new.shares.parts ≡ session.old.shares.parts }
 {
     for _ in rt.forever() {
         let seen = engine.signals().reclaims.count(rt);
         match engine.step_again(rt, session, no_io(), Step::ReclaimBegin) {
-            Reply::Picked { block, .. } => reclaim(rt, engine, &mut parts, session, block),
+            Reply::Picked { block, .. } => {
+                engine.signals().work.add_reclaim();
+                reclaim(rt, engine, &mut parts, session, block);
+            }
             _ => {
                 if engine.signals().reclaims.wait_past(rt, seen) {
                     return;
@@ -271,6 +285,7 @@ where
     O: Disk + Drop,
     T: Clock,
 {
+    #[tactic(auto, using(foyer_storage_engine::proofs::HoldingLemmas::unnamed_still))]
     fn work(self, rt: &impl Wait, hand: Hand<L>) -> Hand<L> {
         let ReclaimerWorker { engine, parts } = self;
         let mut session = hand.into_session();

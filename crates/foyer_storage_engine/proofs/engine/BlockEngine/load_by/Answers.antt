@@ -1,17 +1,15 @@
 use Rattle.std.proofs.Common.{◌≡◌, true, subst}
 use Rattle.foyer_core_steps.specs.declared.step.Step.TheVariants as step
-use Rattle.foyer_core_shared.specs.Briefs.{reply_brief}
-use Rattle.foyer_storage_engine.specs.Answering.{IsLoadOf, IsRead, is_load_error}
+use Rattle.foyer_storage_engine.specs.Answering.{IsLoadOf, is_load_error}
 use Rattle.foyer_core_shared.specs.Replies.{is_look_up_reply}
-use Rattle.foyer_core_steps.specs.Asked.{went_well}
 use Rattle.std.specs.Result.{IfErr}
 use Rattle.foyer_storage_engine.proofs.AnsweringLemmas.{ended, looked_up}
-use Rattle.foyer_storage_engine.proofs.RefusalLemmas.{end_refused, end_throttled, look_up_refused, look_up_throttled}
+use Rattle.foyer_storage_engine.proofs.RefusalLemmas.{look_up_refused, look_up_throttled}
 use Rattle.foyer_storage_engine.proofs.engine.BlockEngine.load_by.Goals as goal
 
 pub returns-in-Err-clause-answer : goal.returns-in-Err-clause-answer
 returns-in-Err-clause-answer g c =
-    looked_up g.N.Noting.keeps c.args.session.now c.step.new.session c.args.hash c.args.throttled c.step.result c.load_of.result c.step.ensures.noted
+    looked_up g.K.Code.is_decodable g.V.Code.is_decodable g.K.Code.encoding g.V.Code.encoding g.N.Noting.keeps c.args.session.now c.step.new.session c.args.hash c.args.throttled c.step.result c.load_of.result c.step.ensures.noted c.step.ensures.answer
     c.in-Err.ensures.1 (subst (λ r. IsLoadOf r c.load_of.result) c.in-Err.ensures.0 c.load_of.ensures.answer)
 
 pub returns-in-Err-clause-refused : goal.returns-in-Err-clause-refused
@@ -27,15 +25,8 @@ returns-in-Err-clause-throttled g c =
 
 pub returns-clause-answer : goal.returns-clause-answer
 returns-clause-answer g c =
-    ended g.N.Noting.keeps c.args.session.now c.step.new.session c.end_load-reply.new.session c.args.hash c.args.throttled c.in-Ok.ticket c.in_ok-outcome.outcome
-    c.step.result c.end_load-reply.result.0 c.load_of-2.result c.in-Ok.ensures c.step.ensures.noted c.end_load-reply.ensures.noted c.load_of-2.ensures.answer
-
-pub returns-clause-refused : goal.returns-clause-refused
-returns-clause-refused g c =
-    end_refused g.N.Noting.keeps (went_well c.in_ok-outcome.outcome) (step.LoadEnd c.in-Ok.ticket c.in_ok-outcome.outcome) c.end_load-reply.result.0 c.load_of-2.result
-    c.end_load-reply.ensures.replied (c.load_of-2.ensures.refused (went_well c.in_ok-outcome.outcome)) c.load_of-2.ensures.answer
+    ended g.K.Code.is_decodable g.V.Code.is_decodable g.K.Code.encoding g.V.Code.encoding g.N.Noting.keeps c.args.session.now c.step.new.session c.end_load.new.session c.args.hash c.args.throttled c.in-Ok.ticket c.in_ok-outcome.outcome
+    c.step.result c.end_load.result c.in-Ok.ensures c.step.ensures.noted c.step.ensures.answer c.in_ok-outcome.ensures.len c.end_load.ensures.answer
 
 pub returns-clause-throttled : goal.returns-clause-throttled
-returns-clause-throttled g c = λ said.
-    absurd (end_throttled g.N.Noting.keeps (went_well c.in_ok-outcome.outcome) (step.LoadEnd c.in-Ok.ticket c.in_ok-outcome.outcome) c.end_load-reply.result.0 c.load_of-2.result
-    c.end_load-reply.ensures.replied c.load_of-2.ensures.answer said)
+returns-clause-throttled g c = λ said. absurd (c.end_load.ensures.throttled said)

@@ -1,6 +1,8 @@
-use Rattle.std.proofs.Common.{◌≡◌, ◌+◌, ◌-◌, sym, subst, ◌∙◌, arith}
+use Rattle.std.proofs.Common.{◌≡◌, ◌+◌, ◌-◌, refl, sym, subst, ◌∙◌, arith}
+use Rattle.foyer_core_steps.specs.declared.step.Step.TheVariants as step
 use Rattle.foyer_storage_engine.specs.Ending.{AsksToWait}
 use Rattle.foyer_storage_engine.proofs.EndingLemmas.{asked_to_wait}
+use Rattle.foyer_storage_engine.proofs.HoldingLemmas.{held_by_made, held_on}
 use Rattle.foyer_storage_engine.proofs.engine.BlockEngine.queue_waits.Goals as goal
 
 pub loop-flusher-preserved : goal.loop-flusher-preserved
@@ -9,4 +11,6 @@ loop-flusher-preserved g c =
       c.step-reply.ensures.parts ∙ c.loop-flusher.invariant.0,
       λ some. subst (λ f. AsksToWait f c.in_ok-id.id c.step-reply.new.session) (sym same)
           (asked_to_wait g.N.Noting.keeps c.loop-flusher.session c.step-reply.new.session c.loop-flusher.flusher c.in_ok-id.id c.step-reply.result c.step-reply.ensures.noted (λ k back is. c.in_default.not-Refused k back is)),
+      held_on c.args.session.old c.loop-flusher.session c.step-reply.new.session c.loop-flusher.invariant.2
+          (held_by_made g.N.Noting.keeps c.loop-flusher.session c.step-reply.new.session (step.Wait c.loop-flusher.flusher c.in_ok-id.id) c.step-reply.result refl c.step-reply.ensures.noted),
     )

@@ -1,6 +1,7 @@
 -- step_again
 use Rattle.std.specs.Prelude.{◌≡◌}
+use Rattle.foyer_storage_engine.specs.Ending.{HoldsNamed}
 use Rattle.foyer_storage_engine.proofs.engine.BlockEngine.step_again.Given as goal
 
 abbrev pub invariant-loop : goal.invariant-loop
-invariant-loop g l = (l.session.shares.parts ≡ l.fn.session.shares.parts) × (l.given ≡ l.fn.step)
+invariant-loop g l = (l.session.shares.parts ≡ l.fn.session.shares.parts) × (l.given ≡ l.fn.step) × HoldsNamed l.fn.session l.session

@@ -1,0 +1,91 @@
+//! What an engine's threads did, counted without a lock.
+use std::sync::atomic::{AtomicU64, Ordering};
+
+/// What an engine's threads did since it was opened. No clause says what these numbers are; each stays below the truth by what is
+/// being done just now.
+#[derive(Clone, Copy, Debug, Default, PartialEq, Eq)]
+pub struct WorkCounts {
+    /// Batches that flushers began.
+    pub batches: u64,
+    /// Blocks of which a write failed: nothing of their batch that came after is kept.
+    pub failed_blocks: u64,
+    /// Puts that were queued and then didn't fit: into what was left of the flusher's buffer, or into a block. Their keys are deleted.
+    pub returned_puts: u64,
+    /// Reclaims that began.
+    pub reclaims: u64,
+    /// Records of reclaimed blocks that the reinsertion filter admitted.
+    pub reinsertions: u64,
+}
+
+/// The same, while it is counted.
+pub struct WorkCounters {
+    batches: AtomicU64,
+    failed_blocks: AtomicU64,
+    returned_puts: AtomicU64,
+    reclaims: AtomicU64,
+    reinsertions: AtomicU64,
+}
+
+// Written out, so that it is proved once.
+impl Drop for WorkCounters {
+    fn drop(self) {
+        let WorkCounters {
+            batches: _,
+            failed_blocks: _,
+            returned_puts: _,
+            reclaims: _,
+            reinsertions: _,
+        } = self;
+    }
+}
+
+impl WorkCounters {
+    /// Nothing was done.
+    pub fn new() -> WorkCounters {
+        WorkCounters {
+            batches: AtomicU64::new(0),
+            failed_blocks: AtomicU64::new(0),
+            returned_puts: AtomicU64::new(0),
+            reclaims: AtomicU64::new(0),
+            reinsertions: AtomicU64::new(0),
+        }
+    }
+
+    /// A batch began.
+    pub fn add_batch(&self) {
+        let _ = self.batches.fetch_add(1, Ordering::Relaxed);
+    }
+
+    /// A block's write failed.
+    pub fn add_failed_block(&self) {
+        let _ = self.failed_blocks.fetch_add(1, Ordering::Relaxed);
+    }
+
+    /// A put didn't fit.
+    pub fn add_returned_put(&self) {
+        let _ = self.returned_puts.fetch_add(1, Ordering::Relaxed);
+    }
+
+    /// A reclaim began.
+    pub fn add_reclaim(&self) {
+        let _ = self.reclaims.fetch_add(1, Ordering::Relaxed);
+    }
+
+    /// So many records were admitted.
+    pub fn add_reinsertions(&self, count: u64) {
+        if count > 0 {
+            let _ = self.reinsertions.fetch_add(count, Ordering::Relaxed);
+        }
+    }
+
+    /// The numbers, each as it is when it is looked at.
+    pub fn shown(&self) -> WorkCounts {
+        WorkCounts {
+            batches: self.batches.load(Ordering::Relaxed),
+            failed_blocks: self.failed_blocks.load(Ordering::Relaxed),
+            returned_puts: self.returned_puts.load(Ordering::Relaxed),
+            reclaims: self.reclaims.load(Ordering::Relaxed),
+            reinsertions: self.reinsertions.load(Ordering::Relaxed),
+        }
+    }
+}

@@ -1,0 +1,203 @@
+//! What a store did, as any caller may ask for it: counted without a lock, and no clause says what the numbers are.
+use foyer_device_page::error::Result;
+use foyer_device_statistics::IoState;
+use foyer_storage_engine::engine::Enqueued;
+use foyer_storage_engine::engine::counts::WorkCounts;
+use foyer_storage_engine::load::Load;
+use std::alloc::{Allocator, Global};
+use std::sync::atomic::{AtomicU64, Ordering};
+
+/// What a store did since it was built, by all its callers and threads. Numbers that change together may be looked at apart: each is right once
+/// nothing is under way.
+#[derive(Clone, Copy, Debug, Default, PartialEq, Eq)]
+pub struct StoreCounters {
+    /// The bytes that its device wrote, with those of indices, cleans and the log of deletes.
+    pub disk_write_bytes: u64,
+    /// The bytes that it read, with those of the opening.
+    pub disk_read_bytes: u64,
+    /// Its calls that wrote, as the throttle's counter counts them.
+    pub disk_write_ios: u64,
+    /// Those that read.
+    pub disk_read_ios: u64,
+    /// Puts that were queued.
+    pub queued_puts: u64,
+    /// Puts of young pieces, which aren't taken.
+    pub ignored_puts: u64,
+    /// Puts that found too much queued: their keys are deleted.
+    pub dropped_puts: u64,
+    /// Puts that the admission filter or a limit of writes turned away: their keys are deleted.
+    pub rejected_puts: u64,
+    /// Puts that were queued and then found no room in a flusher's buffer or a block: their keys are deleted.
+    pub returned_puts: u64,
+    /// Deletes that were accepted, beside those that stand for a put.
+    pub deletes: u64,
+    /// Loads that a piece answered which isn't written yet.
+    pub memory_hits: u64,
+    /// Loads that the device answered.
+    pub device_hits: u64,
+    /// Loads that found nothing, or another key's entry.
+    pub misses: u64,
+    /// Loads that a limit of reads turned away.
+    pub throttled_loads: u64,
+    /// Batches that flushers began.
+    pub batches: u64,
+    /// Blocks of which a write failed.
+    pub failed_blocks: u64,
+    /// Reclaims that began.
+    pub reclaims: u64,
+    /// Records of reclaimed blocks that the reinsertion filter admitted.
+    pub reinsertions: u64,
+}
+
+// The counts of the calls of some hashes: some more than a line of the processor's cache.
+struct Stripe {
+    queued: AtomicU64,
+    ignored: AtomicU64,
+    dropped: AtomicU64,
+    rejected: AtomicU64,
+    deletes: AtomicU64,
+    memory_hits: AtomicU64,
+    device_hits: AtomicU64,
+    misses: AtomicU64,
+    throttled: AtomicU64,
+}
+
+impl Drop for Stripe {
+    fn drop(self) {
+        let Stripe {
+            queued: _,
+            ignored: _,
+            dropped: _,
+            rejected: _,
+            deletes: _,
+            memory_hits: _,
+            device_hits: _,
+            misses: _,
+            throttled: _,
+        } = self;
+    }
+}
+
+impl Stripe {
+    fn new() -> Stripe {
+        Stripe {
+            queued: AtomicU64::new(0),
+            ignored: AtomicU64::new(0),
+            dropped: AtomicU64::new(0),
+            rejected: AtomicU64::new(0),
+            deletes: AtomicU64::new(0),
+            memory_hits: AtomicU64::new(0),
+            device_hits: AtomicU64::new(0),
+            misses: AtomicU64::new(0),
+            throttled: AtomicU64::new(0),
+        }
+    }
+
+    // The sums with this stripe's.
+    fn added(&self, sums: StoreCounters) -> StoreCounters {
+        StoreCounters {
+            queued_puts: sums.queued_puts.wrapping_add(shown(&self.queued)),
+            ignored_puts: sums.ignored_puts.wrapping_add(shown(&self.ignored)),
+            dropped_puts: sums.dropped_puts.wrapping_add(shown(&self.dropped)),
+            rejected_puts: sums.rejected_puts.wrapping_add(shown(&self.rejected)),
+            deletes: sums.deletes.wrapping_add(shown(&self.deletes)),
+            memory_hits: sums.memory_hits.wrapping_add(shown(&self.memory_hits)),
+            device_hits: sums.device_hits.wrapping_add(shown(&self.device_hits)),
+            misses: sums.misses.wrapping_add(shown(&self.misses)),
+            throttled_loads: sums.throttled_loads.wrapping_add(shown(&self.throttled)),
+            ..sums
+        }
+    }
+}
+
+fn shown(count: &AtomicU64) -> u64 {
+    count.load(Ordering::Relaxed)
+}
+
+fn add(count: &AtomicU64) {
+    let _ = count.fetch_add(1, Ordering::Relaxed);
+}
+
+// Into how many stripes calls are divided by their hash, so that threads seldom count in the same words.
+const STRIPES: usize = 16;
+
+// The counts of a store's calls.
+pub(crate) struct CallCounters {
+    stripes: Vec<Stripe>,
+}
+
+impl Drop for CallCounters {
+    fn drop(self) {
+        let CallCounters { stripes: _ } = self;
+    }
+}
+
+impl CallCounters {
+    // Nothing was called. Memory.
+    pub(crate) fn new(alloc: Global) -> Result<CallCounters> {
+        let mut stripes = Vec::with_capacity(alloc, STRIPES)?;
+        for _ in 0..STRIPES {
+            stripes.push(Stripe::new())?;
+        }
+        Ok(CallCounters { stripes })
+    }
+
+    fn stripe(&self, hash: u64) -> Option<&Stripe> {
+        self.stripes.get((hash % STRIPES as u64) as usize)
+    }
+
+    // A put that was handed to the engine.
+    pub(crate) fn add_put(&self, hash: u64, enqueued: Enqueued) {
+        if let Some(stripe) = self.stripe(hash) {
+            match enqueued {
+                Enqueued::Queued => add(&stripe.queued),
+                Enqueued::Ignored => add(&stripe.ignored),
+                Enqueued::Deleted => add(&stripe.dropped),
+            }
+        }
+    }
+
+    // One that wasn't admitted.
+    pub(crate) fn add_rejected(&self, hash: u64) {
+        if let Some(stripe) = self.stripe(hash) {
+            add(&stripe.rejected);
+        }
+    }
+
+    pub(crate) fn add_delete(&self, hash: u64) {
+        if let Some(stripe) = self.stripe(hash) {
+            add(&stripe.deletes);
+        }
+    }
+
+    pub(crate) fn add_load<K, V, P, A: Allocator>(&self, hash: u64, answer: &Load<K, V, P, A>) {
+        if let Some(stripe) = self.stripe(hash) {
+            match answer {
+                Load::Piece { .. } => add(&stripe.memory_hits),
+                Load::Entry { .. } => add(&stripe.device_hits),
+                Load::Miss => add(&stripe.misses),
+                Load::Throttled => add(&stripe.throttled),
+            }
+        }
+    }
+
+    // All of them, beside what the device and the engine's threads did.
+    pub(crate) fn with(&self, io: &IoState, work: WorkCounts) -> StoreCounters {
+        let mut sums = StoreCounters {
+            disk_write_bytes: io.disk_write_bytes,
+            disk_read_bytes: io.disk_read_bytes,
+            disk_write_ios: io.disk_write_ios,
+            disk_read_ios: io.disk_read_ios,
+            returned_puts: work.returned_puts,
+            batches: work.batches,
+            failed_blocks: work.failed_blocks,
+            reclaims: work.reclaims,
+            reinsertions: work.reinsertions,
+            ..StoreCounters::default()
+        };
+        for stripe in self.stripes.iter() {
+            sums = stripe.added(sums);
+        }
+        sums
+    }
+}
