@@ -27,11 +27,11 @@ use foyer_io_engine::io::engine::{
     IoEngineConfig, MemoryIoEngine, PsyncIoEngineConfig, SharedMemoryIoEngineConfig,
 };
 use foyer_policy_filter::StorageFilter;
-use foyer_storage_store::builder::StoreBuilder;
-use foyer_storage_store::config::{BlockEngineConfig, Engine};
-use foyer_storage_store::engine::engine::Enqueued;
-use foyer_storage_store::session::StoreSession;
-use foyer_storage_store::threads::workers::{Moment, Workers};
+use foyer_storage_build::builder::StoreBuilder;
+use foyer_storage_build::config::{BlockEngineConfig, Engine};
+use foyer_storage_build::engine::engine::Enqueued;
+use foyer_storage_build::session::StoreSession;
+use foyer_storage_build::threads::workers::{Moment, Workers};
 use std::alloc::{Allocator, Global};
 use std::fs::File;
 use std::io::Write;

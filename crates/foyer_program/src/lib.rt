@@ -5,4 +5,4 @@ mod lines;
 pub mod serve;
 pub mod soak;
 
-pub use foyer_storage_store as store;
+pub use foyer_storage_build as store;

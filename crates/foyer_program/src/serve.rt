@@ -17,10 +17,10 @@ use foyer_format_record::serde::{IdentityHashBuilder, NoProperties};
 use foyer_io_engine::io::engine::{
     IoEngineConfig, MemoryIoEngine, PsyncIoEngineConfig, SharedMemoryIoEngineConfig,
 };
-use foyer_storage_store::builder::StoreBuilder;
-use foyer_storage_store::config::{BlockEngineConfig, Engine};
-use foyer_storage_store::session::StoreSession;
-use foyer_storage_store::threads::workers::{Clock, SystemClock, Workers};
+use foyer_storage_build::builder::StoreBuilder;
+use foyer_storage_build::config::{BlockEngineConfig, Engine};
+use foyer_storage_build::session::StoreSession;
+use foyer_storage_build::threads::workers::{Clock, SystemClock, Workers};
 use std::alloc::{Allocator, Global};
 use std::fs::File;
 use std::io::{BufWriter, Read, Write};

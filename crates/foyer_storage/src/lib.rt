@@ -1,6 +1,6 @@
 //! The disk half of a hybrid cache: the engine's public names, under their modules' paths and here at the root.
 //!
-//! A door: it passes on what the six doors below it have, the store of `foyer_storage_store` with its engine, the engine on one
+//! A door: it passes on what the six doors below it have, the store of `foyer_storage_build` with its engine, the engine on one
 //! thread of `foyer_storage_local`, and the sizes of `foyer_storage_plan`; it has no code of its own.
 //! Types with one name in two modules stand here once: `Batch` is the buffer's, `Block` the manager's, `Sequence` the one of
 //! `block::serde`, `Enqueued`, `Load` and `Populated` those of the engine that threads share. A user who cites definitions lists

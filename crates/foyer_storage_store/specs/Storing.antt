@@ -19,7 +19,6 @@ use Rattle.foyer_storage_engine.specs.declared.engine.Enqueued.{Enqueued}
 use Rattle.foyer_storage_engine.specs.declared.engine.Enqueued.TheVariants as enqueued
 use Rattle.foyer_storage_engine.specs.declared.load.Load.{Load}
 use Rattle.foyer_storage_engine.specs.declared.load.Load.TheVariants as load
-use Rattle.foyer_storage_plan.specs.declared.sizes.EngineSizes.{EngineSizes}
 
 -- A load looks its hash up, throttled only where there is a limit of reads; an entry that it answers is the pair of what it read.
 pub record IsLoadedUnder {K V P A : Type 0} (is_key is_value : List ℕ → Bool) (key_of : K → List ℕ) (value_of : V → List ℕ) (limits : Throttle)
@@ -93,19 +92,3 @@ abbrev pub HasDestroyed : (blocks : ℕ) → SessionState → Result (Unit {0}) 
 HasDestroyed blocks new answered =
     OnOk answered (0 < blocks → EndsWithClean (blocks - 1) new answered)
     × IfErr answered (λ e. (is_draw_error e ≡ true) ⊎ (0 < blocks → EndsWithClean (blocks - 1) new answered))
-
--- every size at its default
-abbrev pub default_sizes : EngineSizes
-default_sizes = record {
-  block_size = 2 ^ 24;
-  blob_index_size = 4096;
-  indexer_shards = None;
-  recover_concurrency = 8;
-  load_engines = 1;
-  flushers = 1;
-  reclaimers = 1;
-  buffer_pool_size = 2 ^ 24;
-  submit_queue_size_threshold = 2 ^ 24;
-  clean_block_threshold = 1;
-  tombstone_log = false;
-}

@@ -9,7 +9,7 @@ ghost use Rattle.foyer_storage_engine.specs.Answering.{is_draw_error, is_load_er
 ghost use Rattle.foyer_storage_engine.specs.declared.load.Load.{Load};
 ghost use Rattle.foyer_storage_store.specs.Storing.{IsDecided, IsEstimated, IsKept, IsStored};
 
-use crate::config::{DeviceSummary, Engine};
+use crate::calls::{DeviceSummary, Engine};
 use crate::counters::{CallCounters, StoreCounters};
 use foyer_device_page::error::Result;
 use foyer_device_statistics::{IoState, Statistics};
@@ -84,8 +84,8 @@ impl<N: Drop, K: Eq + Drop, V: Drop, P: Drop, H: Drop> Clone for Store<N, K, V, 
 }
 
 impl<N: Drop, K: Eq + Drop, V: Drop, P: Drop, H: Drop> Store<N, K, V, P, H> {
-    // A store over an engine that is built. Memory.
-    pub(crate) fn new(
+    /// A store over an engine that is built, which keeps its pieces in this keeper. Memory.
+    pub fn new(
         alloc: Global,
         name: &'static str,
         hasher: H,

@@ -5,10 +5,10 @@ use super::{Found, NOTHING};
 use foyer_device_page::error::Result;
 use foyer_format_record::serde::{IdentityHashBuilder, NoProperties};
 use foyer_policy_piece::keeper::Piece;
-use foyer_storage_store::config::Engine;
-use foyer_storage_store::engine::engine::Enqueued;
-use foyer_storage_store::engine::load::Load;
-use foyer_storage_store::store::Store;
+use foyer_storage_build::config::Engine;
+use foyer_storage_build::engine::engine::Enqueued;
+use foyer_storage_build::engine::load::Load;
+use foyer_storage_build::store::Store;
 use std::alloc::Global;
 use std::sync::Wait;
 

@@ -1,0 +1,249 @@
+//! What a store is built of.
+ghost use Rattle.std.specs.Arc.{arc_value};
+ghost use Rattle.std.specs.Prelude.{◌≡◌, ◌≢◌, ◌⊎◌, ◌+◌, ◌<◌, ◌^◌, IfErr, IfOk, Err, not, vec_len};
+ghost use Rattle.foyer_block_recover.specs.declared.block.recover.RecoverMode.TheVariants as recover_mode;
+ghost use Rattle.foyer_device_page.specs.declared.error.Error.TheVariants.{Config, Memory, Unsupported};
+ghost use Rattle.foyer_format_record.specs.declared.compress.Compression.TheVariants as compression;
+
+use crate::config::{Built, EngineBuildContext, EngineConfig, NoopEngineConfig, Recovering};
+use crate::whole::WholeSession;
+use foyer_core_tally::book::{Blanks, Kinds};
+use foyer_device_page::error::{Error, Result};
+use foyer_format_record::compress::Compression;
+use foyer_io_engine::io::engine::PsyncIoEngineConfig;
+use foyer_policy_keeper::keeper::Keeper;
+use foyer_storage_store::engine::core_steps::open::RecoverMode;
+use foyer_storage_store::session::StoreSession;
+use foyer_storage_store::store::Store;
+use foyer_storage_workers::hand::Hand;
+use foyer_storage_workers::recover::{Recoverer, list_blocks};
+use foyer_storage_workers::workers::{Clock, Worker, Workers};
+use std::alloc::Global;
+use std::fmt;
+use std::fmt::{Debug, Formatter};
+use std::sync::{Arc, Wait};
+use std::thread::Threads;
+
+/// Builds a store. Without an engine config it keeps nothing.
+#[derive(Drop)]
+pub struct StoreBuilder<H: Drop, N: Drop, I: Drop> {
+    name: &'static str,
+    hasher: H,
+    shards: usize,
+    engine: N,
+    io_engine: I,
+    compression: Compression,
+    recover_mode: RecoverMode,
+}
+
+/// The type's name.
+impl<H: Drop, N: Drop, I: Drop> Debug for StoreBuilder<H, N, I> {
+    fn fmt<W: fmt::Write>(&self, f: &mut Formatter<W>) -> fmt::Result {
+        f.write_str("StoreBuilder")
+    }
+}
+
+impl<H: Drop> StoreBuilder<H, NoopEngineConfig, PsyncIoEngineConfig> {
+    /// A store of this name, which is only kept, whose keys are hashed so, and whose keeper has so many shards.
+    pub fn new(
+        name: &'static str,
+        hasher: H,
+        shards: usize,
+    ) -> StoreBuilder<H, NoopEngineConfig, PsyncIoEngineConfig>
+        ensures given { (result.name.now ≡ name.now) × (result.hasher ≡ hasher) × (result.shards ≡ shards) }
+        ensures defaults { (result.compression ≡ compression.None) × (result.recover_mode ≡ recover_mode.Quiet) }
+    {
+        StoreBuilder {
+            name,
+            hasher,
+            shards,
+            engine: NoopEngineConfig,
+            io_engine: PsyncIoEngineConfig::new(),
+            compression: Compression::None,
+            recover_mode: RecoverMode::Quiet,
+        }
+    }
+}
+
+impl<H: Drop, N: Drop, I: Drop> StoreBuilder<H, N, I> {
+    /// With an engine of this config. Default: `NoopEngineConfig`.
+    pub fn with_engine_config<M: Drop>(self, engine: M) -> StoreBuilder<H, M, I>
+        ensures engine { result.engine ≡ engine }
+        ensures rest { (result.name ≡ self.name) × (result.hasher ≡ self.hasher) × (result.shards ≡ self.shards)
+            × (result.io_engine ≡ self.io_engine) × (result.compression ≡ self.compression) × (result.recover_mode ≡ self.recover_mode) }
+    {
+        let StoreBuilder {
+            name,
+            hasher,
+            shards,
+            engine: _,
+            io_engine,
+            compression,
+            recover_mode,
+        } = self;
+        StoreBuilder {
+            name,
+            hasher,
+            shards,
+            engine,
+            io_engine,
+            compression,
+            recover_mode,
+        }
+    }
+
+    /// With I/O engines of this config. Default: `PsyncIoEngineConfig`.
+    pub fn with_io_engine_config<J: Drop>(self, io_engine: J) -> StoreBuilder<H, N, J>
+        ensures io_engine { result.io_engine ≡ io_engine }
+        ensures rest { (result.name ≡ self.name) × (result.hasher ≡ self.hasher) × (result.shards ≡ self.shards)
+            × (result.engine ≡ self.engine) × (result.compression ≡ self.compression) × (result.recover_mode ≡ self.recover_mode) }
+    {
+        let StoreBuilder {
+            name,
+            hasher,
+            shards,
+            engine,
+            io_engine: _,
+            compression,
+            recover_mode,
+        } = self;
+        StoreBuilder {
+            name,
+            hasher,
+            shards,
+            engine,
+            io_engine,
+            compression,
+            recover_mode,
+        }
+    }
+
+    /// With this compression. Default: `None`, and another is `Unsupported` at `build`.
+    pub fn with_compression(self, compression: Compression) -> StoreBuilder<H, N, I>
+        ensures { result ≡ record self { compression = compression } }
+    {
+        StoreBuilder {
+            compression,
+            ..self
+        }
+    }
+
+    /// What an opening does with what it finds. Default: `Quiet`.
+    pub fn with_recover_mode(self, recover_mode: RecoverMode) -> StoreBuilder<H, N, I>
+        ensures { result ≡ record self { recover_mode = recover_mode } }
+    {
+        StoreBuilder {
+            recover_mode,
+            ..self
+        }
+    }
+
+    /// Whether the store keeps nothing, whatever keys and values it is built for.
+    pub fn is_noop<R: Copy, T: Clock, L: Kinds, K: Eq, V, P>(&self) -> bool
+    where
+        N: EngineConfig<R, EngineBuildContext<I, T>, WholeSession<L>, K, V, P>,
+        ensures { result ≡ N.keeps_nothing self.now.engine }
+    {
+        self.engine.is_noop()
+    }
+
+    /// The store, a session with all parts that its workers don't have, and the workers, which run. The threads of the recovery
+    /// end before. The clock gives the moments at which reclaims ask their filter; the moments of the device's builder and of each call
+    /// count from the same origin (`SystemClock`). `Config` without a shard; `Unsupported` with a compression; else as the engine's config
+    /// refuses, or Memory, if a worker's thread can't be started: then those that were are joined.
+    pub fn build<
+        R: Threads + Wait + Copy + Send + 'static,
+        T: Clock,
+        L: Kinds + Send + Sync + 'static,
+        K: Eq + Drop,
+        V: Drop,
+        P: Drop,
+    >(
+        self,
+        rt: R,
+        alloc: Global,
+        blanks: Blanks,
+        clock: T,
+        generator: u64,
+    ) -> Result<(Store<N::Engine, K, V, P, H>, StoreSession<L>, Workers<L>)>
+    where
+        N: EngineConfig<R, EngineBuildContext<I, T>, WholeSession<L>, K, V, P>,
+        N::Flusher: Worker<Hand<L>> + Send + 'static,
+        N::Reclaimer: Worker<Hand<L>> + Send + 'static,
+        N::Recoverer: Recoverer<N::Listed> + Send + 'static,
+        N::Listed: Send + 'static,
+        requires { N.fits blanks }
+        ensures parts { IfOk result (λ r. r.1.steps.shares.parts + vec_len r.2.flushers + vec_len r.2.reclaimers ≡ 2 ^ 32) }
+        ensures more { IfOk result (λ r. 1 < r.1.steps.shares.parts) }
+        ensures given { IfOk result (λ r. ((arc_value r.0.shared).name.now ≡ self.name.now) × ((arc_value r.0.shared).hasher ≡ self.hasher)) }
+        ensures enabled { IfOk result (λ r. (arc_value r.0.shared).is_enabled ≡ not (N.keeps_nothing self.engine)) }
+        ensures built { IfOk result (λ r. N.may_build self.engine (record {
+          io_engine_config = self.io_engine;
+          recover_mode = self.recover_mode;
+          clock = clock;
+          generator = generator;
+        }) (arc_value r.0.shared).engine (arc_value r.0.shared).throttle (vec_len r.2.flushers) (vec_len r.2.reclaimers)) }
+        ensures shardless { self.shards ≡ 0 → result ≡ Err Config }
+        ensures compressed { self.shards ≢ 0 → self.compression ≢ compression.None → result ≡ Err Unsupported }
+        ensures refused { self.shards ≢ 0 → self.compression ≡ compression.None → IfErr result (λ e. (e ≡ Memory) ⊎ N.may_refuse self.engine (record {
+          io_engine_config = self.io_engine;
+          recover_mode = self.recover_mode;
+          clock = clock;
+          generator = generator;
+        }) e) }
+    {
+        let StoreBuilder {
+            name,
+            hasher,
+            shards,
+            engine,
+            io_engine,
+            compression,
+            recover_mode,
+        } = self;
+        if shards == 0 {
+            return Err(Error::Config);
+        }
+        if compression != Compression::None {
+            return Err(Error::Unsupported);
+        }
+        let is_enabled = !engine.is_noop();
+        let keeper = Arc::new(alloc, Keeper::new(alloc, shards)?)?;
+        let context = EngineBuildContext {
+            io_engine_config: io_engine,
+            recover_mode,
+            clock,
+            generator,
+        };
+        let Recovering {
+            mut opening,
+            recoverers,
+        } = engine.begin(rt, alloc, context)?;
+        'each_worker: for listed in list_blocks(rt, alloc, recoverers) {
+            opening = N::add(opening, listed);
+        }
+        let built = N::build(opening, rt, alloc, blanks, &keeper)?;
+        let Built {
+            engine,
+            session,
+            signals,
+            flushers,
+            reclaimers,
+            statistics,
+            throttle,
+        } = built;
+        let store = Store::new(
+            alloc, name, hasher, is_enabled, keeper, engine, statistics, throttle,
+        )?;
+        let mut session = session.into_steps();
+        let mut workers = Workers::none(signals, alloc);
+        if workers
+            .start(rt, flushers, reclaimers, &mut session)
+            .is_err()
+        {
+            let _ = workers.join(&rt, session);
+            return Err(Error::Memory);
+        }
+        Ok((store, StoreSession::new(session), workers))
+    }
+}

@@ -1,0 +1,11 @@
+//! What a store and its engine are built of.
+//!
+//! It passes on the store and its engine's threads, so that whoever builds one lists this crate alone.
+#![tactic(auto)]
+
+pub mod builder;
+pub mod config;
+pub mod whole;
+
+pub use foyer_storage_store::{counters, engine, session, store};
+pub use foyer_storage_workers as threads;

@@ -1,0 +1,119 @@
+//! What a store asks of its engine.
+use foyer_device_page::error::Result;
+use foyer_device_statistics::IoState;
+use foyer_policy_filter::StorageFilterResult;
+use foyer_policy_keeper::keeper::Keeper;
+use foyer_policy_piece::keeper::Piece;
+use foyer_storage_engine::engine::Enqueued;
+use foyer_storage_engine::engine::counts::WorkCounts;
+use foyer_storage_engine::load::Load;
+use std::alloc::Global;
+use std::sync::Wait;
+
+/// What a device has.
+#[derive(Clone, Copy, Debug, PartialEq, Eq)]
+pub struct DeviceSummary {
+    /// The bytes that it has.
+    pub capacity: usize,
+    /// The bytes that its partitions take together.
+    pub allocated: usize,
+    /// How many partitions it has.
+    pub partitions: usize,
+}
+
+/// The calls of an engine, which threads share by reference, each with a session of this type.
+pub trait Engine<S: Drop, K: Eq, V, P>: Drop {
+    ghost use Rattle.std.specs.Prelude.{◌≡◌, ℕ, Bool, true, false, Result, IfErr};
+    ghost use Rattle.std.specs.declared.alloc.Global.{Global};
+    ghost use Rattle.foyer_storage_engine.specs.Answering.{is_draw_error, is_load_error, is_question_error};
+    ghost use Rattle.foyer_device_page.specs.declared.error.Error.{Error};
+    ghost use Rattle.foyer_storage_engine.specs.declared.engine.Enqueued.{Enqueued};
+    ghost use Rattle.foyer_storage_engine.specs.declared.load.Load.{Load};
+    ghost use Rattle.foyer_policy_filter.specs.declared.verdict.StorageFilterResult.{StorageFilterResult};
+    ghost use Rattle.foyer_storage_store.specs.declared.config.DeviceSummary.{DeviceSummary};
+
+    // What its device has.
+    ghost summary: { Self → DeviceSummary };
+
+    // What its admission filter may say of an entry of that hash and size.
+    ghost may_judge: { Self → ℕ → ℕ → StorageFilterResult → Type 0 };
+
+    // What an enqueue of a piece of that hash and size may make of a caller's session, and answer.
+    ghost may_enqueue: { Self → S → S → ℕ → ℕ → Result Enqueued Error → Type 0 };
+
+    // The same of a load of a hash.
+    ghost may_load: { Self → S → S → ℕ → Result (Load K V P Global) Error → Type 0 };
+
+    // The same of a delete.
+    ghost may_delete: { Self → S → S → ℕ → Result (Unit {0}) Error → Type 0 };
+
+    // The same of a question.
+    ghost may_ask: { Self → S → S → ℕ → Result Bool Error → Type 0 };
+
+    // The same of a wait, of a close and of a destroy.
+    ghost may_wait: { Self → S → S → Result (Unit {0}) Error → Type 0 };
+
+    ghost may_close: { Self → S → S → Result (Unit {0}) Error → Type 0 };
+
+    ghost may_destroy: { Self → S → S → Result (Unit {0}) Error → Type 0 };
+
+    /// What its device has.
+    fn device(&self) -> DeviceSummary
+        ensures { result ≡ summary self.now };
+
+    /// What its device did and has callers wait for, at a moment in nanoseconds.
+    fn io_state(&self, rt: &impl Wait, now: u64) -> IoState;
+
+    /// What its threads did since it was opened.
+    fn work(&self) -> WorkCounts;
+
+    /// What its admission filter says of an entry of that hash and size in bytes, at a moment.
+    fn filter(&self, rt: &impl Wait, hash: u64, size: usize, now: u64) -> StorageFilterResult
+        ensures { may_judge self.now hash size result };
+
+    /// Queues a piece, and keeps it in this keeper where it is queued; `size` is its estimated size in bytes. `Closed`, `Memory`,
+    /// `SequenceEnd`.
+    fn enqueue(
+        &self,
+        rt: &impl Wait,
+        session: &mut S,
+        keeper: &Keeper<K, V, P, Global>,
+        piece: &Piece<K, V, P, Global>,
+        size: usize,
+    ) -> Result<Enqueued>
+        ensures answered { may_enqueue self.now session.old session.new piece.now.hash size result }
+        ensures refused { IfErr result (λ e. is_draw_error e ≡ true) };
+
+    /// Looks a hash up at a moment, and reads what it stands for. `Io`, `Memory`, `Parse`, `Unsupported`, `SequenceEnd`.
+    fn load(
+        &self,
+        rt: &impl Wait,
+        session: &mut S,
+        hash: u64,
+        now: u64,
+    ) -> Result<Load<K, V, P, Global>>
+        ensures answered { may_load self.now session.old session.new hash result }
+        ensures refused { IfErr result (λ e. is_load_error e ≡ true) };
+
+    /// Accepts a delete of a hash. `Closed`, `Memory`, `SequenceEnd`.
+    fn delete(&self, rt: &impl Wait, session: &mut S, hash: u64) -> Result<()>
+        ensures answered { may_delete self.now session.old session.new hash result }
+        ensures refused { IfErr result (λ e. is_draw_error e ≡ true) };
+
+    /// Whether a hash is indexed. `SequenceEnd`.
+    fn may_contains(&self, rt: &impl Wait, session: &mut S, hash: u64) -> Result<bool>
+        ensures answered { may_ask self.now session.old session.new hash result }
+        ensures refused { IfErr result (λ e. is_question_error false e ≡ true) };
+
+    /// Destroys all entries.
+    fn destroy(&self, rt: &impl Wait, session: &mut S) -> Result<()>
+        ensures { may_destroy self.now session.old session.new result };
+
+    /// Waits until all that was queued is written.
+    fn wait(&self, rt: &impl Wait, session: &mut S) -> Result<()>
+        ensures { may_wait self.now session.old session.new result };
+
+    /// Takes no more enqueues, deletes and destroys, and waits.
+    fn close(&self, rt: &impl Wait, session: &mut S) -> Result<()>
+        ensures { may_close self.now session.old session.new result };
+}
