@@ -1,5 +1,5 @@
 //! An engine over the blocks of a device, with its admission filter.
-ghost use Rattle.std.specs.Prelude.{◌≡◌, None, false};
+ghost use Rattle.std.specs.Prelude.{◌≡◌, ◌||◌, None, false, is_some};
 ghost use Rattle.std.specs.Duration.{as_nanos};
 ghost use Rattle.foyer_policy_filter.specs.Conditions.{IsThrottledBy};
 ghost use Rattle.foyer_storage_store.specs.Storing.{IsAdmission, IsVerdictWithWait};
@@ -189,7 +189,7 @@ where
 
     // Whether writes have a limit.
     fn limits_writes(&self) -> bool
-        ensures { self.now.throttle.write_throughput ≡ None → self.now.throttle.write_iops ≡ None → result ≡ false }
+        ensures { result ≡ (is_some self.now.throttle.write_throughput || is_some self.now.throttle.write_iops) }
     {
         self.throttle.write_throughput.is_some() || self.throttle.write_iops.is_some()
     }

@@ -322,7 +322,8 @@ impl<N: Drop, K: Eq + Drop, V: Drop, P: Drop, H: Drop> Store<N, K, V, P, H> {
             inner.calls.add_load(hash, &answer);
             return Ok(answer);
         }
-        let answer = decide_load(key, None, inner.engine.load(rt, session, hash, now)?);
+        let read = inner.engine.load(rt, session, hash, now)?;
+        let answer = decide_load(key, None, read);
         inner.calls.add_load(hash, &answer);
         Ok(answer)
     }
