@@ -13,6 +13,7 @@ use foyer_format_record::compress::Compression;
 use foyer_io_engine::io::engine::PsyncIoEngineConfig;
 use foyer_policy_keeper::keeper::Keeper;
 use foyer_storage_store::engine::core_steps::open::RecoverMode;
+use foyer_storage_store::engine::engine::signals::Signals;
 use foyer_storage_store::session::StoreSession;
 use foyer_storage_store::store::Store;
 use foyer_storage_workers::hand::Hand;
@@ -63,6 +64,62 @@ impl<H: Drop> StoreBuilder<H, NoopEngineConfig, PsyncIoEngineConfig> {
             recover_mode: RecoverMode::Quiet,
         }
     }
+}
+
+// Begins an opening, and gives it what the workers of its recovery listed, whose threads have ended.
+fn open<R, X, S, K, V, P, N>(rt: R, alloc: Global, engine: N, context: X) -> Result<N::Opening>
+where
+    R: Threads + Wait + Copy + Send + 'static,
+    X: Drop,
+    S: Drop,
+    K: Eq + Drop,
+    V: Drop,
+    P: Drop,
+    N: EngineConfig<R, X, S, K, V, P>,
+    N::Recoverer: Recoverer<N::Listed> + Send + 'static,
+    N::Listed: Send + 'static,
+    ensures begun { IfOk result (λ opening. N.may_begin engine context opening) }
+    ensures refused { IfErr result (λ e. N.may_refuse engine context e) }
+{
+    let Recovering {
+        mut opening,
+        recoverers,
+    } = engine.begin(rt, alloc, context)?;
+    'each_worker: for listed in list_blocks(rt, alloc, recoverers) {
+        opening = N::add(opening, listed);
+    }
+    Ok(opening)
+}
+
+// Starts an engine's workers, with a part of the session's each. Memory, if one can't be started: then those that were are joined.
+fn start<L, F, W, R>(
+    rt: R,
+    alloc: Global,
+    signals: Arc<Signals<Global>, Global>,
+    flushers: Vec<F>,
+    reclaimers: Vec<W>,
+    session: WholeSession<L>,
+) -> Result<(StoreSession<L>, Workers<L>)>
+where
+    L: Kinds + Send + Sync + 'static,
+    F: Worker<Hand<L>> + Send + 'static,
+    W: Worker<Hand<L>> + Send + 'static,
+    R: Threads + Wait + Copy + Send + 'static,
+    requires { vec_len flushers + vec_len reclaimers + 1 < 2 ^ 32 }
+    ensures parts { IfOk result (λ r. r.0.steps.shares.parts + vec_len r.1.flushers + vec_len r.1.reclaimers ≡ 2 ^ 32) }
+    ensures all { IfOk result (λ r. (vec_len r.1.flushers ≡ vec_len flushers) × (vec_len r.1.reclaimers ≡ vec_len reclaimers)) }
+    ensures refused { IfErr result (λ e. e ≡ Memory) }
+{
+    let mut session = session.into_steps();
+    let mut workers = Workers::none(signals, alloc);
+    if workers
+        .start(rt, flushers, reclaimers, &mut session)
+        .is_err()
+    {
+        let _ = workers.join(&rt, session);
+        return Err(Error::Memory);
+    }
+    Ok((StoreSession::new(session), workers))
 }
 
 impl<H: Drop, N: Drop, I: Drop> StoreBuilder<H, N, I> {
@@ -215,14 +272,7 @@ impl<H: Drop, N: Drop, I: Drop> StoreBuilder<H, N, I> {
             clock,
             generator,
         };
-        let Recovering {
-            mut opening,
-            recoverers,
-        } = engine.begin(rt, alloc, context)?;
-        'each_worker: for listed in list_blocks(rt, alloc, recoverers) {
-            opening = N::add(opening, listed);
-        }
-        let built = N::build(opening, rt, alloc, blanks, &keeper)?;
+        let opening = open::<R, _, WholeSession<L>, K, V, P, N>(rt, alloc, engine, context)?;
         let Built {
             engine,
             session,
@@ -231,19 +281,11 @@ impl<H: Drop, N: Drop, I: Drop> StoreBuilder<H, N, I> {
             reclaimers,
             statistics,
             throttle,
-        } = built;
+        } = N::build(opening, rt, alloc, blanks, &keeper)?;
         let store = Store::new(
             alloc, name, hasher, is_enabled, keeper, engine, statistics, throttle,
         )?;
-        let mut session = session.into_steps();
-        let mut workers = Workers::none(signals, alloc);
-        if workers
-            .start(rt, flushers, reclaimers, &mut session)
-            .is_err()
-        {
-            let _ = workers.join(&rt, session);
-            return Err(Error::Memory);
-        }
-        Ok((store, StoreSession::new(session), workers))
+        let (session, workers) = start(rt, alloc, signals, flushers, reclaimers, session)?;
+        Ok((store, session, workers))
     }
 }
