@@ -278,7 +278,8 @@ where
     let config = BlockEngineConfig::new(device)
         .with_filters::<AskedAgain>(None, filter_of(alloc, &asked)?)
         .with_block_size(block_size)
-        .with_load_engines(plan.engines as usize);
+        .with_load_engines(plan.engines as usize)
+        .with_flushers(u32::try_from(plan.flushers).unwrap_or(u32::MAX));
     let builder = StoreBuilder::new("foyerbench", IdentityHashBuilder, 64)
         .with_engine_config(config)
         .with_io_engine_config(io_engine);

@@ -16,6 +16,7 @@ set_to setting.Gets number plan = record plan { gets = number }
 set_to setting.Seed number plan = record plan { seed = number }
 set_to setting.Fill number plan = record plan { fill = number }
 set_to setting.Engines number plan = record plan { engines = number }
+set_to setting.Flushers number plan = record plan { flushers = number }
 set_to setting.Through number plan = record plan { through = number }
 set_to setting.Reinsert number plan = record plan { reinsert = number }
 
@@ -25,7 +26,7 @@ AreSettings plan [] after = after ≡ plan
 AreSettings plan (word ∷ words) after = (s : Setting) × (number : ℕ) × IsSetting word s number × AreSettings (set_to s number plan) words after
 
 -- where nothing more is said: 100,000 keys at a skew of 0.99, 90 of a hundred calls are gets, nothing is put before, loads read
--- through one engine, a miss puts nothing, and nothing is written again
+-- through one engine, one flusher writes, a miss puts nothing, and nothing is written again
 abbrev pub default_plan : ℕ → ℕ → ℕ → Plan
 default_plan threads value_bytes seconds = record {
   threads = threads;
@@ -38,6 +39,7 @@ default_plan threads value_bytes seconds = record {
   seed = 1;
   fill = 0;
   engines = 1;
+  flushers = 1;
   through = 0;
   reinsert = 0;
 }

@@ -12,6 +12,7 @@ pub enum Setting {
     Seed,
     Fill,
     Engines,
+    Flushers,
     Through,
     Reinsert,
 }
@@ -42,7 +43,7 @@ impl Refusal {
             Refusal::ValueBytes => "VALUE_BYTES is a number up to 2^30",
             Refusal::Seconds => "SECONDS is a number from 1 to 2^30",
             Refusal::Unknown =>
-                "a setting is calls=, keys=, skew=, gets=, seed=, fill=, engines=, through= or reinsert=",
+                "a setting is calls=, keys=, skew=, gets=, seed=, fill=, engines=, flushers=, through= or reinsert=",
             Refusal::Number(Setting::Calls) => "calls= is a number",
             Refusal::Number(Setting::Keys) => "keys= is a number from 1 to 2^26",
             Refusal::Number(Setting::Skew) => "skew= is a number of hundredths up to 1000",
@@ -50,6 +51,7 @@ impl Refusal {
             Refusal::Number(Setting::Seed) => "seed= is a number",
             Refusal::Number(Setting::Fill) => "fill= is a number",
             Refusal::Number(Setting::Engines) => "engines= is a number from 1 to 1024",
+            Refusal::Number(Setting::Flushers) => "flushers= is a number from 1 to 1024",
             Refusal::Number(Setting::Through) => "through= is 0 or 1",
             Refusal::Number(Setting::Reinsert) => "reinsert= is 0 or 1",
         }
@@ -79,6 +81,7 @@ impl Setting {
             "seed" => Some(Setting::Seed),
             "fill" => Some(Setting::Fill),
             "engines" => Some(Setting::Engines),
+            "flushers" => Some(Setting::Flushers),
             "through" => Some(Setting::Through),
             "reinsert" => Some(Setting::Reinsert),
             _ => None,
@@ -89,7 +92,7 @@ impl Setting {
         ensures { result ≡ least_of self }
     {
         match self {
-            Setting::Keys | Setting::Engines => 1,
+            Setting::Keys | Setting::Engines | Setting::Flushers => 1,
             _ => 0,
         }
     }
@@ -101,7 +104,7 @@ impl Setting {
             Setting::Keys => 1 << 26,
             Setting::Skew => 1000,
             Setting::Gets => 100,
-            Setting::Engines => 1024,
+            Setting::Engines | Setting::Flushers => 1024,
             Setting::Through | Setting::Reinsert => 1,
             _ => u64::MAX,
         }
