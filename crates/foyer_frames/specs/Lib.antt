@@ -1,0 +1,5 @@
+pub mod Kind
+pub mod Numbers
+pub mod Request
+pub mod Reply
+pub mod Stream

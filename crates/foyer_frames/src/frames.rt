@@ -1,0 +1,134 @@
+//! The requests of a stream, one at a time.
+ghost use Rattle.std.specs.Prelude.{◌≡◌, ◌+◌, ◌≤◌, ◌++◌, ℕ, List, Some, max, IfOk, IfSome, OnErr};
+ghost use Rattle.std.specs.Io.KnownBytes.{Keeps};
+
+use crate::request::{Fault, Head, Limits};
+use crate::window::Window;
+pub use crate::window::{Filled, Taken};
+use std::alloc::{AllocError, Allocator};
+use std::io;
+use std::io::Read;
+
+/// What stands next in a stream.
+#[derive(Clone, Copy, Debug, PartialEq, Eq)]
+pub enum Next {
+    /// A request.
+    Request(Head),
+    /// What is no frame within the limits. The stream stays where it is: behind a broken frame none can be found.
+    Refused(Fault),
+    /// The end of the stream, behind a whole frame.
+    End,
+    /// The end of the stream, within a frame.
+    Cut,
+}
+
+/// A reader's requests. It keeps what it read: a buffer of 64 KiB, which grows up to a frame of the limits where a frame is longer.
+pub struct Frames<R: Read + Drop, A: Allocator> {
+    input: R,
+    window: Window<A>,
+}
+
+// Written out, so that it is proved once.
+impl<R: Read + Drop, A: Allocator> Drop for Frames<R, A> {
+    fn drop(self) {
+        let Frames {
+            input: _,
+            window: _,
+        } = self;
+    }
+}
+
+impl<R: Read + Drop, A: Allocator> Frames<R, A> {
+    ghost use Rattle.foyer_frames.specs.Stream.{Fills, Finds, Takes, buffer_len, buffered, last_key, last_value, limits_of, unread};
+
+    /// The requests of a reader, of which nothing is read yet. `AllocError` where there is no memory for 64 KiB.
+    pub fn new(alloc: A, input: R, limits: Limits) -> Result<Frames<R, A>, AllocError>
+        ensures limits { IfOk result (λ f. limits_of f ≡ limits) }
+        ensures unread { IfOk result (λ f. Keeps (R.remaining input) (unread R.remaining f)) }
+    {
+        Ok(Frames {
+            input,
+            window: Window::new(alloc, limits)?,
+        })
+    }
+
+    /// The bytes of the buffer, at most 64 KiB or a frame of the limits, whichever is more.
+    pub fn buffer_len(&self) -> usize
+        ensures len { result ≡ buffer_len self.now }
+        ensures bound { result ≤ max 65536 (13 + ((limits_of self.now).key + (limits_of self.now).value)) }
+    {
+        self.window.len()
+    }
+
+    /// Takes the request at the front of what was read, without reading.
+    pub fn take(&mut self) -> Taken
+        ensures taken { Takes (limits_of self.old) (buffered self.old) result (last_key self.new) (last_value self.new) (buffered self.new) }
+        ensures kept { self.new ≡ record self.old { window = self.new.window } }
+        ensures limits { limits_of self.new ≡ limits_of self.old }
+    {
+        self.window.take()
+    }
+
+    /// The key of the request that was taken last, until `fill` or `next` reads on.
+    pub fn key(&self) -> &[u8]
+        ensures { result.now ≡ last_key self.now }
+    {
+        self.window.key()
+    }
+
+    /// The value of the request that was taken last, until `fill` or `next` reads on.
+    pub fn value(&self) -> &[u8]
+        ensures { result.now ≡ last_value self.now }
+    {
+        self.window.value()
+    }
+
+    /// Reads more, where what was read is less than a frame. An error is the reader's, or `OutOfMemory` where the buffer can't grow;
+    /// nothing is lost by it, and the call may be made again.
+    pub fn fill(&mut self) -> io::Result<Filled>
+        ensures filled { IfOk result (λ f. Fills (limits_of self.old) (buffered self.old) f (buffered self.new) (R.remaining self.new.input)) }
+        ensures front { (more : List ℕ) × (buffered self.new ≡ buffered self.old ++ more) }
+        ensures kept { Keeps (unread R.remaining self.old) (unread R.remaining self.new) }
+        ensures limits { limits_of self.new ≡ limits_of self.old }
+    {
+        if !self.window.is_partial() {
+            return Ok(Filled::Ready);
+        }
+        self.window.make_room()?;
+        let count = self.window.read_from(&mut self.input)?;
+        if count > 0 {
+            return Ok(Filled::More);
+        }
+        if self.window.as_slice().is_empty() {
+            Ok(Filled::End)
+        } else {
+            Ok(Filled::Cut)
+        }
+    }
+
+    /// What stands next in the stream, for which it is read on as far as needed. Errors as those of `fill`.
+    pub fn next(&mut self) -> io::Result<Next>
+        ensures found { IfOk result (λ n. IfSome (unread R.remaining self.old)
+            (λ bytes. Finds (limits_of self.old) bytes n (last_key self.new) (last_value self.new) (unread R.remaining self.new))) }
+        // The same of what was held and was read, where the input's bytes aren't known.
+        ensures read { IfOk result (λ n. (more : List ℕ)
+            × Finds (limits_of self.old) (buffered self.old ++ more) n (last_key self.new) (last_value self.new) (Some (buffered self.new))) }
+        ensures err { OnErr result (Keeps (unread R.remaining self.old) (unread R.remaining self.new)) }
+        ensures front { OnErr result ((more : List ℕ) × (buffered self.new ≡ buffered self.old ++ more)) }
+        ensures limits { limits_of self.new ≡ limits_of self.old }
+    {
+        for _ in 0..u64::MAX {
+            match self.take() {
+                Taken::Request(head) => return Ok(Next::Request(head)),
+                Taken::Refused(fault) => return Ok(Next::Refused(fault)),
+                Taken::Partial => {}
+            }
+            match self.fill()? {
+                Filled::More | Filled::Ready => {}
+                Filled::End => return Ok(Next::End),
+                Filled::Cut => return Ok(Next::Cut),
+            }
+        }
+        Err(io::Error::from(io::ErrorKind::Interrupted))
+    }
+}

@@ -1,0 +1,15 @@
+//! The frames that a cache is asked by on a stream of bytes, and the replies. Every number has four bytes, the lowest first.
+//!
+//! A request: a kind (1 byte), the caller's own number for it (4), the lengths of its key and of its value in bytes (4 and 4),
+//! the key, the value. A reply: the number of its request (4), a code (1), a length in bytes (4), that many bytes.
+#![tactic(auto)]
+
+pub mod frames;
+pub mod kind;
+mod number;
+mod read;
+pub mod reply;
+pub mod request;
+#[cfg(test)]
+mod tests;
+mod window;
