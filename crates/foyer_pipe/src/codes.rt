@@ -1,0 +1,60 @@
+//! The codes of replies.
+ghost use Rattle.std.specs.Prelude.{◌≡◌};
+
+use foyer_device_page::error::ErrorKind;
+use foyer_frames::request::Fault;
+
+/// Done: a put is queued, a delete accepted, a wait, a destroy or a close has ended. With `c` the counters, a line each.
+pub const DONE: u8 = 0;
+
+/// A get's value.
+pub const ENTRY: u8 = 1;
+
+/// There is nothing under the key.
+pub const MISS: u8 = 2;
+
+/// A put that isn't taken, since its value is young: nothing is deleted. No put of this program is.
+pub const IGNORED: u8 = 3;
+
+/// A put that isn't taken, since too much is queued or a limit of writes holds it back. Its key is deleted.
+pub const DELETED: u8 = 4;
+
+/// A limit of reads holds the get back: nothing was read.
+pub const THROTTLED: u8 = 5;
+
+/// The cache has the key's hash.
+pub const YES: u8 = 6;
+
+/// It hasn't.
+pub const NO: u8 = 7;
+
+/// The code of an error: 64 and the kind's number, from 65 for `Io` to 77 for `SequenceEnd`.
+pub fn error_code(kind: ErrorKind) -> u8 {
+    match kind {
+        ErrorKind::Io => 65,
+        ErrorKind::Memory => 66,
+        ErrorKind::Config => 67,
+        ErrorKind::Parse => 68,
+        ErrorKind::MagicMismatch => 69,
+        ErrorKind::ChecksumMismatch => 70,
+        ErrorKind::OutOfRange => 71,
+        ErrorKind::BufferSizeLimit => 72,
+        ErrorKind::NoSpace => 73,
+        ErrorKind::Recover => 74,
+        ErrorKind::Closed => 75,
+        ErrorKind::Unsupported => 76,
+        ErrorKind::SequenceEnd => 77,
+    }
+}
+
+/// The code of a frame that is none, after which the program ends.
+pub fn fault_code(fault: Fault) -> u8 {
+    match fault {
+        Fault::Short => 128,
+        Fault::UnknownKind => 129,
+        Fault::KeyTooLong => 130,
+        Fault::ValueTooLong => 131,
+        Fault::UnwantedKey => 132,
+        Fault::UnwantedValue => 133,
+    }
+}
