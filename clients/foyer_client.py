@@ -1,0 +1,188 @@
+"""A client of foyerpipe: a disk cache of byte strings that runs as a program beside this one.
+
+    from foyer_client import Cache
+
+    with Cache("./foyerpipe", "/var/tmp/cache", 1 << 30, flushers=2) as cache:
+        cache.put(b"key", b"value")
+        print(cache.get(b"key"))
+
+Needs Python 3.8 or later and nothing else. Threads may share a Cache: each call waits for its own reply. docs/PIPE.md has the frames.
+"""
+import struct
+import subprocess
+import tempfile
+import threading
+from concurrent.futures import Future
+
+DONE, ENTRY, MISS, IGNORED, DELETED, THROTTLED, YES, NO = range(8)
+ERRORS = dict(enumerate("Io Memory Config Parse MagicMismatch ChecksumMismatch OutOfRange BufferSizeLimit NoSpace Recover Closed "
+                        "Unsupported SequenceEnd".split(), 65))
+FAULTS = dict(enumerate("a short frame,an unknown kind,a key that is too long,a value that is too long,a key that isn't asked for,"
+                        "a value that isn't asked for".split(","), 128))
+REQUEST = struct.Struct("<cIII")
+REPLY = struct.Struct("<IBI")
+
+
+class CacheError(Exception):
+    """A call that was refused: `kind` is the error's name."""
+
+    def __init__(self, kind):
+        super().__init__(kind)
+        self.kind = kind
+
+
+class CacheEnded(CacheError):
+    """The program ended, or never began: the text is what it said, and its status."""
+
+
+class Throttled(CacheError):
+    """A limit of reads holds the get back."""
+
+
+class Cache:
+    """A cache in a directory, or in memory for the directory `:memory:`. Options are those of the program: flushers=2, log=1, .."""
+
+    def __init__(self, program, directory, capacity, block_size=1 << 24, **options):
+        words = [program, directory, str(capacity), str(block_size)] + ["%s=%s" % it for it in options.items()]
+        self._errors = tempfile.TemporaryFile()
+        self._program = subprocess.Popen(words, stdin=subprocess.PIPE, stdout=subprocess.PIPE, stderr=self._errors, bufsize=0)
+        self._sending = threading.Lock()
+        self._known = threading.Lock()
+        self._waiting, self._number, self._ended = {}, 0, None
+        self._reader = threading.Thread(target=self._read, daemon=True)
+        self._reader.start()
+        self._call(b"h", b"")  # it is open, or says why not
+
+    # What comes back, handed to whoever asked.
+    def _read(self):
+        stream, buffer = self._program.stdout, b""
+        while True:
+            more = stream.read(1 << 16)
+            if not more:
+                break
+            buffer += more
+            at = 0
+            while len(buffer) - at >= REPLY.size:
+                number, code, length = REPLY.unpack_from(buffer, at)
+                end = at + REPLY.size + length
+                if len(buffer) < end:
+                    break
+                self._give(number, code, buffer[at + REPLY.size:end])
+                at = end
+            buffer = buffer[at:]
+        self._end()
+
+    def _give(self, number, code, found):
+        with self._known:
+            future = self._waiting.pop(number, None)
+        if code in FAULTS and future is None:
+            self._fault = FAULTS[code]
+        if future is not None:
+            future.set_result((code, found))
+
+    def _end(self):
+        status = self._program.wait()
+        self._errors.seek(0)
+        said = self._errors.read().decode("utf-8", "replace").strip()
+        fault = getattr(self, "_fault", None)
+        text = "the program ended with status %d%s%s" % (status, ": " + said if said else "", ", after " + fault if fault else "")
+        with self._known:
+            self._ended = CacheEnded(text)
+            left, self._waiting = self._waiting, {}
+        for future in left.values():
+            future.set_exception(self._ended)
+
+    def _send(self, kind, key=b"", value=b""):
+        future = Future()
+        with self._sending:
+            with self._known:
+                if self._ended:
+                    raise self._ended
+                self._number = number = (self._number + 1) % (1 << 32) or 1
+                self._waiting[number] = future
+            frame = REQUEST.pack(kind, number, len(key), len(value)) + key + value
+            try:
+                view = memoryview(frame)
+                while view:
+                    view = view[self._program.stdin.write(view):]
+            except (OSError, ValueError):
+                pass  # the reader learns of the end, and tells it
+        return future
+
+    def _call(self, kind, key=b"", value=b""):
+        return self._taken(self._send(kind, key, value))
+
+    def _taken(self, future):
+        code, found = future.result()
+        if code in ERRORS:
+            raise CacheError(ERRORS[code])
+        if code == THROTTLED:
+            raise Throttled("Throttled")
+        return code, found
+
+    def put(self, key, value):
+        """Puts a value. False if it isn't taken, since too much is queued or a limit holds it back: then its key is deleted."""
+        return self._call(b"p", key, value)[0] == DONE
+
+    def put_many(self, pairs):
+        """Puts many, without waiting between them: for each whether it is taken."""
+        return [self._taken(it)[0] == DONE for it in [self._send(b"p", key, value) for key, value in pairs]]
+
+    def get(self, key):
+        """The value under a key, or None."""
+        code, found = self._call(b"g", key)
+        return found if code == ENTRY else None
+
+    def get_many(self, keys):
+        """The values under many keys, asked for at once."""
+        taken = [self._taken(it) for it in [self._send(b"g", key) for key in keys]]
+        return [found if code == ENTRY else None for code, found in taken]
+
+    def get_or(self, key, make):
+        """The value under a key; if there is none, or it can't be read, what `make(key)` gives, which is put."""
+        try:
+            found = self.get(key)
+        except CacheEnded:
+            raise
+        except CacheError:
+            found = None
+        if found is None:
+            found = make(key)
+            self.put(key, found)
+        return found
+
+    def contains(self, key):
+        """Whether the cache has the key, or another one of its hash."""
+        return self._call(b"h", key)[0] == YES
+
+    def delete(self, key):
+        """Deletes a key."""
+        self._call(b"d", key)
+
+    def wait(self):
+        """Waits until all that was put before is written."""
+        self._call(b"w")
+
+    def counters(self):
+        """What the cache did, a number by name."""
+        lines = self._call(b"c")[1].decode("ascii").splitlines()
+        return {name: int(count) for name, count in (line.split() for line in lines)}
+
+    def destroy(self):
+        """Deletes everything."""
+        self._call(b"x")
+
+    def close(self):
+        """Ends the program, which writes what is queued first: its status, 0 if all went well."""
+        with self._sending:
+            self._program.stdin.close()
+        self._reader.join()
+        self._program.stdout.close()
+        self._errors.close()
+        return self._program.returncode
+
+    def __enter__(self):
+        return self
+
+    def __exit__(self, *_):
+        self.close()
