@@ -56,11 +56,19 @@ impl<D: Device> BlockEngineConfig<D, DefaultPickers, BuiltInCondition, OpenGate>
 }
 
 impl<D: Device, S: PickerSource, C: StorageFilterCondition, G: Gate> BlockEngineConfig<D, S, C, G> {
-    // The same but for its sizes.
-    fn with_sizes(self, sizes: EngineSizes) -> BlockEngineConfig<D, S, C, G>
+    /// With all these sizes at once. `EngineSizes::{check, plan}` say before `build` whether they go together, and fit a device. Default:
+    /// `EngineSizes::new`.
+    pub fn with_sizes(self, sizes: EngineSizes) -> BlockEngineConfig<D, S, C, G>
         ensures { result ≡ record self { sizes = sizes } }
     {
         BlockEngineConfig { sizes, ..self }
+    }
+
+    /// Its sizes.
+    pub fn sizes(&self) -> &EngineSizes
+        ensures { result.now ≡ self.now.sizes }
+    {
+        &self.sizes
     }
 
     /// The bytes of a block, rounded up to whole pages. Default: `DEFAULT_BLOCK_SIZE`.
