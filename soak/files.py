@@ -140,7 +140,7 @@ def main():
     words.add_argument("--binary", default=BINARY)
     binary = words.parse_args().binary
     if not os.access(binary, os.X_OK):
-        raise SystemExit(f"no program at {os.path.normpath(binary)}: ./foyerdisk builds it")
+        raise SystemExit(f"no program at {os.path.normpath(binary)}: ./foyerdisk :memory: 16384 16384 builds it")
     top = tempfile.mkdtemp(prefix="foyer-files-")
     try:
         check_names(binary, top)

@@ -248,7 +248,7 @@ def main():
     words.add_argument("--binary", default=BINARY)
     binary = os.path.abspath(words.parse_args().binary)
     if not os.access(binary, os.X_OK):
-        raise SystemExit(f"no program at {os.path.normpath(binary)}: ./foyerdisk builds it")
+        raise SystemExit(f"no program at {os.path.normpath(binary)}: ./foyerdisk :memory: 16384 16384 builds it")
     top = tempfile.mkdtemp(prefix="foyer-hostile-")
     try:
         for check in (check_lines, check_streams, check_handles, check_rights, check_two, check_memory):

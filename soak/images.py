@@ -523,7 +523,8 @@ def main():
     words = words.parse_args()
     needed = words.logged if words.log else words.binary
     if not os.access(needed, os.X_OK):
-        raise SystemExit(f"no program at {os.path.normpath(needed)}: ./foyerdisk builds it")
+        how = "FOYER_PROGRAM=foyerimages ./foyerdisk" if words.log else "./foyerdisk :memory: 16384 16384"
+        raise SystemExit(f"no program at {os.path.normpath(needed)}: {how} builds it")
     # Each block's file is opened by each thread that reads or writes it.
     most = resource.getrlimit(resource.RLIMIT_NOFILE)[1]
     resource.setrlimit(resource.RLIMIT_NOFILE, (most, most))

@@ -169,7 +169,7 @@ def main():
             figures = json.load(file)
     else:
         if not os.access(options.binary, os.X_OK):
-            raise SystemExit(f"no program at {os.path.normpath(options.binary)}: ./foyerbench builds it")
+            raise SystemExit(f"no program at {os.path.normpath(options.binary)}: ./foyerbench :memory: 1048576 65536 1 100 1 builds it")
         top = tempfile.mkdtemp(prefix="foyer-plot-", dir=options.directory)
         options.directory = top
         try:

@@ -78,7 +78,7 @@ class Program:
 
     def __init__(self, binary, directory, capacity, block):
         if not os.access(binary, os.X_OK):
-            raise SystemExit(f"no program at {os.path.normpath(binary)}: ./foyerdisk builds it")
+            raise SystemExit(f"no program at {os.path.normpath(binary)}: ./foyerdisk :memory: 16384 16384 builds it")
         words = [binary, directory, str(capacity), str(block)]
         self.child = subprocess.Popen(words, stdin=subprocess.PIPE, stdout=subprocess.PIPE, bufsize=1 << 18)
         self.lines = queue.SimpleQueue()

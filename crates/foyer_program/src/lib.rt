@@ -3,6 +3,5 @@
 
 mod lines;
 pub mod serve;
-pub mod soak;
 
 pub use foyer_storage_build as store;

@@ -162,7 +162,7 @@ where
 }
 
 // What builds I/O engines over one memory of so many bytes.
-pub(crate) fn memory(alloc: Global, capacity: usize) -> Result<SharedMemoryIoEngineConfig<Global>> {
+fn memory(alloc: Global, capacity: usize) -> Result<SharedMemoryIoEngineConfig<Global>> {
     let mut engine = MemoryIoEngine::new(alloc);
     engine.add_file(alloc, capacity)?;
     SharedMemoryIoEngineConfig::new(alloc, engine)

@@ -2,7 +2,7 @@
 #![tactic(auto)]
 
 use foyer_core_tally::book::Blanks;
-use foyer_program::soak::soak;
+use foyer_soak::soak::soak;
 use std::marker::Brand;
 use std::process::ExitCode;
 use std::{env, io};

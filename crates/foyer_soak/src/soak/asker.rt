@@ -4,7 +4,6 @@ ghost use Rattle.std.specs.Prelude.{◌<◌};
 use super::{Found, NOTHING};
 use foyer_device_page::error::Result;
 use foyer_format_record::serde::{IdentityHashBuilder, NoProperties};
-use foyer_policy_piece::keeper::Piece;
 use foyer_storage_build::config::Engine;
 use foyer_storage_build::engine::engine::Enqueued;
 use foyer_storage_build::engine::load::Load;
@@ -232,6 +231,6 @@ fn enqueue<S: Drop, N: Engine<S, u64, Vec<u8>, NoProperties>>(
     key: u64,
     count: u64,
 ) -> Result<Enqueued> {
-    let piece = Piece::new(alloc, key, value_of(alloc, key, count)?, key, NoProperties)?;
-    store.enqueue(rt, session, &piece, false, 0)
+    let value = value_of(alloc, key, count)?;
+    store.put(rt, alloc, session, key, value, NoProperties, 0)
 }

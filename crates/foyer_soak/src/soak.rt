@@ -4,7 +4,6 @@ ghost use Rattle.foyer_core_tally.specs.Ledgers.{AreOf};
 
 mod asker;
 
-use crate::serve::memory;
 use asker::{Asker, Plan, Values};
 use foyer_cli::command::number;
 use foyer_cli::options::Options;
@@ -15,7 +14,7 @@ use foyer_device_partition::io::device::{
 };
 use foyer_format_record::serde::{IdentityHashBuilder, NoProperties};
 use foyer_io_engine::io::engine::{
-    IoEngineConfig, PsyncIoEngineConfig, SharedMemoryIoEngineConfig,
+    IoEngineConfig, MemoryIoEngine, PsyncIoEngineConfig, SharedMemoryIoEngineConfig,
 };
 use foyer_storage_build::builder::StoreBuilder;
 use foyer_storage_build::config::{BlockEngineConfig, Engine};
@@ -281,7 +280,9 @@ where
     T: Threads + Wait + Files + Copy + Send + Sync + 'static,
     requires { AreOf L.name_of L.all blanks × (L.all ≡ 2 ^ 32) }
 {
-    let io_engine = memory(alloc, capacity)?;
+    let mut engine = MemoryIoEngine::new(alloc);
+    engine.add_file(alloc, capacity)?;
+    let io_engine = SharedMemoryIoEngineConfig::new(alloc, engine)?;
     let device = MemoryDeviceBuilder::new(capacity).build(&rt, alloc, 0)?;
     soak_over::<L, T, _, _>(
         rt, alloc, blanks, device, io_engine, block_size, threads, plan,

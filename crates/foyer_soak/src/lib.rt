@@ -1,0 +1,4 @@
+//! Threads that ask one store at once, and judge each answer by what they put last.
+#![tactic(auto)]
+
+pub mod soak;
