@@ -8,8 +8,7 @@ use foyer_storage_build::engine::core_steps::open::RecoverMode;
 use std::alloc::Allocator;
 
 /// Printed if the arguments are bad.
-pub const USAGE: &str =
-    "usage: foyerpipe DIR CAPACITY BLOCK [flushers=N] [reclaimers=N] [engines=N] [clean=N] [log=0|1] [recover=quiet|strict|none] [read_bytes=N] [write_bytes=N] [read_calls=N] [write_calls=N] [key=N] [value=N]\n";
+pub const USAGE: &str = "usage: foyerpipe DIR CAPACITY BLOCK [NAME=VALUE..]\n";
 
 /// How the cache is set, beside its directory and sizes.
 #[derive(Clone, Copy, Debug, PartialEq, Eq)]
