@@ -1,4 +1,5 @@
 -- What steps of no named kind leave of a session's counts.
+use native.Mathlib.Numerals.{unary_clauses}
 use Rattle.std.proofs.Common.{◌≡◌, ◌⊎◌, ◌∙◌, ◌+◌, ℕ, Bool, true, inl, inr, refl, sym, ap}
 use Rattle.foyer_core_shared.specs.Briefed.{IsNotedIn}
 use Rattle.foyer_core_shared.specs.Briefs.{brief_of}
@@ -11,7 +12,7 @@ use Rattle.foyer_core_shared.specs.declared.brief.ReplyBrief.{ReplyBrief}
 use Rattle.foyer_core_shared.specs.declared.brief.ReplyBrief.TheVariants as replied
 use Rattle.foyer_core_shared.specs.declared.brief.StepBrief.{StepBrief}
 use Rattle.foyer_core_shared.specs.declared.brief.StepBrief.TheVariants as asked
-use Rattle.foyer_core_tally.specs.Tally.{both, grown}
+use Rattle.foyer_core_tally.specs.Tally.{both, grown, none}
 use Rattle.foyer_core_tally.specs.declared.kinds.Counts.{Counts}
 use Rattle.foyer_core_tally.specs.declared.kinds.StepKind.TheVariants.{Other}
 use Rattle.foyer_device_page.specs.declared.error.ErrorKind.{ErrorKind}
@@ -87,4 +88,5 @@ unnamed_still old new before held = held ∙ ap (λ (x : Counts). record x { oth
 -- a session takes in another's steps, all of no named kind
 pub held_by_unnamed : (old new other : SessionState) → new.shares.amounts ≡ both old.shares.amounts other.shares.amounts → CountsUnnamed other → HoldsNamed old new
 held_by_unnamed old new other joined unnamed =
-    of_other old.shares.amounts new.shares.amounts (old.shares.amounts.other + other.shares.amounts.other) (joined ∙ ap (both old.shares.amounts) unnamed)
+    let sum : new.shares.amounts ≡ both old.shares.amounts (record none { other = other.shares.amounts.other }) = joined ∙ ap (both old.shares.amounts) unnamed in
+    of_other old.shares.amounts new.shares.amounts (old.shares.amounts.other + other.shares.amounts.other) (simp unary_clauses at sum)

@@ -11,6 +11,6 @@ loop-flusher-preserved g c =
       c.step-reply.ensures.parts ∙ c.loop-flusher.invariant.0,
       λ some. subst (λ f. AsksToWait f c.in_ok-id.id c.step-reply.new.session) (sym same)
           (asked_to_wait g.N.Noting.keeps c.loop-flusher.session c.step-reply.new.session c.loop-flusher.flusher c.in_ok-id.id c.step-reply.result c.step-reply.ensures.noted (λ k back is. c.in_default.not-Refused k back is)),
-      held_on c.args.session.old c.loop-flusher.session c.step-reply.new.session c.loop-flusher.invariant.2
+      held_on c.args.session.now c.loop-flusher.session c.step-reply.new.session c.loop-flusher.invariant.2
           (held_by_made g.N.Noting.keeps c.loop-flusher.session c.step-reply.new.session (step.Wait c.loop-flusher.flusher c.in_ok-id.id) c.step-reply.result refl c.step-reply.ensures.noted),
     )
