@@ -2,9 +2,14 @@
 
 mod asked;
 mod built;
+mod configs;
+mod counted;
+mod dials;
 mod faults;
+mod files;
 mod gates;
 mod memories;
 mod over;
+mod pickers;
 mod programs;
 mod rows;
