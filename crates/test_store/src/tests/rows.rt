@@ -244,6 +244,10 @@ fn say_row<
         "disk" => say_served(rt, alloc, said, rest),
         "broken" => say_broken(rt, alloc, said, rest),
         "file" => say_filed(rt, alloc, said, rest),
+        "unlink" => {
+            said.flag("", fs::remove_file(&rt, rest).is_ok());
+            Ok(())
+        }
         "forge" => say_forged(&rt, alloc, said, rest),
         "remove" => {
             said.flag("", fs::remove_dir_all(&rt, rest).is_ok());
