@@ -21,6 +21,9 @@ index-shards 0 < enabled | refused Config
 any number of workers read the blocks of an opening, each block once
 put 1 a, put 2 b, wait / recoverers 1 < get 1, get 2, counts read / recoverers 1000000 < get 1, get 2, counts read | queued, queued, ok / entry a, entry b, read 28672 in 7 / entry a, entry b, read 28672 in 7
 recoverers 0 < enabled | refused Config
+one worker that is held at the first of two blocks is let go on by nobody, where two read them another one does
+blocks 2, recoverers 1, holds recover < held, put 1 a, wait, get 1 | no, queued, ok, entry a
+blocks 2, recoverers 2, holds recover < held, put 1 a, wait, get 1 | yes, queued, ok, entry a
 two reclaimers reclaim two blocks at a time, and three three
 reclaimers 2, clean 2, holds reclaim < put 1 a, put 2 b, put 3 c, put 4 d, put 5 e, put 6 f, put 7 g, reclaims 2, held, open, wait, get 1, get 6, get 7 | queued, queued, queued, queued, queued, queued, queued, yes, yes, open, ok, miss, miss, entry g
 reclaimers 3, blocks 5, clean 2, holds reclaim < put 1 a, put 2 b, put 3 c, put 4 d, put 5 e, put 6 f, put 7 g, put 8 h, put 9 i, put 10 j, reclaims 3, held, open, wait, get 1, get 4, get 9, get 10 | queued, queued, queued, queued, queued, queued, queued, queued, queued, queued, yes, yes, open, ok, miss, miss, miss, entry j
