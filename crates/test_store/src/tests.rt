@@ -1,4 +1,5 @@
-//! Stores with their workers, over memory that stays from one opening to the next, and the program over memory and directories.
+//! Stores with their workers, over memory that stays from one opening to the next, and over a file, by a clock that tests set; and the program
+//! over memory and directories.
 
 mod asked;
 mod built;

@@ -16,8 +16,9 @@ use std::thread::Threads;
 
 // Each row is what is asked, and behind a bar what is answered; a name stands above those of a case. Slashes part stores that are
 // built one after the other over one memory, each with what it is built over before its script. `force` puts what a filter
-// would reject; `tally` is how many pieces were queued and dropped, hashes deleted, reads begun, look-ups missed, entries
-// found and reads missed.
+// would reject; `fill` puts a text of so many bytes; `tally` is how many pieces were queued and dropped, hashes deleted, reads
+// begun, look-ups missed, entries found and reads missed; `counts` is what the store counted. All is asked at the moment at
+// which the store was built, until `at` says another.
 
 const CALLS: &str = "of two keys with one hash the newest is found
 force 1 foo, force 1+ bar, wait, get 1, get 1+ | queued, queued, ok, miss, entry bar
