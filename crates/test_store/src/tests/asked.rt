@@ -214,14 +214,14 @@ fn is_seen<L: Kinds, N: Engine<StoreSession<L>, u128, String, NoProperties>>(
     Ok(false)
 }
 
-// Whether so many reclaims come to have begun.
+// Whether so many reclaims come to have begun. Their threads may start late.
 fn has_reclaimed<L: Kinds, N: Engine<StoreSession<L>, u128, String, NoProperties>>(
     rt: &impl Wait,
     store: &Texts<N>,
     now: u64,
     count: u128,
 ) -> bool {
-    for _ in 0..1_000_000 {
+    for _ in 0..20_000_000 {
         if u128::from(store.counters::<StoreSession<L>>(rt, now).reclaims) >= count {
             return true;
         }

@@ -28,6 +28,9 @@ what is appended to the log of deletes counts, a page for each delete that is wa
 write-bytes 4096, log < del 1, wait, judge 2 | ok, ok, throttled 1000
 write-bytes 4096, log < put 1 a, wait, del 1, wait, at 2999, put 2 b | queued, ok, ok, ok, at 2999, deleted
 write-bytes 4096, log < put 1 a, wait, del 1, wait, at 3000, put 2 b, wait, get 2 | queued, ok, ok, ok, at 3000, queued, ok, entry b
+so does the delete of a put that is held back: who puts as fast as a page is paid is held back for ever
+write-bytes 4096, log < put 1 a, wait, at 1000, put 2 b, wait, at 2000, put 2 b, wait, at 3000, put 2 b, wait, judge 2 | queued, ok, at 1000, deleted, ok, at 2000, deleted, ok, at 3000, deleted, ok, throttled 2000
+write-bytes 4096 < put 1 a, wait, at 1000, put 2 b, wait, at 2000, put 2 b, wait, get 2 | queued, ok, at 1000, deleted, ok, at 2000, queued, ok, entry b
 what the filter of admission rejects is rejected, and not throttled
 rejects, write-bytes 4096 < judge 1, force 1 a, wait, judge 2 | reject, queued, ok, reject
 a reclaim asks its filter at the moment that the clock shows: while writes have to wait a long text isn't written again
@@ -47,6 +50,8 @@ read-bytes 4096, opens none < put 1 a, wait, get 1, at 999, get 1, at 0, get 1, 
 the reads of an opening count, those of the log too
 read-bytes 4096 < put 1 a, wait, get 1, at 3999, get 1, at 4000, get 1 | queued, ok, throttled, at 3999, throttled, at 4000, entry a
 read-bytes 4096, log < put 1 a, wait, at 4999, get 1, at 5000, get 1 | queued, ok, at 4999, throttled, at 5000, entry a
+a piece that isn't written yet is answered without a read, and a question needs none
+reads 1, holds flush < force 1 a, reached, get 1, has 1, held, open, wait, has 1, get 1 | queued, yes, piece a, yes, yes, open, ok, yes, throttled
 so many calls read in a second, each of which counts one
 reads 1 < put 1 a, wait, at 3999, get 1, at 4000, get 1 | queued, ok, at 3999, throttled, at 4000, entry a
 reads 1, opens none < fill 1 5000, wait, get 1, at 999, get 1, at 1000, get 1 | queued, ok, entry of 5000, at 999, throttled, at 1000, entry of 5000
