@@ -175,7 +175,9 @@ where
     R: Threads + Wait + Copy + Send + Sync + 'static,
     requires { AreOf L.name_of L.all blanks × (L.all ≡ 2 ^ 32) }
 {
-    let builder = StoreBuilder::new("nothing", LowBits, asked.over.shards);
+    let builder = StoreBuilder::new("nothing", LowBits, asked.over.shards).with_compression(
+        asked.over.compression,
+    );
     answers_of_built::<L, R, _, _>(rt, alloc, blanks, builder, asked)
 }
 

@@ -27,9 +27,10 @@ blocks 3, clean 0, again < put 1 aaaaaaaa, put 2 b, put 3 c, wait, put 4 d, put 
 bytes and calls are those of an opening, of puts, loads and destroys
 counts written, put 1 a, wait, counts written, counts read, get 1, get 2, counts read, destroy, counts written, counts read | wrote 0 in 0, queued, ok, wrote 8192 in 2, read 16384 in 4, entry a, miss, read 20480 in 5, ok, wrote 24576 in 6, read 20480 in 5
 opens none < counts read | read 0 in 0
-and of a log, which writes a page where there are marks
+and of a log, which writes a page where there are marks, as a destroy has one
 log < counts written, counts read, del 1, wait, counts written, del 2, wait, wait, counts written, put 1 a, wait, counts written, counts read | wrote 0 in 0, read 20480 in 5, ok, ok, wrote 4096 in 1, ok, ok, ok, wrote 8192 in 2, queued, ok, wrote 16384 in 4, read 20480 in 5
 rejects, log < put 1 a, wait, counts written | deleted, ok, wrote 4096 in 1
+log, blocks 2 < put 1 a, wait, destroy, counts written, counts read / counts read | queued, ok, ok, wrote 20480 in 5, read 12288 in 3 / read 12288 in 3
 calls are counted as limits count them
 per 1024, opens none < fill 1 5000, wait, counts written, get 1, counts read | queued, ok, wrote 12288 in 12, entry of 5000, read 8192 in 8
 ";

@@ -10,6 +10,11 @@ const WRITES: &str =
 write-bytes 4096 < judge 1, put 1 a, wait, judge 2, put 2 b, at 1999, put 1 c, get 1, at 2000, judge 2, put 2 b, wait, get 2, get 1 | admit, queued, ok, throttled 2000, deleted, at 1999, deleted, miss, at 2000, admit, queued, ok, entry b, miss
 no more than a second's is saved
 write-bytes 4096 < at 9000, put 1 a, wait, judge 2, at 9999, put 2 b, at 10000, put 2 c, wait, get 2 | at 9000, queued, ok, throttled 1000, at 9999, deleted, at 10000, queued, ok, entry c
+a quota is 0 when a store is built, whenever that is, and a moment before another one gives and takes nothing
+starts 5000, write-bytes 4096 < put 1 a, wait, at 0, judge 1, at 6000, judge 1, at 7000, judge 1 | queued, ok, at 0, throttled 2000, at 6000, throttled 1000, at 7000, admit
+starts 0, write-bytes 4096 < at 18446744073709551615, judge 1, put 1 a, wait, judge 1, put 2 b | at 18446744073709551615, admit, queued, ok, throttled 1000, deleted
+a closed store refuses, whether a put has to wait or not
+write-bytes 4096 < put 1 a, wait, close, put 2 b, force 2 b, judge 2 | queued, ok, ok, fault Closed, fault Closed, throttled 2000
 a forced put isn't held back, and what it writes counts
 write-bytes 4096 < put 1 a, wait, force 2 b, wait, judge 3, at 3999, put 3 c, at 4000, put 3 d, wait, get 1, get 2, get 3 | queued, ok, queued, ok, throttled 4000, at 3999, deleted, at 4000, queued, ok, entry a, entry b, entry d
 so many calls write in a second, each of which counts one

@@ -34,6 +34,10 @@ buffer 4096 < fill 1 5000, wait, get 1, has 1, put 2 b, wait, get 2, counts puts
 buffer 8192 < fill 1 5000, wait, get 1, counts puts | queued, ok, entry of 5000, queued 1 ignored 0 dropped 0 rejected 0 returned 0 deletes 0
 buffer 8192, flushers 2 < fill 1 5000, wait, get 1, counts puts | queued, ok, miss, queued 1 ignored 0 dropped 0 rejected 0 returned 1 deletes 0
 fill 1 13000, wait, get 1, counts puts | queued, ok, miss, queued 1 ignored 0 dropped 0 rejected 0 returned 1 deletes 0
+a flusher with little room writes before it is used up, so that nothing is lost of what takes half of it at most
+buffer 4096 < put 1 a, put 2 b, put 3 c, put 4 d, wait, get 1, get 2, get 3, get 4, counts puts | queued, queued, queued, queued, ok, entry a, entry b, entry c, entry d, queued 4 ignored 0 dropped 0 rejected 0 returned 0 deletes 0
+buffer 8192, holds flush < put 1 a, reached, put 2 b, fill 3 5000, held, open, wait, get 1, get 2, get 3, counts puts | queued, yes, queued, queued, yes, open, ok, entry a, entry b, miss, queued 3 ignored 0 dropped 0 rejected 0 returned 1 deletes 0
+each flusher's share is a page at least
 buffer 4095 < enabled | refused Config
 buffer 8191, flushers 2 < enabled | refused Config
 reclaims begin of their own where fewer blocks are clean than are asked for, which are fewer than there are
@@ -64,6 +68,7 @@ packs zstd < enabled | refused Unsupported
 packs lz4 < enabled | refused Unsupported
 packs none < enabled | yes
 packs zstd, shards 0 < enabled | refused Config
+packs zstd, nothing < enabled | refused Unsupported
 a store has its name, and its keys their hasher's hashes
 name, hash 5, hash 5+ | blocks, hash 5, hash 5
 nothing < name, device | nothing, has 0 gave 0 in 0, noop
@@ -78,6 +83,7 @@ device partial, write-bytes 4096 < put 1 a, wait, judge 2 | queued, ok, throttle
 two devices as one have two blocks each; a block lies in one of them
 device combined, clean 0 < device, put 1 a, put 2 b, put 3 c, put 4 d, put 5 e, put 6 f, put 7 g, put 8 h, put 9 i, put 10 j, wait, get 1, get 4, get 7, get 10 / get 1, get 4, get 7, get 10 | has 65536 gave 65536 in 4, queued, queued, queued, queued, queued, queued, queued, queued, queued, queued, ok, entry a, entry d, entry g, entry j / entry a, entry d, entry g, entry j
 device combined, blocks 3 < device | has 49152 gave 32768 in 2
+device combined, log, clean 0 < device, put 1 a, wait, del 1, wait, counts written / get 1, counts read | has 65536 gave 53248 in 4, queued, ok, ok, ok, wrote 12288 in 3 / miss, read 20480 in 5
 device combined, write-bytes 4096 < put 1 a, wait, judge 2 | queued, ok, throttled 2000
 a file keeps its blocks and its log
 file blocks, blocks 2, clean 0, log < device, put 1 a, put 2 b, wait, del 1, wait, get 1, get 2, name | has 36864 gave 36864 in 3, queued, queued, ok, ok, ok, miss, entry b, file
