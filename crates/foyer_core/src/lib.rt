@@ -20,4 +20,5 @@ pub use foyer_core_steps::reply::Reply;
 pub use foyer_core_steps::settings::Settings;
 pub use foyer_core_steps::state::Core;
 pub use foyer_core_steps::step::{Step, Ticket};
-pub use foyer_core_tally::book::{Blanks, Kinds};
+pub use foyer_core_tally::book::{Blanks, Books, Kinds, Shares};
+pub use foyer_core_tally::kinds::StepKind;

@@ -1,5 +1,6 @@
 //! The store: a keeper of the pieces that aren't written yet, before an engine.
 pub use foyer_storage_build::builder::StoreBuilder;
+pub use foyer_storage_build::counters::StoreCounters;
 pub use foyer_storage_build::session::StoreSession;
 pub use foyer_storage_build::store::Store;
 pub use foyer_storage_build::threads::workers::Workers;

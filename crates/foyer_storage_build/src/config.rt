@@ -12,6 +12,7 @@ mod recoverers;
 
 pub use self::block::BlockEngineConfig;
 pub use self::device_workers::{BlockFlusher, BlockReclaimer, DeviceLog};
+pub use self::making::BlockOpening;
 pub use self::noop::{NoopEngineConfig, NoopOpening};
 pub use self::pickers::{DefaultPickers, GivenPickers, PickerSource};
 pub use self::recoverers::{BlockListings, BlockRecoverer, RecoveredBlocks};

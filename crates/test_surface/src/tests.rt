@@ -1,3 +1,4 @@
 mod by_module;
 mod by_root;
+mod own;
 mod readme;

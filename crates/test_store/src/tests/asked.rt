@@ -1,15 +1,18 @@
 //! What a store is asked, by words, and what is noted of its answers. Keys have 128 bits, and their low 64 bits as hash: `1+` is
 //! the key 2^64 + 1.
+use crate::tests::counted::say_counts;
+use crate::tests::dials::Dial;
 use crate::tests::gates::HoldingGate;
 use foyer_core_tally::book::Kinds;
 use foyer_device_page::error::{Error, Result};
 use foyer_format_record::serde::{HashBuilder, NoProperties};
-use foyer_policy_piece::keeper::Piece;
-use foyer_program::store::config::Engine;
+use foyer_policy_filter::StorageFilterResult;
+use foyer_program::store::config::{DeviceSummary, Engine};
 use foyer_program::store::engine::engine::Enqueued;
 use foyer_program::store::engine::load::Load;
 use foyer_program::store::session::StoreSession;
 use foyer_program::store::store::Store;
+use foyer_program::store::threads::workers::Clock;
 use foyer_testing::said::Said;
 use std::alloc::Global;
 use std::sync::Wait;
@@ -67,9 +70,14 @@ fn say_whether(said: &mut Said, answer: Result<bool>) {
     }
 }
 
+// A text; of a long one its length.
 fn say_text(said: &mut Said, word: &str, text: &str) {
     said.word(word);
-    said.word(text);
+    if text.len() < 100 {
+        said.word(text);
+    } else {
+        said.number("of ", text.len() as u64);
+    }
 }
 
 fn say_load(said: &mut Said, answer: Result<Load<u128, String, NoProperties, Global>>) {
@@ -97,14 +105,44 @@ fn say_others<L: Kinds>(said: &mut Said, session: &StoreSession<L>) {
     said.number("others ", tally[7]);
 }
 
-// What became of the thread that is held.
-fn say_gate(said: &mut Said, gate: &HoldingGate, word: &str) {
+fn say_device(said: &mut Said, device: DeviceSummary) {
+    said.number("has ", device.capacity as u64);
+    said.number(" gave ", device.allocated as u64);
+    said.number(" in ", device.partitions as u64);
+}
+
+// What a put of an estimated size would be told; a wait in milliseconds.
+fn say_verdict(said: &mut Said, verdict: StorageFilterResult) {
+    match verdict {
+        StorageFilterResult::Admit => said.word("admit"),
+        StorageFilterResult::Reject => said.word("reject"),
+        StorageFilterResult::Throttled(wait) => {
+            let millis = wait.as_nanos() / 1_000_000;
+            said.number("throttled ", u64::try_from(millis).unwrap_or(u64::MAX));
+        }
+    }
+}
+
+/// What a script is asked with, beside its store: the gate that holds the store's threads, and the dial that its clock shows.
+#[derive(Clone, Copy)]
+pub(crate) struct Beside<'a> {
+    pub(crate) gate: &'a HoldingGate,
+    pub(crate) dial: Dial,
+}
+
+// What becomes of the thread that is held, and of the dial.
+fn say_beside(said: &mut Said, beside: Beside<'_>, word: &str, how: &str) {
     match word {
-        "reached" => said.flag("", gate.is_reached()),
-        "held" => said.flag("", gate.is_holding()),
+        "reached" => said.flag("", beside.gate.is_reached()),
+        "held" => said.flag("", beside.gate.is_holding()),
         "open" => {
-            gate.open();
+            beside.gate.open();
             said.word("open");
+        }
+        "at" => {
+            let millis = how.parse::<u64>().unwrap_or(0);
+            beside.dial.set(millis);
+            said.number("at ", millis);
         }
         _ => said.word("?"),
     }
@@ -117,11 +155,46 @@ fn put<L: Kinds, N: Engine<StoreSession<L>, u128, String, NoProperties>>(
     session: &mut StoreSession<L>,
     key: u128,
     text: &str,
-    force: bool,
+    now: u64,
 ) -> Result<Enqueued> {
     let value = String::from_str(alloc, text)?;
-    let piece = Piece::new(alloc, key, value, LowBits.hash_one(&key), NoProperties)?;
-    store.enqueue(rt, session, &piece, force, 0)
+    store.put(rt, alloc, session, key, value, NoProperties, now)
+}
+
+fn force<L: Kinds, N: Engine<StoreSession<L>, u128, String, NoProperties>>(
+    rt: &impl Wait,
+    alloc: Global,
+    store: &Texts<N>,
+    session: &mut StoreSession<L>,
+    key: u128,
+    text: &str,
+    now: u64,
+) -> Result<Enqueued> {
+    let value = String::from_str(alloc, text)?;
+    let piece = store.piece(alloc, key, value, NoProperties)?;
+    store.enqueue(rt, session, &piece, true, now)
+}
+
+fn long_text(alloc: Global, len: &str) -> Result<String> {
+    let mut text = String::new(alloc);
+    for _ in 0..len.parse::<u32>().unwrap_or(0) {
+        text.push('x')?;
+    }
+    Ok(text)
+}
+
+// Puts a text of so many bytes.
+fn fill<L: Kinds, N: Engine<StoreSession<L>, u128, String, NoProperties>>(
+    rt: &impl Wait,
+    alloc: Global,
+    store: &Texts<N>,
+    session: &mut StoreSession<L>,
+    key: u128,
+    len: &str,
+    now: u64,
+) -> Result<Enqueued> {
+    let value = long_text(alloc, len)?;
+    store.put(rt, alloc, session, key, value, NoProperties, now)
 }
 
 // Whether the device comes to have a key's hash, and no piece of it is kept.
@@ -141,12 +214,57 @@ fn is_seen<L: Kinds, N: Engine<StoreSession<L>, u128, String, NoProperties>>(
     Ok(false)
 }
 
+// Whether so many reclaims come to have begun. Their threads may start late.
+fn has_reclaimed<L: Kinds, N: Engine<StoreSession<L>, u128, String, NoProperties>>(
+    rt: &impl Wait,
+    store: &Texts<N>,
+    now: u64,
+    count: u128,
+) -> bool {
+    for _ in 0..20_000_000 {
+        if u128::from(store.counters::<StoreSession<L>>(rt, now).reclaims) >= count {
+            return true;
+        }
+        thread::yield_now();
+    }
+    false
+}
+
+// Notes what a store says of itself.
+fn say_store<L: Kinds, N: Engine<StoreSession<L>, u128, String, NoProperties>>(
+    rt: &impl Wait,
+    store: &Texts<N>,
+    beside: Beside<'_>,
+    session: &StoreSession<L>,
+    said: &mut Said,
+    word: &str,
+    first: &str,
+) {
+    let key = key_of(first);
+    let now = beside.dial.now();
+    match word {
+        "enabled" => said.flag("", store.is_enabled()),
+        "tally" => say_tally(said, session),
+        "others" => say_others(said, session),
+        "name" => said.word(store.name()),
+        "hash" => said.number("hash ", store.hash_of(&key)),
+        "device" => say_device(said, store.device::<StoreSession<L>>()),
+        "judge" => say_verdict(said, store.filter::<StoreSession<L>>(rt, &key, 60, now)),
+        "counts" => {
+            let counts = store.counters::<StoreSession<L>>(rt, now);
+            say_counts(said, &counts, first);
+        }
+        "reclaims" => said.flag("", has_reclaimed::<L, N>(rt, store, now, key)),
+        _ => say_beside(said, beside, word, first),
+    }
+}
+
 // Notes a call's answer.
 fn say_line<L: Kinds, N: Engine<StoreSession<L>, u128, String, NoProperties>>(
     rt: &impl Wait,
     alloc: Global,
     store: &Texts<N>,
-    gate: &HoldingGate,
+    beside: Beside<'_>,
     session: &mut StoreSession<L>,
     said: &mut Said,
     line: &str,
@@ -154,20 +272,19 @@ fn say_line<L: Kinds, N: Engine<StoreSession<L>, u128, String, NoProperties>>(
     let (word, rest) = line.split_once(' ').unwrap_or((line, ""));
     let (first, text) = rest.split_once(' ').unwrap_or((rest, ""));
     let key = key_of(first);
+    let now = beside.dial.now();
     match word {
-        "put" => say_put(said, put(rt, alloc, store, session, key, text, false)),
-        "force" => say_put(said, put(rt, alloc, store, session, key, text, true)),
-        "get" => say_load(said, store.load(rt, session, &key, 0)),
+        "put" => say_put(said, put(rt, alloc, store, session, key, text, now)),
+        "force" => say_put(said, force(rt, alloc, store, session, key, text, now)),
+        "fill" => say_put(said, fill(rt, alloc, store, session, key, text, now)),
+        "get" => say_load(said, store.load(rt, session, &key, now)),
         "has" => say_whether(said, store.may_contains(rt, session, &key)),
         "del" => say_done(said, store.delete(rt, session, &key)),
         "wait" => say_done(said, store.wait(rt, session)),
         "destroy" => say_done(said, store.destroy(rt, session)),
         "close" => say_done(said, store.close(rt, session)),
         "seen" => say_whether(said, is_seen(rt, store, session, key)),
-        "enabled" => said.flag("", store.is_enabled()),
-        "tally" => say_tally(said, &*session),
-        "others" => say_others(said, &*session),
-        _ => say_gate(said, gate, word),
+        _ => say_store(rt, store, beside, &*session, said, word, first),
     }
 }
 
@@ -176,7 +293,7 @@ pub(crate) fn answers_to<L: Kinds, N: Engine<StoreSession<L>, u128, String, NoPr
     rt: &impl Wait,
     alloc: Global,
     store: &Texts<N>,
-    gate: &HoldingGate,
+    beside: Beside<'_>,
     session: &mut StoreSession<L>,
     script: &str,
 ) -> Said {
@@ -187,7 +304,7 @@ pub(crate) fn answers_to<L: Kinds, N: Engine<StoreSession<L>, u128, String, NoPr
             said.word(", ");
         }
         is_first = false;
-        say_line(rt, alloc, store, gate, session, &mut said, line);
+        say_line(rt, alloc, store, beside, session, &mut said, line);
     }
     said
 }

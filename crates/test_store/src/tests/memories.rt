@@ -7,7 +7,7 @@ use foyer_io_engine::io::engine::{
 use std::alloc::{Allocator, Global};
 use std::sync::{Arc, Wait};
 
-// Room for seven blocks and a log.
+// Room for seven blocks and a log in each of two files.
 const BYTES: usize = 131_072;
 
 /// Builds I/O engines over one memory, as all that share it do.
@@ -17,9 +17,10 @@ pub(crate) struct SameMemory {
 }
 
 impl SameMemory {
-    /// Zeros.
+    /// Two files of zeros.
     pub(crate) fn new(alloc: Global) -> Result<SameMemory> {
         let mut memory = MemoryIoEngine::new(alloc);
+        memory.add_file(alloc, BYTES)?;
         memory.add_file(alloc, BYTES)?;
         let config = SharedMemoryIoEngineConfig::new(alloc, memory)?;
         Ok(SameMemory {

@@ -42,7 +42,7 @@ impl Read for Broken {
 
 // Its status.
 fn status_of<
-    R: Threads + Wait + Files<File = File> + AllocGlobal + Copy + Send + 'static,
+    R: Threads + Wait + std::rt::Clock + Files<File = File> + AllocGlobal + Copy + Send + 'static,
     I: Read + Drop,
     O: Write + Drop,
 >(rt: R, alloc: Global, words: &[String], input: I, output: O) -> u8 {
@@ -58,12 +58,9 @@ fn status_of<
     )
 }
 
-fn served<R: Threads + Wait + Files<File = File> + AllocGlobal + Copy + Send + 'static>(
-    rt: R,
-    alloc: Global,
-    words: &[String],
-    input: &str,
-) -> Printed {
+fn served<
+    R: Threads + Wait + std::rt::Clock + Files<File = File> + AllocGlobal + Copy + Send + 'static,
+>(rt: R, alloc: Global, words: &[String], input: &str) -> Printed {
     let mut output = Vec::new(alloc);
     let status = status_of(rt, alloc, words, input.as_bytes(), &mut output);
     Printed { output, status }
@@ -100,7 +97,7 @@ fn say_printed(said: &mut Said, printed: &Printed) {
 
 /// Notes its status where its output is broken, and without lines its input too.
 pub(crate) fn say_broken<
-    R: Threads + Wait + Files<File = File> + AllocGlobal + Copy + Send + 'static,
+    R: Threads + Wait + std::rt::Clock + Files<File = File> + AllocGlobal + Copy + Send + 'static,
 >(rt: R, alloc: Global, said: &mut Said, asked: &str) -> Result<()> {
     let (words, script) = asked.split_once(" < ").unwrap_or((asked, ""));
     let input = input_of(alloc, script)?;
@@ -116,7 +113,7 @@ pub(crate) fn say_broken<
 
 /// Notes what it answers to lines, which commas part: before them come its arguments.
 pub(crate) fn say_served<
-    R: Threads + Wait + Files<File = File> + AllocGlobal + Copy + Send + 'static,
+    R: Threads + Wait + std::rt::Clock + Files<File = File> + AllocGlobal + Copy + Send + 'static,
 >(rt: R, alloc: Global, said: &mut Said, asked: &str) -> Result<()> {
     let (words, script) = asked.split_once(" < ").unwrap_or((asked, ""));
     let input = input_of(alloc, script)?;

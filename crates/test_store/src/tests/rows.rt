@@ -1,5 +1,6 @@
 //! Rows of text: what a store, or the program over one, is asked, and what it answers.
-use crate::tests::built::opened;
+use crate::tests::configs::opened;
+use crate::tests::files::say_filed;
 use crate::tests::memories::SameMemory;
 use crate::tests::over::{USUAL, over_of};
 use crate::tests::programs::{say_broken, say_forged, say_served};
@@ -15,8 +16,9 @@ use std::thread::Threads;
 
 // Each row is what is asked, and behind a bar what is answered; a name stands above those of a case. Slashes part stores that are
 // built one after the other over one memory, each with what it is built over before its script. `force` puts what a filter
-// would reject; `tally` is how many pieces were queued and dropped, hashes deleted, reads begun, look-ups missed, entries
-// found and reads missed.
+// would reject; `fill` puts a text of so many bytes; `tally` is how many pieces were queued and dropped, hashes deleted, reads
+// begun, look-ups missed, entries found and reads missed; `counts` is what the store counted. All is asked at the moment at
+// which the store was built, until `at` says another.
 
 const CALLS: &str = "of two keys with one hash the newest is found
 force 1 foo, force 1+ bar, wait, get 1, get 1+ | queued, queued, ok, miss, entry bar
@@ -227,16 +229,26 @@ pub(crate) fn answers_of_stores<R: Threads + Wait + Files + Copy + Send + Sync +
     said.text()
 }
 
-fn say_row<R: Threads + Wait + Files<File = File> + AllocGlobal + Copy + Send + Sync + 'static>(
-    rt: R,
-    alloc: Global,
-    said: &mut Said,
-    asked: &str,
-) -> Result<()> {
+fn say_row<
+    R: Threads
+        + Wait
+        + std::rt::Clock
+        + Files<File = File>
+        + AllocGlobal
+        + Copy
+        + Send
+        + Sync
+        + 'static,
+>(rt: R, alloc: Global, said: &mut Said, asked: &str) -> Result<()> {
     let (word, rest) = asked.split_once(' ').unwrap_or((asked, ""));
     match word {
         "disk" => say_served(rt, alloc, said, rest),
         "broken" => say_broken(rt, alloc, said, rest),
+        "file" => say_filed(rt, alloc, said, rest),
+        "unlink" => {
+            said.flag("", fs::remove_file(&rt, rest).is_ok());
+            Ok(())
+        }
         "forge" => say_forged(&rt, alloc, said, rest),
         "remove" => {
             said.flag("", fs::remove_dir_all(&rt, rest).is_ok());
@@ -246,12 +258,18 @@ fn say_row<R: Threads + Wait + Files<File = File> + AllocGlobal + Copy + Send + 
     }
 }
 
-// The rows with what is answered now; any other line stays as it is.
-fn rows_of<R: Threads + Wait + Files<File = File> + AllocGlobal + Copy + Send + Sync + 'static>(
-    rt: R,
-    alloc: Global,
-    rows: &str,
-) -> Result<String> {
+/// The rows with what is answered now; any other line stays as it is.
+pub(crate) fn rows_of<
+    R: Threads
+        + Wait
+        + std::rt::Clock
+        + Files<File = File>
+        + AllocGlobal
+        + Copy
+        + Send
+        + Sync
+        + 'static,
+>(rt: R, alloc: Global, rows: &str) -> Result<String> {
     let mut said = Said::new(alloc);
     for row in rows.lines() {
         let (asked, _) = row.split_once(" | ").unwrap_or((row, ""));

@@ -33,8 +33,7 @@ where
         rt, alloc, blanks, moment, 0,
     )?;
     let value = String::from_str(alloc, "a")?;
-    let piece = Piece::new(alloc, 1, value, 1, NoProperties)?;
-    let _ = store.enqueue(&rt, &mut session, &piece, true, 0)?;
+    let _ = store.put(&rt, alloc, &mut session, 1, value, NoProperties, 0)?;
     store.wait(&rt, &mut session)?;
     let is_there = matches!(store.load(&rt, &mut session, &1, 0)?, Load::Entry { .. });
     store.close(&rt, &mut session)?;
