@@ -30,7 +30,7 @@ pub trait Engine<S: Drop, K: Eq, V, P>: Drop {
     ghost use Rattle.foyer_storage_engine.specs.declared.engine.Enqueued.{Enqueued};
     ghost use Rattle.foyer_storage_engine.specs.declared.load.Load.{Load};
     ghost use Rattle.foyer_policy_filter.specs.declared.verdict.StorageFilterResult.{StorageFilterResult};
-    ghost use Rattle.foyer_storage_store.specs.declared.config.DeviceSummary.{DeviceSummary};
+    ghost use Rattle.foyer_storage_store.specs.declared.calls.DeviceSummary.{DeviceSummary};
 
     // What its device has.
     ghost summary: { Self → DeviceSummary };

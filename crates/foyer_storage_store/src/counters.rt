@@ -21,7 +21,7 @@ pub struct StoreCounters {
     pub disk_read_ios: u64,
     /// Puts that were queued.
     pub queued_puts: u64,
-    /// Puts of young pieces, which aren't taken.
+    /// Puts of young pieces, which aren't taken, and forced ones of a store that keeps nothing.
     pub ignored_puts: u64,
     /// Puts that found too much queued: their keys are deleted.
     pub dropped_puts: u64,
@@ -37,11 +37,11 @@ pub struct StoreCounters {
     pub device_hits: u64,
     /// Loads that found nothing, or another key's entry.
     pub misses: u64,
-    /// Loads that a limit of reads turned away.
+    /// Loads that a limit of reads turned away. Loads that are refused are in no count.
     pub throttled_loads: u64,
     /// Batches that flushers began.
     pub batches: u64,
-    /// Blocks of which a write failed.
+    /// Blocks of which a write failed: the puts of their batch that weren't written yet are gone, and are counted nowhere else.
     pub failed_blocks: u64,
     /// Reclaims that began.
     pub reclaims: u64,
