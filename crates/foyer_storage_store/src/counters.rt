@@ -1,4 +1,7 @@
 //! What a store did, as any caller may ask for it: counted without a lock, and no clause says what the numbers are.
+ghost use Rattle.std.specs.Prelude.{IsOkUnless};
+ghost use Rattle.foyer_device_page.specs.declared.error.Error.TheVariants as error;
+
 use foyer_device_page::error::Result;
 use foyer_device_statistics::IoState;
 use foyer_storage_engine::engine::Enqueued;
@@ -134,7 +137,9 @@ impl Drop for CallCounters {
 
 impl CallCounters {
     // Nothing was called. Memory.
-    pub(crate) fn new(alloc: Global) -> Result<CallCounters> {
+    pub(crate) fn new(alloc: Global) -> Result<CallCounters>
+        ensures { IsOkUnless result error.Memory }
+    {
         let mut stripes = Vec::with_capacity(alloc, STRIPES)?;
         for _ in 0..STRIPES {
             stripes.push(Stripe::new())?;
