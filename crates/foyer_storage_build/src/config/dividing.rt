@@ -52,6 +52,7 @@ fn make_log<D: Device, R: Files>(
 }
 
 // Makes a partition of that many bytes for each block, as many as there is room for, but no more than were planned. No two share a byte.
+#[tactic(auto, using(foyer_io_blocks::proofs::PartitionLemmas::disjoint_behind))]
 fn make_blocks<D: Device, R: Files>(
     rt: &R,
     alloc: Global,

@@ -1,4 +1,7 @@
 //! The workers of a recovery over a device's blocks.
+ghost use Rattle.std.specs.Prelude.{◌≡◌, IfErr};
+ghost use Rattle.foyer_device_page.specs.declared.error.Error.TheVariants as error;
+
 use super::DeviceBlocks;
 use foyer_block_recover::block::listing::{BlockListing, Listings};
 use foyer_block_recover::gate::{Gate, GatedDisk};
@@ -59,6 +62,7 @@ where
     N: IoEngine + Drop,
     Q: Partition + Copy + Drop,
     G: Gate,
+    ensures { IfErr result (λ e. e ≡ error.Memory) }
 {
     if recoverers.is_empty() {
         return Ok(Listings::none(alloc));

@@ -1,4 +1,4 @@
-use Rattle.std.specs.Prelude.{◌≡◌, ◌+◌, ◌≤◌, vec_len}
+use Rattle.std.specs.Prelude.{◌+◌, ◌≤◌, vec_len}
 use Rattle.foyer_storage_build.proofs.config.disks.Disks.recoverers.Given as goal
 
 abbrev pub invariant-loop-worker : goal.invariant-loop-worker
