@@ -2,6 +2,7 @@
 
 mod asked;
 mod directories;
+mod lines;
 mod listed;
 mod memories;
 mod moves;

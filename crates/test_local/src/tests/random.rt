@@ -13,7 +13,7 @@ use std::sync::Wait;
 use std::test::Fail;
 
 // Of each kind.
-const SEEDS: u64 = 30;
+const SEEDS: u64 = 2000;
 
 // What a script is made of.
 #[derive(Clone, Copy)]

@@ -63,7 +63,7 @@ fn script_of(name: &str) -> Script {
         },
         "again" => Script {
             over: "blocks 1, admits 60",
-            calls: "long 1, wait, put 2, put 3, wait, put 4, wait, get 1, get 2, get 4, put 5, wait, get 1, get 5",
+            calls: "long 1, wait, put 2, put 3, wait, put 4, wait, get 1, get 4, put 5, wait, get 1, get 5",
             is_reclaimed: true,
             ..BESIDE_A_LOG
         },
@@ -389,11 +389,11 @@ great log 0 16 8 | 2
 great log 1 16 4 | 2
 great log 0 4096 8 | 1
 great log 1 4096 4 | 1
-reclaims blocks 0 0 60 | 33
+reclaims blocks 0 0 60 | 31
 reclaims blocks 1 0 40 | 13
-reclaims blocks 0 100 60 | 32
+reclaims blocks 0 100 60 | 30
 reclaims blocks 1 100 40 | 13
-reclaims blocks 0 4096 60 | 32
+reclaims blocks 0 4096 60 | 30
 reclaims blocks 1 4096 40 | 13
 reclaims log 0 0 12 | 1
 reclaims log 1 0 8 | 1
@@ -405,25 +405,25 @@ reclaims stops 0 100 60 | 41
 reclaims stops 1 100 40 | 23
 reclaims stops 0 65535 60 | 41
 reclaims stops 1 65535 40 | 23
-again | ?
-again blocks 0 0 26 | ?
-again blocks 0 100 26 | ?
-again blocks 0 4096 26 | ?
+again | queued ok queued queued ok queued ok 0000000000101 406 queued ok 0000000000101 510
+again blocks 0 0 26 | 14
+again blocks 0 100 26 | 14
+again blocks 0 4096 26 | 14
 ";
 
 // Of each script how many allocations, up to so many, changed an answer where they were refused, and how many destroys were. Memory
 // refuses a destroy only before it has begun, where the queue has no room for its mark.
-const ALLOCATIONS: &str = "usual memory 200 | 200 ?
-great memory 100 | 100 ?
-reclaims memory 200 | 200 ?
-beside memory 20 | 20 ?
-again memory 20 | 20 ?
-deletes | ?
-deletes memory 20 | 20 ?
-drops | ?
-drops memory 20 | 20 ?
-idle | ?
-idle memory 10 | 10 ?
+const ALLOCATIONS: &str = "usual memory 200 | 200 0
+great memory 100 | 100 0
+reclaims memory 200 | 200 0
+beside memory 20 | 20 0
+again memory 20 | 20 0
+deletes | queued ok 101 ok miss queued ok 206
+deletes memory 20 | 20 0
+drops | queued ok 101 queued deleted miss ok 204 queued ok miss miss
+drops memory 20 | 20 0
+idle | miss ok ok ok miss
+idle memory 10 | 10 0
 written memory 20 | 20 0
 unwritten memory 10 | 10 1
 ";
