@@ -113,22 +113,6 @@ fn say_text<R: Files<File = File> + AllocGlobal + Clone>(rt: &R, said: &mut Said
     }
 }
 
-// Whether a call of the files went well.
-fn is_done<R: Files<File = File> + AllocGlobal + Clone>(rt: &R, word: &str, path: &str) -> bool {
-    match word {
-        "make" => fs::create_dir_all(rt, path).is_ok(),
-        "file" => fs::write(rt, path, "a file").is_ok(),
-        "unlink" => fs::remove_file(rt, path).is_ok(),
-        _ => fs::remove_dir_all(rt, path).is_ok(),
-    }
-}
-
-// Notes whether a file has a length from now on.
-fn say_cut<R: Files<File = File> + AllocGlobal + Clone>(rt: &R, said: &mut Said, asked: &str) {
-    let (path, len) = asked.split_once(", ").unwrap_or((asked, ""));
-    said.flag(" ", is_cut(rt, path, number_of(len)));
-}
-
 /// Notes what a call of the files gives, or a list.
 pub fn say_files<R: Files<File = File> + AllocGlobal + Clone>(
     rt: &R,
@@ -140,11 +124,17 @@ pub fn say_files<R: Files<File = File> + AllocGlobal + Clone>(
     match word {
         "list" => return say_list(rt, alloc, said, asked),
         "forge" => return say_forged(rt, alloc, said, asked),
-        "cut" => say_cut(rt, said, asked),
+        "cut" => {
+            let (path, len) = asked.split_once(", ").unwrap_or((asked, ""));
+            said.flag(" ", is_cut(rt, path, number_of(len)));
+        }
         "names" => say_number(said, count_of(rt, asked)),
         "length" => say_number(said, len_of(rt, asked)),
         "text" => say_text(rt, said, asked),
-        _ => said.flag(" ", is_done(rt, word, asked)),
+        "make" => said.flag(" ", fs::create_dir_all(rt, asked).is_ok()),
+        "file" => said.flag(" ", fs::write(rt, asked, "a file").is_ok()),
+        "unlink" => said.flag(" ", fs::remove_file(rt, asked).is_ok()),
+        _ => said.flag(" ", fs::remove_dir_all(rt, asked).is_ok()),
     }
     Ok(())
 }

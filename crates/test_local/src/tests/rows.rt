@@ -3,9 +3,14 @@ mod directories;
 mod memory;
 
 use crate::tests::directories::{say_directory, say_room};
+use crate::tests::lines::say_input;
 use crate::tests::listed::say_files;
 use crate::tests::memories::{say_device, say_memory, say_zeros};
 use crate::tests::moves::say_moves;
+use crate::tests::own::say_own;
+use crate::tests::sweeps::judge::say_judged;
+use crate::tests::sweeps::say_sweep;
+use crate::tests::{lines, own, sweeps};
 use foyer_device_page::error::Result;
 use foyer_testing::said::Said;
 use std::fs::File;
@@ -25,6 +30,15 @@ fn say_row<R: Files<File = File> + AllocGlobal + Wait + Clone + Drop>(
         "memory" => say_memory(rt, rt.alloc(), said, rest),
         "moves" => say_moves(rt, rt.alloc(), said, rest),
         "engine" => say_directory(rt, said, rest),
+        "boxed-picker" | "own-condition" | "own-pickers" => {
+            say_own(rt, rt.alloc(), said, word, rest)
+        }
+        "sweep" => say_sweep(rt, rt.alloc(), said, rest),
+        "lines" => say_input(rt.alloc(), said, rest),
+        "judge" => {
+            say_judged(said, rest);
+            Ok(())
+        }
         "room" => {
             say_room(said, rest);
             Ok(())
@@ -33,8 +47,8 @@ fn say_row<R: Files<File = File> + AllocGlobal + Wait + Clone + Drop>(
     }
 }
 
-/// The rows with what is answered now; any other line stays as it is.
-pub fn rows_of<R: Files<File = File> + AllocGlobal + Wait + Clone + Drop>(
+// The rows with what is answered now; any other line stays as it is.
+fn rows_of<R: Files<File = File> + AllocGlobal + Wait + Clone + Drop>(
     rt: &R,
     rows: &str,
 ) -> Result<String> {
@@ -118,5 +132,42 @@ fn accesses_are_counted_and_limited_so(rt: HostRuntime) -> std::result::Result<(
 fn directories_are_listed_so(rt: HostRuntime) -> std::result::Result<(), Fail> {
     let answers = rows_of(&rt, directories::LISTED)?;
     assert!(rt; answers.as_str() == directories::LISTED, "{answers}");
+    Ok(())
+}
+
+#[test]
+fn pickers_and_conditions_of_own_types_are_asked(rt: HostRuntime) -> std::result::Result<(), Fail> {
+    let answers = rows_of(&rt, own::ROWS)?;
+    assert!(rt; answers.as_str() == own::ROWS, "{answers}");
+    Ok(())
+}
+
+#[test]
+fn a_line_that_memory_does_not_hold_is_passed_over(
+    rt: HostRuntime,
+) -> std::result::Result<(), Fail> {
+    let answers = rows_of(&rt, lines::ROWS)?;
+    assert!(rt; answers.as_str() == lines::ROWS, "{answers}");
+    Ok(())
+}
+
+#[test]
+fn each_access_fails_in_turn(rt: HostRuntime) -> std::result::Result<(), Fail> {
+    let answers = rows_of(&rt, sweeps::SWEEPS)?;
+    assert!(rt; answers.as_str() == sweeps::SWEEPS, "{answers}");
+    Ok(())
+}
+
+#[test]
+fn each_allocation_is_refused_in_turn(rt: HostRuntime) -> std::result::Result<(), Fail> {
+    let answers = rows_of(&rt, sweeps::ALLOCATIONS)?;
+    assert!(rt; answers.as_str() == sweeps::ALLOCATIONS, "{answers}");
+    Ok(())
+}
+
+#[test]
+fn what_no_fault_explains_is_refused(rt: HostRuntime) -> std::result::Result<(), Fail> {
+    let answers = rows_of(&rt, sweeps::judge::JUDGEMENTS)?;
+    assert!(rt; answers.as_str() == sweeps::judge::JUDGEMENTS, "{answers}");
     Ok(())
 }

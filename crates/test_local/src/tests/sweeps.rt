@@ -1,5 +1,5 @@
 //! Scripts with each fault in turn.
-mod judge;
+pub mod judge;
 mod known;
 
 use crate::tests::asked::{answer_to, cut, number_of};
@@ -15,7 +15,6 @@ use foyer_testing::said::Said;
 use std::alloc::Global;
 use std::rt::Files;
 use std::sync::Wait;
-use std::test::Fail;
 
 // What is called in lives over one memory, which strokes part, what they are opened over, and how they are judged.
 #[derive(Clone, Copy)]
@@ -316,7 +315,8 @@ fn say_allocations<R: Files + Wait + Clone + Drop>(
     Ok(())
 }
 
-fn say_row<R: Files + Wait + Clone + Drop>(
+/// Notes what a script is answered, or how a sweep of its faults went.
+pub fn say_sweep<R: Files + Wait + Clone + Drop>(
     rt: &R,
     alloc: Global,
     said: &mut Said,
@@ -342,18 +342,6 @@ fn say_row<R: Files + Wait + Clone + Drop>(
     }
 }
 
-fn rows_of<R: Files + Wait + Clone + Drop>(rt: &R, alloc: Global, rows: &str) -> Result<String> {
-    let mut said = Said::new(alloc);
-    for row in rows.lines() {
-        let (asked, _) = row.split_once(" |").unwrap_or((row, ""));
-        said.word(asked);
-        said.word(" |");
-        say_row(rt, alloc, &mut said, asked)?;
-        said.word("\n");
-    }
-    said.text()
-}
-
 // Of each script what it is answered; and of each sweep which script it is, which accesses fail, in which life, how many bytes a failed
 // write keeps, how many fail in turn, and how many of these changed an answer. The first life of the usual script makes 35
 // accesses of the blocks, and the second one 15; eight and seven of them, in their openings, find nothing in any case. A write
@@ -361,83 +349,69 @@ fn rows_of<R: Files + Wait + Clone + Drop>(rt: &R, alloc: Global, rows: &str) ->
 // script's first life's appends but the last come before its destroy. The great script's lives write two batches and one, and
 // read four texts and two; its opening finds one block's text alone. Each append writes again what the one before it wrote, so
 // that a failed one is met where it is a life's last.
-const SWEEPS: &str =
-    "usual | queued queued queued ok 101 202 303 ok ok miss queued ok queued ok 111 213 miss ok miss miss miss queued queued ok 122 223 queued ok ok miss 327 queued 122 ok / 132 miss 327 queued ok ok miss 238 327 ok / miss 238 327
-great | queued queued queued ok queued 101 deleted miss 303 ok miss miss 303 queued queued deleted miss ok 214 miss ok / miss 214 miss queued queued ok queued 214 deleted miss ok / miss miss 326
-reclaims | queued queued queued ok 0000000000101 202 303 ok ok miss queued queued ok 0000000000101 miss 312 queued queued ok 217 318 ok miss miss miss queued queued ok 0000000000226 327 queued ok / 131 0000000000226 327 queued queued queued ok 338 0000000000226 ok queued ok miss 243 338 ok / miss 243 338
-usual blocks 0 0 40 | 27
-usual blocks 1 0 20 | 8
-usual blocks 0 100 40 | 26
-usual blocks 1 100 20 | 8
-usual blocks 0 4096 40 | 26
-usual blocks 1 4096 20 | 8
-usual log 0 0 8 | 2
-usual log 1 0 4 | 2
-usual log 0 16 8 | 2
-usual log 1 16 4 | 2
-usual log 0 4096 8 | 1
-usual log 1 4096 4 | 1
-great blocks 0 0 40 | 8
-great blocks 1 0 30 | 5
-great blocks 0 100 40 | 8
-great blocks 1 100 30 | 4
-great blocks 0 4096 40 | 8
-great blocks 1 4096 30 | 4
-great log 0 0 8 | 2
-great log 1 0 4 | 2
-great log 0 16 8 | 2
-great log 1 16 4 | 2
-great log 0 4096 8 | 1
-great log 1 4096 4 | 1
-reclaims blocks 0 0 60 | 31
-reclaims blocks 1 0 40 | 13
-reclaims blocks 0 100 60 | 30
-reclaims blocks 1 100 40 | 13
-reclaims blocks 0 4096 60 | 30
-reclaims blocks 1 4096 40 | 13
-reclaims log 0 0 12 | 1
-reclaims log 1 0 8 | 1
-reclaims log 0 16 12 | 1
-reclaims log 1 16 8 | 1
-reclaims stops 0 0 60 | 42
-reclaims stops 1 0 40 | 23
-reclaims stops 0 100 60 | 41
-reclaims stops 1 100 40 | 23
-reclaims stops 0 65535 60 | 41
-reclaims stops 1 65535 40 | 23
-again | queued ok queued queued ok queued ok 0000000000101 406 queued ok 0000000000101 510
-again blocks 0 0 26 | 14
-again blocks 0 100 26 | 14
-again blocks 0 4096 26 | 14
+pub const SWEEPS: &str =
+    "sweep usual | queued queued queued ok 101 202 303 ok ok miss queued ok queued ok 111 213 miss ok miss miss miss queued queued ok 122 223 queued ok ok miss 327 queued 122 ok / 132 miss 327 queued ok ok miss 238 327 ok / miss 238 327
+sweep great | queued queued queued ok queued 101 deleted miss 303 ok miss miss 303 queued queued deleted miss ok 214 miss ok / miss 214 miss queued queued ok queued 214 deleted miss ok / miss miss 326
+sweep reclaims | queued queued queued ok 0000000000101 202 303 ok ok miss queued queued ok 0000000000101 miss 312 queued queued ok 217 318 ok miss miss miss queued queued ok 0000000000226 327 queued ok / 131 0000000000226 327 queued queued queued ok 338 0000000000226 ok queued ok miss 243 338 ok / miss 243 338
+sweep usual blocks 0 0 40 | 27
+sweep usual blocks 1 0 20 | 8
+sweep usual blocks 0 100 40 | 26
+sweep usual blocks 1 100 20 | 8
+sweep usual blocks 0 4096 40 | 26
+sweep usual blocks 1 4096 20 | 8
+sweep usual log 0 0 8 | 2
+sweep usual log 1 0 4 | 2
+sweep usual log 0 16 8 | 2
+sweep usual log 1 16 4 | 2
+sweep usual log 0 4096 8 | 1
+sweep usual log 1 4096 4 | 1
+sweep great blocks 0 0 40 | 8
+sweep great blocks 1 0 30 | 5
+sweep great blocks 0 100 40 | 8
+sweep great blocks 1 100 30 | 4
+sweep great blocks 0 4096 40 | 8
+sweep great blocks 1 4096 30 | 4
+sweep great log 0 0 8 | 2
+sweep great log 1 0 4 | 2
+sweep great log 0 16 8 | 2
+sweep great log 1 16 4 | 2
+sweep great log 0 4096 8 | 1
+sweep great log 1 4096 4 | 1
+sweep reclaims blocks 0 0 60 | 31
+sweep reclaims blocks 1 0 40 | 13
+sweep reclaims blocks 0 100 60 | 30
+sweep reclaims blocks 1 100 40 | 13
+sweep reclaims blocks 0 4096 60 | 30
+sweep reclaims blocks 1 4096 40 | 13
+sweep reclaims log 0 0 12 | 1
+sweep reclaims log 1 0 8 | 1
+sweep reclaims log 0 16 12 | 1
+sweep reclaims log 1 16 8 | 1
+sweep reclaims stops 0 0 60 | 42
+sweep reclaims stops 1 0 40 | 23
+sweep reclaims stops 0 100 60 | 41
+sweep reclaims stops 1 100 40 | 23
+sweep reclaims stops 0 65535 60 | 41
+sweep reclaims stops 1 65535 40 | 23
+sweep again | queued ok queued queued ok queued ok 0000000000101 406 queued ok 0000000000101 510
+sweep again blocks 0 0 26 | 14
+sweep again blocks 0 100 26 | 14
+sweep again blocks 0 4096 26 | 14
 ";
 
 // Of each script how many allocations, up to so many, changed an answer where they were refused, and how many destroys were. Memory
 // refuses a destroy only before it has begun, where the queue has no room for its mark.
-const ALLOCATIONS: &str = "usual memory 200 | 200 0
-great memory 100 | 100 0
-reclaims memory 200 | 200 0
-beside memory 20 | 20 0
-again memory 20 | 20 0
-deletes | queued ok 101 ok miss queued ok 206
-deletes memory 20 | 20 0
-drops | queued ok 101 queued deleted miss ok 204 queued ok miss miss
-drops memory 20 | 20 0
-idle | miss ok ok ok miss
-idle memory 10 | 10 0
-written memory 20 | 20 0
-unwritten memory 10 | 10 1
+pub const ALLOCATIONS: &str = "sweep usual memory 200 | 200 0
+sweep great memory 100 | 100 0
+sweep reclaims memory 200 | 200 0
+sweep beside memory 20 | 20 0
+sweep again memory 20 | 20 0
+sweep deletes | queued ok 101 ok miss queued ok 206
+sweep deletes memory 20 | 20 0
+sweep drops | queued ok 101 queued deleted miss ok 204 queued ok miss miss
+sweep drops memory 20 | 20 0
+sweep idle | miss ok ok ok miss
+sweep idle memory 10 | 10 0
+sweep written memory 20 | 20 0
+sweep unwritten memory 10 | 10 1
 ";
-
-#[test]
-fn each_access_fails_in_turn(rt: HostRuntime) -> std::result::Result<(), Fail> {
-    let answers = rows_of(&rt, rt.alloc(), SWEEPS)?;
-    assert!(rt; answers.as_str() == SWEEPS, "{answers}");
-    Ok(())
-}
-
-#[test]
-fn each_allocation_is_refused_in_turn(rt: HostRuntime) -> std::result::Result<(), Fail> {
-    let answers = rows_of(&rt, rt.alloc(), ALLOCATIONS)?;
-    assert!(rt; answers.as_str() == ALLOCATIONS, "{answers}");
-    Ok(())
-}

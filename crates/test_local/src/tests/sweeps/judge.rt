@@ -5,10 +5,7 @@ use crate::tests::sweeps::known::{
     after_great, after_half_destroy, after_no_destroy, after_opening, after_put, after_wait,
     may_show,
 };
-use foyer_device_page::error::Result;
 use foyer_testing::said::Said;
-use std::alloc::Global;
-use std::test::Fail;
 
 // From 1 on.
 const KEYS: usize = 6;
@@ -259,50 +256,37 @@ fn behind_line(judge: Judge, line: &str) -> Judge {
     judged(judge, call, number_of(key) as usize, answer, true)
 }
 
-// What may be answered where no fault is due. A text is the line of its put, and 100 for each key.
-const JUDGEMENTS: &str = "put 1 = queued, wait = ok, get 1 = 101 | yes
-put 1 = queued, wait = ok, get 1 = miss | no
-put 1 = queued, wait = ok, get 1 = 102 | no
-put 1 = queued, wait = ok, get 1 = another | no
-put 1 = queued, wait = ok, get 1 = Io | no
-put 1 = queued, wait = ok, get 1 = Memory | no
-put 1 = queued, wait = ok, get 2 = miss | yes
-put 1 = queued, wait = ok, get 2 = 201 | no
-put 1 = queued, wait = ok, wait = Memory | no
-put 1 = queued, wait = ok, put 1 = queued, wait = ok, get 1 = 103 | yes
-put 1 = queued, wait = ok, put 1 = queued, wait = ok, get 1 = 101 | no
-put 1 = queued, wait = ok, put 1 = queued, wait = ok, destroy = ok, open, get 1 = miss | yes
-put 1 = queued, wait = ok, put 1 = queued, wait = ok, destroy = ok, open, get 1 = 103 | no
-put 1 = queued, wait = ok, put 2 = deleted | no
-put 1 = queued, wait = ok, great 1 = queued, get 1 = 101 | yes
-put 1 = queued, wait = ok, great 1 = queued, get 1 = miss | no
-put 1 = queued, wait = ok, great 1 = queued, put 2 = deleted | yes
-put 1 = queued, wait = ok, great 1 = queued, put 2 = queued | no
-put 1 = queued, wait = ok, great 1 = queued, put 1 = deleted, get 1 = 101 | no
-put 1 = queued, wait = ok, great 1 = queued, wait = ok, get 1 = 101 | no
-put 1 = queued, wait = ok, great 1 = queued, wait = ok, put 2 = deleted | no
-put 1 = queued, wait = ok, great 1 = queued, wait = ok, open, get 1 = miss | yes
-put 1 = queued, wait = ok, great 1 = queued, wait = ok, open, get 1 = 101 | no
-";
-
-fn judgements_of(alloc: Global) -> Result<String> {
-    let mut said = Said::new(alloc);
-    for row in JUDGEMENTS.lines() {
-        let (asked, _) = row.split_once(" | ").unwrap_or((row, ""));
-        let mut judge = judge_of(false, false, false);
-        for line in asked.split(", ") {
-            judge = behind_line(judge, line);
-        }
-        said.word(asked);
-        said.flag(" | ", judge.is_well);
-        said.word("\n");
+/// Notes whether lines may be answered so where no fault is due.
+pub fn say_judged(said: &mut Said, asked: &str) {
+    let mut judge = judge_of(false, false, false);
+    for line in asked.split(", ") {
+        judge = behind_line(judge, line);
     }
-    said.text()
+    said.flag(" ", judge.is_well);
 }
 
-#[test]
-fn what_no_fault_explains_is_refused(rt: HostRuntime) -> std::result::Result<(), Fail> {
-    let judgements = judgements_of(rt.alloc())?;
-    assert!(rt; judgements.as_str() == JUDGEMENTS, "{judgements}");
-    Ok(())
-}
+// A text is the line of its put, and 100 for each key.
+pub const JUDGEMENTS: &str = "judge put 1 = queued, wait = ok, get 1 = 101 | yes
+judge put 1 = queued, wait = ok, get 1 = miss | no
+judge put 1 = queued, wait = ok, get 1 = 102 | no
+judge put 1 = queued, wait = ok, get 1 = another | no
+judge put 1 = queued, wait = ok, get 1 = Io | no
+judge put 1 = queued, wait = ok, get 1 = Memory | no
+judge put 1 = queued, wait = ok, get 2 = miss | yes
+judge put 1 = queued, wait = ok, get 2 = 201 | no
+judge put 1 = queued, wait = ok, wait = Memory | no
+judge put 1 = queued, wait = ok, put 1 = queued, wait = ok, get 1 = 103 | yes
+judge put 1 = queued, wait = ok, put 1 = queued, wait = ok, get 1 = 101 | no
+judge put 1 = queued, wait = ok, put 1 = queued, wait = ok, destroy = ok, open, get 1 = miss | yes
+judge put 1 = queued, wait = ok, put 1 = queued, wait = ok, destroy = ok, open, get 1 = 103 | no
+judge put 1 = queued, wait = ok, put 2 = deleted | no
+judge put 1 = queued, wait = ok, great 1 = queued, get 1 = 101 | yes
+judge put 1 = queued, wait = ok, great 1 = queued, get 1 = miss | no
+judge put 1 = queued, wait = ok, great 1 = queued, put 2 = deleted | yes
+judge put 1 = queued, wait = ok, great 1 = queued, put 2 = queued | no
+judge put 1 = queued, wait = ok, great 1 = queued, put 1 = deleted, get 1 = 101 | no
+judge put 1 = queued, wait = ok, great 1 = queued, wait = ok, get 1 = 101 | no
+judge put 1 = queued, wait = ok, great 1 = queued, wait = ok, put 2 = deleted | no
+judge put 1 = queued, wait = ok, great 1 = queued, wait = ok, open, get 1 = miss | yes
+judge put 1 = queued, wait = ok, great 1 = queued, wait = ok, open, get 1 = 101 | no
+";
