@@ -3,11 +3,10 @@ use crate::tests::configs::opened;
 use crate::tests::files::say_filed;
 use crate::tests::memories::SameMemory;
 use crate::tests::over::{USUAL, over_of};
-use crate::tests::programs::{say_broken, say_forged, say_served};
+use crate::tests::programs::{say_broken, say_file, say_forged, say_served};
 use foyer_device_page::error::Result;
 use foyer_testing::said::Said;
 use std::alloc::Global;
-use std::fs;
 use std::fs::File;
 use std::rt::Files;
 use std::sync::Wait;
@@ -108,8 +107,27 @@ one block is taken again
 disk :memory:, 16384, 16384 < put 1 a, wait, put 2 b, wait, put 3 c, wait, put 4 d, wait, get 1, get 4 | queued, ok, queued, ok, queued, ok, queued, ok, miss, entry d, status 0
 the oldest of twelve puts make room for the newest
 disk :memory:, 32768, 16384 < put 1 x, wait, put 2 x, wait, put 3 x, wait, put 4 x, wait, put 5 x, wait, put 6 x, wait, put 7 x, wait, put 8 x, wait, put 9 x, wait, put 10 x, wait, put 11 x, wait, put 12 x, wait, get 1, get 2, get 3, get 4, get 5, get 6, get 10, get 11, get 12 | queued, ok, queued, ok, queued, ok, queued, ok, queued, ok, queued, ok, queued, ok, queued, ok, queued, ok, queued, ok, queued, ok, queued, ok, miss, miss, miss, miss, miss, miss, entry x, entry x, entry x, status 0
-bad sizes are found before a store is built
+bad sizes are found before a store is built: a capacity below a block, blocks of nothing and of an index alone, a block above its greatest size, and a directory that isn't made
 disk :memory:, 4096, 16384 < put 1 a | fault Config, status 1
+disk :memory:, 16384, 0 < put 1 a | fault Config, status 1
+disk :memory:, 16384, 4096 < put 1 a | fault Config, status 1
+disk :memory:, 16384, 4294967297 < put 1 a | fault Config, status 1
+disk untouched, 4096, 16384 < put 1 a | fault Config, status 1
+disk untouched, 16384, 0 < get 1 | fault Config, status 1
+disk untouched, 16384, 4096 < get 1 | fault Config, status 1
+length untouched | missing
+bad words give the usage: two words, and one with a blank
+disk :memory:, 16384 < put 1 a | errors usage: foyerdisk DIR CAPACITY BLOCK, status 2
+disk :memory:, 16384, 1  < put 1 a | errors usage: foyerdisk DIR CAPACITY BLOCK, status 2
+bad lines are answered and passed, and the last one has no end
+unended :memory:, 16384, 16384 < put 1, , get 18446744073709551616, put 1 , wait, get 01, get +1, get , wait , GET 1, put 18446744073709551615 z, wait, get 18446744073709551615 | bad line, bad line, bad line, queued, ok, entry , bad line, bad line, bad line, bad line, queued, ok, entry z, status 1
+a line that is no text is bad
+disk :memory:, 16384, 16384 < put 1 \x01, get 1 | bad line, miss, status 1
+texts keep their spaces
+disk :memory:, 16384, 16384 < put 7  two  spaces , wait, get 7 | queued, ok, entry  two  spaces , status 0
+a long bad line leaves what was put, and a long line is one line
+disk :memory:, 16384, 16384 < put 1 a, wait, *2000, get 1 | queued, ok, bad line, entry a, status 1
+disk :memory:, 1048576, 1048576 < put 1 *2130, wait, get 1 | queued, ok, entry *2130, status 0
 a closed store refuses a put
 disk :memory:, 16384, 16384 < close, put 1 a, bad | ok, fault Closed, bad line, status 1
 a destroy leaves nothing, and the store goes on
@@ -126,6 +144,19 @@ without a log a delete is forgotten
 disk forgotten, 32768, 16384 < put 1 a, wait, del 1, wait, close | queued, ok, ok, ok, ok, status 0
 disk forgotten, 32768, 16384 < get 1 | entry a, status 0
 remove forgotten | yes
+a directory is made with a file for each block
+disk new cache/of this run, 49152, 16384 < put 1 a, put 2 bb, wait, get 1, get 2, del 1, get 1, put 2 c, close, get 2, put 3 d | queued, queued, ok, entry a, entry bb, ok, miss, queued, ok, entry c, fault Closed, status 1
+length new cache/of this run/foyer-storage-direct-fs-00000000 | 16384
+length new cache/of this run/foyer-storage-direct-fs-00000002 | 16384
+length new cache/of this run/foyer-storage-direct-fs-00000003 | missing
+remove new cache | yes
+a file in a directory's place is Io, and a directory in a file's place
+file in the way | yes
+disk in the way, 16384, 16384 < get 1 | fault Io, errors foyerdisk: in the way: the directory couldn't be opened: Io, status 1
+unlink in the way | yes
+make barred/foyer-storage-direct-fs-00000001 | yes
+disk barred, 32768, 16384 < get 1 | fault Io, errors foyerdisk: barred: the store couldn't be opened: Io, status 1
+remove barred | yes
 what was put into a directory is found again, of two values the newer, and what was destroyed stays away
 disk again, 65536, 16384 < put 1 a, put 2 bb, wait, put 1 c | queued, queued, ok, queued, status 0
 disk again, 65536, 16384 < get 1, get 2, get 3, destroy, get 1, put 3 d | entry c, entry bb, miss, ok, miss, queued, status 0
@@ -189,7 +220,7 @@ disk ten, 32768, 16384 < get 9, put 1 y, wait, get 1 | miss, queued, ok, entry y
 remove ten | yes
 the last sequence refuses the opening, and the one before it leaves none to be drawn
 forge end < index 0 9 18446744073709551615 4096 53 | yes
-disk end, 32768, 16384 < get 9 | fault SequenceEnd, status 1
+disk end, 32768, 16384 < get 9 | fault SequenceEnd, errors foyerdisk: end: the store couldn't be opened: SequenceEnd, status 1
 forge end < index 0 9 18446744073709551614 4096 53 | yes
 disk end, 32768, 16384 < put 1 y, del 9, destroy, get 9, wait | fault SequenceEnd, fault SequenceEnd, fault SequenceEnd, miss, ok, status 1
 remove end | yes
@@ -242,7 +273,8 @@ fn say_row<
 >(rt: R, alloc: Global, said: &mut Said, asked: &str) -> Result<()> {
     let (word, rest) = asked.split_once(' ').unwrap_or((asked, ""));
     match word {
-        "disk" => say_served(rt, alloc, said, rest),
+        "disk" => say_served(rt, alloc, said, rest, true),
+        "unended" => say_served(rt, alloc, said, rest, false),
         "broken" => say_broken(rt, alloc, said, rest),
         "file" => say_filed(rt, alloc, said, rest),
         "unlink" => {
@@ -250,8 +282,8 @@ fn say_row<
             Ok(())
         }
         "forge" => say_forged(&rt, alloc, said, rest),
-        "remove" => {
-            said.flag("", fs::remove_dir_all(&rt, rest).is_ok());
+        "make" | "file" | "unlink" | "remove" | "length" => {
+            say_file(&rt, said, word, rest);
             Ok(())
         }
         _ => say_stores(rt, alloc, said, asked),

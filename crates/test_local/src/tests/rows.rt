@@ -1,0 +1,173 @@
+//! Rows of text: what is asked, and behind a bar what is answered; a name stands above those of a case.
+mod directories;
+mod memory;
+
+use crate::tests::directories::{say_directory, say_room};
+use crate::tests::lines::say_input;
+use crate::tests::listed::say_files;
+use crate::tests::memories::{say_device, say_memory, say_zeros};
+use crate::tests::moves::say_moves;
+use crate::tests::own::say_own;
+use crate::tests::sweeps::judge::say_judged;
+use crate::tests::sweeps::say_sweep;
+use crate::tests::{lines, own, sweeps};
+use foyer_device_page::error::Result;
+use foyer_testing::said::Said;
+use std::fs::File;
+use std::rt::Files;
+use std::sync::Wait;
+use std::test::Fail;
+
+fn say_row<R: Files<File = File> + AllocGlobal + Wait + Clone + Drop>(
+    rt: &R,
+    said: &mut Said,
+    asked: &str,
+) -> Result<()> {
+    let (word, rest) = asked.split_once(' ').unwrap_or((asked, ""));
+    match word {
+        "zeros" => say_zeros(rt.alloc(), said, rest),
+        "device" => say_device(rt, rt.alloc(), said, rest),
+        "memory" => say_memory(rt, rt.alloc(), said, rest),
+        "moves" => say_moves(rt, rt.alloc(), said, rest),
+        "engine" => say_directory(rt, said, rest),
+        "boxed-picker" | "own-condition" | "own-pickers" => {
+            say_own(rt, rt.alloc(), said, word, rest)
+        }
+        "sweep" => say_sweep(rt, rt.alloc(), said, rest),
+        "lines" => say_input(rt.alloc(), said, rest),
+        "judge" => {
+            say_judged(said, rest);
+            Ok(())
+        }
+        "room" => {
+            say_room(said, rest);
+            Ok(())
+        }
+        _ => say_files(rt, rt.alloc(), said, word, rest),
+    }
+}
+
+// The rows with what is answered now; any other line stays as it is.
+fn rows_of<R: Files<File = File> + AllocGlobal + Wait + Clone + Drop>(
+    rt: &R,
+    rows: &str,
+) -> Result<String> {
+    let mut said = Said::new(rt.alloc());
+    for row in rows.lines() {
+        let (asked, _) = row.split_once(" |").unwrap_or((row, ""));
+        said.word(asked);
+        if asked.len() < row.len() {
+            said.word(" |");
+            say_row(rt, &mut said, asked)?;
+        }
+        said.word("\n");
+    }
+    said.text()
+}
+
+#[test]
+fn each_input_is_answered_so(rt: HostRuntime) -> std::result::Result<(), Fail> {
+    let answers = rows_of(&rt, memory::PUT)?;
+    assert!(rt; answers.as_str() == memory::PUT, "{answers}");
+    Ok(())
+}
+
+#[test]
+fn records_are_written_again_so(rt: HostRuntime) -> std::result::Result<(), Fail> {
+    let answers = rows_of(&rt, memory::REINSERTED)?;
+    assert!(rt; answers.as_str() == memory::REINSERTED, "{answers}");
+    Ok(())
+}
+
+#[test]
+fn each_call_that_fails_is_answered_so(rt: HostRuntime) -> std::result::Result<(), Fail> {
+    let answers = rows_of(&rt, memory::FAILING)?;
+    assert!(rt; answers.as_str() == memory::FAILING, "{answers}");
+    Ok(())
+}
+
+#[test]
+fn deletes_are_kept_and_forgotten_so(rt: HostRuntime) -> std::result::Result<(), Fail> {
+    let answers = rows_of(&rt, memory::DELETED)?;
+    assert!(rt; answers.as_str() == memory::DELETED, "{answers}");
+    Ok(())
+}
+
+#[test]
+fn moves_are_answered_so(rt: HostRuntime) -> std::result::Result<(), Fail> {
+    let answers = rows_of(&rt, memory::MOVED)?;
+    assert!(rt; answers.as_str() == memory::MOVED, "{answers}");
+    Ok(())
+}
+
+#[test]
+fn directories_are_opened_again_so(rt: HostRuntime) -> std::result::Result<(), Fail> {
+    let answers = rows_of(&rt, directories::REOPENED)?;
+    assert!(rt; answers.as_str() == directories::REOPENED, "{answers}");
+    Ok(())
+}
+
+#[test]
+fn directories_are_made_and_filled_so(rt: HostRuntime) -> std::result::Result<(), Fail> {
+    let answers = rows_of(&rt, directories::MADE)?;
+    assert!(rt; answers.as_str() == directories::MADE, "{answers}");
+    Ok(())
+}
+
+#[test]
+fn a_log_of_deletes_lasts_so(rt: HostRuntime) -> std::result::Result<(), Fail> {
+    let answers = rows_of(&rt, directories::LOGGED)?;
+    assert!(rt; answers.as_str() == directories::LOGGED, "{answers}");
+    Ok(())
+}
+
+#[test]
+fn accesses_are_counted_and_limited_so(rt: HostRuntime) -> std::result::Result<(), Fail> {
+    let answers = rows_of(&rt, directories::LIMITED)?;
+    assert!(rt; answers.as_str() == directories::LIMITED, "{answers}");
+    Ok(())
+}
+
+#[test]
+fn directories_are_listed_so(rt: HostRuntime) -> std::result::Result<(), Fail> {
+    let answers = rows_of(&rt, directories::LISTED)?;
+    assert!(rt; answers.as_str() == directories::LISTED, "{answers}");
+    Ok(())
+}
+
+#[test]
+fn pickers_and_conditions_of_own_types_are_asked(rt: HostRuntime) -> std::result::Result<(), Fail> {
+    let answers = rows_of(&rt, own::ROWS)?;
+    assert!(rt; answers.as_str() == own::ROWS, "{answers}");
+    Ok(())
+}
+
+#[test]
+fn a_line_that_memory_does_not_hold_is_passed_over(
+    rt: HostRuntime,
+) -> std::result::Result<(), Fail> {
+    let answers = rows_of(&rt, lines::ROWS)?;
+    assert!(rt; answers.as_str() == lines::ROWS, "{answers}");
+    Ok(())
+}
+
+#[test]
+fn each_access_fails_in_turn(rt: HostRuntime) -> std::result::Result<(), Fail> {
+    let answers = rows_of(&rt, sweeps::SWEEPS)?;
+    assert!(rt; answers.as_str() == sweeps::SWEEPS, "{answers}");
+    Ok(())
+}
+
+#[test]
+fn each_allocation_is_refused_in_turn(rt: HostRuntime) -> std::result::Result<(), Fail> {
+    let answers = rows_of(&rt, sweeps::ALLOCATIONS)?;
+    assert!(rt; answers.as_str() == sweeps::ALLOCATIONS, "{answers}");
+    Ok(())
+}
+
+#[test]
+fn what_no_fault_explains_is_refused(rt: HostRuntime) -> std::result::Result<(), Fail> {
+    let answers = rows_of(&rt, sweeps::judge::JUDGEMENTS)?;
+    assert!(rt; answers.as_str() == sweeps::judge::JUDGEMENTS, "{answers}");
+    Ok(())
+}
