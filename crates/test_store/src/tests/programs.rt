@@ -210,7 +210,7 @@ pub(crate) fn say_file<R: Files<File = File> + AllocGlobal>(
 ) {
     match word {
         "make" => said.flag("", fs::create_dir_all(rt, path).is_ok()),
-        "file" => said.flag("", fs::write(rt, path, "a file").is_ok()),
+        "touch" => said.flag("", fs::write(rt, path, "a file").is_ok()),
         "unlink" => said.flag("", fs::remove_file(rt, path).is_ok()),
         "remove" => said.flag("", fs::remove_dir_all(rt, path).is_ok()),
         _ => match fs::metadata(rt, path) {

@@ -151,7 +151,7 @@ length new cache/of this run/foyer-storage-direct-fs-00000002 | 16384
 length new cache/of this run/foyer-storage-direct-fs-00000003 | missing
 remove new cache | yes
 a file in a directory's place is Io, and a directory in a file's place
-file in the way | yes
+touch in the way | yes
 disk in the way, 16384, 16384 < get 1 | fault Io, errors foyerdisk: in the way: the directory couldn't be opened: Io, status 1
 unlink in the way | yes
 make barred/foyer-storage-direct-fs-00000001 | yes
@@ -277,12 +277,8 @@ fn say_row<
         "unended" => say_served(rt, alloc, said, rest, false),
         "broken" => say_broken(rt, alloc, said, rest),
         "file" => say_filed(rt, alloc, said, rest),
-        "unlink" => {
-            said.flag("", fs::remove_file(&rt, rest).is_ok());
-            Ok(())
-        }
         "forge" => say_forged(&rt, alloc, said, rest),
-        "make" | "file" | "unlink" | "remove" | "length" => {
+        "make" | "touch" | "unlink" | "remove" | "length" => {
             say_file(&rt, said, word, rest);
             Ok(())
         }
