@@ -32,7 +32,7 @@ static uint32_t number_at(const unsigned char *at) {
     return (uint32_t)at[0] | (uint32_t)at[1] << 8 | (uint32_t)at[2] << 16 | (uint32_t)at[3] << 24;
 }
 
-/* Writes all, or ends the cache: the signal of a broken pipe is held back in this thread meanwhile, and taken. */
+/* Writes all, or ends the cache. Its caller holds the signal of a broken pipe back. */
 static int send_all(foyer_cache *cache, const void *bytes, size_t len) {
     const char *at = bytes;
     while (len > 0) {
