@@ -3,6 +3,7 @@
 #include "foyer_client.h"
 
 #include <errno.h>
+#include <fcntl.h>
 #include <pthread.h>
 #include <signal.h>
 #include <stdlib.h>
@@ -200,42 +201,67 @@ int foyer_get_many(foyer_cache *cache, size_t count, const void *const *keys, co
     return taken == count ? FOYER_DONE : FOYER_ENDED;
 }
 
-foyer_cache *foyer_open(const char *program, const char *directory, const char *capacity, const char *block, const char *const *settings) {
-    const char *words[5 + MOST_SETTINGS] = {program, directory, capacity, block};
-    int to[2], from[2], count = 4;
-    for (; settings != NULL && *settings != NULL; settings++) {
-        if (count == 4 + MOST_SETTINGS) return NULL;
-        words[count++] = *settings;
+/* Held from a pipe's making to its program's start, so that no program of another cache keeps its ends. */
+static pthread_mutex_t opening = PTHREAD_MUTEX_INITIALIZER;
+
+static void close_ends(const int ends[2]) {
+    if (ends[0] >= 0) close(ends[0]);
+    if (ends[1] >= 0) close(ends[1]);
+}
+
+/* A pipe whose ends no other program gets, and that are none of the three standard ones. */
+static int make_pipe(int ends[2]) {
+    int made[2];
+    if (pipe(made)) return -1;
+    for (int i = 0; i < 2; i++) {
+        ends[i] = fcntl(made[i], F_DUPFD_CLOEXEC, 3);
+        close(made[i]);
     }
-    foyer_cache *cache = calloc(1, sizeof *cache);
-    if (cache == NULL) return NULL;
-    if (pipe(to)) {
-        free(cache);
-        return NULL;
-    }
-    if (pipe(from)) {
-        close(to[0]);
-        close(to[1]);
-        free(cache);
-        return NULL;
+    if (ends[0] >= 0 && ends[1] >= 0) return 0;
+    close_ends(ends);
+    return -1;
+}
+
+/* Starts the program with pipes at its standard input and output. */
+static int start(foyer_cache *cache, const char *const *words) {
+    int to[2], from[2];
+    if (make_pipe(to)) return -1;
+    if (make_pipe(from)) {
+        close_ends(to);
+        return -1;
     }
     cache->program = fork();
     if (cache->program == 0) {
-        dup2(to[0], 0);
-        dup2(from[1], 1);
-        close(to[0]);
-        close(to[1]);
-        close(from[0]);
-        close(from[1]);
-        execvp(program, (char *const *)words);
+        if (dup2(to[0], 0) == 0 && dup2(from[1], 1) == 1) execvp(words[0], (char *const *)words);
         _exit(127);
     }
     close(to[0]);
     close(from[1]);
     cache->to = to[1];
     cache->from = from[0];
+    if (cache->program > 0) return 0;
+    close(cache->to);
+    close(cache->from);
+    return -1;
+}
+
+foyer_cache *foyer_open(const char *program, const char *directory, const char *capacity, const char *block, const char *const *settings) {
+    const char *words[5 + MOST_SETTINGS] = {program, directory, capacity, block};
+    int count = 4;
+    for (; settings != NULL && *settings != NULL; settings++) {
+        if (count == 4 + MOST_SETTINGS) return NULL;
+        words[count++] = *settings;
+    }
+    foyer_cache *cache = calloc(1, sizeof *cache);
+    if (cache == NULL) return NULL;
+    pthread_mutex_lock(&opening);
+    int failed = start(cache, words);
+    pthread_mutex_unlock(&opening);
+    if (failed) {
+        free(cache);
+        return NULL;
+    }
     pthread_mutex_init(&cache->lock, NULL);
-    if (cache->program < 0) cache->has_ended = 1;
     if (foyer_contains(cache, NULL, 0) == FOYER_ENDED) {
         foyer_close(cache);
         return NULL;
@@ -253,11 +279,9 @@ int foyer_close(foyer_cache *cache) {
         }
     }
     close(cache->from);
-    if (cache->program > 0) {
-        while (waitpid(cache->program, &status, 0) < 0 && errno == EINTR) {
-        }
-        status = WIFEXITED(status) ? WEXITSTATUS(status) : -1;
+    while (waitpid(cache->program, &status, 0) < 0 && errno == EINTR) {
     }
+    status = WIFEXITED(status) ? WEXITSTATUS(status) : -1;
     pthread_mutex_destroy(&cache->lock);
     free(cache);
     return status;

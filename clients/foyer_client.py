@@ -55,9 +55,9 @@ class Cache:
 
     # What comes back, handed to whoever asked.
     def _read(self):
-        stream, buffer = self._program.stdout, b""
+        stream, buffer = self._program.stdout, bytearray()
         while True:
-            more = stream.read(1 << 16)
+            more = stream.read(1 << 20)
             if not more:
                 break
             buffer += more
@@ -67,9 +67,9 @@ class Cache:
                 end = at + REPLY.size + length
                 if len(buffer) < end:
                     break
-                self._give(number, code, buffer[at + REPLY.size:end])
+                self._give(number, code, bytes(buffer[at + REPLY.size:end]))
                 at = end
-            buffer = buffer[at:]
+            del buffer[:at]
         self._end()
 
     def _give(self, number, code, found):

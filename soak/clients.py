@@ -1,0 +1,377 @@
+#!/usr/bin/env python3
+"""Asks foyerpipe through its clients in Python and in C, each by the same cases, and runs the examples of docs/PIPE.md and of examples/.
+
+The C client is built with all warnings as errors, and its example with sanitizers, and run under valgrind if that is there. The cases: round
+trips of random bytes; thousands of gets at once; a reopening, with and without a log of deletes; a device that is full; limits; threads
+that share a cache; two caches of one process; bad words; a killed program; a killed caller. Ends with status 0 when all held.
+
+usage: clients.py [--program FILE] [--seed N]
+"""
+import argparse
+import ctypes
+import os
+import random
+import re
+import shutil
+import signal
+import subprocess
+import sys
+import tempfile
+import threading
+import time
+
+TOP = os.path.dirname(os.path.dirname(os.path.abspath(__file__)))
+CLIENTS = TOP + "/clients"
+sys.path.insert(0, CLIENTS)
+import foyer_client  # noqa: E402
+from foyer_client import DONE, ENTRY, MISS, THROTTLED, YES, CacheEnded, CacheError, Throttled  # noqa: E402
+
+ENDED = 256
+WARNINGS = ["-std=c11", "-Wall", "-Wextra", "-Werror"]
+
+
+class Found(ctypes.Structure):
+    _fields_ = [("bytes", ctypes.c_void_p), ("len", ctypes.c_size_t)]
+
+
+class CCache:
+    """The C client, asked as the one in Python is."""
+
+    def __init__(self, program, directory, capacity, block_size=1 << 24, **options):
+        words = [b"%s=%s" % (str(k).encode(), str(v).encode()) for k, v in options.items()]
+        settings = (ctypes.c_char_p * (len(words) + 1))(*words, None)
+        sizes = [b"%d" % it for it in (capacity, block_size)]
+        LIB.foyer_open.restype = ctypes.c_void_p
+        at = LIB.foyer_open(program.encode(), directory.encode(), *sizes, settings)
+        if not at:
+            raise CacheEnded("it isn't opened")
+        self._at = ctypes.c_void_p(at)
+
+    def _code(self, name, *words):
+        code = getattr(LIB, name)(self._at, *words)
+        if code == ENDED:
+            raise CacheEnded("it ended")
+        if code in foyer_client.ERRORS:
+            raise CacheError(foyer_client.ERRORS[code])
+        if code == THROTTLED:
+            raise Throttled("Throttled")
+        return code
+
+    @staticmethod
+    def _bytes(found):
+        value = ctypes.string_at(found.bytes, found.len)
+        LIBC.free(ctypes.c_void_p(found.bytes))
+        return value
+
+    @staticmethod
+    def _word(key):
+        return key, ctypes.c_size_t(len(key))
+
+    def put(self, key, value):
+        return self._code("foyer_put", *self._word(key), *self._word(value)) == DONE
+
+    def get(self, key):
+        found = Found()
+        return self._bytes(found) if self._code("foyer_get", *self._word(key), ctypes.byref(found)) == ENTRY else None
+
+    def get_many(self, keys):
+        count = len(keys)
+        codes, found = (ctypes.c_int * count)(), (Found * count)()
+        words, sizes = (ctypes.c_char_p * count)(*keys), (ctypes.c_size_t * count)(*map(len, keys))
+        self._code("foyer_get_many", ctypes.c_size_t(count), words, sizes, codes, found)
+        return [self._bytes(it) if code == ENTRY else None for code, it in zip(codes, found)]
+
+    def contains(self, key):
+        return self._code("foyer_contains", *self._word(key)) == YES
+
+    def delete(self, key):
+        self._code("foyer_delete", *self._word(key))
+
+    def wait(self):
+        self._code("foyer_wait")
+
+    def destroy(self):
+        self._code("foyer_destroy")
+
+    def counters(self):
+        found = Found()
+        self._code("foyer_counters", ctypes.byref(found))
+        return {name: int(count) for name, count in (it.split() for it in self._bytes(found).decode().splitlines())}
+
+    def close(self):
+        return LIB.foyer_close(self._at)
+
+    def __enter__(self):
+        return self
+
+    def __exit__(self, *_):
+        self.close()
+
+
+def check(held, why):
+    if not held:
+        print("WRONG:", why)
+        sys.exit(1)
+
+
+def own_programs():
+    """The programs that this process started and that run."""
+    mine = []
+    for it in filter(str.isdigit, os.listdir("/proc")):
+        try:
+            with open("/proc/%s/stat" % it) as stat:
+                words = stat.read().rsplit(")", 1)[1].split()
+            if int(words[1]) == os.getpid() and words[0] != "Z":
+                mine.append(int(it))
+        except (FileNotFoundError, ProcessLookupError):
+            pass
+    return mine
+
+
+def refused(kind, call):
+    try:
+        call()
+    except kind:
+        return True
+    return False
+
+
+def values(rnd, count, sizes):
+    return {b"%d-" % i + rnd.randbytes(rnd.randrange(20)): rnd.randbytes(rnd.choice(sizes)) for i in range(count)}
+
+
+def round_trips(opened, rnd, room):
+    with opened(room, 1 << 28) as cache:
+        pairs = values(rnd, 60, [0, 1, 15, 4095, 4096, 70000, 1 << 20, 5 << 20])
+        for key, value in pairs.items():
+            check(cache.put(key, value), "a put isn't taken")
+            check(cache.get(key) == value and cache.contains(key), "what was just put isn't there")
+            cache.wait()
+        check(all(cache.get(key) == value for key, value in pairs.items()), "what was written isn't there")
+        check(cache.get(b"none") is None and not cache.contains(b"none"), "a key that was never put is there")
+        first = next(iter(pairs))
+        cache.delete(first)
+        check(cache.get(first) is None, "a deleted key is there")
+        count = cache.counters()
+        check(count["queued_puts"] == 60, "the counters are %r" % count)
+        cache.destroy()
+        check(all(cache.get(key) is None for key in pairs), "what was destroyed is there")
+        cache.put(b"long", b"." * (1 << 25))
+        cache.wait()
+        check(cache.get(b"long") is None, "a value that no block holds is there")
+
+
+def thousands_at_once(opened, rnd, room):
+    with opened(":memory:", 1 << 26, 1 << 20) as cache:
+        pairs = values(rnd, 3000, [10, 1000, 3000])
+        for key, value in pairs.items():
+            check(cache.put(key, value), "a put isn't taken")
+            cache.wait() if rnd.randrange(100) == 0 else None
+        cache.wait()
+        asked = [rnd.choice(list(pairs)) if rnd.randrange(10) else b"none%d" % i for i in range(20000)]
+        check(cache.get_many(asked) == [pairs.get(it) for it in asked], "many at once differ")
+
+
+def reopenings(opened, rnd, room):
+    for log in (0, 1):
+        place = "%s/log%d" % (room, log)
+        pairs = values(rnd, 300, [10, 1000, 9000])
+        with opened(place, 1 << 25, 1 << 20, log=log) as cache:
+            for key, value in pairs.items():
+                check(cache.put(key, value), "a put isn't taken")
+            cache.wait()
+            gone = list(pairs)[:100]
+            for key in gone:
+                cache.delete(key)
+            cache.wait()
+            check(cache.close() == 0, "a close has a status") if isinstance(cache, foyer_client.Cache) else None
+        with opened(place, 1 << 25, 1 << 20, log=log) as cache:
+            for key, value in pairs.items():
+                found = cache.get(key)
+                check(found == value if key not in gone else found in ((None,) if log else (None, value)), "after a reopening %r differs" % key)
+
+
+def full_device(opened, rnd, room):
+    with opened(room + "/full", 1 << 22, 1 << 19) as cache:
+        newest = {}
+        for i in range(4000):
+            key = b"%d" % rnd.randrange(800)
+            newest[key] = b"%d " % i + rnd.randbytes(rnd.choice([100, 9000]))
+            if not cache.put(key, newest[key]):
+                newest[key] = None
+            cache.wait() if i % 20 == 0 else None
+        cache.wait()
+        found = {key: cache.get(key) for key in newest}
+        check(all(value is None or value == newest[key] for key, value in found.items()), "a value is older than the last put")
+        check(sum(value is not None for value in found.values()) > 100, "nothing is found in a full cache")
+        check(cache.counters()["reclaims"] > 0, "nothing was reclaimed")
+
+
+def limits(opened, rnd, room):
+    with opened(room + "/writes", 1 << 24, 1 << 20, write_bytes=1000) as cache:
+        taken = cache.put(b"first", b"." * 20000)
+        cache.wait()
+        check(taken and not cache.put(b"second", b"."), "a limit of writes holds nothing back")
+    with opened(room + "/reads", 1 << 24, 1 << 20, read_bytes=1000) as cache:
+        while not cache.put(b"first", b"." * 20000):
+            time.sleep(0.2)
+        cache.wait()
+        held = False
+        for _ in range(60):
+            held = held or refused(Throttled, lambda: cache.get(b"first"))
+            time.sleep(0 if held else 0.1)
+        check(held, "a limit of reads holds nothing back")
+
+
+def threads_share(opened, rnd, room):
+    with opened(":memory:", 1 << 26, 1 << 20, engines=4) as cache:
+        wrong = []
+
+        def ask(name):
+            own = random.Random(name)
+            for i in range(400):
+                key, value = b"%d %d" % (name, own.randrange(50)), own.randbytes(own.choice([10, 5000]))
+                if cache.put(key, value) and cache.get(key) != value:
+                    wrong.append(key)
+                if i % 50 == 0:
+                    cache.wait()
+
+        threads = [threading.Thread(target=ask, args=(name,)) for name in range(8)]
+        for it in threads:
+            it.start()
+        for it in threads:
+            it.join()
+        check(not wrong, "threads: %r" % wrong[:3])
+
+
+def two_caches(opened, rnd, room):
+    one, other = opened(":memory:", 1 << 24, 1 << 20), opened(":memory:", 1 << 24, 1 << 20)
+    check(one.put(b"a", b"1") and other.get(b"a") is None, "two caches share a key")
+    check(one.close() == 0 and other.put(b"a", b"2") and other.close() == 0, "two caches don't close")
+
+
+def bad_words(opened, rnd, room):
+    for words in ({"flushers": 0}, {"nothing": 1}, {"recover": "never"}):
+        check(refused(CacheEnded, lambda: opened(":memory:", 1 << 24, 1 << 20, **words)), "%r opens" % words)
+    check(refused(CacheEnded, lambda: opened(":memory:", 1, 1 << 20)), "a capacity of 1 opens")
+
+
+def killed_program(opened, rnd, room):
+    for i in range(10):
+        cache = opened(room + "/killed", 1 << 24, 1 << 20)
+        pairs = {b"%d" % k: (b"%d " % k) * (1 + k % 400) for k in range(300)}
+        check(all(value in (None, pairs[key]) for key, value in ((key, cache.get(key)) for key in pairs)), "after a kill a value differs")
+        for key in pairs:
+            cache.put(key, pairs[key])
+        running = own_programs()
+        check(len(running) == 1, "%d programs run" % len(running))
+        timer = threading.Timer(rnd.random() / 50, os.kill, (running[0], signal.SIGKILL))
+        timer.start()
+
+        def ask_on():
+            while True:
+                cache.put(b"1", pairs[b"1"])
+                cache.get(b"2")
+
+        check(refused(CacheEnded, ask_on), "a killed program answers")
+        check(refused(CacheEnded, lambda: cache.put(b"1", b"1")), "a killed program answers again")
+        timer.join()
+        check(cache.close() != 0, "a killed program ends well")
+
+
+def killed_caller(opened, rnd, room):
+    text = "import sys, os; sys.path.insert(0, %r); import clients; clients.put_on(%r, %r, %r, %r)"
+    words = [TOP + "/soak", opened.kind, opened.program, room + "/caller", opened.library]
+    caller = subprocess.Popen([sys.executable, "-c", text % tuple(words)], stdout=subprocess.PIPE)
+    pid = int(caller.stdout.readline())
+    time.sleep(0.2)
+    caller.kill()
+    caller.wait()
+    for _ in range(1000):
+        if not os.path.exists("/proc/%d" % pid) or open("/proc/%d/stat" % pid).read().rsplit(")", 1)[1].split()[0] == "Z":
+            break
+        time.sleep(0.01)
+    else:
+        check(False, "the program goes on without its caller")
+    with opened(room + "/caller", 1 << 24, 1 << 20) as cache:
+        found = [cache.get(b"%d" % k) for k in range(100)]
+        check(all(it in (None, b"%d " % k * 100) for k, it in enumerate(found)), "after a killed caller a value differs")
+
+
+def put_on(kind, program, place, library):
+    """What the caller does that is killed."""
+    cache = opener(kind, program, library)(place, 1 << 24, 1 << 20)
+    print(own_programs()[0], flush=True)
+    while True:
+        for k in range(100):
+            cache.put(b"%d" % k, b"%d " % k * 100)
+
+
+CASES = [round_trips, thousands_at_once, reopenings, full_device, limits, threads_share, two_caches, bad_words, killed_program, killed_caller]
+
+
+def opener(kind, program, library):
+    global LIB, LIBC
+    LIB, LIBC = ctypes.CDLL(library), ctypes.CDLL(None)
+    cache = {"Python": foyer_client.Cache, "C": CCache}[kind]
+
+    def opened(place, capacity, block=1 << 24, **options):
+        return cache(program, place, capacity, block, **options)
+
+    opened.kind, opened.program, opened.library = kind, program, library
+    return opened
+
+
+def run(words, **options):
+    done = subprocess.run(words, stdout=subprocess.PIPE, stderr=subprocess.STDOUT, **options)
+    check(done.returncode == 0, "%s: %s" % (" ".join(words), done.stdout.decode("utf-8", "replace")))
+    return done.stdout.decode()
+
+
+def run_examples(program, room):
+    """The examples of docs/PIPE.md, word for word except for the cache's directory, and examples/read_through.py."""
+    with open(TOP + "/docs/PIPE.md") as it:
+        page = it.read().replace("/var/tmp/cache", room + "/cache")
+    of = {language: re.search("```%s\n(.*?)```" % language, page, re.S).group(1) for language in ("python", "c")}
+    os.symlink(program, room + "/foyerpipe")
+    with open(room + "/example.py", "w") as it:
+        it.write(of["python"])
+    said = run([sys.executable, "example.py"], cwd=room, env=dict(os.environ, PYTHONPATH=CLIENTS))
+    check(said.startswith("b'value'\nb'otherother'\n"), "the example in Python says %r" % said)
+    with open(room + "/example.c", "w") as it:
+        it.write(of["c"])
+    build = ["cc", *WARNINGS, "-g", "-I" + CLIENTS, "example.c", CLIENTS + "/foyer_client.c", "-lpthread", "-o"]
+    checks = [["-fsanitize=address,undefined"]] + ([[]] if shutil.which("valgrind") else [])
+    for sanitize in checks:
+        run([*build, "example", *sanitize], cwd=room)
+        under = [] if sanitize else ["valgrind", "-q", "--leak-check=full", "--error-exitcode=9"]
+        check(run([*under, "./example"], cwd=room) == "value\n", "the example in C says something else")
+    said = run([sys.executable, TOP + "/examples/read_through.py", program, room + "/through"])
+    check(said.endswith("all equal\n"), "the read-through example says %r" % said)
+
+
+def main():
+    words = argparse.ArgumentParser(usage=__doc__.split("usage: ")[1])
+    words.add_argument("--program", default=TOP + "/crates/foyerpipe/out/foyerpipe")
+    words.add_argument("--seed", type=int, default=1)
+    args = words.parse_args()
+    program = os.path.abspath(args.program)
+    room = tempfile.mkdtemp(prefix="foyerclients")
+    try:
+        library = room + "/client.so"
+        run(["cc", *WARNINGS, "-O2", "-fPIC", "-shared", CLIENTS + "/foyer_client.c", "-lpthread", "-o", library])
+        for kind in ("Python", "C"):
+            opened = opener(kind, program, library)
+            for case in CASES:
+                place = "%s/%s-%s" % (room, kind, case.__name__)
+                os.mkdir(place)
+                case(opened, random.Random(args.seed), place)
+                print("%s: %s" % (kind, case.__name__.replace("_", " ")), flush=True)
+        run_examples(program, room)
+        print("the examples: all held")
+    finally:
+        shutil.rmtree(room, ignore_errors=True)
+
+
+if __name__ == "__main__":
+    main()
