@@ -8,11 +8,13 @@
 
 Needs Python 3.8 or later and nothing else. Threads may share a Cache: each call waits for its own reply. docs/PIPE.md has the frames.
 """
+import asyncio
+import functools
 import struct
 import subprocess
 import tempfile
 import threading
-from concurrent.futures import Future
+from concurrent.futures import Future, ThreadPoolExecutor
 
 DONE, ENTRY, MISS, IGNORED, DELETED, THROTTLED, YES, NO = range(8)
 ERRORS = dict(enumerate("Io Memory Config Parse MagicMismatch ChecksumMismatch OutOfRange BufferSizeLimit NoSpace Recover Closed "
@@ -94,6 +96,7 @@ class Cache:
 
     def _send(self, kind, key=b"", value=b""):
         future = Future()
+        future.set_running_or_notify_cancel()  # a reply comes, also for a task that is cancelled
         with self._sending:
             with self._known:
                 if self._ended:
@@ -113,7 +116,10 @@ class Cache:
         return self._taken(self._send(kind, key, value))
 
     def _taken(self, future):
-        code, found = future.result()
+        return self._answered(*future.result())
+
+    @staticmethod
+    def _answered(code, found):
         if code in ERRORS:
             raise CacheError(ERRORS[code])
         if code == THROTTLED:
@@ -186,3 +192,66 @@ class Cache:
 
     def __exit__(self, *_):
         self.close()
+
+
+class AsyncCache:
+    """The same cache for asyncio, its calls awaited: `async with AsyncCache(program, directory, capacity) as cache`. Any number may be
+    under way at once; what one task asks for one after the other keeps its order."""
+
+    def __init__(self, *words, **options):
+        self._open = functools.partial(Cache, *words, **options)
+        self._thread = ThreadPoolExecutor(1)  # a pipe that is full would hold the loop
+
+    async def _run(self, call, *words):
+        return await asyncio.get_running_loop().run_in_executor(self._thread, call, *words)
+
+    async def _ask(self, kind, key=b"", value=b""):
+        future = await self._run(self._cache._send, kind, key, value)
+        return Cache._answered(*await asyncio.wrap_future(future))
+
+    async def put(self, key, value):
+        return (await self._ask(b"p", key, value))[0] == DONE
+
+    async def get(self, key):
+        code, found = await self._ask(b"g", key)
+        return found if code == ENTRY else None
+
+    async def get_or(self, key, make):
+        """As that of Cache; `make` is a coroutine function."""
+        try:
+            found = await self.get(key)
+        except CacheEnded:
+            raise
+        except CacheError:
+            found = None
+        if found is None:
+            found = await make(key)
+            await self.put(key, found)
+        return found
+
+    async def contains(self, key):
+        return (await self._ask(b"h", key))[0] == YES
+
+    async def delete(self, key):
+        await self._ask(b"d", key)
+
+    async def wait(self):
+        await self._ask(b"w")
+
+    async def destroy(self):
+        await self._ask(b"x")
+
+    async def counters(self):
+        return await self._run(self._cache.counters)
+
+    async def close(self):
+        status = await self._run(self._cache.close)
+        self._thread.shutdown()
+        return status
+
+    async def __aenter__(self):
+        self._cache = await self._run(self._open)
+        return self
+
+    async def __aexit__(self, *_):
+        await self.close()

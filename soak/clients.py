@@ -8,6 +8,7 @@ that share a cache; two caches of one process; bad words; a killed program; a ki
 usage: clients.py [--program FILE] [--seed N]
 """
 import argparse
+import asyncio
 import ctypes
 import os
 import random
@@ -256,6 +257,40 @@ def bad_words(opened, rnd, room):
     check(refused(CacheEnded, lambda: opened(":memory:", 1, 1 << 20)), "a capacity of 1 opens")
 
 
+def tasks_share(opened, rnd, room):
+    if opened.kind != "Python":
+        return
+    pairs = values(rnd, 500, [10, 5000])
+
+    async def ask():
+        async with foyer_client.AsyncCache(opened.program, ":memory:", 1 << 26, 1 << 20) as cache:
+            check(all(await asyncio.gather(*(cache.put(*it) for it in pairs.items()))), "tasks: a put isn't taken")
+            await cache.wait()
+            asked = [rnd.choice(list(pairs)) for _ in range(5000)]
+            check(await asyncio.gather(*map(cache.get, asked)) == [pairs[it] for it in asked], "tasks: a get differs")
+
+            for _ in range(300):
+                task = asyncio.ensure_future(cache.get(asked[0]))
+                await asyncio.sleep(rnd.random() / 2000)
+                task.cancel()
+            check(await asyncio.wait_for(cache.get(asked[0]), 60) == pairs[asked[0]], "tasks: a get after cancelled ones differs")
+
+            async def make(key):
+                return key * 2
+
+            check(await cache.get_or(b"new", make) == b"newnew" == await cache.get(b"new"), "tasks: get_or differs")
+            await cache.delete(b"new")
+            check(not await cache.contains(b"new") and (await cache.counters())["deletes"] > 0, "tasks: a delete does nothing")
+            os.kill(own_programs()[0], signal.SIGKILL)
+            try:
+                while True:
+                    await cache.get(asked[0])
+            except CacheEnded:
+                pass
+
+    asyncio.run(ask())
+
+
 def killed_program(opened, rnd, room):
     for i in range(10):
         cache = opened(room + "/killed", 1 << 24, 1 << 20)
@@ -307,7 +342,10 @@ def put_on(kind, program, place, library):
             cache.put(b"%d" % k, b"%d " % k * 100)
 
 
-CASES = [round_trips, thousands_at_once, reopenings, full_device, limits, threads_share, two_caches, bad_words, killed_program, killed_caller]
+CASES = [
+    round_trips, thousands_at_once, reopenings, full_device, limits, threads_share, tasks_share, two_caches, bad_words, killed_program,
+    killed_caller,
+]
 
 
 def opener(kind, program, library):
