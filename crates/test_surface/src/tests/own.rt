@@ -4,9 +4,9 @@ ghost use Rattle.std.specs.Prelude.{◌≡◌, ◌^◌};
 
 use foyer_storage::error::Result;
 use foyer_storage::{
-    Blanks, BlockEngineConfig, Built, DeviceBuilder, EngineConfig, EngineSizes, Enqueued,
+    Blanks, BlockEngineConfig, Built, DeviceBuilder, Engine, EngineConfig, EngineSizes, Enqueued,
     IdentityHashBuilder, Keeper, Kinds, Load, MemoryDeviceBuilder, MemoryIoEngine, Moment,
-    NoProperties, NoopEngineConfig, Recovering, SharedMemoryIoEngineConfig, StoreBuilder,
+    NoProperties, NoopEngineConfig, Recovering, SharedMemoryIoEngineConfig, Store, StoreBuilder,
 };
 use std::alloc::Global;
 use std::marker::Brand;
@@ -80,6 +80,25 @@ where
     }
 }
 
+/// A store reads back what was put, and closes.
+fn reads_back<S, N>(
+    rt: &impl Wait,
+    alloc: Global,
+    store: &Store<N, u64, String, NoProperties, IdentityHashBuilder>,
+    session: &mut S,
+) -> Result<bool>
+where
+    S: Drop,
+    N: Engine<S, u64, String, NoProperties>,
+{
+    let value = String::from_str(alloc, "a")?;
+    let _ = store.put(rt, alloc, session, 1, value, NoProperties, 0)?;
+    store.wait(rt, session)?;
+    let is_there = matches!(store.load(rt, session, &1, 0)?, Load::Entry { .. });
+    store.close(rt, session)?;
+    Ok(is_there)
+}
+
 /// A store of such a config reads back what was put.
 fn is_read_back<L, R>(rt: R, alloc: Global, blanks: Blanks) -> Result<bool>
 where
@@ -101,13 +120,9 @@ where
         Moment(0),
         0,
     )?;
-    let value = String::from_str(alloc, "a")?;
-    let _ = store.put(&rt, alloc, &mut session, 1, value, NoProperties, 0)?;
-    store.wait(&rt, &mut session)?;
-    let is_there = matches!(store.load(&rt, &mut session, &1, 0)?, Load::Entry { .. });
-    store.close(&rt, &mut session)?;
+    let is_there = reads_back(&rt, alloc, &store, &mut session);
     let _ = workers.join(&rt, session.into_steps());
-    Ok(is_there)
+    is_there
 }
 
 /// A store of such a config over one that keeps nothing ignores what is put.
