@@ -47,6 +47,16 @@ where
     Ok(answers_over::<L, R, _, _, _, _, _>(rt, alloc, blanks, builder, asked))
 }
 
+// What it answers, once it is built.
+fn opened<R: Threads + Wait + Files<File = File> + AllocGlobal + Copy + Send + Sync + 'static>(
+    rt: R,
+    alloc: Global,
+    path: &str,
+    asked: &Asked,
+) -> Result<Said> {
+    answers_of::<Brand, R>(rt, alloc, Blanks::new(1 << 32), path, asked)
+}
+
 /// Notes what a store over a file answers: its path, behind a comma what it is built over, and its script.
 pub(crate) fn say_filed<
     R: Threads + Wait + Files<File = File> + AllocGlobal + Copy + Send + Sync + 'static,
@@ -54,7 +64,7 @@ pub(crate) fn say_filed<
     let (place, script) = asked.split_once(" < ").unwrap_or((asked, ""));
     let (path, words) = place.split_once(", ").unwrap_or((place, ""));
     let asked = Asked::new(alloc, over_of(USUAL, words), script)?;
-    let answers = answers_of::<Brand, R>(rt, alloc, Blanks::new(1 << 32), path, &asked)?.text()?;
+    let answers = opened(rt, alloc, path, &asked)?.text()?;
     said.word(answers.as_str());
     Ok(())
 }
