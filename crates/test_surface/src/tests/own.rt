@@ -4,13 +4,11 @@ ghost use Rattle.std.specs.Prelude.{◌≡◌, ◌^◌};
 
 use foyer_storage::error::Result;
 use foyer_storage::{
-    Blanks, BlockEngineConfig, Built, DeviceBuilder, Engine, EngineConfig, EngineSizes, Enqueued,
-    IdentityHashBuilder, Keeper, Kinds, Load, MemoryDeviceBuilder, MemoryIoEngine, Moment,
-    NoProperties, NoopEngineConfig, Recovering, SharedMemoryIoEngineConfig, Store, StoreBuilder,
+    Blanks, Built, EngineConfig, EngineSizes, Enqueued, IdentityHashBuilder, Keeper, Kinds, Moment,
+    NoProperties, NoopEngineConfig, Recovering, StoreBuilder,
 };
 use std::alloc::Global;
 use std::marker::Brand;
-use std::rt::Files;
 use std::sync::{Arc, Wait};
 use std::test::Fail;
 use std::thread::Threads;
@@ -80,51 +78,6 @@ where
     }
 }
 
-/// A store reads back what was put, and closes.
-fn reads_back<S, N>(
-    rt: &impl Wait,
-    alloc: Global,
-    store: &Store<N, u64, String, NoProperties, IdentityHashBuilder>,
-    session: &mut S,
-) -> Result<bool>
-where
-    S: Drop,
-    N: Engine<S, u64, String, NoProperties>,
-{
-    let value = String::from_str(alloc, "a")?;
-    let _ = store.put(rt, alloc, session, 1, value, NoProperties, 0)?;
-    store.wait(rt, session)?;
-    let is_there = matches!(store.load(rt, session, &1, 0)?, Load::Entry { .. });
-    store.close(rt, session)?;
-    Ok(is_there)
-}
-
-/// A store of such a config reads back what was put.
-fn is_read_back<L, R>(rt: R, alloc: Global, blanks: Blanks) -> Result<bool>
-where
-    L: Kinds + Send + Sync + 'static,
-    R: Threads + Wait + Files + Copy + Send + 'static,
-    requires { AreOf L.name_of L.all blanks × (L.all ≡ 2 ^ 32) }
-{
-    let device = MemoryDeviceBuilder::new(65536).build(&rt, alloc, 0)?;
-    let mut memory = MemoryIoEngine::new(alloc);
-    memory.add_file(alloc, 65536)?;
-    let inner = BlockEngineConfig::new(device).with_block_size(16384);
-    let builder = StoreBuilder::new("own", IdentityHashBuilder, 4)
-        .with_engine_config(Named { inner })
-        .with_io_engine_config(SharedMemoryIoEngineConfig::new(alloc, memory)?);
-    let (store, mut session, workers) = builder.build::<R, Moment, L, u64, String, NoProperties>(
-        rt,
-        alloc,
-        blanks,
-        Moment(0),
-        0,
-    )?;
-    let is_there = reads_back(&rt, alloc, &store, &mut session);
-    let _ = workers.join(&rt, session.into_steps());
-    is_there
-}
-
 /// A store of such a config over one that keeps nothing ignores what is put.
 fn is_ignored<L, R>(rt: R, alloc: Global, blanks: Blanks) -> Result<bool>
 where
@@ -168,13 +121,6 @@ fn planned(sizes: EngineSizes, free: usize) -> Option<u32> {
 
 #[test]
 fn a_config_of_a_callers_own_builds_a_store(rt: HostRuntime) -> std::result::Result<(), Fail> {
-    let blanks = Blanks::new(1 << 32);
-    assert!(rt; is_read_back::<Brand, HostRuntime>(rt, rt.alloc(), blanks)?);
-    Ok(())
-}
-
-#[test]
-fn and_one_that_keeps_nothing(rt: HostRuntime) -> std::result::Result<(), Fail> {
     let blanks = Blanks::new(1 << 32);
     assert!(rt; is_ignored::<Brand, HostRuntime>(rt, rt.alloc(), blanks)?);
     Ok(())
