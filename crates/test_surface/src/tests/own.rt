@@ -120,7 +120,7 @@ fn planned(sizes: EngineSizes, free: usize) -> Option<u32> {
 }
 
 #[test]
-fn a_config_of_a_callers_own_builds_a_store(rt: HostRuntime) -> std::result::Result<(), Fail> {
+fn and_one_that_keeps_nothing(rt: HostRuntime) -> std::result::Result<(), Fail> {
     let blanks = Blanks::new(1 << 32);
     assert!(rt; is_ignored::<Brand, HostRuntime>(rt, rt.alloc(), blanks)?);
     Ok(())
