@@ -8,7 +8,6 @@ mod counted;
 mod counts;
 mod dials;
 mod faults;
-mod files;
 mod gates;
 mod limits;
 mod memories;

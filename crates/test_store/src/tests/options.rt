@@ -85,12 +85,6 @@ device combined, clean 0 < device, put 1 a, put 2 b, put 3 c, put 4 d, put 5 e, 
 device combined, blocks 3 < device | has 49152 gave 32768 in 2
 device combined, log, clean 0 < device, put 1 a, wait, del 1, wait, counts written / get 1, counts read | has 65536 gave 53248 in 4, queued, ok, ok, ok, wrote 12288 in 3 / miss, read 20480 in 5
 device combined, write-bytes 4096 < put 1 a, wait, judge 2 | queued, ok, throttled 2000
-a file keeps its blocks and its log
-file blocks, blocks 2, clean 0, log < device, put 1 a, put 2 b, wait, del 1, wait, get 1, get 2, name | has 36864 gave 36864 in 3, queued, queued, ok, ok, ok, miss, entry b, file
-file blocks, blocks 2, clean 0, log < get 1, get 2, put 3 c, wait, get 3, counts read | miss, entry b, queued, ok, entry c, read 24576 in 6
-file blocks, blocks 2, clean 0, log < get 1, get 2, get 3, destroy, get 2 | miss, entry b, entry c, ok, miss
-file blocks, blocks 2, clean 0, log < get 2, get 3, counts read | miss, miss, read 12288 in 3
-unlink blocks | yes
 ";
 
 #[test]

@@ -1,6 +1,5 @@
 //! Rows of text: what a store, or the program over one, is asked, and what it answers.
 use crate::tests::configs::opened;
-use crate::tests::files::say_filed;
 use crate::tests::memories::SameMemory;
 use crate::tests::over::{USUAL, over_of};
 use crate::tests::programs::{say_broken, say_file, say_forged, say_served};
@@ -276,7 +275,6 @@ fn say_row<
         "disk" => say_served(rt, alloc, said, rest, true),
         "unended" => say_served(rt, alloc, said, rest, false),
         "broken" => say_broken(rt, alloc, said, rest),
-        "file" => say_filed(rt, alloc, said, rest),
         "forge" => say_forged(&rt, alloc, said, rest),
         "make" | "touch" | "unlink" | "remove" | "length" => {
             say_file(&rt, said, word, rest);
