@@ -1,17 +1,13 @@
 -- The blocks by their ids, when one of them changes.
-use Rattle.std.proofs.Common.{◌≡◌, ◌≢◌, ℕ, zero, suc, ◌+◌, ◌<◌, ◌≤◌, ◌==◌, nat_lt, ◌||◌, Bool, true, false, if◌then◌else◌, List, [], ◌∷◌, ◌++◌, length, Option, Some, None, slice_get, slice_set, slice_index, slice_index_or, refl, sym, ap, subst, ◌∙◌, arith, add_comm}
+use Rattle.std.proofs.Common.{◌≡◌, ℕ, zero, suc, ◌+◌, ◌<◌, ◌≤◌, ◌==◌, nat_lt, ◌||◌, Bool, true, false, if◌then◌else◌, List, [], ◌∷◌, ◌++◌, length, Option, Some, None, slice_get, slice_set, refl, sym, ap, subst, ◌∙◌, arith, add_comm}
 use Rattle.std.proofs.Common.{inl, inr}
-use Rattle.std.proofs.lemmas.Bool.{eqb-true, eqb-false, eq-eqb, ne_eqb}
+use Rattle.std.proofs.lemmas.Bool.{eqb-true, eqb-false, ne_eqb}
 use Rattle.std.proofs.lemmas.Bool.Decides.{nat_tests}
-use Rattle.std.proofs.lemmas.Option.{slice_get_read, slice_get_past}
-use Rattle.foyer_core_model.specs.Flush.{first_usable, usable_count}
+use Rattle.foyer_core_model.specs.Flush.{usable_count}
 use Rattle.foyer_core_model.specs.Ids.{is_id_in, without_id, AreDistinct}
-use Rattle.foyer_core_model.specs.Numbers.{put, last_number}
-use Rattle.foyer_core_model.specs.State as model_state
-use Rattle.foyer_core_model.proofs.Basics.{put_same, put_other}
-use Rattle.foyer_core_model.proofs.Ids.{in_without, not_in_cases, same_in, later_in, in_not_in, in_append, in_front, in_last}
-use Rattle.foyer_block_manager.specs.Managed.{is_clean, is_evictable, is_reclaiming, filling_of, filling_in, reclaim_count_in, one_if}
-use Rattle.foyer_block_manager.specs.BlockSets.{IsBlockAs, is_reclaimed, reclaim_count}
+use Rattle.foyer_core_model.specs.Numbers.{last_number}
+use Rattle.foyer_core_model.proofs.Ids.{in_without, not_in_cases, same_in, later_in, in_append, in_front, in_last}
+use Rattle.foyer_block_manager.specs.Managed.{is_reclaiming, reclaim_count_in, one_if}
 use Rattle.foyer_block_manager.specs.declared.block.states.BlockState.{BlockState}
 use Rattle.foyer_block_manager.proofs.IdLemmas.{same_test, not_true}
 

@@ -6,7 +6,7 @@ use Rattle.std.proofs.lemmas.List.{at_drop_more, at_drop_all, append-nil}
 use Rattle.std.specs.Option.{option_map}
 use Rattle.foyer_core_model.specs.Destroy.{vacated, refilled}
 use Rattle.foyer_core_model.specs.Flush.{usable_count}
-use Rattle.foyer_core_model.specs.Ids.{is_id_in, AreDistinct}
+use Rattle.foyer_core_model.specs.Ids.{is_id_in}
 use Rattle.foyer_core_model.specs.Numbers.{put, plus, last_number}
 use Rattle.foyer_core_model.specs.State as model_state
 use Rattle.foyer_core_model.proofs.Basics.{put_same, put_other}

@@ -1,11 +1,11 @@
 -- Ids and where they stand.
-use Rattle.std.proofs.Common.{◌≡◌, ℕ, zero, suc, ◌+◌, ◌<◌, ◌≤◌, ◌≢◌, ◌==◌, Bool, true, false, ◌||◌, if◌then◌else◌, List, [], ◌∷◌, ◌++◌, length, length-append, length-set, slice_index, slice_set, ◌⊎◌, inl, inr, refl, sym, ap, subst, ◌∙◌, arith}
+use Rattle.std.proofs.Common.{◌≡◌, ℕ, zero, suc, ◌+◌, ◌<◌, ◌≤◌, ◌≢◌, ◌==◌, Bool, true, false, ◌||◌, if◌then◌else◌, List, [], ◌∷◌, ◌++◌, length, length-append, length-set, slice_index, slice_set, refl, sym, ap, subst, ◌∙◌, arith}
 use Rattle.std.proofs.Common.{get_or-set_other, get_or-set_same}
-use Rattle.std.proofs.lemmas.Bool.{eqb-true, eqb-false, eq-eqb, ne_eqb}
+use Rattle.std.proofs.lemmas.Bool.{eqb-true, eqb-false, ne_eqb}
 use Rattle.std.proofs.Math.ListN.{get_or-append}
 use Rattle.std.proofs.Math.Seq.{get_or-append_seam}
 use Rattle.foyer_core_model.specs.Ids.{is_id_in, without_id, AreDistinct}
-use Rattle.foyer_core_model.proofs.Ids.{same_in, later_in, in_cases, not_in_cases, not_in_both, in_not_in, not_in_without, in_append}
+use Rattle.foyer_core_model.proofs.Ids.{same_in, later_in, not_in_cases, in_not_in, not_in_without}
 use Rattle.foyer_block_manager.specs.IdList.{IdList, AreStored, IsWithout}
 
 -- each is below n

@@ -10,16 +10,16 @@ use Rattle.foyer_core_model.specs.Ids.{ids, is_id_in, AreDistinct}
 use Rattle.foyer_core_model.specs.Numbers.{put, last_number}
 use Rattle.foyer_core_model.specs.State as model_state
 use Rattle.foyer_core_model.proofs.Basics.{put_same, put_other}
-use Rattle.foyer_core_model.proofs.Ids.{same_in, later_in, in_cases, in_append, distinct_append, distinct_front, in_not_in}
+use Rattle.foyer_core_model.proofs.Ids.{same_in, later_in, in_append, distinct_append, distinct_front, in_not_in}
 use Rattle.foyer_block_manager.specs.BlockSets.{BlockSets, Stands, IsBlockAs, HasSameRules}
 use Rattle.foyer_block_manager.specs.IdList.{IdList, IsWithout}
 use Rattle.foyer_block_manager.specs.Initial.{new_block, CanBeClean, with_clean}
-use Rattle.foyer_block_manager.specs.Managed.{Managed, IsKept, is_clean, is_evictable, is_evictable_set, is_reclaiming, is_reclaiming_set, one_if, filling_of, filling_in, reclaim_count_in}
+use Rattle.foyer_block_manager.specs.Managed.{Managed, IsKept, is_clean, is_evictable, is_evictable_set, is_reclaiming, one_if, filling_of, filling_in, reclaim_count_in}
 use Rattle.foyer_block_manager.specs.Pickers.{is_evictable_in}
 use Rattle.foyer_block_manager.specs.Queues.{AreFlagged}
 use Rattle.foyer_block_manager.specs.declared.block.states.BlockState.{BlockState}
 use Rattle.foyer_block_manager.specs.declared.block.states.BlockSet.TheVariants.{Clean}
-use Rattle.foyer_block_manager.proofs.BlockStateLemmas.{set_here, there_is, some_is, append_test, usable_more, reclaimed_same}
+use Rattle.foyer_block_manager.proofs.BlockStateLemmas.{set_here, there_is, some_is, append_test, usable_more}
 use Rattle.foyer_block_manager.proofs.IdLemmas.{in_at}
 use Rattle.foyer_block_manager.proofs.ManagedLemmas.{kept_changed, counts_same}
 use Rattle.foyer_block_manager.proofs.MarkLemmas.{not_clean, not_reclaiming}

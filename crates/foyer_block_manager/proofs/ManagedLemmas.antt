@@ -1,14 +1,13 @@
 -- What a manager keeps, when it changes.
-use Rattle.std.proofs.Common.{◌≡◌, ◌≢◌, ℕ, zero, suc, ◌+◌, ◌-◌, ◌<◌, ◌≤◌, ◌^◌, ◌==◌, nat_lt, Bool, true, false, if◌then◌else◌, List, [], ◌∷◌, ◌++◌, length, Option, Some, None, slice_get, slice_set, slice_index, refl, sym, ap, subst, ◌∙◌, inl, inr, arith}
-use Rattle.std.specs.List.{remove}
-use Rattle.std.proofs.lemmas.Bool.{eqb-true, eqb-false}
+use Rattle.std.proofs.Common.{◌≡◌, ℕ, ◌+◌, ◌-◌, ◌<◌, ◌≤◌, ◌^◌, ◌==◌, nat_lt, Bool, true, false, if◌then◌else◌, List, [], ◌∷◌, ◌++◌, length, Option, Some, None, slice_get, slice_set, slice_index, refl, sym, ap, subst, ◌∙◌, inl, inr, arith}
+use Rattle.std.proofs.lemmas.Bool.{eqb-true}
 use Rattle.std.proofs.lemmas.Bool.Decides.{nat_tests}
 use Rattle.std.proofs.lemmas.Option.{slice_get_past}
-use Rattle.foyer_core_model.specs.Flush.{first_usable, usable_count}
+use Rattle.foyer_core_model.specs.Flush.{usable_count}
 use Rattle.foyer_core_model.specs.Ids.{is_id_in, with_id, without_id, AreDistinct}
 use Rattle.foyer_core_model.specs.Numbers.{last_number}
 use Rattle.foyer_core_model.proofs.Ids.{same_in, later_in, in_without, distinct_without, in_with, distinct_with, distinct_append, distinct_front, in_front, in_last}
-use Rattle.foyer_block_manager.specs.IdList.{IdList, IsWithout}
+use Rattle.foyer_block_manager.specs.IdList.{IdList}
 use Rattle.foyer_block_manager.specs.Managed.{is_clean_set, is_evictable_set, is_reclaiming_set, IsKept, IsFirstUsable, IsTaken, AllBelow, is_clean, is_evictable, is_reclaiming, one_if, filling_of, filling_in, reclaim_count_in}
 use Rattle.foyer_block_manager.specs.declared.block.states.BlockState.{BlockState}
 use Rattle.foyer_block_manager.specs.declared.block.states.BlockSet.{BlockSet}

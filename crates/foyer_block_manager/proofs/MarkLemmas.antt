@@ -1,17 +1,14 @@
 -- Blocks that are put on probation, and one that is chosen for a reclaim.
-use Rattle.std.proofs.Common.{◌≡◌, ◌≢◌, ℕ, zero, suc, ◌+◌, ◌<◌, ◌≤◌, ◌^◌, ◌==◌, nat_lt, Bool, true, false, ◌&&◌, ◌||◌, if◌then◌else◌, List, [], ◌∷◌, ◌++◌, length, Option, Some, None, slice_get, slice_set, slice_index_or, MatchOption, refl, sym, ap, subst, ◌∙◌, arith}
-use Rattle.std.proofs.lemmas.Bool.{eqb-true, eqb-false, eq-eqb, ne_eqb}
-use Rattle.std.proofs.lemmas.Bool.Decides.{nat_tests}
+use Rattle.std.proofs.Common.{◌≡◌, ℕ, zero, suc, ◌<◌, ◌^◌, Bool, true, false, if◌then◌else◌, List, [], ◌∷◌, length, Option, Some, None, slice_get, slice_set, slice_index_or, MatchOption, refl, sym, ap, subst, ◌∙◌, arith}
 use Rattle.std.proofs.lemmas.Option.{slice_get_read}
-use Rattle.foyer_core_model.specs.Flush.{usable_count}
 use Rattle.foyer_core_model.specs.Ids.{is_id_in}
 use Rattle.foyer_core_model.specs.Numbers.{put}
 use Rattle.foyer_core_model.specs.Reclaim as model_reclaim
 use Rattle.foyer_core_model.specs.State as model_state
 use Rattle.foyer_core_model.proofs.Basics.{put_same, put_other}
-use Rattle.foyer_block_manager.specs.IdList.{IdList, IsWithout}
+use Rattle.foyer_block_manager.specs.IdList.{IdList}
 use Rattle.foyer_block_manager.specs.Managed.{Managed, IsKept, is_clean, is_clean_set, is_evictable, is_evictable_set, is_reclaiming, is_reclaiming_set, one_if, filling_of, filling_in, reclaim_count_in}
-use Rattle.foyer_block_manager.specs.Pickers.{Answer, is_pick, is_evictable_in, answers_given, pick_of}
+use Rattle.foyer_block_manager.specs.Pickers.{Answer, is_pick, pick_of}
 use Rattle.foyer_block_manager.specs.Picks.{on_probation, with_mark_at, with_marks}
 use Rattle.foyer_block_manager.specs.BlockSets.{BlockSets, Stands, IsBlockAs, model_set}
 use Rattle.foyer_block_manager.specs.declared.block.states.BlockState.{BlockState}

@@ -1,6 +1,6 @@
 -- When a reclaim may begin.
-use Rattle.std.proofs.Common.{◌≡◌, ◌≢◌, ℕ, zero, suc, ◌+◌, ◌<◌, ◌≤◌, ◌==◌, nat_lt, Bool, true, false, not, ◌&&◌, ◌||◌, List, [], ◌∷◌, length, Option, Some, None, slice_get, slice_index, ◌⊎◌, inl, inr, refl, sym, ap, subst, ◌∙◌, arith}
-use Rattle.std.proofs.lemmas.Bool.{eqb-true, eqb-false, eq-eqb, ne_eqb}
+use Rattle.std.proofs.Common.{◌≡◌, ◌≢◌, ℕ, ◌<◌, ◌≤◌, ◌==◌, nat_lt, Bool, true, false, not, ◌&&◌, ◌||◌, List, [], ◌∷◌, length, Option, Some, None, slice_get, ◌⊎◌, inl, inr, refl, sym, ap, subst, ◌∙◌, arith}
+use Rattle.std.proofs.lemmas.Bool.{eqb-false, ne_eqb}
 use Rattle.std.proofs.lemmas.Bool.Decides.{nat_tests}
 use Rattle.foyer_core_model.specs.Flush.{usable_count}
 use Rattle.foyer_core_model.specs.Ids.{is_id_in}
@@ -9,7 +9,7 @@ use Rattle.foyer_core_model.proofs.Ids.{same_in}
 use Rattle.foyer_block_manager.specs.IdList.{IdList}
 use Rattle.foyer_block_manager.specs.Managed.{Managed, IsKept, is_evictable, is_evictable_set, filling_in}
 use Rattle.foyer_block_manager.specs.Picks.{allows}
-use Rattle.foyer_block_manager.specs.BlockSets.{BlockSets, Stands, IsBlockAs, MayReclaim, reclaim_count, model_set}
+use Rattle.foyer_block_manager.specs.BlockSets.{BlockSets, Stands, MayReclaim, reclaim_count, model_set}
 use Rattle.foyer_block_manager.specs.declared.block.states.BlockState.{BlockState}
 use Rattle.foyer_block_manager.specs.declared.block.states.BlockSet.{BlockSet}
 use Rattle.foyer_block_manager.specs.declared.block.states.BlockSet.TheVariants.{Clean, Writing, Evictable, Reclaiming}

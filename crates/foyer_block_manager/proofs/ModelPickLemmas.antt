@@ -1,10 +1,9 @@
 -- What pickers answer, as the model judges it.
-use Rattle.std.proofs.Common.{◌≡◌, ℕ, zero, suc, ◌+◌, ◌<◌, ◌≤◌, ◌==◌, nat_lt, Bool, true, false, ◌&&◌, ◌||◌, if◌then◌else◌, List, [], ◌∷◌, length, Option, Some, None, slice_get, refl, sym, ap, subst, ◌∙◌, arith}
-use Rattle.std.proofs.lemmas.Bool.{eq-eqb}
+use Rattle.std.proofs.Common.{◌≡◌, ℕ, suc, ◌<◌, ◌≤◌, ◌==◌, nat_lt, Bool, true, false, ◌&&◌, ◌||◌, if◌then◌else◌, List, [], ◌∷◌, length, Option, Some, None, slice_get, refl, sym, ap, ◌∙◌, arith}
 use Rattle.std.proofs.lemmas.Bool.Decides.{nat_tests}
 use Rattle.std.proofs.lemmas.Option.{slice_get_past}
 use Rattle.foyer_core_model.specs.Reclaim as model_reclaim
-use Rattle.foyer_block_manager.specs.Managed.{Managed, is_evictable, is_evictable_set}
+use Rattle.foyer_block_manager.specs.Managed.{Managed, is_evictable}
 use Rattle.foyer_block_manager.specs.Pickers.{Answer, is_pick, answers_given, pick_of}
 use Rattle.foyer_block_manager.specs.ModelPicks.{MatchTheModel}
 use Rattle.foyer_block_manager.specs.BlockSets.{BlockSets, Stands}

@@ -1,14 +1,13 @@
 -- Queues of ids.
-use Rattle.std.proofs.Common.{◌≡◌, ◌≢◌, ℕ, zero, suc, ◌+◌, ◌<◌, ◌≤◌, ◌==◌, nat_lt, nat_le, Bool, true, false, not, ◌&&◌, ◌||◌, if◌then◌else◌, List, [], ◌∷◌, ◌++◌, length, take, drop, replicate, Option, Some, None, slice_get, slice_set, slice_index, slice_index_or, refl, sym, ap, subst, ◌∙◌, inl, inr, arith}
+use Rattle.std.proofs.Common.{◌≡◌, ℕ, zero, suc, ◌+◌, ◌<◌, ◌≤◌, ◌==◌, nat_lt, nat_le, Bool, true, false, not, ◌&&◌, ◌||◌, if◌then◌else◌, List, [], ◌∷◌, ◌++◌, length, take, drop, replicate, Some, None, slice_get, slice_set, slice_index, refl, sym, ap, subst, ◌∙◌, inl, inr, arith}
 use Rattle.std.specs.List.{filter}
-use Rattle.std.proofs.lemmas.Bool.{eqb-true, eqb-false, eq-eqb, ne_eqb}
+use Rattle.std.proofs.lemmas.Bool.{eqb-true, eqb-false}
 use Rattle.std.proofs.lemmas.Bool.Decides.{nat_tests}
 use Rattle.std.proofs.lemmas.List.{take_more}
 use Rattle.std.proofs.lemmas.List.Elements.{filter-append}
 use Rattle.foyer_core_model.specs.Ids.{is_id_in, without_id, AreDistinct}
-use Rattle.foyer_core_model.proofs.Ids.{same_in, later_in, in_cases, not_in_cases, distinct_append, distinct_without, distinct_front, in_front}
-use Rattle.foyer_block_manager.specs.Managed.{is_evictable}
-use Rattle.foyer_block_manager.specs.Pickers.{is_evictable_in, Fifo, fifo_with}
+use Rattle.foyer_core_model.proofs.Ids.{same_in, later_in, in_cases, distinct_append, distinct_without}
+use Rattle.foyer_block_manager.specs.Pickers.{is_evictable_in, fifo_with}
 use Rattle.foyer_block_manager.specs.Queues.{Queued, queued_with, AreFlagged, fifo_of}
 use Rattle.foyer_block_manager.specs.declared.block.states.BlockState.{BlockState}
 use Rattle.foyer_block_manager.proofs.BlockStateLemmas.{some_is, set_here, set_there, set_count, there_is, without_test, append_test}

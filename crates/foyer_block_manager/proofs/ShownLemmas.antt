@@ -1,5 +1,5 @@
 -- Pickers that are shown a block, one after the other.
-use Rattle.std.proofs.Common.{◌≡◌, ℕ, zero, suc, ◌+◌, ◌<◌, ◌≤◌, List, [], ◌∷◌, length, take, drop, slice_set, slice_index_or, refl, sym, ap, subst, add-one, arith, ◌++◌, ◌∙◌, Bool, IsTrue, true, false, slice_get, if◌then◌else◌}
+use Rattle.std.proofs.Common.{◌≡◌, ℕ, zero, suc, ◌+◌, ◌<◌, ◌≤◌, List, [], ◌∷◌, length, take, drop, slice_set, slice_index_or, refl, sym, subst, add-one, arith, ◌++◌, Bool, IsTrue, true, false, slice_get, if◌then◌else◌}
 use Rattle.foyer_block_manager.specs.Pickers.{Info}
 use Rattle.foyer_block_manager.specs.Managed.{IsWritten, Managed, is_evictable, is_writing}
 use Rattle.foyer_block_manager.specs.Shown.{AreChanged, AreShown, AreShownAll, evictable_below, written_at, written_below}

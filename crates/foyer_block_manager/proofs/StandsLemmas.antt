@@ -1,5 +1,5 @@
 -- The sets that a manager stands for, when it changes.
-use Rattle.std.proofs.Common.{◌≡◌, ℕ, zero, suc, ◌+◌, ◌<◌, ◌≤◌, ◌==◌, nat_lt, Bool, true, false, if◌then◌else◌, List, ◌++◌, [], ◌∷◌, length, Option, Some, None, slice_get, slice_set, slice_index, ◌⊎◌, inl, inr, refl, sym, ap, subst, ◌∙◌, arith}
+use Rattle.std.proofs.Common.{◌≡◌, ℕ, zero, suc, ◌+◌, ◌<◌, ◌≤◌, ◌==◌, nat_lt, Bool, true, false, if◌then◌else◌, List, ◌++◌, [], ◌∷◌, length, Option, Some, None, slice_get, slice_set, ◌⊎◌, inl, inr, refl, sym, ap, subst, ◌∙◌, arith}
 use Rattle.std.proofs.lemmas.Bool.{eqb-true, eqb-false}
 use Rattle.foyer_core_model.specs.Flush.{first_usable}
 use Rattle.foyer_core_model.specs.Ids.{is_id_in, with_id, without_id, AreDistinct}
@@ -11,9 +11,9 @@ use Rattle.foyer_block_manager.specs.declared.block.states.BlockSet.TheVariants.
 use Rattle.foyer_block_manager.specs.declared.block.states.BlockSet.{BlockSet}
 use Rattle.foyer_core_model.proofs.Basics.{put_same, put_other}
 use Rattle.foyer_block_manager.specs.Managed.{Managed, one_if, is_reclaiming, is_reclaiming_set, reclaim_count_in, IsTaken, IsFirstUsable, is_clean, filling_of, filling_in}
-use Rattle.foyer_block_manager.specs.BlockSets.{BlockSets, Stands, IsBlockAs, HasSameRules, with_ready, after_hand_out, HasFinished, after_writing, model_set, is_reclaimed, reclaim_count}
+use Rattle.foyer_block_manager.specs.BlockSets.{BlockSets, Stands, IsBlockAs, with_ready, after_hand_out, HasFinished, after_writing, model_set, is_reclaimed, reclaim_count}
 use Rattle.foyer_block_manager.specs.declared.block.states.BlockState.{BlockState}
-use Rattle.foyer_block_manager.proofs.BlockStateLemmas.{set_here, set_there, set_count, some_is, there_is, is_there}
+use Rattle.foyer_block_manager.proofs.BlockStateLemmas.{set_here, set_there, some_is, there_is, is_there}
 
 -- the blocks are as the model has them
 abbrev pub AreAs : List BlockState → (ℕ → model_state.BlockSet) → (ℕ → ℕ) → (ℕ → model_state.Stats) → Type 0

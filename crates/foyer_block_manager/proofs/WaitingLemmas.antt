@@ -1,5 +1,5 @@
 -- Clean blocks and waiting flushers, as the model has them.
-use Rattle.std.proofs.Common.{◌≡◌, ℕ, zero, suc, ◌+◌, ◌<◌, ◌≤◌, ◌==◌, nat_lt, Bool, true, false, not, ◌||◌, if◌then◌else◌, List, [], ◌∷◌, length, drop, Option, Some, None, slice_index, refl, sym, ap, subst, ◌∙◌, arith}
+use Rattle.std.proofs.Common.{◌≡◌, ℕ, zero, suc, ◌+◌, ◌<◌, ◌≤◌, ◌==◌, nat_lt, Bool, true, false, not, ◌||◌, if◌then◌else◌, List, [], ◌∷◌, length, drop, Some, None, slice_index, refl, sym, ap, subst, ◌∙◌, arith}
 use Rattle.std.specs.List.{list_any, filter, remove, items_where_true}
 use Rattle.std.specs.List.Retain.{ReturnsInTurn, IsFiltered}
 use Rattle.std.proofs.lemmas.Bool.{eqb-true, eqb-false, eq-eqb, ne_eqb}
@@ -8,7 +8,7 @@ use Rattle.std.proofs.lemmas.List.{at_drop_more, at_drop_all}
 use Rattle.foyer_core_model.specs.Flush.{first_usable}
 use Rattle.foyer_core_model.specs.Ids.{is_id_in, without_id, AreDistinct}
 use Rattle.foyer_core_model.specs.Numbers.{last_number}
-use Rattle.foyer_core_model.proofs.Ids.{distinct_without, not_in_cases, same_in, later_in, in_not_in}
+use Rattle.foyer_core_model.proofs.Ids.{not_in_cases, same_in, later_in, in_not_in}
 
 -- the first of a list, tested
 usable_now : (F : ℕ → ℕ) (x : ℕ) (xs : List ℕ) → F x < last_number → first_usable F (x ∷ xs) ≡ Some x

@@ -2,7 +2,7 @@
 use Rattle.std.specs.Prelude.{◌≡◌, ◌≢◌, ℕ, zero, suc, ◌+◌, ◌<◌, ◌≤◌, ◌⊎◌, Bool, true, false, if◌then◌else◌, List, [], ◌∷◌, ◌++◌, length, Option, Some, None, slice_get}
 use Rattle.foyer_core_model.specs.Flush.{first_usable, usable_count}
 use Rattle.foyer_core_model.specs.Ids.{is_id_in, with_id, without_id}
-use Rattle.foyer_core_model.specs.Numbers.{put, plus, last_number}
+use Rattle.foyer_core_model.specs.Numbers.{put, last_number}
 use Rattle.foyer_core_model.specs.State as model_state
 use Rattle.foyer_block_manager.specs.Managed.{Managed, one_if}
 use Rattle.foyer_block_manager.specs.declared.block.states.BlockState.{BlockState}

@@ -1,5 +1,5 @@
 -- What a destroy does to the sets.
-use Rattle.std.specs.Prelude.{ℕ, Bool, true, false, nat_lt, if◌then◌else◌, List, Option, None, map}
+use Rattle.std.specs.Prelude.{ℕ, true, nat_lt, if◌then◌else◌, None}
 use Rattle.foyer_core_model.specs.Destroy.{vacated, refilled}
 use Rattle.foyer_core_model.specs.Numbers.{plus}
 use Rattle.foyer_core_model.specs.State as model_state

@@ -1,5 +1,5 @@
 -- Ids below a bound, and where each of them stands.
-use Rattle.std.specs.Prelude.{◌≡◌, ℕ, ◌+◌, ◌<◌, ◌≤◌, ◌^◌, ◌==◌, Bool, false, if◌then◌else◌, List, length, slice_index}
+use Rattle.std.specs.Prelude.{◌≡◌, ℕ, ◌<◌, ◌≤◌, ◌^◌, ◌==◌, false, if◌then◌else◌, List, length, slice_index}
 use Rattle.foyer_core_model.specs.Ids.{is_id_in}
 
 -- the ids in their order, and the bound below which they are

@@ -1,5 +1,5 @@
 -- How a manager begins.
-use Rattle.std.specs.Prelude.{◌≡◌, ℕ, Bool, true, false, if◌then◌else◌, List, [], ◌++◌, length, replicate, Option, None, slice_get}
+use Rattle.std.specs.Prelude.{◌≡◌, ℕ, true, false, if◌then◌else◌, List, [], ◌++◌, replicate, None, slice_get}
 use Rattle.foyer_core_model.specs.Ids.{ids, is_id_in, AreDistinct}
 use Rattle.foyer_core_model.specs.State as model_state
 use Rattle.foyer_block_manager.specs.BlockSets.{BlockSets}

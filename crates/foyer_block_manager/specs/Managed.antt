@@ -1,5 +1,5 @@
 -- What a manager of blocks has, and what it keeps of it.
-use Rattle.std.specs.Prelude.{◌≡◌, ℕ, suc, zero, ◌+◌, ◌<◌, ◌≤◌, ◌^◌, Bool, true, false, if◌then◌else◌, List, length, Option, Some, None, slice_get, slice_set, slice_index}
+use Rattle.std.specs.Prelude.{◌≡◌, ℕ, suc, zero, ◌+◌, ◌<◌, ◌≤◌, ◌^◌, Bool, true, false, List, length, Option, Some, None, slice_get, slice_set, slice_index}
 use Rattle.std.specs.List.{remove}
 use Rattle.foyer_core_model.specs.Flush.{first_usable, usable_count}
 use Rattle.foyer_core_model.specs.Ids.{is_id_in, AreDistinct}

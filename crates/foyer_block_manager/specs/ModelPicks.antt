@@ -1,5 +1,5 @@
 -- What pickers answer, as the model judges it.
-use Rattle.std.specs.Prelude.{◌≡◌, ℕ, true, List, length}
+use Rattle.std.specs.Prelude.{◌≡◌, true, List, length}
 use Rattle.foyer_core_model.specs.Reclaim.{first_pick, are_asked}
 use Rattle.foyer_block_manager.specs.Managed.{Managed}
 use Rattle.foyer_block_manager.specs.Pickers.{Answer, answers_given, pick_of}

@@ -1,5 +1,5 @@
 -- The statistics of a block.
-use Rattle.std.specs.Prelude.{◌≡◌, ℕ, false, List, Option, Some, None, slice_set}
+use Rattle.std.specs.Prelude.{ℕ, false, List, Option, Some, None, slice_set}
 use Rattle.foyer_core_model.specs.Numbers.{put, plus}
 use Rattle.foyer_core_model.specs.State as model_state
 use Rattle.foyer_block_manager.specs.BlockSets.{BlockSets}

@@ -37,8 +37,8 @@ impl StorageFilterCondition for BuiltInCondition {
 pub enum AnyCondition {
     /// One of this crate.
     BuiltIn(BuiltInCondition),
-    /// One of the caller's.
-    Boxed(Box<dyn StorageFilterCondition + Send>),
+    /// One of the caller's, which the threads of a store share.
+    Boxed(Box<dyn StorageFilterCondition + Send + Sync>),
 }
 
 impl StorageFilterCondition for AnyCondition {

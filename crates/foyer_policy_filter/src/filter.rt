@@ -29,19 +29,19 @@ pub trait StorageFilterCondition: Drop {
 }
 
 /// Conditions that are asked one after the other. Contracts see them as a list.
-pub struct StorageFilter<C: StorageFilterCondition, A: Allocator> {
+pub struct StorageFilter<C, A: Allocator> {
     // None until the first condition comes, with an allocator.
     conditions: Option<Vec<C, A>>,
 }
 
 // Written out, so that it is proved once.
-impl<C: StorageFilterCondition, A: Allocator> Drop for StorageFilter<C, A> {
+impl<C: Drop, A: Allocator> Drop for StorageFilter<C, A> {
     fn drop(self) {
         let StorageFilter { conditions: _ } = self;
     }
 }
 
-impl<C: StorageFilterCondition, A: Allocator> Model for StorageFilter<C, A> {
+impl<C, A: Allocator> Model for StorageFilter<C, A> {
     ghost use Rattle.std.specs.Prelude.{List};
     ghost use Rattle.foyer_policy_filter.specs.Listed.{listed};
 

@@ -4,6 +4,8 @@ ghost use Rattle.foyer_policy_piece.specs.Record.{record_of};
 
 use foyer_device_page::error::{Error, Result};
 use std::alloc::{AllocError, Allocator};
+use std::fmt;
+use std::fmt::{Debug, Formatter};
 use std::marker::Model;
 use std::ops::Deref;
 use std::sync::Arc;
@@ -89,6 +91,15 @@ impl<K, V, P, A: Allocator> Piece<K, V, P, A> {
     }
 }
 
+/// The type's name, and the key's hash.
+impl<K, V, P, A: Allocator> Debug for Piece<K, V, P, A> {
+    fn fmt<W: fmt::Write>(&self, f: &mut Formatter<W>) -> fmt::Result {
+        f.debug_struct("Piece")
+            .field("hash", &self.shared.hash)
+            .finish_non_exhaustive()
+    }
+}
+
 /// One more owner of the same piece. AllocError comes only where 2^63 - 1 owners are there.
 impl<K: Drop, V: Drop, P: Drop, A: Allocator> Clone for Piece<K, V, P, A> {
     ghost is_clone = { λ piece clone. clone ≡ piece };
@@ -137,6 +148,16 @@ impl<K, V, P, A: Allocator> PieceRef<K, V, P, A> {
         ensures { result ≡ self.now.number }
     {
         self.number
+    }
+}
+
+/// The piece, and the number of its insertion.
+impl<K, V, P, A: Allocator> Debug for PieceRef<K, V, P, A> {
+    fn fmt<W: fmt::Write>(&self, f: &mut Formatter<W>) -> fmt::Result {
+        f.debug_struct("PieceRef")
+            .field("piece", &self.piece)
+            .field("number", &self.number)
+            .finish()
     }
 }
 

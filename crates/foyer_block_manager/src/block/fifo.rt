@@ -11,13 +11,25 @@ use std::alloc::Global;
 use std::marker::Model;
 
 /// Picks the block that became evictable longest ago, and puts the oldest ones on probation while few blocks are clean.
-#[derive(Drop)]
+#[derive(Debug)]
 pub struct FifoPicker {
     num: u32,
     den: u32,
     probations: usize,
     // None until it was given the blocks.
     queue: Option<Queue>,
+}
+
+// Written out, so that it is proved once.
+impl Drop for FifoPicker {
+    fn drop(self) {
+        let FifoPicker {
+            num: _,
+            den: _,
+            probations: _,
+            queue: _,
+        } = self;
+    }
 }
 
 impl Model for FifoPicker {

@@ -1,8 +1,8 @@
 //! The blocks: which may be handed out, who waits for one, and which is reclaimed next.
-ghost use Rattle.std.specs.Prelude.{◌≡◌, ◌+◌, ◌<◌, ◌≤◌, ◌↔◌, ◌⊎◌, ◌==◌, ℕ, List, [], ◌∷◌, ◌++◌, ◌^◌, Option, Some, None, length, map, vec_len, vec_capacity, nat_lt, true, false, if◌then◌else◌, MatchOption, IfNone, IfOk, IfSome, OnOk, OnErr, IsOkUnless, IsTrue, IsSome, slice_get};
+ghost use Rattle.std.specs.Prelude.{◌≡◌, ◌+◌, ◌<◌, ◌↔◌, ◌==◌, ℕ, List, ◌^◌, Option, Some, None, length, map, vec_capacity, nat_lt, true, false, if◌then◌else◌, MatchOption, IfNone, IfOk, IfSome, OnOk, OnErr, IsOkUnless, IsTrue, IsSome, slice_get};
 ghost use Rattle.foyer_device_page.specs.declared.error.Error.TheVariants.{Memory};
 ghost use Rattle.foyer_core_model.specs.Flush.{first_usable};
-ghost use Rattle.foyer_core_model.specs.Ids.{is_id_in, with_id, without_id};
+ghost use Rattle.foyer_core_model.specs.Ids.{is_id_in};
 ghost use Rattle.std.specs.VecDeque.{deque_capacity};
 ghost use Rattle.foyer_core_model.specs.Numbers.{put, last_number};
 ghost use Rattle.foyer_block_manager.specs.Drawing.{IsDrawn};
@@ -24,7 +24,9 @@ use std::marker::Model;
 mod clearing;
 mod opening;
 mod statistics;
+mod waiting;
 
+use self::waiting::{begin_to_wait, end_to_wait, next_waiter};
 pub use opening::ManagerConfig;
 
 /// The sets of blocks. A block is clean, or a flusher writes it, or it is evictable, or it is reclaimed.
@@ -175,19 +177,6 @@ const NO_STATISTICS: BlockStatistics = BlockStatistics {
     probation: false,
 };
 
-// The flusher that began to wait last gets a block that may still be handed out.
-fn next_waiter<A: Allocator>(waiting: &mut Vec<u32, A>, filling: u64) -> Option<u32>
-    ensures waiter { MatchOption result
-        (((waiting.old.items ≡ []) ⊎ (last_number ≤ filling)) × (waiting.new.items ≡ waiting.old.items))
-        (λ f. (filling < last_number) × (waiting.old.items ≡ waiting.new.items ++ f ∷ [])) }
-    ensures room { vec_capacity waiting.new ≡ vec_capacity waiting.old }
-{
-    if filling == u64::MAX {
-        return None;
-    }
-    waiting.pop()
-}
-
 // One more clean block, which counts where it may still be handed out.
 fn one_more(usable: usize, filling: u64) -> usize
     requires { usable < 2 ^ 32 }
@@ -213,25 +202,6 @@ fn info_of<'a, A: Allocator>(
         evictable: evictable.as_slice(),
         clean,
     }
-}
-
-// A flusher waits behind the others, unless it waits already.
-fn begin_to_wait<A: Allocator>(waiting: &mut Vec<u32, A>, flusher: u32)
-    requires { is_id_in flusher waiting.old.items ≡ false → vec_len waiting.old < vec_capacity waiting.old }
-    ensures waits { waiting.new.items ≡ with_id flusher waiting.old.items }
-    ensures room { vec_capacity waiting.new ≡ vec_capacity waiting.old }
-{
-    if !waiting.contains(&flusher) {
-        waiting.push_reserved(flusher);
-    }
-}
-
-// A flusher waits no more.
-fn end_to_wait<A: Allocator>(waiting: &mut Vec<u32, A>, flusher: u32)
-    ensures waits { waiting.new.items ≡ without_id flusher waiting.old.items }
-    ensures room { vec_capacity waiting.new ≡ vec_capacity waiting.old }
-{
-    waiting.retain(|waiter| *waiter != flusher);
 }
 
 /// A block whose reclaim began, and how it was chosen: what the pickers answered, in their order, and

@@ -14,7 +14,7 @@ use std::alloc::Global;
 use std::collections::VecDeque;
 use std::marker::Model;
 
-#[derive(Drop)]
+#[derive(Debug, Drop)]
 pub(crate) struct Queue {
     ids: VecDeque<BlockId>,
     // By id whether it is queued; an id beyond is looked for.

@@ -10,11 +10,22 @@ use foyer_device_page::error::Result;
 use std::alloc::Global;
 
 /// Picks the block with the most invalid bytes, if they reach a ratio of its size.
-#[derive(Drop)]
+#[derive(Debug)]
 pub struct InvalidRatioPicker {
     num: u32,
     den: u32,
     block_size: usize,
+}
+
+// Written out, so that it is proved once.
+impl Drop for InvalidRatioPicker {
+    fn drop(self) {
+        let InvalidRatioPicker {
+            num: _,
+            den: _,
+            block_size: _,
+        } = self;
+    }
 }
 
 // The invalid bytes of a block.

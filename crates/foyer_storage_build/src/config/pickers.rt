@@ -7,6 +7,8 @@ use foyer_block_manager::block::eviction::{
 };
 use foyer_device_page::error::Result;
 use std::alloc::Global;
+use std::fmt;
+use std::fmt::{Debug, Formatter};
 
 /// What gives the pickers of an engine.
 pub trait PickerSource: Drop {
@@ -45,6 +47,13 @@ impl PickerSource for DefaultPickers {
 /// Pickers that were handed in.
 #[derive(Drop)]
 pub struct GivenPickers<E: EvictionPicker>(pub Vec<E>);
+
+/// The type's name.
+impl<E: EvictionPicker> Debug for GivenPickers<E> {
+    fn fmt<W: fmt::Write>(&self, f: &mut Formatter<W>) -> fmt::Result {
+        f.write_str("GivenPickers")
+    }
+}
 
 impl<E: EvictionPicker> PickerSource for GivenPickers<E> {
     type Picker = E;

@@ -1,6 +1,6 @@
-use Rattle.std.proofs.Common.{◌≡◌, ℕ, false, Option, Some, None, slice_get, refl, ap, sym, ◌∙◌}
+use Rattle.std.proofs.Common.{ℕ, Option, Some, None, slice_get, refl, ap}
 use Rattle.foyer_core_model.specs.State as model_state
-use Rattle.foyer_block_manager.specs.BlockSets.{BlockSets, Stands, IsBlockAs, model_set}
+use Rattle.foyer_block_manager.specs.BlockSets.{BlockSets, Stands, model_set}
 use Rattle.foyer_block_manager.specs.Managed.{Managed, filling_of}
 use Rattle.foyer_block_manager.specs.declared.block.states.BlockState.{BlockState}
 use Rattle.foyer_block_manager.proofs.laws.manager_stands_for_some.Goals as goal

@@ -18,9 +18,16 @@ use std::marker::Model;
 pub const PAGE: usize = 4096;
 
 /// Bytes of whole pages, in memory of their own.
-#[derive(Debug, Drop)]
+#[derive(Debug)]
 pub struct Raw<A: Allocator> {
     bytes: Vec<u8, A>,
+}
+
+// Written out, so that it is proved once.
+impl<A: Allocator> Drop for Raw<A> {
+    fn drop(self) {
+        let Raw { bytes: _ } = self;
+    }
 }
 
 impl<A: Allocator> Model for Raw<A> {

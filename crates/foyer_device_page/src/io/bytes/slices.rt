@@ -13,11 +13,22 @@ use std::ops::Range;
 use std::sync::Arc;
 
 /// A range of whole pages of a buffer that may have other owners.
-#[derive(Debug, Drop)]
+#[derive(Debug)]
 pub struct IoSlice<A: Allocator> {
     raw: Arc<Raw<A>, A>,
     start: usize,
     end: usize,
+}
+
+// Written out, so that it is proved once.
+impl<A: Allocator> Drop for IoSlice<A> {
+    fn drop(self) {
+        let IoSlice {
+            raw: _,
+            start: _,
+            end: _,
+        } = self;
+    }
 }
 
 impl<A: Allocator> Model for IoSlice<A> {
@@ -100,7 +111,11 @@ impl<A: Allocator> IoSlice<A> {
     pub fn try_into_io_slice_mut(self) -> Option<IoSliceMut<A>>
         ensures { IfSome result (λ m. m ≡ self.whole) }
     {
-        let IoSlice { raw, .. } = self;
+        let IoSlice {
+            raw,
+            start: _,
+            end: _,
+        } = self;
         match Arc::into_inner(raw) {
             Some(raw) => Some(IoSliceMut::from_raw(raw)),
             None => None,

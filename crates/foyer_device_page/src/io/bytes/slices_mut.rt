@@ -18,9 +18,16 @@ use std::convert::AsSlice;
 use std::marker::Model;
 
 /// Bytes of whole pages that no one else reads or writes.
-#[derive(Debug, Drop)]
+#[derive(Debug)]
 pub struct IoSliceMut<A: Allocator> {
     raw: Raw<A>,
+}
+
+// Written out, so that it is proved once.
+impl<A: Allocator> Drop for IoSliceMut<A> {
+    fn drop(self) {
+        let IoSliceMut { raw: _ } = self;
+    }
 }
 
 impl<A: Allocator> Model for IoSliceMut<A> {

@@ -1,4 +1,4 @@
-use Rattle.std.proofs.Common.{◌≡◌, ◌++◌, drop, refl, sym, ap, ◌∙◌}
+use Rattle.std.proofs.Common.{◌++◌, sym, ap, ◌∙◌}
 use Rattle.foyer_block_manager.specs.Pickers.{picker_info}
 use Rattle.foyer_block_manager.proofs.ConsultLemmas.{begins, next, last, none_left}
 use Rattle.foyer_block_manager.proofs.block.eviction.consult.Goals as goal

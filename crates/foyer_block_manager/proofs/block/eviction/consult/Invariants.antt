@@ -1,5 +1,5 @@
 use Rattle.std.proofs.Common.{◌≡◌, ◌++◌, drop}
-use Rattle.foyer_block_manager.specs.Pickers.{Info, picker_info, answers_of, answers_given, marks_given, pick_of}
+use Rattle.foyer_block_manager.specs.Pickers.{picker_info, answers_of, answers_given, marks_given, pick_of}
 use Rattle.foyer_block_manager.proofs.block.eviction.consult.Given as goal
 
 -- what the pickers up to here said, and then what the others would

@@ -1,4 +1,4 @@
-use Rattle.std.proofs.Common.{◌≡◌, ◌<◌, Bool, Some, List, length, false, if◌then◌else◌, slice_get, slice_set, slice_index_or, refl, sym, ap, ◌∙◌, arith}
+use Rattle.std.proofs.Common.{◌≡◌, ◌<◌, Bool, Some, length, false, if◌then◌else◌, slice_get, slice_set, refl, sym, ap, ◌∙◌, arith}
 use Rattle.std.proofs.lemmas.Option.{slice_get_read}
 use Rattle.foyer_block_manager.specs.Managed.{is_evictable_set}
 use Rattle.foyer_block_manager.specs.Picks.{with_mark_at, on_probation}

@@ -1,4 +1,4 @@
-use Rattle.std.proofs.Common.{◌≡◌, ◌<◌, ◌==◌, ◌∙◌, not, length, rules, refl, arith}
+use Rattle.std.proofs.Common.{◌≡◌, ◌==◌, ◌∙◌, not, rules, refl}
 use Rattle.foyer_block_manager.proofs.QueueLemmas.{front_without, none_without}
 use Rattle.foyer_block_manager.proofs.WaitingLemmas.{filtered_is, without_id_filter}
 use Rattle.foyer_block_manager.proofs.block.queue.take_out.Goals as goal

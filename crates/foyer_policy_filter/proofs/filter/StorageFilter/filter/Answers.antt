@@ -1,9 +1,8 @@
-use Rattle.std.proofs.Common.{◌+◌, List, take, ◌∙◌, sym, subst}
+use Rattle.std.proofs.Common.{◌+◌, List, take, sym, subst}
 use Rattle.std.specs.Duration.{as_nanos}
 use Rattle.std.specs.declared.time.Duration.{Duration}
 use Rattle.foyer_policy_filter.specs.Verdict.{AreAnswers, IsVerdict}
 use Rattle.foyer_policy_filter.specs.declared.verdict.StorageFilterResult.{StorageFilterResult}
-use Rattle.foyer_policy_filter.specs.declared.verdict.StorageFilterResult.TheVariants.{Reject}
 use Rattle.foyer_policy_filter.proofs.VerdictLemmas.{Asked, admits_at, throttles_at, rejects_at}
 use Rattle.foyer_policy_filter.proofs.filter.StorageFilter.filter.Goals.{in-Admit, in-Throttled}
 use Rattle.foyer_policy_filter.proofs.filter.StorageFilter.filter.Goals as goal

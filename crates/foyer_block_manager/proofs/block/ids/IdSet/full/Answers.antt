@@ -1,6 +1,6 @@
-use Rattle.std.proofs.Common.{◌≡◌, ◌<◌, ◌+◌, ◌∙◌, ℕ, Bool, true, false, nat_lt, ap, sym, arith}
+use Rattle.std.proofs.Common.{◌≡◌, ◌∙◌, ℕ, false, nat_lt, ap, arith}
 use Rattle.std.proofs.lemmas.Bool.Decides.{nat_tests}
-use Rattle.foyer_core_model.specs.Ids.{ids, is_id_in}
+use Rattle.foyer_core_model.specs.Ids.{is_id_in}
 use Rattle.foyer_block_manager.proofs.InitialLemmas.{in_ids}
 use Rattle.foyer_block_manager.proofs.block.ids.IdSet.full.Goals as goal
 

@@ -1,4 +1,4 @@
-use Rattle.std.proofs.Common.{◌≡◌, ◌<◌, ◌≤◌, false, List, [], ◌∷◌, ◌++◌, ℕ, length, slice_set, length-set, ap, sym, subst, ◌∙◌, arith}
+use Rattle.std.proofs.Common.{◌≡◌, ◌<◌, ◌≤◌, false, List, [], ◌∷◌, ◌++◌, ℕ, length, slice_set, length-set, sym, subst, arith}
 use Rattle.foyer_core_model.specs.Ids.{is_id_in}
 use Rattle.foyer_block_manager.specs.IdList.{IdList, AreStored}
 use Rattle.foyer_block_manager.proofs.IdLemmas.{stored_once, below_from, room_for, stored_push}

@@ -1,4 +1,4 @@
-use Rattle.std.proofs.Common.{◌≡◌, ◌<◌, ◌∙◌, ℕ, length, true, Option, None, refl, sym, ap, subst}
+use Rattle.std.proofs.Common.{◌∙◌, ℕ, length, true, Option, None, refl, sym, ap, subst}
 use Rattle.foyer_core_model.specs.Destroy.{vacated}
 use Rattle.foyer_block_manager.specs.BlockSets.{BlockSets, Stands, HasSameRules}
 use Rattle.foyer_block_manager.specs.Clearing.{with_next_filling}

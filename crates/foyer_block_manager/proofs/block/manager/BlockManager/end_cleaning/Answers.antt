@@ -1,6 +1,6 @@
 use Rattle.std.proofs.Common.{sym, subst}
 use Rattle.foyer_block_manager.specs.Managed.{Managed}
-use Rattle.foyer_block_manager.specs.BlockSets.{BlockSets, Stands}
+use Rattle.foyer_block_manager.specs.BlockSets.{Stands}
 use Rattle.foyer_block_manager.proofs.ClearingLemmas.{stands_quiet}
 use Rattle.foyer_block_manager.proofs.block.manager.BlockManager.end_cleaning.Goals as goal
 

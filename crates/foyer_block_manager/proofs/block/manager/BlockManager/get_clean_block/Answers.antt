@@ -1,7 +1,6 @@
-use Rattle.std.proofs.Common.{◌≡◌, ◌<◌, ◌≤◌, ◌-◌, ℕ, Bool, true, false, Some, None, length, List, Option, slice_get, slice_set, slice_index_or, vec_capacity, if◌then◌else◌, inl, inr, refl, sym, ap, subst, ◌∙◌, arith}
+use Rattle.std.proofs.Common.{◌≡◌, ◌<◌, ◌-◌, ℕ, Bool, true, false, Some, None, length, List, Option, slice_get, slice_set, slice_index_or, vec_capacity, if◌then◌else◌, inl, inr, refl, sym, ap, subst, ◌∙◌, arith}
 use Rattle.std.specs.VecDeque.{deque_capacity}
 use Rattle.std.proofs.lemmas.Option.{slice_get_read}
-use Rattle.foyer_core_model.specs.Ids.{is_id_in}
 use Rattle.foyer_core_model.specs.Flush.{first_usable}
 use Rattle.foyer_block_manager.specs.Managed.{Managed, IsTaken, IsFirstUsable, IsKept, filling_in}
 use Rattle.foyer_block_manager.specs.BlockSets.{BlockSets, Stands, HandsOut}

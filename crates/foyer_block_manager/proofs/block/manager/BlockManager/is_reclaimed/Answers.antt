@@ -1,5 +1,5 @@
-use Rattle.std.proofs.Common.{◌≡◌, ◌∙◌, Bool, true, sym, ap, slice_get}
-use Rattle.foyer_block_manager.specs.Managed.{Managed, IsReclaimed, is_reclaiming}
+use Rattle.std.proofs.Common.{◌≡◌, ◌∙◌, sym, ap, slice_get}
+use Rattle.foyer_block_manager.specs.Managed.{Managed, is_reclaiming}
 use Rattle.foyer_block_manager.proofs.ClearingLemmas.{reclaimed_block}
 use Rattle.foyer_block_manager.proofs.block.manager.BlockManager.is_reclaimed.Goals as goal
 

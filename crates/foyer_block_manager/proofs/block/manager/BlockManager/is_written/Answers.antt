@@ -1,5 +1,5 @@
-use Rattle.std.proofs.Common.{◌≡◌, ◌∙◌, Bool, true, sym, ap, slice_get}
-use Rattle.foyer_block_manager.specs.Managed.{Managed, IsWritten, is_writing}
+use Rattle.std.proofs.Common.{◌≡◌, ◌∙◌, sym, ap, slice_get}
+use Rattle.foyer_block_manager.specs.Managed.{Managed, is_writing}
 use Rattle.foyer_block_manager.proofs.ClearingLemmas.{written_as}
 use Rattle.foyer_block_manager.proofs.block.manager.BlockManager.is_written.Goals as goal
 

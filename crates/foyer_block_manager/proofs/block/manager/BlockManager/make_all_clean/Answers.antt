@@ -1,8 +1,7 @@
-use Rattle.std.proofs.Common.{◌≡◌, ◌<◌, ◌≤◌, ◌+◌, ◌∙◌, ℕ, List, true, length, take, drop, slice_get, slice_index, refl, sym, ap, subst, arith}
-use Rattle.foyer_core_model.specs.Ids.{is_id_in}
-use Rattle.foyer_block_manager.specs.BlockSets.{BlockSets, Stands, HasSameRules}
+use Rattle.std.proofs.Common.{◌<◌, ◌∙◌, ℕ, List, length, take, slice_index, refl, ap, subst}
+use Rattle.foyer_block_manager.specs.BlockSets.{Stands}
 use Rattle.foyer_block_manager.specs.Initial.{with_clean}
-use Rattle.foyer_block_manager.specs.Managed.{Managed, is_evictable}
+use Rattle.foyer_block_manager.specs.Managed.{is_evictable}
 use Rattle.foyer_block_manager.proofs.InitialLemmas.{clean_none, clean_more, to_come, come_later, same_rules, take_all}
 use Rattle.foyer_block_manager.proofs.block.manager.BlockManager.make_all_clean.Goals as goal
 

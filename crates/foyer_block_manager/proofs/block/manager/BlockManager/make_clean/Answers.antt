@@ -1,8 +1,7 @@
-use Rattle.std.proofs.Common.{◌≡◌, ◌<◌, ◌≤◌, ◌+◌, ◌^◌, ℕ, List, length, slice_get, slice_set, refl, sym, ap, subst, ◌∙◌, arith, vec_capacity}
+use Rattle.std.proofs.Common.{◌<◌, ◌^◌, length, slice_get, sym, ap, subst, ◌∙◌, arith}
 use Rattle.std.specs.VecDeque.{deque_capacity}
-use Rattle.foyer_core_model.specs.Ids.{is_id_in}
-use Rattle.foyer_block_manager.specs.Managed.{Managed, IsKept, is_evictable}
-use Rattle.foyer_block_manager.specs.BlockSets.{BlockSets, Stands}
+use Rattle.foyer_block_manager.specs.Managed.{Managed, is_evictable}
+use Rattle.foyer_block_manager.specs.BlockSets.{Stands}
 use Rattle.foyer_block_manager.specs.declared.block.states.BlockState.{BlockState}
 use Rattle.foyer_block_manager.specs.declared.block.states.BlockSet.TheVariants.{Clean}
 use Rattle.foyer_block_manager.proofs.BlockStateLemmas.{set_there}

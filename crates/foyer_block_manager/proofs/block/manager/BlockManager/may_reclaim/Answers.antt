@@ -1,7 +1,7 @@
 use Rattle.std.proofs.Common.{◌≡◌, ◌<◌, ◌==◌, ℕ, Bool, true, length, refl, sym, ap, subst, ◌∙◌, arith}
 use Rattle.foyer_block_manager.specs.Managed.{Managed}
 use Rattle.foyer_block_manager.specs.Picks.{allows}
-use Rattle.foyer_block_manager.specs.BlockSets.{BlockSets, Stands, MayReclaim}
+use Rattle.foyer_block_manager.specs.BlockSets.{Stands, MayReclaim}
 use Rattle.foyer_block_manager.proofs.MayLemmas.{allowed, allowing, some_allowed}
 use Rattle.foyer_block_manager.proofs.block.manager.BlockManager.may_reclaim.Goals as goal
 

@@ -1,11 +1,11 @@
-use Rattle.std.proofs.Common.{◌≡◌, ℕ, sym, ap, subst, refl, slice_get, Some, List}
+use Rattle.std.proofs.Common.{sym, ap, subst, List}
 use Rattle.foyer_core_model.specs.Numbers.{plus}
 use Rattle.foyer_core_model.specs.State as model_state
 use Rattle.std.specs.VecDeque.{deque_capacity}
 use Rattle.std.proofs.Common.{vec_capacity}
 use Rattle.foyer_block_manager.specs.Managed.{Managed, IsKept}
-use Rattle.foyer_block_manager.specs.BlockSets.{BlockSets, Stands, without_stats}
-use Rattle.foyer_block_manager.specs.Statistics.{add_invalid, add_access, no_statistics, with_invalid, with_access}
+use Rattle.foyer_block_manager.specs.BlockSets.{Stands}
+use Rattle.foyer_block_manager.specs.Statistics.{add_access, with_access}
 use Rattle.foyer_block_manager.specs.declared.block.states.BlockState.{BlockState}
 use Rattle.foyer_block_manager.proofs.StatisticsLemmas.{kept_stats, stands_stats}
 use Rattle.foyer_block_manager.proofs.block.manager.BlockManager.note_access.Goals as goal

@@ -3,10 +3,10 @@ use Rattle.std.proofs.lemmas.Option.{slice_get_read}
 use Rattle.std.specs.VecDeque.{deque_capacity}
 use Rattle.foyer_core_model.specs.Ids.{is_id_in, AreDistinct}
 use Rattle.foyer_core_model.proofs.Ids.{distinct_front}
-use Rattle.foyer_block_manager.specs.Managed.{Managed, IsKept, IsReclaimed, is_clean, is_evictable, is_reclaiming, is_clean_set, is_evictable_set, is_reclaiming_set, one_if}
-use Rattle.foyer_block_manager.specs.BlockSets.{BlockSets, Stands}
+use Rattle.foyer_block_manager.specs.Managed.{Managed, IsReclaimed, is_evictable, is_reclaiming, is_clean_set, is_evictable_set, is_reclaiming_set, one_if}
+use Rattle.foyer_block_manager.specs.BlockSets.{Stands}
 use Rattle.foyer_block_manager.specs.declared.block.states.BlockState.{BlockState}
-use Rattle.foyer_block_manager.specs.declared.block.states.BlockSet.TheVariants.{Clean, Writing, Evictable, Reclaiming}
+use Rattle.foyer_block_manager.specs.declared.block.states.BlockSet.TheVariants.{Clean, Writing, Reclaiming}
 use Rattle.foyer_block_manager.proofs.BlockStateLemmas.{set_count, there_is, some_is}
 use Rattle.foyer_block_manager.proofs.ManagedLemmas.{kept_waiting, kept_popped, waiter_there, some_reclaimed, few_usable, same_list, kept_unclean, kept_cleaned, clean_fewer, clean_room_for}
 use Rattle.foyer_block_manager.proofs.StandsLemmas.{stands_given, stands_cleaned}

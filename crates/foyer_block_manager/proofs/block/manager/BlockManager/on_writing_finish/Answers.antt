@@ -1,8 +1,8 @@
-use Rattle.std.proofs.Common.{◌≡◌, ◌<◌, ℕ, Some, List, length, false, slice_get, slice_set, slice_index_or, refl, sym, ap, subst, ◌∙◌, arith}
+use Rattle.std.proofs.Common.{◌≡◌, ◌<◌, ℕ, Some, List, length, slice_get, slice_set, slice_index_or, refl, sym, ap, subst, ◌∙◌, arith}
 use Rattle.std.proofs.lemmas.Option.{slice_get_read}
 use Rattle.foyer_core_model.specs.Ids.{is_id_in}
-use Rattle.foyer_block_manager.specs.Managed.{Managed, IsKept, IsWritten, is_clean_set, is_evictable, is_evictable_set, is_reclaiming, is_reclaiming_set, one_if}
-use Rattle.foyer_block_manager.specs.BlockSets.{BlockSets, Stands}
+use Rattle.foyer_block_manager.specs.Managed.{Managed, IsWritten, is_clean_set, is_reclaiming, is_reclaiming_set, one_if}
+use Rattle.foyer_block_manager.specs.BlockSets.{Stands}
 use Rattle.foyer_block_manager.specs.Pickers.{Info, picker_info}
 use Rattle.foyer_block_manager.specs.Shown.{AreShown}
 use Rattle.foyer_block_manager.specs.declared.block.states.BlockState.{BlockState}

@@ -1,4 +1,4 @@
-use Rattle.std.proofs.Common.{◌≡◌, ◌<◌, ◌≤◌, ℕ, length, replicate, vec_capacity, rules, arith}
+use Rattle.std.proofs.Common.{◌≡◌, ◌≤◌, ℕ, length, replicate, vec_capacity, rules, arith}
 use Rattle.std.specs.VecDeque.{deque_capacity}
 use Rattle.foyer_block_manager.specs.Initial.{new_block}
 use Rattle.foyer_block_manager.proofs.InitialLemmas.{kept_new}

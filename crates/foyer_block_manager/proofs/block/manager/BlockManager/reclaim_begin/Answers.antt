@@ -1,4 +1,4 @@
-use Rattle.std.proofs.Common.{◌≡◌, ◌<◌, ◌≤◌, ◌+◌, ◌^◌, ℕ, Bool, true, false, Some, List, length, vec_capacity, slice_get, slice_set, refl, sym, ap, subst, ◌∙◌, arith}
+use Rattle.std.proofs.Common.{◌≡◌, ◌<◌, ◌≤◌, ◌+◌, ◌^◌, ℕ, true, Some, List, length, vec_capacity, slice_get, slice_set, refl, sym, ap, subst, ◌∙◌, arith}
 use Rattle.foyer_core_model.specs.Numbers.{put}
 use Rattle.foyer_core_model.specs.Reclaim as model_reclaim
 use Rattle.foyer_core_model.specs.State as model_state
@@ -7,10 +7,10 @@ use Rattle.std.specs.Prelude.{IfSome}
 use Rattle.foyer_block_manager.specs.Drawing.{IsDrawn}
 use Rattle.foyer_block_manager.specs.Managed.{Managed, IsKept, is_evictable, is_reclaiming, one_if, reclaim_count_in}
 use Rattle.foyer_block_manager.specs.Pickers.{Info, picker_info, answers_of, answers_given, marks_given, pick_of}
-use Rattle.foyer_block_manager.specs.Picks.{with_marks, usable_in}
+use Rattle.foyer_block_manager.specs.Picks.{usable_in}
 use Rattle.foyer_block_manager.specs.Shown.{AreShown}
 use Rattle.std.specs.VecDeque.{deque_capacity}
-use Rattle.foyer_block_manager.specs.BlockSets.{BlockSets, Stands, HasSameRules}
+use Rattle.foyer_block_manager.specs.BlockSets.{Stands}
 use Rattle.foyer_block_manager.specs.declared.block.states.BlockState.{BlockState}
 use Rattle.foyer_block_manager.specs.declared.block.states.BlockSet.TheVariants.{Reclaiming}
 use Rattle.foyer_block_manager.proofs.BlockStateLemmas.{set_count, reclaimed_at_most}

@@ -1,5 +1,4 @@
-use Rattle.std.proofs.Common.{sym, ◌≡◌, ◌∙◌, IsTrue, true, false, subst}
-use Rattle.foyer_block_manager.specs.BlockSets.{BlockSets, Stands}
+use Rattle.std.proofs.Common.{◌≡◌, IsTrue, true, false, subst}
 use Rattle.foyer_block_manager.specs.Managed.{IsWritten}
 use Rattle.foyer_block_manager.proofs.ClearingLemmas.{stays_vacant, becomes_vacant, written_as}
 use Rattle.foyer_block_manager.proofs.ShownLemmas.{not_writing, shown_none, shown_one}

@@ -1,5 +1,4 @@
-use Rattle.std.proofs.Common.{◌≡◌, ◌<◌, ◌≤◌, ◌+◌, ◌∙◌, ℕ, length, refl, sym, subst, arith}
-use Rattle.foyer_block_manager.specs.BlockSets.{BlockSets, Stands, HasSameRules}
+use Rattle.std.proofs.Common.{◌≡◌, ◌∙◌, length, refl, subst, arith}
 use Rattle.foyer_block_manager.specs.Clearing.{vacated_below}
 use Rattle.foyer_block_manager.proofs.ClearingLemmas.{vacant_none, vacant_more, vacant_all}
 use Rattle.foyer_block_manager.proofs.InitialLemmas.{same_rules}

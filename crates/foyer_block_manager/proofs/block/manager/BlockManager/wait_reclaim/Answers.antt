@@ -1,6 +1,6 @@
-use Rattle.std.proofs.Common.{◌≡◌, ◌≤◌, ◌==◌, ℕ, length, refl, sym, ap, subst, ◌∙◌, arith}
+use Rattle.std.proofs.Common.{◌≤◌, ◌==◌, length, sym, ap, subst, ◌∙◌, arith}
 use Rattle.foyer_block_manager.specs.Managed.{Managed}
-use Rattle.foyer_block_manager.specs.BlockSets.{BlockSets, Stands, reclaim_count}
+use Rattle.foyer_block_manager.specs.BlockSets.{Stands, reclaim_count}
 use Rattle.foyer_block_manager.proofs.StandsLemmas.{reclaimed_as}
 use Rattle.foyer_block_manager.proofs.block.manager.BlockManager.wait_reclaim.Goals as goal
 

@@ -1,4 +1,4 @@
-use Rattle.std.proofs.Common.{◌≡◌, ◌<◌, ℕ, List, Option, None, length, slice_index_or, refl, arith}
+use Rattle.std.proofs.Common.{ℕ, List, Option, None, slice_index_or, refl, arith}
 use Rattle.foyer_block_manager.proofs.ClearingLemmas.{mapped_next, written_back}
 use Rattle.foyer_block_manager.proofs.block.manager.clearing.forget.Goals as goal
 

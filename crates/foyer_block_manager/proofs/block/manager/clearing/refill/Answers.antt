@@ -1,4 +1,4 @@
-use Rattle.std.proofs.Common.{◌≡◌, ◌<◌, ℕ, List, false, length, slice_index_or, refl, ap, arith}
+use Rattle.std.proofs.Common.{ℕ, List, false, slice_index_or, refl, ap, arith}
 use Rattle.foyer_block_manager.specs.Clearing.{with_next_filling}
 use Rattle.foyer_block_manager.specs.declared.block.states.BlockState.{BlockState}
 use Rattle.foyer_block_manager.specs.declared.block.states.BlockSet.TheVariants.{Clean}

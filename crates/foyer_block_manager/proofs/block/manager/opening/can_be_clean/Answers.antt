@@ -1,7 +1,6 @@
-use Rattle.std.proofs.Common.{◌≡◌, ◌<◌, ◌≤◌, ◌+◌, ◌∙◌, ◌↔◌, ℕ, Bool, List, IsTrue, true, false, length, length-set, slice_set, slice_index, replicate, refl, sym, ap, arith, rules}
+use Rattle.std.proofs.Common.{◌≡◌, ◌<◌, ◌∙◌, ℕ, Bool, List, IsTrue, true, false, length, length-set, slice_set, slice_index, replicate, refl, sym, arith, rules}
 use Rattle.foyer_block_manager.specs.Initial.{CanBeClean}
-use Rattle.foyer_block_manager.specs.Pickers.{is_evictable_in}
-use Rattle.foyer_block_manager.proofs.InitialLemmas.{AreNoted, noted_none, noted_more, noted_all, noted_there, not_evictable, noted_twice}
+use Rattle.foyer_block_manager.proofs.InitialLemmas.{noted_none, noted_more, noted_all, noted_there, not_evictable, noted_twice}
 use Rattle.foyer_block_manager.proofs.block.manager.opening.can_be_clean.Goals as goal
 
 refused : (P : Type 0) → (P → ⊥) → (IsTrue false → P) × (P → IsTrue false)

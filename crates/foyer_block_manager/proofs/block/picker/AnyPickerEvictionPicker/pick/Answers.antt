@@ -1,5 +1,5 @@
-use Rattle.std.proofs.Common.{◌≡◌, subst, refl, sym, ap, ◌∙◌}
-use Rattle.foyer_block_manager.specs.Pickers.{Info, picker_info}
+use Rattle.std.proofs.Common.{◌≡◌, subst}
+use Rattle.foyer_block_manager.specs.Pickers.{picker_info}
 use Rattle.foyer_block_manager.proofs.block.picker.AnyPickerEvictionPicker.pick.Goals as goal
 
 pub returns-in-Boxed-clause-answer : goal.returns-in-Boxed-clause-answer

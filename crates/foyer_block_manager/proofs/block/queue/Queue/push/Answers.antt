@@ -1,4 +1,4 @@
-use Rattle.std.proofs.Common.{◌≡◌, ◌++◌, ◌∷◌, [], Bool, List, ℕ, true, false, slice_set, sym, ap, subst, ◌∙◌}
+use Rattle.std.proofs.Common.{◌≡◌, ◌++◌, ◌∷◌, [], Bool, List, ℕ, false, sym, ap, subst, ◌∙◌}
 use Rattle.foyer_core_model.specs.Ids.{is_id_in}
 use Rattle.foyer_block_manager.specs.Queues.{Queued, AreFlagged}
 use Rattle.foyer_block_manager.proofs.QueueLemmas.{flagged_with}

@@ -1,4 +1,4 @@
-use Rattle.std.proofs.Common.{◌≡◌, Bool, List, ℕ, false, slice_set, sym, subst}
+use Rattle.std.proofs.Common.{Bool, List, ℕ, sym, subst}
 use Rattle.foyer_core_model.specs.Ids.{without_id}
 use Rattle.foyer_block_manager.specs.Queues.{AreFlagged}
 use Rattle.foyer_block_manager.proofs.QueueLemmas.{flagged_without}

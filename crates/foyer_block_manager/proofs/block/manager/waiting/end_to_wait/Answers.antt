@@ -1,6 +1,6 @@
 use Rattle.std.proofs.Common.{◌≡◌, ◌==◌, not, ◌∙◌, rules, refl}
 use Rattle.foyer_block_manager.proofs.WaitingLemmas.{filtered_is, without_id_filter}
-use Rattle.foyer_block_manager.proofs.block.manager.end_to_wait.Goals as goal
+use Rattle.foyer_block_manager.proofs.block.manager.waiting.end_to_wait.Goals as goal
 
 pub returns-clause-waits : goal.returns-clause-waits
 returns-clause-waits g c =

@@ -2,7 +2,7 @@ use Rattle.std.proofs.Common.{◌≡◌, true, false, if◌then◌else◌, ◌++
 use Rattle.std.specs.List.{list_any}
 use Rattle.foyer_core_model.specs.Ids.{is_id_in}
 use Rattle.foyer_block_manager.proofs.WaitingLemmas.{is_id_in_any}
-use Rattle.foyer_block_manager.proofs.block.manager.begin_to_wait.Goals as goal
+use Rattle.foyer_block_manager.proofs.block.manager.waiting.begin_to_wait.Goals as goal
 
 pub returns-then-not-contains-clause-waits : goal.returns-then-not-contains-clause-waits
 returns-then-not-contains-clause-waits g c =
