@@ -1,13 +1,9 @@
 -- What a search, a write and a sweep of a shard's entries leave for each hash.
-use Rattle.std.proofs.Common.{◌≡◌, ◌≢◌, ◌⊎◌, inl, inr, ℕ, zero, suc, ◌+◌, ◌-◌, ◌<◌, ◌≤◌, Bool, true, false, not, cond, IsSome, Option, Some, None, List, [], ◌∷◌, ◌++◌, filter, length, take, drop, nat_eq, get_or, slice_get, slice_set, slice_index, if◌then◌else◌, refl, sym, ap, subst, ◌∙◌, arith, append_assoc}
+use Rattle.std.proofs.Common.{◌≡◌, ◌≢◌, ℕ, zero, suc, ◌+◌, ◌<◌, Bool, true, false, not, cond, IsSome, Option, Some, None, List, [], ◌∷◌, ◌++◌, filter, length, nat_eq, get_or, slice_get, slice_set, slice_index, if◌then◌else◌, refl, sym, ap, subst, ◌∙◌, arith}
 use Rattle.std.specs.Map.{lookup}
-use Rattle.std.specs.List.{All, AllByRecursion, Contains}
+use Rattle.std.specs.List.{AllByRecursion}
 use Rattle.std.specs.List.Sorted.{IsStrictlyIncreasing}
-use Rattle.std.proofs.Common.{◌==◌}
-use Rattle.std.proofs.Math.Dec.{ltb}
-use Rattle.std.proofs.lemmas.Bool.{eqb-true, eqb-false, eq-eqb, ltb-true, ltb-false}
-use Rattle.foyer_block_index.proofs.Halving.{got_index, index_got, all_below}
-use Rattle.std.proofs.lemmas.List.{get_or_default, get_or-take, take-append-drop, length-take-le}
+use Rattle.std.proofs.lemmas.Bool.{eqb-true, eqb-false, eq-eqb}
 use Rattle.std.proofs.lemmas.List.Kept.{AllPairs-from_increasing}
 use Rattle.foyer_block_index.specs.declared.shard.Entry.{Entry}
 use Rattle.foyer_block_index.specs.declared.shard.Slot.{Slot}

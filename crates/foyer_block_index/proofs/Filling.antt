@@ -1,5 +1,5 @@
 -- Each place is in the shard of its hash, and its hash has something: what calls of the shards leave of that.
-use Rattle.std.proofs.Common.{◌≡◌, ◌≢◌, ◌⊎◌, inl, inr, ℕ, zero, suc, ◌+◌, ◌<◌, ◌≤◌, ◌%◌, ◌==◌, Bool, true, false, cond, IsSome, IsOk, OnOk, OnErr, Result, Ok, Err, Option, Some, None, List, [], length, get_or, slice_get, slice_set, slice_index_or, option_and_then, if◌then◌else◌, refl, sym, ap, subst, ◌∙◌, arith}
+use Rattle.std.proofs.Common.{◌≡◌, ◌≢◌, ◌⊎◌, inl, inr, ℕ, ◌+◌, ◌<◌, ◌≤◌, ◌%◌, ◌==◌, Bool, true, false, cond, IsSome, IsOk, OnOk, OnErr, Result, Ok, Err, Option, Some, None, List, [], length, get_or, slice_get, slice_set, slice_index_or, option_and_then, if◌then◌else◌, refl, sym, ap, subst, ◌∙◌, arith}
 use Rattle.std.specs.Bool.{OnTrue, OnFalse}
 use Rattle.std.specs.Option.{IsSomeAnd}
 use Rattle.std.specs.Cmp.{nat_cmp_total, unsigned_tied}
@@ -7,7 +7,7 @@ use Rattle.std.specs.FinMap as map
 use Rattle.std.proofs.Common.{slice_index, nat_cmp}
 use Rattle.std.specs.Ordering.{eq_by_cmp}
 use Rattle.std.specs.FinMap.{get-insert, get-remove}
-use Rattle.std.proofs.lemmas.List.{get_or-set_same, get_or-set_other}
+use Rattle.std.proofs.lemmas.List.{get_or-set_same, get_or-set_other, get_or_default}
 use Rattle.std.proofs.lemmas.Bool.{eqb-true, eqb-false, eq-eqb}
 use Rattle.foyer_block_index.specs.declared.indexer.EntryAddress.{EntryAddress}
 use Rattle.foyer_block_index.specs.declared.indexer.HashedEntryAddress.{HashedEntryAddress}
@@ -204,45 +204,116 @@ filled_removed old mid new hash place len len_new belongs gone same adds adds_ne
         let ne : i ≢ place = eqb-false i place e in
         (here, subst (λ m. IsSome (map.get m h)) (sym (same ∙ gone)) (subst IsSome (sym (get-others (map_of old) hash h (λ is. ne (sym before.0 ∙ ap (λ q. q % length old) is ∙ belongs)))) before.1))
 
--- in the midst of removals: a shard whose count is 0 has what it had
-pub record Sweeping (old now : List Shard) (counts : List ℕ) : Type 0 where
+-- an element of a list from the j-th on has a hash that belongs in the i-th of n shards
+abbrev pub NamedFrom : {X : Type 0} → (X → ℕ) → ℕ → List X → ℕ → ℕ → Type 0
+NamedFrom {X} hash n xs j i = (k : ℕ) × (j ≤ k) × (k < length xs) × ((d : X) → hash (slice_index_or xs k d) % n ≡ i)
+
+-- that shard is to be swept
+abbrev pub IsCounted : {X : Type 0} → (X → ℕ) → ℕ → List X → List ℕ → ℕ → ℕ → Type 0
+IsCounted hash n xs counts j i = NamedFrom hash n xs j i × (0 < slice_index counts i)
+
+-- in the midst of removals: a hash has what it had, or its shard is one of the list's, and its count isn't 0
+pub record Sweeping {X : Type 0} (hash : X → ℕ) (xs : List X) (old now : List Shard) (counts : List ℕ) : Type 0 where
   pub places : AddsNoPlace old now
-  pub others : (h : ℕ) → slice_index counts (h % length old) ≡ 0 → map.get (map_of now) h ≡ map.get (map_of old) h
+  pub others : (h : ℕ) → (map.get (map_of now) h ≡ map.get (map_of old) h) ⊎ IsCounted hash (length old) xs counts 0 (h % length old)
 
-pub sweeping_on : (old now new : List Shard) (counts after : List ℕ) (hash : ℕ) (gone : Bool) → Sweeping old now counts → length counts ≡ length old → 0 < length old
-    → AddsNoPlace now new → OnTrue gone (map_of new ≡ map.remove (map_of now) hash) → OnFalse gone (map_of new ≡ map_of now)
-    → after ≡ (if gone then slice_set counts (hash % length counts) 1 else counts) → Sweeping old new after
-sweeping_on old now new counts after hash true sweeping len some adds removed unchanged is = record {
-  places = λ i h placed. sweeping.places i h (adds i h placed);
-  others = λ h none.
-      let p = hash % length counts in
-      let within : p < length counts = omega arith in
-      let ne : h % length old ≢ p = λ e.
-      let one : slice_index after (h % length old) ≡ 1 = ap (λ l. slice_index l (h % length old)) is ∙ ap (slice_index (slice_set counts p 1)) e ∙ get_or-set_same counts p 1 0 within in
-      omega arith in
-      let other : h ≢ hash = λ e. ne (ap (λ q. q % length old) e ∙ ap (λ n. hash % n) (sym len)) in
-      let zero_before : slice_index counts (h % length old) ≡ 0 = sym (ap (λ l. slice_index l (h % length old)) is ∙ get_or-set_other counts p (h % length old) 1 0 ne) ∙ none in
-      ap (λ m. map.get m h) removed ∙ get-others (map_of now) hash h other ∙ sweeping.others h zero_before;
-}
-sweeping_on old now new counts after hash false sweeping len some adds removed unchanged is = record {
-  places = λ i h placed. sweeping.places i h (adds i h placed);
-  others = λ h none. ap (λ m. map.get m h) unchanged ∙ sweeping.others h (sym (ap (λ l. slice_index l (h % length old)) is) ∙ none);
-}
+-- each place is in the shard of its hash, which has something, or the shard is one of those of the list from the j-th on whose count isn't 0
+abbrev pub AreFilledTo : {X : Type 0} → (X → ℕ) → List X → List Shard → List ℕ → ℕ → Type 0
+AreFilledTo hash xs shards counts j =
+    (i h : ℕ) → Placed shards i h → (h % length shards ≡ i) × (IsSome (map.get (map_of shards) h) ⊎ IsCounted hash (length shards) xs counts j i)
 
--- then those counted are swept
-pub filled_swept : (old now new : List Shard) (counts : List ℕ) → Sweeping old now counts → length now ≡ length old → length new ≡ length now → map_of new ≡ map_of now → AddsNoPlace now new
-    → ((i h : ℕ) → 0 < slice_index counts i → Placed new i h → h % length new ≡ i → IsSome (map.get (map_of new) h)) → AreFilled old → AreFilled new
-filled_swept old now new counts sweeping len len_new same adds swept filled i h placed = go (slice_index counts i) refl
-  where
-    before : (h % length old ≡ i) × IsSome (map.get (map_of old) h)
-    before = filled i h (sweeping.places i h (adds i h placed))
+module _ {X : Type 0} (hash : X → ℕ) (xs : List X) where
+  -- one removal more, whose shard is counted if it removed something
+  pub sweeping_on : (old now new : List Shard) (counts after : List ℕ) (j : ℕ) (d : X) (gone : Bool) → j < length xs → Sweeping hash xs old now counts → length counts ≡ length old → 0 < length old
+      → AddsNoPlace now new → OnTrue gone (map_of new ≡ map.remove (map_of now) (hash (get_or xs j d))) → OnFalse gone (map_of new ≡ map_of now)
+      → after ≡ (if gone then slice_set counts (hash (get_or xs j d) % length counts) 1 else counts) → Sweeping hash xs old new after
+  sweeping_on old now new counts after j d true within sweeping len some adds removed unchanged is = record {
+    places = λ i h placed. sweeping.places i h (adds i h placed);
+    others = λ h. go h (h % length old == p) refl;
+  }
+    where
+      x : ℕ
+      x = hash (get_or xs j d)
 
-    here : h % length new ≡ i
-    here = ap (λ n. h % n) (len_new ∙ len) ∙ before.0
+      p : ℕ
+      p = x % length counts
 
-    go : (n : ℕ) → slice_index counts i ≡ n → (h % length new ≡ i) × IsSome (map.get (map_of new) h)
-    go zero e = (here, subst IsSome (sym (ap (λ m. map.get m h) same ∙ sweeping.others h (ap (slice_index counts) before.0 ∙ e))) before.1)
-    go (suc n) e = (here, swept i h (omega (arith, e)) placed here)
+      fits : p < length counts
+      fits = omega arith
+
+      belongs : x % length old ≡ p
+      belongs = ap (λ n. x % n) (sym len)
+
+      kept : (h : ℕ) → h % length old ≢ p → (map.get (map_of now) h ≡ map.get (map_of old) h) ⊎ IsCounted hash (length old) xs counts 0 (h % length old) → (map.get (map_of new) h ≡ map.get (map_of old) h) ⊎ IsCounted hash (length old) xs after 0 (h % length old)
+      kept h ne (inl same) = inl (ap (λ m. map.get m h) removed ∙ get-others (map_of now) x h (λ e. ne (ap (λ q. q % length old) e ∙ belongs)) ∙ same)
+      kept h ne (inr left) =
+          let still : slice_index after (h % length old) ≡ slice_index counts (h % length old) = ap (λ l. slice_index l (h % length old)) is ∙ get_or-set_other counts p (h % length old) 1 0 ne in
+          inr (left.0, omega (arith, left.1, still))
+
+      go : (h : ℕ) (b : Bool) → (h % length old == p) ≡ b → (map.get (map_of new) h ≡ map.get (map_of old) h) ⊎ IsCounted hash (length old) xs after 0 (h % length old)
+      go h true e =
+          let at : h % length old ≡ p = eqb-true (h % length old) p e in
+          let one : slice_index after (h % length old) ≡ 1 = ap (λ l. slice_index l (h % length old)) is ∙ ap (slice_index (slice_set counts p 1)) at ∙ get_or-set_same counts p 1 0 fits in
+          inr ((j, omega arith, within, λ c. ap (λ y. hash y % length old) (get_or_default xs j c d within) ∙ belongs ∙ sym at), omega arith)
+      go h false e = kept h (eqb-false (h % length old) p e) (sweeping.others h)
+  sweeping_on old now new counts after j d false within sweeping len some adds removed unchanged is = record {
+    places = λ i h placed. sweeping.places i h (adds i h placed);
+    others = λ h. go h (sweeping.others h);
+  }
+    where
+      go : (h : ℕ) → (map.get (map_of now) h ≡ map.get (map_of old) h) ⊎ IsCounted hash (length old) xs counts 0 (h % length old)
+          → (map.get (map_of new) h ≡ map.get (map_of old) h) ⊎ IsCounted hash (length old) xs after 0 (h % length old)
+      go h (inl same) = inl (ap (λ m. map.get m h) unchanged ∙ same)
+      go h (inr left) = inr (left.0, subst (λ l. 0 < slice_index l (h % length old)) (sym is) left.1)
+
+  -- then the shards that are counted are to be swept
+  pub filled_to : (old now : List Shard) (counts : List ℕ) → Sweeping hash xs old now counts → length now ≡ length old → AreFilled old → AreFilledTo hash xs now counts 0
+  filled_to old now counts sweeping len filled i h placed = (ap (λ n. h % n) len ∙ before.0, go (sweeping.others h))
+    where
+      before : (h % length old ≡ i) × IsSome (map.get (map_of old) h)
+      before = filled i h (sweeping.places i h placed)
+
+      go : (map.get (map_of now) h ≡ map.get (map_of old) h) ⊎ IsCounted hash (length old) xs counts 0 (h % length old)
+          → IsSome (map.get (map_of now) h) ⊎ IsCounted hash (length now) xs counts 0 i
+      go (inl same) = inl (subst IsSome (sym same) before.1)
+      go (inr left) = inr (
+        subst (λ n. NamedFrom hash n xs 0 i) (sym len) (subst (NamedFrom hash (length old) xs 0) before.0 left.0),
+        subst (λ k. 0 < slice_index counts k) before.0 left.1,
+      )
+
+  -- one more is swept
+  pub swept_on : (now new : List Shard) (counts after : List ℕ) (j : ℕ) (d : X) (p : ℕ) → j < length xs → p ≡ hash (get_or xs j d) % length now → length new ≡ length now → map_of new ≡ map_of now → AddsNoPlace now new
+      → ((i : ℕ) → i ≢ p → slice_index after i ≡ slice_index counts i)
+      → ((i h : ℕ) → p ≡ i → 0 < slice_index counts i → Placed new i h → h % length now ≡ i → IsSome (map.get (map_of new) h))
+      → AreFilledTo hash xs now counts j → AreFilledTo hash xs new after (j + 1)
+  swept_on now new counts after j d p within place len same adds others swept filled i h placed = (ap (λ n. h % n) len ∙ before.0, go before.1)
+    where
+      before : (h % length now ≡ i) × (IsSome (map.get (map_of now) h) ⊎ IsCounted hash (length now) xs counts j i)
+      before = filled i h (adds i h placed)
+
+      left : (k : ℕ) → j ≤ k → k < length xs → ((c : X) → hash (slice_index_or xs k c) % length now ≡ i) → 0 < slice_index counts i → (b : Bool) → (i == p) ≡ b
+          → IsSome (map.get (map_of new) h) ⊎ IsCounted hash (length new) xs after (j + 1) i
+      left k from lt named some true e = inl (swept i h (sym (eqb-true i p e)) some placed before.0)
+      left k from lt named some false e =
+          let ne : i ≢ p = eqb-false i p e in
+          let apart : k ≢ j = λ at. ne (sym (named d) ∙ ap (λ m. hash (slice_index_or xs m d) % length now) at ∙ sym place) in
+          inr ((k, omega arith, lt, λ c. ap (λ n. hash (slice_index_or xs k c) % n) len ∙ named c), omega (arith, others i ne, some))
+
+      go : IsSome (map.get (map_of now) h) ⊎ IsCounted hash (length now) xs counts j i
+          → IsSome (map.get (map_of new) h) ⊎ IsCounted hash (length new) xs after (j + 1) i
+      go (inl some) = inl (subst (λ m. IsSome (map.get m h)) (sym same) some)
+      go (inr named) = left named.0.0 named.0.1 named.0.2 named.0.3 named.1 (i == p) refl
+
+  -- at the end of the list
+  pub filled_swept : (now : List Shard) (counts : List ℕ) (j : ℕ) → length xs ≤ j → AreFilledTo hash xs now counts j → AreFilled now
+  filled_swept now counts j end filled i h placed = (before.0, go before.1)
+    where
+      before : (h % length now ≡ i) × (IsSome (map.get (map_of now) h) ⊎ IsCounted hash (length now) xs counts j i)
+      before = filled i h placed
+
+      go : IsSome (map.get (map_of now) h) ⊎ IsCounted hash (length now) xs counts j i → IsSome (map.get (map_of now) h)
+      go (inl some) = some
+      go (inr named) = let from : j ≤ named.0.0 = named.0.1 in let within : named.0.0 < length xs = named.0.2 in absurd (omega arith)
 
 -- shards without entries
 pub filled_none : (shards : List Shard) → ((k : ℕ) (s : Shard) → slice_get shards k ≡ Some s → s.entries ≡ []) → AreFilled shards

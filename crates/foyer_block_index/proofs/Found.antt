@@ -280,10 +280,10 @@ pub map_of-place : (shards : List Shard) (p : ℕ) (old new : Shard) → p < len
 map_of-place shards p old new within is same =
     map_of-same shards p p old new (record { within = within; belongs = mod-eq_of_lt within; at = slice_get_at shards p old within is }) same
 
--- room for one count more
+-- room for the count of one shard
 pub room-reserved : (counts : List ℕ) (shards : List Shard) (p : ℕ) (new : Shard) → p < length shards → slice_index counts p ≤ spare_of new
-    → ((s : ℕ) → s < p → slice_index counts s ≤ room shards s) → (s : ℕ) → s < p + 1 → slice_index counts s ≤ room (slice_set shards p new) s
-room-reserved counts shards p new within enough before s lt = go (s == p) refl
+    → (s : ℕ) → (s ≢ p → slice_index counts s ≤ room shards s) → slice_index counts s ≤ room (slice_set shards p new) s
+room-reserved counts shards p new within enough s before = go (s == p) refl
   where
     go : (b : Bool) → (s == p) ≡ b → slice_index counts s ≤ room (slice_set shards p new) s
     go true e =
@@ -293,7 +293,7 @@ room-reserved counts shards p new within enough before s lt = go (s == p) refl
     go false e =
         let ne : s ≢ p = eqb-false s p e in
         let same : room (slice_set shards p new) s ≡ room shards s = ap (λ o. unwrap_or (option_map spare_of o) 0) (slice_get-set_other shards p s new ne) in
-        omega (arith, same, before s (omega (arith, ne)))
+        omega (arith, same, before ne)
 
 -- a shard whose room doesn't fall, whatever its place
 pub room-place : (shards : List Shard) (p : ℕ) (old new : Shard) → p < length shards → old ≡ slice_index_or shards p old

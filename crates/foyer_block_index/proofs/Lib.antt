@@ -8,5 +8,6 @@ pub mod Halving
 pub mod Indexed
 pub mod Merges
 pub mod Removals
+pub mod Reordered
 pub mod Rooms
 pub mod Seating

@@ -1,19 +1,16 @@
 -- What a merge of hashes into a shard's entries leaves for each hash.
-use Rattle.std.proofs.Common.{◌≡◌, ◌≢◌, ◌⊎◌, inl, inr, ℕ, zero, suc, ◌+◌, ◌-◌, ◌<◌, ◌≤◌, Bool, true, false, not, cond, IsSome, Option, Some, None, List, [], ◌∷◌, ◌++◌, filter, length, take, drop, nat_eq, get_or, slice_get, slice_set, slice_index, if◌then◌else◌, refl, sym, ap, subst, ◌∙◌, arith, append_assoc}
-use Rattle.std.specs.Map.{lookup}
+use Rattle.std.proofs.Common.{◌≡◌, ◌≢◌, ◌⊎◌, inl, inr, ℕ, zero, suc, ◌+◌, ◌-◌, ◌<◌, ◌≤◌, Bool, true, false, Some, List, [], ◌∷◌, ◌++◌, length, take, drop, get_or, slice_get, slice_set, slice_index, refl, sym, ap, subst, ◌∙◌, arith, append_assoc}
 use Rattle.std.specs.List.{All, AllByRecursion, Contains}
 use Rattle.std.specs.List.Sorted.{IsStrictlyIncreasing}
 use Rattle.std.proofs.Common.{◌==◌}
 use Rattle.std.proofs.Math.Dec.{ltb}
-use Rattle.std.proofs.lemmas.Bool.{eqb-true, eqb-false, eq-eqb, ltb-true, ltb-false}
+use Rattle.std.proofs.lemmas.Bool.{eqb-true, eqb-false, ltb-true, ltb-false}
 use Rattle.foyer_block_index.proofs.Halving.{got_index, index_got, all_below}
 use Rattle.std.proofs.lemmas.List.{get_or_default, get_or-take, take-append-drop, length-take-le}
 use Rattle.std.proofs.lemmas.List.Kept.{AllPairs-from_increasing}
 use Rattle.foyer_block_index.specs.declared.shard.Entry.{Entry}
-use Rattle.foyer_block_index.specs.declared.shard.Slot.{Slot}
-use Rattle.foyer_block_index.specs.declared.shard.Slot.TheVariants.{Vacant, Address, Tombstone}
-use Rattle.foyer_block_index.specs.declared.indexer.Index.{Index}
-use Rattle.foyer_block_index.specs.Entries.{held_by, is_vacant, hashes, pair_of, pairs, held_in}
+use Rattle.foyer_block_index.specs.declared.shard.Slot.TheVariants.{Vacant}
+use Rattle.foyer_block_index.specs.Entries.{held_by, hashes, pair_of, pairs}
 use Rattle.foyer_block_index.specs.Probe.{Lacks, HasPlace}
 use Rattle.foyer_block_index.proofs.Entries.{Ascends, ascends-from, ascends-to}
 

@@ -4,7 +4,7 @@ use Rattle.std.proofs.lemmas.Bool.{eqb-true}
 use Rattle.std.proofs.lemmas.List.{length-map}
 use Rattle.foyer_block_index.specs.declared.indexer.HashedEntryAddress.{HashedEntryAddress}
 use Rattle.foyer_block_index.specs.Index.{IndexState, belonging, HasRoomAt, HasRoomFor, KeepsIndex}
-use Rattle.foyer_block_index.specs.Shards.{Shard, spare_of, map_of, state_of, room, TakesOnePlace}
+use Rattle.foyer_block_index.specs.Shards.{Shard, spare_of, map_of, state_of, room, AreCountsOf, HasRoom, TakesOnePlace}
 
 pub room_is : (shards : List Shard) (i : ℕ) → slice_index (map spare_of shards) i ≡ room shards i
 room_is [] i = refl
@@ -21,15 +21,25 @@ has_room_at shards hash some =
     let there : 0 < slice_index (map spare_of shards) (hash % length shards) = subst (λ n. 0 < slice_index (map spare_of shards) (hash % n)) (length-map shards spare_of) some in
     subst (λ n. 0 < n) (room_is shards (hash % length shards)) there
 
--- shards that have room for a batch, by its counts
-pub has_room_for : (shards : List Shard) (counts : List ℕ) (n : ℕ) (es : List HashedEntryAddress) → n ≡ length shards → length counts ≡ length shards
-    → ((i : ℕ) → i < length counts → slice_index counts i ≡ belonging n i es) → HasRoomFor (state_of shards).rooms es
-    → (i : ℕ) → i < length counts → slice_index counts i ≤ room shards i
-has_room_for shards counts n es len counted is room i lt =
+-- an index whose shards have room for a batch
+pub has_room_for : (shards : List Shard) (es : List HashedEntryAddress) → HasRoomFor (state_of shards).rooms es → HasRoom (length shards) shards es
+has_room_for shards es room i lt =
     let rooms : length (map spare_of shards) ≡ length shards = length-map shards spare_of in
-    let within : i < length (map spare_of shards) = omega (arith, rooms, counted, lt) in
-    let enough : belonging n i es ≤ slice_index (map spare_of shards) i = subst (λ k. belonging k i es ≤ slice_index (map spare_of shards) i) (rooms ∙ sym len) (room i within) in
-    omega (arith, is i lt, enough, room_is shards i)
+    let enough : belonging (length shards) i es ≤ slice_index (map spare_of shards) i = subst (λ k. belonging k i es ≤ slice_index (map spare_of shards) i) rooms (room i (omega arith)) in
+    omega (arith, enough, room_is shards i)
+
+-- shards that have room for each count of a batch have room for the batch
+pub room_counted : (counts : List ℕ) (shards : List Shard) (n : ℕ) (es : List HashedEntryAddress) → AreCountsOf n counts es
+    → ((i : ℕ) → i < n → 0 < belonging n i es → slice_index counts i ≤ room shards i) → HasRoom n shards es
+room_counted counts shards n es counted enough i lt = go (belonging n i es) refl
+  where
+    go : (k : ℕ) → belonging n i es ≡ k → k ≤ room shards i
+    go zero e = omega arith
+    go (suc k) e =
+        let some : 0 < belonging n i es = omega arith in
+        let is : slice_index counts i ≡ belonging n i es = counted i lt some in
+        let fits : slice_index counts i ≤ room shards i = enough i lt some in
+        omega arith
 
 -- an insertion that was refused came where its shard had no room, so that no shard has less
 pub refused_keeps : {T E : Type 0} (r : Result T E) (old new : List Shard) (hash : ℕ) → OnErr r (map_of new ≡ map_of old) → length new ≡ length old
@@ -57,12 +67,18 @@ written_back {X} n xs ys len = subst (λ k. take k (xs ++ drop (length xs) ys) �
     take_left [] ys = refl
     take_left (x ∷ xs) ys = ap (λ l. x ∷ l) (take_left xs ys)
 
--- a reservation for a batch's counts that is refused came where a shard had no room
-pub refused_without_room : {T E : Type 0} (r : Result T E) (e : E) (state : IndexState) (shards : List Shard) (counts read : List ℕ) (n : ℕ) (es : List HashedEntryAddress)
-    → state_of shards ≡ state → n ≡ length shards → length counts ≡ length shards → ((i : ℕ) → i < length counts → slice_index counts i ≡ belonging n i es) → read ≡ counts
-    → (((i : ℕ) → i < length read → slice_index read i ≤ room shards i) → IsOk r) → r ≡ Err e → HasRoomFor state.rooms es → ⊥
-refused_without_room r e state shards counts read n es view len counted is same fits err some =
+-- counts that are read are those that were written
+pub counts_of : {n : ℕ} (m : ℕ) (read counts : List ℕ) (es : List HashedEntryAddress) → m ≡ n → read ≡ counts → AreCountsOf n counts es → AreCountsOf m read es
+counts_of {n} m read counts es len same are =
+    subst (λ k. AreCountsOf k read es) (sym len) (subst (λ (l : List ℕ). AreCountsOf n l es) (sym same) are)
+
+-- what succeeds isn't refused
+pub not_refused : {T E : Type 0} (r : Result T E) (e : E) → r ≡ Err e → IsOk r → ⊥
+not_refused r e is ok = let bad = subst IsOk is ok in cc
+
+-- a reservation for a batch that is refused came where a shard had no room
+pub refused_without_room : {T E : Type 0} (r : Result T E) (e : E) (state : IndexState) (shards : List Shard) (es : List HashedEntryAddress)
+    → state_of shards ≡ state → (HasRoom (length shards) shards es → IsOk r) → r ≡ Err e → HasRoomFor state.rooms es → ⊥
+refused_without_room r e state shards es view fits err some =
     let here : HasRoomFor (state_of shards).rooms es = subst (λ (s : IndexState). HasRoomFor s.rooms es) (sym view) some in
-    let enough : (i : ℕ) → i < length read → slice_index read i ≤ room shards i =
-    subst (λ (k : List ℕ). (i : ℕ) → i < length k → slice_index k i ≤ room shards i) (sym same) (has_room_for shards counts n es len counted is here) in
-    let ok = subst IsOk err (fits enough) in cc
+    not_refused r e err (fits (has_room_for shards es here))

@@ -1,5 +1,5 @@
 -- Insertion: of what is inserted for a hash the greatest sequence stays, the later among equals.
-use Rattle.std.specs.Prelude.{ℕ, nat_le, if◌then◌else◌, Option, Some, None, List, [], ◌∷◌, ◌++◌, IsSome}
+use Rattle.std.specs.Prelude.{ℕ, nat_le, ◌==◌, if◌then◌else◌, Option, Some, None, List, [], ◌∷◌, ◌++◌, filter, IsSome}
 use Rattle.std.specs.List.{All}
 use Rattle.std.specs.FinMap as map
 use Rattle.foyer_block_index.specs.declared.indexer.EntryAddress.{EntryAddress}
@@ -27,6 +27,10 @@ inserted m hash next = map.insert m hash (entered (map.get m hash) next)
 abbrev pub inserted_all : IndexMap → List HashedEntryAddress → IndexMap
 inserted_all m [] = m
 inserted_all m (e ∷ es) = inserted_all (inserted m e.hash (Address e.address)) es
+
+-- the entries of a hash, in their order
+abbrev pub of_hash : ℕ → List HashedEntryAddress → List HashedEntryAddress
+of_hash hash es = filter (λ e. e.hash == hash) es
 
 -- an answer with its hash, if there is one
 abbrev pub hashed : ℕ → Option EntryAddress → List HashedEntryAddress

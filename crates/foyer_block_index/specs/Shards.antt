@@ -1,6 +1,6 @@
 -- The shards of the index, as the map that they are together.
 use Rattle.std.specs.Prelude.{◌≡◌, ℕ, suc, ◌+◌, ◌<◌, ◌≤◌, ◌%◌, ◌==◌, if◌then◌else◌, length, nat_eq}
-use Rattle.std.specs.Prelude.{Option, None, IsSome, unwrap_or, option_and_then, IsSomeAnd, slice_index_or, ◌⊎◌}
+use Rattle.std.specs.Prelude.{Option, None, IsSome, unwrap_or, option_and_then, IsSomeAnd, slice_index, slice_index_or, ◌⊎◌}
 use Rattle.std.specs.Prelude.{List, [], ◌∷◌, ◌++◌, filter, map, slice_get}
 use Rattle.std.specs.List.{HoldsAt}
 use Rattle.std.specs.Option.{option_map}
@@ -64,6 +64,10 @@ room shards i = unwrap_or (option_map spare_of (slice_get shards i)) 0
 abbrev pub TakesOnePlace : List Shard → List Shard → ℕ → Type 0
 TakesOnePlace old new hash =
     (i : ℕ) → room old i ≤ room new i + (if hash % length old == i then 1 else 0)
+
+-- of n shards each in which an entry of a batch belongs is counted: how many do
+abbrev pub AreCountsOf : ℕ → List ℕ → List HashedEntryAddress → Type 0
+AreCountsOf n counts es = (i : ℕ) → i < n → 0 < belonging n i es → slice_index counts i ≡ belonging n i es
 
 -- each of n shards takes what belongs there of a batch without growing
 abbrev pub HasRoom : ℕ → List Shard → List HashedEntryAddress → Type 0

@@ -1,5 +1,5 @@
 //! The index: what each hash has, an address on the device or the mark of a delete.
-ghost use Rattle.std.specs.Prelude.{◌≡◌, ◌<◌, ◌%◌, ◌↔◌, ℕ, List, length, MatchOption, IsTrue};
+ghost use Rattle.std.specs.Prelude.{◌≡◌, ◌<◌, ◌%◌, ◌↔◌, ℕ, List, [], length, MatchOption, IsTrue};
 ghost use Rattle.std.specs.Prelude.{IfOk, OnOk, OnErr, IsOk, IsSome, IsOkUnless};
 ghost use Rattle.std.specs.Bool.{OnTrue, OnFalse};
 ghost use Rattle.std.specs.FinMap as map;
@@ -62,7 +62,7 @@ pub enum Index {
 #[derive(Drop)]
 pub struct Indexer<A: Allocator> {
     shards: Vec<Shard<A>, A>,
-    // For each shard a count, of use while a batch enters alone.
+    // For each shard a count, of use for the shards of a batch while that enters or goes alone.
     counts: Vec<usize, A>,
     // The seats of a batch, of use while its hashes get their places.
     seats: Vec<Seat, A>,
@@ -165,7 +165,7 @@ impl<A: Allocator + Clone> Indexer<A> {
     {
         let mut batch = batch;
         shards::count(&mut self.counts, &batch);
-        match shards::reserve(&mut self.shards, &self.counts) {
+        match shards::reserve(&mut self.shards, &self.counts, &batch) {
             Ok(()) => seats::seat_all(
                 &mut self.shards,
                 &mut self.seats,
@@ -181,6 +181,55 @@ impl<A: Allocator + Clone> Indexer<A> {
         }
         let answers = shards::enter_all(&mut self.shards, &mut batch);
         batch.truncate(answers);
+        Ok(batch)
+    }
+
+    // Inserts addresses in order.
+    fn enter_all(&mut self, entries: &[HashedEntryAddress]) -> Result<()>
+        ensures inserted { OnOk result (self.new.slots ≡ inserted_all self.old.slots entries.now) }
+        ensures err { OnErr result (KeepsIndex self.old self.new) }
+        ensures refused { IsOkUnless result Error.Memory }
+        ensures overwrites { AllHeld self.old.slots entries.now → IsOk result }
+        ensures room { HasRoomFor self.old.rooms entries.now → IsOk result }
+    {
+        shards::count(&mut self.counts, entries);
+        match shards::reserve(&mut self.shards, &self.counts, entries) {
+            Ok(()) => seats::seat_all(
+                &mut self.shards,
+                &mut self.seats,
+                &mut self.news,
+                entries,
+                &[],
+            ),
+            Err(refused) => {
+                if !shards::holds_all(&self.shards, entries) {
+                    return Err(refused);
+                }
+            }
+        }
+        shards::insert_all(&mut self.shards, entries);
+        Ok(())
+    }
+
+    /// Inserts addresses in order, answers none of them, and gives the batch back empty, with its memory. Memory is the only
+    /// refusal, and comes only where a hash of the batch has nothing yet and a shard lacks room. A large batch goes in faster
+    /// than by `insert_batch`, since it is ordered by shard first. That takes up to twice its bytes; if they are refused, it
+    /// goes in as it came.
+    pub fn insert_all(
+        &mut self,
+        batch: Vec<HashedEntryAddress, A>,
+    ) -> Result<Vec<HashedEntryAddress, A>>
+        ensures inserted { OnOk result (self.new.slots ≡ inserted_all self.old.slots batch.items) }
+        ensures empty { IfOk result (λ again. again.items ≡ []) }
+        ensures err { OnErr result (KeepsIndex self.old self.new) }
+        ensures refused { IsOkUnless result Error.Memory }
+        ensures overwrites { AllHeld self.old.slots batch.items → IsOk result }
+        ensures room { HasRoomFor self.old.rooms batch.items → IsOk result }
+    {
+        let mut batch = batch;
+        shards::arrange(&mut batch, self.shards.len());
+        self.enter_all(&batch)?;
+        batch.clear();
         Ok(batch)
     }
 
@@ -202,7 +251,7 @@ impl<A: Allocator + Clone> Indexer<A> {
         ensures room { HasRoomFor self.old.rooms batch.now → IsOk result }
     {
         shards::count(&mut self.counts, batch);
-        match shards::reserve(&mut self.shards, &self.counts) {
+        match shards::reserve(&mut self.shards, &self.counts, batch) {
             Ok(()) => seats::seat_all(
                 &mut self.shards,
                 &mut self.seats,

@@ -1,6 +1,7 @@
 //! Places in the shards for the hashes of a batch.
 ghost use Rattle.std.specs.Prelude.{◌≡◌, ◌<◌, ◌≤◌, ◌+◌, ◌%◌, ◌⊎◌, ◌↔◌, ℕ, None, length, drop, slice_index_or, vec_capacity, IsTrue};
 ghost use Rattle.std.specs.List.{All, Contains};
+ghost use Rattle.std.specs.List.Sorted.{IsPermutation};
 ghost use Rattle.foyer_block_index.specs.declared.indexer.HashedEntryAddress.{HashedEntryAddress};
 ghost use Rattle.foyer_block_index.specs.Entries.{hashes};
 ghost use Rattle.foyer_block_index.specs.Index.{belonging};
@@ -158,6 +159,16 @@ fn seat_gathered<A: Allocator>(
     }
 }
 
+// Orders seats by shard, unless they stand so.
+fn order<A: Allocator>(seats: &mut Vec<Seat, A>)
+    ensures moved { IsPermutation seats.old.items seats.new.items }
+    ensures capacity { vec_capacity seats.new ≡ vec_capacity seats.old }
+{
+    if !seats.is_sorted_by_key(|seat| seat.shard) {
+        seats.sort_unstable_by_key(|seat| (seat.shard, seat.hash));
+    }
+}
+
 // Places for the hashes of a batch's records without a source, where each shard has room for the batch. Where there are fewer
 // sources than records, those behind have none. Only the shards of these hashes are looked at.
 pub(crate) fn seat_all<A: Allocator>(
@@ -181,8 +192,8 @@ pub(crate) fn seat_all<A: Allocator>(
     let mut from = 0;
     'each_part: while from < batch.len() {
         from = gather(seats, batch, sources, from, shards.len());
-        seats.sort_unstable_by_key(|seat| (seat.shard, seat.hash));
-        let sorted = seats.as_slice();
-        seat_gathered(shards, news, sorted);
+        order(seats);
+        let ordered = seats.as_slice();
+        seat_gathered(shards, news, ordered);
     }
 }

@@ -81,9 +81,15 @@ impl Index {
 }
 
 /// The entries of the hashes that belong here, strictly ascending by hash.
-#[derive(Drop)]
 pub(crate) struct Shard<A: Allocator> {
     entries: Vec<Entry, A>,
+}
+
+// Written out, so that it is proved once.
+impl<A: Allocator> Drop for Shard<A> {
+    fn drop(self) {
+        let Shard { entries: _ } = self;
+    }
 }
 
 impl<A: Allocator> Model for Shard<A> {
@@ -158,10 +164,6 @@ impl<A: Allocator> Shard<A> {
         ensures same { self.new.entries ≡ self.old.entries }
         ensures refused { IsOkUnless result Error.Memory }
     {
-        // (A batch asks most shards for none.)
-        if count == 0 {
-            return Ok(());
-        }
         Ok(self.entries.reserve(count)?)
     }
 

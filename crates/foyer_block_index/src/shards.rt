@@ -1,15 +1,16 @@
 //! The shards of the index: a hash lies in the shard of its number modulo the count of shards.
-ghost use Rattle.std.specs.Prelude.{◌≡◌, ◌<◌, ◌≤◌, ◌+◌, ◌%◌, ◌↔◌, ℕ, None, [], length, take, slice_index};
-ghost use Rattle.std.specs.Prelude.{EachIndex, IfOk, OnOk, OnErr, IsOk, IsSome, IsOkUnless, IsTrue, MatchOption, is_some, true};
+ghost use Rattle.std.specs.Prelude.{◌≡◌, ◌≢◌, ◌<◌, ◌≤◌, ◌+◌, ◌%◌, ◌↔◌, ℕ, None, [], length, take, slice_index};
+ghost use Rattle.std.specs.Prelude.{IfOk, OnOk, OnErr, IsOk, IsSome, IsOkUnless, IsTrue, MatchOption, is_some, true};
 ghost use Rattle.std.specs.Bool.{OnTrue, OnFalse};
+ghost use Rattle.std.specs.List.Sorted.{IsPermutation};
 ghost use Rattle.std.specs.FinMap as map;
 ghost use Rattle.foyer_block_index.specs.Index.{belonging};
 ghost use Rattle.foyer_block_index.specs.Insertion.{displaced, inserted};
-ghost use Rattle.foyer_block_index.specs.Insertion.{inserted_all, all_left_out, AllHeld};
+ghost use Rattle.foyer_block_index.specs.Insertion.{inserted_all, all_left_out, of_hash, AllHeld};
 ghost use Rattle.foyer_block_index.specs.Committing.{is_put, committed_one, committed_all, put_count, PiecesHeld};
 ghost use Rattle.foyer_block_index.specs.Removal.{without_addresses, without_marks};
 ghost use Rattle.foyer_block_index.specs.Shards.{map_of, Seated, PiecesSeated, Placed, AddsNoPlace, AddsPlaceOf, AreFilled, AreFilledBut};
-ghost use Rattle.foyer_block_index.specs.Shards.{room, TakesOnePlace};
+ghost use Rattle.foyer_block_index.specs.Shards.{room, AreCountsOf, HasRoom, TakesOnePlace};
 
 use crate::indexer::{EntryAddress, HashedEntryAddress, Index};
 use crate::shard::Shard;
@@ -96,19 +97,22 @@ fn sweep<A: Allocator>(shards: &mut Vec<Shard<A>, A>, place: usize)
     shards[place].sweep();
 }
 
-// Takes the vacant places of the shards away whose count isn't 0.
-fn sweep_counted<A: Allocator>(shards: &mut Vec<Shard<A>, A>, counts: &[usize])
-    requires { length counts.now ≡ length shards.old.items }
+// Takes the vacant places of the shard of a hash away where its count isn't 0, which it is then.
+fn sweep_counted<A: Allocator>(shards: &mut Vec<Shard<A>, A>, counts: &mut [usize], hash: u64)
+    requires some { 0 < length shards.old.items }
+    requires counts { length counts.old ≡ length shards.old.items }
     ensures same { map_of shards.new.items ≡ map_of shards.old.items }
     ensures len { length shards.new.items ≡ length shards.old.items }
     ensures places { AddsNoPlace shards.old.items shards.new.items }
-    ensures filled { (i : ℕ) (hash : ℕ) → 0 < slice_index counts.now i → Placed shards.new.items i hash
-        → hash % length shards.new.items ≡ i → IsSome (map.get (map_of shards.new.items) hash) }
+    ensures others { (i : ℕ) → i ≢ hash % length shards.old.items → slice_index counts.new i ≡ slice_index counts.old i }
+    ensures filled { (i : ℕ) (other : ℕ) → hash % length shards.old.items ≡ i → 0 < slice_index counts.old i
+        → Placed shards.new.items i other → other % length shards.old.items ≡ i
+        → IsSome (map.get (map_of shards.new.items) other) }
 {
-    for (place, count) in counts.iter().enumerate() {
-        if *count > 0 {
-            sweep(shards, place);
-        }
+    let place = (hash % shards.len() as u64) as usize;
+    if counts[place] > 0 {
+        counts[place] = 0;
+        sweep(shards, place);
     }
 }
 
@@ -143,17 +147,16 @@ pub(crate) fn remove_addresses<A: Allocator>(
     ensures len { length shards.new.items ≡ length shards.old.items }
     ensures filled { AreFilled shards.old.items → AreFilled shards.new.items }
 {
-    if addresses.is_empty() {
-        return;
-    }
-    clear_counts(counts);
+    clear_counts(counts, addresses);
     for entry in addresses {
         if vacate(shards, entry.hash, Index::Address(entry.address)) {
             let place = (entry.hash % counts.len() as u64) as usize;
             counts[place] = 1;
         }
     }
-    sweep_counted(shards, counts);
+    'each_shard: for entry in addresses {
+        sweep_counted(shards, counts, entry.hash);
+    }
 }
 
 // Removes each hash of the list that has a mark of that very sequence.
@@ -168,17 +171,19 @@ pub(crate) fn remove_marks<A: Allocator>(
     ensures len { length shards.new.items ≡ length shards.old.items }
     ensures filled { AreFilled shards.old.items → AreFilled shards.new.items }
 {
-    if marks.is_empty() {
-        return;
+    'each_count: for mark in marks {
+        let place = (mark.hash % counts.len() as u64) as usize;
+        counts[place] = 0;
     }
-    clear_counts(counts);
     for mark in marks {
         if vacate(shards, mark.hash, Index::Tombstone(mark.sequence)) {
             let place = (mark.hash % counts.len() as u64) as usize;
             counts[place] = 1;
         }
     }
-    sweep_counted(shards, counts);
+    'each_shard: for mark in marks {
+        sweep_counted(shards, counts, mark.hash);
+    }
 }
 
 // Writes over what the hash has where that is `old`, and says whether it did.
@@ -210,44 +215,51 @@ pub(crate) fn clear<A: Allocator>(shards: &mut [Shard<A>])
     }
 }
 
-fn clear_counts(counts: &mut [usize])
-    ensures { EachIndex counts.new (λ i. slice_index counts.new i ≡ 0) }
+// Counts 0 for each shard in which an entry of a batch belongs.
+fn clear_counts(counts: &mut [usize], batch: &[HashedEntryAddress])
+    requires { 0 < length counts.old }
+    ensures { (i : ℕ) → i < length counts.old → 0 < belonging (length counts.old) i batch.now
+        → slice_index counts.new i ≡ 0 }
 {
-    for count in counts.iter_mut() {
-        *count = 0;
+    for entry in batch {
+        let place = (entry.hash % counts.len() as u64) as usize;
+        counts[place] = 0;
     }
 }
 
-// Counts for each shard the entries of a batch that belong there.
+// Counts for each shard in which an entry of a batch belongs how many do. Other shards' counts say nothing.
 pub(crate) fn count(counts: &mut [usize], batch: &[HashedEntryAddress])
     requires { 0 < length counts.old }
-    ensures { EachIndex counts.new (λ i.
-        slice_index counts.new i ≡ belonging (length counts.old) i batch.now) }
+    ensures { AreCountsOf (length counts.old) counts.new batch.now }
 {
-    clear_counts(counts);
+    clear_counts(counts, batch);
     for entry in batch {
         let place = (entry.hash % counts.len() as u64) as usize;
         counts[place] += 1;
     }
 }
 
-// Makes room in each shard for as many entries as its count says. It succeeds where each has it already.
+// Makes room in each shard for the entries of a batch that belong there, as counted. It succeeds where each has it already.
+// Only the shards of these entries are looked at.
 pub(crate) fn reserve<A: Allocator + Clone>(
     shards: &mut Vec<Shard<A>, A>,
     counts: &[usize],
+    batch: &[HashedEntryAddress],
 ) -> Result<()>
-    requires { length counts.now ≡ length shards.old.items }
-    ensures room { OnOk result (EachIndex counts.now (λ i.
-        slice_index counts.now i ≤ room shards.new.items i)) }
-    ensures fits { EachIndex counts.now (λ i. slice_index counts.now i ≤ room shards.old.items i) → IsOk result }
+    requires some { 0 < length shards.old.items }
+    requires counts { length counts.now ≡ length shards.old.items }
+    requires counted { AreCountsOf (length shards.old.items) counts.now batch.now }
+    ensures room { OnOk result (HasRoom (length shards.new.items) shards.new.items batch.now) }
+    ensures fits { HasRoom (length shards.old.items) shards.old.items batch.now → IsOk result }
     ensures kept { (i : ℕ) → room shards.old.items i ≤ room shards.new.items i }
     ensures unchanged { map_of shards.new.items ≡ map_of shards.old.items }
     ensures len { length shards.new.items ≡ length shards.old.items }
     ensures places { AddsNoPlace shards.old.items shards.new.items }
     ensures refused { IsOkUnless result Error.Memory }
 {
-    for (place, count) in counts.iter().enumerate() {
-        shards[place].reserve(*count)?;
+    for entry in batch {
+        let place = (entry.hash % counts.len() as u64) as usize;
+        shards[place].reserve(counts[place])?;
     }
     Ok(())
 }
@@ -349,6 +361,33 @@ fn commit_one<A: Allocator + Clone>(
             Index::Address(over),
             Index::Address(record.address),
         ),
+    }
+}
+
+// Orders a batch by shard; the entries of each hash stand as before. Where memory for that is refused, it stays as it was.
+pub(crate) fn arrange<A: Allocator>(batch: &mut Vec<HashedEntryAddress, A>, shards: usize)
+    requires { 0 < shards }
+    ensures moved { IsPermutation batch.old.items batch.new.items }
+    ensures hashes { (hash : ℕ) → of_hash hash batch.new.items ≡ of_hash hash batch.old.items }
+{
+    let shards = shards as u64;
+    let _ = batch.sort_by_cached_key(|entry| entry.hash % shards);
+}
+
+// Inserts a batch in order, whose hashes have their places.
+pub(crate) fn insert_all<A: Allocator + Clone>(
+    shards: &mut Vec<Shard<A>, A>,
+    batch: &[HashedEntryAddress],
+)
+    requires some { 0 < length shards.old.items }
+    requires seated { PiecesSeated shards.old.items batch.now [] }
+    requires filled { AreFilledBut shards.old.items batch.now [] 0 }
+    ensures inserted { map_of shards.new.items ≡ inserted_all (map_of shards.old.items) batch.now }
+    ensures len { length shards.new.items ≡ length shards.old.items }
+    ensures filled { AreFilled shards.new.items }
+{
+    'each_entry: for i in 0..batch.len() {
+        commit_one(shards, &batch[i], None);
     }
 }
 

@@ -64,8 +64,7 @@ impl<A: Allocator + Clone> BlocksRead<A> {
     {
         self.greatest = greatest_in(self.greatest, &batch);
         self.inserted = self.inserted.saturating_add(batch.len());
-        let mut again = self.index.insert_batch(batch)?;
-        again.clear();
+        let again = self.index.insert_all(batch)?;
         Ok(again)
     }
 

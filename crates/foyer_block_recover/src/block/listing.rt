@@ -6,7 +6,8 @@ ghost use Rattle.foyer_format_buffer.specs.Fills.{AreSizes};
 ghost use Rattle.foyer_io_disk.specs.Disk.{SurelyCame};
 ghost use Rattle.foyer_block_recover.specs.Chained.{IsKeptOf};
 ghost use Rattle.foyer_block_recover.specs.Placed.{IsSomeKept};
-ghost use Rattle.foyer_block_recover.specs.Sources.{IsListingOf, IsSource, is_of, listing_at, listing_in, sure_in};
+ghost use Rattle.foyer_format_layout.specs.Each.{Each};
+ghost use Rattle.foyer_block_recover.specs.Sources.{IsListingOf, IsSource, IsWithinBlock, is_of, listing_at, listing_in, sure_in};
 
 use crate::block::chain::{Chain, read_chain};
 use foyer_block_index::indexer::HashedEntryAddress;
@@ -18,7 +19,6 @@ use std::marker::{Model, PhantomData};
 
 /// What is kept of one block, as one reading of its chain gave it. Some disk gave it: where contracts see that disk's bytes,
 /// it is what these list, but for reads that failed. Whatever the disk, its entries lie in the block.
-#[derive(Drop)]
 pub struct BlockListing<A: Allocator, D: Disk> {
     block: BlockId,
     block_size: usize,
@@ -26,6 +26,20 @@ pub struct BlockListing<A: Allocator, D: Disk> {
     kept: Vec<HashedEntryAddress, A>,
     is_cut: bool,
     disk: PhantomData<D>,
+}
+
+// Written out, so that it is proved once.
+impl<A: Allocator, D: Disk> Drop for BlockListing<A, D> {
+    fn drop(self) {
+        let BlockListing {
+            block: _,
+            block_size: _,
+            index_size: _,
+            kept: _,
+            is_cut: _,
+            disk: _,
+        } = self;
+    }
 }
 
 impl<A: Allocator, D: Disk> Model for BlockListing<A, D> {
@@ -100,6 +114,23 @@ impl<A: Allocator, D: Disk> BlockListing<A, D> {
         self.block
     }
 
+    // What is kept, and whether its chain is cut. Its entries lie in the block.
+    fn into_kept(self) -> (Vec<HashedEntryAddress, A>, bool)
+        ensures kept { result.0.items ≡ self.kept }
+        ensures cut { result.1 ≡ self.is_cut }
+        ensures within { Each (IsWithinBlock self.sizes self.block) self.kept }
+    {
+        let BlockListing {
+            block: _,
+            block_size: _,
+            index_size: _,
+            kept,
+            is_cut,
+            disk: _,
+        } = self;
+        (kept, is_cut)
+    }
+
     // Whether it is of this block, in these sizes.
     fn is_of(&self, block: BlockId, block_size: usize, index_size: usize) -> bool
         ensures { result ≡ is_of (record { block = block_size; index = index_size }) block self.now }
@@ -139,11 +170,7 @@ pub(crate) fn list_chain<A: Allocator + Clone, D: Disk>(
     let Some(listing) = listing else {
         return read_chain(alloc, disk, block, block_size, buffer, kept);
     };
-    let BlockListing {
-        kept: mut listed,
-        is_cut,
-        ..
-    } = listing;
+    let (mut listed, is_cut) = listing.into_kept();
     let mut kept = kept;
     kept.append(&mut listed)?;
     Ok(Chain {

@@ -12,11 +12,11 @@ pub seat_gathered-requires-clause-own : goal.seat_gathered-requires-clause-own
 seat_gathered-requires-clause-own g c =
     let now = c.each_part.shards.items in
     let gathered : List Seat = c.gather-from.new.seats.items in
-    let sorted : List Seat = c.sort_unstable_by_key.new.self.items in
+    let sorted : List Seat = c.order.new.seats.items in
     let P = λ (s : Seat). IsOwnPending c.len.result s.shard c.args.batch.now c.args.sources.now s.hash in
-    let ours : All P sorted = All-permutation P gathered sorted c.sort_unstable_by_key.ensures.permutation c.gather-from.ensures.ours in
+    let ours : All P sorted = All-permutation P gathered sorted c.order.ensures.moved c.gather-from.ensures.ours in
     let count : c.len.result ≡ length now = omega (arith, c.len.ensures) in
-    subst (λ l. All (λ (s : Seat). s.hash % length now ≡ s.shard) l) (sym c.as_slice-sorted.ensures.value)
+    subst (λ l. All (λ (s : Seat). s.hash % length now ≡ s.shard) l) (sym c.as_slice-ordered.ensures.value)
     (λ k d lt. ap (λ n. (get_or sorted k d).hash % n) (sym count) ∙ (ours k d lt).0)
 
 pub seat_gathered-requires-clause-room : goal.seat_gathered-requires-clause-room
@@ -25,14 +25,14 @@ seat_gathered-requires-clause-room g c = λ i lt.
     let before = c.args.shards.now.items in
     let batch = c.args.batch.now in
     let gathered : List Seat = c.gather-from.new.seats.items in
-    let sorted : List Seat = c.sort_unstable_by_key.new.self.items in
+    let sorted : List Seat = c.order.new.seats.items in
     let len : length now ≡ length before = c.each_part.invariant.len in
     let count : c.len.result ≡ length before = omega (arith, c.len.ensures) in
     let few : seats_in i gathered + belonging (length before) i (drop c.gather-from.result batch) ≤ belonging (length before) i (drop c.each_part.from batch) =
     subst (λ n. seats_in i gathered + belonging n i (drop c.gather-from.result batch) ≤ belonging n i (drop c.each_part.from batch)) count (c.gather-from.ensures.few i) in
     let had : belonging (length before) i (drop c.each_part.from batch) ≤ room now i = c.each_part.invariant.room i (omega arith) in
-    let as_many : seats_in i sorted ≡ seats_in i gathered = sum_by-IsPermutation (λ s. cond (s.shard == i) 1 0) gathered sorted c.sort_unstable_by_key.ensures.permutation in
-    subst (λ l. seats_in i l ≤ room now i) (sym c.as_slice-sorted.ensures.value) (omega arith)
+    let as_many : seats_in i sorted ≡ seats_in i gathered = sum_by-IsPermutation (λ s. cond (s.shard == i) 1 0) gathered sorted c.order.ensures.moved in
+    subst (λ l. seats_in i l ≤ room now i) (sym c.as_slice-ordered.ensures.value) (omega arith)
 
 pub each_part-preserved : goal.each_part-preserved
 each_part-preserved g c =
@@ -42,12 +42,12 @@ each_part-preserved g c =
     let batch = c.args.batch.now in
     let sources = c.args.sources.now in
     let gathered : List Seat = c.gather-from.new.seats.items in
-    let seats : List Seat = c.as_slice-sorted.result.now in
+    let seats : List Seat = c.as_slice-ordered.result.now in
     let len : length now ≡ length before = c.each_part.invariant.len in
     let count : c.len.result ≡ length before = omega (arith, c.len.ensures) in
-    let sorted : IsPermutation gathered seats = subst (λ l. IsPermutation gathered l) (sym c.as_slice-sorted.ensures.value) c.sort_unstable_by_key.ensures.permutation in
+    let sorted : IsPermutation gathered seats = subst (λ l. IsPermutation gathered l) (sym c.as_slice-ordered.ensures.value) c.order.ensures.moved in
     let gathered_capacity : 0 < vec_capacity c.gather-from.new.seats = c.gather-from.ensures.memory in
-    let capacity : vec_capacity c.sort_unstable_by_key.new.self ≡ vec_capacity c.gather-from.new.seats = c.sort_unstable_by_key.ensures.capacity in
+    let capacity : vec_capacity c.order.new.seats ≡ vec_capacity c.gather-from.new.seats = c.order.ensures.capacity in
     let P = λ (s : Seat). IsOwnPending c.len.result s.shard batch sources s.hash in
     record {
       seats = omega arith;

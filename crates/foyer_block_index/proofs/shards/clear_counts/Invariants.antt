@@ -1,5 +1,9 @@
-use Rattle.std.proofs.Common.{◌≡◌, ◌<◌, ℕ, slice_index}
+use Rattle.std.proofs.Common.{◌≡◌, ◌<◌, ℕ, length, take, slice_index}
+use Rattle.foyer_block_index.specs.Index.{belonging}
 use Rattle.foyer_block_index.proofs.shards.clear_counts.Given as goal
 
-abbrev pub invariant-loop-count : goal.invariant-loop-count
-invariant-loop-count l = (s : ℕ) → s < l.count-index → slice_index l.counts s ≡ 0
+abbrev pub invariant-loop-entry : goal.invariant-loop-entry
+invariant-loop-entry l = record {
+  len : length l.counts ≡ length l.fn.counts;
+  cleared : (s : ℕ) → s < length l.fn.counts → 0 < belonging (length l.fn.counts) s (take l.entry-index l.batch) → slice_index l.counts s ≡ 0;
+}

@@ -13,6 +13,6 @@ loop-entry-preserved c =
     let hash = (get_or c.args.batch.now c.loop-entry.entry-index zero_entry).hash in
     record {
       len = length-set c.loop-entry.counts _ _ ∙ len;
-      counted = counted_more c.loop-entry.counts (length c.args.counts.now) (hash % length c.loop-entry.counts) c.args.batch.now c.loop-entry.entry-index zero_entry
-          within (ap (λ n. hash % n) len) c.requires len c.loop-entry.invariant.counted;
+      counted = λ s lt some. counted_more c.loop-entry.counts (length c.args.counts.now) (hash % length c.loop-entry.counts) c.args.batch.now c.loop-entry.entry-index zero_entry
+          within (ap (λ n. hash % n) len) c.requires len s (c.loop-entry.invariant.counted s lt some);
     }

@@ -2,9 +2,9 @@ use Rattle.std.proofs.Common.{◌≡◌, ℕ, [], List, length, ap, sym, subst, 
 use Rattle.foyer_block_index.specs.declared.indexer.HashedEntryAddress.{HashedEntryAddress}
 use Rattle.foyer_block_index.specs.Index.{IndexState, HasRoomFor, KeepsIndex}
 use Rattle.foyer_block_index.specs.Insertion.{AllHeld}
-use Rattle.foyer_block_index.specs.Shards.{Shard, map_of, state_of, PiecesSeated, AreFilled, AreFilledBut}
+use Rattle.foyer_block_index.specs.Shards.{Shard, map_of, state_of, AreCountsOf, PiecesSeated, AreFilled, AreFilledBut}
 use Rattle.foyer_block_index.proofs.Filling.{filled_kept, filled_seated, filled_but}
-use Rattle.foyer_block_index.proofs.Rooms.{keeps_index, written_back, refused_without_room}
+use Rattle.foyer_block_index.proofs.Rooms.{keeps_index, written_back, counts_of, refused_without_room}
 use Rattle.foyer_block_index.proofs.Seating.{all_seated}
 use Rattle.foyer_block_index.proofs.indexer.Indexer.insert_batch.Goals.{in-Ok, in-Err+else-not-holds_all}
 use Rattle.foyer_block_index.proofs.indexer.Indexer.insert_batch.Goals as goal
@@ -46,12 +46,17 @@ pub returns-then-not-holds_all-clause-err : goal.returns-then-not-holds_all-clau
 returns-then-not-holds_all-clause-err g c = subst (λ (s : IndexState). KeepsIndex s (state_of c.reserve.new.shards.items)) c.self.view_is
     (keeps_index c.self.inside.shards.items c.reserve.new.shards.items c.reserve.ensures.unchanged c.reserve.ensures.len c.reserve.ensures.kept)
 
-pub returns-then-not-holds_all-clause-room : goal.returns-then-not-holds_all-clause-room
-returns-then-not-holds_all-clause-room g c = λ some.
+pub reserve-requires-clause-counted : goal.reserve-requires-clause-counted
+reserve-requires-clause-counted g c =
     let counted : length c.deref_mut.result.now ≡ length c.self.inside.shards.items = ap (λ (l : List ℕ). length l) c.deref_mut.ensures.value ∙ c.self.invariant.1 in
     let counts : length c.count.new.counts ≡ length c.deref_mut.result.now = c.count.auto.counts in
     let same : c.deref-2.result.now ≡ c.count.new.counts =
     c.deref-2.ensures.value ∙ written_back c.self.inside.counts.len c.count.new.counts c.self.inside.counts.items
     (counts ∙ ap (λ (l : List ℕ). length l) c.deref_mut.ensures.value ∙ sym c.self.inside.counts.ok.0) in
-    absurd (refused_without_room c.reserve.result c.in-Err.refused c.args.self.now c.self.inside.shards.items c.count.new.counts c.deref-2.result.now (length c.deref_mut.result.now)
-    c.deref.result.now c.self.view_is counted (counts ∙ counted) c.count.ensures same c.reserve.ensures.fits c.in-Err.is (subst (HasRoomFor c.args.self.now.rooms) (sym c.deref.ensures.value) some))
+    let batch : c.deref.result.now ≡ c.deref-3.result.now = c.deref.ensures.value ∙ sym c.deref-3.ensures.value in
+    counts_of (length c.self.inside.shards.items) c.deref-2.result.now c.count.new.counts c.deref-3.result.now (sym counted) same (subst (AreCountsOf (length c.deref_mut.result.now) c.count.new.counts) batch c.count.ensures)
+
+pub returns-then-not-holds_all-clause-room : goal.returns-then-not-holds_all-clause-room
+returns-then-not-holds_all-clause-room g c = λ some.
+    absurd (refused_without_room c.reserve.result c.in-Err.refused c.args.self.now c.self.inside.shards.items c.deref-3.result.now c.self.view_is c.reserve.ensures.fits c.in-Err.is
+    (subst (HasRoomFor c.args.self.now.rooms) (sym c.deref-3.ensures.value) some))

@@ -1,9 +1,8 @@
-use Rattle.std.proofs.Common.{◌≡◌, ◌++◌, true, vec_len, IfSome, sym, ap, subst}
+use Rattle.std.proofs.Common.{◌≡◌, ◌++◌, true, vec_len, IfSome, sym, subst}
 use Rattle.foyer_io_disk.specs.Disk.{SurelyCame}
-use Rattle.foyer_format_layout.specs.Each.{Each}
 use Rattle.foyer_format_layout.specs.Position.{Sizes}
 use Rattle.foyer_block_recover.specs.Placed.{IsSomeKept}
-use Rattle.foyer_block_recover.specs.Sources.{Listing, IsWithinBlock, is_of}
+use Rattle.foyer_block_recover.specs.Sources.{Listing, is_of}
 use Rattle.foyer_block_recover.proofs.SourcesLemmas.{by_disk, of_this, some_by, within_of}
 use Rattle.foyer_block_recover.proofs.block.listing.list_chain.Goals as goal
 
@@ -20,7 +19,7 @@ returns-clause-some g c =
     let b = c.args.block in
     let l = c.in-Some.listing in
     let own : is_of s b l ≡ true = subst (λ o. IfSome o (λ (x : Listing). is_of s b x ≡ true)) c.in-Some.is c.requires.own in
-    let lies : Each (IsWithinBlock l.sizes l.block) l.kept = subst (λ (x : Listing). Each (IsWithinBlock x.sizes x.block) x.kept) c.listing.view_is c.listing.invariant.1 in
-    let here : IsSomeKept s b c.args.kept.items (c.args.kept.items ++ l.kept) = some_by s b c.args.kept.items l.kept (within_of s b l (of_this s b l own) lies) in
-    let same : l.kept ≡ c.listing.inside.kept.items = sym (ap (λ (x : Listing). x.kept) c.listing.view_is) in
-    subst (λ es. IsSomeKept s b c.args.kept.items es) (sym c.in_ok-append.ensures.items) (subst (λ es. IsSomeKept s b c.args.kept.items (c.args.kept.items ++ es)) same here)
+    let here : IsSomeKept s b c.args.kept.items (c.args.kept.items ++ l.kept) =
+    some_by s b c.args.kept.items l.kept (within_of s b l (of_this s b l own) c.into_kept-listed.ensures.within) in
+    subst (λ es. IsSomeKept s b c.args.kept.items es) (sym c.in_ok-append.ensures.items)
+    (subst (λ es. IsSomeKept s b c.args.kept.items (c.args.kept.items ++ es)) (sym c.into_kept-listed.ensures.kept) here)
