@@ -13,7 +13,7 @@ use Rattle.foyer_core_model.specs.Rules.{Rules}
 use Rattle.foyer_core_model.specs.State as model_state
 use Rattle.foyer_block_recover.specs.Opening.{Opened, Found, Stands, Marked, hash_of, sequence_of, first_or, winner, opened_at, slot_of, stand_in, all_stand, all_marked, greatest, is_empty, clean_from}
 use Rattle.foyer_block_recover.specs.Placed.{IsPlaced, IsOpening}
-use Rattle.foyer_block_recover.proofs.CleanLemmas.{clean_is, clean_below}
+use Rattle.foyer_block_recover.proofs.CleanLemmas.{clean_is}
 use Rattle.foyer_block_recover.proofs.FoundLemmas.{clean_push}
 use Rattle.foyer_core_laws.specs.Begins.{place_of, opened_state, opened_world}
 use Rattle.foyer_core_laws.specs.CoreRules.{rules_of}

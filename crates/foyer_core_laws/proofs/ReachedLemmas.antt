@@ -1,10 +1,10 @@
 -- A run of the smallest core that leaves an address in the index.
-use Rattle.std.proofs.Common.{◌≡◌, ℕ, ◌+◌, ◌-◌, ◌<◌, ◌≤◌, ◌^◌, nat_lt, Bool, true, false, ◌&&◌, if◌then◌else◌, Some, None, List, [], ◌∷◌, ◌++◌, length, replicate, ◌⊎◌, inl, inr, refl, sym, ap, subst, ◌∙◌, arith}
+use Rattle.std.proofs.Common.{◌≡◌, ℕ, ◌+◌, ◌-◌, ◌<◌, ◌≤◌, ◌^◌, nat_le, nat_lt, Bool, true, false, ◌&&◌, if◌then◌else◌, Some, None, List, [], ◌∷◌, ◌++◌, length, replicate, inl, inr, refl, sym, ap, subst, ◌∙◌, arith}
 use Rattle.std.proofs.lemmas.Bool.Decides.{nat_tests}
 use Rattle.std.proofs.lemmas.List.{length-append, length-replicate, take_at, drop_all}
 use Rattle.foyer_format_blob.specs.Blob.{IsSealed}
 use Rattle.foyer_format_blob.specs.declared.blob.BlobEntryIndex.{BlobEntryIndex}
-use Rattle.foyer_format_layout.specs.BlockBytes.{laid, read, Index, Write, Data}
+use Rattle.foyer_format_layout.specs.BlockBytes.{laid, read, Index, Write, Data, zeros_write}
 use Rattle.foyer_format_buffer.specs.Listing.{IsIndex, Lists}
 use Rattle.foyer_format_buffer.specs.Listing.Chain.{ends, goes}
 use Rattle.foyer_format_layout.proofs.BlockBytesLaws.{read_whole}
@@ -14,7 +14,7 @@ use Rattle.foyer_format_layout.proofs.PageLaws.{page_up-holds, page_up-least}
 use Rattle.foyer_format_record.proofs.RecordBytes.{length-record_bytes}
 use Rattle.foyer_core_model.specs.Numbers.{put}
 use Rattle.foyer_core_model.specs.Record.{IndexEntry, Record, Given}
-use Rattle.foyer_core_model.specs.Position.{Position, Part, BlockLayout}
+use Rattle.foyer_core_model.specs.Position.{Position, Part, BlockLayout, records_in}
 use Rattle.foyer_core_model.specs.State.{Flusher, Piece, Batch, Writing, Clean, Writes, no_stats, NoDestroy, State}
 use Rattle.foyer_core_model.specs.Rules.{Rules, first_position}
 use Rattle.foyer_core_model.specs.Step.{Fresh, Young, Enqueue, Receive, FlushBegin, FlushBlock, FlushWrote}
@@ -22,7 +22,7 @@ use Rattle.foyer_core_model.specs.Reply.{Queued, Received, Began, Written, Next,
 use Rattle.foyer_core_model.specs.Layout.{writes_in}
 use Rattle.foyer_core_model.specs.Queue.{queued}
 use Rattle.foyer_core_model.specs.Receive.{pushed_to, turned}
-use Rattle.foyer_core_model.specs.Flush.{released, block_issued, write_done, block_done}
+use Rattle.foyer_core_model.specs.Flush.{released, write_done, block_done}
 use Rattle.foyer_core_model.specs.Access.{Idle, CleanIdle}
 use Rattle.foyer_core_model.specs.World.{World, WorldEvent, Applies, WriteBegins, WriteEnds, after, MayHappen}
 use Rattle.foyer_core_model.specs.Opened.{IsOpened, idle, full_filling}
@@ -33,6 +33,7 @@ use Rattle.foyer_core_layout.specs.Splits.LaidOut.{part}
 use Rattle.foyer_core_layout.specs.Splits.Left.{done}
 use Rattle.foyer_block_recover.specs.Opening.{Keeps, Opened, Opens, winner, slot_of, all_stand, greatest, clean_from}
 use Rattle.foyer_block_recover.specs.declared.block.recover.RecoverMode.TheVariants as recover_mode
+use Rattle.foyer_core_restart.proofs.TornMachine.{issued_as}
 use Rattle.foyer_core_restart.proofs.Witness.{first_only}
 use Rattle.foyer_core_restart.specs.Restart.{HasNoStrays, IsWriting, no_fault}
 use Rattle.foyer_core_laws.specs.Content.{Content}
@@ -198,11 +199,23 @@ module _ (is_key is_value : List ℕ → Bool) (s : Settings) (sound : AreValid 
   abbrev c3 : State Content
   c3 = record (turned rules c2 0 (record (c2.flushers 0) { buffer = []; marks = []; invalidated = []; waits = []; context = end; batch = Some batch })) { steps = 3 }
 
+  -- the block has no room behind its record
+  abbrev plain : List Write
+  plain = record { role = Data; offset = 0 + 4096; bytes = content } ∷ record { role = Index; offset = 0; bytes = index } ∷ []
+
+  full : nat_le (0 + 4096 + length content + 4096) 8192 ≡ false
+  full = let l : length content ≡ page_up n = content_len in let m : 0 < page_up n = page_some in grind (arith, nat_tests)
+
+  plain_in : plain ≡ writes_in rules sp.parts
+  plain_in = sym (ap (λ (b : Bool).
+      (record { role = Data; offset = 0 + 4096; bytes = content }
+      ∷ (if b then zeros_write (0 + 4096 + length content) ∷ record { role = Index; offset = 0; bytes = index } ∷ [] else record { role = Index; offset = 0; bytes = index } ∷ [])) ++ []) full)
+
   abbrev c4 : State Content
-  c4 = record (record (block_issued rules c3 0 0 batch sp []) { filling = put c3.filling 0 1; clean = []; place = put (released None c3.place) 0 (Writes 0) }) { steps = 4 }
+  c4 = record (record (issued_as c3 0 0 batch plain (records_in sp.parts) []) { filling = put c3.filling 0 1; clean = []; place = put (released None c3.place) 0 (Writes 0) }) { steps = 4 }
 
   abbrev writing : Writing Content
-  writing = record { block = 0; left = writes_in rules sp.parts; records = (4096, one) ∷ [] }
+  writing = record { block = 0; left = plain; records = (4096, one) ∷ [] }
 
   abbrev issued : Batch Content
   issued = record batch { blocks = []; writing = Some writing }
@@ -231,7 +244,7 @@ module _ (is_key is_value : List ℕ → Bool) (s : Settings) (sound : AreValid 
   e3 = Applies (FlushBegin 0) (Began (sp ∷ []) []) c3
 
   abbrev e4 : WorldEvent Content
-  e4 = Applies (FlushBlock 0) (Written 0 (writes_in rules sp.parts)) c4
+  e4 = Applies (FlushBlock 0) (Written 0 plain) c4
 
   abbrev w4 : World Content
   w4 = after rules (after rules (after rules (after rules w0 e1) e2) e3) e4
@@ -285,8 +298,8 @@ module _ (is_key is_value : List ℕ → Bool) (s : Settings) (sound : AreValid 
       omega arith,
       (omega arith, ((λ e. cc), refl)),
       (
-        record (block_issued rules c3 0 0 batch sp []) { filling = put c3.filling 0 1; clean = []; place = put (released None c3.place) 0 (Writes 0) },
-        (sp, [], refl, refl, inr (inr (refl, refl, refl, refl))),
+        record (issued_as c3 0 0 batch plain (records_in sp.parts) []) { filling = put c3.filling 0 1; clean = []; place = put (released None c3.place) 0 (Writes 0) },
+        (sp, [], refl, plain_in, inr (inr (refl, refl, refl, (λ t. record (issued_as c3 0 0 batch (plain_in t) (records_in sp.parts) []) { filling = put c3.filling 0 1; clean = []; place = put (released None c3.place) 0 (Writes 0) })))),
         refl,
       ),
     ),

@@ -1,7 +1,7 @@
 -- The model's states and worlds that a run of a core begins with: what an opening found.
 use Rattle.std.specs.Prelude.{ℕ, false, nat_lt, if◌then◌else◌, List, [], None}
 use Rattle.foyer_core_model.specs.Access.{Idle, CleanIdle}
-use Rattle.foyer_core_model.specs.Ids.{ids, is_id_in}
+use Rattle.foyer_core_model.specs.Ids.{is_id_in}
 use Rattle.foyer_core_model.specs.Opened.{idle, full_filling, block_among, recovered}
 use Rattle.foyer_core_model.specs.Record.{Address}
 use Rattle.foyer_core_model.specs.Rules.{Rules}

@@ -1,5 +1,5 @@
 -- The model that a core is: its sizes, and what its bytes mean.
-use Rattle.std.specs.Prelude.{◌≡◌, ℕ, ◌-◌, ◌%◌, ◌^◌, ◌<◌, ◌≤◌, Bool, true, nat_lt, ◌&&◌, if◌then◌else◌, List, map, length, Option, Some, None}
+use Rattle.std.specs.Prelude.{◌≡◌, ℕ, ◌%◌, ◌^◌, ◌<◌, ◌≤◌, Bool, true, nat_lt, ◌&&◌, if◌then◌else◌, List, map, length, Option, Some, None}
 use Rattle.std.specs.Option.{option_map}
 use Rattle.std.proofs.Common.{arith}
 use Rattle.foyer_format_layout.specs.Page.{page_up}
@@ -61,7 +61,7 @@ rules_of is_key is_value s sound = record {
   encode = encoded;
   pair_of = λ b hash sequence. outcome_of (pair_of is_key is_value b hash sequence);
   entries_of = entries_at s;
-  writes_of = part_writes;
+  writes_of = part_writes s.block_size;
   some_flusher = sound.some_flusher;
   page_up_above = page_up_above;
   index_holds_page = holds_page s.blob_index_size sound.some_index sound.whole_index;

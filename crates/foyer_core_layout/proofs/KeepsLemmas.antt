@@ -3,14 +3,14 @@ use Rattle.std.proofs.Common.{◌≡◌, ℕ, ◌+◌, ◌<◌, ◌≤◌, List,
 use Rattle.std.proofs.lemmas.List.{map-append, append_assoc}
 use Rattle.foyer_format_layout.specs.Position.{Sizes, tail_of, MayWrite, next_blob, fresh}
 use Rattle.foyer_format_layout.specs.Page.{page_up}
-use Rattle.foyer_format_layout.proofs.BlockBytesLaws.{beside_or, laid_beside, laid_there, laid_outside, within_more}
-use Rattle.foyer_format_layout.specs.BlockBytes.{Data, Index, Write, laid, all_laid, IsBeside, AllWithin}
+use Rattle.foyer_format_layout.proofs.BlockBytesLaws.{beside_or, laid_beside, laid_there, laid_outside, within_more, all_laid_zeros, zeroed_before, within_zeros, with_zeros-append}
+use Rattle.foyer_format_layout.specs.BlockBytes.{Data, Index, Write, laid, all_laid, IsBeside, AllWithin, with_zeros, zeroed}
 use Rattle.foyer_core_model.specs.Position.{Position, Part, BlockLayout, records_in, records_of, last_end}
 use Rattle.foyer_core_model.specs.Layout.{AllStand, AllOutside, AllBehind, writes_in, KeepsBlock, KeepsBlocks, KeepsRecords}
 use Rattle.foyer_core_model.specs.Receive.{bytes_taken}
 use Rattle.foyer_core_model.specs.Record.{Record}
 use Rattle.foyer_core_model.specs.Rules.{Rules, first_position, sizes_of}
-use Rattle.foyer_core_layout.specs.Splits.{laid_from, with_records, IsPart, LaidOut, Left, part_writes, MayGoOn, IsLaidOut, AreRules}
+use Rattle.foyer_core_layout.specs.Splits.{laid_from, with_records, IsPart, LaidOut, Left, MayGoOn, IsLaidOut, AreRules}
 use Rattle.foyer_core_layout.specs.Splits.LaidOut.{part, none}
 use Rattle.foyer_core_layout.specs.Splits.Left.{done, blob, block}
 use Rattle.foyer_core_layout.proofs.LaidLemmas.{stand_same, outside_less, outside_pages, stand_join, outside_join, behind_join, bytes_stand, bytes_len, laid_outside_all, laid_behind, laid_records}
@@ -28,8 +28,17 @@ module _ {C : Type 0} (rules : Rules C) (are : AreRules rules) where
   pub records_less : (f : Position) (now : List (Record C)) (o : ℕ) → MayWrite rules.index_size (with_records f now) o → MayWrite rules.index_size f o
   records_less f now o may = elim may [ inl l ↦ inl (omega arith) | inr l ↦ inr l ]
 
-  writes_cons : (p : Part C) (ps : List (Part C)) → writes_in rules (p ∷ ps) ≡ part_writes p ++ writes_in rules ps
-  writes_cons p ps = ap (λ ws. ws ++ writes_in rules ps) (are.writes p)
+  abbrev data_of : Part C → Write
+  data_of p = record { role = Data; offset = p.blob + p.at; bytes = p.content }
+
+  abbrev index_of : Part C → Write
+  index_of p = record { role = Index; offset = p.blob; bytes = p.index }
+
+  writes_cons : (p : Part C) (ps : List (Part C))
+      → writes_in rules (p ∷ ps) ≡ data_of p ∷ with_zeros rules.block_size (p.blob + p.at + length p.content) (index_of p ∷ writes_in rules ps)
+  writes_cons p ps =
+      ap (λ ws. ws ++ writes_in rules ps) (are.writes p)
+      ∙ ap (λ ws. data_of p ∷ ws) (with_zeros-append rules.block_size (p.blob + p.at + length p.content) (index_of p ∷ []) (writes_in rules ps))
 
   at_end : (f : Position) → Keeps f [] [] f []
   at_end f = record {
@@ -68,6 +77,14 @@ module _ {C : Type 0} (rules : Rules C) (are : AreRules rules) where
     abbrev index_write : Write
     index_write = record { role = Index; offset = p.blob; bytes = p.index }
 
+    -- where its data end
+    abbrev end_at : ℕ
+    end_at = p.blob + p.at + length p.content
+
+    -- its data and the zeros behind them
+    abbrev before : (ℕ → ℕ) → ℕ → ℕ
+    before g = zeroed rules.block_size end_at (laid data_write g)
+
     size : length p.content ≡ bytes_taken page_up now
     size = bytes_len p.content now is.content
 
@@ -85,6 +102,11 @@ module _ {C : Type 0} (rules : Rules C) (are : AreRules rules) where
     beside_index : (o : ℕ) → (MayWrite rules.index_size (with_records f now) o → ⊥) → IsBeside index_write o
     beside_index o out = elim (beside_or index_write o) [ inl outside ↦ outside | inr inside ↦ absurd (out (inr (in_present o inside))) ]
 
+    in_front : (o : ℕ) → (MayWrite rules.index_size (with_records f now) o → ⊥) → o < end_at
+    in_front o out =
+        let low : tail_of (with_records f now) ≤ o → ⊥ = λ l. out (inl l) in
+        omega (arith, is.blob, is.at, size, low)
+
     abbrev own : List (ℕ × Record C)
     own = laid_from (tail_of f) now
 
@@ -100,28 +122,33 @@ module _ {C : Type 0} (rules : Rules C) (are : AreRules rules) where
     abbrev later : List Write
     later = writes_in rules parts
 
-    all_stand : (g : ℕ → ℕ) → AllStand (all_laid (data_write ∷ index_write ∷ later) g) (own ++ records_in parts)
-    all_stand g = stand_join (all_laid later (laid index_write (laid data_write g))) own (records_in parts)
-        (stand_same rules.page_up (MayWrite rules.index_size (with_records f now)) (laid data_write g) (all_laid later (laid index_write (laid data_write g))) own
+    abbrev all_writes : List Write
+    all_writes = data_write ∷ with_zeros rules.block_size end_at (index_write ∷ later)
+
+    all_stand : (g : ℕ → ℕ) → AllStand (all_laid all_writes g) (own ++ records_in parts)
+    all_stand g = subst (λ k. AllStand k (own ++ records_in parts)) (sym (all_laid_zeros rules.block_size end_at (index_write ∷ later) (laid data_write g)))
+        (stand_join (all_laid later (laid index_write (before g))) own (records_in parts)
+        (stand_same rules.page_up (MayWrite rules.index_size (with_records f now)) (laid data_write g) (all_laid later (laid index_write (before g))) own
         rules.page_up_above outside
-        (λ o out. laid_outside (MayWrite rules.index_size (with_records f now)) later (laid index_write (laid data_write g)) o k.first.within out
-        ∙ laid_beside index_write (laid data_write g) o (beside_index o out))
+        (λ o out. laid_outside (MayWrite rules.index_size (with_records f now)) later (laid index_write (before g)) o k.first.within out
+        ∙ laid_beside index_write (before g) o (beside_index o out)
+        ∙ zeroed_before rules.block_size end_at (laid data_write g) o (in_front o out))
         (standing g))
-        (k.first.stand (laid index_write (laid data_write g)))
+        (k.first.stand (laid index_write (before g))))
 
     with_part : Keeps f (now ++ rest) (p ∷ parts) e blocks
     with_part = record {
       first = record {
         within = subst (AllWithin (MayWrite rules.index_size f)) (sym (writes_cons p parts)) (
           in_data,
-          (
+          within_zeros (MayWrite rules.index_size f) rules.block_size end_at (index_write ∷ later) (λ o l. inl (omega (arith, is.blob, is.at, l))) (
             λ o inside. inr (in_present o inside),
             within_more (MayWrite rules.index_size (with_records f now)) (MayWrite rules.index_size f) later (records_less f now) k.first.within,
           ),
         );
         shrinks = λ o may. records_less f now o (k.first.shrinks o may);
         stand = λ g. subst (λ ws. AllStand (all_laid ws g) (p.records ++ records_in parts)) (sym (writes_cons p parts))
-            (subst (λ rs. AllStand (all_laid (data_write ∷ index_write ∷ later) g) (rs ++ records_in parts)) (sym is.records) (all_stand g));
+            (subst (λ rs. AllStand (all_laid all_writes g) (rs ++ records_in parts)) (sym is.records) (all_stand g));
         outside = subst (λ rs. AllOutside rules.page_up (MayWrite rules.index_size e) (rs ++ records_in parts)) (sym is.records)
             (outside_join rules.page_up (MayWrite rules.index_size e) own (records_in parts)
             (outside_less rules.page_up (MayWrite rules.index_size (with_records f now)) (MayWrite rules.index_size e) own k.first.shrinks outside)

@@ -1,12 +1,10 @@
 -- Blocks' bytes after writes, and records among them.
-use Rattle.std.proofs.Common.{◌≡◌, ℕ, zero, suc, ◌+◌, ◌-◌, ◌<◌, ◌≤◌, nat_le, nat_lt, Bool, true, false, ◌&&◌, if◌then◌else◌, List, [], ◌∷◌, ◌++◌, map, length, drop, slice_index, inl, inr, refl, sym, ap, ◌∙◌, arith}
-use Rattle.std.proofs.lemmas.Bool.Decides.{nat_tests}
+use Rattle.std.proofs.Common.{◌≡◌, ℕ, zero, suc, ◌+◌, ◌-◌, ◌<◌, ◌≤◌, List, [], ◌∷◌, ◌++◌, map, length, drop, slice_index, inl, inr, refl, sym, ap, ◌∙◌, arith}
 use Rattle.std.proofs.lemmas.List.{length-drop}
 use Rattle.foyer_format_layout.proofs.PageLaws.{page_up-holds}
 use Rattle.foyer_format_layout.specs.Page.{page_up}
-use Rattle.foyer_format_layout.proofs.BlockBytesLaws.{read_same, take_read, beside_or}
+use Rattle.foyer_format_layout.proofs.BlockBytesLaws.{read_same, take_read}
 use Rattle.foyer_format_layout.specs.Position.{tail_of, MayWrite}
-use Rattle.foyer_format_layout.specs.BlockBytes.{Write, laid, all_laid, IsBeside, AllWithin}
 use Rattle.foyer_core_model.specs.Position.{Position}
 use Rattle.foyer_core_model.specs.Layout.{AllStand, AllOutside, AllBehind}
 use Rattle.foyer_core_model.specs.Receive.{bytes_taken}

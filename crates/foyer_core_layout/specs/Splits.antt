@@ -5,7 +5,7 @@ use Rattle.foyer_format_blob.specs.declared.blob.BlobEntryIndex.{BlobEntryIndex}
 use Rattle.foyer_format_layout.specs.Each.{Each}
 use Rattle.foyer_format_layout.specs.Position.{Sizes, tail_of, next_blob, fresh}
 use Rattle.foyer_format_layout.specs.Page.{page_up}
-use Rattle.foyer_format_layout.specs.BlockBytes.{Data, Index, Write}
+use Rattle.foyer_format_layout.specs.BlockBytes.{Data, Index, Write, with_zeros}
 use Rattle.foyer_core_model.specs.Position.{Position, Part, BlockLayout, records_in}
 use Rattle.foyer_core_model.specs.Receive.{bytes_taken}
 use Rattle.foyer_core_model.specs.Record.{IndexEntry, Record}
@@ -78,9 +78,12 @@ module _ {C : Type 0} where
           → length f.listed < capacity_of s.index → s.block < tail_of f + page_up (length r.bytes)
           → LaidOut s (fresh s) (r ∷ rs) first.parts first.end blocks → Left s f (r ∷ rs) [] f (first ∷ blocks)
 
-  -- the data of a part, and then its index, at its blob's start
-  abbrev pub part_writes : Part C → List Write
-  part_writes p = record { role = Data; offset = p.blob + p.at; bytes = p.content } ∷ record { role = Index; offset = p.blob; bytes = p.index } ∷ []
+  -- the writes of a part into a block of so many bytes: its data, a page of zeros behind them if there is room, and then
+  -- its index, at its blob's start
+  abbrev pub part_writes : ℕ → Part C → List Write
+  part_writes n p =
+      record { role = Data; offset = p.blob + p.at; bytes = p.content }
+      ∷ with_zeros n (p.blob + p.at + length p.content) (record { role = Index; offset = p.blob; bytes = p.index } ∷ [])
 
 -- a filling that a batch may begin at: its data lie behind its blob's index, which has room
 pub record MayGoOn (s : Sizes) (f : Position) : Type 0 where
@@ -92,10 +95,10 @@ abbrev pub IsLaidOut : {C : Type 0} → Sizes → Splitting C
 IsLaidOut s f rs [] = ⊥
 IsLaidOut s f rs (b ∷ bs) = (s.index ≤ f.at) × LaidOut s f rs b.parts b.end bs
 
--- rules by which records take whole pages, and each part its two writes
+-- rules by which records take whole pages, and each part its writes
 pub record AreRules {C : Type 0} (rules : Rules C) : Type 0 where
   pub pages : (n : ℕ) → rules.page_up n ≡ page_up n
-  pub writes : (p : Part C) → rules.writes_of p ≡ part_writes p
+  pub writes : (p : Part C) → rules.writes_of p ≡ part_writes rules.block_size p
 
 -- each record, with its padding, ends within the first n bytes of its block
 abbrev pub AllEndBy : {C : Type 0} → ℕ → List (ℕ × Record C) → Type 0

@@ -58,9 +58,9 @@ well_writes b (w ∷ ws) = tt
 
 -- what a block holds once it is issued
 held_issued : {C : Type 0} (s : Sizes) (filled : ℕ → Position) (B : ℕ → ℕ → ℕ) (puts : ℕ → List Entry) (b : ℕ) (parts : List (Part C))
-    → Holds s (all_laid (writes_of parts) (B b)) (filled_to (filled b)) (puts b ++ map entry_of (records_in parts))
-    → TasksOk (puts b) (records_in parts) (B b) (writes_of parts)
-    → IsHeld s filled B puts (Some b) (job_of (writing_of b (writes_of parts) (records_in parts))) (left_in (issued_writes b (writes_of parts)))
+    → Holds s (all_laid (writes_of s.block parts) (B b)) (filled_to (filled b)) (puts b ++ map entry_of (records_in parts))
+    → TasksOk (puts b) (records_in parts) (B b) (writes_of s.block parts)
+    → IsHeld s filled B puts (Some b) (job_of (writing_of b (writes_of s.block parts) (records_in parts))) (left_in (issued_writes b (writes_of s.block parts)))
 held_issued s filled B puts b [] holds tasks = record {
   mine = λ c owns none. subst (λ d. Holds s (B d) (filled_to (filled d)) (puts d)) (some_same b c owns) (subst (Holds s (B b) (filled_to (filled b))) (append-nil (puts b)) holds);
   writing = λ c ps is. let j : Job _ = (c, ps) in absurd (let x : None ≡ Some j = is in cc);
@@ -69,15 +69,15 @@ held_issued {C} s filled B puts b (p ∷ ps) holds tasks = record {
   mine = λ c owns none. let j : Job C = (b, records_in (p ∷ ps)) in absurd (let x : Some j ≡ None = none in cc);
   writing = λ c qs is.
       let same : (b ≡ c) × (records_in (p ∷ ps) ≡ qs) = job_same (b, records_in (p ∷ ps)) (c, qs) is in
-      subst (λ d. Holds s (all_laid (writes_of (p ∷ ps)) (B d)) (filled_to (filled d)) (puts d ++ map entry_of qs) × TasksOk (puts d) qs (B d) (writes_of (p ∷ ps))) same.0
-      (subst (λ l. Holds s (all_laid (writes_of (p ∷ ps)) (B b)) (filled_to (filled b)) (puts b ++ map entry_of l) × TasksOk (puts b) l (B b) (writes_of (p ∷ ps))) same.1
+      subst (λ d. Holds s (all_laid (writes_of s.block (p ∷ ps)) (B d)) (filled_to (filled d)) (puts d ++ map entry_of qs) × TasksOk (puts d) qs (B d) (writes_of s.block (p ∷ ps))) same.0
+      (subst (λ l. Holds s (all_laid (writes_of s.block (p ∷ ps)) (B b)) (filled_to (filled b)) (puts b ++ map entry_of l) × TasksOk (puts b) l (B b) (writes_of s.block (p ∷ ps))) same.1
       (holds, tasks));
 }
 
 -- A flusher's block that isn't written any more, or not yet, has no job.
-no_job_parts : {C : Type 0} (b : ℕ) (parts : List (Part C)) → (job_of (writing_of b (writes_of parts) (records_in parts)) ≡ None) ⊎ (job_of (writing_of b (writes_of parts) (records_in parts)) ≡ Some (b, records_in parts))
-no_job_parts b [] = inl refl
-no_job_parts b (p ∷ ps) = inr refl
+no_job_parts : {C : Type 0} (n b : ℕ) (parts : List (Part C)) → (job_of (writing_of b (writes_of n parts) (records_in parts)) ≡ None) ⊎ (job_of (writing_of b (writes_of n parts) (records_in parts)) ≡ Some (b, records_in parts))
+no_job_parts n b [] = inl refl
+no_job_parts n b (p ∷ ps) = inr refl
 
 released_dead : (place : ℕ → BlockSet) (own : Option ℕ) (c : ℕ) → released own place c ≡ Clean → place c ≡ Clean
 released_dead place None c is = is
@@ -92,11 +92,11 @@ released_back place f (Some b) c owned is =
 module _ (A : Type 0) {C : Type 0} (rules : Rules C) (sizes : AreSizes (sizes_of rules)) where
   -- what the parts of the first block of a spread make of it
   pub spread_holds : (B : ℕ → ℕ) (start : laid.Position) (puts : List Entry) (sp : BlockLayout C) (rest : List (BlockLayout C)) → IsSpread A (sizes_of rules) start (sp ∷ rest) → Holds (sizes_of rules) B start puts
-      → Holds (sizes_of rules) (all_laid (writes_of sp.parts) B) (filled_to sp.end) (puts ++ map entry_of (records_in sp.parts))
-      × TasksOk puts (records_in sp.parts) B (writes_of sp.parts) × RestOk A (sizes_of rules) (fresh (sizes_of rules)) rest
+      → Holds (sizes_of rules) (all_laid (writes_of rules.block_size sp.parts) B) (filled_to sp.end) (puts ++ map entry_of (records_in sp.parts))
+      × TasksOk puts (records_in sp.parts) B (writes_of rules.block_size sp.parts) × RestOk A (sizes_of rules) (fresh (sizes_of rules)) rest
   spread_holds B start puts sp rest spread holds = (
-    subst (λ ws. Holds s (all_laid ws B) (filled_to sp.end) (puts ++ map entry_of (records_in sp.parts))) (sym (same_writes sp.parts parts same))
-        (subst (λ es. Holds s (all_laid (fills.writes_of parts) B) (filled_to sp.end) (puts ++ es)) (ap (map stands.entry_of) (sym (same_records sp.parts parts same)) ∙ entries_stored (records_in sp.parts))
+    subst (λ ws. Holds s (all_laid ws B) (filled_to sp.end) (puts ++ map entry_of (records_in sp.parts))) (sym (same_writes rules.block_size sp.parts parts same))
+        (subst (λ es. Holds s (all_laid (fills.writes_of rules.block_size parts) B) (filled_to sp.end) (puts ++ es)) (ap (map stands.entry_of) (sym (same_records sp.parts parts same)) ∙ entries_stored (records_in sp.parts))
         (holds_fills s w sizes B n start puts now parts (filled_to sp.end) near some.0 fill holds)),
     fills_tasks s w sizes B n start puts puts [] (records_in sp.parts) now parts sp.parts (filled_to sp.end) near some.0 fill same holds (sym (append-nil puts)) tt tt (λ p i. i),
     more rest (spread.spread).6,
@@ -168,9 +168,9 @@ module _ (A : Type 0) {C : Type 0} (rules : Rules C) (sizes : AreSizes (sizes_of
       → IsSafe A rules (record v {
         filling = fill;
         place = place;
-        flushers = put v.flushers f (record (v.flushers f) { own = Some b; ready = None; batch = Some (record batch { blocks = rest; continues_own_block = false; writing = writing_of b (writes_of sp.parts) (records_in sp.parts) }) });
+        flushers = put v.flushers f (record (v.flushers f) { own = Some b; ready = None; batch = Some (record batch { blocks = rest; continues_own_block = false; writing = writing_of b (writes_of rules.block_size sp.parts) (records_in sp.parts) }) });
         filled = put v.filled b sp.end;
-        block_writes = put v.block_writes f (issued_writes b (writes_of sp.parts));
+        block_writes = put v.block_writes f (issued_writes b (writes_of rules.block_size sp.parts));
       })
   issued v f b batch sp rest fill place start s o is spread holds up alone vacant far more same_slot dead dead_back quiet unread = record {
     low = s.low;
@@ -178,7 +178,7 @@ module _ (A : Type 0) {C : Type 0} (rules : Rules C) (sizes : AreSizes (sizes_of
       lows = s.lines.lows;
       waits = put_one (λ q φ. AllWait (IsOf rules s.low q) φ) v.flushers f ψ
           (record {
-            batch = records_issued rules (Each (RecordIs (IsOf rules s.low f))) b (writes_of sp.parts) (records_in sp.parts) (records_of rest) (each_back (RecordIs (IsOf rules s.low f)))
+            batch = records_issued rules (Each (RecordIs (IsOf rules s.low f))) b (writes_of rules.block_size sp.parts) (records_in sp.parts) (records_of rest) (each_back (RecordIs (IsOf rules s.low f)))
                 (subst (λ k. Each (RecordIs (IsOf rules s.low f)) (batch_records k)) is (s.lines.waits f).batch);
             buffer = (s.lines.waits f).buffer;
             queue = (s.lines.waits f).queue;
@@ -215,7 +215,7 @@ module _ (A : Type 0) {C : Type 0} (rules : Rules C) (sizes : AreSizes (sizes_of
       | inr other ↦ subst (λ l. (g : laid.Position) × Holds sz (v.bytes c) g l) (sym (puts_far c other))
           (s.still c (λ d. living (dead_back c other d)) (λ (q, ps, is_job). no_job (q, ps, kept_job q c ps is_job)))
     ];
-    held = put_both (λ q φ p. IsHeld sz (put v.filled b sp.end) v.bytes puts' φ.own (job_in φ) (left_in p)) v.flushers v.block_writes f ψ (issued_writes b (writes_of sp.parts)) mine
+    held = put_both (λ q φ p. IsHeld sz (put v.filled b sp.end) v.bytes puts' φ.own (job_in φ) (left_in p)) v.flushers v.block_writes f ψ (issued_writes b (writes_of rules.block_size sp.parts)) mine
         (λ q ne. record {
           mine = λ c owns none. let other : c ≡ b → ⊥ = λ at. alone q ne (owns ∙ ap Some at) in
               subst (λ l. Holds sz (v.bytes c) (filled_to (put v.filled b sp.end c)) l) (sym (puts_far c other))
@@ -227,8 +227,8 @@ module _ (A : Type 0) {C : Type 0} (rules : Rules C) (sizes : AreSizes (sizes_of
         });
     rests = put_one (λ q φ. RestOk A sz (filled_to (start_of rules (put v.filled b sp.end) φ.own (goes_on_in φ.batch))) (blocks_in φ.batch)) v.flushers f ψ holding.2
         (λ q ne. subst (λ g. RestOk A sz (filled_to g) (blocks_in (v.flushers q).batch)) (sym (start_other rules v.filled b sp.end (v.flushers q).own (goes_on_in (v.flushers q).batch) (alone q ne))) (s.rests q));
-    well = put_one (λ q p. AllWell (results_in p)) v.block_writes f (issued_writes b (writes_of sp.parts)) (well_writes b (writes_of sp.parts)) (λ q _. s.well q);
-    log = λ c x i. role_more x.role _ _ x (λ e k. elim k [ inl done ↦ inl done | inr (q, ps, is_job, there) ↦ inr (q, ps, kept_job q c ps is_job, subst (λ p. IsWrittenIn ps (v.bytes c) (left_in p) e) (sym (put_other v.block_writes f (issued_writes b (writes_of sp.parts)) q (not_f q c ps is_job))) there) ]) (s.log c x i);
+    well = put_one (λ q p. AllWell (results_in p)) v.block_writes f (issued_writes b (writes_of rules.block_size sp.parts)) (well_writes b (writes_of rules.block_size sp.parts)) (λ q _. s.well q);
+    log = λ c x i. role_more x.role _ _ x (λ e k. elim k [ inl done ↦ inl done | inr (q, ps, is_job, there) ↦ inr (q, ps, kept_job q c ps is_job, subst (λ p. IsWrittenIn ps (v.bytes c) (left_in p) e) (sym (put_other v.block_writes f (issued_writes b (writes_of rules.block_size sp.parts)) q (not_f q c ps is_job))) there) ]) (s.log c x i);
     apart = record {
       dirty = s.apart.dirty;
       idle = λ e. absurd (quiet e);
@@ -247,7 +247,7 @@ module _ (A : Type 0) {C : Type 0} (rules : Rules C) (sizes : AreSizes (sizes_of
       sz = sizes_of rules
 
       ψ : Flusher C
-      ψ = record (v.flushers f) { own = Some b; ready = None; batch = Some (record batch { blocks = rest; continues_own_block = false; writing = writing_of b (writes_of sp.parts) (records_in sp.parts) }) }
+      ψ = record (v.flushers f) { own = Some b; ready = None; batch = Some (record batch { blocks = rest; continues_own_block = false; writing = writing_of b (writes_of rules.block_size sp.parts) (records_in sp.parts) }) }
 
       job : ℕ → Option (Job C)
       job q = job_in (v.flushers q)
@@ -261,13 +261,13 @@ module _ (A : Type 0) {C : Type 0} (rules : Rules C) (sizes : AreSizes (sizes_of
       puts_far : (c : ℕ) → (c ≡ b → ⊥) → puts' c ≡ puts c
       puts_far c other = ap (λ n. puts_at c n v.committed) (far c other)
 
-      holding : Holds sz (all_laid (writes_of sp.parts) (v.bytes b)) (filled_to sp.end) (puts' b ++ map entry_of (records_in sp.parts))
-          × TasksOk (puts' b) (records_in sp.parts) (v.bytes b) (writes_of sp.parts) × RestOk A sz (fresh sz) rest
+      holding : Holds sz (all_laid (writes_of rules.block_size sp.parts) (v.bytes b)) (filled_to sp.end) (puts' b ++ map entry_of (records_in sp.parts))
+          × TasksOk (puts' b) (records_in sp.parts) (v.bytes b) (writes_of rules.block_size sp.parts) × RestOk A sz (fresh sz) rest
       holding = spread_holds (v.bytes b) start (puts' b) sp rest spread holds
 
-      mine : IsHeld sz (put v.filled b sp.end) v.bytes puts' (Some b) (job_of (writing_of b (writes_of sp.parts) (records_in sp.parts))) (left_in (issued_writes b (writes_of sp.parts)))
+      mine : IsHeld sz (put v.filled b sp.end) v.bytes puts' (Some b) (job_of (writing_of b (writes_of rules.block_size sp.parts) (records_in sp.parts))) (left_in (issued_writes b (writes_of rules.block_size sp.parts)))
       mine = held_issued sz (put v.filled b sp.end) v.bytes puts' b sp.parts
-          (subst (λ g. Holds sz (all_laid (writes_of sp.parts) (v.bytes b)) (filled_to g) (puts' b ++ map entry_of (records_in sp.parts))) (sym (put_same v.filled b sp.end)) holding.0)
+          (subst (λ g. Holds sz (all_laid (writes_of rules.block_size sp.parts) (v.bytes b)) (filled_to g) (puts' b ++ map entry_of (records_in sp.parts))) (sym (put_same v.filled b sp.end)) holding.0)
           holding.1
 
       idle_f : job f ≡ None
@@ -279,8 +279,8 @@ module _ (A : Type 0) {C : Type 0} (rules : Rules C) (sizes : AreSizes (sizes_of
       kept_job : (q c : ℕ) (ps : List (ℕ × Record C)) → job q ≡ Some (c, ps) → job_in (put v.flushers f ψ q) ≡ Some (c, ps)
       kept_job q c ps is_job = ap job_in (put_other v.flushers f ψ q (not_f q c ps is_job)) ∙ is_job
 
-      idle : (c : ℕ) → c ≡ b → (IsJob (λ q. job_in (put v.flushers f ψ q)) c → ⊥) → job_of (writing_of b (writes_of sp.parts) (records_in sp.parts)) ≡ None
-      idle c at no_job = elim (no_job_parts b sp.parts) [
+      idle : (c : ℕ) → c ≡ b → (IsJob (λ q. job_in (put v.flushers f ψ q)) c → ⊥) → job_of (writing_of b (writes_of rules.block_size sp.parts) (records_in sp.parts)) ≡ None
+      idle c at no_job = elim (no_job_parts rules.block_size b sp.parts) [
         | inl none ↦ none
         | inr some ↦ absurd (no_job (f, records_in sp.parts, subst (λ d. job_in (put v.flushers f ψ f) ≡ Some (d, records_in sp.parts)) (sym at) (ap job_in (put_same v.flushers f ψ) ∙ some)))
       ]

@@ -27,7 +27,7 @@ use Rattle.foyer_core_model.specs.Record.{Record}
 use Rattle.foyer_core_model.specs.Rules.{Rules, HasRoundTrip, sizes_of}
 use Rattle.foyer_core_layout.proofs.KeepsLemmas.{keeps_records}
 use Rattle.foyer_core_layout.proofs.LaidLemmas.{bytes_len}
-use Rattle.foyer_core_layout.specs.Splits.{entries_from, laid_from, with_records, AreBytesOf, IsPart, LaidOut, Left, IsLaidOut, AreRules}
+use Rattle.foyer_core_layout.specs.Splits.{entries_from, laid_from, with_records, AreBytesOf, IsPart, LaidOut, Left, IsLaidOut}
 use Rattle.foyer_core_layout.specs.Splits.LaidOut.{part, none}
 use Rattle.foyer_core_layout.specs.Splits.Left.{done, blob, block}
 use Rattle.foyer_core_restart.specs.Entries.{entry_in, filled_to, stored}

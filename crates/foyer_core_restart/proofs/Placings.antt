@@ -1,5 +1,5 @@
 -- The splitter's relation keeps records, and whatever it places has blocks of the model.
-use Rattle.std.proofs.Common.{◌≡◌, ◌≢◌, ℕ, zero, suc, ◌+◌, ◌≤◌, List, [], ◌∷◌, ◌++◌, length, map, refl, sym, ap, subst, ◌∙◌, arith}
+use Rattle.std.proofs.Common.{◌≡◌, ◌≢◌, ℕ, ◌+◌, ◌≤◌, List, [], ◌∷◌, ◌++◌, length, map, refl, sym, ap, subst, ◌∙◌, arith}
 use Rattle.std.proofs.lemmas.List.{append-nil, map-append}
 use Rattle.foyer_format_layout.proofs.EachLaws.{each_join}
 use Rattle.foyer_format_layout.specs.Position.{Sizes, fresh, next_blob, MayWrite}
@@ -21,7 +21,7 @@ use Rattle.foyer_format_buffer.proofs.NestingLemmas as nesting
 use Rattle.foyer_format_buffer.proofs.SplitLemmas.{taken-append, taken_cons}
 use Rattle.foyer_format_buffer.proofs.StoredLemmas.{stored_none, stored_cons}
 use Rattle.foyer_core_model.specs.Record.{IndexEntry, Record}
-use Rattle.foyer_format_layout.specs.BlockBytes.{Write, AllWithin, all_laid}
+use Rattle.foyer_format_layout.specs.BlockBytes.{AllWithin, all_laid}
 use Rattle.foyer_core_model.specs.Position.{Position, Part, BlockLayout, records_in, records_of, last_end}
 use Rattle.foyer_core_model.specs.Rules.{Rules, HasRoundTrip, first_position, sizes_of}
 use Rattle.foyer_core_model.specs.Laws.{Demands}
@@ -30,7 +30,7 @@ use Rattle.foyer_core_model.specs.Layout.{writes_in, KeepsRecords}
 use Rattle.foyer_core_restart.specs.Entries.{entry_in, filled_to, stored}
 use Rattle.foyer_core_restart.specs.Real.{IsSamePart, AreSameParts, AreSpread, IsFormat, IsReal}
 use Rattle.foyer_core_restart.specs.Splits.{AreBuffered, AreSameBlocks, IsRealSplit, SplitIsReal, RealRestartLaw, RealIdleLaw}
-use Rattle.foyer_core_restart.proofs.Tasks.{writes_of, same_writes, same_records}
+use Rattle.foyer_core_restart.proofs.Tasks.{writes_of, writes_cons, same_writes, same_records}
 use Rattle.foyer_core_restart.proofs.Law.{restart_law_lem, idle_law_lem}
 
 -- records that stand, in the model's words
@@ -65,9 +65,9 @@ module _ {A : Type 0} (s : Sizes) (w : Section) where
       (fills_behind (start + laid.taken now) (laid.with_records f now) rest others g (omega arith) fill)
 
 module _ (A : Type 0) {C : Type 0} (rules : Rules C) (format : IsFormat rules) where
-  writes_are : (parts : List (Part C)) → writes_in rules parts ≡ writes_of parts
+  writes_are : (parts : List (Part C)) → writes_in rules parts ≡ writes_of rules.block_size parts
   writes_are [] = refl
-  writes_are (p ∷ ps) = λ i. format.writes p i ++ writes_are ps i
+  writes_are (p ∷ ps) = (λ i. format.writes p i ++ writes_are ps i) ∙ writes_cons rules.block_size p ps
 
   -- what goes into one block keeps its records
   block_placed : (w : Section) (start : ℕ) (f : Position) (now : List BufferEntryInfo) (b : BlockLayout C) (parts : List (BlobPart A)) → rules.index_size ≤ f.at → start + laid.taken now ≤ length (bytes_of w)
@@ -76,10 +76,10 @@ module _ (A : Type 0) {C : Type 0} (rules : Rules C) (format : IsFormat rules) w
       let lies : IsLaid (sizes_of rules) w start (filled_to f) now parts (filled_to b.end) = fills_laid (sizes_of rules) w start (filled_to f) now parts (filled_to b.end) past room fill in
       record {
         within = subst (AllWithin (MayWrite rules.index_size f)) (sym (writes_are b.parts))
-            (subst (AllWithin (MayWrite rules.index_size f)) (sym (same_writes b.parts parts same)) lies.within);
+            (subst (AllWithin (MayWrite rules.index_size f)) (sym (same_writes rules.block_size b.parts parts same)) lies.within);
         shrinks = lies.shrinks;
-        stand = λ g. subst (λ k. model.AllStand k (records_in b.parts)) (sym (ap (λ ws. all_laid ws g) (writes_are b.parts) ∙ ap (λ ws. all_laid ws g) (same_writes b.parts parts same)))
-            (stand_is (all_laid (fills.writes_of parts) g) (records_in b.parts) (subst (stands.AllStand (all_laid (fills.writes_of parts) g)) (sym (same_records b.parts parts same)) (lies.stand g)));
+        stand = λ g. subst (λ k. model.AllStand k (records_in b.parts)) (sym (ap (λ ws. all_laid ws g) (writes_are b.parts) ∙ ap (λ ws. all_laid ws g) (same_writes rules.block_size b.parts parts same)))
+            (stand_is (all_laid (fills.writes_of rules.block_size parts) g) (records_in b.parts) (subst (stands.AllStand (all_laid (fills.writes_of rules.block_size parts) g)) (sym (same_records b.parts parts same)) (lies.stand g)));
         outside = outside_is rules.page_up (MayWrite rules.index_size b.end) (records_in b.parts) format.pages
             (subst (stands.AllOutside (MayWrite rules.index_size (filled_to b.end))) (sym (same_records b.parts parts same)) lies.outside);
         behind = behind_is rules.index_size (records_in b.parts) (subst (Each (λ r. rules.index_size ≤ r.offset)) (sym (same_records b.parts parts same)) (fills_behind (sizes_of rules) w start (filled_to f) now parts (filled_to b.end) past fill));

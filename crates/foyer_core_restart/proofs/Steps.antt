@@ -32,7 +32,7 @@ use Rattle.foyer_core_model.proofs.Sets.{clean_is}
 use Rattle.foyer_core_model.proofs.SoundKept.{IsKnown}
 use Rattle.foyer_core_restart.specs.Entries.{filled_to, puts_at}
 use Rattle.foyer_core_restart.specs.Real.{IsReal, IsSpread}
-use Rattle.foyer_core_restart.proofs.Tasks.{writes_of}
+use Rattle.foyer_core_restart.proofs.Tasks.{writes_of, writes_cons}
 use Rattle.foyer_core_restart.proofs.Safe.{Sight, sight_of, job_of, job_in, left_in, results_in, RecordIs, SubmissionIs, AllWait, IsOf, RestOk, IsDead, sequences_of, puts_in, IsSafe}
 use Rattle.foyer_core_restart.proofs.Mild as mild
 use Rattle.foyer_core_restart.proofs.Mild.{RestAt, hand_of, fewer_same, fewer_put, fewer_mark, fewer_without, fewer_unmarked}
@@ -184,9 +184,9 @@ module _ (A : Type 0) {C : Type 0} (rules : Rules C) (Splits : Splitting C) (is_
 
   -- FlushBlock
 
-  writes_are : (parts : List (Part C)) → writes_in rules parts ≡ writes_of parts
+  writes_are : (parts : List (Part C)) → writes_in rules parts ≡ writes_of rules.block_size parts
   writes_are [] = refl
-  writes_are (p ∷ ps) = λ i. real.format.writes p i ++ writes_are ps i
+  writes_are (p ∷ ps) = (λ i. real.format.writes p i ++ writes_are ps i) ∙ writes_cons rules.block_size p ps
 
   -- what it leaves, with the writes as they are issued and as they are kept
   abbrev shape : World C → (f b : ℕ) → Batch C → BlockLayout C → List (BlockLayout C) → (ℕ → ℕ) → (ℕ → BlockSet) → List Write → List Write → Position → Sight C
@@ -233,7 +233,7 @@ module _ (A : Type 0) {C : Type 0} (rules : Rules C) (Splits : Splitting C) (is_
       ends : end_in (w.core.flushers f).batch (w.filled b) ≡ sp.end
       ends = ap (λ k. end_in k (w.filled b)) whole
 
-      shapes : (fill : ℕ → ℕ) (place : ℕ → BlockSet) → shape w f b batch sp rest fill place (writes_of sp.parts) (writes_of sp.parts) sp.end
+      shapes : (fill : ℕ → ℕ) (place : ℕ → BlockSet) → shape w f b batch sp rest fill place (writes_of rules.block_size sp.parts) (writes_of rules.block_size sp.parts) sp.end
           ≡ shape w f b batch sp rest fill place writes (writes_in rules sp.parts) (end_in (w.core.flushers f).batch (w.filled b))
       shapes fill place = λ i. shape w f b batch sp rest fill place (sym (all ∙ writes_are sp.parts) i) (sym (writes_are sp.parts) i) (sym ends i)
 
@@ -246,7 +246,7 @@ module _ (A : Type 0) {C : Type 0} (rules : Rules C) (Splits : Splitting C) (is_
       goes_is : goes_on_in (w.core.flushers f).batch ≡ batch.continues_own_block
       goes_is = ap goes_on_in is
 
-      in_own : batch.continues_own_block ≡ true → (w.core.flushers f).own ≡ Some b → IsSafe A rules (shape w f b batch sp rest w.core.filling w.core.place (writes_of sp.parts) (writes_of sp.parts) sp.end)
+      in_own : batch.continues_own_block ≡ true → (w.core.flushers f).own ≡ Some b → IsSafe A rules (shape w f b batch sp rest w.core.filling w.core.place (writes_of rules.block_size sp.parts) (writes_of rules.block_size sp.parts) sp.end)
       in_own goes own =
           issued A rules real.format.sizes v f b batch sp rest w.core.filling w.core.place (filled_to (w.filled b)) s o whole
           (spread (w.filled b) (λ i. start_of rules w.filled (own i) ((goes_is ∙ goes) i)))
@@ -257,7 +257,7 @@ module _ (A : Type 0) {C : Type 0} (rules : Rules C) (Splits : Splitting C) (is_
           (λ e. let x : None ≡ Some b = sym (s.apart.idle e f).0 ∙ own in cc)
           (no_reclaim rules v o f b (o.place f b own))
 
-      in_ready : batch.continues_own_block ≡ false → (w.core.flushers f).ready ≡ Some b → IsSafe A rules (shape w f b batch sp rest w.core.filling w.core.place (writes_of sp.parts) (writes_of sp.parts) sp.end)
+      in_ready : batch.continues_own_block ≡ false → (w.core.flushers f).ready ≡ Some b → IsSafe A rules (shape w f b batch sp rest w.core.filling w.core.place (writes_of rules.block_size sp.parts) (writes_of rules.block_size sp.parts) sp.end)
       in_ready begins ready =
           issued A rules real.format.sizes v f b batch sp rest w.core.filling w.core.place (fresh (sizes_of rules)) s o whole
           (spread (first_position rules) (empty_start w.filled (w.core.flushers f).own (goes_on_in (w.core.flushers f).batch) (goes_is ∙ begins)))
@@ -272,7 +272,7 @@ module _ (A : Type 0) {C : Type 0} (rules : Rules C) (Splits : Splitting C) (is_
           none : puts_in w.core.filling w.committed b ≡ []
           none = s.apart.handed f b ready
 
-      in_clean : batch.continues_own_block ≡ false → clean_block rules w.core ≡ Some b → IsSafe A rules (shape w f b batch sp rest fill' place' (writes_of sp.parts) (writes_of sp.parts) sp.end)
+      in_clean : batch.continues_own_block ≡ false → clean_block rules w.core ≡ Some b → IsSafe A rules (shape w f b batch sp rest fill' place' (writes_of rules.block_size sp.parts) (writes_of rules.block_size sp.parts) sp.end)
       in_clean begins free =
           issued A rules real.format.sizes v f b batch sp rest fill' place' (fresh (sizes_of rules)) s o whole
           (spread (first_position rules) (empty_start w.filled (w.core.flushers f).own (goes_on_in (w.core.flushers f).batch) (goes_is ∙ begins)))

@@ -1,5 +1,5 @@
 -- Each index that is issued lists what was put before, or records that stand by then and that no later write touches.
-use Rattle.std.proofs.Common.{◌≡◌, ℕ, ◌+◌, ◌<◌, ◌≤◌, List, [], ◌∷◌, ◌++◌, length, ◌⊎◌, inl, inr, refl, sym, ap, subst, ◌∙◌, arith, append_assoc}
+use Rattle.std.proofs.Common.{◌≡◌, ℕ, ◌+◌, ◌<◌, ◌≤◌, nat_le, Bool, true, false, if◌then◌else◌, List, [], ◌∷◌, ◌++◌, length, ◌⊎◌, inl, inr, refl, sym, ap, subst, ◌∙◌, arith, append_assoc}
 use Rattle.std.specs.Prelude.{map}
 use Rattle.std.proofs.lemmas.List.{append-nil, map-append}
 use Rattle.foyer_format_layout.proofs.EachLaws.{each_join, each_front, each_back}
@@ -8,9 +8,9 @@ use Rattle.foyer_format_layout.specs.Page.{page_up}
 use Rattle.foyer_format_layout.proofs.PageLaws.{page_up-holds}
 use Rattle.foyer_format_blob.specs.Blob.{IsSealed}
 use Rattle.foyer_format_blob.specs.declared.blob.BlobEntryIndex.{BlobEntryIndex}
-use Rattle.foyer_format_layout.specs.BlockBytes.{laid, read, IsBeside, AllWithin, Role, Data, Index, Write}
+use Rattle.foyer_format_layout.specs.BlockBytes.{laid, all_laid, read, IsBeside, AllWithin, Role, Data, Index, Write, zeros_write, with_zeros, zeroed}
 use Rattle.foyer_format_layout.specs.Each.{Each}
-use Rattle.foyer_format_layout.specs.Position.{Sizes, next_blob, MayWrite}
+use Rattle.foyer_format_layout.specs.Position.{Sizes, tail_of, next_blob, MayWrite}
 use Rattle.foyer_format_buffer.specs.Position.{Position, taken, with_records}
 use Rattle.foyer_format_buffer.specs.Fills as fills
 use Rattle.foyer_format_buffer.specs.Fills.{AreSizes, Fills, IsLaid}
@@ -20,7 +20,7 @@ use Rattle.foyer_format_buffer.specs.Listing.{placed}
 use Rattle.foyer_format_buffer.specs.Stored as stands
 use Rattle.foyer_format_buffer.specs.declared.BufferEntryInfo.{BufferEntryInfo}
 use Rattle.foyer_format_buffer.specs.declared.split.BlobPart.{BlobPart}
-use Rattle.foyer_format_layout.proofs.BlockBytesLaws.{beside_or, laid_beside, read_same}
+use Rattle.foyer_format_layout.proofs.BlockBytesLaws.{beside_or, laid_beside, read_same, all_laid_zeros, zeroed_before, with_zeros-append}
 use Rattle.foyer_format_buffer.proofs.StoredLemmas.{stand_same, outside_less, stand_join, outside_join}
 use Rattle.foyer_format_buffer.proofs.FillsLemmas.{blob_less, records_less, fills_laid}
 use Rattle.foyer_format_buffer.proofs.HoldsLemmas.{holds_fills}
@@ -67,19 +67,37 @@ written_tail records B v vs e (p, there, is, stand, spared) =
     (p, there, is, read_same (laid v B) B p.0 (length (p.1).bytes) (λ i l m. laid_beside v B i (spared.0 i l m)) ∙ stand, spared.1)
 
 -- the writes of parts as the model has them
-abbrev pub writes_of : {C : Type 0} → List (Part C) → List Write
-writes_of [] = []
-writes_of (p ∷ ps) =
-    record { role = Data; offset = p.blob + p.at; bytes = p.content } ∷ record { role = Index; offset = p.blob; bytes = p.index } ∷ writes_of ps
+abbrev pub writes_of : {C : Type 0} → (block_size : ℕ) → List (Part C) → List Write
+writes_of n [] = []
+writes_of n (p ∷ ps) =
+    record { role = Data; offset = p.blob + p.at; bytes = p.content }
+    ∷ with_zeros n (p.blob + p.at + length p.content) (record { role = Index; offset = p.blob; bytes = p.index } ∷ writes_of n ps)
+
+pub writes_cons : {C : Type 0} (n : ℕ) (p : Part C) (ps : List (Part C))
+    → (record { role = Data; offset = p.blob + p.at; bytes = p.content }
+    ∷ with_zeros n (p.blob + p.at + length p.content) (record { role = Index; offset = p.blob; bytes = p.index } ∷ [])) ++ writes_of n ps
+    ≡ writes_of n (p ∷ ps)
+writes_cons n p ps = ap (λ ws. record { role = Data; offset = p.blob + p.at; bytes = p.content } ∷ ws)
+    (with_zeros-append n (p.blob + p.at + length p.content) (record { role = Index; offset = p.blob; bytes = p.index } ∷ []) (writes_of n ps))
+
+-- if the writes behind a page of zeros are in order, so they are with it
+pub tasks_zeros : {C : Type 0} (puts : List Entry) (records : List (ℕ × Record C)) (n o : ℕ) (B : ℕ → ℕ) (ws : List Write)
+    → TasksOk puts records (zeroed n o B) ws → TasksOk puts records B (with_zeros n o ws)
+tasks_zeros puts records n o B ws = go (nat_le (o + 4096) n)
+  where
+    go : (b : Bool) → TasksOk puts records (if b then laid (zeros_write o) B else B) ws → TasksOk puts records B (if b then zeros_write o ∷ ws else ws)
+    go true ok = (tt, ok)
+    go false ok = ok
 
 -- the parts' writes and records are those of the blob's parts
 
-pub same_writes : {A C : Type 0} (qs : List (Part C)) (ps : List (BlobPart A)) → AreSameParts qs ps → (writes_of qs) ≡ fills.writes_of ps
-same_writes [] [] same = refl
-same_writes [] (p ∷ ps) same = absurd same
-same_writes (q ∷ qs) [] same = absurd same
-same_writes (q ∷ qs) (p ∷ ps) same =
-    λ i. record { role = Data; offset = (same.0).blob i + (same.0).at i; bytes = (same.0).content i } ∷ record { role = Index; offset = (same.0).blob i; bytes = (same.0).index i } ∷ same_writes qs ps same.1 i
+pub same_writes : {A C : Type 0} (n : ℕ) (qs : List (Part C)) (ps : List (BlobPart A)) → AreSameParts qs ps → writes_of n qs ≡ fills.writes_of n ps
+same_writes n [] [] same = refl
+same_writes n [] (p ∷ ps) same = absurd same
+same_writes n (q ∷ qs) [] same = absurd same
+same_writes n (q ∷ qs) (p ∷ ps) same =
+    λ i. record { role = Data; offset = (same.0).blob i + (same.0).at i; bytes = (same.0).content i }
+    ∷ with_zeros n ((same.0).blob i + (same.0).at i + length ((same.0).content i)) (record { role = Index; offset = (same.0).blob i; bytes = (same.0).index i } ∷ same_writes n qs ps same.1 i)
 
 pub same_records : {A C : Type 0} (qs : List (Part C)) (ps : List (BlobPart A)) → AreSameParts qs ps → map stored (records_in qs) ≡ fills.records_in ps
 same_records [] [] same = refl
@@ -131,7 +149,7 @@ module _ {A C : Type 0} (s : Sizes) (w : Section) (sizes : AreSizes s) where
       → start + taken infos ≤ length (bytes_of w) → Each (λ i. 0 < i.len) infos
       → Fills s w start f infos parts g → AreSameParts qs parts → Holds s B f es → es ≡ puts ++ map entry_of so
       → stands.AllStand B (map stored so) → stands.AllOutside (MayWrite s.index f) (map stored so)
-      → ((p : ℕ × Record C) → In p (so ++ records_in qs) → In p all) → TasksOk puts all B (writes_of qs)
+      → ((p : ℕ × Record C) → In p (so ++ records_in qs) → In p all) → TasksOk puts all B (writes_of s.block qs)
   fills_tasks B start f es puts so all infos parts [] g room some fill same h are stand out into = tt
   fills_tasks B start f es puts so all infos parts (q ∷ qs) g room some (stays) same h are stand out into = absurd same
   fills_tasks B start f es puts so all infos parts (q ∷ qs) g room some (blob full more) same h are stand out into =
@@ -140,7 +158,7 @@ module _ {A C : Type 0} (s : Sizes) (w : Section) (sizes : AreSizes s) where
       (outside_less (MayWrite s.index f) (MayWrite s.index (next_blob s f)) (map stored so) (blob_less s f) out) into
   fills_tasks B start f es puts so all infos parts (q ∷ qs) g room some (part {now = now} {rest = rest} {p = p} {parts = more} is fill) same h are stand out into = (
     tt,
-    (
+    tasks_zeros puts all s.block end_at (laid dw B) (iw ∷ writes_of s.block qs) (
       ind,
       fills_tasks D (start + taken now) f' (es ++ map entry_of q.records) puts (so ++ q.records) all rest more qs g (omega (arith, total)) someboth.1 fill same.1
           later (ap (λ l. l ++ map entry_of q.records) are ∙ append_assoc puts (map entry_of so) (map entry_of q.records) ∙ ap (λ l. puts ++ l) (sym (map-append entry_of so q.records)))
@@ -158,8 +176,13 @@ module _ {A C : Type 0} (s : Sizes) (w : Section) (sizes : AreSizes s) where
       iw : Write
       iw = record { role = Index; offset = q.blob; bytes = q.index }
 
+      -- where its data end
+      end_at : ℕ
+      end_at = q.blob + q.at + length q.content
+
+      -- its data and the zeros behind them
       M : ℕ → ℕ
-      M = laid dw B
+      M = zeroed s.block end_at (laid dw B)
 
       D : ℕ → ℕ
       D = laid iw M
@@ -179,8 +202,12 @@ module _ {A C : Type 0} (s : Sizes) (w : Section) (sizes : AreSizes s) where
       index_is : iw ≡ fills.index_write p
       index_is = λ i. record { role = Index; offset = (same.0).blob i; bytes = (same.0).index i }
 
-      all_is : D ≡ laid (fills.index_write p) (laid (fills.data_write p) B)
-      all_is = λ i. laid (index_is i) (laid (data_is i) B)
+      end_is : end_at ≡ fills.data_end p
+      end_is = λ i. (same.0).blob i + (same.0).at i + length ((same.0).content i)
+
+      all_is : D ≡ all_laid (fills.writes_of s.block (p ∷ [])) B
+      all_is = (λ i. laid (index_is i) (zeroed s.block (end_is i) (laid (data_is i) B)))
+          ∙ sym (all_laid_zeros s.block (fills.data_end p) (fills.index_write p ∷ []) (laid (fills.data_write p) B))
 
       -- the part alone
       alone : Fills s w start f (now ++ []) (p ∷ []) f'
@@ -223,6 +250,13 @@ module _ {A C : Type 0} (s : Sizes) (w : Section) (sizes : AreSizes s) where
         | inr inside ↦ absurd (away ((lies.within).0 o (subst (λ k. IsBeside k o → ⊥) data_is inside)))
       ]
 
+      in_front : (o : ℕ) → (MayWrite s.index f o → ⊥) → o < end_at
+      in_front o away =
+          let b : q.blob ≡ f.blob = (same.0).blob ∙ is.blob in
+          let a : q.at ≡ f.at = (same.0).at ∙ is.at in
+          let low : tail_of f ≤ o → ⊥ = λ l. away (inl l) in
+          omega (arith, b, a, low)
+
       -- after its data are written the part's records stand: its index touches none of them
       own_stands : stands.AllStand M (map stored q.records)
       own_stands = stand_same (MayWrite s.index f') D M (map stored q.records) (subst (stands.AllOutside (MayWrite s.index f')) (sym own_is) lies.outside)
@@ -233,14 +267,14 @@ module _ {A C : Type 0} (s : Sizes) (w : Section) (sizes : AreSizes s) where
       standing : stands.AllStand M (map stored (so ++ q.records))
       standing = subst (stands.AllStand M) (sym (map-append stored so q.records))
           (stand_join M (map stored so) (map stored q.records)
-          (stand_same (MayWrite s.index f) B M (map stored so) out (λ o away. laid_beside dw B o (beside_data o away)) stand)
+          (stand_same (MayWrite s.index f) B M (map stored so) out (λ o away. zeroed_before s.block end_at (laid dw B) o (in_front o away) ∙ laid_beside dw B o (beside_data o away)) stand)
           own_stands)
 
-      within : AllWithin (MayWrite s.index f') (writes_of qs)
-      within = subst (AllWithin (MayWrite s.index f')) (sym (same_writes qs more same.1))
+      within : AllWithin (MayWrite s.index f') (writes_of s.block qs)
+      within = subst (AllWithin (MayWrite s.index f')) (sym (same_writes s.block qs more same.1))
           (fills_laid s w (start + taken now) f' rest more g (omega arith) (omega (arith, total)) fill).within
 
-      known : (e : Entry) → In e (placed q.blob f'.listed) → In e puts ⊎ IsWrittenIn all M (iw ∷ writes_of qs) e
+      known : (e : Entry) → In e (placed q.blob f'.listed) → In e puts ⊎ IsWrittenIn all M (iw ∷ writes_of s.block qs) e
       known e i =
           elim (in_either e puts (map entry_of (so ++ q.records))
           (subst (λ l. In e l) (sym later.all ∙ ap (λ l. l ++ map entry_of q.records) are ∙ append_assoc puts (map entry_of so) (map entry_of q.records) ∙ ap (λ l. puts ++ l) (sym (map-append entry_of so q.records)))
@@ -256,9 +290,9 @@ module _ {A C : Type 0} (s : Sizes) (w : Section) (sizes : AreSizes s) where
                   into r.0 (subst (λ l. In r.0 l) (append_assoc so q.records (records_in qs)) (in_left r.0 (so ++ q.records) (records_in qs) r.1)),
                   r.2,
                   stand_in M r.0 (so ++ q.records) standing r.1,
-                  (spared_one (MayWrite s.index f') r.0 iw away in_index, spared_all (MayWrite s.index f') r.0 (writes_of qs) away within),
+                  (spared_one (MayWrite s.index f') r.0 iw away in_index, spared_all (MayWrite s.index f') r.0 (writes_of s.block qs) away within),
                 )
           ]
 
-      ind : ListsOnly (λ e. In e puts ⊎ IsWrittenIn all M (iw ∷ writes_of qs) e) iw
+      ind : ListsOnly (λ e. In e puts ⊎ IsWrittenIn all M (iw ∷ writes_of s.block qs) e) iw
       ind = (f'.listed, subst (λ b. IsSealed b f'.listed) (sym (same.0).index) is.index, known)

@@ -1,42 +1,21 @@
 -- Machines with two flushers and three blocks of two pages, and the records that a torn run writes.
-use Rattle.std.proofs.Common.{◌≡◌, ℕ, zero, suc, ◌+◌, ◌*◌, ◌<◌, ◌≤◌, Bool, ◌-◌, Option, Some, List, [], ◌∷◌, length, drop, slice_index, ◌⊎◌, inl, inr, refl, ap, ◌∙◌, arith}
+use Rattle.std.proofs.Common.{◌≡◌, ℕ, zero, suc, ◌+◌, ◌<◌, ◌≤◌, nat_le, Bool, false, if◌then◌else◌, Option, Some, None, List, [], ◌∷◌, ◌++◌, length, slice_index, ◌⊎◌, inl, inr, refl, sym, ap, arith}
+use Rattle.std.proofs.lemmas.Bool.Decides.{nat_tests}
 use Rattle.foyer_format_record.specs.Header.{number_at}
 use Rattle.foyer_format_layout.specs.Page.{page_up}
-use Rattle.foyer_core_model.specs.Numbers.{page}
+use Rattle.foyer_core_model.specs.Numbers.{page, put}
 use Rattle.foyer_core_model.specs.Record.{Outcome, IndexEntry, Given, Record}
-use Rattle.foyer_format_layout.specs.BlockBytes.{Data, Index, read}
-use Rattle.foyer_core_model.specs.Position.{Position}
+use Rattle.foyer_format_layout.specs.BlockBytes.{Data, Index, Write, read, zeros_write, with_zeros}
+use Rattle.foyer_core_model.specs.Position.{Position, BlockLayout}
 use Rattle.foyer_core_model.specs.Rules.{Rules}
 use Rattle.foyer_format_blob.specs.Blob.{IsSealed, capacity_of}
 use Rattle.foyer_format_blob.specs.declared.blob.BlobEntryIndex.{BlobEntryIndex}
-use Rattle.foyer_core_restart.specs.Torn.{Place}
-
--- the count of an index
-
-length_read : (B : ℕ → ℕ) (o n : ℕ) → length (read B o n) ≡ n
-length_read B o zero = refl
-length_read B o (suc n) = ap suc (length_read B (o + 1) n)
-
-index_read : (B : ℕ → ℕ) (o n i : ℕ) → i < n → slice_index (read B o n) i ≡ B (o + i)
-index_read B o zero i l = absurd (omega arith)
-index_read B o (suc n) zero l = let e : o ≡ o + 0 = omega arith in ap B e
-index_read B o (suc n) (suc i) l = let e : o + 1 + i ≡ o + suc i = omega arith in index_read B (o + 1) n i (omega arith) ∙ ap B e
-
-index_drop : (k i : ℕ) (xs : List ℕ) → k + i < length xs → slice_index (drop k xs) i ≡ slice_index xs (k + i)
-index_drop zero i xs l = let e : i ≡ 0 + i = omega arith in ap (slice_index xs) e
-index_drop (suc k) i [] l = absurd (omega arith)
-index_drop (suc k) i (x ∷ xs) l = let e : suc (k + i) ≡ suc k + i = omega arith in index_drop k i xs (omega arith) ∙ ap (slice_index (x ∷ xs)) e
-
--- the four bytes of a count
-count_is : (b : List ℕ) → 12 ≤ length b
-    → number_at 8 4 b ≡ slice_index b 8 * 16777216 + (slice_index b 9 * 65536 + (slice_index b 10 * 256 + slice_index b 11))
-unfolding number_at
-count_is b long =
-    let a : slice_index (drop 8 b) 0 ≡ slice_index b 8 = index_drop 8 0 b (omega arith) in
-    let c : slice_index (drop 8 b) 1 ≡ slice_index b 9 = index_drop 8 1 b (omega arith) in
-    let d : slice_index (drop 8 b) 2 ≡ slice_index b 10 = index_drop 8 2 b (omega arith) in
-    let e : slice_index (drop 8 b) 3 ≡ slice_index b 11 = index_drop 8 3 b (omega arith) in
-    omega arith
+use Rattle.foyer_core_model.specs.State.{Batch, State}
+use Rattle.foyer_core_model.specs.Flush.{writing_of}
+use Rattle.foyer_core_model.specs.Ids.{without_id}
+use Rattle.foyer_core_model.specs.Layout.{writes_in}
+use Rattle.foyer_format_buffer.proofs.EndsLemmas.{length_read, index_read, count_is}
+use Rattle.foyer_core_restart.specs.Torn.{Place, alone}
 
 -- where its second byte is 255, it counts too many
 pub unsealed : (B : ℕ → ℕ) (n : ℕ) (es : List BlobEntryIndex) → n ≡ 4096 → B 9 ≡ 255 → IsSealed (read B 0 n) es → ⊥
@@ -93,7 +72,8 @@ machine_of m = record {
   encode = m.encode;
   pair_of = m.pair_of;
   entries_of = m.entries_of;
-  writes_of = λ p. record { role = Data; offset = p.blob + p.at; bytes = p.content } ∷ record { role = Index; offset = p.blob; bytes = p.index } ∷ [];
+  writes_of = λ p. record { role = Data; offset = p.blob + p.at; bytes = p.content }
+      ∷ with_zeros 8192 (p.blob + p.at + length p.content) (record { role = Index; offset = p.blob; bytes = p.index } ∷ []);
   some_flusher = m.some;
   page_up_above = m.above;
   index_holds_page = m.whole;
@@ -121,3 +101,36 @@ pub record StandsAlone (x y : ℕ) (p : Place) : Type 0 where
   pub long : 2 ≤ length p.content
   pub first : slice_index p.content 0 ≡ x
   pub second : slice_index p.content 1 ≡ y
+
+-- the block has no room for a page behind it
+abbrev pub IsFull : Place → Type 0
+IsFull p = nat_le (p.blob + p.at + length p.content + 4096) 8192 ≡ false
+
+pub full_of : (x y : ℕ) (p : Place) → StandsAlone x y p → IsFull p
+full_of x y p is =
+    let low : p.blob ≡ 0 = is.blob in
+    let at : p.at ≡ 4096 = is.at in
+    let long : 2 ≤ length p.content = is.long in
+    grind (arith, nat_tests)
+
+-- so it has two writes
+abbrev pub two_writes : Place → List Write
+two_writes p = record { role = Data; offset = p.blob + p.at; bytes = p.content } ∷ record { role = Index; offset = p.blob; bytes = p.index } ∷ []
+
+pub two_in : {C : Type 0} (m : Machine C) (p : Place) (r : Record C) → IsFull p → two_writes p ≡ writes_in (machine_of m) (alone p r).parts
+two_in m p r full = sym (ap (λ (b : Bool).
+    (record { role = Data; offset = p.blob + p.at; bytes = p.content }
+    ∷ (if b then zeros_write (p.blob + p.at + length p.content) ∷ record { role = Index; offset = p.blob; bytes = p.index } ∷ []
+    else record { role = Index; offset = p.blob; bytes = p.index } ∷ [])) ++ []) full)
+
+-- a block is issued with these writes
+abbrev pub issued_as : {C : Type 0} → State C → (f b : ℕ) → Batch C → List Write → List (ℕ × Record C) → List (BlockLayout C) → State C
+issued_as old f b batch ws records rest =
+    record old {
+      waiting = without_id f old.waiting;
+      flushers = put old.flushers f (record (old.flushers f) {
+        own = Some b;
+        ready = None;
+        batch = Some (record batch { blocks = rest; continues_own_block = false; writing = writing_of b ws records });
+      });
+    }

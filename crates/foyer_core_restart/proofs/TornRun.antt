@@ -1,26 +1,25 @@
 -- A run that is stopped with two flushers inside writes, of any machine with two flushers and three blocks of two pages.
-use Rattle.std.proofs.Common.{◌≡◌, ℕ, ◌+◌, ◌<◌, ◌≤◌, true, false, Some, None, List, [], ◌∷◌, length, ◌⊎◌, inl, inr, refl, sym, ap, ◌∙◌, arith}
+use Rattle.std.proofs.Common.{◌≡◌, ℕ, ◌+◌, ◌<◌, ◌≤◌, true, false, Some, None, List, [], ◌∷◌, length, inl, inr, refl, sym, ap, ◌∙◌, arith}
 use Rattle.foyer_format_layout.specs.Page.{page_up}
 use Rattle.foyer_format_layout.proofs.PageLaws.{page_up-least}
 use Rattle.foyer_core_model.specs.Numbers.{put}
 use Rattle.foyer_core_model.specs.Record.{Record}
 use Rattle.foyer_format_layout.specs.BlockBytes.{Index, Write}
-use Rattle.foyer_core_model.specs.Position.{BlockLayout}
+use Rattle.foyer_core_model.specs.Position.{BlockLayout, records_in}
 use Rattle.foyer_core_model.specs.State.{Flusher, Piece, Batch, Writing, Clean, Writes, no_stats, NoDestroy, State}
 use Rattle.foyer_core_model.specs.Rules.{Rules, Splitting, first_position}
 use Rattle.foyer_core_model.specs.Step.{Fresh, Young, Enqueue, Receive, FlushBegin, FlushBlock, FlushWrote}
 use Rattle.foyer_core_model.specs.Reply.{Queued, Received, Began, Written, Next, Committed}
-use Rattle.foyer_core_model.specs.Layout.{writes_in}
 use Rattle.foyer_core_model.specs.Queue.{queued}
 use Rattle.foyer_core_model.specs.Receive.{pushed_to, turned}
-use Rattle.foyer_core_model.specs.Flush.{released, block_issued, write_done, block_done}
+use Rattle.foyer_core_model.specs.Flush.{released, write_done, block_done}
 use Rattle.foyer_core_model.specs.Access.{Idle, CleanIdle}
 use Rattle.foyer_core_model.specs.World.{World, WorldEvent, Applies, WriteBegins, WriteEnds, after, MayHappen}
 use Rattle.foyer_core_model.specs.Opened.{IsOpened, idle, full_filling}
 use Rattle.foyer_core_model.proofs.Basics.{put_at, put_other}
 use Rattle.foyer_core_restart.specs.Restart.{IsRun, IsBeingWritten}
 use Rattle.foyer_core_restart.specs.Torn.{Place, alone}
-use Rattle.foyer_core_restart.proofs.TornMachine.{Machine, machine_of, Item, record_of}
+use Rattle.foyer_core_restart.proofs.TornMachine.{Machine, machine_of, Item, record_of, IsFull, two_writes, two_in, issued_as}
 
 module _ {C : Type 0} (m : Machine C) (is_value : C → Type 0) (i : Item m is_value 2 1) (j : Item m is_value 2 2) (k : Item m is_value 3 3) (p q r : Place) where
   abbrev rules : Rules C
@@ -151,13 +150,13 @@ module _ {C : Type 0} (m : Machine C) (is_value : C → Type 0) (i : Item m is_v
   -- block 0 is written and committed
 
   abbrev c9 : State C
-  c9 = record (record (block_issued rules c8 0 0 batch0 s1 (s2 ∷ [])) { filling = put c8.filling 0 1; clean = 1 ∷ 2 ∷ []; place = put (released None c8.place) 0 (Writes 0) }) { steps = 9 }
+  c9 = record (record (issued_as c8 0 0 batch0 (two_writes p) (records_in s1.parts) (s2 ∷ [])) { filling = put c8.filling 0 1; clean = 1 ∷ 2 ∷ []; place = put (released None c8.place) 0 (Writes 0) }) { steps = 9 }
 
   abbrev pub index_of : Place → List Write
   index_of u = record { role = Index; offset = u.blob; bytes = u.index } ∷ []
 
   abbrev writing1 : Writing C
-  writing1 = record { block = 0; left = writes_in rules s1.parts; records = (p.offset, older) ∷ [] }
+  writing1 = record { block = 0; left = two_writes p; records = (p.offset, older) ∷ [] }
 
   abbrev issued1 : Batch C
   issued1 = record batch0 { blocks = s2 ∷ []; writing = Some writing1 }
@@ -177,16 +176,16 @@ module _ {C : Type 0} (m : Machine C) (is_value : C → Type 0) (i : Item m is_v
   done1 = record last1 { writing = None }
 
   abbrev c12 : State C
-  c12 = record (record (block_issued rules c11 0 1 done1 s2 []) { filling = put c11.filling 1 1; clean = 2 ∷ []; place = put (released (Some 0) c11.place) 1 (Writes 0) }) { steps = 12 }
+  c12 = record (record (issued_as c11 0 1 done1 (two_writes q) (records_in s2.parts) []) { filling = put c11.filling 1 1; clean = 2 ∷ []; place = put (released (Some 0) c11.place) 1 (Writes 0) }) { steps = 12 }
 
   abbrev c13 : State C
-  c13 = record (record (block_issued rules c12 1 2 batch1 s3 []) { filling = put c12.filling 2 1; clean = []; place = put (released None c12.place) 2 (Writes 1) }) { steps = 13 }
+  c13 = record (record (issued_as c12 1 2 batch1 (two_writes r) (records_in s3.parts) []) { filling = put c12.filling 2 1; clean = []; place = put (released None c12.place) 2 (Writes 1) }) { steps = 13 }
 
   abbrev pub writing2 : Writing C
-  writing2 = record { block = 1; left = writes_in rules s2.parts; records = (q.offset, newer) ∷ [] }
+  writing2 = record { block = 1; left = two_writes q; records = (q.offset, newer) ∷ [] }
 
   abbrev pub writing3 : Writing C
-  writing3 = record { block = 2; left = writes_in rules s3.parts; records = (r.offset, other) ∷ [] }
+  writing3 = record { block = 2; left = two_writes r; records = (r.offset, other) ∷ [] }
 
   abbrev issued2 : Batch C
   issued2 = record done1 { blocks = []; writing = Some writing2 }
@@ -221,7 +220,7 @@ module _ {C : Type 0} (m : Machine C) (is_value : C → Type 0) (i : Item m is_v
   e8 = Applies (FlushBegin 1) (Began (s3 ∷ []) []) c8
 
   abbrev e9 : WorldEvent C
-  e9 = Applies (FlushBlock 0) (Written 0 (writes_in rules s1.parts)) c9
+  e9 = Applies (FlushBlock 0) (Written 0 (two_writes p)) c9
 
   abbrev w1 : World C
   w1 = after rules w0 e1
@@ -263,10 +262,10 @@ module _ {C : Type 0} (m : Machine C) (is_value : C → Type 0) (i : Item m is_v
   e12 = Applies (FlushWrote 0 true) (Committed 1) c11
 
   abbrev e13 : WorldEvent C
-  e13 = Applies (FlushBlock 0) (Written 1 (writes_in rules s2.parts)) c12
+  e13 = Applies (FlushBlock 0) (Written 1 (two_writes q)) c12
 
   abbrev e14 : WorldEvent C
-  e14 = Applies (FlushBlock 1) (Written 2 (writes_in rules s3.parts)) c13
+  e14 = Applies (FlushBlock 1) (Written 2 (two_writes r)) c13
 
   abbrev w11 : World C
   w11 = after rules w10 e11
@@ -311,7 +310,7 @@ module _ {C : Type 0} (m : Machine C) (is_value : C → Type 0) (i : Item m is_v
           ∙ put_other c1.flushers 0 _ f ne0 ∙ put_other core0.flushers 0 _ f ne0
           )
 
-  module _ (Splits : Splitting C)
+  module _ (Splits : Splitting C) (full_p : IsFull p) (full_q : IsFull q) (full_r : IsFull r)
       (split : Splits (first_position rules) (older ∷ newer ∷ []) (s1 ∷ s2 ∷ [])) (split_other : Splits (first_position rules) (other ∷ []) (s3 ∷ [])) where
     abbrev May : World C → WorldEvent C → Type 0
     May = MayHappen rules Splits is_value
@@ -368,8 +367,8 @@ module _ {C : Type 0} (m : Machine C) (is_value : C → Type 0) (i : Item m is_v
         omega arith,
         (omega arith, ((λ e. cc), refl)),
         (
-          record (block_issued rules c8 0 0 batch0 s1 (s2 ∷ [])) { filling = put c8.filling 0 1; clean = 1 ∷ 2 ∷ []; place = put (released None c8.place) 0 (Writes 0) },
-          (s1, s2 ∷ [], refl, refl, inr (inr (refl, refl, refl, refl))),
+          record (issued_as c8 0 0 batch0 (two_writes p) (records_in s1.parts) (s2 ∷ [])) { filling = put c8.filling 0 1; clean = 1 ∷ 2 ∷ []; place = put (released None c8.place) 0 (Writes 0) },
+          (s1, s2 ∷ [], refl, two_in m p older full_p, inr (inr (refl, refl, refl, (λ t. record (issued_as c8 0 0 batch0 (two_in m p older full_p t) (records_in s1.parts) (s2 ∷ [])) { filling = put c8.filling 0 1; clean = 1 ∷ 2 ∷ []; place = put (released None c8.place) 0 (Writes 0) })))),
           refl,
         ),
       ),
@@ -388,8 +387,8 @@ module _ {C : Type 0} (m : Machine C) (is_value : C → Type 0) (i : Item m is_v
         omega arith,
         (omega arith, ((λ e. cc), refl)),
         (
-          record (block_issued rules c11 0 1 done1 s2 []) { filling = put c11.filling 1 1; clean = 2 ∷ []; place = put (released (Some 0) c11.place) 1 (Writes 0) },
-          (s2, [], refl, refl, inr (inr (refl, refl, refl, refl))),
+          record (issued_as c11 0 1 done1 (two_writes q) (records_in s2.parts) []) { filling = put c11.filling 1 1; clean = 2 ∷ []; place = put (released (Some 0) c11.place) 1 (Writes 0) },
+          (s2, [], refl, two_in m q newer full_q, inr (inr (refl, refl, refl, (λ t. record (issued_as c11 0 1 done1 (two_in m q newer full_q t) (records_in s2.parts) []) { filling = put c11.filling 1 1; clean = 2 ∷ []; place = put (released (Some 0) c11.place) 1 (Writes 0) })))),
           refl,
         ),
       ),
@@ -402,8 +401,8 @@ module _ {C : Type 0} (m : Machine C) (is_value : C → Type 0) (i : Item m is_v
         omega arith,
         (omega arith, ((λ e. cc), refl)),
         (
-          record (block_issued rules c12 1 2 batch1 s3 []) { filling = put c12.filling 2 1; clean = []; place = put (released None c12.place) 2 (Writes 1) },
-          (s3, [], refl, refl, inr (inr (refl, refl, refl, refl))),
+          record (issued_as c12 1 2 batch1 (two_writes r) (records_in s3.parts) []) { filling = put c12.filling 2 1; clean = []; place = put (released None c12.place) 2 (Writes 1) },
+          (s3, [], refl, two_in m r other full_r, inr (inr (refl, refl, refl, (λ t. record (issued_as c12 1 2 batch1 (two_in m r other full_r t) (records_in s3.parts) []) { filling = put c12.filling 2 1; clean = []; place = put (released None c12.place) 2 (Writes 1) })))),
           refl,
         ),
       ),

@@ -23,7 +23,7 @@ use Rattle.foyer_block_recover.specs.declared.block.recover.RecoverMode.TheVaria
 use Rattle.foyer_core_restart.proofs.Witness.{first_only}
 use Rattle.foyer_core_restart.specs.Entries.{In}
 use Rattle.foyer_core_restart.specs.Restart.{IsStopped, HasNoStrays, IsFoundNewer, no_fault}
-use Rattle.foyer_core_restart.proofs.TornMachine.{Machine, machine_of, Item, record_of, StandsAlone, unsealed, counts_one, which}
+use Rattle.foyer_core_restart.proofs.TornMachine.{Machine, machine_of, Item, record_of, StandsAlone, full_of, unsealed, counts_one, which}
 use Rattle.foyer_core_restart.proofs.TornRun as torn_run
 use Rattle.foyer_core_restart.specs.Torn.{IsInside, IsTornStop, FindsNewer, Place, alone}
 
@@ -199,7 +199,7 @@ module _ {C : Type 0} (m : Machine C) (Splits : Splitting C) (is_value : C → T
   stop = record {
     world = w;
     bytes = torn;
-    run = torn_run.run m is_value i j k p q r Splits split split_other;
+    run = torn_run.run m is_value i j k p q r Splits (full_of a b p first_is) (full_of c d q second_is) (full_of x y r third_is) split split_other;
     indexed = refl;
     apart = torn_run.apart m is_value i j k p q r;
     in_data = data_inside torn refl;

@@ -1,12 +1,15 @@
 -- A run that goes well and leaves an address in the index.
-use Rattle.std.proofs.Common.{◌≡◌, ℕ, ◌+◌, ◌<◌, ◌≤◌, Bool, true, false, Option, Some, None, List, [], ◌∷◌, length, ◌⊎◌, inl, inr, refl, sym, ap, subst, ◌∙◌, arith}
+use Rattle.std.proofs.Common.{◌≡◌, ℕ, ◌+◌, ◌-◌, ◌<◌, ◌≤◌, nat_le, Bool, true, false, if◌then◌else◌, Option, Some, None, List, [], ◌∷◌, ◌++◌, length, take, drop, inl, inr, refl, sym, ap, subst, ◌∙◌, arith}
+use Rattle.std.specs.Prelude.{map}
+use Rattle.std.proofs.lemmas.Bool.Decides.{nat_tests}
+use Rattle.std.proofs.lemmas.List.{length-take, length-drop}
 use Rattle.foyer_format_layout.specs.Position.{Sizes}
 use Rattle.foyer_format_layout.specs.Page.{page_up}
 use Rattle.foyer_format_layout.proofs.PageLaws.{page_up-fewest, page_up-holds}
 use Rattle.foyer_core_model.specs.Numbers.{put, page}
 use Rattle.foyer_core_model.specs.Record.{Indexed, IndexEntry}
-use Rattle.foyer_format_layout.specs.BlockBytes.{Index, Write, laid, read, Data}
-use Rattle.foyer_core_model.specs.Position.{Position, Part, BlockLayout}
+use Rattle.foyer_format_layout.specs.BlockBytes.{Index, Write, laid, read, Data, zeros_write}
+use Rattle.foyer_core_model.specs.Position.{Position, Part, BlockLayout, records_in}
 use Rattle.foyer_core_model.specs.State.{Flusher, Piece, Batch, Writing, Clean, Writes, no_stats, NoDestroy, State}
 use Rattle.foyer_core_model.specs.Rules.{Rules, first_position}
 use Rattle.foyer_core_model.specs.Step.{Fresh, Young, Enqueue, Receive, FlushBegin, FlushBlock, FlushWrote}
@@ -14,11 +17,11 @@ use Rattle.foyer_core_model.specs.Reply.{Queued, Received, Began, Written, Next,
 use Rattle.foyer_core_model.specs.Layout.{writes_in}
 use Rattle.foyer_core_model.specs.Queue.{queued}
 use Rattle.foyer_core_model.specs.Receive.{pushed_to, turned}
-use Rattle.foyer_core_model.specs.Flush.{released, block_issued, write_done, block_done}
+use Rattle.foyer_core_model.specs.Flush.{released, write_done, block_done}
 use Rattle.foyer_core_model.specs.Access.{Idle, CleanIdle}
 use Rattle.foyer_core_model.specs.World.{World, WorldEvent, Applies, WriteBegins, WriteEnds, after, MayHappen}
 use Rattle.foyer_core_model.specs.Opened.{IsOpened, idle, full_filling}
-use Rattle.foyer_device_page.specs.Section.{Section}
+use Rattle.foyer_device_page.specs.Section.{Section, bytes_of}
 use Rattle.foyer_format_blob.specs.Blob.{capacity_of}
 use Rattle.foyer_format_blob.specs.declared.blob.BlobEntryIndex.{BlobEntryIndex}
 use Rattle.foyer_format_layout.specs.Each.{Each}
@@ -31,7 +34,9 @@ use Rattle.foyer_format_buffer.specs.declared.BufferEntryInfo.{BufferEntryInfo}
 use Rattle.foyer_format_buffer.specs.declared.split.BlobPart.{BlobPart}
 use Rattle.foyer_format_layout.proofs.BlockBytesLaws.{read_whole}
 use Rattle.foyer_core_model.proofs.Basics.{put_at, put_other}
-use Rattle.foyer_core_restart.specs.Entries.{filled_to}
+use Rattle.foyer_format_buffer.specs.Stored.{Stored, stored_at}
+use Rattle.foyer_core_restart.specs.Entries.{filled_to, stored}
+use Rattle.foyer_core_restart.proofs.TornMachine.{issued_as}
 use Rattle.foyer_core_restart.specs.Real.{AreSameParts}
 use Rattle.foyer_core_restart.specs.Restart.{IsRun, IsStopped, HasNoStrays, IsWriting, IsScanned}
 use Rattle.foyer_core_restart.specs.Restart.IsScanned.{here, later}
@@ -40,16 +45,32 @@ use Rattle.foyer_core_restart.specs.Witness.{tiny, one, ReachesIndexed}
 
 -- what one part is
 one_part : {A : Type 0} (s : Sizes) (w : Section) (start : ℕ) (f : laid.Position) (infos : List BufferEntryInfo) (p : BlobPart A) (g : laid.Position) → 0 < capacity_of s.index → length f.listed ≡ 0
-    → Fills s w start f infos (p ∷ []) g → (p.blob_block_offset ≡ f.blob) × (length p.index ≡ s.index)
-one_part s w start f infos p g room none (part is fill) = (is.blob, is.size)
+    → Fills s w start f infos (p ∷ []) g → (p.blob_block_offset ≡ f.blob) × (length p.index ≡ s.index) × (p.part_blob_offset ≡ f.at)
+one_part s w start f infos p g room none (part is fill) = (is.blob, is.size, is.at)
 one_part s w start f infos p g room none (blob full fill) = absurd (omega arith)
 
 only_part : {A : Type 0} (s : Sizes) (w : Section) (start : ℕ) (f : laid.Position) (infos : List BufferEntryInfo) (q : Part (List ℕ)) (parts : List (BlobPart A)) (g : laid.Position) → 0 < capacity_of s.index → length f.listed ≡ 0
-    → Fills s w start f infos parts g → AreSameParts (q ∷ []) parts → (q.blob ≡ f.blob) × (length q.index ≡ s.index)
+    → Fills s w start f infos parts g → AreSameParts (q ∷ []) parts → (q.blob ≡ f.blob) × (length q.index ≡ s.index) × (q.at ≡ f.at)
 only_part s w start f infos q [] g room none fill same = absurd same
 only_part s w start f infos q (p ∷ []) g room none fill same =
-    let k : (p.blob_block_offset ≡ f.blob) × (length p.index ≡ s.index) = one_part s w start f infos p g room none fill in ((same.0).blob ∙ k.0, ap length (same.0).index ∙ k.1)
+    let k : (p.blob_block_offset ≡ f.blob) × (length p.index ≡ s.index) × (p.part_blob_offset ≡ f.at) = one_part s w start f infos p g room none fill in
+    ((same.0).blob ∙ k.0, ap length (same.0).index ∙ k.1, (same.0).at ∙ k.2)
 only_part s w start f infos q (p ∷ r ∷ ps) g room none fill same = absurd same.1
+
+-- a record that isn't empty has bytes among its part's data
+some_stored : (r : Stored) (rs : List Stored) (base at : ℕ) (d : List ℕ) (es : List BlobEntryIndex) → r ∷ rs ≡ stored_at base at d es → 0 < length r.bytes → 0 < length d
+some_stored r rs base at d [] e some = absurd cc
+some_stored r rs base at d (x ∷ es) e some =
+    let first : r ≡ record { hash = x.hash; sequence = x.sequence; offset = base + x.offset; bytes = take x.len (drop (x.offset - at) d) } = cc in
+    let size : length r.bytes ≡ length (take x.len (drop (x.offset - at) d)) = ap (λ (u : Stored). length u.bytes) first in
+    omega (arith, size, some, length-take x.len (drop (x.offset - at) d), length-drop (x.offset - at) d)
+
+some_part : {A : Type 0} (q : Part (List ℕ)) (o : ℕ) (parts : List (BlobPart A)) → q.records ≡ (o, one) ∷ [] → AreSameParts (q ∷ []) parts → 0 < length q.content
+some_part q o [] is same = absurd same
+some_part q o (p ∷ ps) is same =
+    subst (λ d. 0 < length d) (sym (same.0).content)
+    (some_stored (stored (o, one)) [] p.blob_block_offset p.part_blob_offset (bytes_of p.part_data) p.indices.items
+    (sym (ap (map stored) is) ∙ (same.0).records) (omega arith))
 
 -- behind the first index there is no room for another
 far : (B : ℕ → ℕ) (failed : ℕ → Bool) (es : List BlobEntryIndex) → IsIndex (record { block = 8192; index = 4096 }) B failed 0 es → 4096 < behind (record { block = 8192; index = 4096 }) 0 es
@@ -164,11 +185,15 @@ module _ (A : Type 0) (entries_of : ℕ → List ℕ → Option (List IndexEntry
   abbrev c3 : State (List ℕ)
   c3 = record (turned rules c2 0 (record (c2.flushers 0) { buffer = []; marks = []; invalidated = []; waits = []; context = end; batch = Some batch })) { steps = 3 }
 
+  -- a block of two pages has no room behind its record
+  abbrev plain : List Write
+  plain = record { role = Data; offset = base + at; bytes = content } ∷ record { role = Index; offset = base; bytes = index } ∷ []
+
   abbrev c4 : State (List ℕ)
-  c4 = record (record (block_issued rules c3 0 0 batch sp []) { filling = put c3.filling 0 1; clean = []; place = put (released None c3.place) 0 (Writes 0) }) { steps = 4 }
+  c4 = record (record (issued_as c3 0 0 batch plain (records_in sp.parts) []) { filling = put c3.filling 0 1; clean = []; place = put (released None c3.place) 0 (Writes 0) }) { steps = 4 }
 
   abbrev writing : Writing (List ℕ)
-  writing = record { block = 0; left = writes_in rules sp.parts; records = (offset, one) ∷ [] }
+  writing = record { block = 0; left = plain; records = (offset, one) ∷ [] }
 
   abbrev issued : Batch (List ℕ)
   issued = record batch { blocks = []; writing = Some writing }
@@ -197,7 +222,7 @@ module _ (A : Type 0) (entries_of : ℕ → List ℕ → Option (List IndexEntry
   e3 = Applies (FlushBegin 0) (Began (sp ∷ []) []) c3
 
   abbrev e4 : WorldEvent (List ℕ)
-  e4 = Applies (FlushBlock 0) (Written 0 (writes_in rules sp.parts)) c4
+  e4 = Applies (FlushBlock 0) (Written 0 plain) c4
 
   abbrev w4 : World (List ℕ)
   w4 = after rules (after rules (after rules (after rules w0 e1) e2) e3) e4
@@ -224,6 +249,22 @@ module _ (A : Type 0) (entries_of : ℕ → List ℕ → Option (List IndexEntry
     abbrev May : World (List ℕ) → WorldEvent (List ℕ) → Type 0
     May = MayHappen rules (IsRealSplit A rules) (λ c. Unit {0})
 
+    only : (base ≡ 0) × (length index ≡ 4096) × (at ≡ 4096)
+    only = only_part (record { block = 8192; index = 4096 }) splits.whole 0 (filled_to (first_position rules)) (splits.spread).0 (record { blob = base; at = at; content = content; index = index; records = (offset, one) ∷ [] })
+        (splits.spread).2 (filled_to end) (omega arith) refl (splits.spread).4 (splits.spread).5
+
+    full : nat_le (base + at + length content + 4096) 8192 ≡ false
+    full =
+        let low : base ≡ 0 = only.0 in
+        let behind : at ≡ 4096 = only.2 in
+        let some : 0 < length content = some_part (record { blob = base; at = at; content = content; index = index; records = (offset, one) ∷ [] }) offset (splits.spread).2 refl (splits.spread).5 in
+        grind (arith, nat_tests)
+
+    plain_in : plain ≡ writes_in rules sp.parts
+    plain_in = sym (ap (λ (b : Bool).
+        (record { role = Data; offset = base + at; bytes = content }
+        ∷ (if b then zeros_write (base + at + length content) ∷ record { role = Index; offset = base; bytes = index } ∷ [] else record { role = Index; offset = base; bytes = index } ∷ [])) ++ []) full)
+
     may1 : May w0 e1
     may1 = ((omega arith, tt), (omega arith, tt, (record (queued rules core0 0 (Piece 7 1 1 (9 ∷ []))) { next = 2 }, (refl, refl, is_queued, omega arith, refl), refl)))
       where
@@ -243,8 +284,8 @@ module _ (A : Type 0) (entries_of : ℕ → List ℕ → Option (List IndexEntry
         omega arith,
         (omega arith, ((λ e. cc), refl)),
         (
-          record (block_issued rules c3 0 0 batch sp []) { filling = put c3.filling 0 1; clean = []; place = put (released None c3.place) 0 (Writes 0) },
-          (sp, [], refl, refl, inr (inr (refl, refl, refl, refl))),
+          record (issued_as c3 0 0 batch plain (records_in sp.parts) []) { filling = put c3.filling 0 1; clean = []; place = put (released None c3.place) 0 (Writes 0) },
+          (sp, [], refl, plain_in, inr (inr (refl, refl, refl, (λ t. record (issued_as c3 0 0 batch (plain_in t) (records_in sp.parts) []) { filling = put c3.filling 0 1; clean = []; place = put (released None c3.place) 0 (Writes 0) })))),
           refl,
         ),
       ),
@@ -271,10 +312,6 @@ module _ (A : Type 0) (entries_of : ℕ → List ℕ → Option (List IndexEntry
               (subst (λ n. index ≡ read ((after rules (after rules w6 e6) e7).bytes 0) base n) size
               (sym (read_whole (record { role = Index; offset = base; bytes = index }) (laid (record { role = Data; offset = base + at; bytes = content }) (λ o. 0)))))),
         )
-      where
-        only : (base ≡ 0) × (length index ≡ 4096)
-        only = only_part (record { block = 8192; index = 4096 }) splits.whole 0 (filled_to (first_position rules)) (splits.spread).0 (record { blob = base; at = at; content = content; index = index; records = (offset, one) ∷ [] })
-            (splits.spread).2 (filled_to end) (omega arith) refl (splits.spread).4 (splits.spread).5
 
     idle_then : (f : ℕ) (r : Writing (List ℕ)) → IsWriting (after rules (after rules w6 e6) e7).core f r → ⊥
     idle_then f r (b, is, w) = go is

@@ -4,9 +4,7 @@ use Rattle.foyer_format_blob.specs.declared.blob.BlobEntryIndex.{BlobEntryIndex}
 use Rattle.foyer_format_buffer.specs.Position as laid
 use Rattle.foyer_format_buffer.specs.Stored as stands
 use Rattle.foyer_core_model.specs.Record.{Address, IndexEntry, Record}
-use Rattle.foyer_format_layout.specs.BlockBytes.{Write}
 use Rattle.foyer_core_model.specs.Position.{Position}
-use Rattle.foyer_core_model.specs.Rules.{Rules}
 use Rattle.foyer_core_model.specs.World.{World, Stored}
 
 -- a member of a list

@@ -13,7 +13,7 @@ use Rattle.foyer_format_buffer.specs.Stored.{stored_at}
 use Rattle.foyer_format_buffer.specs.declared.BufferEntryInfo.{BufferEntryInfo}
 use Rattle.foyer_format_buffer.specs.declared.split.BlobPart.{BlobPart}
 use Rattle.foyer_core_model.specs.Record.{IndexEntry, Record}
-use Rattle.foyer_format_layout.specs.BlockBytes.{Data, Index}
+use Rattle.foyer_format_layout.specs.BlockBytes.{Data, Index, with_zeros}
 use Rattle.foyer_core_model.specs.Position.{Position, Part, BlockLayout}
 use Rattle.foyer_core_model.specs.Layout.{AllFitBlock}
 use Rattle.foyer_core_model.specs.Rules.{Rules, Splitting, sizes_of}
@@ -51,12 +51,14 @@ pub record IsSpread (A : Type 0) {C : Type 0} (s : Sizes) (f : laid.Position) (b
   pub each : Each (laid.FitsBlock s) infos
   pub spread : AreSpread A s whole start f infos blocks
 
--- the rules are those of the real format: whole pages, each part's data and then its index, and what an index lists
+-- the rules are those of the real format: whole pages, each part's data, a page of zeros behind them if there is room, and
+-- then its index, and what an index lists
 pub record IsFormat {C : Type 0} (rules : Rules C) : Type 0 where
   pub sizes : AreSizes (sizes_of rules)
   pub pages : (n : ℕ) → rules.page_up n ≡ page_up n
   pub writes : (p : Part C) → rules.writes_of p
-      ≡ record { role = Data; offset = p.blob + p.at; bytes = p.content } ∷ record { role = Index; offset = p.blob; bytes = p.index } ∷ []
+      ≡ record { role = Data; offset = p.blob + p.at; bytes = p.content }
+      ∷ with_zeros rules.block_size (p.blob + p.at + length p.content) (record { role = Index; offset = p.blob; bytes = p.index } ∷ [])
   pub lists : (p : ℕ) (b : List ℕ) (es : List IndexEntry) → rules.entries_of p b ≡ Some es
       → IsSealed b (map entry_in es) × Each (Fits (sizes_of rules) p) (map entry_in es)
   pub ends : (p : ℕ) (b : List ℕ) (es : List BlobEntryIndex) → rules.entries_of p b ≡ None

@@ -1,8 +1,8 @@
 -- That the law speaks of a stop inside writes: two flushers, each inside one, and an address whose block neither writes.
-use Rattle.std.specs.Prelude.{◌≡◌, ◌≢◌, ℕ, ◌+◌, ◌<◌, ◌≤◌, Bool, false, List, [], ◌∷◌, Option, Some, ◌⊎◌}
+use Rattle.std.specs.Prelude.{◌≡◌, ◌≢◌, ℕ, ◌+◌, ◌<◌, ◌≤◌, Bool, false, List, [], ◌∷◌, length, Option, Some, ◌⊎◌}
 use Rattle.foyer_format_layout.specs.Page.{page_up}
 use Rattle.foyer_core_model.specs.Access.{InFlight}
-use Rattle.foyer_format_layout.specs.BlockBytes.{laid, Role, Data, Index, Write}
+use Rattle.foyer_format_layout.specs.BlockBytes.{laid, Role, Data, Index, Write, with_zeros}
 use Rattle.foyer_core_model.specs.Numbers.{page}
 use Rattle.foyer_core_model.specs.Position.{Position, BlockLayout}
 use Rattle.foyer_core_model.specs.Record.{Address, Indexed, Holds, IndexEntry, Given, Record}
@@ -77,7 +77,8 @@ small entries_of above some whole = record {
   encode = λ h s c. Some c;
   pair_of = λ b h s. Holds b;
   entries_of = entries_of;
-  writes_of = λ p. record { role = Data; offset = p.blob + p.at; bytes = p.content } ∷ record { role = Index; offset = p.blob; bytes = p.index } ∷ [];
+  writes_of = λ p. record { role = Data; offset = p.blob + p.at; bytes = p.content }
+      ∷ with_zeros 8192 (p.blob + p.at + length p.content) (record { role = Index; offset = p.blob; bytes = p.index } ∷ []);
   some_flusher = some;
   page_up_above = above;
   index_holds_page = whole;

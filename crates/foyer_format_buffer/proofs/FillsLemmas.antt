@@ -1,8 +1,8 @@
 -- What the parts of one block make of it.
-use Rattle.std.proofs.Common.{◌≡◌, ℕ, ◌+◌, ◌<◌, ◌≤◌, List, ◌++◌, length, take, drop, ◌⊎◌, inl, inr, refl, sym, ap, subst, ◌∙◌, arith}
+use Rattle.std.proofs.Common.{◌≡◌, ℕ, ◌+◌, ◌<◌, ◌≤◌, List, ◌∷◌, ◌++◌, length, take, drop, ◌⊎◌, inl, inr, refl, sym, ap, subst, ◌∙◌, arith}
 use Rattle.std.proofs.lemmas.List.{length-take-le, length-drop}
 use Rattle.foyer_device_page.specs.Section.{Section, bytes_of}
-use Rattle.foyer_format_layout.specs.BlockBytes.{laid, all_laid, IsBeside, Data}
+use Rattle.foyer_format_layout.specs.BlockBytes.{laid, all_laid, IsBeside, Data, zeroed}
 use Rattle.foyer_format_layout.specs.Each.{Each}
 use Rattle.foyer_format_layout.specs.Position.{Sizes, tail_of, next_blob, MayWrite}
 use Rattle.foyer_format_buffer.specs.Position.{Position, taken, entries_from, with_records}
@@ -13,7 +13,7 @@ use Rattle.foyer_format_buffer.specs.Fills.Fills.{stays, part, blob}
 use Rattle.foyer_format_buffer.specs.declared.BufferEntryInfo.{BufferEntryInfo}
 use Rattle.foyer_format_buffer.specs.declared.split.BlobPart.{BlobPart}
 use Rattle.foyer_format_buffer.proofs.SplitLemmas.{taken-append}
-use Rattle.foyer_format_layout.proofs.BlockBytesLaws.{beside_or, laid_beside, laid_outside, within_more}
+use Rattle.foyer_format_layout.proofs.BlockBytesLaws.{beside_or, laid_beside, laid_outside, within_more, all_laid_zeros, zeroed_before, within_zeros}
 use Rattle.foyer_format_buffer.proofs.StoredLemmas.{stand_same, outside_less, stand_join, outside_join, part_bytes, stored_stand, stored_outside, stored_records, records-append}
 
 -- the later filling's writes fall where the former's might
@@ -61,7 +61,7 @@ module _ {A : Type 0} where
       let later : IsLaid s w start (next_blob s f) infos parts g = fills_laid s w start (next_blob s f) infos parts g (omega arith) room fills in
       record {
         order = later.order;
-        within = within_more (MayWrite s.index (next_blob s f)) (MayWrite s.index f) (writes_of parts) (blob_less s f) later.within;
+        within = within_more (MayWrite s.index (next_blob s f)) (MayWrite s.index f) (writes_of s.block parts) (blob_less s f) later.within;
         shrinks = λ o may. blob_less s f o (later.shrinks o may);
         past = later.past;
         records = later.records;
@@ -79,20 +79,22 @@ module _ {A : Type 0} where
         );
         within = (
           in_data,
-          (
+          within_zeros (MayWrite s.index f) s.block (data_end p) (index_write p ∷ writes_of s.block more) (λ o l. inl (omega (arith, is.blob, is.at, l))) (
             λ o inside. inr (in_present o inside),
-            within_more (MayWrite s.index (with_records f now)) (MayWrite s.index f) (writes_of more) (records_less s f now) later.within,
+            within_more (MayWrite s.index (with_records f now)) (MayWrite s.index f) (writes_of s.block more) (records_less s f now) later.within,
           ),
         );
         shrinks = λ o may. records_less s f now o (later.shrinks o may);
         past = later.past;
         records = records-append (bytes_of w) start now rest own (records_in more) known later.records;
-        stand = λ B. stand_join (all_laid (writes_of more) (laid (index_write p) (laid (data_write p) B))) own (records_in more)
-            (stand_same (MayWrite s.index (with_records f now)) (laid (data_write p) B) (all_laid (writes_of more) (laid (index_write p) (laid (data_write p) B))) own
-            outside (λ o out. laid_outside (MayWrite s.index (with_records f now)) (writes_of more) (laid (index_write p) (laid (data_write p) B)) o later.within out
-            ∙ laid_beside (index_write p) (laid (data_write p) B) o (beside_index o out))
+        stand = λ B. subst (λ k. AllStand k (own ++ records_in more)) (sym (all_laid_zeros s.block (data_end p) (index_write p ∷ writes_of s.block more) (laid (data_write p) B)))
+            (stand_join (all_laid (writes_of s.block more) (laid (index_write p) (before B))) own (records_in more)
+            (stand_same (MayWrite s.index (with_records f now)) (laid (data_write p) B) (all_laid (writes_of s.block more) (laid (index_write p) (before B))) own
+            outside (λ o out. laid_outside (MayWrite s.index (with_records f now)) (writes_of s.block more) (laid (index_write p) (before B)) o later.within out
+            ∙ laid_beside (index_write p) (before B) o (beside_index o out)
+            ∙ zeroed_before s.block (data_end p) (laid (data_write p) B) o (in_front o out))
             (standing B))
-            (later.stand (laid (index_write p) (laid (data_write p) B)));
+            (later.stand (laid (index_write p) (before B))));
         outside = outside_join (MayWrite s.index g) own (records_in more) (outside_less (MayWrite s.index (with_records f now)) (MayWrite s.index g) own later.shrinks outside) later.outside;
       }
     where
@@ -113,6 +115,15 @@ module _ {A : Type 0} where
 
       are : own ≡ stored_at f.blob f.at (bytes_of p.part_data) (entries_from f.at now)
       are = part_records s w start f now p is
+
+      -- its data and the zeros behind them
+      before : (ℕ → ℕ) → ℕ → ℕ
+      before B = zeroed s.block (data_end p) (laid (data_write p) B)
+
+      in_front : (o : ℕ) → (MayWrite s.index (with_records f now) o → ⊥) → o < data_end p
+      in_front o out =
+          let low : tail_of (with_records f now) ≤ o → ⊥ = λ l. out (inl l) in
+          omega (arith, is.blob, is.at, size, low)
 
       in_data : (o : ℕ) → (IsBeside (data_write p) o → ⊥) → MayWrite s.index f o
       in_data o inside =

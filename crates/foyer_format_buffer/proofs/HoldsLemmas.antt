@@ -8,13 +8,13 @@ use Rattle.foyer_format_buffer.specs.Entries.{Entries, IsFinished, EachTakes, en
 use Rattle.foyer_device_page.specs.Section.{Section, bytes_of}
 use Rattle.foyer_format_layout.specs.Page.{page_up}
 use Rattle.foyer_format_blob.specs.Blob.{IsSealed}
-use Rattle.foyer_format_layout.specs.BlockBytes.{read, laid, all_laid}
+use Rattle.foyer_format_layout.specs.BlockBytes.{read, laid, all_laid, zeroed}
 use Rattle.foyer_format_layout.specs.Each.{Each}
 use Rattle.foyer_format_layout.specs.Position.{Sizes, tail_of, fresh, next_blob}
 use Rattle.foyer_format_buffer.specs.Position.{Position, FitsBlock, taken, entries_from, with_records}
 use Rattle.foyer_format_buffer.specs.Listing.{Fits, IsIndex, behind, placed, Chain, Lists}
 use Rattle.foyer_format_buffer.specs.Layout.{IsPart}
-use Rattle.foyer_format_buffer.specs.Fills.{AreSizes, data_write, index_write, writes_of, records_in, Fills}
+use Rattle.foyer_format_buffer.specs.Fills.{AreSizes, data_write, data_end, index_write, writes_of, records_in, Fills}
 use Rattle.foyer_format_buffer.specs.Stored.{Stored, entry_of, stored_at}
 use Rattle.foyer_format_buffer.specs.Holding.{all_read, Leads, Holds}
 use Rattle.foyer_format_buffer.specs.Fills.Fills.{stays, part, blob}
@@ -26,7 +26,7 @@ use Rattle.foyer_format_layout.proofs.PageLaws.{even-page_up}
 use Rattle.foyer_format_buffer.proofs.SplitLemmas.{taken_cons, taken_none, taken-append, entries_cons, entries_none}
 use Rattle.foyer_format_buffer.proofs.EntriesLemmas.{even-taken}
 use Rattle.foyer_format_buffer.proofs.ListingLemmas.{chain_step}
-use Rattle.foyer_format_layout.proofs.BlockBytesLaws.{read_same, laid_beside, read_whole}
+use Rattle.foyer_format_layout.proofs.BlockBytesLaws.{read_same, laid_beside, read_whole, all_laid_zeros, zeroed_before}
 use Rattle.foyer_format_buffer.proofs.StoredLemmas.{stored_entries}
 use Rattle.foyer_format_buffer.proofs.FillsLemmas.{part_is, part_records}
 
@@ -63,7 +63,7 @@ leads_same s B D p q es same (over {e = e} {es = xs} {rest = rest} is leads) =
         omega arith
 
 -- one index more
-leads_more : (s : Sizes) (B : ℕ → ℕ) (p q : ℕ) (xs : List BlobEntryIndex) (e : BlobEntryIndex) (es : List BlobEntryIndex) → Leads s B p xs q
+pub leads_more : (s : Sizes) (B : ℕ → ℕ) (p q : ℕ) (xs : List BlobEntryIndex) (e : BlobEntryIndex) (es : List BlobEntryIndex) → Leads s B p xs q
     → IsIndex s B all_read q (e ∷ es) → Leads s B p (xs ++ placed q (e ∷ es)) (behind s q (e ∷ es))
 leads_more s B p q xs e es (here) is = subst (λ l. Leads s B q l (behind s q (e ∷ es))) (append-nil (placed q (e ∷ es))) (over is here)
 leads_more s B p q xs e es (over {e = d} {es = ds} {rest = rest} first leads) is =
@@ -71,7 +71,7 @@ leads_more s B p q xs e es (over {e = d} {es = ds} {rest = rest} first leads) is
     (over first (leads_more s B (behind s p (d ∷ ds)) q rest e es leads is))
 
 -- a chain goes on behind its front
-leads_chain : (s : Sizes) (B : ℕ → ℕ) (p q r : ℕ) (xs all : List BlobEntryIndex) → Leads s B p xs q → Chain s B all_read p all r
+pub leads_chain : (s : Sizes) (B : ℕ → ℕ) (p q r : ℕ) (xs all : List BlobEntryIndex) → Leads s B p xs q → Chain s B all_read p all r
     → (rest : List BlobEntryIndex) × Chain s B all_read q rest r × (all ≡ xs ++ rest)
 leads_chain s B p q r xs all (here) chain = (all, chain, refl)
 leads_chain s B p q r xs all (over {e = e} {es = es} {rest = more} is leads) chain =
@@ -96,7 +96,7 @@ holds_fresh s B sizes = record {
 }
 
 -- the index that a filling has put
-holds_index : (s : Sizes) (B : ℕ → ℕ) (f : Position) (es : List BlobEntryIndex) (h : Holds s B f es) → 0 < length f.listed → IsIndex s B all_read f.blob f.listed
+pub holds_index : (s : Sizes) (B : ℕ → ℕ) (f : Position) (es : List BlobEntryIndex) (h : Holds s B f es) → 0 < length f.listed → IsIndex s B all_read f.blob f.listed
 holds_index s B f es h some = record { room = h.room some; came = refl; sealed = h.sealed some; fits = h.fits }
 
 -- The chain comes to the filling's end, or to its present blob where that has put nothing.
@@ -174,15 +174,20 @@ ending s f (i ∷ is) some =
     ∙ ap (behind s f.blob) (sym (entries_cons f.at i is)) ∙ entries_end s f.blob f.at i is
 
 module _ {A : Type 0} (s : Sizes) (w : Section) (sizes : AreSizes s) where
-  -- a part is written: its data, then its index
+  -- a part's data, and the zeros behind them
+  abbrev before : (ℕ → ℕ) → BlobPart A → ℕ → ℕ
+  before B p = zeroed s.block (data_end p) (laid (data_write p) B)
+
+  -- a part is written: its data and zeros, then its index
   holds_part : (B : ℕ → ℕ) (start : ℕ) (f : Position) (es : List BlobEntryIndex) (now : List BufferEntryInfo) (p : BlobPart A) → IsPart s w start f now p
       → start + taken now ≤ length (bytes_of w) → EachSome now → Holds s B f es
-      → Holds s (laid (index_write p) (laid (data_write p) B)) (with_records f now) (es ++ map entry_of (stored_at p.blob_block_offset p.part_blob_offset (bytes_of p.part_data) p.indices.items))
+      → Holds s (laid (index_write p) (before B p)) (with_records f now) (es ++ map entry_of (stored_at p.blob_block_offset p.part_blob_offset (bytes_of p.part_data) p.indices.items))
   holds_part B start f es now p is room some h =
       record {
         before = h.before;
         front = leads_same s B D 0 f.blob h.before
-            (λ o l. laid_beside (index_write p) (laid (data_write p) B) o (inl (omega (arith, is.blob, l)))
+            (λ o l. laid_beside (index_write p) (before B p) o (inl (omega (arith, is.blob, l)))
+            ∙ zeroed_before s.block (data_end p) (laid (data_write p) B) o (omega (arith, is.blob, l))
             ∙ laid_beside (data_write p) B o (inl (omega (arith, is.blob, l)))) h.front;
         past = omega (arith, past);
         aligned = omega (arith, h.aligned, even-taken now);
@@ -195,7 +200,7 @@ module _ {A : Type 0} (s : Sizes) (w : Section) (sizes : AreSizes s) where
       }
     where
       D : ℕ → ℕ
-      D = laid (index_write p) (laid (data_write p) B)
+      D = laid (index_write p) (before B p)
 
       past : s.index ≤ f.at
       past = h.past
@@ -215,12 +220,12 @@ module _ {A : Type 0} (s : Sizes) (w : Section) (sizes : AreSizes s) where
 
       index_there : read D f.blob s.index ≡ p.index
       index_there = subst (λ q. read D q s.index ≡ p.index) is.blob
-          (subst (λ n. read D p.blob_block_offset n ≡ p.index) is.size (read_whole (index_write p) (laid (data_write p) B)))
+          (subst (λ n. read D p.blob_block_offset n ≡ p.index) is.size (read_whole (index_write p) (before B p)))
 
   -- the records of a batch are written into the block
   pub holds_fills : (B : ℕ → ℕ) (start : ℕ) (f : Position) (es : List BlobEntryIndex) (infos : List BufferEntryInfo) (parts : List (BlobPart A)) (g : Position)
       → start + taken infos ≤ length (bytes_of w) → EachSome infos → Fills s w start f infos parts g → Holds s B f es
-      → Holds s (all_laid (writes_of parts) B) g (es ++ map entry_of (records_in parts))
+      → Holds s (all_laid (writes_of s.block parts) B) g (es ++ map entry_of (records_in parts))
   holds_fills B start f es infos parts g room some (stays) h = subst (λ l. Holds s B f l) (sym (append-nil es)) h
   holds_fills B start f es infos parts g room some (blob full fills) h =
       holds_fills B start (next_blob s f) es infos parts g room some fills (holds_blob s B f es sizes (omega (arith, full, sizes.some, sizes.pages)) h)
@@ -228,11 +233,12 @@ module _ {A : Type 0} (s : Sizes) (w : Section) (sizes : AreSizes s) where
       let each : EachSome now × EachSome rest = each_front now rest some in
       let total = taken-append now rest in
       let own : List Stored = stored_at p.blob_block_offset p.part_blob_offset (bytes_of p.part_data) p.indices.items in
-      subst (λ l. Holds s (all_laid (writes_of more) (laid (index_write p) (laid (data_write p) B))) g l)
+      subst (λ k. Holds s k g (es ++ map entry_of (own ++ records_in more))) (sym (all_laid_zeros s.block (data_end p) (index_write p ∷ writes_of s.block more) (laid (data_write p) B)))
+      (subst (λ l. Holds s (all_laid (writes_of s.block more) (laid (index_write p) (before B p))) g l)
       (append_assoc es (map entry_of own) (map entry_of (records_in more)) ∙ ap (λ l. es ++ l) (sym (map-append entry_of own (records_in more))))
-      (holds_fills (laid (index_write p) (laid (data_write p) B)) (start + taken now) (with_records f now) (es ++ map entry_of own) rest more g
+      (holds_fills (laid (index_write p) (before B p)) (start + taken now) (with_records f now) (es ++ map entry_of own) rest more g
       (omega (arith, total)) each.1 fills
-      (holds_part B start f es now p is (omega (arith, total)) each.0 h))
+      (holds_part B start f es now p is (omega (arith, total)) each.0 h)))
 
 -- A block's list begins with what the filling put.
 pub holds_lists : (s : Sizes) (B : ℕ → ℕ) (f : Position) (es all : List BlobEntryIndex) → Holds s B f es → Lists s B all_read all → (rest : List BlobEntryIndex) × (all ≡ es ++ rest)

@@ -1,3 +1,4 @@
+pub mod EndsLemmas
 pub mod EntriesLemmas
 pub mod FillsLemmas
 pub mod HoldsLemmas

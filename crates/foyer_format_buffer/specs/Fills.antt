@@ -2,9 +2,9 @@
 use Rattle.std.specs.Prelude.{◌≡◌, ℕ, ◌+◌, ◌<◌, ◌≤◌, ◌%◌, List, [], ◌∷◌, ◌++◌, length, ◌⊎◌}
 use Rattle.foyer_device_page.specs.Section.{Section, bytes_of}
 use Rattle.foyer_format_blob.specs.Blob.{capacity_of}
-use Rattle.foyer_format_layout.specs.BlockBytes.{Write, all_laid, AllWithin, Data, Index}
+use Rattle.foyer_format_layout.specs.BlockBytes.{Write, all_laid, AllWithin, Data, Index, with_zeros}
 use Rattle.foyer_format_layout.specs.Each.{Each}
-use Rattle.foyer_format_layout.specs.Position.{Sizes, tail_of, fresh, next_blob, MayWrite}
+use Rattle.foyer_format_layout.specs.Position.{Sizes, fresh, next_blob, MayWrite}
 use Rattle.foyer_format_buffer.specs.Position.{Position, taken, with_records}
 use Rattle.foyer_format_buffer.specs.Layout.{IsPart}
 use Rattle.foyer_format_buffer.specs.Stored.{Stored, stored_at, AllStand, AllOutside, AreRecords}
@@ -27,10 +27,15 @@ module _ {A : Type 0} where
   abbrev pub index_write : BlobPart A → Write
   index_write p = record { role = Index; offset = p.blob_block_offset; bytes = p.index }
 
-  -- the writes of these parts: of each its data, and then its index
-  abbrev pub writes_of : List (BlobPart A) → List Write
-  writes_of [] = []
-  writes_of (p ∷ ps) = data_write p ∷ index_write p ∷ writes_of ps
+  -- where the data of a part end in the block
+  abbrev pub data_end : BlobPart A → ℕ
+  data_end p = p.blob_block_offset + p.part_blob_offset + length (bytes_of p.part_data)
+
+  -- the writes of these parts into a block of so many bytes: of each its data, a page of zeros behind them if there is
+  -- room, and then its index
+  abbrev pub writes_of : ℕ → List (BlobPart A) → List Write
+  writes_of n [] = []
+  writes_of n (p ∷ ps) = data_write p ∷ with_zeros n (data_end p) (index_write p ∷ writes_of n ps)
 
   -- the records of these parts
   abbrev pub records_in : List (BlobPart A) → List Stored
@@ -38,10 +43,6 @@ module _ {A : Type 0} where
   records_in (p ∷ ps) =
       stored_at p.blob_block_offset p.part_blob_offset (bytes_of p.part_data) p.indices.items
       ++ records_in ps
-
-  -- where the data of a part end in the block
-  abbrev pub data_end : BlobPart A → ℕ
-  data_end p = p.blob_block_offset + p.part_blob_offset + length (bytes_of p.part_data)
 
   -- q comes behind the data of p, and so does its index, unless both are in one blob
   pub record ComesBehind (p q : BlobPart A) : Type 0 where
@@ -90,9 +91,9 @@ module _ {A : Type 0} where
   pub record IsLaid (s : Sizes) (whole : Section) (start : ℕ) (f : Position)
       (infos : List BufferEntryInfo) (parts : List (BlobPart A)) (g : Position) : Type 0 where
     pub order : InOrder s parts
-    pub within : AllWithin (MayWrite s.index f) (writes_of parts)
+    pub within : AllWithin (MayWrite s.index f) (writes_of s.block parts)
     pub shrinks : (o : ℕ) → MayWrite s.index g o → MayWrite s.index f o
     pub past : s.index ≤ g.at
     pub records : AreRecords (bytes_of whole) start infos (records_in parts)
-    pub stand : (B : ℕ → ℕ) → AllStand (all_laid (writes_of parts) B) (records_in parts)
+    pub stand : (B : ℕ → ℕ) → AllStand (all_laid (writes_of s.block parts) B) (records_in parts)
     pub outside : AllOutside (MayWrite s.index g) (records_in parts)

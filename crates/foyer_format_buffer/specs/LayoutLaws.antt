@@ -63,10 +63,19 @@ WrittenHolds A =
     (infos : List BufferEntryInfo) (parts : List (BlobPart A))
     → AreSizes s → start + taken infos ≤ length (bytes_of whole) → Each (FitsBlock s) infos
     → Fills s whole start f infos parts g → Holds s B f es
-    → Holds s (all_laid (writes_of parts) B) g (es ++ map entry_of (records_in parts))
+    → Holds s (all_laid (writes_of s.block parts) B) g (es ++ map entry_of (records_in parts))
 
 -- a block lists first what it holds, in order
 abbrev pub HeldIsListed : Type 0
 HeldIsListed =
     (s : Sizes) (B : ℕ → ℕ) (f : Position) (es all : List BlobEntryIndex)
     → Holds s B f es → Lists s B all_read all → (rest : List BlobEntryIndex) × (all ≡ es ++ rest)
+
+-- once records were written into a block, it lists what it holds and nothing behind it, whatever its bytes were
+abbrev pub WrittenEnds : Type 0 → Type 0
+WrittenEnds A =
+    (s : Sizes) (whole : Section) (B : ℕ → ℕ) (start : ℕ) (f g : Position) (es all : List BlobEntryIndex)
+    (infos : List BufferEntryInfo) (parts : List (BlobPart A))
+    → AreSizes s → start + taken infos ≤ length (bytes_of whole) → Each (FitsBlock s) infos
+    → Fills s whole start f infos parts g → 0 < length infos → Holds s B f es
+    → Lists s (all_laid (writes_of s.block parts) B) all_read all → all ≡ es ++ map entry_of (records_in parts)

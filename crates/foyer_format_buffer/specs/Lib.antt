@@ -1,4 +1,5 @@
 pub mod BlobVectors
+pub mod Ending
 pub mod Entries
 pub mod Position
 pub mod Fills

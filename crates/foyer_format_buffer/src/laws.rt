@@ -1,6 +1,6 @@
 //! What holds of every placing, for whoever writes blocks and reads them again.
 ghost use Rattle.foyer_format_buffer.specs.BlobVectors.{EntryVector, CapacityVector, KeptVector};
-ghost use Rattle.foyer_format_buffer.specs.LayoutLaws.{OneList, FinishedFits, BatchIsBlocks, BlockIsLaid, RecordsAreEntries, FreshHolds, WrittenHolds, HeldIsListed};
+ghost use Rattle.foyer_format_buffer.specs.LayoutLaws.{OneList, FinishedFits, BatchIsBlocks, BlockIsLaid, RecordsAreEntries, FreshHolds, WrittenHolds, HeldIsListed, WrittenEnds};
 
 use std::alloc::Allocator;
 
@@ -44,6 +44,12 @@ pub fn written_holds<A: Allocator>()
 /// A block lists first what it holds, in order; what stale bytes list comes behind.
 pub fn held_is_listed()
     ensures { HeldIsListed }
+{}
+
+/// A block into which records were just written lists what its filling put, and nothing that stood there before: a page of
+/// zeros behind its records ends the list, or the block's end does.
+pub fn written_ends<A: Allocator>()
+    ensures { WrittenEnds A }
 {}
 
 /// An entry of an index in bytes, how many an index has room for, and what is kept of a list.

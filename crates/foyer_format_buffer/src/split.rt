@@ -116,6 +116,13 @@ impl<A: Allocator> SplitCtx<A> {
         self.current_blob_index.reset();
     }
 
+    /// The size of a block, in bytes.
+    pub fn block_size(&self) -> usize
+        ensures { result ≡ self.now.sizes.block }
+    {
+        self.block_size
+    }
+
     // A split that begins here.
     fn begin(&self, alloc: &A) -> Result<Splitting<A>>
     where

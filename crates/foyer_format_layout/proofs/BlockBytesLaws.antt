@@ -1,8 +1,8 @@
 -- Reads of a block's bytes after writes.
 use Rattle.std.proofs.lemmas.Bool.Decides.{nat_tests}
-use Rattle.std.proofs.Common.{◌≡◌, ℕ, zero, suc, ◌+◌, ◌-◌, ◌<◌, ◌≤◌, nat_le, nat_lt, Bool, true, false, ◌&&◌, if◌then◌else◌, List, [], ◌∷◌, ◌++◌, length, take, slice_index, ◌⊎◌, inl, inr, refl, sym, ap, ◌∙◌, arith}
-use Rattle.std.proofs.lemmas.List.{length-append}
-use Rattle.foyer_format_layout.specs.BlockBytes.{Role, Write, laid, all_laid, read, IsBeside, AllWithin}
+use Rattle.std.proofs.Common.{◌≡◌, ℕ, zero, suc, ◌+◌, ◌-◌, ◌<◌, ◌≤◌, nat_le, nat_lt, Bool, true, false, ◌&&◌, if◌then◌else◌, List, [], ◌∷◌, ◌++◌, length, replicate, take, slice_index, ◌⊎◌, inl, inr, refl, sym, ap, ◌∙◌, arith}
+use Rattle.std.proofs.lemmas.List.{length-append, length-replicate}
+use Rattle.foyer_format_layout.specs.BlockBytes.{Role, Write, laid, all_laid, read, IsBeside, AllWithin, zeros_write, with_zeros, zeroed}
 
 pub beside_or : (w : Write) (o : ℕ) → IsBeside w o ⊎ (IsBeside w o → ⊥)
 beside_or w o = go (nat_lt o w.offset) refl (nat_le (w.offset + length w.bytes) o) refl
@@ -97,3 +97,46 @@ laid_outside P (w ∷ ws) g o within out =
 pub within_more : (P Q : ℕ → Type 0) (ws : List Write) → ((o : ℕ) → P o → Q o) → AllWithin P ws → AllWithin Q ws
 within_more P Q [] more within = tt
 within_more P Q (w ∷ ws) more within = (λ o beside. more o (within.0 o beside), within_more P Q ws more within.1)
+
+-- a page of zeros in front of other writes
+
+pub all_laid_zeros : (n o : ℕ) (ws : List Write) (g : ℕ → ℕ) → all_laid (with_zeros n o ws) g ≡ all_laid ws (zeroed n o g)
+all_laid_zeros n o ws g = go (nat_le (o + 4096) n)
+  where
+    go : (b : Bool) → all_laid (if b then zeros_write o ∷ ws else ws) g ≡ all_laid ws (if b then laid (zeros_write o) g else g)
+    go true = refl
+    go false = refl
+
+pub zeroed_before : (n o : ℕ) (g : ℕ → ℕ) (i : ℕ) → i < o → zeroed n o g i ≡ g i
+zeroed_before n o g i l = go (nat_le (o + 4096) n)
+  where
+    go : (b : Bool) → (if b then laid (zeros_write o) g else g) i ≡ g i
+    go true = laid_beside (zeros_write o) g i (inl l)
+    go false = refl
+
+zero_at : (n i : ℕ) → i < n → slice_index (replicate n 0) i ≡ 0
+zero_at zero i l = absurd (omega arith)
+zero_at (suc n) zero l = refl
+zero_at (suc n) (suc i) l = zero_at n i (omega arith)
+
+pub zeroed_there : (n o : ℕ) (g : ℕ → ℕ) (i : ℕ) → nat_le (o + 4096) n ≡ true → o ≤ i → i < o + 4096 → zeroed n o g i ≡ 0
+zeroed_there n o g i fits l m =
+    let k : ℕ = i - o in
+    let at : i ≡ o + k = omega arith in
+    let size : length {A = ℕ} (replicate 4096 0) ≡ 4096 = length-replicate {A = ℕ} 4096 0 in
+    ap (λ (b : Bool). (if b then laid (zeros_write o) g else g) i) fits
+    ∙ ap (laid (zeros_write o) g) at ∙ laid_there (zeros_write o) g k (omega arith) ∙ zero_at 4096 k (omega arith)
+
+pub within_zeros : (P : ℕ → Type 0) (n o : ℕ) (ws : List Write) → ((i : ℕ) → o ≤ i → P i) → AllWithin P ws → AllWithin P (with_zeros n o ws)
+within_zeros P n o ws above within = go (nat_le (o + 4096) n)
+  where
+    go : (b : Bool) → AllWithin P (if b then zeros_write o ∷ ws else ws)
+    go true = (λ i inside. let low : i < o → ⊥ = λ l. inside (inl l) in above i (omega arith), within)
+    go false = within
+
+pub with_zeros-append : (n o : ℕ) (xs ys : List Write) → with_zeros n o xs ++ ys ≡ with_zeros n o (xs ++ ys)
+with_zeros-append n o xs ys = go (nat_le (o + 4096) n)
+  where
+    go : (b : Bool) → (if b then zeros_write o ∷ xs else xs) ++ ys ≡ (if b then zeros_write o ∷ (xs ++ ys) else xs ++ ys)
+    go true = refl
+    go false = refl

@@ -1,5 +1,5 @@
 -- A block's bytes by their offsets, and what writes make of them.
-use Rattle.std.specs.Prelude.{ℕ, zero, suc, ◌+◌, ◌-◌, ◌<◌, ◌≤◌, nat_le, nat_lt, ◌&&◌, if◌then◌else◌, List, [], ◌∷◌, length, slice_index, ◌⊎◌}
+use Rattle.std.specs.Prelude.{ℕ, zero, suc, ◌+◌, ◌-◌, ◌<◌, ◌≤◌, nat_le, nat_lt, ◌&&◌, if◌then◌else◌, List, [], ◌∷◌, length, replicate, slice_index, ◌⊎◌}
 
 -- what a write puts into a block
 pub data Role : Type 0 where
@@ -34,3 +34,15 @@ IsBeside w o = (o < w.offset) ⊎ (w.offset + length w.bytes ≤ o)
 abbrev pub AllWithin : (ℕ → Type 0) → List Write → Type 0
 AllWithin P [] = Unit {0}
 AllWithin P (w ∷ ws) = ((o : ℕ) → (IsBeside w o → ⊥) → P o) × AllWithin P ws
+
+-- a page of zeros at an offset
+abbrev pub zeros_write : ℕ → Write
+zeros_write o = record { role = Data; offset = o; bytes = replicate 4096 0 }
+
+-- if a block of n bytes has room for a page at an offset, zeros are written there before these
+abbrev pub with_zeros : (n o : ℕ) → List Write → List Write
+with_zeros n o ws = if nat_le (o + 4096) n then zeros_write o ∷ ws else ws
+
+-- and a block's bytes after them
+abbrev pub zeroed : (n o : ℕ) → (ℕ → ℕ) → ℕ → ℕ
+zeroed n o g = if nat_le (o + 4096) n then laid (zeros_write o) g else g
