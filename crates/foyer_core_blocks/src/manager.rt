@@ -1,15 +1,16 @@
 //! What flushers do to the blocks of a core.
-ghost use Rattle.std.specs.Prelude.{◌≡◌, ℕ, map, None, Some};
-ghost use Rattle.foyer_core_model.specs.Flush.{released, all_invalidated};
+ghost use Rattle.std.specs.Prelude.{◌≡◌, ℕ, map, None, Some, slice_get};
+ghost use Rattle.foyer_core_model.specs.Flush.{released, one_invalidated, all_invalidated};
 ghost use Rattle.foyer_core_model.specs.State as model_state;
 ghost use Rattle.foyer_block_manager.specs.BlockSets.{BlockSets, Stands, HasSameRules};
 ghost use Rattle.foyer_block_manager.specs.Managed.{filling_in};
 ghost use Rattle.foyer_block_manager.specs.Shown.{AreShownAll, written_of};
-ghost use Rattle.foyer_core_blocks.specs.Addresses.{invalid_of};
+ghost use Rattle.foyer_core_blocks.specs.Addresses.{invalid_of, state_has};
 
 use foyer_block_index::tombstone::InvalidStats;
 use foyer_block_manager::block::eviction::EvictionPicker;
 use foyer_block_manager::block::manager::{BlockId, BlockManager};
+use foyer_block_manager::block::states::BlockSet;
 use std::alloc::Allocator;
 
 /// How often a block was handed out or destroyed; of one that isn't there the greatest number, so that no address of it
@@ -45,13 +46,44 @@ pub fn release<P: EvictionPicker, A: Allocator>(
     manager.on_writing_finish(pickers, block);
 }
 
-/// These bytes of these blocks became invalid.
-pub fn invalidate_all<A: Allocator>(manager: &mut BlockManager<A>, invalid: &[InvalidStats])
+/// Bytes of a block that became invalid, and the filling of the block that had them.
+#[derive(Clone, Copy, Debug, PartialEq, Eq)]
+pub struct Invalidated {
+    /// The block and its bytes.
+    pub stats: InvalidStats,
+    /// How often the block had been handed out or destroyed when they were written.
+    pub filling: u64,
+}
+
+// Whether the block still has this filling. One that was cleaned hasn't, nor has one that isn't there.
+fn still_has<A: Allocator>(manager: &BlockManager<A>, block: BlockId, filling: u64) -> bool
+    ensures { result ≡ state_has (slice_get manager.now.blocks block) filling }
+{
+    match manager.known(block) {
+        Some(state) => state.filling == filling && !matches!(state.block_set, BlockSet::Clean),
+        None => false,
+    }
+}
+
+// These bytes of a block became invalid, if it still has the filling that had them.
+fn invalidate<A: Allocator>(manager: &mut BlockManager<A>, invalid: &Invalidated)
     ensures same { HasSameRules manager.old manager.new }
     ensures invalidated { (s : BlockSets) → Stands manager.old s
-        → Stands manager.new (record s { stats = all_invalidated (map invalid_of invalid.now) s.stats }) }
+        → Stands manager.new (record s { stats = one_invalidated s.block_set s.filling (invalid_of invalid.now) s.stats }) }
+{
+    let stats = invalid.stats;
+    if still_has(manager, stats.block, invalid.filling) {
+        manager.invalidate(stats.block, stats.size);
+    }
+}
+
+/// These bytes became invalid: each counts for its block if the block still has the filling that had them.
+pub fn invalidate_all<A: Allocator>(manager: &mut BlockManager<A>, invalid: &[Invalidated])
+    ensures same { HasSameRules manager.old manager.new }
+    ensures invalidated { (s : BlockSets) → Stands manager.old s
+        → Stands manager.new (record s { stats = all_invalidated s.block_set s.filling (map invalid_of invalid.now) s.stats }) }
 {
     'each_stats: for stats in invalid {
-        manager.invalidate(stats.block, stats.size);
+        invalidate(manager, stats);
     }
 }

@@ -1,5 +1,5 @@
 -- The next block of a batch, as it is issued.
-use Rattle.std.proofs.Common.{◌≡◌, ℕ, zero, suc, ◌+◌, ◌-◌, ◌^◌, ◌<◌, ◌≤◌, List, [], ◌∷◌, ◌++◌, map, drop, length, get_or, Option, Some, None, refl, sym, ap, subst, ◌∙◌, arith}
+use Rattle.std.proofs.Common.{◌≡◌, ℕ, zero, suc, ◌+◌, ◌-◌, ◌^◌, ◌<◌, ◌≤◌, nat_le, Bool, true, false, if◌then◌else◌, List, [], ◌∷◌, ◌++◌, map, drop, length, get_or, Option, Some, None, refl, sym, ap, subst, ◌∙◌, arith}
 use Rattle.std.specs.Prelude.{MatchOption}
 use Rattle.std.specs.declared.vec.Vec.{Vec}
 use Rattle.std.proofs.lemmas.List.{length-map}
@@ -11,7 +11,8 @@ use Rattle.foyer_format_buffer.specs.Layout.{parts_of}
 use Rattle.foyer_format_buffer.specs.declared.split.BlobPart.{BlobPart}
 use Rattle.foyer_format_buffer.specs.declared.split.Block.{Block}
 use Rattle.foyer_device_page.specs.Section.{bytes_of}
-use Rattle.foyer_format_layout.specs.BlockBytes.{Data, Index, Write as ModelWrite}
+use Rattle.foyer_format_layout.specs.BlockBytes.{Data, Index, Write as ModelWrite, zeros_write, with_zeros as model_zeros}
+use Rattle.foyer_format_layout.proofs.BlockBytesLaws.{with_zeros-append}
 use Rattle.foyer_core_model.specs.Position.{Part, BlockLayout, records_in, records_of}
 use Rattle.foyer_core_model.specs.Flush.{writing_of}
 use Rattle.foyer_core_model.specs.Layout.{writes_in}
@@ -25,7 +26,8 @@ use Rattle.foyer_core_laws.specs.declared.settings.Settings.{Settings}
 use Rattle.foyer_core_blocks.specs.Addresses.{mark_of, invalid_of}
 use Rattle.foyer_core_flusher.specs.BlockIssued.{IsIssued}
 use Rattle.foyer_core_flusher.specs.Flushing.{AreFrom, AreEntering, AreWriting, IsBatchAs}
-use Rattle.foyer_core_flusher.specs.Issuing.{entering, entering_of, writes_of, write_of}
+use Rattle.foyer_core_flusher.specs.Issuing.{entering, entering_of, with_zeros, writes_of, write_of}
+use Rattle.foyer_core_flusher.specs.declared.batch.WriteBytes.TheVariants as written
 use Rattle.foyer_core_flusher.specs.Issued.{padded, source_in, WritesAs, IssuesFirst}
 use Rattle.foyer_core_flusher.specs.declared.batch.Batch.{Batch}
 use Rattle.foyer_core_flusher.specs.declared.batch.Write.{Write}
@@ -71,20 +73,32 @@ module _ {A : Type 0} where
       entering-join (map (entering p.blob_block_offset) p.indices.items) (entering_of ps) q.records (records_in qs)
       (part_enters p.blob_block_offset p.indices.items q.records (are.0).records) (enters ps qs are.1)
 
+  -- zeros behind data are the model's
+  zeros_as : (n o : ℕ) (ws : List (Write A)) → map write_of (with_zeros n o ws) ≡ model_zeros n o (map write_of ws)
+  zeros_as n o ws = go (nat_le (o + 4096) n)
+    where
+      go : (b : Bool) → map write_of (if b then record { offset = o; bytes = written.Zeros } ∷ ws else ws) ≡ (if b then zeros_write o ∷ map write_of ws else map write_of ws)
+      go true = refl
+      go false = refl
+
   pub writes_are : (rules : Rules Content) (ps : List (BlobPart A)) (qs : List (Part Content)) → AreRules rules → ArePartsAs ps qs
-      → map write_of (writes_of ps) ≡ writes_in rules qs
+      → map write_of (writes_of rules.block_size ps) ≡ writes_in rules qs
   writes_are rules [] [] rule are = refl
   writes_are rules [] (q ∷ qs) rule are = absurd are
   writes_are rules (p ∷ ps) [] rule are = absurd are
   writes_are rules (p ∷ ps) (q ∷ qs) rule are =
       let one = are.0 in
       let offset : p.blob_block_offset + p.part_blob_offset ≡ q.blob + q.at = omega (arith, one.blob, one.at) in
-      let rest : map write_of (writes_of ps) ≡ writes_in rules qs = writes_are rules ps qs rule are.1 in
-      ap (λ ws. data_at (p.blob_block_offset + p.part_blob_offset) (bytes_of p.part_data) ∷ index_at p.blob_block_offset p.index ∷ ws) rest
-      ∙ ap (λ k. data_at k (bytes_of p.part_data) ∷ index_at p.blob_block_offset p.index ∷ writes_in rules qs) offset
-      ∙ ap (λ bs. data_at (q.blob + q.at) bs ∷ index_at p.blob_block_offset p.index ∷ writes_in rules qs) (sym one.content)
-      ∙ ap (λ k. data_at (q.blob + q.at) q.content ∷ index_at k p.index ∷ writes_in rules qs) (sym one.blob)
-      ∙ ap (λ bs. data_at (q.blob + q.at) q.content ∷ index_at q.blob bs ∷ writes_in rules qs) (sym one.index)
+      let n = rules.block_size in
+      let rest : map write_of (writes_of n ps) ≡ writes_in rules qs = writes_are rules ps qs rule are.1 in
+      ap (λ ws. data_at (p.blob_block_offset + p.part_blob_offset) (bytes_of p.part_data) ∷ ws)
+      (zeros_as n (p.blob_block_offset + p.part_blob_offset + length (bytes_of p.part_data)) (record { offset = p.blob_block_offset; bytes = written.Index p.index } ∷ writes_of n ps))
+      ∙ ap (λ ws. all_at n (p.blob_block_offset + p.part_blob_offset) (bytes_of p.part_data) p.blob_block_offset p.index ws) rest
+      ∙ ap (λ k. all_at n k (bytes_of p.part_data) p.blob_block_offset p.index (writes_in rules qs)) offset
+      ∙ ap (λ bs. all_at n (q.blob + q.at) bs p.blob_block_offset p.index (writes_in rules qs)) (sym one.content)
+      ∙ ap (λ k. all_at n (q.blob + q.at) q.content k p.index (writes_in rules qs)) (sym one.blob)
+      ∙ ap (λ bs. all_at n (q.blob + q.at) q.content q.blob bs (writes_in rules qs)) (sym one.index)
+      ∙ sym (ap (λ ws. data_at (q.blob + q.at) q.content ∷ ws) (with_zeros-append n (q.blob + q.at + length q.content) (index_at q.blob q.index ∷ []) (writes_in rules qs)))
       ∙ ap (λ ws. ws ++ writes_in rules qs) (sym (rule.writes q))
     where
       data_at : ℕ → List ℕ → ModelWrite
@@ -92,6 +106,9 @@ module _ {A : Type 0} where
 
       index_at : ℕ → List ℕ → ModelWrite
       index_at offset bytes = record { role = Index; offset = offset; bytes = bytes }
+
+      all_at : (n begin : ℕ) → List ℕ → (blob : ℕ) → List ℕ → List ModelWrite → List ModelWrite
+      all_at n begin bytes blob index ws = data_at begin bytes ∷ model_zeros n (begin + length bytes) (index_at blob index ∷ ws)
 
   writing_as : (s : Settings) (b : ℕ) (ps : List (BlobPart A)) (first : Block A) (sources : List (Option EntryAddress)) (issued : List (Write A)) (ws : List ModelWrite) (records : List (ℕ × model_record.Record Content)) (w : Option (Writing A))
       → b < s.blocks → map write_of issued ≡ ws → first.blob_parts.items ≡ ps → AreEntering (entering_of ps) records → AreFrom (padded (length (entering_of ps)) sources) (map (λ p. p.1) records) → AllEndBy s.block_size records
@@ -124,7 +141,7 @@ module _ {A : Type 0} where
 
   module _ {K V P : Type 0} (m : Meaning K V P) (rules : Rules Content) (s : Settings) (own : Option ℕ) (b : ℕ) (old new : Batch K V P A) (issued : List (Write A))
       (it : model_state.Batch Content) (rule : AreRules rules) (small : s.block_size ≤ 2 ^ 32) (there : b < s.blocks) (stands : IsBatchAs m s own old it)
-      (is : IssuesFirst b old new issued) where
+      (is : IssuesFirst b rules.block_size old new issued) where
     first_issued : (layouts : List (BlockLayout Content)) → it.blocks ≡ layouts → AreBlocksAs (parts_of is.first ∷ map parts_of is.rest) layouts
         → Each (LiesWithin s.block_size) layouts → AreFrom old.sources.items (records_of layouts) → IsIssued m rules s b issued new it
     first_issued [] same are within given = absurd are
@@ -210,3 +227,24 @@ pub source_none : (os : List (Option EntryAddress)) (k : ℕ) → (k < length os
 source_none [] k lacks = refl
 source_none (o ∷ os) zero lacks = absurd (lacks (omega arith))
 source_none (o ∷ os) (suc k) lacks = source_none os k (λ lt. lacks (omega arith))
+
+-- the writes of one part come before those of the others
+pub writes_more : {A : Type 0} (n : ℕ) (p : BlobPart A) (ps : List (BlobPart A)) → writes_of n (p ∷ []) ++ writes_of n ps ≡ writes_of n (p ∷ ps)
+writes_more {A} n p ps = go (nat_le (p.blob_block_offset + p.part_blob_offset + length (bytes_of p.part_data) + 4096) n)
+  where
+    first : Write A
+    first = record { offset = p.blob_block_offset + p.part_blob_offset; bytes = written.Data p.part_data }
+
+    zeros : Write A
+    zeros = record { offset = p.blob_block_offset + p.part_blob_offset + length (bytes_of p.part_data); bytes = written.Zeros }
+
+    index : Write A
+    index = record { offset = p.blob_block_offset; bytes = written.Index p.index }
+
+    go : (b : Bool) → (first ∷ (if b then zeros ∷ index ∷ [] else index ∷ [])) ++ writes_of n ps ≡ first ∷ (if b then zeros ∷ index ∷ writes_of n ps else index ∷ writes_of n ps)
+    go true = refl
+    go false = refl
+
+pub none_left : {X : Type 0} (xs : List X) → length xs ≡ 0 → xs ≡ []
+none_left [] none = refl
+none_left (x ∷ xs) none = absurd (omega arith)

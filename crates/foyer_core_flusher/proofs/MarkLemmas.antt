@@ -23,6 +23,6 @@ pushed_out m s sound (Some (Tombstone t)) sequence = go (nat_le t sequence)
     go false = refl
 pushed_out m s sound (Some (Address a)) sequence = go (nat_le a.sequence sequence)
   where
-    go : (b : Bool) → bytes_of (address_of (if b then Address a else Tombstone sequence)) ≡ (if b then (a.block, page_up a.len) ∷ [] else [])
+    go : (b : Bool) → bytes_of (address_of (if b then Address a else Tombstone sequence)) ≡ (if b then record { block = a.block; filling = a.filling; bytes = page_up a.len } ∷ [] else [])
     go true = refl
     go false = refl

@@ -26,7 +26,7 @@ use Rattle.foyer_core_laws.specs.declared.settings.Settings.{Settings}
 use Rattle.foyer_core_laws.proofs.LawLemmas.{are_rules}
 use Rattle.foyer_core_laws.proofs.TripLemmas.{left, right, some_is}
 use Rattle.foyer_core_blocks.specs.Addresses.{address_of, mark_of, invalid_of}
-use Rattle.foyer_block_index.specs.declared.tombstone.InvalidStats.{InvalidStats}
+use Rattle.foyer_core_blocks.specs.declared.manager.Invalidated.{Invalidated}
 use Rattle.foyer_core_flusher.specs.Filled.{HasRoomFor}
 use Rattle.foyer_core_flusher.specs.Flushing.{AreReceived, IsFlusherAs, submission_of, invalid_of_all}
 use Rattle.foyer_core_flusher.specs.Marking.{bytes_of}
@@ -60,7 +60,7 @@ map_both f [] ys = refl
 map_both f (x ∷ xs) ys = ap (λ zs. f x ∷ zs) (map_both f xs ys)
 
 -- what a mark made invalid, as a list
-pub invalidated_listed : (stats : Option InvalidStats) → map invalid_of (option_to_list stats) ≡ invalid_of_all stats
+pub invalidated_listed : (stats : Option Invalidated) → map invalid_of (option_to_list stats) ≡ invalid_of_all stats
 invalidated_listed None = refl
 invalidated_listed (Some x) = refl
 
@@ -158,7 +158,7 @@ module _ {K V P A : Type 0} (m : Meaning K V P) (s : Settings) (sound : AreValid
       after = record (st.flushers f) { queue = map (submission_of m) rest; waits = (st.flushers f).waits ++ id ∷ [] }
 
   -- a mark is kept, with what it made invalid
-  pub mark_kept : (info : TombstoneInfo) (invalidated : List InvalidStats) (rest : List (Submission K V P A)) (new : Flusher K V P A) → φ.queue ≡ submission.Tombstone info.tombstone info.stats ∷ rest
+  pub mark_kept : (info : TombstoneInfo) (invalidated : List Invalidated) (rest : List (Submission K V P A)) (new : Flusher K V P A) → φ.queue ≡ submission.Tombstone info.tombstone info.stats ∷ rest
       → map invalid_of invalidated ≡ invalid_of_all info.stats
       → seen new ≡ record φ { queue = rest; marks = φ.marks ++ info.tombstone ∷ []; invalid = φ.invalid ++ invalidated } → IsReceivedAs m s sound st f 0 None new index
   mark_kept info invalidated rest new is issued now = record {
@@ -389,7 +389,7 @@ module _ {K V P A : Type 0} (m : Meaning K V P) (s : Settings) (sound : AreValid
             ap (λ t. if t then Some whole else None) has
 
     -- or it doesn't fit, and is handed back: its mark is kept
-    pub piece_back : (new : Flusher K V P A) (marks : List Tombstone) (invalid : List InvalidStats) (entered : IndexMap)
+    pub piece_back : (new : Flusher K V P A) (marks : List Tombstone) (invalid : List Invalidated) (entered : IndexMap)
         → (FitsBuffer φ.filled compression.None ((a ≡ true) × (b ≡ true)) n → ⊥)
         → map mark_of marks ≡ map mark_of φ.marks ++ (p.piece.hash, sequence) ∷ []
         → map invalid_of invalid ≡ map invalid_of φ.invalid ++ bytes_of (displaced (finite.get index p.piece.hash) (Mark sequence))

@@ -252,7 +252,7 @@ pub ended : {K V P A : Type 0} (m : Meaning K V P) (s : Settings) (sound : AreVa
     (φ : Seen K V P A) (slots : IndexMap) (blocks : Managed) → StandsAt m s f it φ slots blocks
     → (batch : Batch K V P A) → φ.batch ≡ Some batch → (slots' : IndexMap) (blocks' : Managed)
     → slots' ≡ without_marks slots batch.marks.items → HasSameRules blocks blocks'
-    → Stands blocks' (record (sets_of it) { stats = invalidated_unless batch.logged (map invalid_of batch.invalid.items) it.stats })
+    → Stands blocks' (record (sets_of it) { stats = invalidated_unless it.place it.filling batch.logged (map invalid_of batch.invalid.items) it.stats })
     → HasEnded m s sound f it batch.pieces.items batch.waits.items (record φ { batch = None }) slots' blocks'
 ended m s sound f it φ slots blocks stands batch is slots' blocks' gone rules sets =
     let got = batched m s φ.own φ.batch (it.flushers f).batch (stands.flusher).batch batch is in
@@ -261,7 +261,7 @@ ended m s sound f it φ slots blocks stands batch is slots' blocks' gone rules s
     record it {
       flushers = put it.flushers f (record (it.flushers f) { batch = None });
       index = unmarked (got.0).marks it.index;
-      stats = invalidated_unless (got.0).logged (got.0).invalidated it.stats;
+      stats = invalidated_unless it.place it.filling (got.0).logged (got.0).invalidated it.stats;
     } in (
       (got.0).pieces,
       (got.2).pieces,
@@ -295,9 +295,9 @@ ended m s sound f it φ slots blocks stands batch is slots' blocks' gone rules s
           flushers = rules.flushers ∙ (stands.manager).flushers;
           reclaimers = rules.reclaimers ∙ (stands.manager).reclaimers;
           clean_threshold = rules.clean_threshold ∙ (stands.manager).clean_threshold;
-          sets = ready_same blocks' (record (sets_of it) { stats = invalidated_unless (got.0).logged (got.0).invalidated it.stats }) (λ g. (new.flushers g).ready)
-              (subst (λ o. Stands blocks' (record (sets_of it) { stats = invalidated_unless o (got.0).invalidated it.stats })) (sym (got.2).logged)
-              (subst (λ k. Stands blocks' (record (sets_of it) { stats = invalidated_unless batch.logged k it.stats })) (sym (got.2).invalidated) sets))
+          sets = ready_same blocks' (record (sets_of it) { stats = invalidated_unless it.place it.filling (got.0).logged (got.0).invalidated it.stats }) (λ g. (new.flushers g).ready)
+              (subst (λ o. Stands blocks' (record (sets_of it) { stats = invalidated_unless it.place it.filling o (got.0).invalidated it.stats })) (sym (got.2).logged)
+              (subst (λ k. Stands blocks' (record (sets_of it) { stats = invalidated_unless it.place it.filling batch.logged k it.stats })) (sym (got.2).invalidated) sets))
               (λ g. put_at (λ (χ : model_state.Flusher Content). χ.ready ≡ (it.flushers g).ready) it.flushers f (record (it.flushers f) { batch = None }) g
               (λ at. sym (ap (λ k. (it.flushers k).ready) at)) (λ _. refl));
         };

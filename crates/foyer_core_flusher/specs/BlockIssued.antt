@@ -28,5 +28,5 @@ abbrev pub IssuesAsModel : (K V P A : Type 0) → Type 0
 IssuesAsModel K V P A =
     (m : Meaning K V P) (rules : Rules Content) (s : Settings) (own : Option ℕ) (block : ℕ) (old new : Batch K V P A) (issued : List (Write A))
     (it : model_state.Batch Content)
-    → AreRules rules → s.block_size ≤ 2 ^ 32 → block < s.blocks → IsBatchAs m s own old it → IssuesFirst block old new issued
+    → AreRules rules → s.block_size ≤ 2 ^ 32 → block < s.blocks → IsBatchAs m s own old it → IssuesFirst block rules.block_size old new issued
     → IsIssued m rules s block issued new it

@@ -14,14 +14,14 @@ use Rattle.foyer_core_laws.specs.Content.{Content, Meaning, content_of, contents
 use Rattle.foyer_core_laws.specs.Sizes.{buffer_room, sizes_in}
 use Rattle.foyer_core_laws.specs.declared.settings.Settings.{Settings}
 use Rattle.foyer_core_blocks.specs.Addresses.{address_of, mark_of, invalid_of}
-use Rattle.foyer_block_index.specs.declared.tombstone.InvalidStats.{InvalidStats}
+use Rattle.foyer_core_blocks.specs.declared.manager.Invalidated.{Invalidated}
 use Rattle.foyer_core_flusher.specs.Seen.{Seen}
 use Rattle.foyer_core_flusher.specs.declared.batch.Batch.{Batch}
 use Rattle.foyer_core_flusher.specs.declared.submission.Submission.{Submission}
 use Rattle.foyer_core_flusher.specs.declared.submission.Submission.TheVariants as submission
 use Rattle.foyer_core_flusher.specs.declared.batch.Writing.{Writing}
 
-abbrev pub invalid_of_all : Option InvalidStats → List (ℕ × ℕ)
+abbrev pub invalid_of_all : Option Invalidated → List model_state.Invalidated
 invalid_of_all None = []
 invalid_of_all (Some stats) = invalid_of stats ∷ []
 

@@ -38,17 +38,17 @@ module _ {K V P A : Type 0} where
     pub records : listed.items ≡ entering_of first.blob_parts.items
     pub sources : taken.items ≡ padded (length listed.items) batch.sources.items
     pub none : writes.items ≡ []
-    pub room : vec_len writes + 2 * vec_len first.blob_parts ≤ vec_capacity writes
+    pub room : vec_len writes + 3 * vec_len first.blob_parts ≤ vec_capacity writes
 
-  -- the first block left the batch, and is being written if it has writes
-  pub record IssuesFirst (block : ℕ) (old new : Batch K V P A) (issued : List (Write A)) : Type 0 where
+  -- the first block left the batch for this one, of n bytes, and is being written if it has writes
+  pub record IssuesFirst (block n : ℕ) (old new : Batch K V P A) (issued : List (Write A)) : Type 0 where
     pub first : Block A
     pub rest : List (Block A)
     pub blocks : old.blocks.items ≡ first ∷ rest
     pub left : new.blocks.items ≡ rest
     pub pages : new.pages ≡ old.pages
     pub continues_own_block : new.continues_own_block ≡ false
-    pub writes : issued ≡ writes_of first.blob_parts.items
+    pub writes : issued ≡ writes_of n first.blob_parts.items
     pub sources : new.sources.items ≡ drop (length (entering_of first.blob_parts.items)) old.sources.items
     pub writing : WritesAs block issued first old.sources.items new.writing
     pub marks : new.marks ≡ old.marks

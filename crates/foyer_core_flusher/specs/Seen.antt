@@ -8,7 +8,7 @@ use Rattle.foyer_format_buffer.specs.Position.{Context}
 use Rattle.foyer_policy_piece.specs.Referred.{Referred}
 use Rattle.foyer_core_flusher.specs.declared.batch.Batch.{Batch}
 use Rattle.foyer_core_flusher.specs.declared.flusher.Flusher.{Flusher}
-use Rattle.foyer_block_index.specs.declared.tombstone.InvalidStats.{InvalidStats}
+use Rattle.foyer_core_blocks.specs.declared.manager.Invalidated.{Invalidated}
 use Rattle.foyer_core_flusher.specs.declared.submission.Submission.{Submission}
 
 pub record Seen (K V P A : Type 0) : Type 0 where
@@ -16,7 +16,7 @@ pub record Seen (K V P A : Type 0) : Type 0 where
   pub filled : Entries
   pub sources : List (Option EntryAddress)
   pub marks : List Tombstone
-  pub invalid : List InvalidStats
+  pub invalid : List Invalidated
   pub pieces : List (Referred K V P)
   pub waits : List ℕ
   pub context : Context

@@ -6,18 +6,25 @@ ghost use Rattle.foyer_format_layout.specs.Each.{Each};
 
 use foyer_block_index::indexer::{EntryAddress, HashedEntryAddress};
 use foyer_block_index::manager::BlockId;
-use foyer_block_index::tombstone::{InvalidStats, Tombstone};
+use foyer_block_index::tombstone::Tombstone;
+use foyer_core_blocks::manager::Invalidated;
 use foyer_device_page::io::bytes::{IoSlice, IoSliceMut};
 use foyer_format_buffer::Block;
+use foyer_format_record::block::buffer::PAGE;
 use foyer_policy_piece::keeper::PieceRef;
 use std::alloc::Allocator;
 use std::collections::VecDeque;
 
-/// The bytes of a write: records, which share the pages of their batch, or the index of a blob.
+// What a page of zeros is written from.
+static ZEROS: [u8; PAGE] = [0; PAGE];
+
+/// The bytes of a write: records, which share the pages of their batch, zeros behind them, or the index of a blob.
 #[derive(Drop)]
 pub enum WriteBytes<A: Allocator> {
     /// The records of a part.
     Data(IoSlice<A>),
+    /// A page of zeros, where the records of a part end: a scan of the block ends there.
+    Zeros,
     /// The index of a blob.
     Index(IoSliceMut<A>),
 }
@@ -29,6 +36,7 @@ impl<A: Allocator> WriteBytes<A> {
     {
         match self {
             WriteBytes::Data(bytes) => bytes.as_slice(),
+            WriteBytes::Zeros => &ZEROS,
             WriteBytes::Index(bytes) => bytes.as_slice(),
         }
     }
@@ -68,7 +76,7 @@ pub struct Batch<K, V, P, A: Allocator> {
     pub continues_own_block: bool,
     pub writing: Option<Writing<A>>,
     pub marks: Vec<Tombstone, A>,
-    pub invalid: Vec<InvalidStats, A>,
+    pub invalid: Vec<Invalidated, A>,
     pub pieces: Vec<PieceRef<K, V, P, A>, A>,
     pub waits: Vec<u64, A>,
     /// Whether the log of deletes took the marks, once it has answered.

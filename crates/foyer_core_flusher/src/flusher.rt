@@ -24,10 +24,10 @@ pub use crate::batch::{Batch, Write, WriteBytes, Writing};
 use crate::begin::handles;
 use crate::filled::Filled;
 use crate::receive::{Taken, put_mark, put_piece, put_reinsertion, put_returned, put_wait};
-pub use crate::submission::{Reinsertion, Submission, TombstoneInfo};
+pub use crate::submission::{Invalidated, Reinsertion, Submission, TombstoneInfo};
 use foyer_block_index::indexer::{EntryAddress, Indexer};
 use foyer_block_index::manager::BlockId;
-use foyer_block_index::tombstone::{InvalidStats, Tombstone};
+use foyer_block_index::tombstone::Tombstone;
 use foyer_block_manager::block::eviction::EvictionPicker;
 use foyer_block_manager::block::manager::BlockManager;
 use foyer_core_blocks::manager::release;
@@ -54,7 +54,7 @@ pub struct Flusher<K, V, P, A: Allocator> {
     /// The marks that were received.
     pub marks: Vec<Tombstone, A>,
     /// What these made invalid.
-    pub invalid: Vec<InvalidStats, A>,
+    pub invalid: Vec<Invalidated, A>,
     /// The pieces whose records were received.
     pub pieces: Vec<PieceRef<K, V, P, A>, A>,
     /// The waits that were received.
@@ -385,8 +385,9 @@ impl<K, V, P, A: Allocator + Clone> Flusher<K, V, P, A> {
             unreachable!()
         };
         let prepared = batch.prepare(alloc)?;
+        let block_size = self.context.block_size();
         if let Some(block) = batch.goes_on_with(self.own) {
-            return Ok(Next::Block(block, batch.issue(block, prepared)));
+            return Ok(Next::Block(block, batch.issue(block, block_size, prepared)));
         }
         release(&mut self.own, manager, pickers);
         match manager.get_clean_block(number) {
@@ -394,7 +395,7 @@ impl<K, V, P, A: Allocator + Clone> Flusher<K, V, P, A> {
             Some(block) => {
                 let block = block.id();
                 self.own = Some(block);
-                Ok(Next::Block(block, batch.issue(block, prepared)))
+                Ok(Next::Block(block, batch.issue(block, block_size, prepared)))
             }
         }
     }

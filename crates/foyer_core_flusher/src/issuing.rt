@@ -1,8 +1,8 @@
 //! The blocks of a batch, as they are issued.
-ghost use Rattle.std.specs.Prelude.{◌≡◌, ◌≢◌, ◌<◌, None, MatchOption, ◌+◌, ◌*◌, ◌≤◌, ◌++◌, [], map, drop, length, OnOk, IfOk, IfErr, vec_len, vec_capacity};
+ghost use Rattle.std.specs.Prelude.{◌≡◌, ◌≢◌, ◌<◌, None, MatchOption, true, false, nat_le, ◌+◌, ◌*◌, ◌≤◌, ◌++◌, ◌∷◌, [], map, drop, length, OnOk, IfOk, IfErr, vec_len, vec_capacity};
 ghost use Rattle.foyer_device_page.specs.declared.error.Error.{Error as error};
 ghost use Rattle.foyer_core_flusher.specs.Issuing.{entering, entering_of, writes_of};
-ghost use Rattle.foyer_core_flusher.specs.Offsets.{BlockFits, EntryFits};
+ghost use Rattle.foyer_core_flusher.specs.Offsets.{BlockFits, EntryFits, PartFits};
 ghost use Rattle.foyer_format_layout.specs.Each.{Each};
 ghost use Rattle.foyer_core_flusher.specs.Issued.{IsReady, IssuesFirst, padded, source_in};
 
@@ -11,6 +11,7 @@ use foyer_block_index::indexer::{EntryAddress, HashedEntryAddress};
 use foyer_block_index::manager::BlockId;
 use foyer_device_page::error::Result;
 use foyer_format_buffer::{BlobEntryIndex, BlobPart, Block};
+use foyer_format_record::block::buffer::PAGE;
 use std::alloc::Allocator;
 use std::collections::VecDeque;
 
@@ -106,30 +107,72 @@ fn drop_sources<A: Allocator>(sources: &mut VecDeque<Option<EntryAddress>, A>, c
     }
 }
 
-// The writes of a block, in room that was made for them; nothing is copied.
-fn writes_of<A: Allocator>(writes: Vec<Write<A>, A>, block: Block<A>) -> Vec<Write<A>, A>
+// Where a page of zeros stands behind data of so many bytes at an offset, if a block of this size has room for it.
+fn zeros_behind(block_size: usize, at: usize, len: usize) -> Option<usize>
+    ensures { MatchOption result (nat_le (at + len + 4096) block_size ≡ false)
+        (λ o. (o ≡ at + len) × (nat_le (at + len + 4096) block_size ≡ true)) }
+{
+    if block_size.saturating_sub(at).saturating_sub(len) < PAGE {
+        return None;
+    }
+    Some(at + len)
+}
+
+// Appends the writes of a part of a block of so many bytes, in room that is there: its data, a page of zeros behind them
+// if the block has room for it, and then its index.
+fn issue_part<A: Allocator>(issued: &mut Vec<Write<A>, A>, part: BlobPart<A>, block_size: usize)
+    requires fits { PartFits part }
+    requires room { vec_len issued.old + 3 ≤ vec_capacity issued.old }
+    ensures issued { issued.new.items ≡ issued.old.items ++ writes_of block_size (part ∷ []) }
+    ensures len { vec_len issued.new ≤ vec_len issued.old + 3 }
+    ensures room { vec_capacity issued.new ≡ vec_capacity issued.old }
+{
+    let BlobPart {
+        blob_block_offset,
+        index,
+        part_blob_offset,
+        part_data,
+        ..
+    } = part;
+    let at = blob_block_offset + part_blob_offset;
+    let data = Write {
+        offset: at,
+        bytes: WriteBytes::Data(part_data),
+    };
+    let listing = Write {
+        offset: blob_block_offset,
+        bytes: WriteBytes::Index(index),
+    };
+    match zeros_behind(block_size, at, data.bytes.as_slice().len()) {
+        Some(end) => {
+            issued.push_reserved(data);
+            issued.push_reserved(Write {
+                offset: end,
+                bytes: WriteBytes::Zeros,
+            });
+            issued.push_reserved(listing);
+        }
+        None => {
+            issued.push_reserved(data);
+            issued.push_reserved(listing);
+        }
+    }
+}
+
+// The writes of a block of so many bytes, in room that was made for them; nothing is copied.
+fn writes_of<A: Allocator>(
+    writes: Vec<Write<A>, A>,
+    block: Block<A>,
+    block_size: usize,
+) -> Vec<Write<A>, A>
     requires fits { BlockFits block }
     requires none { writes.items ≡ [] }
-    requires room { vec_len writes + 2 * vec_len block.blob_parts ≤ vec_capacity writes }
-    ensures { result.items ≡ writes_of block.blob_parts.items }
+    requires room { vec_len writes + 3 * vec_len block.blob_parts ≤ vec_capacity writes }
+    ensures { result.items ≡ writes_of block_size block.blob_parts.items }
 {
     let mut issued = writes;
     for part in block.blob_parts {
-        let BlobPart {
-            blob_block_offset,
-            index,
-            part_blob_offset,
-            part_data,
-            ..
-        } = part;
-        issued.push_reserved(Write {
-            offset: blob_block_offset + part_blob_offset,
-            bytes: WriteBytes::Data(part_data),
-        });
-        issued.push_reserved(Write {
-            offset: blob_block_offset,
-            bytes: WriteBytes::Index(index),
-        });
+        issue_part(&mut issued, part, block_size);
     }
     issued
 }
@@ -177,8 +220,8 @@ impl<K, V, P, A: Allocator + Clone> Batch<K, V, P, A> {
         };
         let records = records_of(alloc, block)?;
         let sources = first_sources(alloc.clone()?, &self.sources, records.len())?;
-        let room = 2 * block.blob_parts.len();
-        let writes = Vec::with_capacity(alloc.clone()?, room)?;
+        let parts = block.blob_parts.len();
+        let writes = Vec::with_capacity(alloc.clone()?, parts.saturating_mul(3))?;
         Ok(Prepared {
             records,
             sources,
@@ -186,11 +229,18 @@ impl<K, V, P, A: Allocator + Clone> Batch<K, V, P, A> {
         })
     }
 
-    /// The next block of the batch goes into this block: gives its writes. Nothing is copied, and it doesn't allocate.
-    pub fn issue(&mut self, block: BlockId, prepared: Prepared<A>) -> Vec<Write<A>, A>
+    /// The next block of the batch goes into this block, of so many bytes: gives its writes. Of each part these are its
+    /// data, a page of zeros behind them if the block has room, and then the index that lists them. Nothing is copied, and
+    /// it doesn't allocate.
+    pub fn issue(
+        &mut self,
+        block: BlockId,
+        block_size: usize,
+        prepared: Prepared<A>,
+    ) -> Vec<Write<A>, A>
         requires idle { self.old.writing ≡ None }
         requires ready { IsReady self.old prepared.records prepared.sources prepared.writes }
-        ensures { IssuesFirst block self.old self.new result.items }
+        ensures { IssuesFirst block block_size self.old self.new result.items }
     {
         let Prepared {
             records,
@@ -200,7 +250,7 @@ impl<K, V, P, A: Allocator + Clone> Batch<K, V, P, A> {
         self.continues_own_block = false;
         drop_sources(&mut self.sources, records.len());
         let placed = self.blocks.remove(0);
-        let issued = writes_of(writes, placed);
+        let issued = writes_of(writes, placed, block_size);
         self.writing = begin_writing(block, issued.len(), records, sources);
         issued
     }

@@ -16,20 +16,19 @@ ghost use Rattle.foyer_core_flusher.specs.FlusherSteps.{StandsAt, FlusherStep};
 ghost use Rattle.foyer_core_flusher.specs.Seen.{seen};
 
 use crate::flusher::Flusher;
-use foyer_block_index::tombstone::InvalidStats;
 use foyer_block_manager::block::manager::BlockManager;
-use foyer_core_blocks::manager::invalidate_all;
+use foyer_core_blocks::manager::{Invalidated, invalidate_all};
 use std::alloc::Allocator;
 
 // What marks made invalid counts, unless the log failed to take them: an opening finds what they deleted again then.
 pub(crate) fn invalidate_unless<A: Allocator>(
     logged: Option<bool>,
     manager: &mut BlockManager<A>,
-    invalid: &[InvalidStats],
+    invalid: &[Invalidated],
 )
     ensures same { HasSameRules manager.old manager.new }
     ensures invalidated { (s : BlockSets) → Stands manager.old s → Stands manager.new
-        (record s { stats = invalidated_unless logged (map invalid_of invalid.now) s.stats }) }
+        (record s { stats = invalidated_unless s.block_set s.filling logged (map invalid_of invalid.now) s.stats }) }
 {
     match logged {
         None => invalidate_all(manager, invalid),

@@ -12,20 +12,25 @@ ghost use Rattle.foyer_core_flusher.specs.Marking.{bytes_of};
 use crate::submission::TombstoneInfo;
 use foyer_block_index::indexer::{EntryAddress, Indexer};
 use foyer_block_index::tombstone::{InvalidStats, Tombstone};
+use foyer_core_blocks::manager::Invalidated;
 use foyer_device_page::error::Result;
 use foyer_format_record::block::buffer::PAGE;
 use foyer_format_record::block::serde::Sequence;
 use std::alloc::Allocator;
 
-// The bytes of a block that a mark makes invalid where it pushes this address out.
+// The bytes of a block, and of a filling of it, that a mark makes invalid if it pushes this address out.
 #[tactic(auto, unfolding(foyer_format_layout::specs::Page::page_up))]
-fn invalid_stats(address: &EntryAddress) -> InvalidStats
-    ensures block { result.block ≡ address.now.block }
-    ensures size { result.size ≡ page_up address.now.len }
+fn invalid_stats(address: &EntryAddress) -> Invalidated
+    ensures block { result.stats.block ≡ address.now.block }
+    ensures filling { result.filling ≡ address.now.filling }
+    ensures size { result.stats.size ≡ page_up address.now.len }
 {
-    InvalidStats {
-        block: address.block,
-        size: (address.len as usize).div_ceil(PAGE) * PAGE,
+    Invalidated {
+        stats: InvalidStats {
+            block: address.block,
+            size: (address.len as usize).div_ceil(PAGE) * PAGE,
+        },
+        filling: address.filling,
     }
 }
 

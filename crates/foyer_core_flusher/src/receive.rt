@@ -28,7 +28,8 @@ use crate::filled::Filled;
 use crate::marking::enter_mark;
 use crate::submission::{Reinsertion, TombstoneInfo};
 use foyer_block_index::indexer::{EntryAddress, Indexer};
-use foyer_block_index::tombstone::{InvalidStats, Tombstone};
+use foyer_block_index::tombstone::Tombstone;
+use foyer_core_blocks::manager::Invalidated;
 use foyer_device_page::error::Result;
 use foyer_device_page::io::bytes::IoSliceMut;
 use foyer_format_record::block::serde::Sequence;
@@ -137,7 +138,7 @@ pub(crate) fn put_reinsertion<A: Allocator + Clone>(
 // Appends a mark, and what it made invalid, if it did.
 pub(crate) fn put_mark<A: Allocator>(
     marks: &mut Vec<Tombstone, A>,
-    invalid: &mut Vec<InvalidStats, A>,
+    invalid: &mut Vec<Invalidated, A>,
     info: TombstoneInfo,
 ) -> Result<()>
     ensures marks { OnOk result (marks.new.items ≡ marks.old.items ++ info.tombstone ∷ []) }
@@ -158,7 +159,7 @@ pub(crate) fn put_mark<A: Allocator>(
 // Puts the mark of a piece that is handed back into the index, and appends it with what it made invalid, if it did.
 pub(crate) fn put_returned<A: Allocator + Clone>(
     marks: &mut Vec<Tombstone, A>,
-    invalid: &mut Vec<InvalidStats, A>,
+    invalid: &mut Vec<Invalidated, A>,
     index: &mut Indexer<A>,
     hash: u64,
     sequence: Sequence,

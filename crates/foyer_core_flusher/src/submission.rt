@@ -2,7 +2,8 @@
 ghost use Rattle.std.specs.Prelude.{◌≡◌};
 
 use foyer_block_index::indexer::EntryAddress;
-use foyer_block_index::tombstone::{InvalidStats, Tombstone};
+use foyer_block_index::tombstone::Tombstone;
+pub use foyer_core_blocks::manager::Invalidated;
 use foyer_format_record::block::serde::Sequence;
 use foyer_policy_piece::keeper::PieceRef;
 use std::alloc::Allocator;
@@ -15,7 +16,7 @@ pub struct TombstoneInfo {
     /// The mark, as the log has it.
     pub tombstone: Tombstone,
     /// The bytes of a block that it made invalid, if it removed an address.
-    pub stats: Option<InvalidStats>,
+    pub stats: Option<Invalidated>,
 }
 
 /// A record that a reclaim read back, to be written again: the bytes of its address, `address.len` of them. It keeps the sequence
@@ -68,7 +69,7 @@ pub enum Submission<K, V, P, A: Allocator> {
     /// A mark to be logged, and the bytes of a block that it made invalid.
     Tombstone {
         tombstone: Tombstone,
-        stats: Option<InvalidStats>,
+        stats: Option<Invalidated>,
     },
     /// A record to be written again.
     Reinsertion {

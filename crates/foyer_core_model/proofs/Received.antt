@@ -3,7 +3,7 @@ use Rattle.std.proofs.Common.{◌≡◌, ℕ, ◌+◌, ◌<◌, ◌≤◌, true,
 use Rattle.foyer_core_model.specs.Numbers.{put}
 use Rattle.foyer_core_model.specs.Record.{Address, Mark, Given, Reread, Record}
 use Rattle.foyer_core_model.specs.Position.{Position, BlockLayout, last_end}
-use Rattle.foyer_core_model.specs.State.{Submission, Piece, Remove, Await, Reinsert, Flusher}
+use Rattle.foyer_core_model.specs.State.{Invalidated, Submission, Piece, Remove, Await, Reinsert, Flusher}
 use Rattle.foyer_core_model.specs.Rules.{Rules, flusher_of}
 use Rattle.foyer_core_model.specs.Index.{inserted}
 use Rattle.foyer_core_model.specs.Layout.{KeepsBlocks, KeepsBatch}
@@ -94,7 +94,7 @@ module _ {C : Type 0} (rules : Rules C) where
       → MarkEnters w.core.index (put w.core.index h (inserted (w.core.index h) (Mark s))) w.history (Deletion h s ∷ w.history)
   piece_enters w f h s n c rest sound is = returned_enters rules w h s sound (waits_first w f h s n c rest sound is)
 
-  pub returned_piece : (w : World C) (f h s n : ℕ) (c : C) (rest : List (Submission C)) (more : List (ℕ × ℕ)) → WorldInvariant rules w → (w.core.flushers f).queue ≡ Piece h s n c ∷ rest
+  pub returned_piece : (w : World C) (f h s n : ℕ) (c : C) (rest : List (Submission C)) (more : List Invalidated) → WorldInvariant rules w → (w.core.flushers f).queue ≡ Piece h s n c ∷ rest
       → WorldInvariant rules (record w {
         core = record w.core {
           flushers = put w.core.flushers f (record (w.core.flushers f) {
@@ -146,7 +146,7 @@ module _ {C : Type 0} (rules : Rules C) where
           let span : s + 1 ≤ w.core.next = ascends_span (s + 1) (queue_sequences rest) w.core.next (t.order.queue).1 in
           omega arith
 
-  pub received_mark : (w : World C) (f h s : ℕ) (invalidated more : List (ℕ × ℕ)) (rest : List (Submission C)) → WorldInvariant rules w → (w.core.flushers f).queue ≡ Remove h s invalidated ∷ rest
+  pub received_mark : (w : World C) (f h s : ℕ) (invalidated more : List Invalidated) (rest : List (Submission C)) → WorldInvariant rules w → (w.core.flushers f).queue ≡ Remove h s invalidated ∷ rest
       → WorldInvariant rules (record w {
         core = record w.core {
           flushers = put w.core.flushers f (record (w.core.flushers f) {

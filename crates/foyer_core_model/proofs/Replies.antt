@@ -260,7 +260,7 @@ module _ {C : Type 0} (rules : Rules C) (Splits : Splitting C) where
       batches (Some batch) is written = answers c _ (FlushEnd f) (Ended batch.pieces batch.waits) tt few turn
           (subst (λ k. Finishes rules c f k (Ended batch.pieces batch.waits) (record (turned rules c f (record (c.flushers f) { batch = None })) {
             index = unmarked batch.marks c.index;
-            stats = invalidated_unless batch.logged batch.invalidated c.stats;
+            stats = invalidated_unless c.place c.filling batch.logged batch.invalidated c.stats;
           })) (sym is) (refl, refl, refl))
 
   pick_replies : (c : State C) → c.steps < last_number → InTurn rules c ReclaimBegin → HasReply c ReclaimBegin

@@ -67,7 +67,7 @@ pub may85 : MayHappen small SmallSplits IsSmall w85 e85
 may85 = ((2, load_at w85.loads 2, refl, refl, refl), (lit< tt, (lit< tt, refl), (n85, (refl, refl, refl), refl)))
 
 abbrev n86 : State ℕ
-n86 = record (queued small w86.core 0 (Remove 7 5 ((0, 3) ∷ []))) { next = 6; index = put w86.core.index 7 (Some (Mark 5)) }
+n86 = record (queued small w86.core 0 (Remove 7 5 (record { block = 0; filling = 2; bytes = 3 } ∷ []))) { next = 6; index = put w86.core.index 7 (Some (Mark 5)) }
 
 abbrev pub e86 : WorldEvent ℕ
 e86 = Applies (Delete 7) (Deleted 5) (counted w86.core n86)
@@ -91,7 +91,7 @@ pub may87 : MayHappen small SmallSplits IsSmall w87 e87
 may87 = (tt, (lit< tt, tt, (n87, refl, refl)))
 
 abbrev n88 : State ℕ
-n88 = turned small w88.core 0 (record (w88.core.flushers 0) { queue = []; marks = (w88.core.flushers 0).marks ++ (7, 5) ∷ []; invalidated = (w88.core.flushers 0).invalidated ++ (0, 3) ∷ [] })
+n88 = turned small w88.core 0 (record (w88.core.flushers 0) { queue = []; marks = (w88.core.flushers 0).marks ++ (7, 5) ∷ []; invalidated = (w88.core.flushers 0).invalidated ++ record { block = 0; filling = 2; bytes = 3 } ∷ [] })
 
 abbrev pub e88 : WorldEvent ℕ
 e88 = Applies (Receive 0) (Received None) (counted w88.core n88)
@@ -146,7 +146,7 @@ pub may91 : MayHappen small SmallSplits IsSmall w91 e91
 may91 = (tt, (lit< tt, (lit< tt, refl, refl), (n91, refl, refl)))
 
 abbrev n92 : State ℕ
-n92 = record (turned small w92.core 0 (record (w92.core.flushers 0) { batch = None })) { index = unmarked (batch_in (w92.core.flushers 0).batch).marks w92.core.index; stats = invalidated_unless (batch_in (w92.core.flushers 0).batch).logged (batch_in (w92.core.flushers 0).batch).invalidated w92.core.stats }
+n92 = record (turned small w92.core 0 (record (w92.core.flushers 0) { batch = None })) { index = unmarked (batch_in (w92.core.flushers 0).batch).marks w92.core.index; stats = invalidated_unless w92.core.place w92.core.filling (batch_in (w92.core.flushers 0).batch).logged (batch_in (w92.core.flushers 0).batch).invalidated w92.core.stats }
 
 abbrev pub e92 : WorldEvent ℕ
 e92 = Applies (FlushEnd 0) (Ended [] []) (counted w92.core n92)
@@ -225,7 +225,7 @@ pub may97 : MayHappen small SmallSplits IsSmall w97 e97
 may97 = (tt, (lit< tt, (lit< tt, refl, refl), (n97, refl, refl)))
 
 abbrev n98 : State ℕ
-n98 = record (turned small w98.core 0 (record (w98.core.flushers 0) { batch = None })) { index = unmarked (batch_in (w98.core.flushers 0).batch).marks w98.core.index; stats = invalidated_unless (batch_in (w98.core.flushers 0).batch).logged (batch_in (w98.core.flushers 0).batch).invalidated w98.core.stats }
+n98 = record (turned small w98.core 0 (record (w98.core.flushers 0) { batch = None })) { index = unmarked (batch_in (w98.core.flushers 0).batch).marks w98.core.index; stats = invalidated_unless w98.core.place w98.core.filling (batch_in (w98.core.flushers 0).batch).logged (batch_in (w98.core.flushers 0).batch).invalidated w98.core.stats }
 
 abbrev pub e98 : WorldEvent ℕ
 e98 = Applies (FlushEnd 0) (Ended [] []) (counted w98.core n98)

@@ -190,7 +190,7 @@ pub may14 : MayHappen small SmallSplits IsSmall w14 e14
 may14 = (tt, (lit< tt, (lit< tt, refl, refl), (n14, refl, refl)))
 
 abbrev n15 : State ℕ
-n15 = record (turned small w15.core 0 (record (w15.core.flushers 0) { batch = None })) { index = unmarked (batch_in (w15.core.flushers 0).batch).marks w15.core.index; stats = invalidated_unless (batch_in (w15.core.flushers 0).batch).logged (batch_in (w15.core.flushers 0).batch).invalidated w15.core.stats }
+n15 = record (turned small w15.core 0 (record (w15.core.flushers 0) { batch = None })) { index = unmarked (batch_in (w15.core.flushers 0).batch).marks w15.core.index; stats = invalidated_unless w15.core.place w15.core.filling (batch_in (w15.core.flushers 0).batch).logged (batch_in (w15.core.flushers 0).batch).invalidated w15.core.stats }
 
 abbrev pub e15 : WorldEvent ℕ
 e15 = Applies (FlushEnd 0) (Ended ((1, 5) ∷ []) []) (counted w15.core n15)

@@ -261,7 +261,7 @@ pub may36 : MayHappen small SmallSplits IsSmall w36 e36
 may36 = (tt, (lit< tt, (lit< tt, refl, refl), (n36, refl, refl)))
 
 abbrev n37 : State ℕ
-n37 = record (turned small w37.core 0 (record (w37.core.flushers 0) { batch = None })) { index = unmarked (batch_in (w37.core.flushers 0).batch).marks w37.core.index; stats = invalidated_unless (batch_in (w37.core.flushers 0).batch).logged (batch_in (w37.core.flushers 0).batch).invalidated w37.core.stats }
+n37 = record (turned small w37.core 0 (record (w37.core.flushers 0) { batch = None })) { index = unmarked (batch_in (w37.core.flushers 0).batch).marks w37.core.index; stats = invalidated_unless w37.core.place w37.core.filling (batch_in (w37.core.flushers 0).batch).logged (batch_in (w37.core.flushers 0).batch).invalidated w37.core.stats }
 
 abbrev pub e37 : WorldEvent ℕ
 e37 = Applies (FlushEnd 0) (Ended ((3, 6) ∷ []) []) (counted w37.core n37)

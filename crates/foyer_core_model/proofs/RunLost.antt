@@ -129,7 +129,7 @@ pub mayr25 : MayHappen small SmallSplits IsSmall wr25 er25
 mayr25 = (tt, (lit< tt, (lit< tt, refl, refl), (nr25, refl, refl)))
 
 abbrev nr26 : State ℕ
-nr26 = record (turned small wr26.core 0 (record (wr26.core.flushers 0) { batch = None })) { index = unmarked (batch_in (wr26.core.flushers 0).batch).marks wr26.core.index; stats = invalidated_unless (batch_in (wr26.core.flushers 0).batch).logged (batch_in (wr26.core.flushers 0).batch).invalidated wr26.core.stats }
+nr26 = record (turned small wr26.core 0 (record (wr26.core.flushers 0) { batch = None })) { index = unmarked (batch_in (wr26.core.flushers 0).batch).marks wr26.core.index; stats = invalidated_unless wr26.core.place wr26.core.filling (batch_in (wr26.core.flushers 0).batch).logged (batch_in (wr26.core.flushers 0).batch).invalidated wr26.core.stats }
 
 abbrev pub er26 : WorldEvent ℕ
 er26 = Applies (FlushEnd 0) (Ended ((18446744073709551614, 6) ∷ []) []) (counted wr26.core nr26)

@@ -162,7 +162,7 @@ pub may69 : MayHappen small SmallSplits IsSmall w69 e69
 may69 = (tt, (lit< tt, (lit< tt, refl, refl), (n69, refl, refl)))
 
 abbrev n70 : State ℕ
-n70 = record (turned small w70.core 0 (record (w70.core.flushers 0) { batch = None })) { index = unmarked (batch_in (w70.core.flushers 0).batch).marks w70.core.index; stats = invalidated_unless (batch_in (w70.core.flushers 0).batch).logged (batch_in (w70.core.flushers 0).batch).invalidated w70.core.stats }
+n70 = record (turned small w70.core 0 (record (w70.core.flushers 0) { batch = None })) { index = unmarked (batch_in (w70.core.flushers 0).batch).marks w70.core.index; stats = invalidated_unless w70.core.place w70.core.filling (batch_in (w70.core.flushers 0).batch).logged (batch_in (w70.core.flushers 0).batch).invalidated w70.core.stats }
 
 abbrev pub e70 : WorldEvent ℕ
 e70 = Applies (FlushEnd 0) (Ended [] (2 ∷ [])) (counted w70.core n70)
@@ -289,7 +289,7 @@ pub may80 : MayHappen small SmallSplits IsSmall w80 e80
 may80 = (tt, (lit< tt, (lit< tt, refl, refl), (n80, refl, refl)))
 
 abbrev n81 : State ℕ
-n81 = record (turned small w81.core 0 (record (w81.core.flushers 0) { batch = None })) { index = unmarked (batch_in (w81.core.flushers 0).batch).marks w81.core.index; stats = invalidated_unless (batch_in (w81.core.flushers 0).batch).logged (batch_in (w81.core.flushers 0).batch).invalidated w81.core.stats }
+n81 = record (turned small w81.core 0 (record (w81.core.flushers 0) { batch = None })) { index = unmarked (batch_in (w81.core.flushers 0).batch).marks w81.core.index; stats = invalidated_unless w81.core.place w81.core.filling (batch_in (w81.core.flushers 0).batch).logged (batch_in (w81.core.flushers 0).batch).invalidated w81.core.stats }
 
 abbrev pub e81 : WorldEvent ℕ
 e81 = Applies (FlushEnd 0) (Ended [] []) (counted w81.core n81)

@@ -89,7 +89,7 @@ pub may42 : MayHappen small SmallSplits IsSmall w42 e42
 may42 = (tt, (lit< tt, (lit< tt, refl, refl), (n42, refl, refl)))
 
 abbrev n43 : State ℕ
-n43 = record (turned small w43.core 0 (record (w43.core.flushers 0) { batch = None })) { index = unmarked (batch_in (w43.core.flushers 0).batch).marks w43.core.index; stats = invalidated_unless (batch_in (w43.core.flushers 0).batch).logged (batch_in (w43.core.flushers 0).batch).invalidated w43.core.stats }
+n43 = record (turned small w43.core 0 (record (w43.core.flushers 0) { batch = None })) { index = unmarked (batch_in (w43.core.flushers 0).batch).marks w43.core.index; stats = invalidated_unless w43.core.place w43.core.filling (batch_in (w43.core.flushers 0).batch).logged (batch_in (w43.core.flushers 0).batch).invalidated w43.core.stats }
 
 abbrev pub e43 : WorldEvent ℕ
 e43 = Applies (FlushEnd 0) (Ended [] (1 ∷ [])) (counted w43.core n43)
@@ -198,7 +198,7 @@ pub may51 : MayHappen small SmallSplits IsSmall w51 e51
 may51 = (tt, (lit< tt, (lit< tt, refl, refl), (n51, refl, refl)))
 
 abbrev n52 : State ℕ
-n52 = record (turned small w52.core 0 (record (w52.core.flushers 0) { batch = None })) { index = unmarked (batch_in (w52.core.flushers 0).batch).marks w52.core.index; stats = invalidated_unless (batch_in (w52.core.flushers 0).batch).logged (batch_in (w52.core.flushers 0).batch).invalidated w52.core.stats }
+n52 = record (turned small w52.core 0 (record (w52.core.flushers 0) { batch = None })) { index = unmarked (batch_in (w52.core.flushers 0).batch).marks w52.core.index; stats = invalidated_unless w52.core.place w52.core.filling (batch_in (w52.core.flushers 0).batch).logged (batch_in (w52.core.flushers 0).batch).invalidated w52.core.stats }
 
 abbrev pub e52 : WorldEvent ℕ
 e52 = Applies (FlushEnd 0) (Ended ((4, 6) ∷ []) []) (counted w52.core n52)

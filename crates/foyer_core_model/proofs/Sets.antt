@@ -263,7 +263,7 @@ module _ {C : Type 0} (rules : Rules C) where
 
   finishes_sets : (c new : State C) (f : ℕ) (batch : Option (Batch C)) (reply : Reply C) → Finishes rules c f batch reply new → AreSets rules c → AreSets rules (record new { steps = c.steps + 1 })
   finishes_sets c new f (Some batch) (Ended pieces waits) ok sets =
-      alike c new _ ok.2 (one_turned (record c { index = unmarked batch.marks c.index; stats = invalidated_unless batch.logged batch.invalidated c.stats }) f _ refl refl sets)
+      alike c new _ ok.2 (one_turned (record c { index = unmarked batch.marks c.index; stats = invalidated_unless c.place c.filling batch.logged batch.invalidated c.stats }) f _ refl refl sets)
   finishes_sets c new f batch reply ok sets = absurd ok
 
   logs_sets : (c new : State C) (f : ℕ) (well : Bool) (batch : Option (Batch C)) (reply : Reply C) → Logs rules c f well batch reply new → AreSets rules c → AreSets rules (record new { steps = c.steps + 1 })

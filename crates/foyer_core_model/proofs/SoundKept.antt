@@ -7,7 +7,7 @@ use Rattle.foyer_core_model.specs.Numbers.{put, last_number}
 use Rattle.foyer_core_model.specs.Ids.{is_id_in, without_id}
 use Rattle.foyer_core_model.specs.Record.{Slot, Indexed, Mark, Outcome, NoRecord, Holds, IndexEntry}
 use Rattle.foyer_core_model.specs.Position.{Position, BlockLayout, records_of}
-use Rattle.foyer_core_model.specs.State.{Submission, Piece, Remove, Await, Reinsert, Batch, Clean, Writes, Evictable, Reclaims, Stage, AtIndex, AtRecord, AllListed, ToClean, Reclaim, Destroy, NoDestroy, Begun, Cleaning, State}
+use Rattle.foyer_core_model.specs.State.{Invalidated, Submission, Piece, Remove, Await, Reinsert, Batch, Clean, Writes, Evictable, Reclaims, Stage, AtIndex, AtRecord, AllListed, ToClean, Reclaim, Destroy, NoDestroy, Begun, Cleaning, State}
 use Rattle.foyer_core_model.specs.Rules.{Rules, flusher_of, first_position, Splitting}
 use Rattle.foyer_core_model.specs.Step.{ReadResult, Bytes, Fault, Age, Ticket, Step, Enqueue, Delete, Wait, MayContains, LoadBegin, LoadEnd, Receive, FlushBegin, FlushBlock, FlushWrote, LogWrote, FlushEnd, ReclaimBegin, ReclaimRead, ReclaimForget, ReclaimCleaned, ReclaimIdle, DestroyBegin, DestroyClear, DestroyCleaned, Close}
 use Rattle.foyer_core_model.specs.Reply.{Reply, NotNow, Refused, Ignored, Queued, Dropped, Deleted, Done, Miss, Throttled, Read, Entry, Empty, Received, Began, Written, NoBlock, Next, Committed, Failed, Ended, Picked, Listed, Cleans, Destroying, Cleared, Destroyed}
@@ -70,7 +70,7 @@ module _ {C : Type 0} (rules : Rules C) (Splits : Splitting C) (is_value : C →
           ≡ record (queued rules w.core (flusher_of rules h) (Remove h s (invalidated_by rules s (w.core.index h)))) { next = s + 1; index = put w.core.index h (Some (Mark s)) }
       entered = λ i. record (queued rules w.core (flusher_of rules h) (Remove h s (invalidated_by rules s (w.core.index h)))) { next = s + 1; index = put w.core.index h (mark_enters rules w h s sound ok.0 i) }
 
-      marked_queue : (w : World C) (h s : ℕ) (invalidated : List (ℕ × ℕ)) → s ≡ w.core.next → WorldInvariant rules w
+      marked_queue : (w : World C) (h s : ℕ) (invalidated : List Invalidated) → s ≡ w.core.next → WorldInvariant rules w
           → WorldInvariant rules (record w {
             core = record w.core {
               flushers = put w.core.flushers (flusher_of rules h) (record (w.core.flushers (flusher_of rules h)) { queue = (w.core.flushers (flusher_of rules h)).queue ++ Remove h s invalidated ∷ [] });

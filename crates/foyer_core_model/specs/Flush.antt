@@ -1,12 +1,12 @@
 -- Flushes.
-use Rattle.std.specs.Prelude.{◌≡◌, ℕ, ◌+◌, nat_lt, Bool, true, false, if◌then◌else◌, List, [], ◌∷◌, length, Option, Some, None, ◌⊎◌}
+use Rattle.std.specs.Prelude.{◌≡◌, ℕ, ◌+◌, ◌==◌, ◌&&◌, nat_lt, Bool, true, false, if◌then◌else◌, List, [], ◌∷◌, length, Option, Some, None, ◌⊎◌}
 use Rattle.foyer_core_model.specs.Numbers.{put, last_number, plus}
 use Rattle.foyer_core_model.specs.Ids.{without_id, with_id}
 use Rattle.foyer_core_model.specs.Record.{Record}
 use Rattle.foyer_format_layout.specs.BlockBytes.{Write}
 use Rattle.foyer_core_model.specs.Position.{BlockLayout, records_in, last_end}
 use Rattle.foyer_core_model.specs.Index.{unmarked}
-use Rattle.foyer_core_model.specs.State.{Writing, Batch, BlockSet, Writes, Evictable, Stats, Destroy, NoDestroy, Begun, Cleaning, State}
+use Rattle.foyer_core_model.specs.State.{Invalidated, Writing, Batch, BlockSet, Clean, Writes, Evictable, Reclaims, Stats, Destroy, NoDestroy, Begun, Cleaning, State}
 use Rattle.foyer_core_model.specs.Rules.{Rules, first_position, Splitting}
 use Rattle.foyer_core_model.specs.Layout.{writes_in}
 use Rattle.foyer_core_model.specs.Commit.{Commit, commit_of}
@@ -18,16 +18,33 @@ abbrev pub is_some : {A : Type 0} → Option A → Bool
 is_some None = false
 is_some (Some x) = true
 
--- these bytes of these blocks become invalid
-abbrev pub all_invalidated : List (ℕ × ℕ) → (ℕ → Stats) → ℕ → Stats
-all_invalidated [] stats = stats
-all_invalidated (p ∷ ps) stats = all_invalidated ps (put stats p.0 (record (stats p.0) { invalid = plus (stats p.0).invalid p.1 }))
+-- whether a block of this set may hold records
+abbrev pub may_hold : BlockSet → Bool
+may_hold Clean = false
+may_hold (Writes f) = true
+may_hold Evictable = true
+may_hold Reclaims = true
 
--- unless the log failed
-abbrev pub invalidated_unless : Option Bool → List (ℕ × ℕ) → (ℕ → Stats) → ℕ → Stats
-invalidated_unless None invalidated stats = all_invalidated invalidated stats
-invalidated_unless (Some true) invalidated stats = all_invalidated invalidated stats
-invalidated_unless (Some false) invalidated stats = stats
+module _ (place : ℕ → BlockSet) (filling : ℕ → ℕ) where
+  -- whether the block still has the filling of which these bytes are: one that was cleaned hasn't
+  abbrev pub still_has : Invalidated → Bool
+  still_has i = (filling i.block == i.filling) && may_hold (place i.block)
+
+  -- the bytes become invalid, if the block still has their filling
+  abbrev pub one_invalidated : Invalidated → (ℕ → Stats) → ℕ → Stats
+  one_invalidated i stats =
+      if still_has i then put stats i.block (record (stats i.block) { invalid = plus (stats i.block).invalid i.bytes }) else stats
+
+  -- so do these
+  abbrev pub all_invalidated : List Invalidated → (ℕ → Stats) → ℕ → Stats
+  all_invalidated [] stats = stats
+  all_invalidated (i ∷ is) stats = all_invalidated is (one_invalidated i stats)
+
+  -- unless the log failed
+  abbrev pub invalidated_unless : Option Bool → List Invalidated → (ℕ → Stats) → ℕ → Stats
+  invalidated_unless None invalidated stats = all_invalidated invalidated stats
+  invalidated_unless (Some true) invalidated stats = all_invalidated invalidated stats
+  invalidated_unless (Some false) invalidated stats = stats
 
 -- a block that its flusher leaves may be reclaimed
 abbrev pub released : Option ℕ → (ℕ → BlockSet) → ℕ → BlockSet
@@ -162,6 +179,6 @@ module _ {C : Type 0} (rules : Rules C) (old : State C) where
       (pieces ≡ batch.pieces) × (waits ≡ batch.waits)
       × (new ≡ record (turned rules old f (record (old.flushers f) { batch = None })) {
         index = unmarked batch.marks old.index;
-        stats = invalidated_unless batch.logged batch.invalidated old.stats;
+        stats = invalidated_unless old.place old.filling batch.logged batch.invalidated old.stats;
       })
   Finishes f batch reply new = ⊥

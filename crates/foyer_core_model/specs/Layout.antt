@@ -1,7 +1,7 @@
 -- What the placing of a batch must keep: the four facts that the laws need of a splitter.
-use Rattle.std.specs.Prelude.{◌≡◌, ◌≢◌, ℕ, suc, zero, ◌+◌, ◌-◌, ◌<◌, ◌≤◌, nat_le, nat_lt, ◌&&◌, if◌then◌else◌, List, [], ◌∷◌, ◌++◌, length, slice_index, ◌⊎◌}
+use Rattle.std.specs.Prelude.{◌≡◌, ◌≢◌, ℕ, ◌+◌, ◌<◌, ◌≤◌, List, [], ◌∷◌, ◌++◌, length}
 use Rattle.foyer_core_model.specs.Record.{Record}
-use Rattle.foyer_format_layout.specs.Position.{tail_of, MayWrite}
+use Rattle.foyer_format_layout.specs.Position.{MayWrite}
 use Rattle.foyer_format_layout.specs.BlockBytes.{Write, all_laid, read, AllWithin}
 use Rattle.foyer_core_model.specs.Position.{Position, Part, BlockLayout, records_in, records_of, last_end}
 use Rattle.foyer_core_model.specs.Rules.{Rules, first_position, Splitting}

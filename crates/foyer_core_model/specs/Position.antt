@@ -1,5 +1,5 @@
 -- How far a block is filled, and what a batch puts into it.
-use Rattle.std.specs.Prelude.{ℕ, ◌+◌, List, [], ◌∷◌, ◌++◌, map}
+use Rattle.std.specs.Prelude.{ℕ, List, [], ◌∷◌, ◌++◌, map}
 use Rattle.foyer_format_layout.specs.Position as layout
 use Rattle.foyer_core_model.specs.Record.{IndexEntry, Record}
 

@@ -3,7 +3,7 @@ use Rattle.std.specs.Prelude.{◌≡◌, ℕ, suc, zero, ◌+◌, ◌<◌, nat_l
 use Rattle.foyer_core_model.specs.Numbers.{put, last_number, plus}
 use Rattle.foyer_core_model.specs.Record.{Slot, Indexed, Mark}
 use Rattle.foyer_core_model.specs.Index.{is_address, inserted}
-use Rattle.foyer_core_model.specs.State.{Submission, Piece, Remove, Await, Reinsert, Flusher, State}
+use Rattle.foyer_core_model.specs.State.{Invalidated, Submission, Piece, Remove, Await, Reinsert, Flusher, State}
 use Rattle.foyer_core_model.specs.Rules.{Rules, flusher_of}
 use Rattle.foyer_core_model.specs.Step.{Age, Young}
 use Rattle.foyer_core_model.specs.Reply.{Reply, Ignored, Queued, Dropped, Deleted, Done, Answer}
@@ -21,11 +21,11 @@ abbrev pub size_queued : {C : Type 0} → ℕ → (ℕ → Flusher C) → ℕ
 size_queued zero flushers = 0
 size_queued (suc n) flushers = plus (queue_size (flushers n).queue) (size_queued n flushers)
 
--- the bytes that a mark makes invalid, with their block: those of the address that it pushes out
-abbrev pub invalidated_by : {C : Type 0} → Rules C → (sequence : ℕ) → Option Slot → List (ℕ × ℕ)
+-- the bytes that a mark makes invalid, with their block and its filling: those of the address that it pushes out
+abbrev pub invalidated_by : {C : Type 0} → Rules C → (sequence : ℕ) → Option Slot → List Invalidated
 invalidated_by rules s None = []
 invalidated_by rules s (Some (Mark t)) = []
-invalidated_by rules s (Some (Indexed a)) = if nat_le a.sequence s then (a.block, rules.page_up a.len) ∷ [] else []
+invalidated_by rules s (Some (Indexed a)) = if nat_le a.sequence s then record { block = a.block; filling = a.filling; bytes = rules.page_up a.len } ∷ [] else []
 
 module _ {C : Type 0} (rules : Rules C) (old : State C) where
   -- a submission at the end of a flusher's queue

@@ -5,11 +5,16 @@ use Rattle.foyer_core_model.specs.Record.{Address, Slot, Record}
 use Rattle.foyer_format_layout.specs.BlockBytes.{Write}
 use Rattle.foyer_core_model.specs.Position.{Position, BlockLayout}
 
--- what waits in a flusher's queue: a piece with its estimated size; a mark, with the bytes that it made invalid and
--- their block; a wait with its id; a record to be reinserted, with the address that it was read from
+-- bytes of a filling of a block that became invalid
+pub record Invalidated : Type 0 where
+  pub block : ℕ
+  pub filling : ℕ
+  pub bytes : ℕ
+
+-- what waits in a flusher's queue: a piece with its estimated size; a mark, with the bytes that it made invalid; a wait with its id; a record to be reinserted, with the address that it was read from
 pub data Submission (C : Type 0) : Type 0 where
   Piece : (hash sequence size : ℕ) → C → Submission C
-  Remove : (hash sequence : ℕ) → (invalidated : List (ℕ × ℕ)) → Submission C
+  Remove : (hash sequence : ℕ) → (invalidated : List Invalidated) → Submission C
   Await : (id : ℕ) → Submission C
   Reinsert : (hash : ℕ) → List ℕ → Address → Submission C
 
@@ -25,7 +30,7 @@ pub record Batch (C : Type 0) : Type 0 where
   pub continues_own_block : Bool  -- whether the first of them is the flusher's own block
   pub writing : Option (Writing C)
   pub marks : List (ℕ × ℕ)  -- hashes with sequences
-  pub invalidated : List (ℕ × ℕ)  -- blocks with the bytes that the marks made invalid
+  pub invalidated : List Invalidated  -- what the marks made invalid
   pub pieces : List (ℕ × C)  -- to be given back at the end, with their sequences
   pub waits : List ℕ
   pub logged : Option Bool  -- whether the log took the marks, once it has answered
@@ -35,7 +40,7 @@ pub record Flusher (C : Type 0) : Type 0 where
   pub queue : List (Submission C)
   pub buffer : List (Record C)  -- what was received since the batch before
   pub marks : List (ℕ × ℕ)
-  pub invalidated : List (ℕ × ℕ)
+  pub invalidated : List Invalidated
   pub waits : List ℕ
   pub batch : Option (Batch C)
   pub own : Option ℕ  -- the block that it goes on with

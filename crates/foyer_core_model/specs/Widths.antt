@@ -1,5 +1,5 @@
 -- What has 64 bits: the hash and the sequence of whatever is queued, buffered, in a batch or indexed.
-use Rattle.std.specs.Prelude.{ℕ, ◌≤◌, List, [], ◌∷◌, map, Option, Some, None}
+use Rattle.std.specs.Prelude.{ℕ, ◌≤◌, List, map, Option, Some, None}
 use Rattle.foyer_format_layout.specs.Each.{Each}
 use Rattle.foyer_core_model.specs.Numbers.{last_number}
 use Rattle.foyer_core_model.specs.Record.{Slot, Indexed, Mark, Record}

@@ -30,6 +30,7 @@ pub use crate::block::eviction::FifoPicker;
 pub use crate::block::eviction::InvalidRatioPicker;
 pub use crate::block::flusher::Flusher;
 pub use crate::block::flusher::InvalidStats;
+pub use crate::block::flusher::Invalidated;
 pub use crate::block::flusher::Reinsertion;
 pub use crate::block::flusher::Submission;
 pub use crate::block::flusher::TombstoneInfo;

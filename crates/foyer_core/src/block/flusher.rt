@@ -2,6 +2,6 @@
 pub use foyer_block_index::tombstone::InvalidStats;
 pub use foyer_core_flusher::batch::{Ended, Next, Wrote};
 pub use foyer_core_flusher::flusher::{
-    Flusher, Reinsertion, Submission, TombstoneInfo, Write, WriteBytes,
+    Flusher, Invalidated, Reinsertion, Submission, TombstoneInfo, Write, WriteBytes,
 };
 pub use foyer_core_flusher::receive::Taken;

@@ -11,5 +11,5 @@ invariant-each_stats g l = record {
   same : HasSameRules l.fn.manager l.manager;
   counted : (s : BlockSets) → Stands l.fn.manager s
       → (now : ℕ → model_state.Stats) × Stands l.manager (record s { stats = now })
-      × (all_invalidated (map invalid_of (drop l.stats-index l.invalid)) now ≡ all_invalidated (map invalid_of l.invalid) s.stats);
+      × (all_invalidated s.block_set s.filling (map invalid_of (drop l.stats-index l.invalid)) now ≡ all_invalidated s.block_set s.filling (map invalid_of l.invalid) s.stats);
 }

@@ -9,6 +9,6 @@ abbrev pub invariant-loop-part : goal.invariant-loop-part
 invariant-loop-part g l =
     (goal.iterator-loop-part g).can_next l.part-iterator
     × (goal.iterator-loop-part g).is_finite l.part-iterator
-    × (l.issued.items ++ writes_of l.part-iterator.rest.items ≡ writes_of l.fn.block.blob_parts.items)
-    × (vec_len l.issued + 2 * length l.part-iterator.rest.items ≤ vec_capacity l.issued)
+    × (l.issued.items ++ writes_of l.fn.block_size l.part-iterator.rest.items ≡ writes_of l.fn.block_size l.fn.block.blob_parts.items)
+    × (vec_len l.issued + 3 * length l.part-iterator.rest.items ≤ vec_capacity l.issued)
     × Each PartFits l.part-iterator.rest.items

@@ -17,5 +17,5 @@ returns-clause-ready g c =
       records = c.in_ok-records.ensures.records;
       sources = c.in_ok-sources.ensures.first ∙ ap (λ n. padded n c.args.self.now.sources.items) (c.len.ensures ∙ c.in_ok-records.records.ok.0);
       none = c.in_ok-writes.ensures.items;
-      room = omega (arith, c.len-room.ensures, c.in_ok-writes.ensures.capacity, c.in_ok-writes.ensures.len, block.blob_parts.small, len.0, len.1);
+      room = omega (arith, c.len-parts.ensures, c.saturating_mul.ensures, c.in_ok-writes.writes.small, c.in_ok-writes.ensures.capacity, c.in_ok-writes.ensures.len, block.blob_parts.small, len.0, len.1);
     }

@@ -16,7 +16,7 @@ returns-clause-done g c = λ m s sound f it stands.
     let batch = c.in-Some.batch in
     let is : self.batch ≡ Some batch = cc in
     let gone = c.remove_marks.ensures ∙ ap (without_marks c.args.index.now.slots) c.as_slice.ensures.value in
-    let sets = subst (λ xs. Stands c.invalidate_unless.new.manager (record (sets_of it) { stats = invalidated_unless batch.logged (map invalid_of xs) it.stats })) c.as_slice-2.ensures.value
+    let sets = subst (λ xs. Stands c.invalidate_unless.new.manager (record (sets_of it) { stats = invalidated_unless it.place it.filling batch.logged (map invalid_of xs) it.stats })) c.as_slice-2.ensures.value
     (c.invalidate_unless.ensures.invalidated (sets_of it) (stands.manager).sets) in
     subst (λ (o : Option (Batch g.row.K.Denot g.row.V.Denot g.row.P.Denot g.row.A.Denot)). HasEnded m s sound f it batch.pieces.items batch.waits.items
     (record (seen self) { batch = o }) c.remove_marks.new.self.slots c.invalidate_unless.new.manager) (sym c.take.ensures.after)

@@ -1,8 +1,9 @@
-use Rattle.std.proofs.Common.{ℕ, Option, Some, map, sym, subst, ◌∙◌}
+use Rattle.std.proofs.Common.{ℕ, Option, Some, map, sym, ap, subst, ◌∙◌}
 use Rattle.foyer_core_model.specs.Flush.{released}
 use Rattle.foyer_core_model.specs.Reply as model_reply
 use Rattle.foyer_core_model.specs.Step as model_step
 use Rattle.foyer_core_flusher.specs.FlusherSteps.{FlusherStep}
+use Rattle.foyer_core_flusher.specs.Issued.{IssuesFirst}
 use Rattle.foyer_core_flusher.specs.Issuing.{write_of}
 use Rattle.foyer_core_flusher.specs.Seen.{seen}
 use Rattle.foyer_core_laws.specs.CoreRules.{machine}
@@ -46,7 +47,8 @@ returns-in-Some-goes_on_with-clause-done g c = λ m s sound it slots stands.
     (sym c.in-Some-goes_on_with.ensures.1)
     (next_own m s sound f it (seen self) slots c.args.manager.now stands c.in-Some.batch c.in-Some.is
     c.issue.new.self b c.issue.result.items c.in-Some-goes_on_with.ensures.0 c.in-Some-goes_on_with.ensures.1
-    (λ own p are lt. issues_as_model m (machine m s sound) s own b c.in-Some.batch c.issue.new.self c.issue.result.items p (are_rules m.is_key m.is_value s sound) sound.offsets_fit lt are c.issue.ensures))
+    (λ own p are lt. issues_as_model m (machine m s sound) s own b c.in-Some.batch c.issue.new.self c.issue.result.items p (are_rules m.is_key m.is_value s sound) sound.offsets_fit lt are
+    (subst (λ k. IssuesFirst b k c.in-Some.batch c.issue.new.self c.issue.result.items) (c.block_size-block_size.ensures ∙ ap (λ z. z.block) (stands.flusher).sizes) c.issue.ensures)))
 
 pub returns-in-Some-get_clean_block-clause-done : goal.returns-in-Some-get_clean_block-clause-done
 returns-in-Some-get_clean_block-clause-done g c = λ m s sound it slots stands.
@@ -60,4 +62,5 @@ returns-in-Some-get_clean_block-clause-done g c = λ m s sound it slots stands.
     (both c.args.manager.now c.release.new.manager c.get_clean_block.new.self c.release.ensures.same c.get_clean_block.ensures.same)
     (subst (λ (k : ℕ). HandsOut (record (sets_of it) { block_set = released self.own it.place }) f (Some k) c.get_clean_block.new.self) (sym c.id-block.ensures)
     (c.in-Some-get_clean_block.ensures.handed (record (sets_of it) { block_set = released self.own it.place }) left))
-    (λ own p are lt. issues_as_model m (machine m s sound) s own b c.in-Some.batch c.issue-in-Some-get_clean_block.new.self c.issue-in-Some-get_clean_block.result.items p (are_rules m.is_key m.is_value s sound) sound.offsets_fit lt are c.issue-in-Some-get_clean_block.ensures)
+    (λ own p are lt. issues_as_model m (machine m s sound) s own b c.in-Some.batch c.issue-in-Some-get_clean_block.new.self c.issue-in-Some-get_clean_block.result.items p (are_rules m.is_key m.is_value s sound) sound.offsets_fit lt are
+    (subst (λ k. IssuesFirst b k c.in-Some.batch c.issue-in-Some-get_clean_block.new.self c.issue-in-Some-get_clean_block.result.items) (c.block_size-block_size.ensures ∙ ap (λ z. z.block) (stands.flusher).sizes) c.issue-in-Some-get_clean_block.ensures))
