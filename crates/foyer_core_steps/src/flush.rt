@@ -39,6 +39,21 @@ impl<K, V, P, A: Allocator> Core<K, V, P, A> {
         self.flushers[flusher as usize].wants_flush()
     }
 
+    /// How many records a flusher received since the batch before, and how many bytes of its buffer are left for more, each
+    /// with its padding; nothing at one that isn't there.
+    pub fn received(&self, flusher: u32) -> (usize, usize)
+        ensures there { (found : Flusher K V P A) → flusher < length self.now.flushers.items
+            → found ≡ slice_index_or self.now.flushers.items flusher found
+            → result ≡ (length found.sources.items, left_of found.filled) }
+        ensures beyond { length self.now.flushers.items ≤ flusher → result ≡ (0, 0) }
+    {
+        if flusher as usize >= self.flushers.len() {
+            return (0, 0);
+        }
+        let found = &self.flushers[flusher as usize];
+        (found.sources.len(), found.filled.left())
+    }
+
     /// Whether nothing is queued, received or in a batch at a flusher, as at one that isn't there.
     pub fn is_idle(&self, flusher: u32) -> bool
         ensures there { (found : Flusher K V P A) → flusher < length self.now.flushers.items

@@ -1,5 +1,5 @@
 //! What callers queue.
-ghost use Rattle.std.specs.Prelude.{◌≡◌, ◌<◌, ◌-◌, ◌^◌, ◌%◌, IsTrue, ◌↔◌, Some, true, is_some, vec_len, IfOk, OnErr};
+ghost use Rattle.std.specs.Prelude.{◌≡◌, ◌<◌, ◌-◌, ◌^◌, ◌%◌, IsTrue, ◌↔◌, Some, true, is_some, vec_len, min, IfOk, OnErr};
 ghost use Rattle.foyer_block_index.specs.Index.{address_at};
 ghost use Rattle.foyer_core_steps.specs.declared.reply.Reply.TheVariants as reply;
 ghost use Rattle.foyer_core_steps.specs.Answered.{HandsBack, DescribesNothing, Enqueues, Deleting, Marks};
@@ -65,6 +65,14 @@ impl<K, V, P, A: Allocator + Clone> Core<K, V, P, A> {
         });
         self.next = sequence + 1;
         Ok(sequence)
+    }
+
+    /// Whether so much is queued that a piece isn't taken: the sizes of the queued pieces together exceed the threshold of the
+    /// settings.
+    pub fn is_full(&self) -> bool
+        ensures { IsTrue result ↔ (self.now.settings.submit_queue_size_threshold < min self.now.queued 18446744073709551615) }
+    {
+        self.queued.min(u64::MAX as u128) > self.settings.submit_queue_size_threshold as u128
     }
 
     pub(crate) fn enqueue(&mut self, piece: PieceRef<K, V, P, A>, size: usize) -> Reply<K, V, P, A>

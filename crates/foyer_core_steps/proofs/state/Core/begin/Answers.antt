@@ -1,4 +1,4 @@
-use Rattle.std.proofs.Common.{nat_eq, option_map, refl, sym, ap, subst, arith}
+use Rattle.std.proofs.Common.{nat_eq, option_map, refl, ap, subst}
 use Rattle.std.specs.Map.{lookup}
 use Rattle.foyer_core_blocks.specs.Standing.{IsManagedAs}
 use Rattle.foyer_core_steps.specs.Opened.{opened_sets}

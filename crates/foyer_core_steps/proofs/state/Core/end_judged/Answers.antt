@@ -1,9 +1,8 @@
-use Rattle.std.proofs.Common.{ℕ, List, Bool, true, ◌≡◌, ◌<◌, ◌&&◌, ◌⊎◌, length, take, drop, Some, Ok, Err, if◌then◌else◌, slice_get, refl, ap, sym, subst, ◌∙◌, arith}
+use Rattle.std.proofs.Common.{Bool, true, ◌≡◌, ◌<◌, ◌&&◌, length, take, Some, Ok, Err, if◌then◌else◌, slice_get, refl, ap, sym, subst, ◌∙◌, arith}
 use Rattle.std.proofs.lemmas.Option.{slice_get_within}
 use Rattle.std.specs.Cmp.Derive.{both_true}
 use Rattle.foyer_device_page.specs.declared.error.ErrorKind.TheVariants as kind
 use Rattle.foyer_format_layout.specs.Page.{page_up}
-use Rattle.foyer_format_record.specs.Record as format
 use Rattle.foyer_format_record.specs.Record.{pair_of}
 use Rattle.foyer_format_record.specs.Record.Outcome.{NoRecord, Pair}
 use Rattle.foyer_core_model.specs.Reply as model_reply
@@ -19,7 +18,7 @@ use Rattle.foyer_block_manager.specs.BlockSets.{IsBlockAs}
 use Rattle.foyer_core_steps.specs.declared.reply.Reply.TheVariants as reply
 use Rattle.foyer_core_steps.specs.declared.step.Step.TheVariants as step
 use Rattle.foyer_core_steps.proofs.LoadLemmas.{judged_past, judged_now, misses, answers, refuses}
-use Rattle.foyer_core_steps.proofs.TurnLemmas.{is_early, same, refused, not_now, comes_back, comes_back_late}
+use Rattle.foyer_core_steps.proofs.TurnLemmas.{is_early, same, refused, comes_back}
 use Rattle.foyer_core_steps.proofs.state.Core.end_judged.Goals as goal
 use Rattle.foyer_core_steps.proofs.state.Core.end_judged.Goals.{then-state, else-state}
 

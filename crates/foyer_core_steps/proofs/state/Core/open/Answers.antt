@@ -1,4 +1,4 @@
-use Rattle.std.proofs.Common.{◌≡◌, ◌⊎◌, ◌+◌, ◌<◌, inl, inr, refl, sym, ap, subst, ◌∙◌, arith, [], IfOk}
+use Rattle.std.proofs.Common.{◌≡◌, ◌⊎◌, ◌+◌, ◌<◌, inl, inr, sym, ap, subst, ◌∙◌, arith, []}
 use Rattle.foyer_core_model.specs.Ids.{is_id_in, AreDistinct}
 use Rattle.foyer_block_recover.proofs.CleanLemmas.{clean_once, clean_below}
 use Rattle.foyer_block_recover.proofs.EmptyLemmas.{none_at_end}
@@ -10,7 +10,7 @@ use Rattle.foyer_block_recover.specs.declared.block.recover.RecoverRunner.{Recov
 use Rattle.foyer_device_page.specs.declared.error.Error.TheVariants as error
 use Rattle.foyer_core_laws.specs.Sizes.{sizes_in}
 use Rattle.foyer_io_disk.specs.Disk.{SurelyCame}
-use Rattle.foyer_core_steps.specs.Opened.{IsOpened, IsOpenedFrom}
+use Rattle.foyer_core_steps.specs.Opened.{IsOpenedFrom}
 use Rattle.foyer_core_steps.proofs.state.Core.open.Goals as goal
 
 pub returns-clause-unsound : goal.returns-clause-unsound
