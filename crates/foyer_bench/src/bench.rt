@@ -187,6 +187,7 @@ fn report_of<L: Kinds>(
         answers: Answers::new(),
         puts: Histogram::new(alloc)?,
         gets: Histogram::new(alloc)?,
+        opening_nanos: 0,
         nanos,
         steps: [0; 8],
     };
@@ -279,10 +280,12 @@ where
         .with_filters::<AskedAgain>(None, filter_of(alloc, &asked)?)
         .with_block_size(block_size)
         .with_load_engines(plan.engines as usize)
-        .with_flushers(u32::try_from(plan.flushers).unwrap_or(u32::MAX));
+        .with_flushers(u32::try_from(plan.flushers).unwrap_or(u32::MAX))
+        .with_recover_concurrency(plan.recoverers as usize);
     let builder = StoreBuilder::new("foyerbench", IdentityHashBuilder, 64)
         .with_engine_config(config)
         .with_io_engine_config(io_engine);
+    let begin = Instant::now(&rt)?;
     let (store, session, workers) = builder.build::<T, Moment, L, u64, Vec<u8>, NoProperties>(
         rt,
         alloc,
@@ -290,11 +293,14 @@ where
         Moment(0),
         0,
     )?;
+    let opening_nanos = nanos_since(&rt, begin);
     let marks = match &asked {
         Some(asked) => Some(&**asked),
         None => None,
     };
-    run_and_close(&rt, alloc, store, session, workers, plan, marks)
+    let mut report = run_and_close(&rt, alloc, store, session, workers, plan, marks)?;
+    report.opening_nanos = opening_nanos?;
+    Ok(report)
 }
 
 // As `bench_over`, over memory.

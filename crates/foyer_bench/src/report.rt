@@ -13,6 +13,8 @@ pub struct Report {
     pub answers: Answers,
     pub puts: Histogram,
     pub gets: Histogram,
+    /// How long the store's opening took, in nanoseconds.
+    pub opening_nanos: u64,
     /// The nanoseconds from the first call to the last one's end.
     pub nanos: u64,
     /// The steps of all sessions, in the order of the kinds.
@@ -48,13 +50,15 @@ fn print_steps<W: Write>(output: &mut W, steps: &[u64; 8]) -> io::Result<()> {
     write!(output, " entry={entry} end_miss={end_miss} other={other}\n")
 }
 
-// Rates, answers, latencies and steps, which depend on the schedule.
+// The opening's time, rates, answers, latencies and steps, which depend on the schedule.
 fn print_rates<W: Write>(output: &mut W, report: &Report) -> io::Result<()> {
     let answers = report.answers;
     let (puts, queued, dropped) = (answers.puts, answers.queued, answers.dropped);
     let (gets, hits, misses) = (answers.gets, answers.hits, answers.misses);
     let put_rate = rate(puts, report.nanos);
     let get_rate = rate(gets, report.nanos);
+    let opening = report.opening_nanos / 1_000_000;
+    write!(output, "opening: {opening} ms\n")?;
     write!(
         output,
         "puts: {put_rate} a second, {puts} in all, queued={queued} dropped={dropped}\n"
@@ -74,8 +78,8 @@ fn print_counts<W: Write>(output: &mut W, report: &Report) -> io::Result<()> {
     write!(output, "puts={puts} gets={gets}\n")
 }
 
-/// Prints what was counted: rates, latencies and steps, or counts alone where the plan has a number of calls. Then whether each
-/// call was answered well, which is the answer.
+/// Prints what was counted: the opening's time, rates, latencies and steps, or counts alone where the plan has a number of calls.
+/// Then whether each call was answered well, which is the answer.
 pub fn print<W: Write>(output: &mut W, plan: &Plan, report: &Report) -> io::Result<bool> {
     if plan.calls.is_some() {
         print_counts(output, report)?;
