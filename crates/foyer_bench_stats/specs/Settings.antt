@@ -22,6 +22,7 @@ name_of setting.Seed = codes "seed"
 name_of setting.Fill = codes "fill"
 name_of setting.Engines = codes "engines"
 name_of setting.Flushers = codes "flushers"
+name_of setting.Recoverers = codes "recoverers"
 name_of setting.Through = codes "through"
 name_of setting.Reinsert = codes "reinsert"
 
@@ -29,6 +30,7 @@ abbrev pub least_of : Setting → ℕ
 least_of setting.Keys = 1
 least_of setting.Engines = 1
 least_of setting.Flushers = 1
+least_of setting.Recoverers = 1
 least_of _ = 0
 
 abbrev pub greatest_of : Setting → ℕ
@@ -37,6 +39,7 @@ greatest_of setting.Skew = 1000
 greatest_of setting.Gets = 100
 greatest_of setting.Engines = 1024
 greatest_of setting.Flushers = 1024
+greatest_of setting.Recoverers = 1024
 greatest_of setting.Through = 1
 greatest_of setting.Reinsert = 1
 greatest_of _ = 2 ^ 64 - 1

@@ -30,6 +30,8 @@ pub struct Plan {
     pub engines: u64,
     /// How many flushers the store has.
     pub flushers: u64,
+    /// How many workers read the blocks when the store is opened.
+    pub recoverers: u64,
     /// 1 where a get that misses puts its key, else 0.
     pub through: u64,
     /// 1 where what was asked for is written again at a reclaim, else 0.
@@ -50,6 +52,7 @@ impl Plan {
             Setting::Fill => self.fill = number,
             Setting::Engines => self.engines = number,
             Setting::Flushers => self.flushers = number,
+            Setting::Recoverers => self.recoverers = number,
             Setting::Through => self.through = number,
             Setting::Reinsert => self.reinsert = number,
         }
@@ -57,8 +60,8 @@ impl Plan {
     }
 
     /// Reads the words. Of settings of one name the last counts; where none is there, 100,000 keys are asked of at a skew of 0.99,
-    /// 90 of a hundred calls are gets, the seed is 1, nothing is put before, loads read through one engine, one flusher writes, a miss
-    /// puts nothing, and nothing is written again.
+    /// 90 of a hundred calls are gets, the seed is 1, nothing is put before, loads read through one engine, one flusher writes, eight
+    /// workers read the blocks at the opening, a miss puts nothing, and nothing is written again.
     pub fn parse<A: Allocator>(words: &[String<A>]) -> Result<Plan, Refusal>
         ensures read { MatchResult result (ArePlanWords (map string_bytes words.now)) (AreRefused (map string_bytes words.now)) }
         ensures bounds { IfOk result HasBounds }
@@ -87,6 +90,7 @@ impl Plan {
             fill: 0,
             engines: 1,
             flushers: 1,
+            recoverers: 8,
             through: 0,
             reinsert: 0,
         };

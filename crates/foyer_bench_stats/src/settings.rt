@@ -13,6 +13,7 @@ pub enum Setting {
     Fill,
     Engines,
     Flushers,
+    Recoverers,
     Through,
     Reinsert,
 }
@@ -43,7 +44,7 @@ impl Refusal {
             Refusal::ValueBytes => "VALUE_BYTES is a number up to 2^30",
             Refusal::Seconds => "SECONDS is a number from 1 to 2^30",
             Refusal::Unknown =>
-                "a setting is calls=, keys=, skew=, gets=, seed=, fill=, engines=, flushers=, through= or reinsert=",
+                "a setting is calls=, keys=, skew=, gets=, seed=, fill=, engines=, flushers=, recoverers=, through= or reinsert=",
             Refusal::Number(Setting::Calls) => "calls= is a number",
             Refusal::Number(Setting::Keys) => "keys= is a number from 1 to 2^26",
             Refusal::Number(Setting::Skew) => "skew= is a number of hundredths up to 1000",
@@ -52,6 +53,7 @@ impl Refusal {
             Refusal::Number(Setting::Fill) => "fill= is a number",
             Refusal::Number(Setting::Engines) => "engines= is a number from 1 to 1024",
             Refusal::Number(Setting::Flushers) => "flushers= is a number from 1 to 1024",
+            Refusal::Number(Setting::Recoverers) => "recoverers= is a number from 1 to 1024",
             Refusal::Number(Setting::Through) => "through= is 0 or 1",
             Refusal::Number(Setting::Reinsert) => "reinsert= is 0 or 1",
         }
@@ -82,6 +84,7 @@ impl Setting {
             "fill" => Some(Setting::Fill),
             "engines" => Some(Setting::Engines),
             "flushers" => Some(Setting::Flushers),
+            "recoverers" => Some(Setting::Recoverers),
             "through" => Some(Setting::Through),
             "reinsert" => Some(Setting::Reinsert),
             _ => None,
@@ -92,7 +95,7 @@ impl Setting {
         ensures { result ≡ least_of self }
     {
         match self {
-            Setting::Keys | Setting::Engines | Setting::Flushers => 1,
+            Setting::Keys | Setting::Engines | Setting::Flushers | Setting::Recoverers => 1,
             _ => 0,
         }
     }
@@ -104,7 +107,7 @@ impl Setting {
             Setting::Keys => 1 << 26,
             Setting::Skew => 1000,
             Setting::Gets => 100,
-            Setting::Engines | Setting::Flushers => 1024,
+            Setting::Engines | Setting::Flushers | Setting::Recoverers => 1024,
             Setting::Through | Setting::Reinsert => 1,
             _ => u64::MAX,
         }

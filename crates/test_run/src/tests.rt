@@ -4,6 +4,7 @@ mod every_step;
 mod filled;
 mod flushers;
 mod hostile;
+mod line;
 mod local;
 mod random;
 mod reader;

@@ -179,6 +179,12 @@ fn counted(counts: Counts, answer: &str, newest: &str) -> Counts {
     }
 }
 
+fn say_counts(said: &mut Said, counts: Counts) {
+    said.number("newest ", counts.newest);
+    said.number(" missed ", counts.missed);
+    said.number(" others ", counts.others);
+}
+
 // The text of a key's n-th put: every third one is long. In a mix its length is up to 6,000 bytes.
 fn text_at(alloc: Global, n: u64, is_mixed: bool) -> Result<String> {
     let mut said = Said::new(alloc);
@@ -257,9 +263,63 @@ fn say_mix<N: Asked>(alloc: Global, said: &mut Said, engine: &mut N) -> Result<(
     }
     let _ = answer_to(alloc, engine, "wait", 0, "")?;
     let counts = counts_of(alloc, engine, 35, 60, 25, true)?;
-    said.number("newest ", counts.newest);
-    said.number(" missed ", counts.missed);
-    said.number(" others ", counts.others);
+    say_counts(said, counts);
+    Ok(())
+}
+
+// The keys from one number to another.
+fn keys_of(first: u64, last: u64) -> std::ops::Range<u64> {
+    first..last.saturating_add(1)
+}
+
+// The text of a key's put among many: a word and the key, and thirty hundreds of letters.
+fn text_among(alloc: Global, key: u64, word: &str) -> Result<String> {
+    let mut said = Said::new(alloc);
+    said.word(word);
+    said.number("", key);
+    said.word("*30");
+    said.text()
+}
+
+// Notes how many keys of some were put so.
+fn say_puts<N: Asked>(
+    alloc: Global,
+    said: &mut Said,
+    engine: &mut N,
+    first: u64,
+    rest: &str,
+) -> Result<()> {
+    let (last, word) = cut(rest);
+    let mut count = 0u64;
+    for key in keys_of(first, number_of(last)) {
+        let text = text_among(alloc, key, word)?;
+        let is_queued = is_answered(alloc, engine, "put", key, text.as_str(), "queued")?;
+        count = count.saturating_add(u64::from(is_queued));
+    }
+    said.number("queued ", count);
+    Ok(())
+}
+
+// Notes how many keys of some are answered by the text that was put so, are missed, and are answered otherwise.
+fn say_gets<N: Asked>(
+    alloc: Global,
+    said: &mut Said,
+    engine: &mut N,
+    first: u64,
+    rest: &str,
+) -> Result<()> {
+    let (last, word) = cut(rest);
+    let mut counts = Counts {
+        newest: 0,
+        missed: 0,
+        others: 0,
+    };
+    for key in keys_of(first, number_of(last)) {
+        let text = text_among(alloc, key, word)?;
+        let answer = answer_to(alloc, engine, "get", key, "")?;
+        counts = counted(counts, answer.as_str(), text.as_str());
+    }
+    say_counts(said, counts);
     Ok(())
 }
 
@@ -278,6 +338,8 @@ fn say_line<N: Asked>(alloc: Global, said: &mut Said, engine: &mut N, line: &str
     match word {
         "fill" => say_fill(alloc, said, engine, number_of(key)),
         "mix" => say_mix(alloc, said, engine),
+        "puts" => say_puts(alloc, said, engine, number_of(key), text),
+        "gets" => say_gets(alloc, said, engine, number_of(key), text),
         "deletes" => say_deletes(alloc, said, engine, number_of(key)),
         _ => {
             engine.say_answer(said, word, number_of(key), text);

@@ -26,13 +26,14 @@ type TextReply<A> = Reply<u64, String<A>, NoProperties, A>;
 
 type TextCore<A> = Core<u64, String<A>, NoProperties, A>;
 
-// Three records fill a block, which the second batch leaves. The long text is admitted.
+// Three records fill a block, which the second batch leaves: the block has two writes, and the one of the second batch has three,
+// since zeros are written behind its record. The long text is admitted.
 const FIRST: &str =
-    "put 1 a long text, put 2 b, put 3 c, receive, receive, receive, begin, block, wrote, wrote, end, put 4 d, receive, begin, block, block, wrote, wrote, end";
+    "put 1 a long text, put 2 b, put 3 c, receive, receive, receive, begin, block, wrote, wrote, end, put 4 d, receive, begin, block, block, wrote, wrote, wrote, end";
 
 // The block is reclaimed, and the long text written again.
 const AGAIN: &str =
-    "read 0, reclaimed 0, reclaim, read 1, forget 0, read 0, read 0, read 0, reclaimed 0, forget 0, cleaned 1, reclaimed 0, reclaimed 0, idle, receive, begin, block, wrote, wrote, end, look 1, load 0, look 2, look 4, load 1";
+    "read 0, reclaimed 0, reclaim, read 1, forget 0, read 0, read 0, read 0, reclaimed 0, forget 0, cleaned 1, reclaimed 0, reclaimed 0, idle, receive, begin, block, wrote, wrote, wrote, end, look 1, load 0, look 2, look 4, load 1";
 
 // The only flusher's moves, and those of reclaims and destroys, by a word and the number of a key, a ticket or a block.
 fn plain_move<A: Allocator>(word: &str, number: u64) -> TextMove<A> {
@@ -218,7 +219,7 @@ pub fn say_moves<R: Files + Wait + Clone + Drop>(
 const MOST_ALLOCATIONS: u64 = 2000;
 
 const BOTH: &str =
-    " -, -, -, -, -, -, -, write 0, next, committed 3, -, -, -, -, write 0, write 1, next, committed 1, -, picked 0, not now, scan 0 4096 4096, listed, clean 0, done, true, -, -, write 1, next, committed 1, -, at 8192, 1 is a long text, miss, at 4096, 4 is d,";
+    " -, -, -, -, -, -, -, write 0, next, committed 3, -, -, -, -, write 0, write 1, next, next, committed 1, -, picked 0, not now, scan 0 4096 4096, listed, clean 0, done, true, -, -, write 1, next, next, committed 1, -, at 8192, 1 is a long text, miss, at 4096, 4 is d,";
 
 // What the run of both scripts answers, whose memory comes from an allocator.
 fn say_both<R: Wait + Clone + Drop, A: Allocator + Clone>(

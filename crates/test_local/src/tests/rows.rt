@@ -94,6 +94,15 @@ fn deletes_are_kept_and_forgotten_so(rt: HostRuntime) -> std::result::Result<(),
 }
 
 #[test]
+fn an_earlier_life_leaves_nothing_behind_a_later_one(
+    rt: HostRuntime,
+) -> std::result::Result<(), Fail> {
+    let answers = rows_of(&rt, memory::LIVES)?;
+    assert!(rt; answers.as_str() == memory::LIVES, "{answers}");
+    Ok(())
+}
+
+#[test]
 fn moves_are_answered_so(rt: HostRuntime) -> std::result::Result<(), Fail> {
     let answers = rows_of(&rt, memory::MOVED)?;
     assert!(rt; answers.as_str() == memory::MOVED, "{answers}");

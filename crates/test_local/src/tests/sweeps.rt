@@ -343,60 +343,61 @@ pub fn say_sweep<R: Files + Wait + Clone + Drop>(
 }
 
 // Of each script what it is answered; and of each sweep which script it is, which accesses fail, in which life, how many bytes a failed
-// write keeps, how many fail in turn, and how many of these changed an answer. The first life of the usual script makes 35
-// accesses of the blocks, and the second one 15; eight and seven of them, in their openings, find nothing in any case. A write
-// that keeps all of its bytes may be found again. Of the log the first access is the opening's, which is refused; the usual
-// script's first life's appends but the last come before its destroy. The great script's lives write two batches and one, and
-// read four texts and two; its opening finds one block's text alone. Each append writes again what the one before it wrote, so
-// that a failed one is met where it is a life's last.
+// write keeps, how many fail in turn, and how many of these changed an answer. A batch writes its records, the zeros behind them
+// where its block has room for a page, and the index. The first life of the usual script makes 38 accesses of the blocks, and the
+// second one 16; eight and seven of them, in their openings, find nothing in any case. A write that keeps all of its bytes may be
+// found again. Of the log the first access is the opening's, which is refused; the usual script's first life's appends but the last
+// come before its destroy. The great script's lives write two batches and one, the first of which ends its block, and read four
+// texts and two; its opening finds one block's text alone. Each append writes again what the one before it wrote, so that a failed
+// one is met where it is a life's last.
 pub const SWEEPS: &str =
     "sweep usual | queued queued queued ok 101 202 303 ok ok miss queued ok queued ok 111 213 miss ok miss miss miss queued queued ok 122 223 queued ok ok miss 327 queued 122 ok / 132 miss 327 queued ok ok miss 238 327 ok / miss 238 327
 sweep great | queued queued queued ok queued 101 deleted miss 303 ok miss miss 303 queued queued deleted miss ok 214 miss ok / miss 214 miss queued queued ok queued 214 deleted miss ok / miss miss 326
 sweep reclaims | queued queued queued ok 0000000000101 202 303 ok ok miss queued queued ok 0000000000101 miss 312 queued queued ok 217 318 ok miss miss miss queued queued ok 0000000000226 327 queued ok / 131 0000000000226 327 queued queued queued ok 338 0000000000226 ok queued ok miss 243 338 ok / miss 243 338
-sweep usual blocks 0 0 40 | 27
-sweep usual blocks 1 0 20 | 8
-sweep usual blocks 0 100 40 | 26
-sweep usual blocks 1 100 20 | 8
-sweep usual blocks 0 4096 40 | 26
-sweep usual blocks 1 4096 20 | 8
+sweep usual blocks 0 0 40 | 30
+sweep usual blocks 1 0 20 | 9
+sweep usual blocks 0 100 40 | 29
+sweep usual blocks 1 100 20 | 9
+sweep usual blocks 0 4096 40 | 29
+sweep usual blocks 1 4096 20 | 9
 sweep usual log 0 0 8 | 2
 sweep usual log 1 0 4 | 2
 sweep usual log 0 16 8 | 2
 sweep usual log 1 16 4 | 2
 sweep usual log 0 4096 8 | 1
 sweep usual log 1 4096 4 | 1
-sweep great blocks 0 0 40 | 8
-sweep great blocks 1 0 30 | 5
-sweep great blocks 0 100 40 | 8
-sweep great blocks 1 100 30 | 4
-sweep great blocks 0 4096 40 | 8
-sweep great blocks 1 4096 30 | 4
+sweep great blocks 0 0 40 | 9
+sweep great blocks 1 0 30 | 6
+sweep great blocks 0 100 40 | 9
+sweep great blocks 1 100 30 | 5
+sweep great blocks 0 4096 40 | 9
+sweep great blocks 1 4096 30 | 5
 sweep great log 0 0 8 | 2
 sweep great log 1 0 4 | 2
 sweep great log 0 16 8 | 2
 sweep great log 1 16 4 | 2
 sweep great log 0 4096 8 | 1
 sweep great log 1 4096 4 | 1
-sweep reclaims blocks 0 0 60 | 31
-sweep reclaims blocks 1 0 40 | 13
-sweep reclaims blocks 0 100 60 | 30
-sweep reclaims blocks 1 100 40 | 13
-sweep reclaims blocks 0 4096 60 | 30
-sweep reclaims blocks 1 4096 40 | 13
+sweep reclaims blocks 0 0 60 | 38
+sweep reclaims blocks 1 0 40 | 14
+sweep reclaims blocks 0 100 60 | 37
+sweep reclaims blocks 1 100 40 | 14
+sweep reclaims blocks 0 4096 60 | 37
+sweep reclaims blocks 1 4096 40 | 14
 sweep reclaims log 0 0 12 | 1
 sweep reclaims log 1 0 8 | 1
 sweep reclaims log 0 16 12 | 1
 sweep reclaims log 1 16 8 | 1
-sweep reclaims stops 0 0 60 | 42
-sweep reclaims stops 1 0 40 | 23
-sweep reclaims stops 0 100 60 | 41
-sweep reclaims stops 1 100 40 | 23
-sweep reclaims stops 0 65535 60 | 41
-sweep reclaims stops 1 65535 40 | 23
+sweep reclaims stops 0 0 60 | 50
+sweep reclaims stops 1 0 40 | 24
+sweep reclaims stops 0 100 60 | 49
+sweep reclaims stops 1 100 40 | 24
+sweep reclaims stops 0 65535 60 | 49
+sweep reclaims stops 1 65535 40 | 24
 sweep again | queued ok queued queued ok queued ok 0000000000101 406 queued ok 0000000000101 510
-sweep again blocks 0 0 26 | 14
-sweep again blocks 0 100 26 | 14
-sweep again blocks 0 4096 26 | 14
+sweep again blocks 0 0 26 | 17
+sweep again blocks 0 100 26 | 17
+sweep again blocks 0 4096 26 | 17
 ";
 
 // Of each script how many allocations, up to so many, changed an answer where they were refused, and how many destroys were. Memory

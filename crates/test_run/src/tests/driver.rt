@@ -1,4 +1,5 @@
 //! A core with its disk, driven by lines.
+use crate::tests::line::{Line, line_of, parse};
 use crate::tests::reader::{bytes_of, is_record, range};
 use crate::tests::replies::{
     TestAge, TestCore, TestReply, Value, piece_of, say_brief, say_full, say_kind, text_of,
@@ -101,26 +102,6 @@ pub fn new_driver<A: Allocator + Clone>(
         kept: Vec::new(alloc),
         way,
     })
-}
-
-// A line: a word, a number, and what stands behind it, also as a number.
-#[derive(Clone, Copy)]
-struct Line<'a> {
-    word: &'a str,
-    number: u64,
-    text: &'a str,
-    len: u64,
-}
-
-fn parse(line: &str) -> Line<'_> {
-    let (word, rest) = line.split_once(' ').unwrap_or((line, ""));
-    let (first, text) = rest.split_once(' ').unwrap_or((rest, ""));
-    Line {
-        word,
-        number: first.parse::<u64>().unwrap_or(0),
-        text,
-        len: text.parse::<u64>().unwrap_or(0),
-    }
 }
 
 // The text of a put.
@@ -373,15 +354,6 @@ fn answer<A: Allocator + Clone>(
         Ok(Some(step)) => answer_step(alloc, said, driver, line.number, step),
         Ok(None) => said.word("left out"),
         Err(error) => say_kind(said, "no step ", error.kind()),
-    }
-}
-
-fn line_of(word: &str, number: u64, len: u64) -> Line<'_> {
-    Line {
-        word,
-        number,
-        text: "",
-        len,
     }
 }
 

@@ -39,6 +39,7 @@ receive: empty
 begin: began 1 1
 block: write 0
 wrote: next
+wrote: next
 wrote: committed 3
 end: ended 1 2 5 / 71 72 73 74 75
 look 1: read
@@ -52,6 +53,7 @@ receive: received
 receive: received
 begin: began 1 0
 block: write 0
+wrote: next
 wrote: next
 wrote: committed 1
 end: ended 1 / 80
@@ -72,6 +74,7 @@ receive: received
 begin: began 1 0
 block: write 0
 wrote: next
+wrote: next
 wrote: committed 1
 end: ended 1 /
 look 1: read
@@ -87,6 +90,7 @@ receive: received
 receive: empty
 begin: began 1 2
 block: write 0
+wrote: next
 wrote: next
 wrote: committed 1
 end: ended 2 /
@@ -107,6 +111,7 @@ put 2 e: queued 6
 receive: received
 begin: began 1 0
 block: write 0
+wrote: next
 wrote: next
 wrote: committed 1
 end: ended 2 /
@@ -163,24 +168,28 @@ fn script_of(sweep: Sweep) -> Script {
 }
 
 // What the script is answered at a line where a call of the disk fails: calls are counted from 1, lines from 0. After a
-// failed write of data or of an index the block's other writes are dropped, the record is missed, or the one before is
+// failed write of data, of zeros or of an index the block's other writes are dropped, the record is missed, or the one before is
 // answered, and the next batch takes another block; a failed read is issued, and the next one goes well.
 fn expected_step(call: u64, at: usize, wanted: &str) -> &str {
     match (call, at) {
         (1, 28) => "failed",
-        (1, 29) => "left out",
+        (1, 29 | 30) => "left out",
         (2, 29) => "failed",
-        (1 | 2, 31) => "miss",
-        (1 | 2, 32) => "left out",
-        (1 | 2, 34) => "no",
-        (1 | 2, 41) => "write 1",
-        (3, 32) => "refused Io",
-        (4, 42) => "failed",
-        (4, 43) => "left out",
+        (2, 30) => "left out",
+        (3, 30) => "failed",
+        (1 | 2 | 3, 32) => "miss",
+        (1 | 2 | 3, 33) => "left out",
+        (1 | 2 | 3, 35) => "no",
+        (1 | 2 | 3, 42) => "write 1",
+        (4, 33) => "refused Io",
         (5, 43) => "failed",
-        (4 | 5, 46 | 52) => "entry a",
-        (6, 46) => "refused Io",
-        (7, 52) => "refused Io",
+        (5, 44 | 45) => "left out",
+        (6, 44) => "failed",
+        (6, 45) => "left out",
+        (7, 45) => "failed",
+        (5 | 6 | 7, 48 | 54) => "entry a",
+        (8, 48) => "refused Io",
+        (9, 54) => "refused Io",
         _ => wanted,
     }
 }
@@ -189,26 +198,32 @@ fn expected_step(call: u64, at: usize, wanted: &str) -> &str {
 fn expected_drop(call: u64, at: usize, wanted: &str) -> &str {
     match (call, at) {
         (1, 4) => "failed",
-        (1, 5) => "left out",
+        (1, 5 | 6) => "left out",
         (2, 5) => "failed",
-        (1 | 2, 7) => "miss",
-        (1 | 2, 8) => "left out",
-        (1 | 2, 19 | 33 | 39) => "write 1",
-        (3, 8) => "refused Io",
-        (4, 20) => "failed",
-        (4, 21) => "left out",
+        (2, 6) => "left out",
+        (3, 6) => "failed",
+        (1 | 2 | 3, 8) => "miss",
+        (1 | 2 | 3, 9) => "left out",
+        (1 | 2 | 3, 20 | 35 | 41) => "write 1",
+        (4, 9) => "refused Io",
         (5, 21) => "failed",
-        (4 | 5, 24) => "miss",
-        (4 | 5, 25) => "left out",
-        (4 | 5, 27) => "no",
-        (4 | 5, 33 | 39) => "write 1",
-        (6, 25) => "refused Io",
-        (7, 40) => "failed",
-        (7, 41) => "left out",
-        (8, 41) => "failed",
-        (7 | 8, 43) => "miss",
-        (7 | 8, 44) => "left out",
-        (9, 44) => "refused Io",
+        (5, 22 | 23) => "left out",
+        (6, 22) => "failed",
+        (6, 23) => "left out",
+        (7, 23) => "failed",
+        (5 | 6 | 7, 26) => "miss",
+        (5 | 6 | 7, 27) => "left out",
+        (5 | 6 | 7, 29) => "no",
+        (5 | 6 | 7, 35 | 41) => "write 1",
+        (8, 27) => "refused Io",
+        (9, 42) => "failed",
+        (9, 43 | 44) => "left out",
+        (10, 43) => "failed",
+        (10, 44) => "left out",
+        (11, 44) => "failed",
+        (9 | 10 | 11, 46) => "miss",
+        (9 | 10 | 11, 47) => "left out",
+        (12, 47) => "refused Io",
         _ => wanted,
     }
 }
@@ -378,14 +393,14 @@ fn first_unexpected(alloc: Global, sweep: Sweep, calls: u64) -> Result<Option<(u
 
 #[test]
 fn each_failed_call_of_the_disk_is_reported(rt: HostRuntime) -> std::result::Result<(), Fail> {
-    let found = first_unexpected(rt.alloc(), Sweep::Steps, 7)?;
+    let found = first_unexpected(rt.alloc(), Sweep::Steps, 9)?;
     assert!(rt; found.is_none(), "{found:?}");
     Ok(())
 }
 
 #[test]
 fn each_failed_call_beside_a_drop_is_reported(rt: HostRuntime) -> std::result::Result<(), Fail> {
-    let found = first_unexpected(rt.alloc(), Sweep::Drops, 9)?;
+    let found = first_unexpected(rt.alloc(), Sweep::Drops, 12)?;
     assert!(rt; found.is_none(), "{found:?}");
     Ok(())
 }

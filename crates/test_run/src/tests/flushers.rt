@@ -7,7 +7,8 @@ use foyer_testing::refusing::Refusing;
 use std::alloc::Global;
 use std::test::Fail;
 
-// Even keys go to the first flusher, the others to the second.
+// Even keys go to the first flusher, the others to the second. The last two parts end their blocks, so that no zeros are written
+// behind them; behind a fault they stand in blocks of their own, where the third report is of their indices.
 const SCRIPT: &str = "put 2 3072: queued 1
 put 3 1: queued 2
 put 4 7168: queued 3
@@ -28,8 +29,9 @@ receive 0: empty
 begin 0: began 3 0
 begin 1: began 1 0
 block 0: write 0, data 4096 12288, index 0 4096
-block 1: write 1, data 4096 8192, index 0 4096
+block 1: write 1, data 4096 8192, zeros 12288 4096, index 0 4096
 wrote 0: next
+wrote 1: next
 wrote 1: next
 wrote 1: committed 2
 wrote 0: committed 2
@@ -41,10 +43,12 @@ receive 1: received
 begin 1: began 2 1
 block 0: write 2, data 4096 12288, index 0 4096
 block 1: write 1
-block 1: write 3, data 4096 8192, index 0 4096
+block 1: write 3, data 4096 8192, zeros 12288 4096, index 0 4096
 wrote 0: next
 wrote 0: committed 2
-block 0: write 4, data 4096 8192, index 0 4096
+block 0: write 4, data 4096 8192, zeros 12288 4096, index 0 4096
+wrote 0: next
+wrote 1: next
 wrote 0: next
 wrote 1: next
 wrote 0: committed 1
@@ -69,8 +73,10 @@ block 0: write 4, data 12288 4096, index 0 4096
 block 1: write 3, data 12288 4096, index 0 4096
 wrote 0: next
 wrote 0: committed 1
+wrote 0: left out
 wrote 1: next
 wrote 1: committed 1
+wrote 1: left out
 end 0: ended 22 /
 end 1: ended 23 /
 get 22: read 4 12288 92, entry 22 40
@@ -78,8 +84,8 @@ get 23: read 3 12288 102, entry 23 50
 get 5: read 1 8192 53, entry 5 1
 ";
 
-// The calls of the disk in the script: 7 parts of two writes each, and 10 reads.
-const CALLS: u64 = 24;
+// The calls of the disk in the script: 7 parts of two writes each, zeros behind the 3 that don't end their blocks, and 10 reads.
+const CALLS: u64 = 27;
 
 // More allocations than the script makes.
 const MOST_ALLOCATIONS: u64 = 4000;

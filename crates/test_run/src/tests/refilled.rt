@@ -11,7 +11,8 @@ put 30 3072: queued 2
 receive 0: received
 receive 0: received
 begin 0: began 1 0
-block 0: write 0, data 4096 8192, index 0 4096
+block 0: write 0, data 4096 8192, zeros 12288 4096, index 0 4096
+wrote 0: next
 wrote 0: next
 wrote 0: committed 2
 end 0: ended 1 30 /
@@ -24,7 +25,8 @@ begin 0: began 2 0
 block 0: write 0
 block 0: no block
 reclaim: done
-block 0: write 0, data 4096 8192, index 0 4096
+block 0: write 0, data 4096 8192, zeros 12288 4096, index 0 4096
+wrote 0: next
 wrote 0: next
 wrote 0: committed 1
 end 0: ended 3 /

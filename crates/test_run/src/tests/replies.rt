@@ -182,6 +182,7 @@ fn say_read(said: &mut Said, address: &EntryAddress) {
 fn word_of_write<A: Allocator>(bytes: &WriteBytes<A>) -> &'static str {
     match bytes {
         WriteBytes::Data(_) => ", data",
+        WriteBytes::Zeros => ", zeros",
         WriteBytes::Index(_) => ", index",
     }
 }

@@ -19,12 +19,13 @@ type TestMove<A> = Move<u64, Value<A>, TestAge, A>;
 // and the key are 52 bytes of it. With a short buffer it has three pages. With no queue, no piece is taken while one byte is
 // queued.
 //
-// Three records fill a block of four pages: the fourth is indexed with the second block, and not with the first. Where the
+// Three records fill a block of four pages: the fourth is indexed with the second block, and not with the first. Behind the
+// records of a block that isn't full a page of zeros is written, ahead of the index: so such a block has three writes. Where the
 // write to the only block fails, no other is clean, and the flusher waits. An older text isn't answered in the place of a
 // piece that was dropped or handed back.
 const CASES: &str = "a delete hides an older put
-1 0 plain: put 7 a, delete 7, receive 0, receive 0, begin 0, block 0, wrote 0, wrote 0, end 0, look 7, ask 7
-= queued, deleted, received, received, began, write, next, committed, ended, miss, no
+1 0 plain: put 7 a, delete 7, receive 0, receive 0, begin 0, block 0, wrote 0, wrote 0, wrote 0, end 0, look 7, ask 7
+= queued, deleted, received, received, began, write, next, next, committed, ended, miss, no
 a batch ends behind the log
 1 0 log: logged 0, delete 7, receive 0, begin 0, block 0, wrote 0, end 0, logged 1, logged 0, unlogged 0, end 0
 = not now, deleted, received, began, write, not now, not now, done, not now, ended
@@ -44,20 +45,20 @@ what no block holds is handed back
 2 0 pages: long 1 4045, long 2 4044, receive 0, receive 0, begin 0, block 0, wrote 0, wrote 0, ask 1, ask 2
 = queued, queued, handed back, received, began, write, next, committed, no, yes
 a piece too many deletes its hash
-2 0 unqueued: put 1 a, receive 0, begin 0, block 0, wrote 0, wrote 0, end 0, put 2 b, put 1 c, look 1, ask 1, young 2 d, receive 0, receive 0, receive 0, begin 0, block 0, wrote 0, wrote 0, end 0, look 1, look 2, read 0
-= queued, received, began, write, next, committed, ended, queued, dropped, miss, no, ignored, received, received, empty, began, write, next, committed, ended, miss, read, entry b
+2 0 unqueued: put 1 a, receive 0, begin 0, block 0, wrote 0, wrote 0, wrote 0, end 0, put 2 b, put 1 c, look 1, ask 1, young 2 d, receive 0, receive 0, receive 0, begin 0, block 0, wrote 0, wrote 0, wrote 0, end 0, look 1, look 2, read 0
+= queued, received, began, write, next, next, committed, ended, queued, dropped, miss, no, ignored, received, received, empty, began, write, next, next, committed, ended, miss, read, entry b
 a piece that is handed back deletes its hash
 2 0 pages: put 3 a, receive 0, begin 0, block 0, wrote 0, wrote 0, end 0, long 3 4045, ask 3, receive 0, ask 3, look 3, begin 0, block 0, end 0, look 3, ask 3
 = queued, received, began, write, next, committed, ended, queued, yes, handed back, no, miss, began, write, ended, miss, no
 a full block is left for the next within a batch
-2 0 plain: put 1 a, put 2 b, put 3 c, put 4 d, receive 0, receive 0, receive 0, receive 0, begin 0, block 0, block 0, wrote 0, ask 1, wrote 0, ask 3, ask 4, end 0, block 0, wrote 0, ask 4, end 0, wrote 0, end 0, look 4, read 0, look 3, read 1
-= queued, queued, queued, queued, received, received, received, received, began, write, not now, next, no, committed, yes, no, not now, write, next, no, not now, committed, ended, read, entry d, read, entry c
+2 0 plain: put 1 a, put 2 b, put 3 c, put 4 d, receive 0, receive 0, receive 0, receive 0, begin 0, block 0, block 0, wrote 0, ask 1, wrote 0, ask 3, ask 4, end 0, block 0, wrote 0, ask 4, end 0, wrote 0, ask 4, end 0, wrote 0, end 0, look 4, read 0, look 3, read 1
+= queued, queued, queued, queued, received, received, received, received, began, write, not now, next, no, committed, yes, no, not now, write, next, no, not now, next, no, not now, committed, ended, read, entry d, read, entry c
 where no block is clean the flusher waits
 1 1 plain: put 1 a, receive 0, begin 0, block 0, wrote 0, end 0, put 1 b, receive 0, begin 0, block 0, end 0, block 0
 = queued, received, began, write, failed, ended, queued, received, began, no block, not now, no block
 texts are run from an opening
-1 0 texts: put 1 a, receive 0, begin 0, block 0, wrote 0, wrote 0, end 0, look 1, read 0, read 0, wrote 0
-= queued, received, began, write, next, committed, ended, read, entry a
+1 0 texts: put 1 a, receive 0, begin 0, block 0, wrote 0, wrote 0, wrote 0, end 0, look 1, read 0, read 0, wrote 0
+= queued, received, began, write, next, next, committed, ended, read, entry a
 ";
 
 // A script, the call of its disk that fails, and the settings.
@@ -264,36 +265,40 @@ fn each_script_is_answered_so(rt: HostRuntime) -> std::result::Result<(), Fail> 
 }
 
 // Two puts with their flushes and loads. Of a load's reads those that weren't issued, or are done, are passed over, and so
-// is a write behind one that failed. The calls of the disk are of each flush the data and the index, and its load; then a
-// load of the first.
+// is a write behind one that failed. The calls of the disk are of each flush the data, the zeros behind them and the index, and
+// its load; then a load of the first.
 const LIFE: &str =
-    "put 1 a, receive 0, begin 0, block 0, wrote 0, wrote 0, end 0, look 1, read 0, put 2 b, receive 0, begin 0, block 0, wrote 0, wrote 0, end 0, look 2, read 0, read 1, look 1, read 0, read 1, read 2";
+    "put 1 a, receive 0, begin 0, block 0, wrote 0, wrote 0, wrote 0, end 0, look 1, read 0, put 2 b, receive 0, begin 0, block 0, wrote 0, wrote 0, wrote 0, end 0, look 2, read 0, read 1, look 1, read 0, read 1, read 2";
 
 // What that life is answered where this call fails, from 1.
 const LIVES: &str =
-    "call 0: queued, received, began, write, next, committed, ended, read, entry a, queued, received, began, write, next, committed, ended, read, entry b, read, entry a
-call 1: queued, received, began, write, failed, ended, miss, queued, received, began, write, next, committed, ended, read, entry b, miss
-call 2: queued, received, began, write, next, failed, ended, miss, queued, received, began, write, next, committed, ended, read, entry b, miss
-call 3: queued, received, began, write, next, committed, ended, read, refused, queued, received, began, write, next, committed, ended, read, entry b, read, entry a
-call 4: queued, received, began, write, next, committed, ended, read, entry a, queued, received, began, write, failed, ended, miss, read, entry a
-call 5: queued, received, began, write, next, committed, ended, read, entry a, queued, received, began, write, next, failed, ended, miss, read, entry a
-call 6: queued, received, began, write, next, committed, ended, read, entry a, queued, received, began, write, next, committed, ended, read, refused, read, entry a
-call 7: queued, received, began, write, next, committed, ended, read, entry a, queued, received, began, write, next, committed, ended, read, entry b, read, refused
+    "call 0: queued, received, began, write, next, next, committed, ended, read, entry a, queued, received, began, write, next, next, committed, ended, read, entry b, read, entry a
+call 1: queued, received, began, write, failed, ended, miss, queued, received, began, write, next, next, committed, ended, read, entry b, miss
+call 2: queued, received, began, write, next, failed, ended, miss, queued, received, began, write, next, next, committed, ended, read, entry b, miss
+call 3: queued, received, began, write, next, next, failed, ended, miss, queued, received, began, write, next, next, committed, ended, read, entry b, miss
+call 4: queued, received, began, write, next, next, committed, ended, read, refused, queued, received, began, write, next, next, committed, ended, read, entry b, read, entry a
+call 5: queued, received, began, write, next, next, committed, ended, read, entry a, queued, received, began, write, failed, ended, miss, read, entry a
+call 6: queued, received, began, write, next, next, committed, ended, read, entry a, queued, received, began, write, next, failed, ended, miss, read, entry a
+call 7: queued, received, began, write, next, next, committed, ended, read, entry a, queued, received, began, write, next, next, failed, ended, miss, read, entry a
+call 8: queued, received, began, write, next, next, committed, ended, read, entry a, queued, received, began, write, next, next, committed, ended, read, refused, read, entry a
+call 9: queued, received, began, write, next, next, committed, ended, read, entry a, queued, received, began, write, next, next, committed, ended, read, entry b, read, refused
 ";
 
 // A piece that is dropped over a record of its hash, and then one that is handed back over a record of its own. The calls of
-// the disk are of each flush the data and the index, and a load of the second.
+// the disk are of each flush the data, the zeros behind them and the index, and a load of the second.
 const DROPS: &str =
-    "put 1 a, receive 0, begin 0, block 0, wrote 0, wrote 0, end 0, put 2 b, put 1 c, look 1, ask 1, receive 0, receive 0, begin 0, block 0, wrote 0, wrote 0, end 0, look 2, read 0, long 2 12300, ask 2, receive 0, ask 2, look 2, begin 0, block 0, end 0, look 1, look 2";
+    "put 1 a, receive 0, begin 0, block 0, wrote 0, wrote 0, wrote 0, end 0, put 2 b, put 1 c, look 1, ask 1, receive 0, receive 0, begin 0, block 0, wrote 0, wrote 0, wrote 0, end 0, look 2, read 0, long 2 12300, ask 2, receive 0, ask 2, look 2, begin 0, block 0, end 0, look 1, look 2";
 
 // What that life is answered where this call fails, from 1.
 const DROPPED: &str =
-    "call 0: queued, received, began, write, next, committed, ended, queued, dropped, miss, no, received, received, began, write, next, committed, ended, read, entry b, queued, yes, handed back, no, miss, began, write, ended, miss, miss
-call 1: queued, received, began, write, failed, ended, queued, dropped, miss, no, received, received, began, write, next, committed, ended, read, entry b, queued, yes, handed back, no, miss, began, write, ended, miss, miss
-call 2: queued, received, began, write, next, failed, ended, queued, dropped, miss, no, received, received, began, write, next, committed, ended, read, entry b, queued, yes, handed back, no, miss, began, write, ended, miss, miss
-call 3: queued, received, began, write, next, committed, ended, queued, dropped, miss, no, received, received, began, write, failed, ended, miss, queued, no, handed back, no, miss, began, write, ended, miss, miss
-call 4: queued, received, began, write, next, committed, ended, queued, dropped, miss, no, received, received, began, write, next, failed, ended, miss, queued, no, handed back, no, miss, began, write, ended, miss, miss
-call 5: queued, received, began, write, next, committed, ended, queued, dropped, miss, no, received, received, began, write, next, committed, ended, read, refused, queued, yes, handed back, no, miss, began, write, ended, miss, miss
+    "call 0: queued, received, began, write, next, next, committed, ended, queued, dropped, miss, no, received, received, began, write, next, next, committed, ended, read, entry b, queued, yes, handed back, no, miss, began, write, ended, miss, miss
+call 1: queued, received, began, write, failed, ended, queued, dropped, miss, no, received, received, began, write, next, next, committed, ended, read, entry b, queued, yes, handed back, no, miss, began, write, ended, miss, miss
+call 2: queued, received, began, write, next, failed, ended, queued, dropped, miss, no, received, received, began, write, next, next, committed, ended, read, entry b, queued, yes, handed back, no, miss, began, write, ended, miss, miss
+call 3: queued, received, began, write, next, next, failed, ended, queued, dropped, miss, no, received, received, began, write, next, next, committed, ended, read, entry b, queued, yes, handed back, no, miss, began, write, ended, miss, miss
+call 4: queued, received, began, write, next, next, committed, ended, queued, dropped, miss, no, received, received, began, write, failed, ended, miss, queued, no, handed back, no, miss, began, write, ended, miss, miss
+call 5: queued, received, began, write, next, next, committed, ended, queued, dropped, miss, no, received, received, began, write, next, failed, ended, miss, queued, no, handed back, no, miss, began, write, ended, miss, miss
+call 6: queued, received, began, write, next, next, committed, ended, queued, dropped, miss, no, received, received, began, write, next, next, failed, ended, miss, queued, no, handed back, no, miss, began, write, ended, miss, miss
+call 7: queued, received, began, write, next, next, committed, ended, queued, dropped, miss, no, received, received, began, write, next, next, committed, ended, read, refused, queued, yes, handed back, no, miss, began, write, ended, miss, miss
 ";
 
 // What a script is answered over two blocks for each call that fails, up to the last one.
@@ -316,7 +321,7 @@ fn lives(alloc: Global, script: &str, word: &str, last: u64) -> Result<String> {
 
 #[test]
 fn each_failed_call_of_the_disk_is_reported(rt: HostRuntime) -> std::result::Result<(), Fail> {
-    let answers = lives(rt.alloc(), LIFE, "plain", 7)?;
+    let answers = lives(rt.alloc(), LIFE, "plain", 9)?;
     assert!(rt; answers.as_str() == LIVES, "{answers}");
     Ok(())
 }
@@ -325,7 +330,7 @@ fn each_failed_call_of_the_disk_is_reported(rt: HostRuntime) -> std::result::Res
 fn a_dropped_piece_stays_dropped_where_a_call_of_the_disk_fails(
     rt: HostRuntime,
 ) -> std::result::Result<(), Fail> {
-    let answers = lives(rt.alloc(), DROPS, "unqueued", 5)?;
+    let answers = lives(rt.alloc(), DROPS, "unqueued", 7)?;
     assert!(rt; answers.as_str() == DROPPED, "{answers}");
     Ok(())
 }

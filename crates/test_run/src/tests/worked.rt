@@ -19,7 +19,8 @@ receive 0: handed back
 receive 0: received
 receive 0: empty
 begin 0: began 1 1
-block 0: write 0, data 4096 8192, index 0 4096
+block 0: write 0, data 4096 8192, zeros 12288 4096, index 0 4096
+wrote 0: next
 wrote 0: next
 wrote 0: committed 2
 end 0: ended 1 3 /
@@ -33,10 +34,12 @@ begin 0: began 3 0
 block 0: write 0, data 12288 4096, index 0 4096
 wrote 0: next
 wrote 0: committed 1
-block 0: write 1, data 4096 8192, index 0 4096
+block 0: write 1, data 4096 8192, zeros 12288 4096, index 0 4096
+wrote 0: next
 wrote 0: next
 wrote 0: committed 1
-block 0: write 2, data 4096 8192, index 0 4096
+block 0: write 2, data 4096 8192, zeros 12288 4096, index 0 4096
+wrote 0: next
 wrote 0: next
 wrote 0: committed 1
 end 0: ended 4 5 6 /
@@ -44,7 +47,8 @@ put 7 7168: queued 7
 receive 0: received
 begin 0: began 2 0
 block 0: write 2
-block 0: write 3, data 4096 8192, index 0 4096
+block 0: write 3, data 4096 8192, zeros 12288 4096, index 0 4096
+wrote 0: next
 wrote 0: next
 wrote 0: committed 1
 end 0: ended 7 /
@@ -92,8 +96,9 @@ begin 0: began 2 0
 block 0: write 0, data 4096 12288, index 0 4096
 wrote 0: next
 wrote 0: committed 2
-block 0: write 1, data 4096 8192, index 0 4096
+block 0: write 1, data 4096 8192, zeros 12288 4096, index 0 4096
 wrote 0: failed
+wrote 0: left out
 wrote 0: left out
 block 0: not now
 end 0: ended 1 2 3 /
@@ -105,7 +110,8 @@ look 3: miss
 put 3 3072: queued 4
 receive 0: received
 begin 0: began 1 0
-block 0: write 2, data 4096 4096, index 0 4096
+block 0: write 2, data 4096 4096, zeros 8192 4096, index 0 4096
+wrote 0: next
 wrote 0: next
 wrote 0: committed 1
 end 0: ended 3 /
@@ -136,7 +142,8 @@ fn a_block_whose_write_failed_is_not_written_again(
 const FIRST: &str = "put 1 1: queued 1
 receive 0: received
 begin 0: began 1 0
-block 0: write 0, data 4096 4096, index 0 4096
+block 0: write 0, data 4096 4096, zeros 8192 4096, index 0 4096
+wrote 0: next
 wrote 0: next
 wrote 0: committed 1
 end 0: ended 1 /
@@ -189,16 +196,19 @@ begin 0: began 1 0
 block 0
 wrote 0
 wrote 0
+wrote 0
 end 0
 ask 169: yes
 fill 170 2 1182
 begin 0: began 2 0
-block 0: write 0, data 696320 4096, index 0 4096
+block 0: write 0, data 696320 4096, zeros 700416 4096, index 0 4096
 wrote 0
 wrote 0
 wrote 0
 wrote 0
-block 0: write 1, data 4096 4096, index 0 4096
+wrote 0
+block 0: write 1, data 4096 4096, zeros 8192 4096, index 0 4096
+wrote 0
 wrote 0
 wrote 0
 end 0
@@ -211,16 +221,19 @@ begin 0: began 1 0
 block 0
 wrote 0
 wrote 0
+wrote 0
 end 0
 ask 169: yes
 fill 170 2 1182
 begin 0: began 1 0
-block 0: write 0, data 696320 4096, index 0 4096, data 704512 4096, index 700416 4096
+block 0: write 0, data 696320 4096, zeros 700416 4096, index 0 4096, data 704512 4096, index 700416 4096
+wrote 0
 wrote 0
 wrote 0
 wrote 0
 wrote 0
 block 0: not now
+wrote 0
 wrote 0
 wrote 0
 end 0
@@ -231,19 +244,22 @@ ask 171: yes
 // Three blocks of 342 pages.
 const LARGE: &str = "fill 1 850 3072
 begin 0: began 3 0
-block 0: write 0, data 4096 696320, index 0 4096, data 704512 696320, index 700416 4096
+block 0: write 0, data 4096 696320, zeros 700416 4096, index 0 4096, data 704512 696320, index 700416 4096
 wrote 0
-wrote 0
-wrote 0
-wrote 0
-ask 1: yes
-block 0: write 1, data 4096 696320, index 0 4096, data 704512 696320, index 700416 4096
 wrote 0
 wrote 0
 wrote 0
 wrote 0
 ask 1: yes
-block 0: write 2, data 4096 696320, index 0 4096
+block 0: write 1, data 4096 696320, zeros 700416 4096, index 0 4096, data 704512 696320, index 700416 4096
+wrote 0
+wrote 0
+wrote 0
+wrote 0
+wrote 0
+ask 1: yes
+block 0: write 2, data 4096 696320, zeros 700416 4096, index 0 4096
+wrote 0
 wrote 0
 wrote 0
 wrote 0

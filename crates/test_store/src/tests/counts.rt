@@ -12,27 +12,28 @@ nothing < force 1 a, put 1 b, get 1, del 1, counts puts, counts loads, counts ba
 loads are counted by where the value was, another key's entry is a miss, and a failed read is nothing of these
 holds flush < force 1 a, reached, get 1, get 2, counts loads, held, open, wait, get 1, get 1+, counts loads | queued, yes, piece a, miss, kept 1 read 0 missed 1 throttled 0, yes, open, ok, entry a, miss, kept 1 read 1 missed 2 throttled 0
 reads 1 < put 1 a, wait, get 1, counts loads | queued, ok, throttled, kept 0 read 0 missed 0 throttled 1
-fails 3, opens none < put 1 a, wait, get 1, get 1, get 1, get 1, counts loads | queued, ok, entry a, entry a, fault Io, entry a, kept 0 read 3 missed 0 throttled 0
+fails 4, opens none < put 1 a, wait, get 1, get 1, get 1, get 1, get 1, counts loads | queued, ok, entry a, entry a, entry a, fault Io, entry a, kept 0 read 4 missed 0 throttled 0
 a wait alone is a batch of each flusher, and a put that is held is one
 wait, wait, wait, counts batches | ok, ok, ok, batches 3
 flushers 3 < wait, counts batches | ok, batches 3
 holds flush < put 1 a, reached, counts batches, held, open | queued, yes, batches 1, yes, open
-a block of which a write failed is counted, and so is a call that failed
+a block of which a write failed is counted, and so is a call that failed: of a record, of the zeros behind it, and of its index
 fails 1, opens none < put 1 a, wait, get 1, counts blocks, counts written | queued, ok, miss, failed 1 reclaimed 0 again 0, wrote 4096 in 1
 fails 2, opens none < put 1 a, wait, get 1, counts blocks, counts written | queued, ok, miss, failed 1 reclaimed 0 again 0, wrote 8192 in 2
-a reclaim reads an index, and cleans a page
-blocks 1, clean 0 < put 1 a, wait, put 2 b, wait, put 3 c, wait, counts blocks, counts written, counts read, put 4 d, wait, counts blocks, counts written, counts read | queued, ok, queued, ok, queued, ok, failed 0 reclaimed 0 again 0, wrote 24576 in 6, read 4096 in 1, queued, ok, failed 0 reclaimed 1 again 0, wrote 36864 in 9, read 8192 in 2
+fails 3, opens none < put 1 a, wait, get 1, counts blocks, counts written | queued, ok, miss, failed 1 reclaimed 0 again 0, wrote 12288 in 3
+a reclaim reads an index, and cleans a page; no zeros are written behind the record that ends the block
+blocks 1, clean 0 < put 1 a, wait, put 2 b, wait, put 3 c, wait, counts blocks, counts written, counts read, put 4 d, wait, counts blocks, counts written, counts read | queued, ok, queued, ok, queued, ok, failed 0 reclaimed 0 again 0, wrote 32768 in 8, read 4096 in 1, queued, ok, failed 0 reclaimed 1 again 0, wrote 49152 in 12, read 8192 in 2
 and a record that is written again, which is counted then
 blocks 3, clean 0, again < put 1 aaaaaaaa, put 2 b, put 3 c, wait, put 4 d, put 5 e, put 6 f, wait, put 7 g, put 8 h, put 9 i, wait, counts read, put 10 j, wait, wait, counts blocks, counts read | queued, queued, queued, ok, queued, queued, queued, ok, queued, queued, queued, ok, read 12288 in 3, queued, ok, ok, failed 0 reclaimed 1 again 1, read 20480 in 5
 bytes and calls are those of an opening, of puts, loads and destroys
-counts written, put 1 a, wait, counts written, counts read, get 1, get 2, counts read, destroy, counts written, counts read | wrote 0 in 0, queued, ok, wrote 8192 in 2, read 16384 in 4, entry a, miss, read 20480 in 5, ok, wrote 24576 in 6, read 20480 in 5
+counts written, put 1 a, wait, counts written, counts read, get 1, get 2, counts read, destroy, counts written, counts read | wrote 0 in 0, queued, ok, wrote 12288 in 3, read 16384 in 4, entry a, miss, read 20480 in 5, ok, wrote 28672 in 7, read 20480 in 5
 opens none < counts read | read 0 in 0
 and of a log, which writes a page where there are marks, as a destroy has one
-log < counts written, counts read, del 1, wait, counts written, del 2, wait, wait, counts written, put 1 a, wait, counts written, counts read | wrote 0 in 0, read 20480 in 5, ok, ok, wrote 4096 in 1, ok, ok, ok, wrote 8192 in 2, queued, ok, wrote 16384 in 4, read 20480 in 5
+log < counts written, counts read, del 1, wait, counts written, del 2, wait, wait, counts written, put 1 a, wait, counts written, counts read | wrote 0 in 0, read 20480 in 5, ok, ok, wrote 4096 in 1, ok, ok, ok, wrote 8192 in 2, queued, ok, wrote 20480 in 5, read 20480 in 5
 rejects, log < put 1 a, wait, counts written | deleted, ok, wrote 4096 in 1
-log, blocks 2 < put 1 a, wait, destroy, counts written, counts read / counts read | queued, ok, ok, wrote 20480 in 5, read 12288 in 3 / read 12288 in 3
+log, blocks 2 < put 1 a, wait, destroy, counts written, counts read / counts read | queued, ok, ok, wrote 24576 in 6, read 12288 in 3 / read 12288 in 3
 calls are counted as limits count them
-per 1024, opens none < fill 1 5000, wait, counts written, get 1, counts read | queued, ok, wrote 12288 in 12, entry of 5000, read 8192 in 8
+per 1024, opens none < fill 1 5000, wait, counts written, get 1, counts read | queued, ok, wrote 16384 in 16, entry of 5000, read 8192 in 8
 ";
 
 #[test]

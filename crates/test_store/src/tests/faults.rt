@@ -31,8 +31,8 @@ struct Script<'a> {
     gone: [&'a str; 2],
 }
 
-// An opening reads four blocks, the gets two records, the destroy cleans four blocks; a flusher writes twice for each put. What
-// was deleted is gone, whatever fails, until the store is built again; what was destroyed is found then only where a clean
+// An opening reads four blocks, the gets two records, the destroy cleans four blocks; a flusher writes three times for each
+// put, its record, the zeros behind it and its index. What was deleted is gone, whatever fails, until the store is built again; what was destroyed is found then only where a clean
 // failed.
 const DELETES: Script<'static> = Script {
     accesses: 12,
@@ -45,7 +45,7 @@ const DELETES: Script<'static> = Script {
 // Three blocks, two flushers and a log: a block is reclaimed, whose long text is written again. Where a batch fails an older text
 // may be found, if it wasn't deleted; a log that can't be read refuses the store.
 const RECLAIMS: Script<'static> = Script {
-    accesses: 16,
+    accesses: 20,
     lines: ", blocks 3, flushers 2, log, again < put 1 aaaaaaaa, put 2 b, put 3 c, wait, get 1, get 2, del 2, wait, get 2, put 3 d, put 3 e, wait, get 1, get 3, put 5 f, wait, get 5, get 2, destroy, get 1, get 3, get 5, put 7 g, wait, get 7, close / fails 0 < get 1, get 2, get 3, get 5, get 7, put 8 h, wait, get 8",
     may_answer: "queued, queued, queued, ok, entry aaaaaaaa|miss|fault Io, entry b|miss|fault Io, ok, ok, miss, queued, queued, ok, entry aaaaaaaa|miss|fault Io, entry e|entry d|entry c|miss|fault Io, queued, ok, entry f|miss|fault Io, miss, ok|fault Io, miss, miss, miss, queued, ok, entry g|miss|fault Io, ok / entry aaaaaaaa|ok / miss, entry b|miss, entry e|entry d|entry c|miss, entry f|miss, entry g|miss, queued, ok, entry h",
     destroyed: ", ok, miss, miss, miss, queued, ok, ",

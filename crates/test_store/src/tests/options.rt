@@ -6,8 +6,8 @@ use std::test::Fail;
 // until so many began.
 const SIZES: &str =
     "the pages of an index are taken from its block, each batch writes them, and an opening reads them of each block
-put 1 a, wait, counts written, get 1, counts read | queued, ok, wrote 8192 in 2, entry a, read 20480 in 5
-index 8192 < put 1 a, wait, counts written, get 1, counts read | queued, ok, wrote 12288 in 2, entry a, read 36864 in 5
+put 1 a, wait, counts written, get 1, counts read | queued, ok, wrote 12288 in 3, entry a, read 20480 in 5
+index 8192 < put 1 a, wait, counts written, get 1, counts read | queued, ok, wrote 16384 in 3, entry a, read 36864 in 5
 blocks 2, clean 0 < put 1 a, put 2 b, put 3 c, put 4 d, put 5 e, wait, get 1, get 2, get 3, get 4, get 5 | queued, queued, queued, queued, queued, ok, entry a, entry b, entry c, entry d, entry e
 index 8192, blocks 2, clean 0 < put 1 a, put 2 b, put 3 c, put 4 d, put 5 e, wait, get 1, get 2, get 3, get 4, get 5 | queued, queued, queued, queued, queued, ok, miss, miss, entry c, entry d, entry e
 index 16384 < enabled | refused Config
@@ -60,8 +60,8 @@ a block of which five of six pages are invalid goes before it by ratio, and not 
 blocks 3, pages 6, clean 0 < put 1 x, put 2 x, put 3 x, put 4 x, put 5 x, put 6 x, put 7 x, put 8 x, put 9 x, put 10 x, wait, del 6, del 7, del 8, del 9, del 10, wait, put 11 x, put 12 x, put 13 x, put 14 x, put 15 x, put 16 x, wait, get 1, get 11, get 16 | queued, queued, queued, queued, queued, queued, queued, queued, queued, queued, ok, ok, ok, ok, ok, ok, ok, queued, queued, queued, queued, queued, queued, ok, entry x, entry x, entry x
 picks ratio, blocks 3, pages 6, clean 0 < put 1 x, put 2 x, put 3 x, put 4 x, put 5 x, put 6 x, put 7 x, put 8 x, put 9 x, put 10 x, wait, del 6, del 7, del 8, del 9, del 10, wait, put 11 x, put 12 x, put 13 x, put 14 x, put 15 x, put 16 x, wait, get 1, get 11, get 16 | queued, queued, queued, queued, queued, queued, queued, queued, queued, queued, ok, ok, ok, ok, ok, ok, ok, queued, queued, queued, queued, queued, queued, ok, entry x, entry x, entry x
 picks fifo, blocks 3, pages 6, clean 0 < put 1 x, put 2 x, put 3 x, put 4 x, put 5 x, put 6 x, put 7 x, put 8 x, put 9 x, put 10 x, wait, del 6, del 7, del 8, del 9, del 10, wait, put 11 x, put 12 x, put 13 x, put 14 x, put 15 x, put 16 x, wait, get 1, get 11, get 16 | queued, queued, queued, queued, queued, queued, queued, queued, queued, queued, ok, ok, ok, ok, ok, ok, ok, queued, queued, queued, queued, queued, queued, ok, miss, entry x, entry x
-a picker of a caller's, here of block 1, in a box and by its own type; and a condition of a caller's, of odd hashes
-picks boxed, blocks 3, clean 0 < put 1 x, put 2 x, put 3 x, put 4 x, put 5 x, put 6 x, put 7 x, put 8 x, put 9 x, wait, put 10 x, wait, get 1, get 4, get 7, get 10 | queued, queued, queued, queued, queued, queued, queued, queued, queued, ok, queued, ok, entry x, miss, entry x, entry x
+a picker of a caller's, here of block 1, and a condition of a caller's, of odd hashes, both in boxes and by their own types
+picks boxed, blocks 3, clean 0 < put 1 x, put 3 x, put 5 x, put 7 x, put 9 x, put 11 x, put 13 x, put 15 x, put 17 x, put 2 x, wait, put 19 x, wait, get 1, get 7, get 13, get 19, get 2, counts puts | queued, queued, queued, queued, queued, queued, queued, queued, queued, deleted, ok, queued, ok, entry x, miss, entry x, entry x, miss, queued 10 ignored 0 dropped 0 rejected 1 returned 0 deletes 0
 picks own, blocks 3, clean 0 < put 1 x, put 3 x, put 5 x, put 7 x, put 9 x, put 11 x, put 13 x, put 15 x, put 17 x, put 2 x, wait, put 19 x, wait, get 1, get 7, get 13, get 19, get 2, counts puts | queued, queued, queued, queued, queued, queued, queued, queued, queued, deleted, ok, queued, ok, entry x, miss, entry x, entry x, miss, queued 10 ignored 0 dropped 0 rejected 1 returned 0 deletes 0
 no record is compressed
 packs zstd < enabled | refused Unsupported
@@ -79,12 +79,12 @@ device | has 65536 gave 65536 in 4
 log < device | has 69632 gave 69632 in 5
 a part of a device has what it is said to have, and the limits of the whole
 device partial < device, put 1 a, put 2 b, wait, get 1, get 2 / get 1, get 2, del 1, put 3 c, wait, get 1, get 3 | has 65536 gave 65536 in 4, queued, queued, ok, entry a, entry b / entry a, entry b, ok, queued, ok, miss, entry c
-device partial, write-bytes 4096 < put 1 a, wait, judge 2 | queued, ok, throttled 2000
+device partial, write-bytes 4096 < put 1 a, wait, judge 2 | queued, ok, throttled 3000
 two devices as one have two blocks each; a block lies in one of them
 device combined, clean 0 < device, put 1 a, put 2 b, put 3 c, put 4 d, put 5 e, put 6 f, put 7 g, put 8 h, put 9 i, put 10 j, wait, get 1, get 4, get 7, get 10 / get 1, get 4, get 7, get 10 | has 65536 gave 65536 in 4, queued, queued, queued, queued, queued, queued, queued, queued, queued, queued, ok, entry a, entry d, entry g, entry j / entry a, entry d, entry g, entry j
 device combined, blocks 3 < device | has 49152 gave 32768 in 2
-device combined, log, clean 0 < device, put 1 a, wait, del 1, wait, counts written / get 1, counts read | has 65536 gave 53248 in 4, queued, ok, ok, ok, wrote 12288 in 3 / miss, read 20480 in 5
-device combined, write-bytes 4096 < put 1 a, wait, judge 2 | queued, ok, throttled 2000
+device combined, log, clean 0 < device, put 1 a, wait, del 1, wait, counts written / get 1, counts read | has 65536 gave 53248 in 4, queued, ok, ok, ok, wrote 16384 in 4 / miss, read 20480 in 5
+device combined, write-bytes 4096 < put 1 a, wait, judge 2 | queued, ok, throttled 3000
 ";
 
 #[test]

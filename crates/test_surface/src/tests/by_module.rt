@@ -31,6 +31,7 @@ use foyer_storage::block::eviction::InvalidRatioPicker;
 use foyer_storage::block::flusher::Ended;
 use foyer_storage::block::flusher::Flusher;
 use foyer_storage::block::flusher::InvalidStats;
+use foyer_storage::block::flusher::Invalidated;
 use foyer_storage::block::flusher::Next;
 use foyer_storage::block::flusher::Reinsertion;
 use foyer_storage::block::flusher::Submission;

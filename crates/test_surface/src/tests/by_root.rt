@@ -105,6 +105,7 @@ use foyer_storage::Index;
 use foyer_storage::Indexer;
 use foyer_storage::InvalidRatioPicker;
 use foyer_storage::InvalidStats;
+use foyer_storage::Invalidated;
 use foyer_storage::IoB;
 use foyer_storage::IoBuf;
 use foyer_storage::IoBufMut;

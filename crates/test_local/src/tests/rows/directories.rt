@@ -144,7 +144,7 @@ remove lacks | yes
 
 // What `foyerlist` prints of directories, which it leaves as they are.
 pub const LISTED: &str =
-    "a directory that was filled is listed and stays: two writes of the first block, the second of which writes a key again, and one of the second block
+    "a directory that was filled is listed and stays: two batches in the first block, the second of which writes a key again, and one in the second block
 engine listed, 49152, 16384 < put 1 a, put 2 bb, wait, put 1 ccc, put 3 d, wait, close | queued queued ok queued queued ok ok
 list listed, 49152, 16384 | block 0, entry 1 1 4096 53 loses, entry 2 2 8192 54 wins, entry 1 3 12288 55 wins, end block-end, block 1, entry 3 4 4096 53 wins, end no-index 8192, block 2, end no-index 0, status 0, stays yes
 names listed | 3
@@ -194,22 +194,22 @@ unlink no directory | yes
 
 // Each get has its moment in nanoseconds. Counters are the bytes written and read, and the calls that wrote and read.
 pub const LIMITED: &str =
-    "each access of a script is counted: a batch of one record writes its page, and then the page of its index
-engine counted, 32768, 16384, unread, unlimited < counters, put 1 a, get 1 0, counters, wait, counters, get 1 0, get 2 0, counters, del 1, get 1 0, close, counters | 0 0 0 0 queued miss 0 0 0 0 ok 8192 0 2 0 a miss 8192 4096 2 1 ok miss ok 8192 4096 2 1
+    "each access of a script is counted: a batch of one record writes its page, a page of zeros behind it, and then the page of its index
+engine counted, 32768, 16384, unread, unlimited < counters, put 1 a, get 1 0, counters, wait, counters, get 1 0, get 2 0, counters, del 1, get 1 0, close, counters | 0 0 0 0 queued miss 0 0 0 0 ok 12288 0 3 0 a miss 12288 4096 3 1 ok miss ok 12288 4096 3 1
 remove counted | yes
 an opening and a destroy are counted: an opening reads the first index of each block, and where one stands, that behind its record; a destroy cleans each
 engine opened, 32768, 16384, unread, unlimited < put 1 a, wait | queued ok
 engine opened, 32768, 16384, 1024-an-access < counters, destroy, counters | 0 12288 0 12 ok 8192 12288 8 12
 remove opened | yes
 a limit of reads throttles until it is filled
-engine limited, 32768, 16384, unread, one-read < put 1 a, wait, get 1 0, get 1 0, get 1 999999999, get 1 1000000000, get 1 1000000000, get 2 1000000000, counters | queued ok a throttled throttled a throttled miss 8192 8192 2 2
+engine limited, 32768, 16384, unread, one-read < put 1 a, wait, get 1 0, get 1 0, get 1 999999999, get 1 1000000000, get 1 1000000000, get 2 1000000000, counters | queued ok a throttled throttled a throttled miss 12288 8192 3 2
 engine limited, 32768, 16384, unread, 2048-bytes < put 1 b, wait, get 1 0, get 1 1000000000, get 1 2000000000 | queued ok b throttled b
 remove limited | yes
 without a limit of reads nothing is throttled
-engine unlimited, 32768, 16384, unread, unlimited < put 1 a, wait, get 1 0, get 1 0, get 1 0, get 1 0, counters | queued ok a a a a 8192 16384 2 4
-engine unlimited, 32768, 16384, unread, one-write < put 1 a, wait, get 1 0, get 1 0, get 1 0, get 1 0, counters | queued ok a a a a 8192 16384 2 4
+engine unlimited, 32768, 16384, unread, unlimited < put 1 a, wait, get 1 0, get 1 0, get 1 0, get 1 0, counters | queued ok a a a a 12288 16384 3 4
+engine unlimited, 32768, 16384, unread, one-write < put 1 a, wait, get 1 0, get 1 0, get 1 0, get 1 0, counters | queued ok a a a a 12288 16384 3 4
 remove unlimited | yes
 a read that fails is counted too
-engine failing, 32768, 16384, unread, one-read < put 1 a, wait, cut 4096, get 1 0, counters, get 1 0, counters | queued ok yes Io 8192 4096 2 1 throttled 8192 4096 2 1
+engine failing, 32768, 16384, unread, one-read < put 1 a, wait, cut 4096, get 1 0, counters, get 1 0, counters | queued ok yes Io 12288 4096 3 1 throttled 12288 4096 3 1
 remove failing | yes
 ";

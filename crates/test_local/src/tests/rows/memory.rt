@@ -54,40 +54,46 @@ memory blocks 4, admits 0 < fill 16 | filled 9
 ";
 
 pub const FAILING: &str =
-    "each call that fails is named or drops its batch: a batch is a write of its record and one of its index; then come the reads
+    "each call that fails is named or drops its batch: a batch is a write of its record, one of the zeros behind it and one of its index; then come the reads
 memory unread, blocks 2, pool 16384, fails 1, keeps 0 < put 1 a, wait, get 1, put 2 b, wait, get 1, get 2 | queued ok miss queued ok miss b
 memory unread, blocks 2, pool 16384, fails 2, keeps 0 < put 1 a, wait, get 1, put 2 b, wait, get 1, get 2 | queued ok miss queued ok miss b
-memory unread, blocks 2, pool 16384, fails 3, keeps 0 < put 1 a, wait, get 1, put 2 b, wait, get 1, get 2 | queued ok Io queued ok a b
-memory unread, blocks 2, pool 16384, fails 4, keeps 0 < put 1 a, wait, get 1, put 2 b, wait, get 1, get 2 | queued ok a queued ok a miss
+memory unread, blocks 2, pool 16384, fails 3, keeps 0 < put 1 a, wait, get 1, put 2 b, wait, get 1, get 2 | queued ok miss queued ok miss b
+memory unread, blocks 2, pool 16384, fails 4, keeps 0 < put 1 a, wait, get 1, put 2 b, wait, get 1, get 2 | queued ok Io queued ok a b
 memory unread, blocks 2, pool 16384, fails 5, keeps 0 < put 1 a, wait, get 1, put 2 b, wait, get 1, get 2 | queued ok a queued ok a miss
-memory unread, blocks 2, pool 16384, fails 6, keeps 0 < put 1 a, wait, get 1, put 2 b, wait, get 1, get 2 | queued ok a queued ok Io b
-memory unread, blocks 2, pool 16384, fails 7, keeps 0 < put 1 a, wait, get 1, put 2 b, wait, get 1, get 2 | queued ok a queued ok a Io
-memory unread, blocks 2, pool 16384, fails 8, keeps 0 < put 1 a, wait, get 1, put 2 b, wait, get 1, get 2 | queued ok a queued ok a b
+memory unread, blocks 2, pool 16384, fails 6, keeps 0 < put 1 a, wait, get 1, put 2 b, wait, get 1, get 2 | queued ok a queued ok a miss
+memory unread, blocks 2, pool 16384, fails 7, keeps 0 < put 1 a, wait, get 1, put 2 b, wait, get 1, get 2 | queued ok a queued ok a miss
+memory unread, blocks 2, pool 16384, fails 8, keeps 0 < put 1 a, wait, get 1, put 2 b, wait, get 1, get 2 | queued ok a queued ok Io b
+memory unread, blocks 2, pool 16384, fails 9, keeps 0 < put 1 a, wait, get 1, put 2 b, wait, get 1, get 2 | queued ok a queued ok a Io
+memory unread, blocks 2, pool 16384, fails 10, keeps 0 < put 1 a, wait, get 1, put 2 b, wait, get 1, get 2 | queued ok a queued ok a b
 memory unread, blocks 2, pool 16384, fails 1, keeps 100 < put 1 a, wait, get 1, put 2 b, wait, get 1, get 2 | queued ok miss queued ok miss b
 memory unread, blocks 2, pool 16384, fails 2, keeps 100 < put 1 a, wait, get 1, put 2 b, wait, get 1, get 2 | queued ok miss queued ok miss b
-memory unread, blocks 2, pool 16384, fails 3, keeps 100 < put 1 a, wait, get 1, put 2 b, wait, get 1, get 2 | queued ok Io queued ok a b
-memory unread, blocks 2, pool 16384, fails 4, keeps 100 < put 1 a, wait, get 1, put 2 b, wait, get 1, get 2 | queued ok a queued ok a miss
+memory unread, blocks 2, pool 16384, fails 3, keeps 100 < put 1 a, wait, get 1, put 2 b, wait, get 1, get 2 | queued ok miss queued ok miss b
+memory unread, blocks 2, pool 16384, fails 4, keeps 100 < put 1 a, wait, get 1, put 2 b, wait, get 1, get 2 | queued ok Io queued ok a b
 memory unread, blocks 2, pool 16384, fails 5, keeps 100 < put 1 a, wait, get 1, put 2 b, wait, get 1, get 2 | queued ok a queued ok a miss
-memory unread, blocks 2, pool 16384, fails 6, keeps 100 < put 1 a, wait, get 1, put 2 b, wait, get 1, get 2 | queued ok a queued ok Io b
-memory unread, blocks 2, pool 16384, fails 7, keeps 100 < put 1 a, wait, get 1, put 2 b, wait, get 1, get 2 | queued ok a queued ok a Io
-memory unread, blocks 2, pool 16384, fails 8, keeps 100 < put 1 a, wait, get 1, put 2 b, wait, get 1, get 2 | queued ok a queued ok a b
+memory unread, blocks 2, pool 16384, fails 6, keeps 100 < put 1 a, wait, get 1, put 2 b, wait, get 1, get 2 | queued ok a queued ok a miss
+memory unread, blocks 2, pool 16384, fails 7, keeps 100 < put 1 a, wait, get 1, put 2 b, wait, get 1, get 2 | queued ok a queued ok a miss
+memory unread, blocks 2, pool 16384, fails 8, keeps 100 < put 1 a, wait, get 1, put 2 b, wait, get 1, get 2 | queued ok a queued ok Io b
+memory unread, blocks 2, pool 16384, fails 9, keeps 100 < put 1 a, wait, get 1, put 2 b, wait, get 1, get 2 | queued ok a queued ok a Io
+memory unread, blocks 2, pool 16384, fails 10, keeps 100 < put 1 a, wait, get 1, put 2 b, wait, get 1, get 2 | queued ok a queued ok a b
 memory unread, blocks 2, pool 16384, fails 1, keeps 4096 < put 1 a, wait, get 1, put 2 b, wait, get 1, get 2 | queued ok miss queued ok miss b
 memory unread, blocks 2, pool 16384, fails 2, keeps 4096 < put 1 a, wait, get 1, put 2 b, wait, get 1, get 2 | queued ok miss queued ok miss b
-memory unread, blocks 2, pool 16384, fails 3, keeps 4096 < put 1 a, wait, get 1, put 2 b, wait, get 1, get 2 | queued ok Io queued ok a b
-memory unread, blocks 2, pool 16384, fails 4, keeps 4096 < put 1 a, wait, get 1, put 2 b, wait, get 1, get 2 | queued ok a queued ok a miss
+memory unread, blocks 2, pool 16384, fails 3, keeps 4096 < put 1 a, wait, get 1, put 2 b, wait, get 1, get 2 | queued ok miss queued ok miss b
+memory unread, blocks 2, pool 16384, fails 4, keeps 4096 < put 1 a, wait, get 1, put 2 b, wait, get 1, get 2 | queued ok Io queued ok a b
 memory unread, blocks 2, pool 16384, fails 5, keeps 4096 < put 1 a, wait, get 1, put 2 b, wait, get 1, get 2 | queued ok a queued ok a miss
-memory unread, blocks 2, pool 16384, fails 6, keeps 4096 < put 1 a, wait, get 1, put 2 b, wait, get 1, get 2 | queued ok a queued ok Io b
-memory unread, blocks 2, pool 16384, fails 7, keeps 4096 < put 1 a, wait, get 1, put 2 b, wait, get 1, get 2 | queued ok a queued ok a Io
-memory unread, blocks 2, pool 16384, fails 8, keeps 4096 < put 1 a, wait, get 1, put 2 b, wait, get 1, get 2 | queued ok a queued ok a b
+memory unread, blocks 2, pool 16384, fails 6, keeps 4096 < put 1 a, wait, get 1, put 2 b, wait, get 1, get 2 | queued ok a queued ok a miss
+memory unread, blocks 2, pool 16384, fails 7, keeps 4096 < put 1 a, wait, get 1, put 2 b, wait, get 1, get 2 | queued ok a queued ok a miss
+memory unread, blocks 2, pool 16384, fails 8, keeps 4096 < put 1 a, wait, get 1, put 2 b, wait, get 1, get 2 | queued ok a queued ok Io b
+memory unread, blocks 2, pool 16384, fails 9, keeps 4096 < put 1 a, wait, get 1, put 2 b, wait, get 1, get 2 | queued ok a queued ok a Io
+memory unread, blocks 2, pool 16384, fails 10, keeps 4096 < put 1 a, wait, get 1, put 2 b, wait, get 1, get 2 | queued ok a queued ok a b
 a device that stops leaves misses and faults
 memory unread, blocks 2, pool 16384, stops 1, keeps 100 < put 1 a, wait, get 1, put 2 b, wait, get 1, get 2 | queued ok miss queued ok miss miss
-memory unread, blocks 2, pool 16384, stops 3, keeps 100 < put 1 a, wait, get 1, put 2 b, wait, get 1, get 2 | queued ok Io queued ok Io miss
-memory unread, blocks 2, pool 16384, stops 5, keeps 100 < put 1 a, wait, get 1, put 2 b, wait, get 1, get 2 | queued ok a queued ok Io miss
-memory unread, blocks 2, pool 16384, stops 7, keeps 100 < put 1 a, wait, get 1, put 2 b, wait, get 1, get 2 | queued ok a queued ok a Io
-a clean that fails is answered by the destroy, and the index is clear: the first two calls write the put, the next two clean the blocks
-memory unread, blocks 2, pool 16384, fails 3 < put 1 a, wait, destroy, get 1, destroy, put 2 b, wait, get 2 | queued ok Io miss ok queued ok b
+memory unread, blocks 2, pool 16384, stops 4, keeps 100 < put 1 a, wait, get 1, put 2 b, wait, get 1, get 2 | queued ok Io queued ok Io miss
+memory unread, blocks 2, pool 16384, stops 7, keeps 100 < put 1 a, wait, get 1, put 2 b, wait, get 1, get 2 | queued ok a queued ok Io miss
+memory unread, blocks 2, pool 16384, stops 9, keeps 100 < put 1 a, wait, get 1, put 2 b, wait, get 1, get 2 | queued ok a queued ok a Io
+a clean that fails is answered by the destroy, and the index is clear: the first three calls write the put, the next two clean the blocks
 memory unread, blocks 2, pool 16384, fails 4 < put 1 a, wait, destroy, get 1, destroy, put 2 b, wait, get 2 | queued ok Io miss ok queued ok b
-memory unread, blocks 2, pool 16384, fails 5 < put 1 a, wait, destroy, get 1, destroy, put 2 b, wait, get 2 | queued ok ok miss Io queued ok b
+memory unread, blocks 2, pool 16384, fails 5 < put 1 a, wait, destroy, get 1, destroy, put 2 b, wait, get 2 | queued ok Io miss ok queued ok b
+memory unread, blocks 2, pool 16384, fails 6 < put 1 a, wait, destroy, get 1, destroy, put 2 b, wait, get 2 | queued ok ok miss Io queued ok b
 a load is throttled where its caller says so, and the key has a text
 memory unread, blocks 1 < throttled 1, put 1 a, wait, throttled 1, throttled 2, get 1, del 1, throttled 1 | miss queued ok throttled miss a ok miss
 ";
@@ -106,19 +112,20 @@ a write that fails brings no deleted text back; that of a block's index, a part 
 memory blocks 4, queue 8192, log, keeps 16, fails 5 < put 1 a, put 2 b, wait, del 2, wait, put 1 a, wait, get 2 / whole < get 1, get 2 | queued queued ok ok ok queued ok miss / a miss
 memory blocks 4, queue 8192, log, keeps 16, fails 6 < put 1 a, put 2 b, wait, del 2, wait, put 1 a, wait, get 2 / whole < get 1, get 2 | queued queued ok ok ok queued ok miss / a miss
 memory blocks 4, queue 8192, log, keeps 16, fails 7 < put 1 a, put 2 b, wait, del 2, wait, put 1 a, wait, get 2 / whole < get 1, get 2 | queued queued ok ok ok queued ok miss / a miss
-memory blocks 4, queue 8192, log, keeps 16, fails 8 < put 1 a, put 2 b, wait, del 2, wait, put 1 a, wait, get 2 / whole < get 1, get 2 | queued queued ok ok ok queued ok miss / miss miss
+memory blocks 4, queue 8192, log, keeps 16, fails 8 < put 1 a, put 2 b, wait, del 2, wait, put 1 a, wait, get 2 / whole < get 1, get 2 | queued queued ok ok ok queued ok miss / a miss
+memory blocks 4, queue 8192, log, keeps 16, fails 9 < put 1 a, put 2 b, wait, del 2, wait, put 1 a, wait, get 2 / whole < get 1, get 2 | queued queued ok ok ok queued ok miss / miss miss
 a text that is too great deletes its key as it is received: the log keeps that, and without a log the older text is found again
 memory blocks 4, queue 8192, log < put 1 a, wait, put 1 *134, get 1, wait, get 1 / whole < get 1, get 2 | queued ok queued a ok miss / miss miss
 memory blocks 4, queue 8192 < put 1 a, wait, put 1 *134, get 1, wait, get 1 / whole < get 1, get 2 | queued ok queued a ok miss / a miss
 so does a text that isn't taken, since too much is queued; the other keys keep theirs
 memory blocks 4, queue 8192, log < put 1 a, put 2 b, wait, put 3 *134, put 1 c, get 1, get 2, wait, get 1, get 2 / whole < get 1, get 2 | queued queued ok queued deleted miss b ok miss b / miss b
 memory blocks 4, queue 8192 < put 1 a, put 2 b, wait, put 3 *134, put 1 c, get 1, get 2, wait, get 1, get 2 / whole < get 1, get 2 | queued queued ok queued deleted miss b ok miss b / a b
-a clean that fails counts as one, and what its block had is forgotten; stopped before the next write nothing of its index is lost where nothing was written, and all where a part was: the opening reads four blocks, each of four batches writes twice, and the reclaim reads one index
-memory blocks 4, queue 8192, log, fails 14 < put 1 a, put 2 b, put 3 c, wait, put 4 d, put 5 e, put 6 f, wait, put 7 g, put 8 h, put 9 i, wait, put 10 j, wait, get 1, get 2, get 10 / whole < get 1, get 2 | queued queued queued ok queued queued queued ok queued queued queued ok queued ok miss miss j / a b
-memory blocks 4, queue 8192, log, keeps 16, fails 14 < put 1 a, put 2 b, put 3 c, wait, put 4 d, put 5 e, put 6 f, wait, put 7 g, put 8 h, put 9 i, wait, put 10 j, wait, get 1, get 2, get 10 / whole < get 1, get 2 | queued queued queued ok queued queued queued ok queued queued queued ok queued ok miss miss j / miss miss
-memory blocks 4, queue 8192, log, stops 14 < put 1 a, put 2 b, put 3 c, wait, put 4 d, put 5 e, put 6 f, wait, put 7 g, put 8 h, put 9 i, wait, put 10 j, wait, get 1, get 2, get 10 / whole < get 1, get 2 | queued queued queued ok queued queued queued ok queued queued queued ok queued ok miss miss Io / a b
+a clean that fails counts as one, and what its block had is forgotten; stopped before the next write nothing of its index is lost where nothing was written, and all where a part was: the opening reads four blocks, three batches that fill their blocks write twice, the fourth one writes three times, and the reclaim reads one index
+memory blocks 4, queue 8192, log, fails 15 < put 1 a, put 2 b, put 3 c, wait, put 4 d, put 5 e, put 6 f, wait, put 7 g, put 8 h, put 9 i, wait, put 10 j, wait, get 1, get 2, get 10 / whole < get 1, get 2 | queued queued queued ok queued queued queued ok queued queued queued ok queued ok miss miss j / a b
+memory blocks 4, queue 8192, log, keeps 16, fails 15 < put 1 a, put 2 b, put 3 c, wait, put 4 d, put 5 e, put 6 f, wait, put 7 g, put 8 h, put 9 i, wait, put 10 j, wait, get 1, get 2, get 10 / whole < get 1, get 2 | queued queued queued ok queued queued queued ok queued queued queued ok queued ok miss miss j / miss miss
+memory blocks 4, queue 8192, log, stops 15 < put 1 a, put 2 b, put 3 c, wait, put 4 d, put 5 e, put 6 f, wait, put 7 g, put 8 h, put 9 i, wait, put 10 j, wait, get 1, get 2, get 10 / whole < get 1, get 2 | queued queued queued ok queued queued queued ok queued queued queued ok queued ok miss miss Io / a b
 its block is handed out again, and nothing that it had is answered, then and once it is opened again
-memory blocks 4, queue 8192, log, fails 14 < put 1 a, put 2 b, put 3 c, wait, put 4 d, put 5 e, put 6 f, wait, put 7 g, put 8 h, put 9 i, wait, put 10 j, wait, put 11 k, put 12 l, put 13 m, wait, get 1, get 2, get 3, get 13, put 14 n, wait, get 1, get 13, get 14 / whole < get 1, get 2 | queued queued queued ok queued queued queued ok queued queued queued ok queued ok queued queued queued ok miss miss miss m queued ok miss m n / miss miss
+memory blocks 4, queue 8192, log, fails 15 < put 1 a, put 2 b, put 3 c, wait, put 4 d, put 5 e, put 6 f, wait, put 7 g, put 8 h, put 9 i, wait, put 10 j, wait, put 11 k, put 12 l, put 13 m, wait, get 1, get 2, get 3, get 13, put 14 n, wait, get 1, get 13, get 14 / whole < get 1, get 2 | queued queued queued ok queued queued queued ok queued queued queued ok queued ok queued queued queued ok miss miss miss m queued ok miss m n / miss miss
 a log that has wrapped forgets: one of one page has 256 slots, and the first mark is gone behind 256 others
 memory blocks 4, queue 8192, log < put 1 a, put 2 b, wait, del 2, wait, deletes 255, wait / whole < get 1, get 2 | queued queued ok ok ok ok ok / a miss
 memory blocks 4, queue 8192, log < put 1 a, put 2 b, wait, del 2, wait, deletes 256, wait / whole < get 1, get 2 | queued queued ok ok ok ok ok / a b
@@ -135,18 +142,28 @@ remove dropped | yes
 // The moves of each run, what they are answered, and whether the blocks' first pages are zeros at last.
 pub const MOVED: &str =
     "a run reclaims a block and writes its admitted record again: a read, a forget and a clean that aren't due are passed over or handed back; what is due is done once
-moves blocks 2, admits 60 < first, again | -, -, -, -, -, -, -, write 0, next, committed 3, -, -, -, -, write 0, write 1, next, committed 1, -, picked 0, not now, scan 0 4096 4096, listed, clean 0, done, true, -, -, write 1, next, committed 1, -, at 8192, 1 is a long text, miss, at 4096, 4 is d, zeros yes no
-a fault of a read ends the listing and one of a clean is brought: the accesses are two writes of each block, then the index, the record, the clean
-moves blocks 2, admits 60, fails 5 < first, reclaim, read 0, read 0, forget 0, reclaimed 0, ask 2 | -, -, -, -, -, -, -, write 0, next, committed 3, -, -, -, -, write 0, write 1, next, committed 1, -, picked 0, listed, clean 0, done, true, zeros yes no
-moves blocks 2, admits 60, fails 6 < first, reclaim, read 0, read 0, forget 0, reclaimed 0, ask 2 | -, -, -, -, -, -, -, write 0, next, committed 3, -, -, -, -, write 0, write 1, next, committed 1, -, picked 0, scan 0 4096 4096, listed, clean 0, done, false, zeros yes no
-moves blocks 2, admits 60, fails 7 < first, reclaim, read 0, read 0, forget 0, reclaimed 0, ask 2 | -, -, -, -, -, -, -, write 0, next, committed 3, -, -, -, -, write 0, write 1, next, committed 1, -, picked 0, scan 0 4096 4096, listed, clean 0, done, false, zeros no no
+moves blocks 2, admits 60 < first, again | -, -, -, -, -, -, -, write 0, next, committed 3, -, -, -, -, write 0, write 1, next, next, committed 1, -, picked 0, not now, scan 0 4096 4096, listed, clean 0, done, true, -, -, write 1, next, next, committed 1, -, at 8192, 1 is a long text, miss, at 4096, 4 is d, zeros yes no
+a fault of a read ends the listing and one of a clean is brought: the accesses are two writes of the first block, which is full, and three of the second, then the index, the record, the clean
+moves blocks 2, admits 60, fails 6 < first, reclaim, read 0, read 0, forget 0, reclaimed 0, ask 2 | -, -, -, -, -, -, -, write 0, next, committed 3, -, -, -, -, write 0, write 1, next, next, committed 1, -, picked 0, listed, clean 0, done, true, zeros yes no
+moves blocks 2, admits 60, fails 7 < first, reclaim, read 0, read 0, forget 0, reclaimed 0, ask 2 | -, -, -, -, -, -, -, write 0, next, committed 3, -, -, -, -, write 0, write 1, next, next, committed 1, -, picked 0, scan 0 4096 4096, listed, clean 0, done, false, zeros yes no
+moves blocks 2, admits 60, fails 8 < first, reclaim, read 0, read 0, forget 0, reclaimed 0, ask 2 | -, -, -, -, -, -, -, write 0, next, committed 3, -, -, -, -, write 0, write 1, next, next, committed 1, -, picked 0, scan 0 4096 4096, listed, clean 0, done, false, zeros no no
 two reclaims run side by side, and each reads and cleans its own block
-moves blocks 3, reclaimers 2, clean 2, admits 60 < put 1 a long text, put 2 b, put 3 c, receive, receive, receive, begin, block, wrote, wrote, end, put 4 d, put 5 another long text, put 6 f, receive, receive, receive, begin, block, block, wrote, wrote, end, put 7 g, receive, begin, block, block, wrote, wrote, end, reclaim, reclaim, reclaim, read 1, read 0, read 1, read 0, forget 1, reclaimed 0, forget 0, reclaimed 0, reclaimed 1, idle, receive, receive, begin, block, wrote, wrote, end, look 1, look 5, load 1, load 0, ask 4, ask 6, look 7, load 2 | -, -, -, -, -, -, -, write 0, next, committed 3, -, -, -, -, -, -, -, -, write 0, write 1, next, committed 3, -, -, -, -, write 1, write 2, next, committed 1, -, picked 0, picked 1, not now, scan 1 8192 4096, scan 0 4096 4096, listed, listed, clean 1, clean 0, done, done, true, -, -, -, write 2, next, committed 2, -, at 12288, at 8192, 5 is another long text, 1 is a long text, false, false, at 4096, 7 is g, zeros yes yes no
+moves blocks 3, reclaimers 2, clean 2, admits 60 < put 1 a long text, put 2 b, put 3 c, receive, receive, receive, begin, block, wrote, wrote, end, put 4 d, put 5 another long text, put 6 f, receive, receive, receive, begin, block, block, wrote, wrote, end, put 7 g, receive, begin, block, block, wrote, wrote, wrote, end, reclaim, reclaim, reclaim, read 1, read 0, read 1, read 0, forget 1, reclaimed 0, forget 0, reclaimed 0, reclaimed 1, idle, receive, receive, begin, block, wrote, wrote, end, look 1, look 5, load 1, load 0, ask 4, ask 6, look 7, load 2 | -, -, -, -, -, -, -, write 0, next, committed 3, -, -, -, -, -, -, -, -, write 0, write 1, next, committed 3, -, -, -, -, write 1, write 2, next, next, committed 1, -, picked 0, picked 1, not now, scan 1 8192 4096, scan 0 4096 4096, listed, listed, clean 1, clean 0, done, done, true, -, -, -, write 2, next, committed 2, -, at 12288, at 8192, 5 is another long text, 1 is a long text, false, false, at 4096, 7 is g, zeros yes yes no
 a run passes over what another issued, as a read of a load
-moves blocks 2, admits 60 < first, reclaim / read 0, reclaimed 0, cleaned 0, forget 0, idle | -, -, -, -, -, -, -, write 0, next, committed 3, -, -, -, -, write 0, write 1, next, committed 1, -, picked 0, not now, false, zeros no no
-a run destroys: each clean comes once, whichever comes first, and the first fault is answered; the accesses are two writes of each block, then the cleans
-moves blocks 2, admits 60, fails 0 < first, destroy, cleaned 0, receive, begin, block, end, clear, cleaned 1, cleaned 1, reclaimed 1, clear, cleaned 2, cleaned 0, cleaned 0, ask 1, ask 4, clear | -, -, -, -, -, -, -, write 0, next, committed 3, -, -, -, -, write 0, write 1, next, committed 1, -, -, -, -, write 1, -, cleared, done, not now, destroyed None, false, false, not now, zeros yes yes
-moves blocks 2, admits 60, fails 5 < first, destroy, cleaned 0, receive, begin, block, end, clear, cleaned 1, cleaned 1, reclaimed 1, clear, cleaned 2, cleaned 0, cleaned 0, ask 1, ask 4, clear | -, -, -, -, -, -, -, write 0, next, committed 3, -, -, -, -, write 0, write 1, next, committed 1, -, -, -, -, write 1, -, cleared, done, not now, destroyed Io, false, false, not now, zeros yes no
+moves blocks 2, admits 60 < first, reclaim / read 0, reclaimed 0, cleaned 0, forget 0, idle | -, -, -, -, -, -, -, write 0, next, committed 3, -, -, -, -, write 0, write 1, next, next, committed 1, -, picked 0, not now, false, zeros no no
+a run destroys: each clean comes once, whichever comes first, and the first fault is answered; the accesses are two writes of the first block, which is full, and three of the second, then the cleans
+moves blocks 2, admits 60, fails 0 < first, destroy, cleaned 0, receive, begin, block, end, clear, cleaned 1, cleaned 1, reclaimed 1, clear, cleaned 2, cleaned 0, cleaned 0, ask 1, ask 4, clear | -, -, -, -, -, -, -, write 0, next, committed 3, -, -, -, -, write 0, write 1, next, next, committed 1, -, -, -, -, write 1, -, cleared, done, not now, destroyed None, false, false, not now, zeros yes yes
+moves blocks 2, admits 60, fails 6 < first, destroy, cleaned 0, receive, begin, block, end, clear, cleaned 1, cleaned 1, reclaimed 1, clear, cleaned 2, cleaned 0, cleaned 0, ask 1, ask 4, clear | -, -, -, -, -, -, -, write 0, next, committed 3, -, -, -, -, write 0, write 1, next, next, committed 1, -, -, -, -, write 1, -, cleared, done, not now, destroyed Io, false, false, not now, zeros yes no
 a record that is written again stands behind the new one: three fill the one block, and the fourth has it reclaimed
-moves blocks 1, admits 60 < put 1 a long text, receive, begin, block, wrote, wrote, end, put 2 b, receive, begin, block, wrote, wrote, end, put 3 c, receive, begin, block, wrote, wrote, end, put 4 d, receive, begin, block, block, reclaim, read 0, read 0, read 0, read 0, forget 0, reclaimed 0, idle, block, wrote, wrote, end, receive, begin, block, wrote, wrote, end, look 4, look 1, look 2, look 3 | -, -, -, write 0, next, committed 1, -, -, -, -, write 0, next, committed 1, -, -, -, -, write 0, next, committed 1, -, -, -, -, write 0, no block, picked 0, scan 0 4096 4096, listed, clean 0, done, true, write 0, next, committed 1, -, -, -, write 0, next, committed 1, -, at 4096, at 8192, miss, miss, zeros no
+moves blocks 1, admits 60 < put 1 a long text, receive, begin, block, wrote, wrote, wrote, end, put 2 b, receive, begin, block, wrote, wrote, wrote, end, put 3 c, receive, begin, block, wrote, wrote, end, put 4 d, receive, begin, block, block, reclaim, read 0, read 0, read 0, read 0, forget 0, reclaimed 0, idle, block, wrote, wrote, wrote, end, receive, begin, block, wrote, wrote, wrote, end, look 4, look 1, look 2, look 3 | -, -, -, write 0, next, next, committed 1, -, -, -, -, write 0, next, next, committed 1, -, -, -, -, write 0, next, committed 1, -, -, -, -, write 0, no block, picked 0, scan 0 4096 4096, listed, clean 0, done, true, write 0, next, next, committed 1, -, -, -, write 0, next, next, committed 1, -, at 4096, at 8192, miss, miss, zeros no
+";
+
+// What a life left stays in its blocks behind their first pages, which a destroy cleans. The index of a block lists 170 records, so
+// that 170 puts fill it, and a scan goes on behind them, where the earlier life's second index of this block stood: its 84 records
+// have greater sequences than the later life's.
+pub const LIVES: &str =
+    "nothing that an earlier life left in a block is found behind what a later one wrote there: each key's last put is answered, or a miss
+memory blocks 8, pages 256, pool 4194304 < puts 0 699 old, wait, destroy, close / puts 170 254 new, puts 1000 1084 new, wait, close / gets 170 254 new, gets 1000 1084 new, gets 0 169 new, gets 255 699 new | queued 700 ok ok ok / queued 85 queued 85 ok ok / newest 85 missed 0 others 0 newest 85 missed 0 others 0 newest 0 missed 170 others 0 newest 0 missed 445 others 0
+the same where the flushers have small buffers, and write the block in many batches
+memory blocks 8, pages 256 < puts 0 699 old, wait, destroy, close / puts 170 254 new, puts 1000 1084 new, wait, close / gets 170 254 new, gets 1000 1084 new, gets 0 169 new, gets 255 699 new | queued 700 ok ok ok / queued 85 queued 85 ok ok / newest 85 missed 0 others 0 newest 85 missed 0 others 0 newest 0 missed 170 others 0 newest 0 missed 445 others 0
 ";

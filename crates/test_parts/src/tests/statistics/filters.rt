@@ -104,16 +104,39 @@ fn say_always(said: &mut Said, alloc: Global, words: &str) -> Result<()> {
     Ok(())
 }
 
-fn say_built_in(said: &mut Said, alloc: Global, words: &str, script: &str) -> Result<()> {
-    let mut filter: StorageFilter<BuiltInCondition, Global> = StorageFilter::new();
-    for word in words.split(", ") {
-        filter = filter.with_condition(alloc, condition_of(word))?;
-    }
+// What a filter that threads may share answers to waits of the device and sizes.
+fn say_filter<C: StorageFilterCondition + Send + Sync + 'static>(
+    said: &mut Said,
+    filter: &StorageFilter<C, Global>,
+    script: &str,
+) {
     for words in script.split(", ") {
         let (wait, len) = cut(words);
         let state = state(Duration::from_secs(number(wait)));
         say_answer(said, filter.filter(&state, 1, size(len)));
     }
+}
+
+fn say_built_in(said: &mut Said, alloc: Global, words: &str, script: &str) -> Result<()> {
+    let mut filter: StorageFilter<BuiltInCondition, Global> = StorageFilter::new();
+    for word in words.split(", ") {
+        filter = filter.with_condition(alloc, condition_of(word))?;
+    }
+    say_filter(said, &filter, script);
+    Ok(())
+}
+
+// Conditions of any kind: those that are shipped, and boxed ones that give one answer.
+fn say_any(said: &mut Said, alloc: Global, words: &str, script: &str) -> Result<()> {
+    let mut filter: StorageFilter<AnyCondition, Global> = StorageFilter::new();
+    for word in words.split(", ") {
+        let condition = match word.split_once("boxed ") {
+            Some((_, answer)) => AnyCondition::Boxed(Box::new(alloc, Always(answer_of(answer)))?),
+            None => AnyCondition::BuiltIn(condition_of(word)),
+        };
+        filter = filter.with_condition(alloc, condition)?;
+    }
+    say_filter(said, &filter, script);
     Ok(())
 }
 
@@ -130,6 +153,7 @@ fn say_row(said: &mut Said, alloc: Global, opening: &str, script: &str) -> Resul
     match kind {
         "always" => say_always(said, alloc, words)?,
         "built in" => say_built_in(said, alloc, words, script)?,
+        "any" => say_any(said, alloc, words, script)?,
         _ => say_sizes(said, words, script),
     }
     Ok(())
@@ -168,6 +192,9 @@ sizes: out 18446744073709551615 to in 18446744073709551615 < 1844674407370955161
 shipped conditions are held by value
 built in: all, in 9, throttle < 0 9, 4 9, 4 10 | admit! 4+0 reject?
 built in: all, in 9, throttle, none < 0 9 | reject?
+boxed conditions stand beside shipped ones
+any: all, boxed 2, throttle < 0 9, 4 9 | 2+0 6+0
+any: throttle, boxed reject < 4 9 | reject?
 ";
 
 #[test]
@@ -188,7 +215,7 @@ fn a_filter_prints_its_name(rt: HostRuntime) -> std::result::Result<(), Fail> {
 #[test]
 fn a_callers_condition_is_boxed(rt: HostRuntime) -> std::result::Result<(), Fail> {
     let mut said = Said::new(rt.alloc());
-    let own: Box<dyn StorageFilterCondition + Send> = Box::new(rt.alloc(), Always(answer_of("2")))?;
+    let own = Box::new(rt.alloc(), Always(answer_of("2")))?;
     say_asked(&mut said, &AnyCondition::Boxed(own), "1 9");
     let held = AnyCondition::BuiltIn(BuiltInCondition::IoThrottle(IoThrottle));
     say_asked(&mut said, &held, "1 9");

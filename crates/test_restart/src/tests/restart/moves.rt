@@ -26,13 +26,13 @@ fn add_flush(alloc: Global, moves: &mut Vec<TextMove>, put: u64, writes: u32) ->
     Ok(())
 }
 
-// The put of another key stands in the block that is being written, and its index isn't written yet: how many replies there
-// were, whether the first put is found, and whether the second is.
+// The put of another key stands in the block that is being written, with the zeros behind it, and its index isn't written yet:
+// how many replies there were, whether the first put is found, and whether the second is.
 fn found_in_a_flush(alloc: Global) -> Result<(usize, bool, bool)> {
     let mut moves = Vec::new(alloc);
-    add_flush(alloc, &mut moves, 1, 2)?;
+    add_flush(alloc, &mut moves, 1, 3)?;
     moves.push(Move::FlushEnd { flusher: 0 })?;
-    add_flush(alloc, &mut moves, 2, 1)?;
+    add_flush(alloc, &mut moves, 2, 2)?;
     let mut first = Env::with_default_pickers(alloc, 0)?;
     let mut env = Env::with_default_pickers(alloc, 0)?;
     let mode = RecoverMode::Quiet;
@@ -53,7 +53,7 @@ fn found_in_a_flush(alloc: Global) -> Result<(usize, bool, bool)> {
 fn moves_that_end_inside_a_flush_leave_what_was_committed(
     rt: HostRuntime,
 ) -> std::result::Result<(), Fail> {
-    assert!(rt; found_in_a_flush(rt.alloc())? == (12, true, false));
+    assert!(rt; found_in_a_flush(rt.alloc())? == (14, true, false));
     Ok(())
 }
 
@@ -78,6 +78,7 @@ fn found_behind(alloc: Global, is_cleaned: bool) -> Result<String> {
         add_flush(alloc, &mut moves, put, 0)?;
         // Where the block had no room it was left, and this asks for the next one.
         moves.push(Move::FlushBlock { flusher: 0 })?;
+        moves.push(Move::FlushWrote { flusher: 0 })?;
         moves.push(Move::FlushWrote { flusher: 0 })?;
         moves.push(Move::FlushWrote { flusher: 0 })?;
         moves.push(Move::FlushEnd { flusher: 0 })?;

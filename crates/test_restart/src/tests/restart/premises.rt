@@ -6,7 +6,7 @@ use crate::tests::restart::running::{
 };
 use foyer_block_index::manager::BlockId;
 use foyer_core_steps::open::RecoverMode;
-use foyer_core_steps::reply::Reply;
+use foyer_core_steps::reply::{Reply, WriteBytes};
 use foyer_core_steps::settings::Settings;
 use foyer_core_steps::step::Step;
 use foyer_device_page::error::{Error, Result};
@@ -49,7 +49,8 @@ fn say_sequences(
     Ok(())
 }
 
-// The seventh put of the earlier run is of the first one's key, and stands in the last block.
+// The seventh put of the earlier run is of the first one's key, and stands in the last block. The later run has zeros behind what
+// it writes in the first block alone, so the last one is listed as it was.
 fn over_an_earlier_run(alloc: Global) -> Result<Running> {
     let mut earlier = begin_with(alloc, sizes(1), 7)?;
     let disk = copy_of(alloc, &mut earlier)?;
@@ -63,11 +64,13 @@ fn fail_index(run: &mut Running) -> Result<()> {
     let Some(issued) = take_issued(run, 0) else {
         return Err(Error::Config);
     };
-    if let Some(write) = issued.writes.get(issued.next) {
-        let bytes = write.bytes.as_slice();
-        let end = bytes.len().min(40);
-        run.disk.write(issued.block, write.offset, &bytes[..end])?;
-    }
+    let Some(write) = issued.writes.get(issued.next) else {
+        return Err(Error::Config);
+    };
+    in_turn(matches!(&write.bytes, WriteBytes::Index(_)))?;
+    let bytes = write.bytes.as_slice();
+    let end = bytes.len().min(40);
+    run.disk.write(issued.block, write.offset, &bytes[..end])?;
     let failed = Step::FlushWrote {
         flusher: 0,
         result: Err(Error::Io),
@@ -78,13 +81,15 @@ fn fail_index(run: &mut Running) -> Result<()> {
     }
 }
 
-// The second put's index fails, in the block of the first.
+// The second put's index fails, in the block of the first: its data and the zeros behind them are written ahead of it.
 fn with_a_failed_index(alloc: Global) -> Result<Running> {
     let mut run = begin_with(alloc, sizes(1), 1)?;
     in_turn(put(alloc, &mut run)?)?;
     in_turn(begin_flush(&mut run, 0) && next_block(&mut run, 0) == NextBlock::Given)?;
-    if let Some(issued) = take_issued(&mut run, 0) {
-        in_turn(do_next(&mut run, 0, issued))?;
+    for _ in 0..2 {
+        if let Some(issued) = take_issued(&mut run, 0) {
+            in_turn(do_next(&mut run, 0, issued))?;
+        }
     }
     fail_index(&mut run)?;
     Ok(run)

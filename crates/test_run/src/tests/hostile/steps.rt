@@ -23,14 +23,16 @@ receive 0: empty
 receive 1: received
 begin 0: began 1 2
 begin 1: began 1 0
-block 0: write 0, 4096 8192, 0 4096
-block 1: write 1, 4096 4096, 0 4096
+block 0: write 0, 4096 8192, 12288 4096, 0 4096
+block 1: write 1, 4096 4096, 8192 4096, 0 4096
 wrote 0: next
 wrote 1: next
+wrote 0: next
 wrote 0: committed 2
 end 0: not now
 logged 0: done
 end 0: ended 2 0
+wrote 1: next
 wrote 1: committed 1
 logged 1: done
 end 1: ended 1 0
@@ -54,7 +56,8 @@ begin 0: began 2 0
 block 0: write 0, 12288 4096, 0 4096
 wrote 0: next
 wrote 0: committed 1
-block 0: write 2, 4096 4096, 0 4096
+block 0: write 2, 4096 4096, 8192 4096, 0 4096
+wrote 0: next
 wrote 0: next
 wrote 0: committed 1
 logged 0: done
@@ -72,7 +75,8 @@ cleaned 0: done
 idle: yes
 receive 0: received
 begin 0: began 1 0
-block 0: write 2, 8192 4096, 0 4096
+block 0: write 2, 8192 4096, 12288 4096, 0 4096
+wrote 0: next
 wrote 0: next
 wrote 0: committed 1
 logged 0: done
@@ -98,7 +102,8 @@ ask 8: no
 put 5 50: queued 10
 receive 1: received
 begin 1: began 1 0
-block 1: write 0, 4096 4096, 0 4096
+block 1: write 0, 4096 4096, 8192 4096, 0 4096
+wrote 1: next
 wrote 1: next
 wrote 1: committed 1
 logged 1: done
