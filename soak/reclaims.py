@@ -128,6 +128,8 @@ class Answers:
         # The same of what was put since the last wait, with no place for a text that is too great; and what may be a piece.
         self.queued = {}
         self.kept = {}
+        # Of each key every put since the last wait that fits, and that no delete came after.
+        self.unwaited = collections.defaultdict(list)
         self.queued_bytes = 0
         self.record_bytes = 0
         self.waited_bytes = 0
@@ -169,9 +171,11 @@ class Answers:
         self.kept[key] = (count, length)
         if length > self.max_length:
             self.figures["too great"] += 1
+            self.forget(key)
             self.queued[key] = (count, length, None)
             return
         self.queued[key] = (count, length, self.record_bytes)
+        self.unwaited[key].append(self.queued[key])
         self.record_bytes += stored_bytes(length)
 
     def get(self, answer, key):
@@ -211,19 +215,24 @@ class Answers:
         self.forget(key)
 
     def forget(self, key):
-        put = self.written.pop(key, None)
-        if put:
-            self.deleted_bytes[put[2] // self.block] += stored_bytes(put[1])
-            self.batch_deletes += stored_bytes(put[1])
+        """A delete of a key: by a `del`, by a put that was `deleted`, or by a text that is too great for a block."""
+        # It counts for the record that the key has then. This rule once took that for what the last wait wrote, and forgot what
+        # was put since: a record is written as it comes, so a delete that no wait came before counts for it just as well. Nothing
+        # says which of the key's puts was written last by then, so each counts here, and once.
+        puts = self.unwaited.pop(key, [])
+        if key in self.written:
+            puts.append(self.written.pop(key))
+        for _, length, place in puts:
+            self.deleted_bytes[place // self.block] += stored_bytes(length)
+            self.batch_deletes += stored_bytes(length)
 
     def wait(self):
         self.figures["waits"] += 1
         for key, put in self.queued.items():
             if put[2] is not None:
                 self.written[key] = put
-            else:
-                self.forget(key)
         self.queued.clear()
+        self.unwaited.clear()
         self.kept.clear()
         self.queued_bytes = 0
         if self.batch_deletes:
