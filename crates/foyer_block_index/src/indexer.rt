@@ -214,7 +214,7 @@ impl<A: Allocator + Clone> Indexer<A> {
     /// Inserts addresses in order, answers none of them, and gives the batch back empty, with its memory. Memory is the only
     /// refusal, and comes only where a hash of the batch has nothing yet and a shard lacks room. A large batch goes in faster
     /// than by `insert_batch`, since it is ordered by shard first. That takes up to twice its bytes; if they are refused, it
-    /// goes in as it came.
+    /// goes in unordered.
     pub fn insert_all(
         &mut self,
         batch: Vec<HashedEntryAddress, A>,

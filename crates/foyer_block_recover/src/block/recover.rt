@@ -112,7 +112,7 @@ impl RecoverRunner {
     /// Reads the indices of all blocks, one block after the other, and gives what they and the marks of deletes make of
     /// the index, of so many shards, the next sequence and the clean blocks. Allocates a buffer of one index, what is given,
     /// and entries that are gathered before they are inserted: 4,096 of them, or an eighth of those before, and one block's.
-    /// To order these it takes up to twice their bytes more; if that is refused, they go in as they came, which is slower.
+    /// To order these it takes up to twice their bytes more; if that is refused, they go in unordered, which is slower.
     ///
     /// `Recover` where a read failed in `Strict`; else `SequenceEnd` where an entry that is kept, or a mark, has the last
     /// sequence; `Memory` at any time. What is on the disk stays as it is. Whatever was read, each address that is found
