@@ -12,17 +12,30 @@
 #include <sys/wait.h>
 #include <unistd.h>
 
-enum { HEAD_LEN = 13, REPLY_LEN = 9, MOST_SETTINGS = 32 };
+enum { HEAD_LEN = 13, REPLY_LEN = 9, MOST_SETTINGS = 32, MOST_AT_ONCE = 256 };
 
-/* What may be asked for before a reply is read: less than a pipe holds, so that neither side waits for the other for ever. */
+/* What one call may ask for before a reply is read: less than a pipe holds, so that neither side waits for the other for ever. */
 static const size_t AHEAD = 32 * 1024;
 
+/* A request whose reply is awaited, in the memory of the thread that asked. */
+struct asked {
+    uint32_t number;
+    enum { AWAITED, TAKEN, DONE } state;
+    int code;
+    foyer_value *value; /* where a value goes, or NULL */
+    struct asked *next;
+};
+
+/* Threads send under one lock, and one of those that wait reads replies, for itself and for the others. Who has a reply to come never waits for
+ * the lock of sending without reading, so that a program that waits for its replies to be read goes on. */
 struct foyer_cache {
-    pthread_mutex_t lock;
+    pthread_mutex_t sending, known;
+    pthread_cond_t changed;
+    struct asked *awaited; /* this and what follows is looked at under `known` */
+    int is_reading, has_ended;
+    uint32_t number;
     pid_t program;
     int to, from;
-    int has_ended;
-    uint32_t number;
 };
 
 static void put_number(unsigned char *at, uint32_t number) {
@@ -33,16 +46,13 @@ static uint32_t number_at(const unsigned char *at) {
     return (uint32_t)at[0] | (uint32_t)at[1] << 8 | (uint32_t)at[2] << 16 | (uint32_t)at[3] << 24;
 }
 
-/* Writes all, or ends the cache. Its caller holds the signal of a broken pipe back. */
+/* Writes all. Its caller holds the signal of a broken pipe back. */
 static int send_all(foyer_cache *cache, const void *bytes, size_t len) {
     const char *at = bytes;
     while (len > 0) {
         ssize_t count = write(cache->to, at, len);
         if (count < 0 && errno == EINTR) continue;
-        if (count <= 0) {
-            cache->has_ended = 1;
-            return -1;
-        }
+        if (count <= 0) return -1;
         at += count;
         len -= (size_t)count;
     }
@@ -54,10 +64,7 @@ static int take_all(foyer_cache *cache, void *bytes, size_t len) {
     while (len > 0) {
         ssize_t count = read(cache->from, at, len);
         if (count < 0 && errno == EINTR) continue;
-        if (count <= 0) {
-            cache->has_ended = 1;
-            return -1;
-        }
+        if (count <= 0) return -1;
         at += count;
         len -= (size_t)count;
     }
@@ -102,33 +109,47 @@ static void release_signal(const held_signal *held) {
     pthread_sigmask(SIG_SETMASK, &held->mask, NULL);
 }
 
-static int send_request(foyer_cache *cache, char kind, const void *key, size_t key_len, const void *value, size_t value_len) {
+/* Sends a request, and awaits its reply in `own`. Its caller has the lock of sending. */
+static void send_request(foyer_cache *cache, struct asked *own, char kind, const void *key, size_t key_len, const void *value, size_t value_len) {
     unsigned char head[HEAD_LEN];
     held_signal held;
-    int failed;
-    if (cache->has_ended || key_len > UINT32_MAX || value_len > UINT32_MAX) return -1;
-    cache->number++;
+    pthread_mutex_lock(&cache->known);
+    int failed = cache->has_ended || key_len > UINT32_MAX || value_len > UINT32_MAX;
+    own->number = ++cache->number;
+    own->state = failed ? DONE : AWAITED;
+    own->code = FOYER_ENDED;
+    own->next = cache->awaited;
+    if (!failed) cache->awaited = own;
+    pthread_mutex_unlock(&cache->known);
+    if (failed) return;
     head[0] = (unsigned char)kind;
-    put_number(head + 1, cache->number);
+    put_number(head + 1, own->number);
     put_number(head + 5, (uint32_t)key_len);
     put_number(head + 9, (uint32_t)value_len);
     hold_signal(&held);
     failed = send_all(cache, head, sizeof head) || send_all(cache, key, key_len) || send_all(cache, value, value_len);
     release_signal(&held);
-    return failed ? -1 : 0;
+    if (!failed) return;
+    pthread_mutex_lock(&cache->known);
+    cache->has_ended = 1;
+    pthread_cond_broadcast(&cache->changed);
+    pthread_mutex_unlock(&cache->known);
 }
 
-/* Reads the reply to a number. */
-static int take_reply(foyer_cache *cache, uint32_t number, foyer_value *value) {
-    unsigned char head[REPLY_LEN];
-    if (cache->has_ended || take_all(cache, head, sizeof head)) return FOYER_ENDED;
-    int code = head[4];
-    size_t len = number_at(head + 5);
-    if (number_at(head) != number || code >= 128) {
-        cache->has_ended = 1;
-        return FOYER_ENDED;
+/* Takes a request out of those that are awaited; NULL if it isn't there. */
+static struct asked *take_awaited(foyer_cache *cache, uint32_t number) {
+    for (struct asked **at = &cache->awaited; *at != NULL; at = &(*at)->next) {
+        struct asked *found = *at;
+        if (found->number != number) continue;
+        *at = found->next;
+        return found;
     }
-    if (value == NULL || (code != FOYER_ENTRY && code != FOYER_DONE)) return skip(cache, len) ? FOYER_ENDED : code;
+    return NULL;
+}
+
+/* Reads the bytes of a reply for who awaits it: its code. */
+static int read_value(foyer_cache *cache, struct asked *whose, int code, size_t len) {
+    if (whose->value == NULL || (code != FOYER_ENTRY && code != FOYER_DONE)) return skip(cache, len) ? FOYER_ENDED : code;
     char *bytes = malloc(len + 1);
     if (bytes == NULL) return skip(cache, len) ? FOYER_ENDED : FOYER_NO_MEMORY;
     if (take_all(cache, bytes, len)) {
@@ -136,17 +157,57 @@ static int take_reply(foyer_cache *cache, uint32_t number, foyer_value *value) {
         return FOYER_ENDED;
     }
     bytes[len] = 0;
-    value->bytes = bytes;
-    value->len = len;
+    whose->value->bytes = bytes;
+    whose->value->len = len;
     return code;
 }
 
+/* Reads one reply, for whoever awaits it. No lock is held while it reads. */
+static void read_reply(foyer_cache *cache) {
+    unsigned char head[REPLY_LEN];
+    struct asked *whose = NULL;
+    int has_come = take_all(cache, head, sizeof head) == 0, code = FOYER_ENDED;
+    if (has_come && head[4] < 128) {
+        pthread_mutex_lock(&cache->known);
+        whose = take_awaited(cache, number_at(head));
+        if (whose != NULL) whose->state = TAKEN;
+        pthread_mutex_unlock(&cache->known);
+    }
+    if (whose != NULL) code = read_value(cache, whose, head[4], number_at(head + 5));
+    pthread_mutex_lock(&cache->known);
+    if (whose != NULL) {
+        whose->code = code;
+        whose->state = DONE;
+    }
+    if (code == FOYER_ENDED) cache->has_ended = 1;
+}
+
+/* Waits for the reply to a request: its code. */
+static int take_reply(foyer_cache *cache, struct asked *own) {
+    pthread_mutex_lock(&cache->known);
+    while (own->state != DONE && !(own->state == AWAITED && cache->has_ended)) {
+        if (cache->is_reading) {
+            pthread_cond_wait(&cache->changed, &cache->known);
+            continue;
+        }
+        cache->is_reading = 1;
+        pthread_mutex_unlock(&cache->known);
+        read_reply(cache); /* has the lock again */
+        cache->is_reading = 0;
+        pthread_cond_broadcast(&cache->changed);
+    }
+    if (own->state == AWAITED) take_awaited(cache, own->number);
+    pthread_mutex_unlock(&cache->known);
+    return own->code;
+}
+
 static int call(foyer_cache *cache, char kind, const void *key, size_t key_len, const void *value, size_t value_len, foyer_value *found) {
-    int code = FOYER_ENDED;
-    pthread_mutex_lock(&cache->lock);
-    if (send_request(cache, kind, key, key_len, value, value_len) == 0) code = take_reply(cache, cache->number, found);
-    pthread_mutex_unlock(&cache->lock);
-    return code;
+    struct asked own = {0};
+    own.value = found;
+    pthread_mutex_lock(&cache->sending);
+    send_request(cache, &own, kind, key, key_len, value, value_len);
+    pthread_mutex_unlock(&cache->sending);
+    return take_reply(cache, &own);
 }
 
 int foyer_put(foyer_cache *cache, const void *key, size_t key_len, const void *value, size_t value_len) {
@@ -178,27 +239,26 @@ int foyer_counters(foyer_cache *cache, foyer_value *lines) {
 }
 
 int foyer_get_many(foyer_cache *cache, size_t count, const void *const *keys, const size_t *key_lens, int *codes, foyer_value *values) {
+    struct asked asked[MOST_AT_ONCE];
     size_t sent = 0, taken = 0, ahead = 0;
-    int has_failed = 0;
-    pthread_mutex_lock(&cache->lock);
-    uint32_t first = cache->number + 1;
-    while (taken < count && !has_failed) {
-        while (sent < count && (sent == taken || ahead + HEAD_LEN + key_lens[sent] <= AHEAD)) {
-            if (send_request(cache, 'g', keys[sent], key_lens[sent], NULL, 0)) {
-                has_failed = 1;
-                break;
-            }
+    int has_ended = 0;
+    while (taken < count) {
+        int is_room = sent < count && (sent == taken || (sent - taken < MOST_AT_ONCE && ahead + HEAD_LEN + key_lens[sent] <= AHEAD));
+        if (is_room && sent == taken) pthread_mutex_lock(&cache->sending);
+        else if (is_room && pthread_mutex_trylock(&cache->sending)) is_room = 0;
+        if (is_room) {
+            struct asked *own = &asked[sent % MOST_AT_ONCE];
+            own->value = &values[sent];
+            send_request(cache, own, 'g', keys[sent], key_lens[sent], NULL, 0);
+            pthread_mutex_unlock(&cache->sending);
             ahead += HEAD_LEN + key_lens[sent++];
+            continue;
         }
-        if (has_failed) break;
-        codes[taken] = take_reply(cache, first + (uint32_t)taken, &values[taken]);
+        codes[taken] = take_reply(cache, &asked[taken % MOST_AT_ONCE]);
         ahead -= HEAD_LEN + key_lens[taken];
-        has_failed = codes[taken] == FOYER_ENDED;
-        if (!has_failed) taken++;
+        has_ended |= codes[taken++] == FOYER_ENDED;
     }
-    for (size_t i = taken; i < count; i++) codes[i] = FOYER_ENDED;
-    pthread_mutex_unlock(&cache->lock);
-    return taken == count ? FOYER_DONE : FOYER_ENDED;
+    return has_ended ? FOYER_ENDED : FOYER_DONE;
 }
 
 /* Held from a pipe's making to its program's start, so that no program of another cache keeps its ends. */
@@ -261,7 +321,9 @@ foyer_cache *foyer_open(const char *program, const char *directory, const char *
         free(cache);
         return NULL;
     }
-    pthread_mutex_init(&cache->lock, NULL);
+    pthread_mutex_init(&cache->sending, NULL);
+    pthread_mutex_init(&cache->known, NULL);
+    pthread_cond_init(&cache->changed, NULL);
     if (foyer_contains(cache, NULL, 0) == FOYER_ENDED) {
         foyer_close(cache);
         return NULL;
@@ -282,7 +344,9 @@ int foyer_close(foyer_cache *cache) {
     while (waitpid(cache->program, &status, 0) < 0 && errno == EINTR) {
     }
     status = WIFEXITED(status) ? WEXITSTATUS(status) : -1;
-    pthread_mutex_destroy(&cache->lock);
+    pthread_mutex_destroy(&cache->sending);
+    pthread_mutex_destroy(&cache->known);
+    pthread_cond_destroy(&cache->changed);
     free(cache);
     return status;
 }

@@ -6,7 +6,7 @@
  *     if (foyer_get(cache, "key", 3, &value) == FOYER_ENTRY) { fwrite(value.bytes, 1, value.len, stdout); free(value.bytes); }
  *     foyer_close(cache);
  *
- * Threads may share a cache: each call takes its lock. docs/PIPE.md has the frames and the codes. */
+ * Threads may share a cache: each call waits for its own reply, and others go on meanwhile. docs/PIPE.md has the frames and the codes. */
 #ifndef FOYER_CLIENT_H
 #define FOYER_CLIENT_H
 
@@ -62,8 +62,8 @@ int foyer_destroy(foyer_cache *cache);
 /* What the cache did, a line "name number" each. */
 int foyer_counters(foyer_cache *cache, foyer_value *lines);
 
-/* Gets many keys, asked for at once: codes[i] and, for FOYER_ENTRY, values[i]. FOYER_DONE, or FOYER_ENDED: then the codes are that from the
- * first key on that wasn't answered. */
+/* Gets many keys, asked for at once: codes[i] and, for FOYER_ENTRY, values[i]. FOYER_DONE, or FOYER_ENDED: then that is the code of each key
+ * that wasn't answered. */
 int foyer_get_many(foyer_cache *cache, size_t count, const void *const *keys, const size_t *key_lens, int *codes, foyer_value *values);
 
 /* Ends the program, which writes what is queued first, and frees the cache: its exit status, 0 if all went well, or -1. */

@@ -1,5 +1,5 @@
 #!/usr/bin/env python3
-"""Asks foyerpipe through its clients in Python and in C, each by the same cases, and runs the examples of docs/PIPE.md and of examples/.
+"""Asks foyerpipe through its clients in Python and in C, each by the same cases, without threads for gets and with two, and runs the examples of docs/PIPE.md and of examples/.
 
 The C client is built with all warnings as errors, and its example with sanitizers, and run under valgrind if that is there. The cases: round
 trips of random bytes; thousands of gets at once; a reopening, with and without a log of deletes; a device that is full; limits; threads
@@ -279,6 +279,7 @@ def tasks_share(opened, rnd, room):
                 return key * 2
 
             check(await cache.get_or(b"new", make) == b"newnew" == await cache.get(b"new"), "tasks: get_or differs")
+            await cache.wait()  # what isn't written yet is there until it is, also after a delete
             await cache.delete(b"new")
             check(not await cache.contains(b"new") and (await cache.counters())["deletes"] > 0, "tasks: a delete does nothing")
             os.kill(own_programs()[0], signal.SIGKILL)
@@ -335,7 +336,7 @@ def killed_caller(opened, rnd, room):
 
 def put_on(kind, program, place, library):
     """What the caller does that is killed."""
-    cache = opener(kind, program, library)(place, 1 << 24, 1 << 20)
+    cache = opener(kind, program, library, 0)(place, 1 << 24, 1 << 20)
     print(own_programs()[0], flush=True)
     while True:
         for k in range(100):
@@ -348,13 +349,13 @@ CASES = [
 ]
 
 
-def opener(kind, program, library):
+def opener(kind, program, library, readers):
     global LIB, LIBC
     LIB, LIBC = ctypes.CDLL(library), ctypes.CDLL(None)
     cache = {"Python": foyer_client.Cache, "C": CCache}[kind]
 
     def opened(place, capacity, block=1 << 24, **options):
-        return cache(program, place, capacity, block, **options)
+        return cache(program, place, capacity, block, readers=readers, **options)
 
     opened.kind, opened.program, opened.library = kind, program, library
     return opened
@@ -398,13 +399,13 @@ def main():
     try:
         library = room + "/client.so"
         run(["cc", *WARNINGS, "-O2", "-fPIC", "-shared", CLIENTS + "/foyer_client.c", "-lpthread", "-o", library])
-        for kind in ("Python", "C"):
-            opened = opener(kind, program, library)
+        for kind, readers in (("Python", 0), ("Python", 2), ("C", 0), ("C", 2)):
+            opened = opener(kind, program, library, readers)
             for case in CASES:
-                place = "%s/%s-%s" % (room, kind, case.__name__)
+                place = "%s/%s-%s-%d" % (room, kind, case.__name__, readers)
                 os.mkdir(place)
                 case(opened, random.Random(args.seed), place)
-                print("%s: %s" % (kind, case.__name__.replace("_", " ")), flush=True)
+                print("%s, readers=%d: %s" % (kind, readers, case.__name__.replace("_", " ")), flush=True)
         run_examples(program, room)
         print("the examples: all held")
     finally:

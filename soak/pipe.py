@@ -1,7 +1,8 @@
 #!/usr/bin/env python3
 """Asks foyerpipe by random frames, one in ten of which is broken, and kills it, and its callers, in between.
 
-Checked: each reply has its request's number and a code of its kind; a get is a miss, or a value of its own key that is no older than what was
+Half of the programs have threads that answer gets. Checked: each request is answered once, and all but gets in their order; a reply has a code of
+its request's kind; a get is a miss, or a value of its own key that is no older than what was
 put before the last wait; what a wait followed and a delete took stays away while the program runs; a broken frame is answered by its
 code and ends the program with status 1; a killed program's directory opens again, and gives whole values of the key that was asked for;
 a program whose caller was killed ends by itself; the program's memory stays below a bound. Ends with status 0 when all held.
@@ -45,8 +46,9 @@ def count_in(key, value):
 
 
 class Program:
-    def __init__(self, program, directory):
-        self.it = subprocess.Popen([program, directory, *SIZES, "flushers=2", "engines=2"], stdin=subprocess.PIPE, stdout=subprocess.PIPE, stderr=subprocess.DEVNULL)
+    def __init__(self, program, directory, readers=0):
+        words = [program, directory, *SIZES, "flushers=2", "engines=2", "readers=%d" % readers]
+        self.it = subprocess.Popen(words, stdin=subprocess.PIPE, stdout=subprocess.PIPE, stderr=subprocess.DEVNULL)
         self.number = 0
 
     def send(self, kind, key=b"", value=b""):
@@ -62,6 +64,23 @@ class Program:
         number, code, length = REPLY.unpack(head)
         found = self.it.stdout.read(length)
         return (number, code, found) if len(found) == length else None
+
+    def take_each(self, batch):
+        """The replies to these requests, in their order: each comes once, and those of all but gets come in that order."""
+        kinds, found, last = {it[0]: it[1] for it in batch}, {}, 0
+        while len(found) < len(batch):
+            came = self.take()
+            if came is None:
+                fail("the program ended with status %s" % self.it.wait())
+            number = came[0]
+            if number not in kinds or number in found:
+                fail("a reply came for %d" % number)
+            if kinds[number] != ord("g"):
+                if number < last:
+                    fail("a reply to %d came after one to %d" % (number, last))
+                last = number
+            found[number] = came
+        return [found[it[0]] for it in batch]
 
     def memory(self):
         with open("/proc/%d/status" % self.it.pid) as it:
@@ -87,7 +106,7 @@ BROKEN = [
 
 def run_frames(args, rnd, directory):
     """One program, asked until a broken frame ends it: how many frames."""
-    program = Program(args.program, directory)
+    program = Program(args.program, directory, rnd.choice([0, 0, 1, 3]))
     newest, floor, deleted = {}, {}, set()
     asked = 0
     for _ in range(args.run):
@@ -103,13 +122,7 @@ def run_frames(args, rnd, directory):
                 batch.append((program.send(bytes([kind]), word), kind, key, None))
             else:
                 batch.append((program.send(bytes([kind])), kind, None, None))
-        for number, kind, key, count in batch:
-            came = program.take()
-            if came is None:
-                fail("the program ended with status %s" % program.it.wait())
-            got, code, found = came
-            if got != number:
-                fail("a reply to %d came for %d" % (got, number))
+        for (_, kind, key, count), (_, code, found) in zip(batch, program.take_each(batch)):
             asked += 1
             if kind == ord("p"):
                 if code == DELETED:

@@ -5,8 +5,9 @@
 
 Over memory and over the files of a directory in the page cache, with values of 100 bytes, 4 KiB and 64 KiB, so many threads only get, only
 put, or get nine times for each put, for so many seconds (2). Keys are drawn by a Zipf distribution of skew 0.99, and all that is asked
-for was put before. Gets read through one I/O engine, and through one for each thread. What counts is gets that are hits and puts that are
-queued: a put that finds too much queued deletes its key. Of several rounds (2) the best rate counts, with the latencies of its round. It prints tables in Markdown; `--figures` keeps the figures as JSON, and a file that is there is drawn
+for was put before. Gets read through one I/O engine, and through one for each thread. Puts have one flusher, one for each thread, and one and
+patience: a put that finds too much queued looks again up to 1,000 times, else it deletes its key. What counts is gets that are hits and puts
+that are queued. Of several rounds (2) the best rate counts, with the latencies of its round. It prints tables in Markdown; `--figures` keeps the figures as JSON, and a file that is there is drawn
 without a run; `--picture` draws docs/performance.svg's picture. It ends with status 0, 1 where a run answered wrongly, 2 for bad arguments.
 """
 
@@ -36,11 +37,23 @@ class Wrong(Exception):
     """A run that was answered wrongly."""
 
 
-def run_once(options, place, size, gets, threads, engines, seed):
+# How puts are called: with one flusher, with one for each thread, and with patience.
+PLAIN, FLUSHERS, PATIENT = "one flusher", "a flusher each", "patience"
+
+
+def ways(calls, threads):
+    """The engines that gets read through and how puts are called, for each run of so many threads."""
+    if calls != "puts":
+        return [(engines, PLAIN) for engines in sorted({1, threads})]
+    return [(1, way) for way in (PLAIN, FLUSHERS, PATIENT) if way != FLUSHERS or threads > 1]
+
+
+def run_once(options, place, size, gets, threads, engines, way, seed):
     value, keys, block, capacity = size
     directory = ":memory:" if place == "memory" else os.path.join(options.directory, "bench")
     words = [options.binary, directory, capacity, block, threads, value, options.seconds,
              f"gets={gets}", f"keys={keys}", f"fill={keys}", f"engines={engines}", f"seed={seed}"]
+    words += {FLUSHERS: [f"flushers={threads}"], PATIENT: ["patience=1000"]}.get(way, [])
     try:
         ran = subprocess.run([str(it) for it in words], capture_output=True, timeout=600, check=False)
     finally:
@@ -64,11 +77,11 @@ def figures_of(options):
         for size in SIZES:
             for calls, gets in CALLS:
                 for threads in options.threads:
-                    for engines in sorted({1, threads}) if gets else (1,):
-                        rounds = [run_once(options, place, size, gets, threads, engines, n + 1) for n in range(options.rounds)]
+                    for engines, way in ways(calls, threads):
+                        rounds = [run_once(options, place, size, gets, threads, engines, way, n + 1) for n in range(options.rounds)]
                         best = max(rounds, key=lambda it: it["rate"])
-                        figures.append(dict(best, place=place, bytes=size[0], calls=calls, threads=threads, engines=engines))
-                        print(f"{place} {size[0]} {calls} {threads} {engines}: {best['rate']}", file=sys.stderr)
+                        figures.append(dict(best, place=place, bytes=size[0], calls=calls, threads=threads, engines=engines, way=way))
+                        print(f"{place} {size[0]} {calls} {threads} {engines} {way}: {best['rate']}", file=sys.stderr)
     return figures
 
 
@@ -76,16 +89,32 @@ def named(size):
     return f"{size} bytes" if size < 1024 else f"{size >> 10} KiB"
 
 
+def print_puts(figures):
+    """Rates of puts, by threads and how they are called."""
+    counts = sorted({(it["threads"], it["way"]) for it in figures}, key=lambda it: (it[0], [PLAIN, FLUSHERS, PATIENT].index(it[1])))
+    print("Thousand queued puts a second, by threads:\n")
+    print("| Where, bytes | " + " | ".join(f"{t}, {way}" for t, way in counts) + " |")
+    print("|-" * (len(counts) + 1) + "|")
+    for place, size in sorted({(it["place"], it["bytes"]) for it in figures}):
+        row = {(it["threads"], it["way"]): it["rate"] for it in figures if (it["place"], it["bytes"]) == (place, size)}
+        print(f"| {place}, {named(size)} | " + " | ".join(f"{row[it] / 1000:.0f}" for it in counts) + " |")
+    print()
+
+
 def print_tables(figures):
     """Rates, and latencies of one thread and of most threads."""
-    counts = sorted({(it["threads"], it["engines"]) for it in figures})
-    print("Thousand hits and queued puts a second, by threads and the I/O engines that gets read through:\n")
+    print_puts([it for it in figures if it["calls"] == "puts"])
+    figures = [it for it in figures if it["way"] == PLAIN]
+    counts = sorted({(it["threads"], it["engines"]) for it in figures if it["calls"] != "puts"})
+    print("Thousand hits a second, and of mixed calls queued puts too, by threads and the I/O engines that gets read through:\n")
     print("| Where, bytes, calls | " + " | ".join(f"{t}, {e}" for t, e in counts) + " |")
     print("|-" * (len(counts) + 1) + "|")
     rows = {}
     for it in figures:
         rows.setdefault((it["place"], it["bytes"], it["calls"]), {})[it["threads"], it["engines"]] = it
     for (place, size, calls), row in rows.items():
+        if calls == "puts":
+            continue
         cells = [f"{row[it]['rate'] / 1000:.0f}" if it in row else "" for it in counts]
         print(f"| {place}, {named(size)}, {calls} | " + " | ".join(cells) + " |")
     print("\nMicroseconds that half, 99 and 99.9 of a hundred calls took at most:\n")
@@ -119,7 +148,7 @@ WIDTH, HEIGHT, LEFT, TOP = 300, 150, 24, 64
 
 
 def panel(x, y, title, bars):
-    """A panel of bars: each is a label, a rate, and whether each thread has an engine of its own."""
+    """A panel of bars: each is a label, a rate, and whether each thread has an engine of its own, or puts have patience."""
     greatest = max(rate for _, rate, _ in bars)
     parts = [f'  <text x="{x}" y="{y - 10}">{title}</text>', f'  <path class="axis" d="M{x} {y + 100} h{WIDTH - 30}"/>']
     step = (WIDTH - 40) / len(bars)
@@ -142,12 +171,13 @@ def draw(figures, path):
         f'  <rect class="page" x="0.5" y="0.5" width="{width - 1}" height="{height - 1}" rx="10"/>',
         f'  <text class="n" x="{LEFT}" y="26">Thousand hits and queued puts a second</text>',
         f'  <rect class="one" x="{LEFT + 390}" y="16" width="12" height="12"/><text x="{LEFT + 408}" y="26">gets read through one I/O engine</text>',
-        f'  <rect class="each" x="{LEFT + 640}" y="16" width="12" height="12"/><text x="{LEFT + 658}" y="26">one for each thread</text>',
+        f'  <rect class="each" x="{LEFT + 640}" y="16" width="12" height="12"/><text x="{LEFT + 658}" y="26">one for each thread; puts with patience</text>',
     ]
     for row, (place, calls) in enumerate((place, calls) for place in PLACES for calls, _ in CALLS):
         for column, size in enumerate(SIZES):
             found = [it for it in figures if (it["place"], it["calls"], it["bytes"]) == (place, calls, size[0])]
-            bars = [(f"{it['threads']}t", it["rate"], it["engines"] > 1) for it in sorted(found, key=lambda it: (it["threads"], it["engines"]))]
+            found = sorted((it for it in found if it["way"] != FLUSHERS), key=lambda it: (it["threads"], it["engines"], it["way"] == PATIENT))
+            bars = [(f"{it['threads']}t", it["rate"], it["engines"] > 1 or it["way"] == PATIENT) for it in found]
             if bars:
                 parts += panel(LEFT + column * WIDTH, TOP + row * HEIGHT, f"{calls} of {named(size[0])}, {place}", bars)
     with open(path, "w", encoding="utf-8") as file:

@@ -281,7 +281,8 @@ where
         .with_block_size(block_size)
         .with_load_engines(plan.engines as usize)
         .with_flushers(u32::try_from(plan.flushers).unwrap_or(u32::MAX))
-        .with_recover_concurrency(plan.recoverers as usize);
+        .with_recover_concurrency(plan.recoverers as usize)
+        .with_enqueue_patience(u32::try_from(plan.patience).unwrap_or(u32::MAX));
     let builder = StoreBuilder::new("foyerbench", IdentityHashBuilder, 64)
         .with_engine_config(config)
         .with_io_engine_config(io_engine);

@@ -23,6 +23,7 @@ name_of setting.Fill = codes "fill"
 name_of setting.Engines = codes "engines"
 name_of setting.Flushers = codes "flushers"
 name_of setting.Recoverers = codes "recoverers"
+name_of setting.Patience = codes "patience"
 name_of setting.Through = codes "through"
 name_of setting.Reinsert = codes "reinsert"
 
@@ -40,6 +41,7 @@ greatest_of setting.Gets = 100
 greatest_of setting.Engines = 1024
 greatest_of setting.Flushers = 1024
 greatest_of setting.Recoverers = 1024
+greatest_of setting.Patience = 2 ^ 32 - 1
 greatest_of setting.Through = 1
 greatest_of setting.Reinsert = 1
 greatest_of _ = 2 ^ 64 - 1

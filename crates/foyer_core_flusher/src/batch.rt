@@ -19,7 +19,6 @@ use std::collections::VecDeque;
 static ZEROS: [u8; PAGE] = [0; PAGE];
 
 /// The bytes of a write: records, which share the pages of their batch, zeros behind them, or the index of a blob.
-#[derive(Drop)]
 pub enum WriteBytes<A: Allocator> {
     /// The records of a part.
     Data(IoSlice<A>),
@@ -27,6 +26,17 @@ pub enum WriteBytes<A: Allocator> {
     Zeros,
     /// The index of a blob.
     Index(IoSliceMut<A>),
+}
+
+// Written out, so that it is proved once.
+impl<A: Allocator> Drop for WriteBytes<A> {
+    fn drop(self) {
+        match self {
+            WriteBytes::Data(_) => {}
+            WriteBytes::Zeros => {}
+            WriteBytes::Index(_) => {}
+        }
+    }
 }
 
 impl<A: Allocator> WriteBytes<A> {
@@ -43,11 +53,20 @@ impl<A: Allocator> WriteBytes<A> {
 }
 
 /// A write that a reply issues: these bytes, whole pages, at this offset of the block.
-#[derive(Drop)]
 pub struct Write<A: Allocator> {
     /// In bytes from the block's start.
     pub offset: usize,
     pub bytes: WriteBytes<A>,
+}
+
+// Written out, so that it is proved once.
+impl<A: Allocator> Drop for Write<A> {
+    fn drop(self) {
+        let Write {
+            offset: _,
+            bytes: _,
+        } = self;
+    }
 }
 
 /// The block that a batch is writing.

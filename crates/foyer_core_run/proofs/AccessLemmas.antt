@@ -1,10 +1,11 @@
 -- A step, a load and a block's writes, as runs of moves.
-use Rattle.std.proofs.Common.{◌≡◌, ℕ, ◌+◌, ◌<◌, ◌≤◌, Bool, true, false, List, [], ◌∷◌, ◌++◌, ◌⊎◌, inl, inr, length, replicate, Option, Some, None, Result, slice_get, slice_set, refl, sym, ap, subst, ◌∙◌, arith}
+use Rattle.std.proofs.Common.{◌≡◌, ℕ, ◌+◌, ◌<◌, ◌≤◌, Bool, true, false, not, ◌||◌, List, [], ◌∷◌, ◌++◌, ◌⊎◌, inl, inr, length, replicate, Option, Some, None, Result, Ok, Err, slice_get, slice_set, refl, sym, ap, subst, ◌∙◌, arith}
+use Rattle.std.specs.Prelude.{OnErr}
 use Rattle.std.specs.declared.vec.Vec.{Vec}
 use Rattle.foyer_device_page.specs.declared.error.Error.{Error}
 use Rattle.foyer_core_model.specs.World.{World, after_all}
 use Rattle.foyer_core_steps.specs.Answered.{HandsBack}
-use Rattle.foyer_core_steps.specs.Asked.{went_well}
+use Rattle.foyer_core_steps.specs.Asked.{came_of, went_well}
 use Rattle.foyer_core_laws.specs.Content.{Content, Meaning}
 use Rattle.foyer_core_steps.specs.Refines.{IsRefined}
 use Rattle.foyer_core_laws.specs.CoreRules.{machine}
@@ -21,6 +22,7 @@ use Rattle.foyer_core_steps.specs.declared.step.Ticket.{Ticket}
 use Rattle.foyer_core_steps.proofs.Opening.{replicate-end}
 use Rattle.foyer_core_blocks.proofs.ListLemmas.{set_count, set_here}
 use Rattle.foyer_core_run.specs.Accesses.{Says, WritesAll, WritesUntil, load_of, writes_of}
+use Rattle.foyer_core_run.specs.Causes.{is_fault}
 use Rattle.foyer_core_run.specs.Moves.{asked}
 use Rattle.foyer_core_run.specs.Running.{IsFree, IsMoved, at, block_in, cleans_noted, issuing_in, scans_noted, ticket_in, with_ticket}
 use Rattle.foyer_core_run.specs.Runs.{IsFront, IsRun, Runs}
@@ -50,6 +52,14 @@ unscanned s = replicate s.blocks None
 abbrev pub uncleaned : Settings → List Bool
 uncleaned s = replicate s.blocks false
 
+-- of no access it is sure
+abbrev pub nowhere : ℕ → ℕ → ℕ → Type 0
+nowhere b o n = ⊥
+
+sure_nowhere : {X E : Type 0} (r : Result X E) → OnErr r (⊥ → ⊥)
+sure_nowhere (Ok x) = tt
+sure_nowhere (Err e) = λ none. none
+
 -- a reply that isn't a read issues no ticket
 pub no_ticket : {K V P A : Type 0} (answer : Reply K V P A) → ((t : Ticket) → answer ≡ reply.Read t → ⊥) → ticket_in answer ≡ None
 no_ticket (reply.Read t) not = absurd (not t refl)
@@ -65,62 +75,62 @@ module _ {K V P A : Type 0} (m : Meaning K V P) (s : Settings) (sound : AreValid
   pub step_alone : (encodes : Encodes m) (w : World Content) (x : Move K V P A) (given : Step K V P A) (answer : Reply K V P A) (old new : Core K V P A) (bytes : ℕ → ℕ → ℕ)
       → IsStateOf m s old w.core → ((b o : ℕ) → w.bytes b o ≡ bytes b o) → asked x ≡ asks.Step given → IsFree given
       → HandsBack given answer old new → ((v : World Content) → IsStateOf m s old v.core → IsRefined m s sound given answer new v.core)
-      → IsGoing m s sound w (x ∷ []) (with_ticket (ticket_in answer) []) (unnoted s) (scans_noted (issuing_in given) s.blob_index_size answer (unscanned s)) (cleans_noted (issuing_in given) answer (uncleaned s)) (answer ∷ []) new bytes
+      → IsGoing m s sound nowhere false w (x ∷ []) (with_ticket (ticket_in answer) []) (unnoted s) (scans_noted (issuing_in given) s.blob_index_size answer (unscanned s)) (cleans_noted (issuing_in given) answer (uncleaned s)) (answer ∷ []) new bytes
   step_alone encodes w x given answer old new bytes stands same is free back meets =
-      let going = going_first m s sound w (unnoted s) (unscanned s) (uncleaned s) old bytes stands same refl refl refl in
+      let going = going_first m s sound nowhere w (unnoted s) (unscanned s) (uncleaned s) old bytes stands same refl refl refl in
       let scans = scans_noted (issuing_in given) s.blob_index_size answer (unscanned s) in
       let cleans = cleans_noted (issuing_in given) answer (uncleaned s) in
       let v = after_all (machine m s sound) w going.events in
-      going_on m s sound w [] x [] (with_ticket (ticket_in answer) []) (unnoted s) (unnoted s) (unscanned s) scans (uncleaned s) cleans [] (answer ∷ []) old new bytes bytes going
-      (subst (λ y. IsMoved m s sound w y [] (with_ticket (ticket_in answer) []) (unnoted s) scans cleans (answer ∷ []) new bytes v) (sym is)
-      (step_moves m s sound encodes w given answer [] (with_ticket (ticket_in answer) []) (unnoted s) (unscanned s) scans (uncleaned s) cleans [] (answer ∷ []) old new bytes v going.running free back (meets v (going.running).stands) refl refl refl refl))
+      going_on m s sound nowhere false false w [] x [] (with_ticket (ticket_in answer) []) (unnoted s) (unnoted s) (unscanned s) scans (uncleaned s) cleans [] (answer ∷ []) old new bytes bytes going
+      (subst (λ y. IsMoved m s sound nowhere false w y [] (with_ticket (ticket_in answer) []) (unnoted s) scans cleans (answer ∷ []) new bytes v) (sym is)
+      (step_moves m s sound encodes nowhere w given answer [] (with_ticket (ticket_in answer) []) (unnoted s) (unscanned s) scans (uncleaned s) cleans [] (answer ∷ []) old new bytes v going.running free back (meets v (going.running).stands) refl refl refl refl))
 
   -- a look-up that issues no read is a load's end too
   pub load_alone : (w : World Content) (hash : ℕ) (throttled : _) (answer : Reply K V P A) (new : Core K V P A) (bytes : ℕ → ℕ → ℕ)
-      → IsGoing m s sound w (move.LoadBegin hash throttled ∷ []) (with_ticket (ticket_in answer) []) (unnoted s) (unscanned s) (uncleaned s) (answer ∷ []) new bytes → ticket_in answer ≡ None
-      → IsGoing m s sound w (load_of hash throttled) [] (unnoted s) (unscanned s) (uncleaned s) (answer ∷ []) new bytes
+      → IsGoing m s sound nowhere false w (move.LoadBegin hash throttled ∷ []) (with_ticket (ticket_in answer) []) (unnoted s) (unscanned s) (uncleaned s) (answer ∷ []) new bytes → ticket_in answer ≡ None
+      → IsGoing m s sound nowhere false w (load_of hash throttled) [] (unnoted s) (unscanned s) (uncleaned s) (answer ∷ []) new bytes
   load_alone w hash throttled answer new bytes going none =
-      let begun = subst (λ o. IsGoing m s sound w (move.LoadBegin hash throttled ∷ []) (with_ticket o []) (unnoted s) (unscanned s) (uncleaned s) (answer ∷ []) new bytes) none going in
-      going_on m s sound w (move.LoadBegin hash throttled ∷ []) (move.LoadEnd 0) [] [] (unnoted s) (unnoted s) (unscanned s) (unscanned s) (uncleaned s) (uncleaned s) (answer ∷ []) (answer ∷ []) new new bytes bytes begun
-      (load_passes m s sound w 0 [] (unnoted s) (unscanned s) (uncleaned s) (answer ∷ []) new bytes (after_all (machine m s sound) w begun.events) begun.running refl)
+      let begun = subst (λ o. IsGoing m s sound nowhere false w (move.LoadBegin hash throttled ∷ []) (with_ticket o []) (unnoted s) (unscanned s) (uncleaned s) (answer ∷ []) new bytes) none going in
+      going_on m s sound nowhere false false w (move.LoadBegin hash throttled ∷ []) (move.LoadEnd 0) [] [] (unnoted s) (unnoted s) (unscanned s) (unscanned s) (uncleaned s) (uncleaned s) (answer ∷ []) (answer ∷ []) new new bytes bytes begun
+      (load_passes m s sound nowhere w 0 [] (unnoted s) (unscanned s) (uncleaned s) (answer ∷ []) new bytes (after_all (machine m s sound) w begun.events) begun.running refl)
 
   -- a look-up that issues a read, and the load's end with what the read brought
   pub load_whole : (w : World Content) (hash : ℕ) (throttled : _) (ticket : Ticket) (outcome : Result (Vec ℕ A) Error) (issued answer : Reply K V P A) (old new : Core K V P A) (bytes : ℕ → ℕ → ℕ)
-      → IsGoing m s sound w (move.LoadBegin hash throttled ∷ []) (with_ticket (ticket_in issued) []) (unnoted s) (unscanned s) (uncleaned s) (issued ∷ []) old bytes → ticket_in issued ≡ Some ticket
+      → IsGoing m s sound nowhere false w (move.LoadBegin hash throttled ∷ []) (with_ticket (ticket_in issued) []) (unnoted s) (unscanned s) (uncleaned s) (issued ∷ []) old bytes → ticket_in issued ≡ Some ticket
       → IsCome bytes ticket outcome
       → ((v : World Content) → IsStateOf m s old v.core → IsRefined m s sound (step.LoadEnd ticket outcome) answer new v.core)
-      → IsGoing m s sound w (load_of hash throttled) (with_ticket (ticket_in answer) (None ∷ [])) (unnoted s) (unscanned s) (uncleaned s) (issued ∷ answer ∷ []) new bytes
+      → IsGoing m s sound nowhere (is_fault (came_of outcome)) w (load_of hash throttled) (with_ticket (ticket_in answer) (None ∷ [])) (unnoted s) (unscanned s) (uncleaned s) (issued ∷ answer ∷ []) new bytes
   load_whole w hash throttled ticket outcome issued answer old new bytes going is come meets =
-      let begun = subst (λ o. IsGoing m s sound w (move.LoadBegin hash throttled ∷ []) (with_ticket o []) (unnoted s) (unscanned s) (uncleaned s) (issued ∷ []) old bytes) is going in
+      let begun = subst (λ o. IsGoing m s sound nowhere false w (move.LoadBegin hash throttled ∷ []) (with_ticket o []) (unnoted s) (unscanned s) (uncleaned s) (issued ∷ []) old bytes) is going in
       let v = after_all (machine m s sound) w begun.events in
-      going_on m s sound w (move.LoadBegin hash throttled ∷ []) (move.LoadEnd 0) (Some ticket ∷ []) (with_ticket (ticket_in answer) (None ∷ [])) (unnoted s) (unnoted s) (unscanned s) (unscanned s) (uncleaned s) (uncleaned s) (issued ∷ []) (issued ∷ answer ∷ []) old new bytes bytes begun
-      (load_moves m s sound w 0 ticket outcome answer (Some ticket ∷ []) (with_ticket (ticket_in answer) (None ∷ [])) (unnoted s) (unscanned s) (uncleaned s) (issued ∷ []) (issued ∷ answer ∷ []) old new bytes v
-      begun.running refl come (meets v (begun.running).stands) refl refl)
+      going_on m s sound nowhere false (is_fault (came_of outcome)) w (move.LoadBegin hash throttled ∷ []) (move.LoadEnd 0) (Some ticket ∷ []) (with_ticket (ticket_in answer) (None ∷ [])) (unnoted s) (unnoted s) (unscanned s) (unscanned s) (uncleaned s) (uncleaned s) (issued ∷ []) (issued ∷ answer ∷ []) old new bytes bytes begun
+      (load_moves m s sound nowhere w 0 ticket outcome answer (Some ticket ∷ []) (with_ticket (ticket_in answer) (None ∷ [])) (unnoted s) (unscanned s) (uncleaned s) (issued ∷ []) (issued ∷ answer ∷ []) old new bytes v
+      begun.running refl come (sure_nowhere outcome) (meets v (begun.running).stands) refl refl)
 
 module _ {K V P A : Type 0} (m : Meaning K V P) where
   -- from each world whose core and bytes are those before, these moves go so far
-  abbrev pub Goes : List (Move K V P A) → List (Option Ticket) → (Settings → List (Option Part)) → (Settings → List Bool) → List (Reply K V P A) → (old new : Core K V P A) → (bytes bytes' : ℕ → ℕ → ℕ) → Type 0
-  Goes moves tickets scans cleans said old new bytes bytes' =
+  abbrev pub Goes : Bool → List (Move K V P A) → List (Option Ticket) → (Settings → List (Option Part)) → (Settings → List Bool) → List (Reply K V P A) → (old new : Core K V P A) → (bytes bytes' : ℕ → ℕ → ℕ) → Type 0
+  Goes failed moves tickets scans cleans said old new bytes bytes' =
       (s : Settings) (sound : AreValid s) (w : World Content) → IsStateOf m s old w.core → ((b o : ℕ) → w.bytes b o ≡ bytes b o)
-      → IsGoing m s sound w moves tickets (unnoted s) (scans s) (cleans s) said new bytes'
+      → IsGoing m s sound nowhere failed w moves tickets (unnoted s) (scans s) (cleans s) said new bytes'
 
   -- the end of what was said
-  pub says_last : (moves : List (Move K V P A)) (tickets : List (Option Ticket)) (scans : Settings → List (Option Part)) (cleans : Settings → List Bool) (before : List (Reply K V P A)) (last : Reply K V P A) (old new : Core K V P A) (bytes bytes' : ℕ → ℕ → ℕ)
-      → Goes moves tickets scans cleans (before ++ last ∷ []) old new bytes bytes' → Says m moves last old new bytes bytes'
-  says_last moves tickets scans cleans before last old new bytes bytes' goes = record {
+  pub says_last : (failed : Bool) (moves : List (Move K V P A)) (tickets : List (Option Ticket)) (scans : Settings → List (Option Part)) (cleans : Settings → List Bool) (before : List (Reply K V P A)) (last : Reply K V P A) (old new : Core K V P A) (bytes bytes' : ℕ → ℕ → ℕ)
+      → Goes failed moves tickets scans cleans (before ++ last ∷ []) old new bytes bytes' → Says m moves last old new bytes bytes'
+  says_last failed moves tickets scans cleans before last old new bytes bytes' goes = record {
     before = before;
-    runs = λ s sound w stands same. gone m s sound w moves tickets (unnoted s) (scans s) (cleans s) (before ++ last ∷ []) new bytes' (goes s sound w stands same);
+    runs = λ s sound w stands same. gone m s sound nowhere failed w moves tickets (unnoted s) (scans s) (cleans s) (before ++ last ∷ []) new bytes' (goes s sound w stands same);
   }
 
   -- these moves were made, and those weren't
-  pub front_is : (moves rest : List (Move K V P A)) (tickets : List (Option Ticket)) (scans : Settings → List (Option Part)) (cleans : Settings → List Bool) (said : List (Reply K V P A)) (old new : Core K V P A) (bytes bytes' : ℕ → ℕ → ℕ)
-      → Goes moves tickets scans cleans said old new bytes bytes' → IsFront m (moves ++ rest) old new bytes bytes'
-  front_is moves rest tickets scans cleans said old new bytes bytes' goes = record {
+  pub front_is : (failed : Bool) (moves rest : List (Move K V P A)) (tickets : List (Option Ticket)) (scans : Settings → List (Option Part)) (cleans : Settings → List Bool) (said : List (Reply K V P A)) (old new : Core K V P A) (bytes bytes' : ℕ → ℕ → ℕ)
+      → Goes failed moves tickets scans cleans said old new bytes bytes' → IsFront m (moves ++ rest) old new bytes bytes'
+  front_is failed moves rest tickets scans cleans said old new bytes bytes' goes = record {
     front = moves;
     rest = rest;
     said = said;
     is = refl;
-    runs = λ s sound w stands same. gone m s sound w moves tickets (unnoted s) (scans s) (cleans s) said new bytes' (goes s sound w stands same);
+    runs = λ s sound w stands same. gone m s sound nowhere failed w moves tickets (unnoted s) (scans s) (cleans s) said new bytes' (goes s sound w stands same);
   }
 
 module _ {K V P A : Type 0} (m : Meaning K V P) (s : Settings) (sound : AreValid s) where
@@ -129,23 +139,24 @@ module _ {K V P A : Type 0} (m : Meaning K V P) (s : Settings) (sound : AreValid
     pub issued : List (Option Issued)
     pub within : f < length issued
     pub noted : at (slice_get issued f) ≡ Some (note b k)
-    pub going : IsGoing m s sound w (writes_of f k) [] issued (unscanned s) (uncleaned s) said core bytes
+    pub failed : Bool
+    pub going : IsGoing m s sound nowhere failed w (writes_of f k) [] issued (unscanned s) (uncleaned s) said core bytes
 
   pub writing_none : (w : World Content) (f : ℕ) (answer : Reply K V P A) (old new : Core K V P A) (bytes : ℕ → ℕ → ℕ) → IsStateOf m s old w.core → ((b o : ℕ) → w.bytes b o ≡ bytes b o)
       → ((v : World Content) → IsStateOf m s old v.core → IsRefined m s sound (step.FlushBlock f) answer new v.core) → block_in answer ≡ None
-      → IsGoing m s sound w (writes_of f 0) (with_ticket (ticket_in answer) []) (unnoted s) (unscanned s) (uncleaned s) (answer ∷ []) new bytes
+      → IsGoing m s sound nowhere false w (writes_of f 0) (with_ticket (ticket_in answer) []) (unnoted s) (unscanned s) (uncleaned s) (answer ∷ []) new bytes
   writing_none w f answer old new bytes stands same meets none =
-      let going = going_first m s sound w (unnoted s) (unscanned s) (uncleaned s) old bytes stands same refl refl refl in
+      let going = going_first m s sound nowhere w (unnoted s) (unscanned s) (uncleaned s) old bytes stands same refl refl refl in
       let v = after_all (machine m s sound) w going.events in
-      going_on m s sound w [] (move.FlushBlock f) [] (with_ticket (ticket_in answer) []) (unnoted s) (unnoted s) (unscanned s) (unscanned s) (uncleaned s) (uncleaned s) [] (answer ∷ []) old new bytes bytes going
-      (block_moves m s sound w f answer [] (with_ticket (ticket_in answer) []) (unnoted s) (unnoted s) (unscanned s) (uncleaned s) [] (answer ∷ []) old new bytes v going.running
+      going_on m s sound nowhere false false w [] (move.FlushBlock f) [] (with_ticket (ticket_in answer) []) (unnoted s) (unnoted s) (unscanned s) (unscanned s) (uncleaned s) (uncleaned s) [] (answer ∷ []) old new bytes bytes going
+      (block_moves m s sound nowhere w f answer [] (with_ticket (ticket_in answer) []) (unnoted s) (unnoted s) (unscanned s) (uncleaned s) [] (answer ∷ []) old new bytes v going.running
       (meets v (going.running).stands) refl refl (inl (none, refl)))
 
   pub writing_first : (w : World Content) (f b : ℕ) (ws : Vec (Write A) A) (old new : Core K V P A) (bytes : ℕ → ℕ → ℕ) → IsStateOf m s old w.core → ((b o : ℕ) → w.bytes b o ≡ bytes b o)
       → ((v : World Content) → IsStateOf m s old v.core → IsRefined m s sound (step.FlushBlock f) (reply.Write b ws) new v.core)
       → IsWriting w f b 0 (reply.Write b ws ∷ []) new bytes
   writing_first w f b ws old new bytes stands same meets =
-      let going = going_first m s sound w (unnoted s) (unscanned s) (uncleaned s) old bytes stands same refl refl refl in
+      let going = going_first m s sound nowhere w (unnoted s) (unscanned s) (uncleaned s) old bytes stands same refl refl refl in
       let v = after_all (machine m s sound) w going.events in
       let met = meets v (going.running).stands in
       let issued = slice_set (unnoted s) f (Some (note b 0)) in
@@ -156,12 +167,13 @@ module _ {K V P A : Type 0} (m : Meaning K V P) (s : Settings) (sound : AreValid
         issued = issued;
         within = omega arith;
         noted = ap at (set_here (unnoted s) f (Some (note b 0)) within);
-        going = going_on m s sound w [] (move.FlushBlock f) [] [] (unnoted s) issued (unscanned s) (unscanned s) (uncleaned s) (uncleaned s) [] (reply.Write b ws ∷ []) old new bytes bytes going
-            (block_moves m s sound w f (reply.Write b ws) [] [] (unnoted s) issued (unscanned s) (uncleaned s) [] (reply.Write b ws ∷ []) old new bytes v going.running
+        failed = false;
+        going = going_on m s sound nowhere false false w [] (move.FlushBlock f) [] [] (unnoted s) issued (unscanned s) (unscanned s) (uncleaned s) (uncleaned s) [] (reply.Write b ws ∷ []) old new bytes bytes going
+            (block_moves m s sound nowhere w f (reply.Write b ws) [] [] (unnoted s) issued (unscanned s) (uncleaned s) [] (reply.Write b ws ∷ []) old new bytes v going.running
             met refl refl (inr (b, refl, refl)));
       }
 
-  pub writing_on : (w : World Content) (f b k : ℕ) (ws : Vec (Write A) A) (rest : List (Reply K V P A)) (write : Write A) (outcome : _) (answer : Reply K V P A) (old new : Core K V P A) (bytes bytes' : ℕ → ℕ → ℕ)
+  pub writing_on : (w : World Content) (f b k : ℕ) (ws : Vec (Write A) A) (rest : List (Reply K V P A)) (write : Write A) (outcome : Result Unit Error) (answer : Reply K V P A) (old new : Core K V P A) (bytes bytes' : ℕ → ℕ → ℕ)
       → IsWriting w f b k (reply.Write b ws ∷ rest) old bytes → slice_get ws.items k ≡ Some write → IsDone bytes bytes' b write (went_well outcome)
       → ((v : World Content) → IsStateOf m s old v.core → IsRefined m s sound (step.FlushWrote f outcome) answer new v.core)
       → went_well outcome ≡ true → answer ≡ reply.Next
@@ -176,25 +188,26 @@ module _ {K V P A : Type 0} (m : Meaning K V P) (s : Settings) (sound : AreValid
         issued = issued;
         within = omega arith;
         noted = ap at (set_here (slice_set writing.issued f None) f (Some (note b (k + 1))) within);
-        going = subst (λ xs. IsGoing m s sound w (move.FlushBlock f ∷ xs) [] issued (unscanned s) (uncleaned s) (reply.Write b ws ∷ (rest ++ answer ∷ [])) new bytes') (replicate-end k (move.FlushWrote f))
-            (going_on m s sound w (writes_of f k) (move.FlushWrote f) [] [] writing.issued issued (unscanned s) (unscanned s) (uncleaned s) (uncleaned s) (reply.Write b ws ∷ rest) (reply.Write b ws ∷ (rest ++ answer ∷ [])) old new bytes bytes' writing.going
-            (write_moves m s sound w f (note b k) write outcome answer [] [] writing.issued issued (unscanned s) (uncleaned s) (reply.Write b ws ∷ rest) (reply.Write b ws ∷ (rest ++ answer ∷ [])) old new bytes bytes' v
-            (writing.going).running writing.noted is done (meets v ((writing.going).running).stands) (sym (ap (λ r. with_ticket (ticket_in r) []) next)) refl (inl (well, next, refl))));
+        failed = writing.failed || not (went_well outcome);
+        going = subst (λ xs. IsGoing m s sound nowhere (writing.failed || not (went_well outcome)) w (move.FlushBlock f ∷ xs) [] issued (unscanned s) (uncleaned s) (reply.Write b ws ∷ (rest ++ answer ∷ [])) new bytes') (replicate-end k (move.FlushWrote f))
+            (going_on m s sound nowhere writing.failed (not (went_well outcome)) w (writes_of f k) (move.FlushWrote f) [] [] writing.issued issued (unscanned s) (unscanned s) (uncleaned s) (uncleaned s) (reply.Write b ws ∷ rest) (reply.Write b ws ∷ (rest ++ answer ∷ [])) old new bytes bytes' writing.going
+            (write_moves m s sound nowhere w f (note b k) write outcome answer [] [] writing.issued issued (unscanned s) (uncleaned s) (reply.Write b ws ∷ rest) (reply.Write b ws ∷ (rest ++ answer ∷ [])) old new bytes bytes' v
+            (writing.going).running writing.noted is done (sure_nowhere outcome) (meets v ((writing.going).running).stands) (sym (ap (λ r. with_ticket (ticket_in r) []) next)) refl (inl (well, next, refl))));
       }
 
-  pub writing_ends : (w : World Content) (f b k : ℕ) (ws : Vec (Write A) A) (rest : List (Reply K V P A)) (write : Write A) (outcome : _) (answer : Reply K V P A) (old new : Core K V P A) (bytes bytes' : ℕ → ℕ → ℕ)
+  pub writing_ends : (w : World Content) (f b k : ℕ) (ws : Vec (Write A) A) (rest : List (Reply K V P A)) (write : Write A) (outcome : Result Unit Error) (answer : Reply K V P A) (old new : Core K V P A) (bytes bytes' : ℕ → ℕ → ℕ)
       → (writing : IsWriting w f b k (reply.Write b ws ∷ rest) old bytes) → slice_get ws.items k ≡ Some write → IsDone bytes bytes' b write (went_well outcome)
       → ((v : World Content) → IsStateOf m s old v.core → IsRefined m s sound (step.FlushWrote f outcome) answer new v.core)
       → ((went_well outcome ≡ false) ⊎ (answer ≡ reply.Next → ⊥))
-      → IsGoing m s sound w (writes_of f (k + 1)) (with_ticket (ticket_in answer) []) (slice_set writing.issued f None) (unscanned s) (uncleaned s) (reply.Write b ws ∷ (rest ++ answer ∷ [])) new bytes'
+      → IsGoing m s sound nowhere (writing.failed || not (went_well outcome)) w (writes_of f (k + 1)) (with_ticket (ticket_in answer) []) (slice_set writing.issued f None) (unscanned s) (uncleaned s) (reply.Write b ws ∷ (rest ++ answer ∷ [])) new bytes'
   writing_ends w f b k ws rest write outcome answer old new bytes bytes' writing is done meets why =
       let v = after_all (machine m s sound) w (writing.going).events in
       let issued = slice_set writing.issued f None in
       let tickets = with_ticket (ticket_in answer) [] in
-      subst (λ xs. IsGoing m s sound w (move.FlushBlock f ∷ xs) tickets issued (unscanned s) (uncleaned s) (reply.Write b ws ∷ (rest ++ answer ∷ [])) new bytes') (replicate-end k (move.FlushWrote f))
-      (going_on m s sound w (writes_of f k) (move.FlushWrote f) [] tickets writing.issued issued (unscanned s) (unscanned s) (uncleaned s) (uncleaned s) (reply.Write b ws ∷ rest) (reply.Write b ws ∷ (rest ++ answer ∷ [])) old new bytes bytes' writing.going
-      (write_moves m s sound w f (note b k) write outcome answer [] tickets writing.issued issued (unscanned s) (uncleaned s) (reply.Write b ws ∷ rest) (reply.Write b ws ∷ (rest ++ answer ∷ [])) old new bytes bytes' v
-      (writing.going).running writing.noted is done (meets v ((writing.going).running).stands) refl refl (inr (why, refl))))
+      subst (λ xs. IsGoing m s sound nowhere (writing.failed || not (went_well outcome)) w (move.FlushBlock f ∷ xs) tickets issued (unscanned s) (uncleaned s) (reply.Write b ws ∷ (rest ++ answer ∷ [])) new bytes') (replicate-end k (move.FlushWrote f))
+      (going_on m s sound nowhere writing.failed (not (went_well outcome)) w (writes_of f k) (move.FlushWrote f) [] tickets writing.issued issued (unscanned s) (unscanned s) (uncleaned s) (uncleaned s) (reply.Write b ws ∷ rest) (reply.Write b ws ∷ (rest ++ answer ∷ [])) old new bytes bytes' writing.going
+      (write_moves m s sound nowhere w f (note b k) write outcome answer [] tickets writing.issued issued (unscanned s) (uncleaned s) (reply.Write b ws ∷ rest) (reply.Write b ws ∷ (rest ++ answer ∷ [])) old new bytes bytes' v
+      (writing.going).running writing.noted is done (sure_nowhere outcome) (meets v ((writing.going).running).stands) refl refl (inr (why, refl))))
 
 module _ {K V P A : Type 0} (m : Meaning K V P) where
   -- a block's writes, so far
@@ -214,7 +227,7 @@ module _ {K V P A : Type 0} (m : Meaning K V P) where
     count = 0;
     says = record {
       before = [];
-      runs = λ s sound w stands same. gone m s sound w (writes_of f 0) (with_ticket (ticket_in answer) []) (unnoted s) (unscanned s) (uncleaned s) (answer ∷ []) new bytes
+      runs = λ s sound w stands same. gone m s sound nowhere false w (writes_of f 0) (with_ticket (ticket_in answer) []) (unnoted s) (unscanned s) (uncleaned s) (answer ∷ []) new bytes
           (writing_none m s sound w f answer old new bytes stands same (meets s sound) none);
     };
   }
@@ -228,7 +241,7 @@ module _ {K V P A : Type 0} (m : Meaning K V P) where
         writes = are.ws;
         runs = λ s sound w stands same.
             let writing = are.writing s sound w stands same in
-            let run = gone m s sound w (writes_of f k) [] writing.issued (unscanned s) (uncleaned s) (reply.Write b are.ws ∷ are.rest) core bytes' writing.going in
+            let run = gone m s sound nowhere writing.failed w (writes_of f k) [] writing.issued (unscanned s) (uncleaned s) (reply.Write b are.ws ∷ are.rest) core bytes' writing.going in
             subst (λ n. IsRun m s sound w (writes_of f n) (reply.Write b are.ws ∷ replicate n reply.Next) core bytes') all
             (subst (λ xs. IsRun m s sound w (writes_of f k) (reply.Write b are.ws ∷ xs) core bytes') are.rest_is run);
       }
@@ -242,11 +255,11 @@ module _ {K V P A : Type 0} (m : Meaning K V P) where
     are.items_are,
     λ s sound w stands same.
         let writing = are.writing s sound w stands same in
-        let run = gone m s sound w (writes_of f k) [] writing.issued (unscanned s) (uncleaned s) (reply.Write b are.ws ∷ are.rest) core bytes' writing.going in
+        let run = gone m s sound nowhere writing.failed w (writes_of f k) [] writing.issued (unscanned s) (uncleaned s) (reply.Write b are.ws ∷ are.rest) core bytes' writing.going in
         subst (λ xs. IsRun m s sound w (writes_of f k) (reply.Write b are.ws ∷ xs) core bytes') are.rest_is run,
   )
 
-  pub written_on : (f b k : ℕ) (items : List (Write A)) (write : Write A) (outcome : _) (answer : Reply K V P A) (old core new : Core K V P A) (bytes bytes' bytes'' : ℕ → ℕ → ℕ)
+  pub written_on : (f b k : ℕ) (items : List (Write A)) (write : Write A) (outcome : Result Unit Error) (answer : Reply K V P A) (old core new : Core K V P A) (bytes bytes' bytes'' : ℕ → ℕ → ℕ)
       → AreWritten f b k items old core bytes bytes' → k < length items → slice_get items k ≡ Some write → IsDone bytes' bytes'' b write (went_well outcome)
       → ((s : Settings) (sound : AreValid s) (v : World Content) → IsStateOf m s core v.core → IsRefined m s sound (step.FlushWrote f outcome) answer new v.core)
       → went_well outcome ≡ true → answer ≡ reply.Next → AreWritten f b (k + 1) items old new bytes bytes''
@@ -261,7 +274,7 @@ module _ {K V P A : Type 0} (m : Meaning K V P) where
         (ap (λ xs. slice_get xs k) are.items_are ∙ is) done (meets s sound) well next;
   }
 
-  pub written_ends : (f b k : ℕ) (items : List (Write A)) (write : Write A) (outcome : _) (answer : Reply K V P A) (old core new : Core K V P A) (bytes bytes' bytes'' : ℕ → ℕ → ℕ)
+  pub written_ends : (f b k : ℕ) (items : List (Write A)) (write : Write A) (outcome : Result Unit Error) (answer : Reply K V P A) (old core new : Core K V P A) (bytes bytes' bytes'' : ℕ → ℕ → ℕ)
       → AreWritten f b k items old core bytes bytes' → slice_get items k ≡ Some write → IsDone bytes' bytes'' b write (went_well outcome)
       → ((s : Settings) (sound : AreValid s) (v : World Content) → IsStateOf m s core v.core → IsRefined m s sound (step.FlushWrote f outcome) answer new v.core)
       → ((went_well outcome ≡ false) ⊎ (answer ≡ reply.Next → ⊥)) → WritesUntil m f answer old new bytes bytes''
@@ -271,7 +284,7 @@ module _ {K V P A : Type 0} (m : Meaning K V P) where
       before = reply.Write b are.ws ∷ are.rest;
       runs = λ s sound w stands same.
           let writing = are.writing s sound w stands same in
-          gone m s sound w (writes_of f (k + 1)) (with_ticket (ticket_in answer) []) (slice_set writing.issued f None) (unscanned s) (uncleaned s) (reply.Write b are.ws ∷ (are.rest ++ answer ∷ [])) new bytes''
+          gone m s sound nowhere (writing.failed || not (went_well outcome)) w (writes_of f (k + 1)) (with_ticket (ticket_in answer) []) (slice_set writing.issued f None) (unscanned s) (uncleaned s) (reply.Write b are.ws ∷ (are.rest ++ answer ∷ [])) new bytes''
           (writing_ends m s sound w f b k are.ws are.rest write outcome answer core new bytes' bytes'' writing
           (ap (λ xs. slice_get xs k) are.items_are ∙ is) done (meets s sound) why);
     };

@@ -3,6 +3,7 @@ use Rattle.std.proofs.Common.{◌≡◌, ℕ, List, [], ◌∷◌, Result, refl,
 use Rattle.std.specs.declared.vec.Vec.{Vec}
 use Rattle.foyer_block_index.specs.declared.tombstone.Tombstone.{Tombstone}
 use Rattle.foyer_device_page.specs.declared.error.Error.{Error}
+use Rattle.foyer_core_model.specs.Rules.{Rules}
 use Rattle.foyer_core_model.specs.Step as model_step
 use Rattle.foyer_core_model.specs.World.{World, WorldEvent, Applies}
 use Rattle.foyer_core_laws.specs.Content.{Content, Meaning}
@@ -18,7 +19,8 @@ use Rattle.foyer_core_steps.specs.declared.state.Core.{Core}
 use Rattle.foyer_core_steps.specs.declared.step.Step.TheVariants as step
 use Rattle.foyer_core_run.specs.AtRest.{KeepsOthers, Leads}
 use Rattle.foyer_core_run.specs.Batches.{Appending, BeginsNoBatch, IsBatchBegun, IsUnbegun}
-use Rattle.foyer_core_run.specs.Waiting.{AllSteps, DrivesBy, IsWaiting, Waits}
+use Rattle.foyer_core_run.specs.Causes.{AreForCause, DrivesForCause}
+use Rattle.foyer_core_run.specs.Waiting.{AllSteps, DrivesBy, IsWaiting}
 use Rattle.foyer_core_run.proofs.FlusherSteps.{follows_keep, keeps_more}
 use Rattle.foyer_core_run.proofs.RestLemmas.{SaysNothing, begin_keeps, leads_more}
 
@@ -72,10 +74,17 @@ module _ {K V P A : Type 0} (m : Meaning K V P) (f : ℕ) where
     waiting_in to (reply.Began blocks marks) events is = subst (AllSteps IsWaiting) (sym is.is) (tt, (tt, tt))
     waiting_in to answer events is = subst (AllSteps IsWaiting) (sym (is.1).is) (tt, tt)
 
-    -- these are steps of a wait
-    pub begun_waits : (to : L) (answer : Reply K V P A) (a b : Core K V P A) (bytes : ℕ → ℕ → ℕ) → DrivesBy (IsBatchBegun m f Appends from to answer) m a b bytes bytes → Waits m a b bytes bytes
-    begun_waits to answer a b bytes begins s sound w stands same =
-        let driven = begins s sound w stands same in (driven.0, waiting_in to answer (driven.0).events driven.1)
+    causes_in : (came : ℕ → ℕ → ℕ → Type 0) (rules : Rules Content) (w : World Content) (to : L) (answer : Reply K V P A) (events : List (WorldEvent Content)) → IsBatchBegun m f Appends from to answer events
+        → AreForCause came rules w events
+    causes_in came rules w to (reply.Began blocks marks) events is = subst (AreForCause came rules w) (sym is.is) (tt, (tt, tt))
+    causes_in came rules w to answer events is = subst (AreForCause came rules w) (sym (is.1).is) (tt, tt)
+
+    -- these are steps of a wait, and no access
+    pub begun_for_cause : (came : ℕ → ℕ → ℕ → Type 0) (to : L) (answer : Reply K V P A) (a b : Core K V P A) (bytes : ℕ → ℕ → ℕ) → DrivesBy (IsBatchBegun m f Appends from to answer) m a b bytes bytes
+        → DrivesForCause came (AllSteps IsWaiting) m a b bytes bytes
+    begun_for_cause came to answer a b bytes begins s sound w stands same =
+        let driven = begins s sound w stands same in
+        (driven.0, waiting_in to answer (driven.0).events driven.1, causes_in came (machine m s sound) w to answer (driven.0).events driven.1)
 
   -- the log's outcome leaves the other flushers alone
   pub logged_keeps : (answer noted : Reply K V P A) (outcome : Result Unit Error) (a b c : Core K V P A) → Refines m (step.FlushBegin f) answer a b → Refines m (step.LogWrote f outcome) noted b c
@@ -84,8 +93,3 @@ module _ {K V P A : Type 0} (m : Meaning K V P) (f : ℕ) where
       leads_more m (KeepsOthers f) (KeepsOthers f) (KeepsOthers f) a b c (keeps_more f) (begin_keeps m f answer a b begins) (λ s sound it at.
       let met = logs s sound it at in
       (met.after, met.stands, follows_keep (machine m s sound) (layout s) it met.after f (model_step.LogWrote f (went_well outcome)) met.it refl met.follows))
-
-  -- the same where a disk must be known for it, and stays known
-  pub known_begun : {L : Type 0} (Known : Type 0) (Appends : Appending L) (from to : L) (answer : Reply K V P A) (a b : Core K V P A) (bytes : ℕ → ℕ → ℕ)
-      → ((now : ℕ → ℕ → ℕ) → DrivesBy (IsBatchBegun m f Appends from to answer) m a b now now) → Known → Known × Waits m a b bytes bytes
-  known_begun Known Appends from to answer a b bytes begins known = (known, begun_waits Appends from to answer a b bytes (begins bytes))

@@ -1,5 +1,5 @@
 -- A step of a run that asks for a block.
-use Rattle.std.proofs.Common.{◌≡◌, ℕ, ◌+◌, ◌<◌, Bool, List, [], ◌∷◌, ◌++◌, ◌⊎◌, inl, inr, map, length, Option, Some, None, slice_get, slice_set, refl, sym, ap, subst, ◌∙◌, arith}
+use Rattle.std.proofs.Common.{◌≡◌, ℕ, ◌+◌, ◌<◌, Bool, false, List, [], ◌∷◌, ◌++◌, ◌⊎◌, inl, inr, map, length, Option, Some, None, slice_get, slice_set, refl, sym, ap, subst, ◌∙◌, arith}
 use Rattle.std.specs.declared.vec.Vec.{Vec}
 use Rattle.foyer_core_model.specs.Access.{BlockWrites, block_writes_after, writes_of, loads_after, issued_after}
 use Rattle.foyer_core_model.specs.Reply as model_reply
@@ -68,17 +68,19 @@ module _ {K V P A : Type 0} (m : Meaning K V P) (s : Settings) (sound : AreValid
       ((block_in answer ≡ None) × (new ≡ old))
       ⊎ ((b : ℕ) × (block_in answer ≡ Some b) × (new ≡ slice_set old f (Some (first_issued b n))))
 
-  pub block_moves : (from : World Content) (f : ℕ) (answer : Reply K V P A) (tickets tickets' : List (Option Ticket)) (issued issued' : List (Option Issued)) (scans : List (Option Part)) (cleans : List Bool) (said said' : List (Reply K V P A))
+  pub block_moves : (came : ℕ → ℕ → ℕ → Type 0) (from : World Content) (f : ℕ) (answer : Reply K V P A) (tickets tickets' : List (Option Ticket)) (issued issued' : List (Option Issued)) (scans : List (Option Part)) (cleans : List Bool) (said said' : List (Reply K V P A))
       (old new : Core K V P A) (bytes : ℕ → ℕ → ℕ) (w : World Content) → IsRunning m s from tickets issued scans cleans said old bytes w
       → IsRefined m s sound (step.FlushBlock f) answer new w.core → tickets' ≡ with_ticket (ticket_in answer) tickets → said' ≡ said ++ answer ∷ []
       → IsNoted f answer (length said) issued issued'
-      → IsMoved m s sound from (asks.FlushBlock f) said tickets' issued' scans cleans said' new bytes w
-  block_moves from f answer tickets tickets' issued issued' scans cleans said said' old new bytes w running met ts ss noted = record {
+      → IsMoved m s sound came false from (asks.FlushBlock f) said tickets' issued' scans cleans said' new bytes w
+  block_moves came from f answer tickets tickets' issued issued' scans cleans said said' old new bytes w running met ts ss noted = record {
     events = Applies (model_step.FlushBlock f) met.it met.after ∷ [];
     answers = answer ∷ [];
     happened = ((tt, met.follows), tt);
     made = record { it = met.it; after = met.after; answer = answer; is = refl; said_is = refl; reply = met.reply };
     replies = ss;
+    causes = (tt, tt);
+    faults = refl;
     running = record {
       stands = met.stands;
       same = running.same;

@@ -1,11 +1,12 @@
 -- The clean of a block in a run, and the step that reports it.
-use Rattle.std.proofs.Common.{◌≡◌, ◌≢◌, ℕ, ◌+◌, ◌<◌, ◌==◌, Bool, true, false, List, [], ◌∷◌, ◌++◌, ◌⊎◌, inl, inr, length, Option, Some, None, Result, slice_get, slice_set, refl, sym, ap, subst, ◌∙◌, arith}
+use Rattle.std.proofs.Common.{◌≡◌, ◌≢◌, ℕ, ◌+◌, ◌<◌, ◌==◌, Bool, true, false, not, List, [], ◌∷◌, ◌++◌, ◌⊎◌, inl, inr, length, Option, Some, None, Result, slice_get, slice_set, refl, sym, ap, subst, ◌∙◌, arith}
 use Rattle.std.proofs.lemmas.Bool.Decides.{nat_tests}
 use Rattle.std.proofs.lemmas.Option.{slice_get_within}
+use Rattle.std.specs.Prelude.{OnErr}
 use Rattle.foyer_device_page.specs.declared.error.Error.{Error}
 use Rattle.foyer_core_model.specs.Access.{CleanState, CleanIdle, CleanIssued, CleanInFlight, CleanDone, clean_begun, clean_ended, clean_will_cover, bytes_cleaned, cleans_after, loads_after, issued_after, block_writes_after, IsTornClean}
 use Rattle.foyer_core_model.specs.Kind.{Kind}
-use Rattle.foyer_core_model.specs.Numbers.{put}
+use Rattle.foyer_core_model.specs.Numbers.{page, put}
 use Rattle.foyer_core_model.specs.Reply as model_reply
 use Rattle.foyer_core_model.specs.Rules.{Rules}
 use Rattle.foyer_core_model.specs.Step as model_step
@@ -30,6 +31,7 @@ use Rattle.foyer_core_access.specs.declared.reclaims.Part.{Part}
 use Rattle.foyer_core_run.proofs.DestroyRuns.{cleans_other, went_fault}
 use Rattle.foyer_core_run.proofs.DueBlocks.{IsNoScan, scans_beside, scans_torn}
 use Rattle.foyer_core_run.proofs.DueLemmas.{IsBeside, block_writes_stay, unread_torn}
+use Rattle.foyer_core_run.proofs.FaultLists.{or_none, unsure_failed}
 use Rattle.foyer_core_run.proofs.ListLemmas.{append_none}
 use Rattle.foyer_core_run.proofs.ReclaimRuns.{IsCleanDone, clean_same, done_torn}
 use Rattle.foyer_core_run.proofs.StepLemmas.{AreUnread, due_more, unread_goes}
@@ -91,27 +93,31 @@ module _ {K V P : Type 0} (m : Meaning K V P) (s : Settings) (sound : AreValid s
   rules = machine m s sound
 
   -- a move whose clean isn't due is passed over
-  pub reclaimed_passes : {A : Type 0} (from : World Content) (b : ℕ) (tickets : List (Option Ticket)) (issued : List (Option Issued)) (scans : List (Option Part)) (cleans : List Bool) (said : List (Reply K V P A))
+  pub reclaimed_passes : {A : Type 0} (sure : ℕ → ℕ → ℕ → Type 0) (from : World Content) (b : ℕ) (tickets : List (Option Ticket)) (issued : List (Option Issued)) (scans : List (Option Part)) (cleans : List Bool) (said : List (Reply K V P A))
       (core : Core K V P A) (bytes : ℕ → ℕ → ℕ) (w : World Content) → IsRunning m s from tickets issued scans cleans said core bytes w → is_set (slice_get cleans b) ≡ false
-      → IsMoved m s sound from (asks.ReclaimCleaned b) said tickets issued scans cleans said core bytes w
-  reclaimed_passes from b tickets issued scans cleans said core bytes w running none = record {
+      → IsMoved m s sound sure false from (asks.ReclaimCleaned b) said tickets issued scans cleans said core bytes w
+  reclaimed_passes sure from b tickets issued scans cleans said core bytes w running none = record {
     events = [];
     answers = [];
     happened = tt;
     made = inl ((refl, refl), not_noted (from.clean_states b) (is_set (slice_get cleans b)) (w.clean_states b) (running.due_cleans b) none);
     replies = sym (append_none said);
+    causes = tt;
+    faults = refl;
     running = running;
   }
 
-  pub destroyed_passes : {A : Type 0} (from : World Content) (b : ℕ) (tickets : List (Option Ticket)) (issued : List (Option Issued)) (scans : List (Option Part)) (cleans : List Bool) (said : List (Reply K V P A))
+  pub destroyed_passes : {A : Type 0} (sure : ℕ → ℕ → ℕ → Type 0) (from : World Content) (b : ℕ) (tickets : List (Option Ticket)) (issued : List (Option Issued)) (scans : List (Option Part)) (cleans : List Bool) (said : List (Reply K V P A))
       (core : Core K V P A) (bytes : ℕ → ℕ → ℕ) (w : World Content) → IsRunning m s from tickets issued scans cleans said core bytes w → is_set (slice_get cleans b) ≡ false
-      → IsMoved m s sound from (asks.DestroyCleaned b) said tickets issued scans cleans said core bytes w
-  destroyed_passes from b tickets issued scans cleans said core bytes w running none = record {
+      → IsMoved m s sound sure false from (asks.DestroyCleaned b) said tickets issued scans cleans said core bytes w
+  destroyed_passes sure from b tickets issued scans cleans said core bytes w running none = record {
     events = [];
     answers = [];
     happened = tt;
     made = inl ((refl, refl), not_noted (from.clean_states b) (is_set (slice_get cleans b)) (w.clean_states b) (running.due_cleans b) none);
     replies = sym (append_none said);
+    causes = tt;
+    faults = refl;
     running = running;
   }
 
@@ -190,12 +196,12 @@ module _ {K V P : Type 0} (m : Meaning K V P) (s : Settings) (sound : AreValid s
     }
 
   -- the clean of a reclaim
-  pub reclaimed_moves : {A : Type 0} (from : World Content) (b : ℕ) (outcome : Result Unit Error) (answer : Reply K V P A) (tickets tickets' : List (Option Ticket)) (issued : List (Option Issued)) (scans : List (Option Part)) (cleans cleans' : List Bool) (said said' : List (Reply K V P A))
+  pub reclaimed_moves : {A : Type 0} (sure : ℕ → ℕ → ℕ → Type 0) (from : World Content) (b : ℕ) (outcome : Result Unit Error) (answer : Reply K V P A) (tickets tickets' : List (Option Ticket)) (issued : List (Option Issued)) (scans : List (Option Part)) (cleans cleans' : List Bool) (said said' : List (Reply K V P A))
       (old new : Core K V P A) (bytes bytes' : ℕ → ℕ → ℕ) (w : World Content) → IsRunning m s from tickets issued scans cleans said old bytes w
-      → is_set (slice_get cleans b) ≡ true → IsCleanDone bytes bytes' b (went_well outcome) → IsRefined m s sound (step.ReclaimCleaned b outcome) answer new w.core
+      → is_set (slice_get cleans b) ≡ true → IsCleanDone bytes bytes' b (went_well outcome) → OnErr outcome (sure b 0 page → ⊥) → IsRefined m s sound (step.ReclaimCleaned b outcome) answer new w.core
       → tickets' ≡ with_ticket (ticket_in answer) tickets → cleans' ≡ slice_set cleans b false → said' ≡ said ++ answer ∷ []
-      → IsMoved m s sound from (asks.ReclaimCleaned b) said tickets' issued scans cleans' said' new bytes' w
-  reclaimed_moves from b outcome answer tickets tickets' issued scans cleans cleans' said said' old new bytes bytes' w running is_due done met ts cl ss =
+      → IsMoved m s sound sure (not (went_well outcome)) from (asks.ReclaimCleaned b) said tickets' issued scans cleans' said' new bytes' w
+  reclaimed_moves sure from b outcome answer tickets tickets' issued scans cleans cleans' said said' old new bytes bytes' w running is_due done unsure met ts cl ss =
       let ok = went_well outcome in
       let reports = reports_reclaimed {C = Content} b ok in record {
         events = events_of from b (step.ReclaimCleaned b outcome) ok reports (λ v is. is) answer tickets tickets' issued scans cleans cleans' said said' old new bytes bytes' w running is_due done met ts cl ss;
@@ -208,16 +214,18 @@ module _ {K V P : Type 0} (m : Meaning K V P) (s : Settings) (sound : AreValid s
           record { it = met.it; after = met.after; answer = answer; is = refl; said_is = refl; reply = met.reply },
         );
         replies = ss;
+        causes = (tt, (unsure_failed outcome unsure, (tt, tt)));
+        faults = or_none (not ok);
         running = runs_on from b (step.ReclaimCleaned b outcome) ok reports (λ v is. is) answer tickets tickets' issued scans cleans cleans' said said' old new bytes bytes' w running is_due done met ts cl ss;
       }
 
   -- and that of a destroy
-  pub destroyed_moves : {A : Type 0} (from : World Content) (b : ℕ) (outcome : Result Unit Error) (answer : Reply K V P A) (tickets tickets' : List (Option Ticket)) (issued : List (Option Issued)) (scans : List (Option Part)) (cleans cleans' : List Bool) (said said' : List (Reply K V P A))
+  pub destroyed_moves : {A : Type 0} (sure : ℕ → ℕ → ℕ → Type 0) (from : World Content) (b : ℕ) (outcome : Result Unit Error) (answer : Reply K V P A) (tickets tickets' : List (Option Ticket)) (issued : List (Option Issued)) (scans : List (Option Part)) (cleans cleans' : List Bool) (said said' : List (Reply K V P A))
       (old new : Core K V P A) (bytes bytes' : ℕ → ℕ → ℕ) (w : World Content) → IsRunning m s from tickets issued scans cleans said old bytes w
-      → is_set (slice_get cleans b) ≡ true → IsCleanDone bytes bytes' b (went_well outcome) → IsRefined m s sound (step.DestroyCleaned b outcome) answer new w.core
+      → is_set (slice_get cleans b) ≡ true → IsCleanDone bytes bytes' b (went_well outcome) → OnErr outcome (sure b 0 page → ⊥) → IsRefined m s sound (step.DestroyCleaned b outcome) answer new w.core
       → tickets' ≡ with_ticket (ticket_in answer) tickets → cleans' ≡ slice_set cleans b false → said' ≡ said ++ answer ∷ []
-      → IsMoved m s sound from (asks.DestroyCleaned b) said tickets' issued scans cleans' said' new bytes' w
-  destroyed_moves from b outcome answer tickets tickets' issued scans cleans cleans' said said' old new bytes bytes' w running is_due done met ts cl ss =
+      → IsMoved m s sound sure (not (went_well outcome)) from (asks.DestroyCleaned b) said tickets' issued scans cleans' said' new bytes' w
+  destroyed_moves sure from b outcome answer tickets tickets' issued scans cleans cleans' said said' old new bytes bytes' w running is_due done unsure met ts cl ss =
       let fault = fault_of outcome in
       let ok = is_none fault in
       let reports = reports_destroyed {C = Content} b ok fault in
@@ -232,5 +240,7 @@ module _ {K V P : Type 0} (m : Meaning K V P) (s : Settings) (sound : AreValid s
           record { it = met.it; after = met.after; answer = answer; is = refl; said_is = refl; reply = met.reply },
         );
         replies = ss;
+        causes = (tt, ((λ failed. unsure_failed outcome unsure (went_fault outcome ∙ failed)), (tt, tt)));
+        faults = or_none (not ok) ∙ ap not (sym (went_fault outcome));
         running = runs_on from b (step.DestroyCleaned b outcome) ok reports (λ v is. is) answer tickets tickets' issued scans cleans cleans' said said' old new bytes bytes' w running is_due does met ts cl ss;
       }

@@ -1,22 +1,22 @@
 -- What a destroy does, one after the other.
-use Rattle.std.proofs.Common.{◌≡◌, ℕ, zero, suc, List, [], ◌∷◌, ◌++◌, None, refl, sym, ap, subst, ◌∙◌}
+use Rattle.std.proofs.Common.{◌≡◌, ℕ, zero, suc, List, [], ◌∷◌, ◌++◌, None, sym, ap, subst, ◌∙◌}
 use Rattle.foyer_core_model.specs.Reply as model_reply
 use Rattle.foyer_core_model.specs.Step as model_step
-use Rattle.foyer_core_model.specs.World.{WorldEvent, Applies, CleanBegins, CleanEnds, after_all}
+use Rattle.foyer_core_model.specs.World.{WorldEvent, Applies, CleanBegins, CleanEnds}
 use Rattle.foyer_core_laws.specs.Content.{Content, Meaning}
-use Rattle.foyer_core_laws.specs.CoreRules.{layout, machine, IsEncoded}
+use Rattle.foyer_core_laws.specs.CoreRules.{machine}
+use Rattle.foyer_core_steps.specs.Refines.{Refines}
 use Rattle.foyer_core_steps.specs.Replied.{IsReply}
-use Rattle.foyer_core_steps.specs.StateOf.{IsStateOf}
 use Rattle.foyer_core_steps.specs.declared.reply.Reply.{Reply}
 use Rattle.foyer_core_steps.specs.declared.reply.Reply.TheVariants as reply
 use Rattle.foyer_core_steps.specs.declared.state.Core.{Core}
-use Rattle.foyer_core_run.specs.Accesses.{Says}
-use Rattle.foyer_core_run.specs.Destroys.{AreCleansUpTo, Destroys, HasCleared, HasDestroyed, IsClearing, IsDestroying, IsUncleared}
-use Rattle.foyer_core_run.specs.Waiting.{AllSteps, DrivesBy, IsWaiting, Waits}
-use Rattle.foyer_core_run.specs.declared.moves.Move.TheVariants as move
+use Rattle.foyer_core_steps.specs.declared.step.Step.TheVariants as step
+use Rattle.foyer_core_run.specs.Causes.{AreForCause, DrivesForCause}
+use Rattle.foyer_core_run.specs.Destroys.{AreCleansUpTo, DestroysForCause, HasCleared, HasDestroyed, IsClearing, IsDestroying, IsUncleared}
+use Rattle.foyer_core_run.specs.Waiting.{AllSteps, DrivesBy, IsWaiting}
+use Rattle.foyer_core_run.proofs.CauseLemmas.{cause_more, cause_stepped}
 use Rattle.foyer_core_run.proofs.ListLemmas.{append_twice}
-use Rattle.foyer_core_run.proofs.RunLemmas.{after_more, happen_more}
-use Rattle.foyer_core_run.proofs.WaitingLemmas.{all_join, said_by}
+use Rattle.foyer_core_run.proofs.WaitingLemmas.{all_join}
 
 -- a wait's step is one of a destroy
 waits_destroy : {C : Type 0} (given : model_step.Step C) → IsWaiting given → IsDestroying given
@@ -61,19 +61,20 @@ module _ {K V P A : Type 0} (m : Meaning K V P) where
   ended_well last it is replied =
       let r = subst (λ (l : Reply K V P A). IsReply m l it) is replied in r.2 ∙ ap model_reply.Destroyed r.1
 
-  pub destroys_none : (core : Core K V P A) (bytes : ℕ → ℕ → ℕ) → Destroys ⊥ m core core bytes bytes
-  destroys_none core bytes s sound w stands same = (record { events = []; happened = tt; stands = stands; same = same }, (tt, λ c. absurd c))
+  pub destroys_none : (came : ℕ → ℕ → ℕ → Type 0) (core : Core K V P A) (bytes : ℕ → ℕ → ℕ) → DestroysForCause came ⊥ m core core bytes bytes
+  destroys_none came core bytes s sound w stands same = (record { events = []; happened = tt; stands = stands; same = same }, (tt, λ c. absurd c), tt)
 
-  pub destroys_waiting : (a b : Core K V P A) (x y : ℕ → ℕ → ℕ) → Waits m a b x y → Destroys ⊥ m a b x y
-  destroys_waiting a b x y waits s sound w stands same =
-      let one = waits s sound w stands same in (one.0, (all_destroy (one.0).events one.1, λ c. absurd c))
+  pub destroys_waiting : (came : ℕ → ℕ → ℕ → Type 0) (a b : Core K V P A) (x y : ℕ → ℕ → ℕ) → DrivesForCause came (AllSteps IsWaiting) m a b x y → DestroysForCause came ⊥ m a b x y
+  destroys_waiting came a b x y waits s sound w stands same =
+      let one = waits s sound w stands same in (one.0, (all_destroy (one.0).events one.1, λ c. absurd c), one.2)
 
-  pub destroys_begun : (last : Reply K V P A) (a b : Core K V P A) (bytes : ℕ → ℕ → ℕ) → Says m (move.DestroyBegin ∷ []) last a b bytes bytes → Destroys ⊥ m a b bytes bytes
-  destroys_begun last a b bytes says s sound w stands same =
-      let one = said_by m IsDestroying move.DestroyBegin last a b bytes tt says s sound w stands same in (one.0, (one.1, λ c. absurd c))
+  pub destroys_begun : (came : ℕ → ℕ → ℕ → Type 0) (last : Reply K V P A) (a b : Core K V P A) (bytes : ℕ → ℕ → ℕ) → Refines m step.DestroyBegin last a b → DestroysForCause came ⊥ m a b bytes bytes
+  destroys_begun came last a b bytes meets =
+      cause_stepped m came (λ events. AllSteps IsDestroying events × (⊥ → HasDestroyed events)) step.DestroyBegin last a b bytes (λ s sound w. tt) (λ it st. ((tt, tt), λ c. absurd c)) meets
 
-  pub destroys_cleared : (Was : Type 0) (n : ℕ) (last : Reply K V P A) (a b : Core K V P A) (x y : ℕ → ℕ → ℕ) → (Was → last ≡ reply.Destroyed None) → DrivesBy (IsClearing m n last) m a b x y → Destroys Was m a b x y
-  destroys_cleared Was n last a b x y ended clears s sound w stands same =
+  pub destroys_cleared : (came : ℕ → ℕ → ℕ → Type 0) (Was : Type 0) (n : ℕ) (last : Reply K V P A) (a b : Core K V P A) (x y : ℕ → ℕ → ℕ) → (Was → last ≡ reply.Destroyed None)
+      → DrivesForCause came (IsClearing m n last) m a b x y → DestroysForCause came Was m a b x y
+  destroys_cleared came Was n last a b x y ended clears s sound w stands same =
       let one = clears s sound w stands same in
       let done = one.1 in (
         one.0,
@@ -88,31 +89,24 @@ module _ {K V P A : Type 0} (m : Meaning K V P) where
                 ∙ ap (λ i. (done.ends).before ++ Applies (done.ends).given i (done.ends).after ∷ []) (ended_well last (done.ends).it (ended was) (done.ends).reply);
           },
         ),
+        one.2,
       )
 
-  pub destroys_kept : (back : Reply K V P A) (a b : Core K V P A) (x y : ℕ → ℕ → ℕ) → DrivesBy (IsUncleared m back) m a b x y → Destroys ⊥ m a b x y
-  destroys_kept back a b x y keeps s sound w stands same =
-      let one = keeps s sound w stands same in (one.0, (subst (AllSteps IsDestroying) (sym (one.1).is) (tt, tt), λ c. absurd c))
-
-  pub destroys_if : (Was Is : Type 0) (a b : Core K V P A) (x y : ℕ → ℕ → ℕ) → (Is → Was) → Destroys Was m a b x y → Destroys Is m a b x y
-  destroys_if Was Is a b x y only destroys s sound w stands same =
-      let one = destroys s sound w stands same in (one.0, ((one.1).0, λ is. (one.1).1 (only is)))
-
-  pub destroys_more : (Was Is : Type 0) (a b c : Core K V P A) (x y z : ℕ → ℕ → ℕ) → Destroys Was m a b x y → Destroys Is m b c y z → Destroys Is m a c x z
-  destroys_more Was Is a b c x y z first next s sound w stands same =
-      let rules = machine m s sound in
-      let one = first s sound w stands same in
-      let v = after_all rules w (one.0).events in
-      let two = next s sound v (one.0).stands (one.0).same in
-      let joined = after_more rules w (one.0).events (two.0).events in (
-        record {
-          events = (one.0).events ++ (two.0).events;
-          happened = happen_more rules (layout s) (IsEncoded m.is_key m.is_value) w (one.0).events (two.0).events (one.0).happened (two.0).happened;
-          stands = subst (λ u. IsStateOf m s c u.core) (sym joined) (two.0).stands;
-          same = λ d o. ap (λ u. u.bytes d o) joined ∙ (two.0).same d o;
-        },
-        (
-          all_join IsDestroying (one.0).events (two.0).events (one.1).0 (two.1).0,
-          λ is. destroyed_behind (one.0).events (two.0).events ((two.1).1 is),
-        ),
+  pub destroys_kept : (came : ℕ → ℕ → ℕ → Type 0) (back : Reply K V P A) (a b : Core K V P A) (x y : ℕ → ℕ → ℕ) → DrivesBy (IsUncleared m back) m a b x y → DestroysForCause came ⊥ m a b x y
+  destroys_kept came back a b x y keeps s sound w stands same =
+      let one = keeps s sound w stands same in (
+        one.0,
+        (subst (AllSteps IsDestroying) (sym (one.1).is) (tt, tt), λ c. absurd c),
+        subst (AreForCause came (machine m s sound) w) (sym (one.1).is) (tt, tt),
       )
+
+  pub destroys_if : (came : ℕ → ℕ → ℕ → Type 0) (Was Is : Type 0) (a b : Core K V P A) (x y : ℕ → ℕ → ℕ) → (Is → Was) → DestroysForCause came Was m a b x y → DestroysForCause came Is m a b x y
+  destroys_if came Was Is a b x y only destroys s sound w stands same =
+      let one = destroys s sound w stands same in (one.0, ((one.1).0, λ is. (one.1).1 (only is)), one.2)
+
+  pub destroys_more : (came before behind : ℕ → ℕ → ℕ → Type 0) → ((b o n : ℕ) → came b o n → before b o n) → ((b o n : ℕ) → came b o n → behind b o n) → (Was Is : Type 0) (a b c : Core K V P A) (x y z : ℕ → ℕ → ℕ)
+      → DestroysForCause before Was m a b x y → DestroysForCause behind Is m b c y z → DestroysForCause came Is m a c x z
+  destroys_more came before behind within more Was Is a b c x y z first next =
+      cause_more m came before behind within more (λ events. AllSteps IsDestroying events × (Was → HasDestroyed events)) (λ events. AllSteps IsDestroying events × (Is → HasDestroyed events))
+      (λ events. AllSteps IsDestroying events × (Is → HasDestroyed events))
+      (λ one two are others. (all_join IsDestroying one two are.0 others.0, λ is. destroyed_behind one two (others.1 is))) a b c x y z first next

@@ -2,12 +2,14 @@
 use Rattle.std.proofs.Common.{◌≡◌, ℕ, zero, suc, ◌+◌, ◌<◌, ◌≤◌, ◌==◌, Bool, true, false, if◌then◌else◌, List, [], ◌∷◌, ◌++◌, inr, Option, Result, Ok, Err, refl, sym, ap, subst, ◌∙◌, arith}
 use Rattle.std.proofs.lemmas.Bool.{eqb-true}
 use Rattle.std.proofs.lemmas.Bool.Decides.{nat_tests}
+use Rattle.std.specs.Prelude.{OnErr}
 use Rattle.foyer_device_page.specs.declared.error.Error.{Error}
 use Rattle.foyer_device_page.specs.declared.error.Error.TheVariants as error
 use Rattle.foyer_core_model.specs.Access.{CleanState, CleanIssued, CleanInFlight, CleanDone, clean_begun, clean_ended, bytes_cleaned, cleans_after, IsTornClean}
 use Rattle.foyer_core_model.specs.Follows.{Follows}
 use Rattle.foyer_core_model.specs.Ids.{ids, is_id_in}
 use Rattle.foyer_core_model.specs.Kind.{Kind}
+use Rattle.foyer_core_model.specs.Numbers.{page}
 use Rattle.foyer_core_model.specs.Reply as model_reply
 use Rattle.foyer_core_model.specs.State.{State}
 use Rattle.foyer_core_model.specs.Step as model_step
@@ -24,8 +26,10 @@ use Rattle.foyer_core_steps.specs.declared.reply.Reply.{Reply}
 use Rattle.foyer_core_steps.specs.declared.reply.Reply.TheVariants as reply
 use Rattle.foyer_core_steps.specs.declared.state.Core.{Core}
 use Rattle.foyer_core_steps.specs.declared.step.Step.TheVariants as step
+use Rattle.foyer_core_run.specs.Causes.{DrivesForCause}
 use Rattle.foyer_core_run.specs.Destroys.{AreCleansUpTo, Cleans, ClearsUpTo, IsClearing, IsUncleared}
 use Rattle.foyer_core_run.specs.Waiting.{DrivesBy}
+use Rattle.foyer_core_run.proofs.FaultLists.{causes_join, causes_within, unsure_failed}
 use Rattle.foyer_core_run.proofs.ListLemmas.{append_twice}
 use Rattle.foyer_core_run.proofs.ReclaimRuns.{IsCleanDone, clean_same, done_torn}
 use Rattle.foyer_core_run.proofs.RunLemmas.{after_more, happen_more}
@@ -79,9 +83,9 @@ cleans_more n events is_ok torn fault it st more are is = record {
 
 module _ {K V P A : Type 0} (m : Meaning K V P) where
   -- a clean where it is issued
-  pub cleans_once : (b : ℕ) (outcome : Result Unit Error) (answer : Reply K V P A) (old new : Core K V P A) (bytes bytes' : ℕ → ℕ → ℕ)
-      → IsCleanDone bytes bytes' b (went_well outcome) → Refines m (step.DestroyCleaned b outcome) answer old new → Cleans m b answer old new bytes bytes'
-  cleans_once b outcome answer old new bytes bytes' done cleans s sound w stands same issued = (
+  pub cleans_once : (came : ℕ → ℕ → ℕ → Type 0) (b : ℕ) (outcome : Result Unit Error) (answer : Reply K V P A) (old new : Core K V P A) (bytes bytes' : ℕ → ℕ → ℕ)
+      → IsCleanDone bytes bytes' b (went_well outcome) → OnErr outcome (came b 0 page → ⊥) → Refines m (step.DestroyCleaned b outcome) answer old new → Cleans m came b answer old new bytes bytes'
+  cleans_once came b outcome answer old new bytes bytes' done unsure cleans s sound w stands same issued = (
     record {
       events = CleanBegins b ∷ CleanEnds b ok (bytes' b) ∷ Applies (model_step.DestroyCleaned b (fault_of outcome)) met.it met.after ∷ [];
       happened = (tt, (torn, ((finished ∙ ap CleanDone (went_fault outcome), met.follows), tt)));
@@ -100,6 +104,7 @@ module _ {K V P A : Type 0} (m : Meaning K V P) where
           cleans_other met.it b q (fault_of outcome) w2.clean_states ne
           ∙ put_other w1.clean_states b (clean_ended ok (w1.clean_states b)) q ne ∙ put_other w.clean_states b (clean_begun (w.clean_states b)) q ne;
     },
+    (tt, (unsure_failed outcome unsure, (tt, tt))),
   )
     where
       ok : Bool
@@ -126,8 +131,8 @@ module _ {K V P A : Type 0} (m : Meaning K V P) where
           (λ o le. done_torn bytes bytes' b (went_well outcome) done b o (inr (inr le)) ∙ sym (same b o))
 
   -- the index is cleared, and each clean is issued
-  pub clears_first : (old new : Core K V P A) (bytes : ℕ → ℕ → ℕ) → Refines m step.DestroyClear reply.Cleared old new → ClearsUpTo m 0 reply.Cleared old new bytes bytes
-  clears_first old new bytes clears s sound w stands same =
+  pub clears_first : (came : ℕ → ℕ → ℕ → Type 0) (old new : Core K V P A) (bytes : ℕ → ℕ → ℕ) → Refines m step.DestroyClear reply.Cleared old new → ClearsUpTo m came 0 reply.Cleared old new bytes bytes
+  clears_first came old new bytes clears s sound w stands same =
       let met = clears s sound w.core stands in
       let bs = (met.reply).0 in
       let follows : Follows (machine m s sound) (layout s) w.core model_step.DestroyClear (model_reply.Cleared bs) met.after =
@@ -147,13 +152,14 @@ module _ {K V P A : Type 0} (m : Meaning K V P) where
           cleans = refl;
           ends = record { before = []; given = model_step.DestroyClear; it = model_reply.Cleared bs; after = met.after; is = refl; reply = (bs, refl) };
         },
-        λ b le lt. ap (λ t. if t then CleanIssued else w.clean_states b) (ap (is_id_in b) all ∙ in_ids s.blocks b lt),
+        (λ b le lt. ap (λ t. if t then CleanIssued else w.clean_states b) (ap (is_id_in b) all ∙ in_ids s.blocks b lt)),
+        (tt, tt),
       )
 
   -- one clean more
-  pub clears_more : (i : ℕ) (last answer : Reply K V P A) (a b c : Core K V P A) (x y z : ℕ → ℕ → ℕ) → i < a.settings.blocks
-      → ClearsUpTo m i last a b x y → Cleans m i answer b c y z → ClearsUpTo m (i + 1) answer a c x z
-  clears_more i last answer a b c x y z there first next s sound w stands same =
+  pub clears_more : (came before behind : ℕ → ℕ → ℕ → Type 0) → ((b o n : ℕ) → came b o n → before b o n) → ((b o n : ℕ) → came b o n → behind b o n) → (i : ℕ) (last answer : Reply K V P A) (a b c : Core K V P A) (x y z : ℕ → ℕ → ℕ) → i < a.settings.blocks
+      → ClearsUpTo m before i last a b x y → Cleans m behind i answer b c y z → ClearsUpTo m came (i + 1) answer a c x z
+  clears_more came before behind within more i last answer a b c x y z there first next s sound w stands same =
       let rules = machine m s sound in
       let one = first s sound w stands same in
       let v = after_all rules w (one.0).events in
@@ -184,15 +190,17 @@ module _ {K V P A : Type 0} (m : Meaning K V P) where
             reply = done.reply;
           };
         },
-        λ q le below.
+        (λ q le below.
             let ne : q ≡ i → ⊥ = λ e. omega arith in
-            ap (λ u. u.clean_states q) joined ∙ done.others q ne ∙ one.2 q (omega arith) below,
+            ap (λ u. u.clean_states q) joined ∙ done.others q ne ∙ one.2 q (omega arith) below),
+        causes_join came rules w (one.0).events (two.0).events (causes_within within rules w (one.0).events one.3) (causes_within more rules v (two.0).events two.2),
       )
 
   -- until all blocks are cleaned
-  pub clears_all : (i n : ℕ) (last : Reply K V P A) (a b : Core K V P A) (x y : ℕ → ℕ → ℕ) → i ≡ n → ClearsUpTo m i last a b x y → DrivesBy (IsClearing m n last) m a b x y
-  clears_all i n last a b x y all clears s sound w stands same =
-      let done = clears s sound w stands same in (done.0, subst (λ k. IsClearing m k last (done.0).events) all done.1)
+  pub clears_all : (came : ℕ → ℕ → ℕ → Type 0) (i n : ℕ) (last : Reply K V P A) (a b : Core K V P A) (x y : ℕ → ℕ → ℕ) → i ≡ n → ClearsUpTo m came i last a b x y
+      → DrivesForCause came (IsClearing m n last) m a b x y
+  clears_all came i n last a b x y all clears s sound w stands same =
+      let done = clears s sound w stands same in (done.0, subst (λ k. IsClearing m k last (done.0).events) all done.1, done.3)
 
   -- the step came back
   pub clears_nothing : (answer : Reply K V P A) (old new : Core K V P A) (bytes : ℕ → ℕ → ℕ) → Refines m step.DestroyClear answer old new → DrivesBy (IsUncleared m answer) m old new bytes bytes

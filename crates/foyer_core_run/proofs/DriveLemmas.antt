@@ -1,5 +1,5 @@
 -- What drives a core: runs, fronts of runs, single steps, and one after the other.
-use Rattle.std.proofs.Common.{◌≡◌, ℕ, List, [], ◌∷◌, ◌++◌, length, replicate, Option, Some, None, refl, sym, ap, subst, ◌∙◌}
+use Rattle.std.proofs.Common.{◌≡◌, ℕ, false, List, [], ◌∷◌, ◌++◌, length, replicate, Option, Some, None, refl, sym, ap, subst, ◌∙◌}
 use Rattle.foyer_core_model.specs.World.{World, WorldEvent, after_all}
 use Rattle.foyer_core_steps.specs.Answered.{HandsBack}
 use Rattle.foyer_core_laws.specs.Content.{Content, Meaning}
@@ -22,7 +22,7 @@ use Rattle.foyer_core_run.specs.Running.{IsFree, cleans_noted, issuing_in, scans
 use Rattle.foyer_core_run.specs.Runs.{IsFront, Runs}
 use Rattle.foyer_core_run.specs.declared.moves.Asked.TheVariants as asks
 use Rattle.foyer_core_run.specs.declared.moves.Move.{Move}
-use Rattle.foyer_core_run.proofs.AccessLemmas.{says_last, step_alone, uncleaned, unnoted, unscanned}
+use Rattle.foyer_core_run.proofs.AccessLemmas.{nowhere, says_last, step_alone, uncleaned, unnoted, unscanned}
 use Rattle.foyer_core_run.proofs.RunLemmas.{after_more, going_first, happen_more}
 use Rattle.foyer_core_run.proofs.StepLemmas.{Encodes, step_moves}
 
@@ -64,10 +64,10 @@ module _ {K V P A : Type 0} (m : Meaning K V P) where
       → ((s : Settings) (sound : AreValid s) (v : World Content) → IsStateOf m s old v.core → IsRefined m s sound given answer new v.core)
       → Drives m old new bytes bytes
   step_drives encodes given answer old new bytes free back meets s sound w stands same =
-      let going = going_first m s sound w (unnoted s) (unscanned s) (uncleaned s) old bytes stands same refl refl refl in
+      let going = going_first m s sound nowhere w (unnoted s) (unscanned s) (uncleaned s) old bytes stands same refl refl refl in
       let rules = machine m s sound in
       let v = after_all rules w going.events in
-      let moved = step_moves m s sound encodes w given answer [] (with_ticket (ticket_in answer) []) (unnoted s) (unscanned s) (scans_noted (issuing_in given) s.blob_index_size answer (unscanned s))
+      let moved = step_moves m s sound encodes nowhere w given answer [] (with_ticket (ticket_in answer) []) (unnoted s) (unscanned s) (scans_noted (issuing_in given) s.blob_index_size answer (unscanned s))
       (uncleaned s) (cleans_noted (issuing_in given) answer (uncleaned s)) [] (answer ∷ []) old new bytes v going.running free back (meets s sound v (going.running).stands) refl refl refl refl in record {
         events = going.events ++ moved.events;
         happened = happen_more rules (layout s) (IsEncoded m.is_key m.is_value) w going.events moved.events going.happened moved.happened;
@@ -81,7 +81,7 @@ module _ {K V P A : Type 0} (m : Meaning K V P) where
       → ((s : Settings) (sound : AreValid s) (v : World Content) → IsStateOf m s old v.core → IsRefined m s sound given answer new v.core)
       → Says m (x ∷ []) answer old new bytes bytes
   step_says encodes x given answer old new bytes is free back meets =
-      says_last m (x ∷ []) (with_ticket (ticket_in answer) []) (λ s. scans_noted (issuing_in given) s.blob_index_size answer (unscanned s)) (λ s. cleans_noted (issuing_in given) answer (uncleaned s)) [] answer old new bytes bytes
+      says_last m false (x ∷ []) (with_ticket (ticket_in answer) []) (λ s. scans_noted (issuing_in given) s.blob_index_size answer (unscanned s)) (λ s. cleans_noted (issuing_in given) answer (uncleaned s)) [] answer old new bytes bytes
       (λ s sound w stands same. step_alone m s sound encodes w x given answer old new bytes stands same is free back (meets s sound))
 
   -- a history goes on

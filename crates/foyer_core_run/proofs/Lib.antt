@@ -28,3 +28,8 @@ pub mod WriteLemmas
 pub mod ThrottleLemmas
 pub mod WaitingLemmas
 mod HonestLemmas
+pub mod CauseLemmas
+pub mod FaultLists
+pub mod WriteRuns
+mod WellLemmas
+mod MakeLemmas

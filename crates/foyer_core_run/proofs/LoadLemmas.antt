@@ -2,7 +2,7 @@
 use Rattle.std.proofs.Common.{◌≡◌, ℕ, ◌+◌, ◌<◌, ◌≤◌, ◌==◌, Bool, true, false, List, [], ◌∷◌, ◌++◌, ◌⊎◌, inl, inr, length, Option, Some, None, Result, Ok, Err, slice_get, slice_set, refl, sym, ap, subst, ◌∙◌, arith}
 use Rattle.std.proofs.lemmas.Bool.Decides.{nat_tests}
 use Rattle.std.proofs.lemmas.Option.{slice_get_within}
-use Rattle.std.specs.Prelude.{IfOk, vec_len}
+use Rattle.std.specs.Prelude.{IfOk, OnErr, vec_len}
 use Rattle.std.specs.declared.vec.Vec.{Vec}
 use Rattle.foyer_device_page.specs.declared.error.Error.{Error}
 use Rattle.foyer_format_layout.specs.Page.{page_up}
@@ -24,6 +24,7 @@ use Rattle.foyer_core_steps.specs.declared.step.Step.TheVariants as step
 use Rattle.foyer_core_steps.specs.declared.step.Ticket.{Ticket}
 use Rattle.foyer_core_blocks.proofs.ListLemmas.{set_here, set_there, set_count, some_is}
 use Rattle.foyer_io_disk.specs.Disk.{IsRead}
+use Rattle.foyer_core_run.specs.Causes.{HasReadCome, is_fault}
 use Rattle.foyer_core_run.specs.Due.{unread}
 use Rattle.foyer_core_run.specs.Running.{IsDue, IsMoved, IsRunning, at, issued_of, ticket_in, with_ticket}
 use Rattle.foyer_core_run.specs.declared.moves.Asked.TheVariants as asks
@@ -31,6 +32,7 @@ use Rattle.foyer_core_run.specs.declared.moves.kept.Issued.{Issued}
 use Rattle.foyer_core_access.specs.declared.reclaims.Part.{Part}
 use Rattle.foyer_core_run.proofs.DueBlocks.{cleans_beside, scans_beside}
 use Rattle.foyer_core_run.proofs.DueLemmas.{unread_is, block_writes_stay}
+use Rattle.foyer_core_run.proofs.FaultLists.{or_none, unsure_read}
 use Rattle.foyer_core_run.proofs.ListLemmas.{append_none, past_end, at_is}
 use Rattle.foyer_core_run.proofs.StepLemmas.{AreUnread, due_more, unread_goes}
 
@@ -51,15 +53,17 @@ module _ {K V P : Type 0} (m : Meaning K V P) (s : Settings) (sound : AreValid s
   rules = machine m s sound
 
   -- a move whose read isn't due is passed over
-  pub load_passes : {A : Type 0} (from : World Content) (n : ℕ) (tickets : List (Option Ticket)) (issued : List (Option Issued)) (scans : List (Option Part)) (cleans : List Bool) (said : List (Reply K V P A))
+  pub load_passes : {A : Type 0} (sure : ℕ → ℕ → ℕ → Type 0) (from : World Content) (n : ℕ) (tickets : List (Option Ticket)) (issued : List (Option Issued)) (scans : List (Option Part)) (cleans : List Bool) (said : List (Reply K V P A))
       (core : Core K V P A) (bytes : ℕ → ℕ → ℕ) (w : World Content) → IsRunning m s from tickets issued scans cleans said core bytes w → at (slice_get tickets n) ≡ None
-      → IsMoved m s sound from (asks.LoadEnd n) said tickets issued scans cleans said core bytes w
-  load_passes from n tickets issued scans cleans said core bytes w running none = record {
+      → IsMoved m s sound sure false from (asks.LoadEnd n) said tickets issued scans cleans said core bytes w
+  load_passes sure from n tickets issued scans cleans said core bytes w running none = record {
     events = [];
     answers = [];
     happened = tt;
     made = inl ((refl, refl), go (slice_get tickets n) refl none);
     replies = sym (append_none said);
+    causes = tt;
+    faults = refl;
     running = running;
   }
     where
@@ -99,13 +103,13 @@ module _ {K V P : Type 0} (m : Meaning K V P) (s : Settings) (sound : AreValid s
       (is.1, λ i lt free. is.0 i lt ∙ sym (same ticket.address.block (ticket.address.offset + i)))
   gives w bytes ticket (Err e) seen same is = tt
 
-  pub load_moves : {A : Type 0} (from : World Content) (n : ℕ) (ticket : Ticket) (outcome : Result (Vec ℕ A) Error) (answer : Reply K V P A) (tickets tickets' : List (Option Ticket)) (issued : List (Option Issued)) (scans : List (Option Part)) (cleans : List Bool) (said said' : List (Reply K V P A))
+  pub load_moves : {A : Type 0} (sure : ℕ → ℕ → ℕ → Type 0) (from : World Content) (n : ℕ) (ticket : Ticket) (outcome : Result (Vec ℕ A) Error) (answer : Reply K V P A) (tickets tickets' : List (Option Ticket)) (issued : List (Option Issued)) (scans : List (Option Part)) (cleans : List Bool) (said said' : List (Reply K V P A))
       (old new : Core K V P A) (bytes : ℕ → ℕ → ℕ) (w : World Content) → IsRunning m s from tickets issued scans cleans said old bytes w
       → at (slice_get tickets n) ≡ Some ticket → IsCome bytes ticket outcome
-      → IsRefined m s sound (step.LoadEnd ticket outcome) answer new w.core
+      → OnErr outcome (sure ticket.address.block ticket.address.offset (page_up ticket.address.len) → ⊥) → IsRefined m s sound (step.LoadEnd ticket outcome) answer new w.core
       → tickets' ≡ with_ticket (ticket_in answer) (slice_set tickets n None) → said' ≡ said ++ answer ∷ []
-      → IsMoved m s sound from (asks.LoadEnd n) said tickets' issued scans cleans said' new bytes w
-  load_moves from n ticket outcome answer tickets tickets' issued scans cleans said said' old new bytes w running is_due come met ts ss = record {
+      → IsMoved m s sound sure (is_fault (came_of outcome)) from (asks.LoadEnd n) said tickets' issued scans cleans said' new bytes w
+  load_moves sure from n ticket outcome answer tickets tickets' issued scans cleans said said' old new bytes w running is_due come unsure met ts ss = record {
     events = ReadBegins k ∷ ReadEnds k result ∷ Applies (model_step.LoadEnd t result) met.it met.after ∷ [];
     answers = answer ∷ [];
     happened = (
@@ -117,6 +121,8 @@ module _ {K V P : Type 0} (m : Meaning K V P) (s : Settings) (sound : AreValid s
     );
     made = inr (t, result, unread_at, record { it = met.it; after = met.after; answer = answer; is = refl; said_is = refl; reply = met.reply });
     replies = ss;
+    causes = (tt, ((λ failed comes. unsure_read outcome unsure failed (subst (HasReadCome sure page_up) (began w k t p kept is) comes)), (tt, tt)));
+    faults = or_none (is_fault result);
     running = record {
       stands = met.stands;
       same = running.same;

@@ -26,10 +26,12 @@ use Rattle.foyer_core_steps.specs.declared.reply.Reply.TheVariants as reply
 use Rattle.foyer_core_steps.specs.declared.state.Core.{Core}
 use Rattle.foyer_core_steps.specs.declared.step.Step.TheVariants as step
 use Rattle.foyer_core_run.specs.Driven.{IsDriven}
-use Rattle.foyer_core_run.specs.Reclaims.{AreReclaiming, EndsBy, GoesOn, IsAwaited, IsReclaim, Reads, Reclaims}
+use Rattle.foyer_core_run.specs.Causes.{AreForCause, DrivesForCause}
+use Rattle.foyer_core_run.specs.Reclaims.{AreReading, AreReclaiming, EndsBy, GoesOn, IsAwaited, IsReclaim, Reads, Reclaims}
 use Rattle.foyer_core_access.specs.Reclaims.{IsCleaned, part_in}
 use Rattle.foyer_core_run.specs.Waiting.{AllSteps, IsWaiting, Waits}
 use Rattle.foyer_core_access.specs.declared.reclaims.Part.{Part}
+use Rattle.foyer_core_run.proofs.FaultLists.{causes_join, unsure_failed}
 use Rattle.foyer_core_run.proofs.ListLemmas.{append_twice}
 use Rattle.foyer_core_run.proofs.RunLemmas.{after_more, happen_more}
 
@@ -79,6 +81,26 @@ scan_of part read_state = record { offset = part.offset; len = part.len; read_st
 are_join : {C : Type 0} (b : ℕ) (one two : List (WorldEvent C)) → AreReclaiming b one → AreReclaiming b two → AreReclaiming b (one ++ two)
 are_join b [] two are others = others
 are_join b (event ∷ one) two are others = (are.0, are_join b one two are.1 others)
+
+reading_join : {C : Type 0} (b : ℕ) (one two : List (WorldEvent C)) → AreReading b one → AreReading b two → AreReading b (one ++ two)
+reading_join b [] two are others = others
+reading_join b (event ∷ one) two are others = (are.0, reading_join b one two are.1 others)
+
+-- what a reclaim reads is of it
+reading_all : {C : Type 0} (b : ℕ) (events : List (WorldEvent C)) → AreReading b events → AreReclaiming b events
+reading_all b [] are = tt
+reading_all b (Applies (model_step.ReclaimRead c r) it st ∷ es) are = (are.0, reading_all b es are.1)
+reading_all b (ScanBegins c ∷ es) are = (are.0, reading_all b es are.1)
+reading_all b (ScanEnds c r ∷ es) are = (are.0, reading_all b es are.1)
+reading_all b (event ∷ es) are = absurd are.0
+
+-- and neither a write, a clean nor the read of a load
+reading_causes : {C : Type 0} (came : ℕ → ℕ → ℕ → Type 0) (rules : Rules C) (b : ℕ) (w : World C) (events : List (WorldEvent C)) → AreReading b events → AreForCause came rules w events
+reading_causes came rules b w [] are = tt
+reading_causes came rules b w (Applies (model_step.ReclaimRead c r) it st ∷ es) are = (tt, reading_causes came rules b (after rules w (Applies (model_step.ReclaimRead c r) it st)) es are.1)
+reading_causes came rules b w (ScanBegins c ∷ es) are = (tt, reading_causes came rules b (after rules w (ScanBegins c)) es are.1)
+reading_causes came rules b w (ScanEnds c r ∷ es) are = (tt, reading_causes came rules b (after rules w (ScanEnds c r)) es are.1)
+reading_causes came rules b w (event ∷ es) are = absurd are.0
 
 goes_nothing : {C : Type 0} (it : model_reply.Reply C) → GoesOn it []
 goes_nothing (model_reply.Picked b answers probation) = tt
@@ -138,7 +160,7 @@ module _ {K V P A : Type 0} (m : Meaning K V P) where
 
     -- events of the reclaim lead to where it awaits a part
     abbrev Reaches : World Content → ℕ → Option Part → Core K V P A → (ℕ → ℕ → ℕ) → Type 0
-    Reaches w b next new bytes = (driven : IsDriven m s sound w new bytes) × AreReclaiming b driven.events × IsAwaited b next (after_all (machine m s sound) w driven.events)
+    Reaches w b next new bytes = (driven : IsDriven m s sound w new bytes) × AreReading b driven.events × IsAwaited b next (after_all (machine m s sound) w driven.events)
 
     part_once : (w : World Content) (b : ℕ) (part : Part) (outcome : Result (Vec ℕ A) Error) (answer : Reply K V P A) (new : Core K V P A) (bytes : ℕ → ℕ → ℕ)
         → ((c o : ℕ) → w.bytes c o ≡ bytes c o) → IsAwaited b (Some part) w → IsPartCome bytes b part outcome → IsRefined m s sound (step.ReclaimRead b outcome) answer new w.core
@@ -221,13 +243,14 @@ module _ {K V P A : Type 0} (m : Meaning K V P) where
           stands = subst (λ u. IsStateOf m s d u.core) (sym (after_more all w (one.0).events (two.0).events)) (two.0).stands;
           same = λ c o. ap (λ u. u.bytes c o) (after_more all w (one.0).events (two.0).events) ∙ (two.0).same c o;
         },
-        are_join b (one.0).events (two.0).events one.1 two.1,
+        reading_join b (one.0).events (two.0).events one.1 two.1,
         subst (IsAwaited b z) (sym (after_more all w (one.0).events (two.0).events)) two.2,
       )
 
   -- a reclaim that didn't begin
-  pub reclaims_none : (answer : Reply K V P A) (old new : Core K V P A) (bytes : ℕ → ℕ → ℕ) → Refines m step.ReclaimBegin answer old new → Reclaims m answer old new bytes bytes
-  reclaims_none answer old new bytes meets s sound w stands same =
+  pub reclaims_none : (came : ℕ → ℕ → ℕ → Type 0) (answer : Reply K V P A) (old new : Core K V P A) (bytes : ℕ → ℕ → ℕ) → Refines m step.ReclaimBegin answer old new
+      → DrivesForCause came (IsReclaim m answer) m old new bytes bytes
+  reclaims_none came answer old new bytes meets s sound w stands same =
       let met = meets s sound w.core stands in (
         record {
           events = Applies model_step.ReclaimBegin met.it met.after ∷ [];
@@ -243,9 +266,10 @@ module _ {K V P A : Type 0} (m : Meaning K V P) where
           goes_on = goes_nothing met.it;
           ends = record { before = []; given = model_step.ReclaimBegin; it = met.it; after = met.after; is = refl; reply = met.reply };
         },
+        (tt, tt),
       )
 
-  module _ (b : ℕ) (answers : _) (probation : _) (first : Part) (from : first.offset ≡ 0) (old begun read : Core K V P A) (size : first.len ≡ begun.settings.blob_index_size) (bytes : ℕ → ℕ → ℕ)
+  module _ (came : ℕ → ℕ → ℕ → Type 0) (b : ℕ) (answers : _) (probation : _) (first : Part) (from : first.offset ≡ 0) (old begun read : Core K V P A) (size : first.len ≡ begun.settings.blob_index_size) (bytes : ℕ → ℕ → ℕ)
       (begins : Refines m step.ReclaimBegin (reply.Picked b answers probation) old begun) (reads : Reads m b (Some first) None begun read bytes) where
     module _ (s : Settings) (sound : AreValid s) (w : World Content) (stands : IsStateOf m s old w.core) (same : (c o : ℕ) → w.bytes c o ≡ bytes c o) where
       abbrev all : Rules Content
@@ -264,7 +288,7 @@ module _ {K V P A : Type 0} (m : Meaning K V P) where
           ∙ ap (λ n. Some (record { offset = 0; len = n; read_state = ReadIssued })) (ap (λ k. k.blob_index_size) (sym (picked.stands).sizes) ∙ sym size)
           ∙ ap (λ o. Some (record { offset = o; len = first.len; read_state = ReadIssued })) (sym from))
 
-      abbrev listed : (driven : IsDriven m s sound w1 read bytes) × AreReclaiming b driven.events × IsAwaited b None (after_all all w1 driven.events)
+      abbrev listed : (driven : IsDriven m s sound w1 read bytes) × AreReading b driven.events × IsAwaited b None (after_all all w1 driven.events)
       listed = reads s sound w1 picked.stands same awaited
 
       abbrev w2 : World Content
@@ -272,9 +296,9 @@ module _ {K V P A : Type 0} (m : Meaning K V P) where
 
       -- and these events
       goes : (answer : Reply K V P A) (rest : List (WorldEvent Content)) (new : Core K V P A) (bytes' : ℕ → ℕ → ℕ) → MayAllHappen all (layout s) (IsEncoded m.is_key m.is_value) w2 rest → IsStateOf m s new (after_all all w2 rest).core
-          → ((c o : ℕ) → (after_all all w2 rest).bytes c o ≡ bytes' c o) → AreReclaiming b rest → EndsBy m answer rest
-          → (driven : IsDriven m s sound w new bytes') × IsReclaim m answer driven.events
-      goes answer rest new bytes' happened stands' same' are ends =
+          → ((c o : ℕ) → (after_all all w2 rest).bytes c o ≡ bytes' c o) → AreReclaiming b rest → EndsBy m answer rest → AreForCause came all w2 rest
+          → (driven : IsDriven m s sound w new bytes') × IsReclaim m answer driven.events × AreForCause came all w driven.events
+      goes answer rest new bytes' happened stands' same' are ends causes =
           let events = (listed.0).events ++ rest in (
             record {
               events = Applies model_step.ReclaimBegin picked.it picked.after ∷ events;
@@ -287,7 +311,7 @@ module _ {K V P A : Type 0} (m : Meaning K V P) where
               after = picked.after;
               rest = events;
               is = refl;
-              goes_on = subst (λ i. GoesOn i events) (sym picked.reply) (are_join b (listed.0).events rest listed.1 are);
+              goes_on = subst (λ i. GoesOn i events) (sym picked.reply) (are_join b (listed.0).events rest (reading_all b (listed.0).events listed.1) are);
               ends = record {
                 before = Applies model_step.ReclaimBegin picked.it picked.after ∷ ((listed.0).events ++ ends.before);
                 given = ends.given;
@@ -298,20 +322,22 @@ module _ {K V P A : Type 0} (m : Meaning K V P) where
                 reply = ends.reply;
               };
             },
+            (tt, causes_join came all w1 (listed.0).events rest (reading_causes came all b w1 (listed.0).events listed.1) causes),
           )
 
     -- one whose entries weren't forgotten
-    pub reclaims_kept : (answer : Reply K V P A) (new : Core K V P A) → Refines m (step.ReclaimForget b) answer read new → Reclaims m answer old new bytes bytes
+    pub reclaims_kept : (answer : Reply K V P A) (new : Core K V P A) → Refines m (step.ReclaimForget b) answer read new → DrivesForCause came (IsReclaim m answer) m old new bytes bytes
     reclaims_kept answer new forgets s sound w stands same =
         let met = forgets s sound (w2 s sound w stands same).core ((listed s sound w stands same).0).stands in
         goes s sound w stands same answer (Applies (model_step.ReclaimForget b) met.it met.after ∷ []) new bytes ((tt, met.follows), tt) met.stands ((listed s sound w stands same).0).same (refl, tt)
         (record { before = []; given = model_step.ReclaimForget b; it = met.it; after = met.after; is = refl; reply = met.reply })
+        (tt, tt)
 
     -- and one whose block was cleaned
     pub reclaims_whole : (c : ℕ) (outcome : Result Unit Error) (answer : Reply K V P A) (forgotten new : Core K V P A) (bytes' : ℕ → ℕ → ℕ)
         → Refines m (step.ReclaimForget b) (reply.Clean c) read forgotten → IsCleanDone bytes bytes' b (went_well outcome)
-        → Refines m (step.ReclaimCleaned b outcome) answer forgotten new → Reclaims m answer old new bytes bytes'
-    reclaims_whole c outcome answer forgotten new bytes' forgets done cleans s sound w stands same =
+        → OnErr outcome (came b 0 page → ⊥) → Refines m (step.ReclaimCleaned b outcome) answer forgotten new → DrivesForCause came (IsReclaim m answer) m old new bytes bytes'
+    reclaims_whole c outcome answer forgotten new bytes' forgets done unsure cleans s sound w stands same =
         goes s sound w stands same answer rest new bytes'
         ((tt, met.follows), (tt, (torn, ((finished, last.follows), tt))))
         last.stands
@@ -325,6 +351,7 @@ module _ {K V P A : Type 0} (m : Meaning K V P) where
           is = refl;
           reply = last.reply;
         })
+        (tt, (tt, (unsure_failed outcome unsure, (tt, tt))))
       where
         v : World Content
         v = w2 s sound w stands same
@@ -360,7 +387,8 @@ module _ {K V P A : Type 0} (m : Meaning K V P) where
             (λ o le. done_torn bytes bytes' b (went_well outcome) done b o (inr (inr le)) ∙ sym (((listed s sound w stands same).0).same b o))
 
   -- so a reclaim is by a wait's steps
-  pub reclaims_wait : (last : Reply K V P A) (old new : Core K V P A) (bytes bytes' : ℕ → ℕ → ℕ) → Reclaims m last old new bytes bytes' → Waits m old new bytes bytes'
-  reclaims_wait last old new bytes bytes' reclaims s sound w stands same =
+  pub reclaims_for_cause : (last : Reply K V P A) (came : ℕ → ℕ → ℕ → Type 0) (old new : Core K V P A) (bytes bytes' : ℕ → ℕ → ℕ) → DrivesForCause came (IsReclaim m last) m old new bytes bytes'
+      → DrivesForCause came (AllSteps IsWaiting) m old new bytes bytes'
+  reclaims_for_cause last came old new bytes bytes' reclaims s sound w stands same =
       let driven = reclaims s sound w stands same in
-      (driven.0, subst (AllSteps IsWaiting) (sym (driven.1).is) (tt, waiting_on (driven.1).it (driven.1).rest (driven.1).goes_on))
+      (driven.0, subst (AllSteps IsWaiting) (sym (driven.1).is) (tt, waiting_on (driven.1).it (driven.1).rest (driven.1).goes_on), driven.2)

@@ -20,6 +20,7 @@ use Rattle.foyer_core_steps.specs.declared.state.Core.{Core}
 use Rattle.foyer_core_steps.specs.declared.step.Step.TheVariants as step
 use Rattle.foyer_core_steps.specs.declared.step.Ticket.{Ticket}
 use Rattle.foyer_core_blocks.proofs.ListLemmas.{set_here, set_there, set_count}
+use Rattle.foyer_core_run.specs.Causes.{is_fault}
 use Rattle.foyer_core_run.specs.Due.{IsUnscanned}
 use Rattle.foyer_core_access.specs.Reclaims.{part_in}
 use Rattle.foyer_core_run.specs.Running.{IsDue, IsMoved, IsRunning, IsScanDue, at, ticket_in, with_ticket}
@@ -28,6 +29,7 @@ use Rattle.foyer_core_run.specs.declared.moves.kept.Issued.{Issued}
 use Rattle.foyer_core_access.specs.declared.reclaims.Part.{Part}
 use Rattle.foyer_core_run.proofs.DueBlocks.{cleans_beside, scan_next, scans_elsewhere}
 use Rattle.foyer_core_run.proofs.DueLemmas.{block_writes_stay}
+use Rattle.foyer_core_run.proofs.FaultLists.{or_none}
 use Rattle.foyer_core_run.proofs.ListLemmas.{append_none, at_is}
 use Rattle.foyer_core_run.proofs.ReclaimRuns.{IsPartCome, began, begins, brought, ended, ends, gives, scan_of}
 use Rattle.foyer_core_run.proofs.StepLemmas.{AreUnread, due_more, unread_goes}
@@ -46,25 +48,27 @@ module _ {K V P : Type 0} (m : Meaning K V P) (s : Settings) (sound : AreValid s
   rules = machine m s sound
 
   -- a move whose read isn't due is passed over
-  pub scan_passes : {A : Type 0} (from : World Content) (b : ℕ) (tickets : List (Option Ticket)) (issued : List (Option Issued)) (scans : List (Option Part)) (cleans : List Bool) (said : List (Reply K V P A))
+  pub scan_passes : {A : Type 0} (sure : ℕ → ℕ → ℕ → Type 0) (from : World Content) (b : ℕ) (tickets : List (Option Ticket)) (issued : List (Option Issued)) (scans : List (Option Part)) (cleans : List Bool) (said : List (Reply K V P A))
       (core : Core K V P A) (bytes : ℕ → ℕ → ℕ) (w : World Content) → IsRunning m s from tickets issued scans cleans said core bytes w → at (slice_get scans b) ≡ None
-      → IsMoved m s sound from (asks.ReclaimRead b) said tickets issued scans cleans said core bytes w
-  scan_passes from b tickets issued scans cleans said core bytes w running none = record {
+      → IsMoved m s sound sure false from (asks.ReclaimRead b) said tickets issued scans cleans said core bytes w
+  scan_passes sure from b tickets issued scans cleans said core bytes w running none = record {
     events = [];
     answers = [];
     happened = tt;
     made = inl ((refl, refl), not_noted (from.scans b) (at (slice_get scans b)) (w.scans b) (running.due_scans b) none);
     replies = sym (append_none said);
+    causes = tt;
+    faults = refl;
     running = running;
   }
 
-  pub scan_moves : {A : Type 0} (from : World Content) (b : ℕ) (part : Part) (outcome : Result (Vec ℕ A) Error) (answer : Reply K V P A) (tickets tickets' : List (Option Ticket)) (issued : List (Option Issued)) (scans scans' : List (Option Part)) (cleans : List Bool) (said said' : List (Reply K V P A))
+  pub scan_moves : {A : Type 0} (sure : ℕ → ℕ → ℕ → Type 0) (from : World Content) (b : ℕ) (part : Part) (outcome : Result (Vec ℕ A) Error) (answer : Reply K V P A) (tickets tickets' : List (Option Ticket)) (issued : List (Option Issued)) (scans scans' : List (Option Part)) (cleans : List Bool) (said said' : List (Reply K V P A))
       (old new : Core K V P A) (bytes : ℕ → ℕ → ℕ) (w : World Content) → IsRunning m s from tickets issued scans cleans said old bytes w
       → at (slice_get scans b) ≡ Some part → IsPartCome bytes b part outcome
       → IsRefined m s sound (step.ReclaimRead b outcome) answer new w.core
       → tickets' ≡ with_ticket (ticket_in answer) tickets → scans' ≡ slice_set scans b (part_in answer) → said' ≡ said ++ answer ∷ []
-      → IsMoved m s sound from (asks.ReclaimRead b) said tickets' issued scans' cleans said' new bytes w
-  scan_moves from b part outcome answer tickets tickets' issued scans scans' cleans said said' old new bytes w running is_due come met ts sc ss = record {
+      → IsMoved m s sound sure (is_fault (came_of outcome)) from (asks.ReclaimRead b) said tickets' issued scans' cleans said' new bytes w
+  scan_moves sure from b part outcome answer tickets tickets' issued scans scans' cleans said said' old new bytes w running is_due come met ts sc ss = record {
     events = ScanBegins b ∷ ScanEnds b result ∷ Applies (model_step.ReclaimRead b result) met.it met.after ∷ [];
     answers = answer ∷ [];
     happened = (
@@ -76,6 +80,8 @@ module _ {K V P : Type 0} (m : Meaning K V P) (s : Settings) (sound : AreValid s
     );
     made = inr (result, subst IsUnscanned (sym is) refl, record { it = met.it; after = met.after; answer = answer; is = refl; said_is = refl; reply = met.reply });
     replies = ss;
+    causes = (tt, (tt, (tt, tt)));
+    faults = or_none (is_fault result);
     running = record {
       stands = met.stands;
       same = running.same;

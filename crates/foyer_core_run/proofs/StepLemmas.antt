@@ -109,13 +109,13 @@ module _ {K V P A : Type 0} (m : Meaning K V P) where
     fed w given free = tt
 
     -- a step that brings no result and issues no write
-    pub step_moves : (from : World Content) (given : Step K V P A) (answer : Reply K V P A) (tickets tickets' : List (Option Ticket)) (issued : List (Option Issued)) (scans scans' : List (Option Part)) (cleans cleans' : List Bool) (said said' : List (Reply K V P A))
+    pub step_moves : (came : ℕ → ℕ → ℕ → Type 0) (from : World Content) (given : Step K V P A) (answer : Reply K V P A) (tickets tickets' : List (Option Ticket)) (issued : List (Option Issued)) (scans scans' : List (Option Part)) (cleans cleans' : List Bool) (said said' : List (Reply K V P A))
         (old new : Core K V P A) (bytes : ℕ → ℕ → ℕ) (w : World Content) → IsRunning m s from tickets issued scans cleans said old bytes w → IsFree given
         → HandsBack given answer old new → IsRefined m s sound given answer new w.core
         → tickets' ≡ with_ticket (ticket_in answer) tickets
         → scans' ≡ scans_noted (issuing_in given) s.blob_index_size answer scans → cleans' ≡ cleans_noted (issuing_in given) answer cleans → said' ≡ said ++ answer ∷ []
-        → IsMoved m s sound from (asks.Step given) said tickets' issued scans' cleans' said' new bytes w
-    step_moves from given answer tickets tickets' issued scans scans' cleans cleans' said said' old new bytes w running free back met ts sc cl ss =
+        → IsMoved m s sound came false from (asks.Step given) said tickets' issued scans' cleans' said' new bytes w
+    step_moves came from given answer tickets tickets' issued scans scans' cleans cleans' said said' old new bytes w running free back met ts sc cl ss =
         let reads = unread_goes from.issued w.issued tickets w.loads w.history w.kept answer met.it met.reply running.count running.loads in
         let scanned = scans_go m s sound from given answer scans new w free met running.blocks.0 running.due_scans in
         let cleaned = cleans_go m s sound from given answer cleans new w free met running.blocks.1 running.due_cleans in
@@ -125,6 +125,8 @@ module _ {K V P A : Type 0} (m : Meaning K V P) where
           happened = ((fed w given free, met.follows), tt);
           made = record { it = met.it; after = met.after; answer = answer; is = refl; said_is = refl; reply = met.reply };
           replies = ss;
+          causes = (tt, tt);
+          faults = refl;
           running = record {
             stands = met.stands;
             same = running.same;

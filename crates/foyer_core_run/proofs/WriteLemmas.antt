@@ -1,5 +1,5 @@
 -- A write of a run, and the step that reports it.
-use Rattle.std.proofs.Common.{◌≡◌, ℕ, ◌+◌, ◌-◌, ◌<◌, ◌≤◌, ◌==◌, nat_le, nat_lt, Bool, true, false, ◌&&◌, if◌then◌else◌, List, [], ◌∷◌, ◌++◌, ◌⊎◌, inl, inr, drop, map, length, Option, Some, None, Result, Ok, Err, slice_get, slice_set, slice_index, refl, sym, ap, subst, ◌∙◌, arith}
+use Rattle.std.proofs.Common.{◌≡◌, ℕ, ◌+◌, ◌-◌, ◌<◌, ◌≤◌, ◌==◌, nat_le, nat_lt, Bool, true, false, not, ◌&&◌, if◌then◌else◌, List, [], ◌∷◌, ◌++◌, ◌⊎◌, inl, inr, drop, map, length, Option, Some, None, Result, Ok, Err, slice_get, slice_set, slice_index, refl, sym, ap, subst, ◌∙◌, arith}
 use Rattle.std.proofs.lemmas.Bool.Decides.{nat_tests}
 use Rattle.std.proofs.lemmas.Option.{slice_get_within}
 use Rattle.std.specs.Prelude.{OnOk, OnErr}
@@ -28,6 +28,7 @@ use Rattle.foyer_core_steps.specs.declared.step.Step.TheVariants as step
 use Rattle.foyer_core_steps.specs.declared.step.Ticket.{Ticket}
 use Rattle.foyer_core_blocks.proofs.ListLemmas.{set_here, set_there, set_count}
 use Rattle.foyer_io_disk.specs.Disk.{IsTorn, IsWritten}
+use Rattle.foyer_core_run.specs.Causes.{HasWriteCome}
 use Rattle.foyer_core_run.specs.Due.{due}
 use Rattle.foyer_core_run.specs.Running.{IsDue, IsMoved, IsRunning, IsIssued, at, next_of, ticket_in, with_ticket, write_at}
 use Rattle.foyer_core_run.specs.declared.moves.Asked.TheVariants as asks
@@ -35,6 +36,7 @@ use Rattle.foyer_core_run.specs.declared.moves.kept.Issued.{Issued}
 use Rattle.foyer_core_access.specs.declared.reclaims.Part.{Part}
 use Rattle.foyer_core_run.proofs.DueBlocks.{cleans_beside, scans_beside, scans_torn}
 use Rattle.foyer_core_run.proofs.DueLemmas.{due_is, due_next, due_ended, due_failed, block_writes_elsewhere, unread_torn}
+use Rattle.foyer_core_run.proofs.FaultLists.{or_none, unsure_failed}
 use Rattle.foyer_core_run.proofs.ListLemmas.{append_none, at_is, drop_at, drop_past, get_left}
 use Rattle.foyer_core_run.proofs.ReplyLemmas.{no_next}
 use Rattle.foyer_core_run.proofs.StepLemmas.{AreUnread, due_more, unread_goes}
@@ -94,11 +96,11 @@ laid_is old new block w g same is o = go (nat_le w.offset o && nat_lt o (w.offse
     go false e = same o ∙ sym (is.1 block o (inr (beside o w.offset (length (written_bytes w.bytes)) e)))
 
 -- what a write of this outcome leaves in its block
-abbrev torn_of : Bool → (old new : ℕ → ℕ) → ℕ → ℕ
+abbrev pub torn_of : Bool → (old new : ℕ → ℕ) → ℕ → ℕ
 torn_of true old new = old
 torn_of false old new = new
 
-bytes_are : {A : Type 0} (ok : Bool) (bytes old new : ℕ → ℕ → ℕ) (block : ℕ) (w : Write A) (ws : List layout.Write) → ((b o : ℕ) → bytes b o ≡ old b o)
+pub bytes_are : {A : Type 0} (ok : Bool) (bytes old new : ℕ → ℕ → ℕ) (block : ℕ) (w : Write A) (ws : List layout.Write) → ((b o : ℕ) → bytes b o ≡ old b o)
     → IsDone old new block w ok → (b o : ℕ) → bytes_ended ok (torn_of ok (bytes block) (new block)) (InFlight block [] (write_of w) ws) bytes b o ≡ new b o
 bytes_are true bytes old new block w ws same is b o =
     put_at (λ h. h o ≡ new b o) bytes block (laid (write_of w) (bytes block)) b
@@ -109,7 +111,7 @@ bytes_are false bytes old new block w ws same is b o =
     (λ here. ap (λ c. new c o) (sym here))
     (λ ne. same b o ∙ sym (is b o (inl ne)))
 
-torn_is : {A : Type 0} (ok : Bool) (bytes old new : ℕ → ℕ → ℕ) (block : ℕ) (w : Write A) (ws : List layout.Write) → ((b o : ℕ) → bytes b o ≡ old b o)
+pub torn_is : {A : Type 0} (ok : Bool) (bytes old new : ℕ → ℕ → ℕ) (block : ℕ) (w : Write A) (ws : List layout.Write) → ((b o : ℕ) → bytes b o ≡ old b o)
     → IsDone old new block w ok → IsTornIn bytes (InFlight block [] (write_of w) ws) (torn_of ok (bytes block) (new block))
 torn_is true bytes old new block w ws same is o out = refl
 torn_is false bytes old new block w ws same is o out = is block o (inr out) ∙ sym (same block o)
@@ -119,16 +121,18 @@ module _ {K V P : Type 0} (m : Meaning K V P) (s : Settings) (sound : AreValid s
   rules = machine m s sound
 
   -- a move whose write isn't due is passed over
-  pub write_passes : {A : Type 0} (from : World Content) (f : ℕ) (tickets : List (Option Ticket)) (issued : List (Option Issued)) (scans : List (Option Part)) (cleans : List Bool) (said : List (Reply K V P A))
+  pub write_passes : {A : Type 0} (sure : ℕ → ℕ → ℕ → Type 0) (from : World Content) (f : ℕ) (tickets : List (Option Ticket)) (issued : List (Option Issued)) (scans : List (Option Part)) (cleans : List Bool) (said : List (Reply K V P A))
       (core : Core K V P A) (bytes : ℕ → ℕ → ℕ) (w : World Content) → IsRunning m s from tickets issued scans cleans said core bytes w
       → (due (w.block_writes f) ≡ None) ⊎ (w.block_writes f ≡ from.block_writes f)
-      → IsMoved m s sound from (asks.FlushWrote f) said tickets issued scans cleans said core bytes w
-  write_passes from f tickets issued scans cleans said core bytes w running none = record {
+      → IsMoved m s sound sure false from (asks.FlushWrote f) said tickets issued scans cleans said core bytes w
+  write_passes sure from f tickets issued scans cleans said core bytes w running none = record {
     events = [];
     answers = [];
     happened = tt;
     made = inl ((refl, refl), none);
     replies = sym (append_none said);
+    causes = tt;
+    faults = refl;
     running = running;
   }
 
@@ -157,15 +161,15 @@ module _ {K V P : Type 0} (m : Meaning K V P) (s : Settings) (sound : AreValid s
       ((ok ≡ true) × (answer ≡ reply.Next) × (new ≡ slice_set (slice_set old f None) f (Some (next_issued x))))
       ⊎ (((ok ≡ false) ⊎ (answer ≡ reply.Next → ⊥)) × (new ≡ slice_set old f None))
 
-  pub write_moves : {A : Type 0} (from : World Content) (f : ℕ) (x : Issued) (write : Write A) (outcome : _) (answer : Reply K V P A)
+  pub write_moves : {A : Type 0} (sure : ℕ → ℕ → ℕ → Type 0) (from : World Content) (f : ℕ) (x : Issued) (write : Write A) (outcome : Result Unit Error) (answer : Reply K V P A)
       (tickets tickets' : List (Option Ticket)) (issued issued' : List (Option Issued)) (scans : List (Option Part)) (cleans : List Bool) (said said' : List (Reply K V P A)) (old new : Core K V P A) (bytes bytes' : ℕ → ℕ → ℕ) (w : World Content)
       → IsRunning m s from tickets issued scans cleans said old bytes w
       → at (slice_get issued f) ≡ Some x → write_at (slice_get said x.reply) x.next ≡ Some write
-      → IsDone bytes bytes' x.block write (went_well outcome)
+      → IsDone bytes bytes' x.block write (went_well outcome) → OnErr outcome (sure x.block write.offset (length (written_bytes write.bytes)) → ⊥)
       → IsRefined m s sound (step.FlushWrote f outcome) answer new w.core
       → tickets' ≡ with_ticket (ticket_in answer) tickets → said' ≡ said ++ answer ∷ [] → IsNotedOn f x (went_well outcome) answer issued issued'
-      → IsMoved m s sound from (asks.FlushWrote f) said tickets' issued' scans cleans said' new bytes' w
-  write_moves from f x write outcome answer tickets tickets' issued issued' scans cleans said said' old new bytes bytes' w running is_due is_next done met ts ss noted_on = record {
+      → IsMoved m s sound sure (not (went_well outcome)) from (asks.FlushWrote f) said tickets' issued' scans cleans said' new bytes' w
+  write_moves sure from f x write outcome answer tickets tickets' issued issued' scans cleans said said' old new bytes bytes' w running is_due is_next done unsure met ts ss noted_on = record {
     events = WriteBegins f ∷ WriteEnds f ok torn ∷ Applies (model_step.FlushWrote f ok) met.it met.after ∷ [];
     answers = answer ∷ [];
     happened = (
@@ -179,6 +183,8 @@ module _ {K V P : Type 0} (m : Meaning K V P) (s : Settings) (sound : AreValid s
       record { it = met.it; after = met.after; answer = answer; is = refl; said_is = refl; reply = met.reply },
     );
     replies = ss;
+    causes = (tt, ((λ failed comes. unsure_failed outcome unsure failed (subst (HasWriteCome sure) under comes)), (tt, tt)));
+    faults = or_none (not ok);
     running = record {
       stands = met.stands;
       same = λ b o. subst (λ pending. bytes_ended ok torn pending w.bytes b o ≡ bytes' b o) (sym under) (bytes_are ok w.bytes bytes bytes' x.block write rest running.same done b o);

@@ -14,6 +14,7 @@ use Rattle.foyer_core_steps.specs.Replied.{IsReply}
 use Rattle.foyer_core_steps.specs.StateOf.{IsStateOf}
 use Rattle.foyer_core_steps.specs.declared.reply.Reply.{Reply}
 use Rattle.foyer_core_steps.specs.declared.state.Core.{Core}
+use Rattle.foyer_core_run.specs.Causes.{AreForCause, DrivesForCause}
 use Rattle.foyer_core_run.specs.Driven.{IsDriven}
 use Rattle.foyer_core_run.specs.Reclaims.{EndsBy}
 use Rattle.foyer_core_run.specs.Waiting.{AllSteps, DrivesBy, IsWaiting}
@@ -65,6 +66,10 @@ AwaitCleans i n w = (b : ℕ) → i ≤ b → b < n → w.clean_states b ≡ Cle
 abbrev pub Destroys : {K V P A : Type 0} → (IsDone : Type 0) → Meaning K V P → Core K V P A → Core K V P A → (old_bytes new_bytes : ℕ → ℕ → ℕ) → Type 0
 Destroys IsDone m old new old_bytes new_bytes = DrivesBy (λ events. AllSteps IsDestroying events × (IsDone → HasDestroyed events)) m old new old_bytes new_bytes
 
+-- And each access that failed has a cause.
+abbrev pub DestroysForCause : {K V P A : Type 0} → (came : ℕ → ℕ → ℕ → Type 0) → (IsDone : Type 0) → Meaning K V P → Core K V P A → Core K V P A → (old_bytes new_bytes : ℕ → ℕ → ℕ) → Type 0
+DestroysForCause came IsDone m old new old_bytes new_bytes = DrivesForCause came (λ events. AllSteps IsDestroying events × (IsDone → HasDestroyed events)) m old new old_bytes new_bytes
+
 module _ {K V P A : Type 0} (m : Meaning K V P) where
   -- the index was cleared, then come the cleans of so many blocks, and the last step was answered so
   pub record IsClearing (n : ℕ) (last : Reply K V P A) (events : List (WorldEvent Content)) : Type 0 where
@@ -82,11 +87,13 @@ module _ {K V P A : Type 0} (m : Meaning K V P) where
     pub is : events ≡ Applies model_step.DestroyClear it after ∷ []
     pub reply : IsReply m last it
 
-  -- from each world whose core and bytes are those before, to one where the cleans from i on await their turn
-  abbrev pub ClearsUpTo : (i : ℕ) → Reply K V P A → (old new : Core K V P A) → (old_bytes new_bytes : ℕ → ℕ → ℕ) → Type 0
-  ClearsUpTo i last old new old_bytes new_bytes =
+  -- from each world whose core and bytes are those before, to one where the cleans from i on await their turn; a clean that
+  -- failed isn't one of which it is sure that it came
+  abbrev pub ClearsUpTo : (came : ℕ → ℕ → ℕ → Type 0) → (i : ℕ) → Reply K V P A → (old new : Core K V P A) → (old_bytes new_bytes : ℕ → ℕ → ℕ) → Type 0
+  ClearsUpTo came i last old new old_bytes new_bytes =
       (s : Settings) (sound : AreValid s) (w : World Content) → IsStateOf m s old w.core → ((b o : ℕ) → w.bytes b o ≡ old_bytes b o)
       → (driven : IsDriven m s sound w new new_bytes) × IsClearing i last driven.events × AwaitCleans i s.blocks (after_all (machine m s sound) w driven.events)
+      × AreForCause came (machine m s sound) w driven.events
 
   -- The clean of a block where it is issued, and the step that brings its result, which is answered so. The cleans of the
   -- other blocks are as they were.
@@ -100,7 +107,8 @@ module _ {K V P A : Type 0} (m : Meaning K V P) where
     pub reply : IsReply m last it
     pub others : (q : ℕ) → q ≢ b → (after_all (machine m s sound) w events).clean_states q ≡ w.clean_states q
 
-  abbrev pub Cleans : (b : ℕ) → Reply K V P A → (old new : Core K V P A) → (old_bytes new_bytes : ℕ → ℕ → ℕ) → Type 0
-  Cleans b last old new old_bytes new_bytes =
+  -- if it failed, it isn't one of which it is sure that it came
+  abbrev pub Cleans : (came : ℕ → ℕ → ℕ → Type 0) → (b : ℕ) → Reply K V P A → (old new : Core K V P A) → (old_bytes new_bytes : ℕ → ℕ → ℕ) → Type 0
+  Cleans came b last old new old_bytes new_bytes =
       (s : Settings) (sound : AreValid s) (w : World Content) → IsStateOf m s old w.core → ((c o : ℕ) → w.bytes c o ≡ old_bytes c o) → w.clean_states b ≡ CleanIssued
-      → (driven : IsDriven m s sound w new new_bytes) × IsCleanedOnce s sound b last w driven.events
+      → (driven : IsDriven m s sound w new new_bytes) × IsCleanedOnce s sound b last w driven.events × AreForCause came (machine m s sound) w driven.events

@@ -15,3 +15,4 @@ pub mod Stopped
 pub mod Texts
 pub mod Waiting
 pub mod Honest
+pub mod Causes

@@ -36,6 +36,18 @@ abbrev pub AreReclaiming : {C : Type 0} → (block : ℕ) → List (WorldEvent C
 AreReclaiming b [] = Unit {0}
 AreReclaiming b (event ∷ events) = IsReclaiming b event × AreReclaiming b events
 
+-- a read of this reclaim, or a step that brings what came
+abbrev pub IsReading : {C : Type 0} → (block : ℕ) → WorldEvent C → Type 0
+IsReading b (Applies (model_step.ReclaimRead c came) it after) = c ≡ b
+IsReading b (ScanBegins c) = c ≡ b
+IsReading b (ScanEnds c came) = c ≡ b
+IsReading b event = ⊥
+
+-- each of these events is one
+abbrev pub AreReading : {C : Type 0} → (block : ℕ) → List (WorldEvent C) → Type 0
+AreReading b [] = Unit {0}
+AreReading b (event ∷ events) = IsReading b event × AreReading b events
+
 -- behind a beginning that was answered so: of a picked block its reclaim, else nothing
 abbrev pub GoesOn : {C : Type 0} → model_reply.Reply C → List (WorldEvent C) → Type 0
 GoesOn (model_reply.Picked b answers probation) events = AreReclaiming b events
@@ -74,12 +86,12 @@ abbrev pub IsAwaited : {C : Type 0} → (block : ℕ) → Option Part → World 
 IsAwaited b None w = Unit {0}
 IsAwaited b (Some part) w = w.scans b ≡ Some (record { offset = part.offset; len = part.len; read_state = ReadIssued })
 
--- From each world whose core and bytes are those before and where the reclaim of the block awaits one part, by steps and
--- accesses of this reclaim, to a world where it awaits the other.
+-- From each world whose core and bytes are those before and where the reclaim of the block awaits one part, by its reads
+-- and the steps that bring them, to a world where it awaits the other.
 abbrev pub Reads : {K V P A : Type 0} → Meaning K V P → (block : ℕ) → (part next : Option Part) → (old new : Core K V P A) → (bytes : ℕ → ℕ → ℕ) → Type 0
 Reads m b part next old new bytes =
     (s : Settings) (sound : AreValid s) (w : World Content) → IsStateOf m s old w.core → ((b o : ℕ) → w.bytes b o ≡ bytes b o) → IsAwaited b part w
-    → (driven : IsDriven m s sound w new bytes) × AreReclaiming b driven.events × IsAwaited b next (after_all (machine m s sound) w driven.events)
+    → (driven : IsDriven m s sound w new bytes) × AreReading b driven.events × IsAwaited b next (after_all (machine m s sound) w driven.events)
 
 -- no record is read
 abbrev pub IsUnread : Stage → Type 0

@@ -1,5 +1,5 @@
 -- What a run keeps of the accesses that were issued, as the world has them.
-use Rattle.std.specs.Prelude.{◌≡◌, ℕ, ◌+◌, ◌≢◌, ◌≤◌, ◌⊎◌, Bool, true, false, List, [], ◌∷◌, ◌++◌, drop, length, map, replicate, Option, Some, None, slice_get, slice_set}
+use Rattle.std.specs.Prelude.{◌≡◌, ℕ, ◌+◌, ◌≢◌, ◌≤◌, ◌⊎◌, Bool, true, false, ◌||◌, List, [], ◌∷◌, ◌++◌, drop, length, map, replicate, Option, Some, None, slice_get, slice_set}
 use Rattle.std.specs.declared.vec.Vec.{Vec}
 use Rattle.foyer_core_model.specs.Access.{BlockWrites, ReadIssued, Scan, CleanState, CleanIssued}
 use Rattle.foyer_format_layout.specs.BlockBytes as layout
@@ -22,6 +22,7 @@ use Rattle.foyer_core_steps.specs.declared.state.Core.{Core}
 use Rattle.foyer_core_steps.specs.declared.step.Step.{Step}
 use Rattle.foyer_core_steps.specs.declared.step.Step.TheVariants as step
 use Rattle.foyer_core_steps.specs.declared.step.Ticket.{Ticket}
+use Rattle.foyer_core_run.specs.Causes.{AreForCause, has_fault}
 use Rattle.foyer_core_run.specs.Due.{unread, due, IsUnscanned}
 use Rattle.foyer_core_run.specs.Moves.{Makes}
 use Rattle.foyer_core_run.specs.declared.moves.Asked.{Asked}
@@ -137,17 +138,20 @@ pub record IsRunning {K V P A : Type 0} (m : Meaning K V P) (s : Settings) (from
   pub due_scans : (b : ℕ) → IsScanDue (from.scans b) (at (slice_get scans b)) (w.scans b)
   pub due_cleans : (b : ℕ) → IsCleanDue (from.clean_states b) (is_set (slice_get cleans b)) (w.clean_states b)
 
--- one move was made
-pub record IsMoved {K V P A : Type 0} (m : Meaning K V P) (s : Settings) (sound : AreValid s) (from : World Content) (x : Asked K V P A) (before : List (Reply K V P A)) (tickets : List (Option Ticket)) (issued : List (Option Issued)) (scans : List (Option Part)) (cleans : List Bool) (said : List (Reply K V P A)) (core : Core K V P A) (bytes : ℕ → ℕ → ℕ) (w : World Content) : Type 0 where
+-- One move was made, whether an access of it failed or not; one that did has a cause.
+pub record IsMoved {K V P A : Type 0} (m : Meaning K V P) (s : Settings) (sound : AreValid s) (came : ℕ → ℕ → ℕ → Type 0) (failed : Bool) (from : World Content) (x : Asked K V P A) (before : List (Reply K V P A)) (tickets : List (Option Ticket)) (issued : List (Option Issued)) (scans : List (Option Part)) (cleans : List Bool) (said : List (Reply K V P A)) (core : Core K V P A) (bytes : ℕ → ℕ → ℕ) (w : World Content) : Type 0 where
   pub events : List (WorldEvent Content)
   pub answers : List (Reply K V P A)
   pub happened : MayAllHappen (machine m s sound) (layout s) (IsEncoded m.is_key m.is_value) w events
   pub made : Makes m from w x events answers
   pub replies : said ≡ before ++ answers
+  pub causes : AreForCause came (machine m s sound) w events
+  pub faults : has_fault events ≡ failed
   pub running : IsRunning m s from tickets issued scans cleans said core bytes (after_all (machine m s sound) w events)
 
-abbrev pub Moves : {K V P A : Type 0} → Meaning K V P → Asked K V P A → Kept K V P A → Kept K V P A → Core K V P A → Core K V P A → (ℕ → ℕ → ℕ) → (ℕ → ℕ → ℕ) → Type 0
-Moves m x old new core core' bytes bytes' =
+-- and whether one failed is noted
+abbrev pub Moves : {K V P A : Type 0} → (came : ℕ → ℕ → ℕ → Type 0) → Meaning K V P → Asked K V P A → Kept K V P A → Kept K V P A → Core K V P A → Core K V P A → (ℕ → ℕ → ℕ) → (ℕ → ℕ → ℕ) → Type 0
+Moves came m x old new core core' bytes bytes' =
     (s : Settings) (sound : AreValid s) (from w : World Content)
     → IsRunning m s from old.tickets.items old.issued.items old.scans.items old.cleans.items old.replies.items core bytes w
-    → IsMoved m s sound from x old.replies.items new.tickets.items new.issued.items new.scans.items new.cleans.items new.replies.items core' bytes' w
+    → (failed : Bool) × (new.has_failed ≡ (old.has_failed || failed)) × IsMoved m s sound came failed from x old.replies.items new.tickets.items new.issued.items new.scans.items new.cleans.items new.replies.items core' bytes' w

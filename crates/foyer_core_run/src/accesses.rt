@@ -10,6 +10,7 @@ ghost use Rattle.foyer_core_steps.specs.Refines.{Refines};
 ghost use Rattle.foyer_core_steps.specs.declared.state.Core.{Core};
 ghost use Rattle.foyer_core_run.specs.Accesses.{AsksNoMore, Says, Writes, load_of};
 ghost use Rattle.foyer_core_run.specs.AtRest.{KeepsOthers, Leads};
+ghost use Rattle.foyer_core_run.specs.Causes.{DrivesForCause};
 ghost use Rattle.foyer_core_run.specs.Driven.{Drives};
 ghost use Rattle.foyer_core_run.specs.Moves.{asked};
 ghost use Rattle.foyer_core_run.specs.Newest.{IsHistory, IsMissedForCause, IsNewest};
@@ -17,6 +18,7 @@ ghost use Rattle.foyer_core_run.specs.declared.moves.Asked.TheVariants as asks;
 ghost use Rattle.foyer_core_run.specs.declared.moves.Move.{Move};
 ghost use Rattle.foyer_core_run.specs.Running.{IsFree};
 ghost use Rattle.foyer_core_run.specs.Runs.{IsFront};
+ghost use Rattle.foyer_core_run.specs.Waiting.{AllSteps, IsWaiting};
 
 use crate::moves::writes::wants_next_write;
 use foyer_block_manager::block::eviction::EvictionPicker;
@@ -131,7 +133,7 @@ where
 /// Asks a flusher for a block, does the writes that this issues in their order, and reports each: what was answered last,
 /// which never asks for another write, `None` where the block has no write or none that ended it. After a write that failed, and after a report that didn't
 /// ask for the next, the block's others aren't done. `Failed` is only answered where a write that was issued failed, or the
-/// index had to grow for the block's records. Of a disk whose bytes aren't known it is only claimed that the other
+/// index had to grow for the block's records. A write that is reported as failed isn't one of which it is sure that it came. Of a disk whose bytes aren't known it is only claimed that the other
 /// flushers keep what they have.
 pub fn write_block<K, V, P, A, D, E, C>(
     core: &mut Core<K, V, P, A>,
@@ -156,6 +158,10 @@ where
     ensures honest { IfSome result (FailsForCause
         (meaning K.encoding V.encoding K.is_encodable V.is_encodable K.is_decodable V.is_decodable P.age)
         flusher (SurelyCame (D.surely_has disk.old) (D.surely_lies disk.old) (D.faults disk.old) (D.faults disk.new)) (D.is_known disk.old) core.old (D.byte_at disk.old)) }
+    ensures caused { D.is_known disk.old → DrivesForCause
+        (SurelyCame (D.surely_has disk.old) (D.surely_lies disk.old) (D.faults disk.old) (D.faults disk.new)) (AllSteps IsWaiting)
+        (meaning K.encoding V.encoding K.is_encodable V.is_encodable K.is_decodable V.is_decodable P.age)
+        core.old core.new (D.byte_at disk.old) (D.byte_at disk.new) }
     ensures ends { IfSome result (AsksNoMore
         (meaning K.encoding V.encoding K.is_encodable V.is_encodable K.is_decodable V.is_decodable P.age)
         core.old) }

@@ -1,6 +1,7 @@
 //! The clear of a destroy, with the cleans of all blocks.
 ghost use Rattle.std.specs.Prelude.{◌≡◌, IfOk, IfErr, ℕ, ◌≤◌};
 ghost use Rattle.foyer_core_laws.specs.Content.{meaning};
+ghost use Rattle.foyer_core_run.specs.Causes.{DrivesForCause, HasCome};
 ghost use Rattle.foyer_core_run.specs.Destroys.{Cleans, IsClearing, IsUncleared};
 ghost use Rattle.foyer_core_run.specs.Waiting.{DrivesBy};
 
@@ -33,7 +34,7 @@ where
     C: StorageFilterCondition,
     ensures cleans { D.is_known disk.old → Cleans
         (meaning K.encoding V.encoding K.is_encodable V.is_encodable K.is_decodable V.is_decodable P.age)
-        block result core.old core.new (D.byte_at disk.old) (D.byte_at disk.new) }
+        (HasCome D.surely_lies D.faults disk.old disk.new) block result core.old core.new (D.byte_at disk.old) (D.byte_at disk.new) }
     ensures known { D.is_known disk.old → D.is_known disk.new }
     ensures lies { (b o n : ℕ) → D.surely_lies disk.old b o n → D.surely_lies disk.new b o n }
     ensures counted { D.faults disk.old ≤ D.faults disk.new }
@@ -51,7 +52,8 @@ where
 
 /// Clears the index, once a destroy has begun and nothing is under way, then cleans each block and brings the results:
 /// what was answered last, `Destroyed` unless the limit of steps came before. `Err` where the index wasn't cleared, with
-/// the step that was out of turn or refused. A clean that fails ends no destroy. Of a disk whose bytes aren't known nothing is claimed
+/// the step that was out of turn or refused. A clean that fails ends no destroy, and is only reported where the disk failed an
+/// access, or where it isn't sure that the block's first page lies in it. Of a disk whose bytes aren't known nothing is claimed
 /// but that the call returns.
 pub fn clear_blocks<K, V, P, A, D, E, C>(
     core: &mut Core<K, V, P, A>,
@@ -67,6 +69,10 @@ where
     E: EvictionPicker,
     C: StorageFilterCondition,
     ensures clears { D.is_known disk.old → IfOk result (λ last. DrivesBy (IsClearing
+        (meaning K.encoding V.encoding K.is_encodable V.is_encodable K.is_decodable V.is_decodable P.age) core.old.settings.blocks last)
+        (meaning K.encoding V.encoding K.is_encodable V.is_encodable K.is_decodable V.is_decodable P.age)
+        core.old core.new (D.byte_at disk.old) (D.byte_at disk.new)) }
+    ensures honest { D.is_known disk.old → IfOk result (λ last. DrivesForCause (HasCome D.surely_lies D.faults disk.old disk.new) (IsClearing
         (meaning K.encoding V.encoding K.is_encodable V.is_encodable K.is_decodable V.is_decodable P.age) core.old.settings.blocks last)
         (meaning K.encoding V.encoding K.is_encodable V.is_encodable K.is_decodable V.is_decodable P.age)
         core.old core.new (D.byte_at disk.old) (D.byte_at disk.new)) }

@@ -3,11 +3,12 @@ ghost use Rattle.std.specs.Prelude.{◌≡◌, ◌+◌, ◌≤◌, vec_len, OnOk
 ghost use Rattle.foyer_device_page.specs.declared.error.Error.TheVariants.{Memory};
 ghost use Rattle.foyer_core_laws.specs.Content.{meaning};
 ghost use Rattle.foyer_core_run.specs.Moves.{asked};
+ghost use Rattle.foyer_core_run.specs.Causes.{HasCome};
 ghost use Rattle.foyer_core_run.specs.Running.{AsksFreely, Moves};
-ghost use Rattle.foyer_core_run.specs.Runs.{Runs, IsFront};
+ghost use Rattle.foyer_core_run.specs.Runs.{IsFront, Runs, RunsForCause, RunsNoted};
 
 mod blocks;
-mod kept;
+pub(crate) mod kept;
 mod loads;
 mod steps;
 pub(crate) mod writes;
@@ -166,7 +167,7 @@ where
     D: Disk,
     E: EvictionPicker,
     C: StorageFilterCondition,
-    ensures moved { D.is_known disk.old → OnOk result (Moves
+    ensures moved { D.is_known disk.old → OnOk result (Moves (HasCome D.surely_lies D.faults disk.old disk.new)
         (meaning K.encoding V.encoding K.is_encodable V.is_encodable K.is_decodable V.is_decodable P.age)
         (asked x) kept.old kept.new core.old core.new (D.byte_at disk.old) (D.byte_at disk.new)) }
     ensures stays { OnErr result (core.new ≡ core.old) }
@@ -191,12 +192,47 @@ where
     Ok(())
 }
 
+// Runs the moves in order, and notes their replies and whether an access failed.
+pub(crate) fn run_noted<K, V, P, A, D, E, C>(
+    core: &mut Core<K, V, P, A>,
+    env: &mut Env<E, C>,
+    disk: &mut D,
+    moves: Vec<Move<K, V, P, A>, A>,
+) -> Result<Kept<K, V, P, A>>
+where
+    K: Code<A> + Drop,
+    V: Code<A> + Drop,
+    P: Properties + Drop,
+    A: Allocator + Clone,
+    D: Disk,
+    E: EvictionPicker,
+    C: StorageFilterCondition,
+    ensures replies { IfOk result (λ kept. vec_len kept.replies ≤ vec_len moves) }
+    ensures runs { D.is_known disk.old → IfOk result (λ kept. RunsNoted (HasCome D.surely_lies D.faults disk.old disk.new) kept.has_failed
+        (meaning K.encoding V.encoding K.is_encodable V.is_encodable K.is_decodable V.is_decodable P.age)
+        moves.items kept.replies.items core.old core.new (D.byte_at disk.old) (D.byte_at disk.new)) }
+    ensures front { D.is_known disk.old → OnErr result (IsFront
+        (meaning K.encoding V.encoding K.is_encodable V.is_encodable K.is_decodable V.is_decodable P.age)
+        moves.items core.old core.new (D.byte_at disk.old) (D.byte_at disk.new)) }
+    ensures memory { IfErr result (λ e. e ≡ Memory) }
+    ensures known { D.is_known disk.old → D.is_known disk.new }
+    ensures lies { (b o n : ℕ) → D.surely_lies disk.old b o n → D.surely_lies disk.new b o n }
+    ensures counted { D.faults disk.old ≤ D.faults disk.new }
+{
+    let mut kept = begin(core.allocator(), core.settings(), moves.len())?;
+    for x in moves {
+        make(core, env, disk, x, &mut kept)?;
+    }
+    Ok(kept)
+}
+
 /// Runs the moves in order, and gives the replies of those that were steps.
 ///
 /// An access that a reply issued is done when its move comes, once, and a fault of the disk is the step's result. A move
 /// whose access wasn't issued in this run, or is done, is passed over; so is a write behind one that failed, or behind one
-/// whose report came back. Memory that is refused for what a reclaim reads is a fault of that read. `Memory` where the
-/// result of a load, or the list of replies, couldn't be had: then some front of the moves was run, and the others are
+/// whose report came back. Memory that is refused for what a reclaim reads is a fault of that read. A write, a clean and the
+/// read of a load only fail where the disk failed an access, or where it isn't sure that their bytes lie in it. `Memory` where
+/// the result of a load, or the list of replies, couldn't be had: then some front of the moves was run, and the others are
 /// dropped.
 pub fn run<K, V, P, A, D, E, C>(
     core: &mut Core<K, V, P, A>,
@@ -216,6 +252,9 @@ where
     ensures runs { D.is_known disk.old → IfOk result (λ replies. Runs
         (meaning K.encoding V.encoding K.is_encodable V.is_encodable K.is_decodable V.is_decodable P.age)
         moves.items replies.items core.old core.new (D.byte_at disk.old) (D.byte_at disk.new)) }
+    ensures honest { D.is_known disk.old → IfOk result (λ replies. RunsForCause (HasCome D.surely_lies D.faults disk.old disk.new)
+        (meaning K.encoding V.encoding K.is_encodable V.is_encodable K.is_decodable V.is_decodable P.age)
+        moves.items replies.items core.old core.new (D.byte_at disk.old) (D.byte_at disk.new)) }
     ensures front { D.is_known disk.old → OnErr result (IsFront
         (meaning K.encoding V.encoding K.is_encodable V.is_encodable K.is_decodable V.is_decodable P.age)
         moves.items core.old core.new (D.byte_at disk.old) (D.byte_at disk.new)) }
@@ -224,9 +263,6 @@ where
     ensures lies { (b o n : ℕ) → D.surely_lies disk.old b o n → D.surely_lies disk.new b o n }
     ensures counted { D.faults disk.old ≤ D.faults disk.new }
 {
-    let mut kept = begin(core.allocator(), core.settings(), moves.len())?;
-    for x in moves {
-        make(core, env, disk, x, &mut kept)?;
-    }
+    let kept = run_noted(core, env, disk, moves)?;
     Ok(kept.replies)
 }

@@ -2,7 +2,8 @@
 ghost use Rattle.std.specs.Prelude.{◌≡◌, ℕ, Some, None, ◌≤◌};
 ghost use Rattle.foyer_core_laws.specs.Content.{meaning};
 ghost use Rattle.foyer_core_run.specs.AtRest.{KeepsIdle, Leads, Without};
-ghost use Rattle.foyer_core_run.specs.Reclaims.{IsOver, KeepsUnread, Reads, Reclaims};
+ghost use Rattle.foyer_core_run.specs.Causes.{DrivesForCause, HasCome};
+ghost use Rattle.foyer_core_run.specs.Reclaims.{IsOver, IsReclaim, KeepsUnread, Reads, Reclaims};
 
 use foyer_block_index::manager::BlockId;
 use foyer_block_manager::block::eviction::EvictionPicker;
@@ -107,6 +108,7 @@ where
 /// Reclaims a block: begins where a reclaim may, reads each index of the picked block and each record that is to be
 /// written again, and brings them, forgets the other entries, and cleans the block. What was answered last: `Done` once the
 /// block may be written again, or the step that was out of turn or refused. A read or a clean that fails ends no reclaim.
+/// The clean is only reported as failed where the disk failed an access, or where it isn't sure that the block's first page lies in it.
 /// Of a disk whose bytes aren't known it is only claimed that, without a filter of reinsertions, idle flushers stay idle;
 /// with one, records are queued at flushers in turn.
 pub fn reclaim_block<K, V, P, A, D, E, C>(
@@ -125,6 +127,10 @@ where
     ensures reclaims { D.is_known disk.old → Reclaims
         (meaning K.encoding V.encoding K.is_encodable V.is_encodable K.is_decodable V.is_decodable P.age)
         result core.old core.new (D.byte_at disk.old) (D.byte_at disk.new) }
+    ensures honest { D.is_known disk.old → DrivesForCause (HasCome D.surely_lies D.faults disk.old disk.new) (IsReclaim
+        (meaning K.encoding V.encoding K.is_encodable V.is_encodable K.is_decodable V.is_decodable P.age) result)
+        (meaning K.encoding V.encoding K.is_encodable V.is_encodable K.is_decodable V.is_decodable P.age)
+        core.old core.new (D.byte_at disk.old) (D.byte_at disk.new) }
     ensures ends { IsOver
         (meaning K.encoding V.encoding K.is_encodable V.is_encodable K.is_decodable V.is_decodable P.age)
         core.old result }

@@ -8,7 +8,8 @@ ghost use Rattle.foyer_core_laws.specs.Content.{meaning};
 ghost use Rattle.foyer_core_laws.specs.Sizes.{AreValid};
 ghost use Rattle.foyer_core_run.specs.Stopped.{IsRunOverZeros, IsReopenedRun};
 
-use crate::moves::{Move, run};
+use crate::moves::kept::Kept;
+use crate::moves::{Move, run_noted};
 use foyer_block_manager::block::eviction::EvictionPicker;
 use foyer_core_steps::apply::Env;
 use foyer_core_steps::open::RecoverMode;
@@ -27,6 +28,8 @@ use std::alloc::Allocator;
 pub struct Reopened<K, V, P, A: Allocator> {
     /// The replies of the run's steps.
     pub replies: Vec<Reply<K, V, P, A>, A>,
+    /// Whether an access of the run failed: a read, a write or a clean.
+    pub has_failed: bool,
     /// The core that was opened.
     pub core: Core<K, V, P, A>,
     /// The memory with the bytes that the run left.
@@ -40,7 +43,7 @@ fn run_over_zeros<K, V, P, A, D, E, C>(
     settings: Settings,
     disk: &mut D,
     moves: Vec<Move<K, V, P, A>, A>,
-) -> Result<Vec<Reply<K, V, P, A>, A>>
+) -> Result<Kept<K, V, P, A>>
 where
     K: Code<A> + Drop,
     V: Code<A> + Drop,
@@ -53,13 +56,13 @@ where
     requires zeros { (b o : ℕ) → D.byte_at disk.old b o ≡ 0 }
     ensures sound { IfOk result (λ _. AreValid settings) }
     ensures refused { IfErr result (λ e. (e ≡ Memory) ⊎ ((e ≡ Config) × (AreValid settings → ⊥))) }
-    ensures runs { IfOk result (λ replies. (sound : AreValid settings) → IsRunOverZeros
+    ensures runs { IfOk result (λ kept. (sound : AreValid settings) → IsRunOverZeros
         (meaning K.encoding V.encoding K.is_encodable V.is_encodable K.is_decodable V.is_decodable P.age)
-        settings sound moves.items replies.items (D.byte_at disk.new)) }
+        settings sound kept.has_failed moves.items kept.replies.items (D.byte_at disk.new)) }
 {
     let mut core = Core::open(alloc, env, settings, disk, RecoverMode::None, &[])?;
-    let replies = run(&mut core, env, disk, moves)?;
-    Ok(replies)
+    let kept = run_noted(&mut core, env, disk, moves)?;
+    Ok(kept)
 }
 
 // Opens a core on memory that a run left, whose blocks are all there.
@@ -97,7 +100,8 @@ where
 ///
 /// Where the run's events went well, its bytes have no stray index, and blocks are read, the core has each address that the
 /// run's index had, or a newer record of its hash, unless its block was being written; each of them where no flush was under
-/// way; and what it has again was newest at the stop.
+/// way; and what it has again was newest at the stop. The events went well where no access failed, no reply is `Failed`, and
+/// no verdict of a reply admits an entry for reinsertion: with reclaims too.
 pub fn run_and_reopen<K, V, P, A, E, C>(
     alloc: A,
     first: &mut Env<E, C>,
@@ -119,15 +123,18 @@ where
         ⊎ (e ≡ Recover) ⊎ ((e ≡ SequenceEnd) × (mode ≢ recover_mode.None))) }
     ensures keeps { IfOk result (λ reopened. (sound : AreValid settings) → IsReopenedRun
         (meaning K.encoding V.encoding K.is_encodable V.is_encodable K.is_decodable V.is_decodable P.age)
-        settings sound mode moves.items reopened.replies.items reopened.core
+        settings sound reopened.has_failed mode moves.items reopened.replies.items reopened.core
         (⟦<MemoryDisk<A> as Disk>⟧.byte_at reopened.disk)) }
 {
     let mut disk = MemoryDisk::new(alloc.clone()?, settings.blocks, settings.block_size)?;
-    let replies = run_over_zeros(alloc.clone()?, first, settings, &mut disk, moves)?;
-    let core = reopen(alloc, second, settings, &mut disk, mode)?;
-    Ok(Reopened {
-        replies,
-        core,
-        disk,
-    })
+    let kept = run_over_zeros(alloc.clone()?, first, settings, &mut disk, moves)?;
+    match reopen(alloc, second, settings, &mut disk, mode) {
+        Ok(core) => Ok(Reopened {
+            replies: kept.replies,
+            has_failed: kept.has_failed,
+            core,
+            disk,
+        }),
+        Err(error) => Err(error),
+    }
 }

@@ -1,12 +1,13 @@
 //! The answers to requests, by a store.
 ghost use Rattle.foyer_format_checksum.specs.Xxh64.{xxh64};
 
-use crate::codes::{DELETED, DONE, ENTRY, IGNORED, MISS, NO, THROTTLED, YES, error_code};
-use foyer_device_page::error::{Error, Result};
+use crate::codes::{DELETED, DONE, ENTRY, IGNORED, MISS, NO, THROTTLED, YES};
+use crate::readers::{Get, Gets};
+use crate::replies::Replies;
+use foyer_device_page::error::Result;
 use foyer_format_checksum::Checksummer;
 use foyer_format_record::serde::{HashBuilder, NoProperties};
 use foyer_frames::kind::Kind;
-use foyer_frames::reply::Reply;
 use foyer_storage_build::config::Engine;
 use foyer_storage_build::counters::StoreCounters;
 use foyer_storage_build::engine::engine::Enqueued;
@@ -16,7 +17,6 @@ use std::alloc::Global;
 use std::fmt::Write as _;
 use std::io::Write;
 use std::sync::Wait;
-use std::{fmt, io};
 
 /// A key, or a value.
 pub(crate) type Bytes = Vec<u8, Global>;
@@ -36,55 +36,59 @@ impl HashBuilder<Bytes> for BytesHashBuilder {
 /// What a store of the program is.
 pub(crate) type Cache<N> = Store<N, Bytes, Bytes, NoProperties, BytesHashBuilder>;
 
-// Writes a reply. One that is longer than a frame can say is answered as `OutOfRange`.
-fn reply<W: Write>(output: &mut W, number: u32, code: u8, bytes: &[u8]) -> io::Result<()> {
-    let reply = Reply {
-        number,
-        code,
-        bytes,
-    };
-    reply.write_to(output)
-}
-
-fn reply_error<W: Write>(output: &mut W, number: u32, error: Error) -> io::Result<()> {
-    reply(output, number, error_code(error.kind()), &[])
-}
-
-fn reply_done<W: Write>(output: &mut W, number: u32, done: Result<()>) -> io::Result<()> {
+fn reply_done<O: Write + Drop>(
+    rt: &impl Wait,
+    replies: &Replies<O>,
+    number: u32,
+    done: Result<()>,
+) {
     match done {
-        Ok(()) => reply(output, number, DONE, &[]),
-        Err(error) => reply_error(output, number, error),
+        Ok(()) => replies.write(rt, number, DONE, &[]),
+        Err(error) => replies.write_error(rt, number, error),
     }
 }
 
-fn reply_put<W: Write>(output: &mut W, number: u32, put: Result<Enqueued>) -> io::Result<()> {
+fn reply_put<O: Write + Drop>(
+    rt: &impl Wait,
+    replies: &Replies<O>,
+    number: u32,
+    put: Result<Enqueued>,
+) {
     match put {
-        Ok(Enqueued::Queued) => reply(output, number, DONE, &[]),
-        Ok(Enqueued::Ignored) => reply(output, number, IGNORED, &[]),
-        Ok(Enqueued::Deleted) => reply(output, number, DELETED, &[]),
-        Err(error) => reply_error(output, number, error),
+        Ok(Enqueued::Queued) => replies.write(rt, number, DONE, &[]),
+        Ok(Enqueued::Ignored) => replies.write(rt, number, IGNORED, &[]),
+        Ok(Enqueued::Deleted) => replies.write(rt, number, DELETED, &[]),
+        Err(error) => replies.write_error(rt, number, error),
     }
 }
 
-fn reply_get<W: Write>(
-    output: &mut W,
+fn reply_get<O: Write + Drop>(
+    rt: &impl Wait,
+    replies: &Replies<O>,
     number: u32,
     got: Result<Load<Bytes, Bytes, NoProperties, Global>>,
-) -> io::Result<()> {
+) {
     match got {
-        Ok(Load::Entry { value, .. }) => reply(output, number, ENTRY, value.as_slice()),
-        Ok(Load::Piece { piece, .. }) => reply(output, number, ENTRY, piece.value().as_slice()),
-        Ok(Load::Miss) => reply(output, number, MISS, &[]),
-        Ok(Load::Throttled) => reply(output, number, THROTTLED, &[]),
-        Err(error) => reply_error(output, number, error),
+        Ok(Load::Entry { value, .. }) => replies.write(rt, number, ENTRY, value.as_slice()),
+        Ok(Load::Piece { piece, .. }) => {
+            replies.write(rt, number, ENTRY, piece.value().as_slice());
+        }
+        Ok(Load::Miss) => replies.write(rt, number, MISS, &[]),
+        Ok(Load::Throttled) => replies.write(rt, number, THROTTLED, &[]),
+        Err(error) => replies.write_error(rt, number, error),
     }
 }
 
-fn reply_whether<W: Write>(output: &mut W, number: u32, has: Result<bool>) -> io::Result<()> {
+fn reply_whether<O: Write + Drop>(
+    rt: &impl Wait,
+    replies: &Replies<O>,
+    number: u32,
+    has: Result<bool>,
+) {
     match has {
-        Ok(true) => reply(output, number, YES, &[]),
-        Ok(false) => reply(output, number, NO, &[]),
-        Err(error) => reply_error(output, number, error),
+        Ok(true) => replies.write(rt, number, YES, &[]),
+        Ok(false) => replies.write(rt, number, NO, &[]),
+        Err(error) => replies.write_error(rt, number, error),
     }
 }
 
@@ -92,52 +96,58 @@ fn bytes_of(alloc: Global, bytes: &[u8]) -> Result<Bytes> {
     Ok(Vec::from_slice(alloc, bytes)?)
 }
 
+// A key as it is kept: behind the eight bytes of the seed, the lowest first, unless that is 0.
+fn key_of(alloc: Global, seed: u64, key: &[u8]) -> Result<Bytes> {
+    if seed == 0 {
+        return bytes_of(alloc, key);
+    }
+    let mut kept = bytes_of(alloc, &seed.to_le_bytes())?;
+    kept.extend_from_slice(key)?;
+    Ok(kept)
+}
+
 fn put<S: Drop, N: Engine<S, Bytes, Bytes, NoProperties>>(
     rt: &impl Wait,
     alloc: Global,
     cache: &Cache<N>,
     session: &mut S,
-    key: &[u8],
+    key: Bytes,
     value: &[u8],
     now: u64,
 ) -> Result<Enqueued> {
-    let key = bytes_of(alloc, key)?;
     let value = bytes_of(alloc, value)?;
     cache.put(rt, alloc, session, key, value, NoProperties, now)
 }
 
-fn get<S: Drop, N: Engine<S, Bytes, Bytes, NoProperties>>(
+/// Answers a get at a moment.
+pub(crate) fn answer_get<S: Drop, N: Engine<S, Bytes, Bytes, NoProperties>, O: Write + Drop>(
     rt: &impl Wait,
-    alloc: Global,
     cache: &Cache<N>,
     session: &mut S,
-    key: &[u8],
+    get: &Get,
     now: u64,
-) -> Result<Load<Bytes, Bytes, NoProperties, Global>> {
-    let key = bytes_of(alloc, key)?;
-    cache.load(rt, session, &key, now)
+    replies: &Replies<O>,
+) {
+    let got = cache.load(rt, session, &get.key, now);
+    reply_get(rt, replies, get.number, got);
 }
 
-fn delete<S: Drop, N: Engine<S, Bytes, Bytes, NoProperties>>(
+// Leaves a get to a thread that answers gets, or answers it if there is none or too many wait.
+fn answer_or_leave<S: Drop, N: Engine<S, Bytes, Bytes, NoProperties>, O: Write + Drop>(
     rt: &impl Wait,
-    alloc: Global,
     cache: &Cache<N>,
     session: &mut S,
-    key: &[u8],
-) -> Result<()> {
-    let key = bytes_of(alloc, key)?;
-    cache.delete(rt, session, &key)
-}
-
-fn contains<S: Drop, N: Engine<S, Bytes, Bytes, NoProperties>>(
-    rt: &impl Wait,
-    alloc: Global,
-    cache: &Cache<N>,
-    session: &mut S,
-    key: &[u8],
-) -> Result<bool> {
-    let key = bytes_of(alloc, key)?;
-    cache.may_contains(rt, session, &key)
+    gets: &Gets,
+    get: Get,
+    now: u64,
+    replies: &Replies<O>,
+) {
+    if gets.readers() == 0 {
+        return answer_get(rt, cache, session, &get, now, replies);
+    }
+    if let Err(get) = gets.offer(rt, get) {
+        answer_get(rt, cache, session, &get, now, replies);
+    }
 }
 
 // A count and its name.
@@ -197,15 +207,16 @@ fn text_of(alloc: Global, counters: &StoreCounters) -> Result<String> {
     Ok(text)
 }
 
-fn reply_counters<W: Write>(
-    output: &mut W,
+fn reply_counters<O: Write + Drop>(
+    rt: &impl Wait,
+    replies: &Replies<O>,
     alloc: Global,
     number: u32,
     counters: &StoreCounters,
-) -> io::Result<()> {
+) {
     match text_of(alloc, counters) {
-        Ok(text) => reply(output, number, DONE, text.as_bytes()),
-        Err(error) => reply_error(output, number, error),
+        Ok(text) => replies.write(rt, number, DONE, text.as_bytes()),
+        Err(error) => replies.write_error(rt, number, error),
     }
 }
 
@@ -218,34 +229,67 @@ pub(crate) struct Asked<'a> {
     pub(crate) value: &'a [u8],
 }
 
-/// Answers a request at a moment.
-pub(crate) fn answer<S: Drop, N: Engine<S, Bytes, Bytes, NoProperties>, W: Write>(
+// Answers a request of a key at a moment.
+fn answer_keyed<S: Drop, N: Engine<S, Bytes, Bytes, NoProperties>, O: Write + Drop>(
     rt: &impl Wait,
     alloc: Global,
     cache: &Cache<N>,
     session: &mut S,
+    gets: &Gets,
+    asked: Asked<'_>,
+    key: Bytes,
+    now: u64,
+    replies: &Replies<O>,
+) {
+    let number = asked.number;
+    match asked.kind {
+        Kind::Put => {
+            let put = put(rt, alloc, cache, session, key, asked.value, now);
+            reply_put(rt, replies, number, put);
+        }
+        Kind::Delete => {
+            let deleted = cache.delete(rt, session, &key);
+            reply_done(rt, replies, number, deleted);
+        }
+        Kind::Contains => {
+            let has = cache.may_contains(rt, session, &key);
+            reply_whether(rt, replies, number, has);
+        }
+        _ => {
+            let get = Get { number, key };
+            answer_or_leave(rt, cache, session, gets, get, now, replies);
+        }
+    }
+}
+
+/// Answers a request at a moment, or leaves it to a thread that answers gets. Keys are kept behind the bytes of the seed, unless that is 0.
+pub(crate) fn answer<S: Drop, N: Engine<S, Bytes, Bytes, NoProperties>, O: Write + Drop>(
+    rt: &impl Wait,
+    alloc: Global,
+    cache: &Cache<N>,
+    session: &mut S,
+    gets: &Gets,
+    seed: u64,
     asked: Asked<'_>,
     now: u64,
-    output: &mut W,
-) -> io::Result<()> {
-    let Asked {
-        kind,
-        number,
-        key,
-        value,
-    } = asked;
-    match kind {
-        Kind::Put => reply_put(
-            output,
-            number,
-            put(rt, alloc, cache, session, key, value, now),
-        ),
-        Kind::Get => reply_get(output, number, get(rt, alloc, cache, session, key, now)),
-        Kind::Delete => reply_done(output, number, delete(rt, alloc, cache, session, key)),
-        Kind::Contains => reply_whether(output, number, contains(rt, alloc, cache, session, key)),
-        Kind::Wait => reply_done(output, number, cache.wait(rt, session)),
-        Kind::Counters => reply_counters(output, alloc, number, &cache.counters::<S>(rt, now)),
-        Kind::Destroy => reply_done(output, number, cache.destroy(rt, session)),
-        Kind::Close => reply_done(output, number, cache.close(rt, session)),
+    replies: &Replies<O>,
+) {
+    let number = asked.number;
+    match asked.kind {
+        Kind::Put | Kind::Get | Kind::Delete | Kind::Contains => match key_of(
+            alloc, seed, asked.key,
+        ) {
+            Ok(key) => {
+                answer_keyed(rt, alloc, cache, session, gets, asked, key, now, replies);
+            }
+            Err(error) => replies.write_error(rt, number, error),
+        },
+        Kind::Wait => reply_done(rt, replies, number, cache.wait(rt, session)),
+        Kind::Counters => {
+            let counters = cache.counters::<S>(rt, now);
+            reply_counters(rt, replies, alloc, number, &counters);
+        }
+        Kind::Destroy => reply_done(rt, replies, number, cache.destroy(rt, session)),
+        Kind::Close => reply_done(rt, replies, number, cache.close(rt, session)),
     }
 }

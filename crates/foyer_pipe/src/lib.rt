@@ -4,4 +4,6 @@
 mod answers;
 pub mod codes;
 pub mod options;
+mod readers;
+mod replies;
 pub mod serve;

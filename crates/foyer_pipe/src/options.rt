@@ -19,6 +19,12 @@ pub struct PipeOptions {
     pub reclaimers: u32,
     /// The I/O engines that gets read through.
     pub engines: usize,
+    /// The threads that answer gets beside the one that reads requests.
+    pub readers: u32,
+    /// How often a put that finds too much queued looks again.
+    pub patience: u32,
+    /// What keys are hashed behind, in eight bytes; 0 for nothing.
+    pub seed: u64,
     /// The clean blocks below which a reclaim may begin.
     pub clean: usize,
     /// Whether deletes are logged.
@@ -41,13 +47,16 @@ pub const DEFAULT_KEY_BYTES: u32 = 1 << 16;
 pub const DEFAULT_VALUE_BYTES: u32 = 1 << 26;
 
 impl PipeOptions {
-    /// One flusher, one reclaimer, one I/O engine for gets, one clean block, no log, the mode `quiet`, no limits, keys of 64 KiB and
-    /// values of 64 MiB at most.
+    /// One flusher, one reclaimer, one I/O engine for gets, no thread for gets alone, no patience, no seed, one clean block, no log, the mode
+    /// `quiet`, no limits, keys of 64 KiB and values of 64 MiB at most.
     pub fn new() -> PipeOptions {
         PipeOptions {
             flushers: 1,
             reclaimers: 1,
             engines: 1,
+            readers: 0,
+            patience: 0,
+            seed: 0,
             clean: 1,
             has_log: false,
             mode: RecoverMode::Quiet,
@@ -88,6 +97,9 @@ impl PipeOptions {
             "flushers" => self.flushers = few?,
             "reclaimers" => self.reclaimers = few?,
             "engines" => self.engines = few? as usize,
+            "readers" => self.readers = up_to(number, 1024)?,
+            "patience" => self.patience = up_to(number, u32::MAX)?,
+            "seed" => self.seed = number,
             "clean" => self.clean = any,
             "log" => self.has_log = flag_of(number)?,
             "read_bytes" => self.read_bytes = any,
@@ -111,10 +123,19 @@ impl PipeOptions {
     }
 }
 
+// A number up to the greatest.
+fn up_to(number: u64, greatest: u32) -> Option<u32> {
+    let count = u32::try_from(number).ok()?;
+    if count > greatest {
+        return None;
+    }
+    Some(count)
+}
+
 // A number from 1 to the greatest.
 fn count_of(number: u64, greatest: u32) -> Option<u32> {
-    let count = u32::try_from(number).ok()?;
-    if count == 0 || count > greatest {
+    let count = up_to(number, greatest)?;
+    if count == 0 {
         return None;
     }
     Some(count)

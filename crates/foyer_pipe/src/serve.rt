@@ -1,10 +1,13 @@
 //! The whole program, over any reader and writers.
 ghost use Rattle.std.specs.Prelude.{◌≡◌, ◌^◌};
+ghost use denote.Param.Send.{IsSend, IsSync};
 ghost use Rattle.foyer_core_tally.specs.Ledgers.{AreOf};
 
 use crate::answers::{Asked, Bytes, BytesHashBuilder, Cache, answer};
 use crate::codes::fault_code;
 use crate::options::{PipeOptions, USAGE, parse_words};
+use crate::readers::{Gets, Reader};
+use crate::replies::Replies;
 use foyer_cli::faults::name_of;
 use foyer_cli::options::{GENERATOR_SEED, Options};
 use foyer_core_tally::book::{Blanks, Kinds};
@@ -14,7 +17,6 @@ use foyer_device_partition::io::device::{
 };
 use foyer_format_record::serde::NoProperties;
 use foyer_frames::frames::{Filled, Frames, Taken};
-use foyer_frames::reply::Reply;
 use foyer_io_engine::io::engine::{
     IoEngineConfig, MemoryIoEngine, PsyncIoEngineConfig, SharedMemoryIoEngineConfig,
 };
@@ -24,11 +26,11 @@ use foyer_storage_build::session::StoreSession;
 use foyer_storage_build::threads::workers::{Clock, SystemClock, Workers};
 use std::alloc::{Allocator, Global};
 use std::fs::File;
-use std::io;
 use std::io::{BufWriter, Read, Write};
 use std::rt::Files;
 use std::sync::Wait;
 use std::thread::Threads;
+use std::{io, thread};
 
 // The bytes of the output's buffer.
 const OUTPUT_CAPACITY: usize = 64 * 1024;
@@ -53,32 +55,29 @@ enum Went {
 }
 
 // Answers the requests that were read whole.
-fn answer_whole<S, N, R, W>(
+fn answer_whole<S, N, R, O>(
     rt: &impl Wait,
     alloc: Global,
     cache: &Cache<N>,
     session: &mut S,
     clock: &impl Clock,
     frames: &mut Frames<R, Global>,
-    output: &mut W,
-) -> io::Result<Went>
+    gets: &Gets,
+    seed: u64,
+    replies: &Replies<O>,
+) -> Went
 where
     S: Drop,
     N: Engine<S, Bytes, Bytes, NoProperties>,
     R: Read + Drop,
-    W: Write,
+    O: Write + Drop,
 {
     for _ in 0..u64::MAX {
         match frames.take() {
-            Taken::Partial => return Ok(Went::Well),
+            Taken::Partial => return Went::Well,
             Taken::Refused(fault) => {
-                let reply = Reply {
-                    number: 0,
-                    code: fault_code(fault),
-                    bytes: &[],
-                };
-                reply.write_to(output)?;
-                return Ok(Went::Badly);
+                replies.write(rt, 0, fault_code(fault), &[]);
+                return Went::Badly;
             }
             Taken::Request(head) => {
                 let asked = Asked {
@@ -87,90 +86,183 @@ where
                     key: frames.key(),
                     value: frames.value(),
                 };
-                answer(rt, alloc, cache, session, asked, clock.now(), output)?;
+                answer(
+                    rt,
+                    alloc,
+                    cache,
+                    session,
+                    gets,
+                    seed,
+                    asked,
+                    clock.now(),
+                    replies,
+                );
             }
         }
     }
-    Ok(Went::Badly)
+    Went::Badly
 }
 
 // Answers every request, until the input ends or fails, a frame is none, or the output fails: whether all went well. Replies are written
-// out before more input is asked for.
-fn answer_all<S, N, R, W>(
+// out before more input is asked for, but for those that other threads write.
+fn answer_all<S, N, R, O>(
     rt: &impl Wait,
     alloc: Global,
     cache: &Cache<N>,
     session: &mut S,
     clock: &impl Clock,
     frames: &mut Frames<R, Global>,
-    output: &mut W,
-) -> io::Result<bool>
-where
-    S: Drop,
-    N: Engine<S, Bytes, Bytes, NoProperties>,
-    R: Read + Drop,
-    W: Write,
-{
-    for _ in 0..u64::MAX {
-        let went = answer_whole(rt, alloc, cache, session, clock, frames, output)?;
-        output.flush()?;
-        if went == Went::Badly {
-            return Ok(false);
-        }
-        match frames.fill()? {
-            Filled::More | Filled::Ready => {}
-            Filled::End => return Ok(true),
-            Filled::Cut => return Ok(false),
-        }
-    }
-    Ok(false)
-}
-
-// The same, unless memory is refused for what reads and writes.
-fn answer_frames<S, N, R, W>(
-    rt: &impl Wait,
-    alloc: Global,
-    cache: &Cache<N>,
-    session: &mut S,
-    clock: &impl Clock,
-    options: &PipeOptions,
-    input: R,
-    output: W,
+    gets: &Gets,
+    seed: u64,
+    replies: &Replies<O>,
 ) -> bool
 where
     S: Drop,
     N: Engine<S, Bytes, Bytes, NoProperties>,
     R: Read + Drop,
-    W: Write + Drop,
+    O: Write + Drop,
+{
+    for _ in 0..u64::MAX {
+        let went = answer_whole(
+            rt, alloc, cache, session, clock, frames, gets, seed, replies,
+        );
+        if !replies.flush(rt) || went == Went::Badly {
+            return false;
+        }
+        match frames.fill() {
+            Ok(Filled::More | Filled::Ready) => {}
+            Ok(Filled::End) => return true,
+            Ok(Filled::Cut) | Err(_) => return false,
+        }
+    }
+    false
+}
+
+// A part of the session for a thread that answers gets; none if the session has too few.
+fn part_of<L: Kinds>(session: &mut StoreSession<L>) -> Option<StoreSession<L>> {
+    if session.parts() < 2 {
+        return None;
+    }
+    Some(session.split(1))
+}
+
+// The same, with threads that answer gets. If one can't be started, there are fewer, or none.
+fn answer_with_readers<L, N, T, C, R, O>(
+    rt: &T,
+    alloc: Global,
+    cache: &Cache<N>,
+    session: &mut StoreSession<L>,
+    clock: &C,
+    frames: &mut Frames<R, Global>,
+    options: &PipeOptions,
+    replies: &Replies<O>,
+) -> bool
+where
+    L: Kinds + Send + Sync,
+    N: Engine<StoreSession<L>, Bytes, Bytes, NoProperties> + Send + Sync,
+    T: Threads + Wait + Sync,
+    C: Clock + Sync,
+    R: Read + Drop,
+    O: Write + Drop + Send,
+{
+    let gets = &Gets::new(alloc, options.readers);
+    let mut is_well = false;
+    thread::scope(
+        thread::scope_env(),
+        rt,
+        |scope|
+            requires { IsSync T.row × IsSync N.row × IsSend L.row × IsSync L.row × IsSend O.row × IsSync C.row }
+        {
+            for _ in 0..options.readers {
+                let Some(part) = part_of(session) else {
+                    break;
+                };
+                let reader = Reader {
+                    cache,
+                    session: part,
+                    clock,
+                    gets,
+                    replies,
+                };
+                let started = scope.spawn(move || reader.answer(rt));
+                if started.is_err() {
+                    break;
+                }
+            }
+            is_well = answer_all(
+                rt,
+                alloc,
+                cache,
+                session,
+                clock,
+                frames,
+                gets,
+                options.seed,
+                replies,
+            );
+            gets.close(rt);
+        },
+    );
+    is_well && replies.flush(rt)
+}
+
+// The same, unless memory is refused for what reads and writes.
+fn answer_frames<L, N, T, C, R, W>(
+    rt: &T,
+    alloc: Global,
+    cache: &Cache<N>,
+    session: &mut StoreSession<L>,
+    clock: &C,
+    options: &PipeOptions,
+    input: R,
+    output: W,
+) -> bool
+where
+    L: Kinds + Send + Sync,
+    N: Engine<StoreSession<L>, Bytes, Bytes, NoProperties> + Send + Sync,
+    T: Threads + Wait + Sync,
+    C: Clock + Sync,
+    R: Read + Drop,
+    W: Write + Drop + Send,
 {
     let Ok(mut frames) = Frames::new(alloc, input, options.limits) else {
         return false;
     };
-    let Ok(mut output) = BufWriter::with_capacity(alloc, OUTPUT_CAPACITY, output) else {
+    let Ok(output) = BufWriter::with_capacity(alloc, OUTPUT_CAPACITY, output) else {
         return false;
     };
-    let answered = answer_all(rt, alloc, cache, session, clock, &mut frames, &mut output);
-    answered.unwrap_or(false)
+    let replies = Replies::new(output);
+    answer_with_readers(
+        rt,
+        alloc,
+        cache,
+        session,
+        clock,
+        &mut frames,
+        options,
+        &replies,
+    )
 }
 
 // Answers the input's requests, closes the cache, and joins its workers: the status.
-fn answer_and_close<L, N, T, R, W>(
+fn answer_and_close<L, N, T, C, R, W>(
     rt: &T,
     alloc: Global,
     cache: &Cache<N>,
     mut session: StoreSession<L>,
     workers: Workers<L>,
-    clock: &impl Clock,
+    clock: &C,
     options: &PipeOptions,
     input: R,
     output: W,
 ) -> u8
 where
-    L: Kinds,
-    N: Engine<StoreSession<L>, Bytes, Bytes, NoProperties>,
-    T: Threads + Wait,
+    L: Kinds + Send + Sync,
+    N: Engine<StoreSession<L>, Bytes, Bytes, NoProperties> + Send + Sync,
+    T: Threads + Wait + Sync,
+    C: Clock + Sync,
     R: Read + Drop,
-    W: Write + Drop,
+    W: Write + Drop + Send,
 {
     let is_well = answer_frames(
         rt,
@@ -206,13 +298,13 @@ fn serve_over<L, T, I, D, R, W>(
 ) -> Result<u8>
 where
     L: Kinds + Send + Sync + 'static,
-    T: Threads + Wait + std::rt::Clock + Files + Copy + Send + 'static,
+    T: Threads + Wait + std::rt::Clock + Files + Copy + Send + Sync + 'static,
     I: IoEngineConfig<T> + Drop,
     I::Engine: Send + 'static,
     D: Device,
-    D::Partition: Drop + Send + 'static,
+    D::Partition: Drop + Send + Sync + 'static,
     R: Read + Drop,
-    W: Write + Drop,
+    W: Write + Drop + Send,
     requires { AreOf L.name_of L.all blanks × (L.all ≡ 2 ^ 32) }
 {
     let config = BlockEngineConfig::new(device)
@@ -220,6 +312,7 @@ where
         .with_flushers(options.flushers)
         .with_reclaimers(options.reclaimers)
         .with_load_engines(options.engines)
+        .with_enqueue_patience(options.patience)
         .with_clean_block_threshold(options.clean)
         .with_tombstone_log(options.has_log);
     let builder = StoreBuilder::new("foyerpipe", BytesHashBuilder, KEEPER_SHARDS)
@@ -266,9 +359,9 @@ fn serve_memory<L, T, R, W>(
 ) -> Result<u8>
 where
     L: Kinds + Send + Sync + 'static,
-    T: Threads + Wait + std::rt::Clock + Files + Copy + Send + 'static,
+    T: Threads + Wait + std::rt::Clock + Files + Copy + Send + Sync + 'static,
     R: Read + Drop,
-    W: Write + Drop,
+    W: Write + Drop + Send,
     requires { AreOf L.name_of L.all blanks × (L.all ≡ 2 ^ 32) }
 {
     let capacity = words.capacity as usize;
@@ -294,9 +387,17 @@ fn serve_directory<L, T, R, W>(
 ) -> Result<u8>
 where
     L: Kinds + Send + Sync + 'static,
-    T: Threads + Wait + std::rt::Clock + Files<File = File> + AllocGlobal + Copy + Send + 'static,
+    T: Threads
+        + Wait
+        + std::rt::Clock
+        + Files<File = File>
+        + AllocGlobal
+        + Copy
+        + Send
+        + Sync
+        + 'static,
     R: Read + Drop,
-    W: Write + Drop,
+    W: Write + Drop + Send,
     requires { AreOf L.name_of L.all blanks × (L.all ≡ 2 ^ 32) }
 {
     let clock = SystemClock::start(rt)?;
@@ -329,7 +430,8 @@ fn report<W: Write>(errors: &mut W, error: Error) -> io::Result<()> {
 /// Runs the program over the words `DIR CAPACITY BLOCK` and settings, each `NAME=VALUE`, and gives its exit status: 0; or 1 if the cache
 /// couldn't be built, a frame was none or cut short, a stream failed, or the close was refused; or 2 for bad words.
 ///
-/// Each request of the input is answered by one reply with its number, in order. Replies are written out before more input is asked for.
+/// Each request of the input is answered by one reply with its number: in order, except gets that other threads answer. Replies of the
+/// others are written out before more input is asked for.
 pub fn serve<L, T, B, R, W, E>(
     rt: T,
     alloc: Global,
@@ -341,10 +443,18 @@ pub fn serve<L, T, B, R, W, E>(
 ) -> u8
 where
     L: Kinds + Send + Sync + 'static,
-    T: Threads + Wait + std::rt::Clock + Files<File = File> + AllocGlobal + Copy + Send + 'static,
+    T: Threads
+        + Wait
+        + std::rt::Clock
+        + Files<File = File>
+        + AllocGlobal
+        + Copy
+        + Send
+        + Sync
+        + 'static,
     B: Allocator,
     R: Read + Drop,
-    W: Write + Drop,
+    W: Write + Drop + Send,
     E: Write + Drop,
     requires { AreOf L.name_of L.all blanks × (L.all ≡ 2 ^ 32) }
 {

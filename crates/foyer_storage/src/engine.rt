@@ -27,5 +27,6 @@ pub use foyer_storage_build::threads::workers::{
     SystemClock, Worker, Workers,
 };
 pub use foyer_storage_plan::sizes::{
-    DEFAULT_BLOCK_SIZE, DEFAULT_LOAD_ENGINES, DEFAULT_RECOVER_CONCURRENCY, EngineSizes,
+    DEFAULT_BLOCK_SIZE, DEFAULT_ENQUEUE_PATIENCE, DEFAULT_LOAD_ENGINES,
+    DEFAULT_RECOVER_CONCURRENCY, EngineSizes,
 };

@@ -88,6 +88,7 @@ pub use crate::engine::DEFAULT_BLOB_INDEX_SIZE;
 pub use crate::engine::DEFAULT_BLOCK_SIZE;
 pub use crate::engine::DEFAULT_BUFFER_POOL_SIZE;
 pub use crate::engine::DEFAULT_CLEAN_BLOCK_THRESHOLD;
+pub use crate::engine::DEFAULT_ENQUEUE_PATIENCE;
 pub use crate::engine::DEFAULT_FLUSHERS;
 pub use crate::engine::DEFAULT_LOAD_ENGINES;
 pub use crate::engine::DEFAULT_RECLAIMERS;

@@ -35,6 +35,7 @@ default_sizes = record {
   indexer_shards = None;
   recover_concurrency = 8;
   load_engines = 1;
+  enqueue_patience = 0;
   flushers = 1;
   reclaimers = 1;
   buffer_pool_size = 2 ^ 24;

@@ -12,6 +12,7 @@ ghost use Rattle.foyer_storage_engine.specs.declared.load.Load.TheVariants as lo
 
 pub mod counts;
 mod ends;
+mod patience;
 mod reader;
 pub mod signals;
 pub mod waits;
@@ -176,6 +177,8 @@ where
     others: Vec<Mutex<Reader<D, A>>, A>,
     signals: Arc<Signals<A>, A>,
     settings: Settings,
+    // How often a put that finds the queue full looks again.
+    patience: u32,
     gate: G,
     alloc: A,
 }
@@ -201,6 +204,7 @@ where
             others: _,
             signals: _,
             settings: _,
+            patience: _,
             gate: _,
             alloc: _,
         } = self;
@@ -229,7 +233,7 @@ where
         gate: G,
     ) -> Result<BlockEngine<L, K, V, P, A, E, C, D, G, N>>
         ensures settings { IfOk result (λ engine. engine.settings ≡ settings) }
-        ensures alone { IfOk result (λ engine. vec_len engine.others ≡ 0) }
+        ensures alone { IfOk result (λ engine. (vec_len engine.others ≡ 0) × (engine.patience ≡ 0)) }
         ensures refused { IfErr result (λ e. e ≡ error.Memory) }
     {
         let reader = Reader {
@@ -244,6 +248,7 @@ where
             others: Vec::new(alloc.clone()?),
             signals,
             settings,
+            patience: 0,
             gate,
             alloc,
         })
@@ -252,7 +257,7 @@ where
     /// The same, whose loads read from this disk too, which has the same blocks.
     pub fn with_load_disk(self, disk: D) -> Result<BlockEngine<L, K, V, P, A, E, C, D, G, N>>
         ensures rest { IfOk result (λ engine. (engine.settings ≡ self.settings) × (engine.shared ≡ self.shared)
-            × (engine.signals ≡ self.signals) × (engine.gate ≡ self.gate) × (engine.alloc ≡ self.alloc)) }
+            × (engine.signals ≡ self.signals) × (engine.gate ≡ self.gate) × (engine.alloc ≡ self.alloc) × (engine.patience ≡ self.patience)) }
         ensures more { IfOk result (λ engine. vec_len engine.others ≡ vec_len self.others + 1) }
         ensures refused { IfErr result (λ e. e ≡ error.Memory) }
     {
@@ -321,6 +326,7 @@ where
         ensures refused { IfErr result (λ e. is_draw_error e ≡ true) }
         ensures parts { session.new.shares.parts ≡ session.old.shares.parts }
     {
+        self.look_for_room(rt);
         let step = Step::Enqueue { piece, size };
         let reply = self.shared.step(rt, session, no_io(), step);
         self.signals.queued.ring(rt);
@@ -374,6 +380,7 @@ where
         ensures refused { IfErr result (λ e. is_draw_error e ≡ true) }
         ensures parts { session.new.shares.parts ≡ session.old.shares.parts }
     {
+        self.look_for_room(rt);
         let shard = keeper.shard(piece.hash());
         let answer = self.enqueue_into(rt, session, &mut lock_spinning(shard, rt), piece, size);
         self.signals.queued.ring(rt);

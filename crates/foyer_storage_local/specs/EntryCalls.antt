@@ -21,6 +21,7 @@ use Rattle.foyer_core_steps.specs.declared.reply.Reply.{Reply}
 use Rattle.foyer_core_steps.specs.declared.reply.Reply.TheVariants as reply
 use Rattle.foyer_core_steps.specs.declared.state.Core.{Core}
 use Rattle.foyer_core_run.specs.Accesses.{Says, load_of}
+use Rattle.foyer_core_run.specs.Causes.{DrivesForCause, HasCome}
 use Rattle.foyer_core_run.specs.Newest.{IsHistory, IsNewest, MayFail, OfPut}
 use Rattle.foyer_core_run.specs.Runs.{IsFront}
 use Rattle.foyer_core_run.specs.declared.moves.Move.TheVariants as move
@@ -33,6 +34,13 @@ use Rattle.foyer_storage_local.specs.declared.load.Load.TheVariants as load
 -- From one disk to another: what surely lay in it still does, and the faults that were counted stay so.
 abbrev pub KeepsLies : {D : Type 0} → (lies : D → ℕ → ℕ → ℕ → Type 0) → (faults : D → ℕ) → (old new : D) → Type 0
 KeepsLies lies faults old new = ((b o n : ℕ) → lies old b o n → lies new b o n) × (faults old ≤ faults new)
+
+-- From one core and disk to others by events of this kind, each access of which that failed has a cause, where the disk is known.
+abbrev pub LeadsForCause : {K V P A D : Type 0} → (is_known : D → Type 0) (byte_at : D → ℕ → ℕ → ℕ) (lies : D → ℕ → ℕ → ℕ → Type 0) (faults : D → ℕ) → (List (WorldEvent Content) → Type 0) → Meaning K V P
+    → (old : Core K V P A) (old_disk : D) (new : Core K V P A) (new_disk : D) → Type 0
+LeadsForCause is_known byte_at lies faults Are m old old_disk new new_disk =
+    KeepsLies lies faults old_disk new_disk
+    × (is_known old_disk → is_known new_disk × DrivesForCause (HasCome lies faults old_disk new_disk) Are m old new (byte_at old_disk) (byte_at new_disk))
 
 -- an error that a disk, or what it has become by then, may answer to the clean of a block
 pub record IsCleanFault {D : Type 0} (lies : D → ℕ → ℕ → ℕ → Type 0) (faults : D → ℕ) (may_answer : D → ℕ → ℕ → ℕ → Error → Type 0) (old : D) (e : Error) : Type 0 where

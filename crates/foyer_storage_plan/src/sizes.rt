@@ -19,6 +19,9 @@ pub const DEFAULT_RECOVER_CONCURRENCY: usize = 8;
 /// The I/O engines that loads read through where no number is given.
 pub const DEFAULT_LOAD_ENGINES: usize = 1;
 
+/// How often a put that finds the queue full looks again where no number is given: it never waits.
+pub const DEFAULT_ENQUEUE_PATIENCE: u32 = 0;
+
 /// The sizes of an engine, as its config gives them: any numbers; `check` refuses those that don't go together.
 #[derive(Clone, Copy, Debug, PartialEq, Eq)]
 pub struct EngineSizes {
@@ -32,6 +35,8 @@ pub struct EngineSizes {
     pub recover_concurrency: usize,
     /// How many I/O engines loads read through, each behind a lock of its own.
     pub load_engines: usize,
+    /// How often a put that finds the queue full looks again, with a pause between, before it isn't taken.
+    pub enqueue_patience: u32,
     /// How many flushers there are.
     pub flushers: u32,
     /// How many reclaims may run at a time.
@@ -55,6 +60,7 @@ impl EngineSizes {
           indexer_shards = None;
           recover_concurrency = 8;
           load_engines = 1;
+          enqueue_patience = 0;
           flushers = 1;
           reclaimers = 1;
           buffer_pool_size = 2 ^ 24;
@@ -69,6 +75,7 @@ impl EngineSizes {
             indexer_shards: None,
             recover_concurrency: DEFAULT_RECOVER_CONCURRENCY,
             load_engines: DEFAULT_LOAD_ENGINES,
+            enqueue_patience: DEFAULT_ENQUEUE_PATIENCE,
             flushers: DEFAULT_FLUSHERS,
             reclaimers: DEFAULT_RECLAIMERS,
             buffer_pool_size: DEFAULT_BUFFER_POOL_SIZE,

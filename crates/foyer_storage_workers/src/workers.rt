@@ -3,6 +3,7 @@ ghost use Rattle.std.specs.Prelude.{◌≡◌, ◌+◌, ◌<◌, vec_len, OnOk};
 ghost use Rattle.foyer_storage_engine.specs.Ending.{HoldsNamed};
 
 mod flusher;
+mod receiving;
 mod reclaimer;
 
 pub use self::flusher::{FlusherParts, FlusherWorker};

@@ -1,10 +1,11 @@
 //! The moves that report what a reclaim read, and the clean of a block.
 ghost use Rattle.std.specs.Prelude.{◌≡◌, ◌+◌, ◌<◌, ◌≤◌, vec_len, vec_capacity, ℕ};
 ghost use Rattle.foyer_core_laws.specs.Content.{meaning};
+ghost use Rattle.foyer_core_run.specs.Causes.{HasCome};
 ghost use Rattle.foyer_core_run.specs.Running.{Moves};
 
 use super::Asked;
-use super::kept::{Kept, get_due, is_clean_due, note_ticket, set_due};
+use super::kept::{Kept, get_due, is_clean_due, note_outcome, note_ticket, set_due};
 use foyer_block_index::manager::BlockId;
 use foyer_block_manager::block::eviction::EvictionPicker;
 use foyer_core_access::reclaims::{BlockCleaner, next_part, read_bytes};
@@ -34,7 +35,7 @@ where
     C: StorageFilterCondition,
     requires tickets { vec_len kept.old.tickets < vec_capacity kept.old.tickets }
     requires replies { vec_len kept.old.replies < vec_capacity kept.old.replies }
-    ensures moved { D.is_known disk.old → Moves
+    ensures moved { D.is_known disk.old → Moves (HasCome D.surely_lies D.faults disk.old disk.new)
         (meaning K.encoding V.encoding K.is_encodable V.is_encodable K.is_decodable V.is_decodable P.age)
         (Asked.ReclaimRead block) kept.old kept.new core.old core.new (D.byte_at disk.old) (D.byte_at disk.new) }
     ensures one { vec_len kept.new.replies ≤ vec_len kept.old.replies + 1 }
@@ -46,6 +47,7 @@ where
         return;
     };
     let came = read_bytes(core.allocator(), disk, block, part);
+    note_outcome(&mut kept.has_failed, &came);
     let reply = core.apply(
         env,
         Step::ReclaimRead {
@@ -76,7 +78,7 @@ where
     C: StorageFilterCondition,
     requires tickets { vec_len kept.old.tickets < vec_capacity kept.old.tickets }
     requires replies { vec_len kept.old.replies < vec_capacity kept.old.replies }
-    ensures moved { D.is_known disk.old → Moves
+    ensures moved { D.is_known disk.old → Moves (HasCome D.surely_lies D.faults disk.old disk.new)
         (meaning K.encoding V.encoding K.is_encodable V.is_encodable K.is_decodable V.is_decodable P.age)
         (Asked.ReclaimCleaned block) kept.old kept.new core.old core.new (D.byte_at disk.old) (D.byte_at disk.new) }
     ensures one { vec_len kept.new.replies ≤ vec_len kept.old.replies + 1 }
@@ -88,6 +90,7 @@ where
         return;
     }
     let cleaned = BlockCleaner::clean(disk, block);
+    note_outcome(&mut kept.has_failed, &cleaned);
     set_due(&mut kept.cleans, block as usize, false);
     let reply = core.apply(
         env,
@@ -118,7 +121,7 @@ where
     C: StorageFilterCondition,
     requires tickets { vec_len kept.old.tickets < vec_capacity kept.old.tickets }
     requires replies { vec_len kept.old.replies < vec_capacity kept.old.replies }
-    ensures moved { D.is_known disk.old → Moves
+    ensures moved { D.is_known disk.old → Moves (HasCome D.surely_lies D.faults disk.old disk.new)
         (meaning K.encoding V.encoding K.is_encodable V.is_encodable K.is_decodable V.is_decodable P.age)
         (Asked.DestroyCleaned block) kept.old kept.new core.old core.new (D.byte_at disk.old) (D.byte_at disk.new) }
     ensures one { vec_len kept.new.replies ≤ vec_len kept.old.replies + 1 }
@@ -130,6 +133,7 @@ where
         return;
     }
     let outcome = BlockCleaner::clean(disk, block);
+    note_outcome(&mut kept.has_failed, &outcome);
     set_due(&mut kept.cleans, block as usize, false);
     let reply = core.apply(
         env,

@@ -1,5 +1,6 @@
 //! What a run keeps.
-ghost use Rattle.std.specs.Prelude.{◌≡◌, [], replicate, ◌<◌, ◌≤◌, vec_len, vec_capacity, slice_get, slice_set, false, None, IfOk};
+ghost use Rattle.std.specs.Prelude.{◌≡◌, [], replicate, ◌<◌, ◌≤◌, vec_len, vec_capacity, slice_get, slice_set, false, not, ◌||◌, None, IfOk};
+ghost use Rattle.foyer_core_steps.specs.Asked.{went_well};
 ghost use Rattle.foyer_core_run.specs.Running.{ticket_in, with_ticket, at, is_set};
 
 use foyer_block_index::manager::BlockId;
@@ -7,6 +8,7 @@ use foyer_core_access::reclaims::Part;
 use foyer_core_steps::reply::Reply;
 use foyer_core_steps::settings::Settings;
 use foyer_core_steps::step::Ticket;
+use foyer_device_page::error::Result;
 use std::alloc::{AllocError, Allocator};
 
 // The writes of a block that a reply of the run issued, and which of them comes next.
@@ -26,6 +28,18 @@ pub(crate) struct Kept<K, V, P, A: Allocator> {
     pub(crate) scans: Vec<Option<Part>, A>,
     pub(crate) cleans: Vec<bool, A>,
     pub(crate) replies: Vec<Reply<K, V, P, A>, A>,
+    // Whether an access failed.
+    pub(crate) has_failed: bool,
+}
+
+// Notes whether an access failed.
+pub(crate) fn note_outcome<T>(has_failed: &mut bool, outcome: &Result<T>)
+    ensures { has_failed.new ≡ (has_failed.old || not (went_well outcome.now)) }
+{
+    match outcome {
+        Ok(_) => {}
+        Err(_) => *has_failed = true,
+    }
 }
 
 // The ticket that a reply issues.
@@ -107,6 +121,7 @@ pub(crate) fn begin<K, V, P, A: Allocator + Clone>(
     ensures scans { IfOk result (λ kept. kept.scans.items ≡ replicate settings.blocks None) }
     ensures cleans { IfOk result (λ kept. kept.cleans.items ≡ replicate settings.blocks false) }
     ensures replies { IfOk result (λ kept. kept.replies.items ≡ []) }
+    ensures failed { IfOk result (λ kept. kept.has_failed ≡ false) }
 {
     let blocks = settings.blocks as usize;
     Ok(Kept {
@@ -115,5 +130,6 @@ pub(crate) fn begin<K, V, P, A: Allocator + Clone>(
         scans: none_due(alloc.clone()?, blocks)?,
         cleans: vec![in alloc.clone()?; false; blocks]?,
         replies: Vec::with_capacity(alloc.clone()?, moves)?,
+        has_failed: false,
     })
 }

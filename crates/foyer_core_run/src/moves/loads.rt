@@ -1,10 +1,11 @@
 //! The moves that end a load, with its read.
 ghost use Rattle.std.specs.Prelude.{◌≡◌, ◌+◌, ◌<◌, ◌≤◌, vec_len, vec_capacity, OnOk, OnErr, ℕ};
 ghost use Rattle.foyer_core_laws.specs.Content.{meaning};
+ghost use Rattle.foyer_core_run.specs.Causes.{HasCome};
 ghost use Rattle.foyer_core_run.specs.Running.{Moves};
 
 use super::Asked;
-use super::kept::{Kept, get_due, note_ticket, set_due};
+use super::kept::{Kept, get_due, note_outcome, note_ticket, set_due};
 use foyer_block_manager::block::eviction::EvictionPicker;
 use foyer_core_access::disk::do_read;
 use foyer_core_steps::apply::Env;
@@ -33,7 +34,7 @@ where
     C: StorageFilterCondition,
     requires tickets { vec_len kept.old.tickets < vec_capacity kept.old.tickets }
     requires replies { vec_len kept.old.replies < vec_capacity kept.old.replies }
-    ensures moved { D.is_known disk.old → OnOk result (Moves
+    ensures moved { D.is_known disk.old → OnOk result (Moves (HasCome D.surely_lies D.faults disk.old disk.new)
         (meaning K.encoding V.encoding K.is_encodable V.is_encodable K.is_decodable V.is_decodable P.age)
         (Asked.LoadEnd n) kept.old kept.new core.old core.new (D.byte_at disk.old) (D.byte_at disk.new)) }
     ensures stays { OnErr result (core.new ≡ core.old) }
@@ -49,6 +50,7 @@ where
     };
     let mut buffer = Vec::new(core.allocator().clone()?);
     let came = do_read(core.allocator().clone()?, disk, &ticket, &mut buffer)?;
+    note_outcome(&mut kept.has_failed, &came);
     set_due(&mut kept.tickets, n, None);
     let answer = core.apply(
         env,

@@ -1,6 +1,7 @@
 //! The moves that are steps without an access.
 ghost use Rattle.std.specs.Prelude.{◌≡◌, ℕ, ◌+◌, ◌<◌, ◌≤◌, replicate, true, vec_len, vec_capacity};
 ghost use Rattle.foyer_core_laws.specs.Content.{meaning};
+ghost use Rattle.foyer_core_run.specs.Causes.{HasComeAnywhere};
 ghost use Rattle.foyer_core_run.specs.Running.{IsFree, Moves, cleans_noted, issuing_in, scans_noted};
 
 use super::Asked;
@@ -103,7 +104,7 @@ where
     requires free { IsFree step }
     requires tickets { vec_len kept.old.tickets < vec_capacity kept.old.tickets }
     requires replies { vec_len kept.old.replies < vec_capacity kept.old.replies }
-    ensures moved { (bytes : ℕ → ℕ → ℕ) → Moves
+    ensures moved { (bytes : ℕ → ℕ → ℕ) → Moves HasComeAnywhere
         (meaning K.encoding V.encoding K.is_encodable V.is_encodable K.is_decodable V.is_decodable P.age)
         (Asked.Step step) kept.old kept.new core.old core.new bytes bytes }
     ensures one { vec_len kept.new.replies ≤ vec_len kept.old.replies + 1 }

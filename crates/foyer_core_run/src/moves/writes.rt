@@ -1,10 +1,11 @@
 //! The moves that issue and report a block's writes.
 ghost use Rattle.std.specs.Prelude.{◌≡◌, ℕ, ◌+◌, ◌<◌, ◌≤◌, ◌⊎◌, ◌^◌, vec_len, vec_capacity, slice_get, true, false, Some, None, MatchBool, MatchOption, IfSome};
 ghost use Rattle.foyer_core_laws.specs.Content.{meaning};
+ghost use Rattle.foyer_core_run.specs.Causes.{HasCome, HasComeAnywhere};
 ghost use Rattle.foyer_core_run.specs.Running.{Moves, block_in, write_at};
 
 use super::Asked;
-use super::kept::{Issued, Kept, get_due, note_ticket, set_due};
+use super::kept::{Issued, Kept, get_due, note_outcome, note_ticket, set_due};
 use foyer_block_index::manager::BlockId;
 use foyer_block_manager::block::eviction::EvictionPicker;
 use foyer_core_access::disk::do_write;
@@ -80,7 +81,7 @@ where
     C: StorageFilterCondition,
     requires tickets { vec_len kept.old.tickets < vec_capacity kept.old.tickets }
     requires replies { vec_len kept.old.replies < vec_capacity kept.old.replies }
-    ensures moved { (bytes : ℕ → ℕ → ℕ) → Moves
+    ensures moved { (bytes : ℕ → ℕ → ℕ) → Moves HasComeAnywhere
         (meaning K.encoding V.encoding K.is_encodable V.is_encodable K.is_decodable V.is_decodable P.age)
         (Asked.FlushBlock flusher) kept.old kept.new core.old core.new bytes bytes }
     ensures one { vec_len kept.new.replies ≤ vec_len kept.old.replies + 1 }
@@ -119,7 +120,7 @@ where
     C: StorageFilterCondition,
     requires tickets { vec_len kept.old.tickets < vec_capacity kept.old.tickets }
     requires replies { vec_len kept.old.replies < vec_capacity kept.old.replies }
-    ensures moved { D.is_known disk.old → Moves
+    ensures moved { D.is_known disk.old → Moves (HasCome D.surely_lies D.faults disk.old disk.new)
         (meaning K.encoding V.encoding K.is_encodable V.is_encodable K.is_decodable V.is_decodable P.age)
         (Asked.FlushWrote flusher) kept.old kept.new core.old core.new (D.byte_at disk.old) (D.byte_at disk.new) }
     ensures one { vec_len kept.new.replies ≤ vec_len kept.old.replies + 1 }
@@ -135,6 +136,7 @@ where
     };
     let wrote = do_write(disk, issued.block, write);
     let went_well = wrote.is_ok();
+    note_outcome(&mut kept.has_failed, &wrote);
     let following = Issued {
         block: issued.block,
         reply: issued.reply,

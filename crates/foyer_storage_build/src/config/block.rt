@@ -130,6 +130,18 @@ impl<D: Device, S: PickerSource, C: StorageFilterCondition, G: Gate> BlockEngine
         self.with_sizes(sizes)
     }
 
+    /// How often a put that finds more queued than the threshold looks again, and lets other threads go on between, before it isn't taken and
+    /// deletes its key. It holds no lock meanwhile. Default: `DEFAULT_ENQUEUE_PATIENCE`, none.
+    pub fn with_enqueue_patience(self, enqueue_patience: u32) -> BlockEngineConfig<D, S, C, G>
+        ensures { result ≡ record self { sizes = record self.sizes { enqueue_patience = enqueue_patience } } }
+    {
+        let sizes = EngineSizes {
+            enqueue_patience,
+            ..self.sizes
+        };
+        self.with_sizes(sizes)
+    }
+
     /// How many flushers there are. Default: `DEFAULT_FLUSHERS`.
     pub fn with_flushers(self, flushers: u32) -> BlockEngineConfig<D, S, C, G>
         ensures { result ≡ record self { sizes = record self.sizes { flushers = flushers } } }

@@ -324,6 +324,7 @@ impl<R, I: IoEngineConfig<R>, Q: Partition + Copy> Disks<'_, R, I, Q> {
         recorder: &mut Recorder<Global>,
         settings: Settings,
         loads: u32,
+        patience: u32,
         log: Option<Q>,
         mode: RecoverMode,
         listings: Listings<Global, RecoveredBlocks<I::Engine, Q, G>>,
@@ -345,7 +346,7 @@ impl<R, I: IoEngineConfig<R>, Q: Partition + Copy> Disks<'_, R, I, Q> {
         requires ledgers { AreOf L.name_of L.all blanks × (L.all ≡ 2 ^ 32) }
         ensures seats { OnOk result (recorder.old.view.parts ≤ recorder.new.view.parts + loads + 1) }
         ensures settings { IfOk result (λ o. (arc_value o.engine).settings ≡ settings) }
-        ensures loads { IfOk result (λ o. vec_len (arc_value o.engine).others + 1 ≡ loads) }
+        ensures loads { IfOk result (λ o. (vec_len (arc_value o.engine).others + 1 ≡ loads) × ((arc_value o.engine).patience ≡ patience)) }
         ensures refused { IfErr result (λ e. IsOpenError mode e) }
     {
         let mut marks = Vec::new(alloc);
@@ -353,7 +354,7 @@ impl<R, I: IoEngineConfig<R>, Q: Partition + Copy> Disks<'_, R, I, Q> {
         let reader = self.disk(alloc, recorder)?;
         let others = self.disks(alloc, recorder, loads - 1)?;
         let (engine, session) = open_engine(
-            alloc, settings, reader, others, mode, &marks, listings, env, gate, blanks,
+            alloc, settings, patience, reader, others, mode, &marks, listings, env, gate, blanks,
         )?;
         Ok(Opened {
             engine,
@@ -386,6 +387,7 @@ where
 fn open_engine<L, K, V, P, E, C, N, Q, G>(
     alloc: Global,
     settings: Settings,
+    patience: u32,
     reader: DeviceBlocks<N, Q>,
     others: Vec<DeviceBlocks<N, Q>>,
     mode: RecoverMode,
@@ -413,6 +415,7 @@ where
     requires { AreOf L.name_of L.all blanks × (L.all ≡ 2 ^ 32) }
     ensures settings { IfOk result (λ r. (arc_value r.0).settings ≡ settings) }
     ensures others { IfOk result (λ r. vec_len (arc_value r.0).others ≡ vec_len others) }
+    ensures patience { IfOk result (λ r. (arc_value r.0).patience ≡ patience) }
     ensures refused { IfErr result (λ e. IsOpenError mode e) }
 {
     let mut gated = GatedDisk {
@@ -427,6 +430,6 @@ where
     for other in others {
         engine = engine.with_load_disk(other)?;
     }
-    let engine = Arc::new(alloc, engine)?;
+    let engine = Arc::new(alloc, engine.with_enqueue_patience(patience))?;
     Ok((engine, WholeSession::new(session)))
 }

@@ -86,9 +86,10 @@ pub(super) struct Divided<D: Device> {
     pub(super) log: Option<D::Partition>,
     pub(super) blocks: Vec<D::Partition>,
     pub(super) settings: Settings,
-    // How many workers recover the blocks, and through how many I/O engines loads read.
+    // How many workers recover the blocks, through how many I/O engines loads read, and how often a put looks at a full queue again.
     pub(super) recoverers: u32,
     pub(super) loads: u32,
+    pub(super) patience: u32,
 }
 
 // How many workers recover so many blocks: one a block at most.
@@ -154,6 +155,7 @@ pub(super) fn divide<D: Device, R: Files>(
     ensures seats { IfOk result (λ d. d.settings.flushers + 2 * d.settings.reclaimers + d.recoverers + d.loads + 2 < 2 ^ 32) }
     ensures recoverers { IfOk result (λ d. d.recoverers ≡ min sizes.now.recover_concurrency d.settings.blocks) }
     ensures loads { IfOk result (λ d. (d.loads ≡ sizes.now.load_engines) × (0 < d.loads)) }
+    ensures patience { IfOk result (λ d. d.patience ≡ sizes.now.enqueue_patience) }
     ensures sizes { IfOk result (λ d. d.settings ≡ settings_of sizes.now d.settings.blocks d.settings.indexer_shards) }
     ensures blocks { IfOk result (λ d. (d.settings.blocks ≡ vec_len d.blocks)
         × (map D.Partition.bytes d.blocks.items ≡ replicate (vec_len d.blocks) d.settings.block_size)) }
@@ -179,6 +181,7 @@ pub(super) fn divide<D: Device, R: Files>(
         settings,
         recoverers,
         loads,
+        patience: sizes.enqueue_patience,
     })
 }
 
@@ -207,6 +210,7 @@ pub(super) struct Counted<Q: Drop> {
     pub(super) settings: Settings,
     pub(super) recoverers: u32,
     pub(super) loads: u32,
+    pub(super) patience: u32,
     pub(super) summary: DeviceSummary,
     pub(super) throttle: Throttle,
     pub(super) paths: Vec<String>,
@@ -222,7 +226,8 @@ pub(super) fn count<D: Device>(
 ) -> Result<Counted<D::Partition>>
 where
     D::Partition: Drop,
-    ensures settings { IfOk result (λ c. (c.settings ≡ divided.settings) × (c.recoverers ≡ divided.recoverers) × (c.loads ≡ divided.loads)) }
+    ensures settings { IfOk result (λ c. (c.settings ≡ divided.settings) × (c.recoverers ≡ divided.recoverers) × (c.loads ≡ divided.loads)
+        × (c.patience ≡ divided.patience)) }
     ensures limits { IfOk result (λ c. (c.throttle ≡ D.limits divided.device) × (c.recorder.limits ≡ D.limits divided.device)) }
     ensures summary { IfOk result (λ c. (c.summary.capacity ≡ D.room divided.device) × (c.summary.allocated ≡ total_size (D.sizes divided.device))
         × (c.summary.partitions ≡ length (D.sizes divided.device))) }
@@ -241,6 +246,7 @@ where
         settings,
         recoverers,
         loads,
+        patience,
     } = divided;
     let summary = DeviceSummary {
         capacity: device.capacity(),
@@ -253,6 +259,7 @@ where
         settings,
         recoverers,
         loads,
+        patience,
         summary,
         throttle,
         paths,

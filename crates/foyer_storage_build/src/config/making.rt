@@ -92,7 +92,8 @@ where
     requires loads { 0 < counted.loads }
     ensures counted { IfOk result (λ r. (r.opening.counted.settings ≡ counted.settings) × (r.opening.counted.throttle ≡ counted.throttle)
         × (r.opening.counted.summary ≡ counted.summary) × (r.opening.counted.log ≡ counted.log)
-        × (r.opening.counted.blocks ≡ counted.blocks) × (r.opening.counted.loads ≡ counted.loads)) }
+        × (r.opening.counted.blocks ≡ counted.blocks) × (r.opening.counted.loads ≡ counted.loads)
+        × (r.opening.counted.patience ≡ counted.patience)) }
     ensures lent { IfOk result (λ r. (r.opening.env ≡ env) × (r.opening.admission ≡ admission) × (r.opening.context ≡ context)) }
     ensures few { IfOk result (λ r. vec_len r.recoverers ≤ counted.recoverers) }
     ensures refused { IfErr result (λ e. e ≡ error.Memory) }
@@ -105,6 +106,7 @@ where
         settings,
         recoverers: count,
         loads,
+        patience,
         summary,
         throttle,
         paths,
@@ -124,6 +126,7 @@ where
         settings,
         recoverers: count,
         loads,
+        patience,
         summary,
         throttle,
         paths,
@@ -178,7 +181,8 @@ where
     ensures settings { IfOk result (λ b. (arc_value b.engine.engine).settings ≡ opening.counted.settings) }
     ensures workers { IfOk result (λ b. (vec_len b.flushers ≡ opening.counted.settings.flushers)
         × (vec_len b.reclaimers ≡ opening.counted.settings.reclaimers)) }
-    ensures loads { IfOk result (λ b. vec_len (arc_value b.engine.engine).others + 1 ≡ opening.counted.loads) }
+    ensures loads { IfOk result (λ b. (vec_len (arc_value b.engine.engine).others + 1 ≡ opening.counted.loads)
+        × ((arc_value b.engine.engine).patience ≡ opening.counted.patience)) }
     ensures refused { IfErr result (λ e. IsOpenError opening.context.recover_mode e) }
 {
     let BlockOpening {
@@ -195,6 +199,7 @@ where
         settings,
         recoverers: _,
         loads,
+        patience,
         summary,
         throttle,
         paths,
@@ -213,6 +218,7 @@ where
         &mut recorder,
         settings,
         loads,
+        patience,
         log,
         mode,
         listings,
@@ -294,7 +300,7 @@ where
     ghost may_begin = { λ config context opening. (opening.admission ≡ config.admission) × (opening.counted.throttle ≡ D.limits config.device)
         × (opening.counted.summary.capacity ≡ D.room config.device) × (opening.counted.settings
         ≡ settings_of config.sizes opening.counted.settings.blocks opening.counted.settings.indexer_shards)
-        × (opening.counted.loads ≡ config.sizes.load_engines) × (opening.env.reinsertion ≡ config.reinsertion)
+        × (opening.counted.loads ≡ config.sizes.load_engines) × (opening.counted.patience ≡ config.sizes.enqueue_patience) × (opening.env.reinsertion ≡ config.reinsertion)
         × S.gives config.pickers opening.env.pickers.items × (opening.env.generator ≡ generator_of context.generator)
         × (opening.context ≡ context) };
 
@@ -304,7 +310,7 @@ where
         × (throttle ≡ D.limits config.device) × (engine.device.capacity ≡ D.room config.device)
         × ((arc_value engine.engine).settings
         ≡ settings_of config.sizes (arc_value engine.engine).settings.blocks (arc_value engine.engine).settings.indexer_shards)
-        × (vec_len (arc_value engine.engine).others + 1 ≡ config.sizes.load_engines)
+        × (vec_len (arc_value engine.engine).others + 1 ≡ config.sizes.load_engines) × ((arc_value engine.engine).patience ≡ config.sizes.enqueue_patience)
         × (flushers ≡ config.sizes.flushers) × (reclaimers ≡ config.sizes.reclaimers) };
 
     fn is_noop(&self) -> bool {
@@ -325,7 +331,7 @@ where
         ensures begun { IfOk result (λ r. (r.opening.admission ≡ self.admission) × (r.opening.counted.throttle ≡ D.limits self.device)
             × (r.opening.counted.summary.capacity ≡ D.room self.device) × (r.opening.counted.settings
             ≡ settings_of self.sizes r.opening.counted.settings.blocks r.opening.counted.settings.indexer_shards)
-            × (r.opening.counted.loads ≡ self.sizes.load_engines) × (r.opening.env.reinsertion ≡ self.reinsertion)
+            × (r.opening.counted.loads ≡ self.sizes.load_engines) × (r.opening.counted.patience ≡ self.sizes.enqueue_patience) × (r.opening.env.reinsertion ≡ self.reinsertion)
             × S.gives self.pickers r.opening.env.pickers.items × (r.opening.env.generator ≡ generator_of context.generator)
             × (r.opening.context ≡ context)) }
         ensures refused { IfErr result (λ e. IsOpenError context.recover_mode e) }
@@ -353,14 +359,14 @@ where
             × (opening.counted.throttle ≡ D.limits config.device) × (opening.counted.summary.capacity ≡ D.room config.device)
             × (opening.counted.settings
             ≡ settings_of config.sizes opening.counted.settings.blocks opening.counted.settings.indexer_shards)
-            × (opening.counted.loads ≡ config.sizes.load_engines) × (opening.env.reinsertion ≡ config.reinsertion)
+            × (opening.counted.loads ≡ config.sizes.load_engines) × (opening.counted.patience ≡ config.sizes.enqueue_patience) × (opening.env.reinsertion ≡ config.reinsertion)
             × S.gives config.pickers opening.env.pickers.items × (opening.env.generator ≡ generator_of context.generator)
             × (opening.context ≡ context)
             → (result.admission ≡ config.admission)
             × (result.counted.throttle ≡ D.limits config.device) × (result.counted.summary.capacity ≡ D.room config.device)
             × (result.counted.settings
             ≡ settings_of config.sizes result.counted.settings.blocks result.counted.settings.indexer_shards)
-            × (result.counted.loads ≡ config.sizes.load_engines) × (result.env.reinsertion ≡ config.reinsertion)
+            × (result.counted.loads ≡ config.sizes.load_engines) × (result.counted.patience ≡ config.sizes.enqueue_patience) × (result.env.reinsertion ≡ config.reinsertion)
             × S.gives config.pickers result.env.pickers.items × (result.env.generator ≡ generator_of context.generator)
             × (result.context ≡ context) }
     {
@@ -389,19 +395,19 @@ where
             × (opening.counted.throttle ≡ D.limits config.device) × (opening.counted.summary.capacity ≡ D.room config.device)
             × (opening.counted.settings
             ≡ settings_of config.sizes opening.counted.settings.blocks opening.counted.settings.indexer_shards)
-            × (opening.counted.loads ≡ config.sizes.load_engines) × (opening.env.reinsertion ≡ config.reinsertion)
+            × (opening.counted.loads ≡ config.sizes.load_engines) × (opening.counted.patience ≡ config.sizes.enqueue_patience) × (opening.env.reinsertion ≡ config.reinsertion)
             × S.gives config.pickers opening.env.pickers.items × (opening.env.generator ≡ generator_of context.generator)
             × (opening.context ≡ context) → IfOk result (λ b. (b.engine.admission ≡ config.admission) × (b.engine.throttle ≡ b.throttle)
             × (b.throttle ≡ D.limits config.device) × (b.engine.device.capacity ≡ D.room config.device)
             × ((arc_value b.engine.engine).settings
             ≡ settings_of config.sizes (arc_value b.engine.engine).settings.blocks (arc_value b.engine.engine).settings.indexer_shards)
-            × (vec_len (arc_value b.engine.engine).others + 1 ≡ config.sizes.load_engines)
+            × (vec_len (arc_value b.engine.engine).others + 1 ≡ config.sizes.load_engines) × ((arc_value b.engine.engine).patience ≡ config.sizes.enqueue_patience)
             × (vec_len b.flushers ≡ config.sizes.flushers) × (vec_len b.reclaimers ≡ config.sizes.reclaimers)) }
         ensures refused { (config : BlockEngineConfig D S C G D.Partition S.Picker) (context : EngineBuildContext I T) → (opening.admission ≡ config.admission)
             × (opening.counted.throttle ≡ D.limits config.device) × (opening.counted.summary.capacity ≡ D.room config.device)
             × (opening.counted.settings
             ≡ settings_of config.sizes opening.counted.settings.blocks opening.counted.settings.indexer_shards)
-            × (opening.counted.loads ≡ config.sizes.load_engines) × (opening.env.reinsertion ≡ config.reinsertion)
+            × (opening.counted.loads ≡ config.sizes.load_engines) × (opening.counted.patience ≡ config.sizes.enqueue_patience) × (opening.env.reinsertion ≡ config.reinsertion)
             × S.gives config.pickers opening.env.pickers.items × (opening.env.generator ≡ generator_of context.generator)
             × (opening.context ≡ context) → IfErr result (λ e. IsOpenError context.recover_mode e) }
     {

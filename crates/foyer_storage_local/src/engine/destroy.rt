@@ -2,11 +2,12 @@
 ghost use Rattle.std.specs.Prelude.{◌≡◌, ◌⊎◌, ◌≤◌, ℕ, true, Ok, IfErr, IfOk, IfSome, OnErr, OnOk};
 ghost use Rattle.foyer_core_model.specs.Numbers.{page};
 ghost use Rattle.foyer_core_laws.specs.Content.{meaning};
-ghost use Rattle.foyer_core_run.specs.Destroys.{Cleans, Destroys, IsClearing, IsUncleared};
+ghost use Rattle.foyer_core_run.specs.Causes.{DrivesForCause, HasCome};
+ghost use Rattle.foyer_core_run.specs.Destroys.{Cleans, Destroys, DestroysForCause, HasDestroyed, IsClearing, IsDestroying, IsUncleared};
 ghost use Rattle.foyer_core_access.specs.Reclaims.{IsCleaned};
-ghost use Rattle.foyer_core_run.specs.Waiting.{DrivesBy, Waits};
+ghost use Rattle.foyer_core_run.specs.Waiting.{AllSteps, DrivesBy, IsWaiting};
 ghost use Rattle.foyer_io_disk.specs.Disk.{IsTorn};
-ghost use Rattle.foyer_storage_local.specs.EntryCalls.{IsCleanFault, IsRefusedIfClosed, KeepsLies};
+ghost use Rattle.foyer_storage_local.specs.EntryCalls.{IsCleanFault, IsRefusedIfClosed, KeepsLies, LeadsForCause};
 ghost use Rattle.foyer_storage_local.specs.StepAnswers.{first_of, is_destroy_error, is_wait_error};
 
 use crate::engine::{LocalEngine, MarkLog};
@@ -28,6 +29,7 @@ use std::alloc::Allocator;
 fn clean_page<D: Disk>(disk: &mut D, block: BlockId) -> Result<()>
     ensures cleaned { D.is_known disk.old → OnOk result (IsCleaned (D.byte_at disk.old) block (D.byte_at disk.new)) }
     ensures torn { D.is_known disk.old → OnErr result (IsTorn (D.byte_at disk.old) block 0 page (D.byte_at disk.new)) }
+    ensures fails { OnErr result (HasCome D.surely_lies D.faults disk.old disk.new block 0 page → ⊥) }
     ensures fault { IfErr result (D.may_answer disk.old block 0 page) }
     ensures known { D.is_known disk.old → D.is_known disk.new }
     ensures counts { KeepsLies D.surely_lies D.faults disk.old disk.new }
@@ -65,9 +67,12 @@ where
     /// nothing of it again. Where a destroy has begun and isn't over it goes on with that one. `Closed` after a close,
     /// `SequenceEnd` and `Memory` before it has begun; once it has, it tries again what is refused memory. `Io`, `NoSpace`
     /// and `SequenceEnd` as of a wait. The first clean that failed is answered by the disk's own error; the others were done
-    /// after it.
+    /// after it. Its accesses fail for what a wait's do.
     pub fn destroy(&mut self) -> Result<()>
         ensures destroyed { D.is_known self.old.disk → D.is_known self.new.disk × Destroys (result ≡ Ok tt)
+            (meaning K.encoding V.encoding K.is_encodable V.is_encodable K.is_decodable V.is_decodable P.age)
+            self.old.core self.new.core (D.byte_at self.old.disk) (D.byte_at self.new.disk) }
+        ensures honest { D.is_known self.old.disk → DestroysForCause (HasCome D.surely_lies D.faults self.old.disk self.new.disk) (result ≡ Ok tt)
             (meaning K.encoding V.encoding K.is_encodable V.is_encodable K.is_decodable V.is_decodable P.age)
             self.old.core self.new.core (D.byte_at self.old.disk) (D.byte_at self.new.disk) }
         ensures lent { (self.new.env.reinsertion ≡ self.old.env.reinsertion) × (self.new.env.io ≡ self.old.env.io) }
@@ -88,9 +93,9 @@ where
 
     // Flushes what is queued, again where memory is refused.
     fn flush_until_done(&mut self) -> Result<()>
-        ensures waited { D.is_known self.old.disk → D.is_known self.new.disk × Waits
+        ensures waited { LeadsForCause D.is_known D.byte_at D.surely_lies D.faults (AllSteps IsWaiting)
             (meaning K.encoding V.encoding K.is_encodable V.is_encodable K.is_decodable V.is_decodable P.age)
-            self.old.core self.new.core (D.byte_at self.old.disk) (D.byte_at self.new.disk) }
+            self.old.core self.old.disk self.new.core self.new.disk }
         ensures lent { (self.new.env.reinsertion ≡ self.old.env.reinsertion) × (self.new.env.io ≡ self.old.env.io) }
         ensures hasher { self.new.hasher ≡ self.old.hasher }
         ensures refused { IfErr result (λ e. is_wait_error e ≡ true) }
@@ -109,7 +114,7 @@ where
     fn clean(&mut self, block: BlockId, first: Option<Error>) -> (Reply<K, V, P, A>, Option<Error>)
         ensures cleans { D.is_known self.old.disk → Cleans
             (meaning K.encoding V.encoding K.is_encodable V.is_encodable K.is_decodable V.is_decodable P.age)
-            block result.0 self.old.core self.new.core (D.byte_at self.old.disk) (D.byte_at self.new.disk) }
+            (HasCome D.surely_lies D.faults self.old.disk self.new.disk) block result.0 self.old.core self.new.core (D.byte_at self.old.disk) (D.byte_at self.new.disk) }
         ensures known { D.is_known self.old.disk → D.is_known self.new.disk }
         ensures fault { IfSome result.1 (λ e. (first ≡ Some e) ⊎ D.may_answer self.old.disk block 0 page e) }
         ensures lent { (self.new.env.reinsertion ≡ self.old.env.reinsertion) × (self.new.env.io ≡ self.old.env.io) }
@@ -130,7 +135,7 @@ where
     fn clear_blocks(
         &mut self,
     ) -> std::result::Result<(Reply<K, V, P, A>, Option<Error>), Reply<K, V, P, A>>
-        ensures clears { D.is_known self.old.disk → IfOk result (λ last. DrivesBy (IsClearing
+        ensures clears { D.is_known self.old.disk → IfOk result (λ last. DrivesForCause (HasCome D.surely_lies D.faults self.old.disk self.new.disk) (IsClearing
             (meaning K.encoding V.encoding K.is_encodable V.is_encodable K.is_decodable V.is_decodable P.age)
             self.old.core.settings.blocks last.0)
             (meaning K.encoding V.encoding K.is_encodable V.is_encodable K.is_decodable V.is_decodable P.age)
@@ -162,9 +167,9 @@ where
 
     // Clears the index and cleans the blocks, again where memory is refused for it.
     fn clear(&mut self) -> Result<()>
-        ensures destroyed { D.is_known self.old.disk → D.is_known self.new.disk × Destroys (result ≡ Ok tt)
+        ensures destroyed { LeadsForCause D.is_known D.byte_at D.surely_lies D.faults (λ events. AllSteps IsDestroying events × (result ≡ Ok tt → HasDestroyed events))
             (meaning K.encoding V.encoding K.is_encodable V.is_encodable K.is_decodable V.is_decodable P.age)
-            self.old.core self.new.core (D.byte_at self.old.disk) (D.byte_at self.new.disk) }
+            self.old.core self.old.disk self.new.core self.new.disk }
         ensures lent { (self.new.env.reinsertion ≡ self.old.env.reinsertion) × (self.new.env.io ≡ self.old.env.io) }
         ensures hasher { self.new.hasher ≡ self.old.hasher }
         ensures refused { IfErr result (λ e. (is_wait_error e ≡ true)

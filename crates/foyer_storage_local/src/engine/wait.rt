@@ -2,8 +2,9 @@
 ghost use Rattle.std.specs.Prelude.{◌≡◌, ◌≤◌, ℕ, true, IfErr, IfOk};
 ghost use Rattle.foyer_core_laws.specs.Content.{meaning};
 ghost use Rattle.foyer_core_run.specs.AtRest.{ComesToRest, IsAtRest, KeepsIdle, KeepsOthers, KeepsOthersIdle, Leads, LeavesAllIdle, LeavesIdle, TakesQueueIf, Without};
-ghost use Rattle.foyer_core_run.specs.Waiting.{Closes, Waits};
-ghost use Rattle.foyer_storage_local.specs.EntryCalls.{KeepsLies};
+ghost use Rattle.foyer_core_run.specs.Causes.{DrivesForCause, HasCome};
+ghost use Rattle.foyer_core_run.specs.Waiting.{AllSteps, Closes, IsClosing, IsWaiting, Waits};
+ghost use Rattle.foyer_storage_local.specs.EntryCalls.{KeepsLies, LeadsForCause};
 ghost use Rattle.foyer_storage_local.specs.StepAnswers.{is_wait_error};
 
 use crate::engine::{LocalEngine, MarkLog};
@@ -36,12 +37,16 @@ where
     /// records written again where `env` has a filter; the others free their blocks, so that it ends. It puts, deletes and
     /// loads nothing, and closes nothing. `Io`: a flusher's batch can't be ended, since a write of it was never reported.
     /// `NoSpace`: no block can be reclaimed. `SequenceEnd`: the limit of steps is reached, or 2^64 - 1 turns weren't
-    /// enough. `Memory` where a reclaim or a flush is refused it.
+    /// enough. `Memory` where a reclaim or a flush is refused it. A write or a clean is only reported as failed where the
+    /// disk failed an access, or where it isn't sure that its bytes lie in the disk.
     pub fn wait(&mut self) -> Result<()>
         ensures rest { IfOk result (λ _. ComesToRest
             (meaning K.encoding V.encoding K.is_encodable V.is_encodable K.is_decodable V.is_decodable P.age)
             self.old.core self.new.core) }
         ensures waited { D.is_known self.old.disk → D.is_known self.new.disk × Waits
+            (meaning K.encoding V.encoding K.is_encodable V.is_encodable K.is_decodable V.is_decodable P.age)
+            self.old.core self.new.core (D.byte_at self.old.disk) (D.byte_at self.new.disk) }
+        ensures honest { D.is_known self.old.disk → DrivesForCause (HasCome D.surely_lies D.faults self.old.disk self.new.disk) (AllSteps IsWaiting)
             (meaning K.encoding V.encoding K.is_encodable V.is_encodable K.is_decodable V.is_decodable P.age)
             self.old.core self.new.core (D.byte_at self.old.disk) (D.byte_at self.new.disk) }
         ensures lent { (self.new.env.reinsertion ≡ self.old.env.reinsertion) × (self.new.env.io ≡ self.old.env.io) }
@@ -66,9 +71,9 @@ where
         ensures leads { IfOk result (λ _. Leads
             (meaning K.encoding V.encoding K.is_encodable V.is_encodable K.is_decodable V.is_decodable P.age)
             LeavesAllIdle self.old.core self.new.core) }
-        ensures waited { D.is_known self.old.disk → D.is_known self.new.disk × Waits
+        ensures waited { LeadsForCause D.is_known D.byte_at D.surely_lies D.faults (AllSteps IsWaiting)
             (meaning K.encoding V.encoding K.is_encodable V.is_encodable K.is_decodable V.is_decodable P.age)
-            self.old.core self.new.core (D.byte_at self.old.disk) (D.byte_at self.new.disk) }
+            self.old.core self.old.disk self.new.core self.new.disk }
         ensures lent { (self.new.env.reinsertion ≡ self.old.env.reinsertion) × (self.new.env.io ≡ self.old.env.io) }
         ensures hasher { self.new.hasher ≡ self.old.hasher }
         ensures refused { IfErr result (λ e. is_wait_error e ≡ true) }
@@ -78,12 +83,16 @@ where
         self.settle()
     }
 
-    /// Takes no more puts, deletes and destroys, and flushes what is queued, as a wait does: nothing else.
+    /// Takes no more puts, deletes and destroys, and flushes what is queued, as a wait does: nothing else. Its accesses fail
+    /// for what a wait's do.
     pub fn close(&mut self) -> Result<()>
         ensures rest { IfOk result (λ _. ComesToRest
             (meaning K.encoding V.encoding K.is_encodable V.is_encodable K.is_decodable V.is_decodable P.age)
             self.old.core self.new.core) }
         ensures closed { D.is_known self.old.disk → D.is_known self.new.disk × Closes
+            (meaning K.encoding V.encoding K.is_encodable V.is_encodable K.is_decodable V.is_decodable P.age)
+            self.old.core self.new.core (D.byte_at self.old.disk) (D.byte_at self.new.disk) }
+        ensures honest { D.is_known self.old.disk → DrivesForCause (HasCome D.surely_lies D.faults self.old.disk self.new.disk) IsClosing
             (meaning K.encoding V.encoding K.is_encodable V.is_encodable K.is_decodable V.is_decodable P.age)
             self.old.core self.new.core (D.byte_at self.old.disk) (D.byte_at self.new.disk) }
         ensures lent { (self.new.env.reinsertion ≡ self.old.env.reinsertion) × (self.new.env.io ≡ self.old.env.io) }
@@ -116,9 +125,9 @@ where
         ensures leads { IfOk result (λ _. Leads
             (meaning K.encoding V.encoding K.is_encodable V.is_encodable K.is_decodable V.is_decodable P.age)
             LeavesAllIdle self.old.core self.new.core) }
-        ensures waited { D.is_known self.old.disk → D.is_known self.new.disk × Waits
+        ensures waited { LeadsForCause D.is_known D.byte_at D.surely_lies D.faults (AllSteps IsWaiting)
             (meaning K.encoding V.encoding K.is_encodable V.is_encodable K.is_decodable V.is_decodable P.age)
-            self.old.core self.new.core (D.byte_at self.old.disk) (D.byte_at self.new.disk) }
+            self.old.core self.old.disk self.new.core self.new.disk }
         ensures lent { (self.new.env.reinsertion ≡ self.old.env.reinsertion) × (self.new.env.io ≡ self.old.env.io) }
         ensures hasher { self.new.hasher ≡ self.old.hasher }
         ensures refused { IfErr result (λ e. is_wait_error e ≡ true) }
@@ -138,9 +147,9 @@ where
         ensures leads { IfOk result (λ _. Leads
             (meaning K.encoding V.encoding K.is_encodable V.is_encodable K.is_decodable V.is_decodable P.age)
             (Without self.old.env.reinsertion LeavesAllIdle) self.old.core self.new.core) }
-        ensures waited { D.is_known self.old.disk → D.is_known self.new.disk × Waits
+        ensures waited { LeadsForCause D.is_known D.byte_at D.surely_lies D.faults (AllSteps IsWaiting)
             (meaning K.encoding V.encoding K.is_encodable V.is_encodable K.is_decodable V.is_decodable P.age)
-            self.old.core self.new.core (D.byte_at self.old.disk) (D.byte_at self.new.disk) }
+            self.old.core self.old.disk self.new.core self.new.disk }
         ensures lent { self.new.env.reinsertion ≡ self.old.env.reinsertion }
         ensures io { self.new.env.io ≡ self.old.env.io }
         ensures hasher { self.new.hasher ≡ self.old.hasher }
@@ -161,9 +170,9 @@ where
         ensures leads { Leads
             (meaning K.encoding V.encoding K.is_encodable V.is_encodable K.is_decodable V.is_decodable P.age)
             (KeepsOthers flusher) self.old.core self.new.core }
-        ensures waited { D.is_known self.old.disk → D.is_known self.new.disk × Waits
+        ensures waited { LeadsForCause D.is_known D.byte_at D.surely_lies D.faults (AllSteps IsWaiting)
             (meaning K.encoding V.encoding K.is_encodable V.is_encodable K.is_decodable V.is_decodable P.age)
-            self.old.core self.new.core (D.byte_at self.old.disk) (D.byte_at self.new.disk) }
+            self.old.core self.old.disk self.new.core self.new.disk }
         ensures lent { self.new.env.reinsertion ≡ self.old.env.reinsertion }
         ensures io { self.new.env.io ≡ self.old.env.io }
         ensures hasher { self.new.hasher ≡ self.old.hasher }
@@ -183,9 +192,9 @@ where
         ensures leads { IfOk result (λ _. Leads
             (meaning K.encoding V.encoding K.is_encodable V.is_encodable K.is_decodable V.is_decodable P.age)
             (LeavesIdle self.old.env.reinsertion flusher) self.old.core self.new.core) }
-        ensures waited { D.is_known self.old.disk → D.is_known self.new.disk × Waits
+        ensures waited { LeadsForCause D.is_known D.byte_at D.surely_lies D.faults (AllSteps IsWaiting)
             (meaning K.encoding V.encoding K.is_encodable V.is_encodable K.is_decodable V.is_decodable P.age)
-            self.old.core self.new.core (D.byte_at self.old.disk) (D.byte_at self.new.disk) }
+            self.old.core self.old.disk self.new.core self.new.disk }
         ensures lent { self.new.env.reinsertion ≡ self.old.env.reinsertion }
         ensures io { self.new.env.io ≡ self.old.env.io }
         ensures hasher { self.new.hasher ≡ self.old.hasher }
@@ -203,9 +212,9 @@ where
         ensures leads { IfOk result (λ _. Leads
             (meaning K.encoding V.encoding K.is_encodable V.is_encodable K.is_decodable V.is_decodable P.age)
             (LeavesIdle self.old.env.reinsertion flusher) self.old.core self.new.core) }
-        ensures waited { D.is_known self.old.disk → D.is_known self.new.disk × Waits
+        ensures waited { LeadsForCause D.is_known D.byte_at D.surely_lies D.faults (AllSteps IsWaiting)
             (meaning K.encoding V.encoding K.is_encodable V.is_encodable K.is_decodable V.is_decodable P.age)
-            self.old.core self.new.core (D.byte_at self.old.disk) (D.byte_at self.new.disk) }
+            self.old.core self.old.disk self.new.core self.new.disk }
         ensures lent { self.new.env.reinsertion ≡ self.old.env.reinsertion }
         ensures io { self.new.env.io ≡ self.old.env.io }
         ensures hasher { self.new.hasher ≡ self.old.hasher }
@@ -236,9 +245,9 @@ where
         ensures leads { IfOk result (λ is_empty. Leads
             (meaning K.encoding V.encoding K.is_encodable V.is_encodable K.is_decodable V.is_decodable P.age)
             (TakesQueueIf is_empty flusher) self.old.core self.new.core) }
-        ensures waited { D.is_known self.old.disk → D.is_known self.new.disk × Waits
+        ensures waited { LeadsForCause D.is_known D.byte_at D.surely_lies D.faults (AllSteps IsWaiting)
             (meaning K.encoding V.encoding K.is_encodable V.is_encodable K.is_decodable V.is_decodable P.age)
-            self.old.core self.new.core (D.byte_at self.old.disk) (D.byte_at self.new.disk) }
+            self.old.core self.old.disk self.new.core self.new.disk }
         ensures lent { self.new.env.reinsertion ≡ self.old.env.reinsertion }
         ensures io { self.new.env.io ≡ self.old.env.io }
         ensures hasher { self.new.hasher ≡ self.old.hasher }
@@ -262,9 +271,9 @@ where
         ensures leads { IfOk result (λ _. Leads
             (meaning K.encoding V.encoding K.is_encodable V.is_encodable K.is_decodable V.is_decodable P.age)
             (KeepsOthersIdle self.old.env.reinsertion flusher) self.old.core self.new.core) }
-        ensures waited { D.is_known self.old.disk → D.is_known self.new.disk × Waits
+        ensures waited { LeadsForCause D.is_known D.byte_at D.surely_lies D.faults (AllSteps IsWaiting)
             (meaning K.encoding V.encoding K.is_encodable V.is_encodable K.is_decodable V.is_decodable P.age)
-            self.old.core self.new.core (D.byte_at self.old.disk) (D.byte_at self.new.disk) }
+            self.old.core self.old.disk self.new.core self.new.disk }
         ensures lent { self.new.env.reinsertion ≡ self.old.env.reinsertion }
         ensures io { self.new.env.io ≡ self.old.env.io }
         ensures hasher { self.new.hasher ≡ self.old.hasher }
@@ -284,9 +293,9 @@ where
         ensures leads { Leads
             (meaning K.encoding V.encoding K.is_encodable V.is_encodable K.is_decodable V.is_decodable P.age)
             (KeepsOthersIdle self.old.env.reinsertion flusher) self.old.core self.new.core }
-        ensures waited { D.is_known self.old.disk → D.is_known self.new.disk × Waits
+        ensures waited { LeadsForCause D.is_known D.byte_at D.surely_lies D.faults (AllSteps IsWaiting)
             (meaning K.encoding V.encoding K.is_encodable V.is_encodable K.is_decodable V.is_decodable P.age)
-            self.old.core self.new.core (D.byte_at self.old.disk) (D.byte_at self.new.disk) }
+            self.old.core self.old.disk self.new.core self.new.disk }
         ensures lent { self.new.env.reinsertion ≡ self.old.env.reinsertion }
         ensures io { self.new.env.io ≡ self.old.env.io }
         ensures hasher { self.new.hasher ≡ self.old.hasher }
@@ -305,9 +314,9 @@ where
         ensures leads { Leads
             (meaning K.encoding V.encoding K.is_encodable V.is_encodable K.is_decodable V.is_decodable P.age)
             (Without self.old.env.reinsertion KeepsIdle) self.old.core self.new.core }
-        ensures waited { D.is_known self.old.disk → D.is_known self.new.disk × Waits
+        ensures waited { LeadsForCause D.is_known D.byte_at D.surely_lies D.faults (AllSteps IsWaiting)
             (meaning K.encoding V.encoding K.is_encodable V.is_encodable K.is_decodable V.is_decodable P.age)
-            self.old.core self.new.core (D.byte_at self.old.disk) (D.byte_at self.new.disk) }
+            self.old.core self.old.disk self.new.core self.new.disk }
         ensures lent { self.new.env.reinsertion ≡ self.old.env.reinsertion }
         ensures io { self.new.env.io ≡ self.old.env.io }
         ensures hasher { self.new.hasher ≡ self.old.hasher }
@@ -326,9 +335,9 @@ where
         ensures leads { Leads
             (meaning K.encoding V.encoding K.is_encodable V.is_encodable K.is_decodable V.is_decodable P.age)
             (Without self.old.env.reinsertion KeepsIdle) self.old.core self.new.core }
-        ensures waited { D.is_known self.old.disk → D.is_known self.new.disk × Waits
+        ensures waited { LeadsForCause D.is_known D.byte_at D.surely_lies D.faults (AllSteps IsWaiting)
             (meaning K.encoding V.encoding K.is_encodable V.is_encodable K.is_decodable V.is_decodable P.age)
-            self.old.core self.new.core (D.byte_at self.old.disk) (D.byte_at self.new.disk) }
+            self.old.core self.old.disk self.new.core self.new.disk }
         ensures lent { self.new.env.reinsertion ≡ self.old.env.reinsertion }
         ensures io { self.new.env.io ≡ self.old.env.io }
         ensures hasher { self.new.hasher ≡ self.old.hasher }
@@ -349,9 +358,9 @@ where
         ensures leads { Leads
             (meaning K.encoding V.encoding K.is_encodable V.is_encodable K.is_decodable V.is_decodable P.age)
             (Without self.old.env.reinsertion KeepsIdle) self.old.core self.new.core }
-        ensures waited { D.is_known self.old.disk → D.is_known self.new.disk × Waits
+        ensures waited { LeadsForCause D.is_known D.byte_at D.surely_lies D.faults (AllSteps IsWaiting)
             (meaning K.encoding V.encoding K.is_encodable V.is_encodable K.is_decodable V.is_decodable P.age)
-            self.old.core self.new.core (D.byte_at self.old.disk) (D.byte_at self.new.disk) }
+            self.old.core self.old.disk self.new.core self.new.disk }
         ensures lent { self.new.env.reinsertion ≡ self.old.env.reinsertion }
         ensures io { self.new.env.io ≡ self.old.env.io }
         ensures hasher { self.new.hasher ≡ self.old.hasher }
@@ -363,9 +372,9 @@ where
 
     // Reclaims blocks until enough are clean, or one is refused.
     fn keep_clean(&mut self)
-        ensures waited { D.is_known self.old.disk → D.is_known self.new.disk × Waits
+        ensures waited { LeadsForCause D.is_known D.byte_at D.surely_lies D.faults (AllSteps IsWaiting)
             (meaning K.encoding V.encoding K.is_encodable V.is_encodable K.is_decodable V.is_decodable P.age)
-            self.old.core self.new.core (D.byte_at self.old.disk) (D.byte_at self.new.disk) }
+            self.old.core self.old.disk self.new.core self.new.disk }
         ensures lent { (self.new.env.reinsertion ≡ self.old.env.reinsertion) × (self.new.env.io ≡ self.old.env.io) }
         ensures hasher { self.new.hasher ≡ self.old.hasher }
         ensures counts { KeepsLies D.surely_lies D.faults self.old.disk self.new.disk }

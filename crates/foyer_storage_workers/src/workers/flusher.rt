@@ -6,20 +6,18 @@ ghost use Rattle.foyer_storage_engine.specs.Ending.{HoldsNamed};
 ghost use Rattle.foyer_storage_engine.specs.Reporting.{ReportsWrite};
 
 use super::Worker;
+use super::receiving::receive_all;
 use crate::hand::Hand;
 use foyer_block_index::manager::BlockId;
 use foyer_block_manager::block::eviction::EvictionPicker;
 use foyer_block_recover::gate::{Gate, Point};
 use foyer_block_tombstone::block::tombstone::MarkLog;
 use foyer_core_tally::book::Kinds;
-use foyer_device_page::error::ErrorKind;
 use foyer_format_record::serde::{Code, Properties};
 use foyer_io_disk::disk::Disk;
-use foyer_lock::lock_spinning;
 use foyer_policy_filter::StorageFilterCondition;
 use foyer_policy_keeper::keeper::Keeper;
 use foyer_storage_engine::core_access::disk::do_write;
-use foyer_storage_engine::core_shared::locked::Locked;
 use foyer_storage_engine::core_shared::notes::Noting;
 use foyer_storage_engine::core_shared::session::Session;
 use foyer_storage_engine::core_steps::apply::no_io;
@@ -28,7 +26,6 @@ use foyer_storage_engine::core_steps::step::Step;
 use foyer_storage_engine::engine::BlockEngine;
 use std::alloc::{Allocator, Global};
 use std::sync::{Arc, Mutex, Wait};
-use std::thread;
 
 /// What a flusher's worker has of its own, beside the engine.
 #[derive(Drop)]
@@ -41,91 +38,6 @@ pub struct FlusherParts<K: Eq, V, P, A: Allocator, D: Disk + Drop, M: MarkLog + 
     pub log: Arc<Mutex<M>, Global>,
     /// What has the pieces that aren't written yet.
     pub keeper: Arc<Keeper<K, V, P, A>, Global>,
-}
-
-// Takes the front of the queue: the reply, and whether a flush is wanted then.
-#[tactic(auto, using(foyer_storage_engine::proofs::HoldingLemmas::held_by, foyer_storage_engine::proofs::HoldingLemmas::held_same))]
-fn receive<L, K, V, P, A, E, C, N>(
-    locked: &mut Locked<L, K, V, P, A, E, C, N>,
-    session: &mut Session<L>,
-    flusher: u32,
-) -> (Reply<K, V, P, A>, bool)
-where
-    L: Kinds,
-    K: Code<A> + Drop,
-    V: Code<A> + Drop,
-    P: Properties + Drop,
-    A: Allocator + Clone,
-    E: EvictionPicker,
-    C: StorageFilterCondition,
-    N: Noting,
-    requires { 0 < session.old.shares.parts }
-    ensures named { HoldsNamed session.old session.new }
-    ensures parts { session.new.shares.parts ≡ session.old.shares.parts }
-{
-    match locked.step(session, no_io(), Step::Receive { flusher }) {
-        Ok(reply) => {
-            let wants_flush = locked.core().wants_flush(flusher);
-            (reply, wants_flush)
-        }
-        Err(step) => (Reply::Refused(ErrorKind::Memory, step), false),
-    }
-}
-
-// How much is taken for a batch at most, so that its pages are written while they are still in the processor's cache.
-const MOST_OF_A_BATCH: u32 = 64;
-
-// Takes what is queued, until nothing is, a batch has enough, or less than half of the buffer is left: whether anything was taken,
-// or is to be tried again for want of memory. A piece that is handed back is released.
-#[tactic(auto, using(foyer_storage_engine::proofs::HoldingLemmas::held_on, foyer_storage_engine::proofs::HoldingLemmas::held_by_step))]
-fn receive_all<L, K, V, P, A, E, C, D, G, N>(
-    rt: &impl Wait,
-    engine: &BlockEngine<L, K, V, P, A, E, C, D, G, N>,
-    keeper: &Keeper<K, V, P, A>,
-    flusher: u32,
-    session: &mut Session<L>,
-) -> bool
-where
-    L: Kinds,
-    K: Code<A> + Eq + Drop,
-    V: Code<A> + Drop,
-    P: Properties + Drop,
-    A: Allocator + Clone,
-    E: EvictionPicker,
-    C: StorageFilterCondition,
-    D: Disk + Drop,
-    G: Gate,
-    N: Noting,
-    requires { 0 < session.old.shares.parts }
-    ensures named { HoldsNamed session.old session.new }
-    ensures parts { session.new.shares.parts ≡ session.old.shares.parts }
-{
-    let mut is_busy = false;
-    for _ in 0..MOST_OF_A_BATCH {
-        let (reply, wants_flush) = receive(
-            &mut lock_spinning(engine.shared().locked(), rt),
-            session,
-            flusher,
-        );
-        match reply {
-            Reply::Received(back) => {
-                is_busy = true;
-                if let Some(piece) = back {
-                    engine.signals().work.add_returned_put();
-                    keeper.release(rt, piece);
-                }
-                if wants_flush {
-                    return true;
-                }
-            }
-            Reply::Refused(ErrorKind::Memory, _step) => {
-                is_busy = true;
-                thread::yield_now();
-            }
-            _other => return is_busy,
-        }
-    }
-    is_busy
 }
 
 // Does a write of a block, and reports its outcome.

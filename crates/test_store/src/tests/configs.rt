@@ -7,7 +7,7 @@ use crate::tests::built::{Asked, answers_of_nothing, answers_over};
 use crate::tests::gates::HoldingGate;
 use crate::tests::memories::SameMemory;
 use crate::tests::over::{Kind, Over, Picks, Sizes};
-use crate::tests::pickers::{any, odd_alone, own};
+use crate::tests::pickers::{any, odd_alone, odd_in_a_box, own};
 use foyer_core_tally::book::{Blanks, Kinds};
 use foyer_device_page::error::Result;
 use foyer_device_partition::io::device::{
@@ -65,6 +65,7 @@ fn sized<D: Device>(config: Blocks<D>, sizes: &Sizes) -> Blocks<D> {
         .with_buffer_pool_size(sizes.buffer)
         .with_clean_block_threshold(sizes.clean)
         .with_submit_queue_size_threshold(sizes.queue)
+        .with_enqueue_patience(sizes.patience)
         .with_tombstone_log(sizes.has_log);
     match sizes.index_shards {
         Some(shards) => config.with_indexer_shards(shards),
@@ -182,6 +183,10 @@ where
         return answers_by::<L, R, _, _, _>(rt, alloc, blanks, asked, memory, config);
     }
     let config = config.with_eviction_pickers(any(alloc, picks)?);
+    if picks == Picks::Boxed {
+        let config = config.with_filters(Some(odd_in_a_box(alloc)?), None);
+        return answers_by::<L, R, _, _, _>(rt, alloc, blanks, asked, memory, config);
+    }
     answers_by::<L, R, _, _, _>(rt, alloc, blanks, asked, memory, config)
 }
 

@@ -40,6 +40,8 @@ buffer 8192, holds flush < put 1 a, reached, put 2 b, fill 3 5000, held, open, w
 each flusher's share is a page at least
 buffer 4095 < enabled | refused Config
 buffer 8191, flushers 2 < enabled | refused Config
+a put that finds too much queued is taken once a flusher has taken what is there, if it looks often enough
+queue 0, patience 4000000000 < put 1 a, put 2 b, put 3 c, put 4 d, put 5 e, put 6 f, wait, get 1, get 6, counts puts | queued, queued, queued, queued, queued, queued, ok, entry a, entry f, queued 6 ignored 0 dropped 0 rejected 0 returned 0 deletes 0
 reclaims begin of their own where fewer blocks are clean than are asked for, which are fewer than there are
 clean 3 < put 1 a, put 2 b, put 3 c, put 4 d, reclaims 1, wait, get 1, get 3, get 4, counts blocks | queued, queued, queued, queued, yes, ok, miss, miss, entry d, failed 0 reclaimed 1 again 0
 clean 2 < put 1 a, put 2 b, put 3 c, put 4 d, wait, get 1, get 3, get 4, counts blocks | queued, queued, queued, queued, ok, entry a, entry c, entry d, failed 0 reclaimed 0 again 0
@@ -60,8 +62,8 @@ a block of which five of six pages are invalid goes before it by ratio, and not 
 blocks 3, pages 6, clean 0 < put 1 x, put 2 x, put 3 x, put 4 x, put 5 x, put 6 x, put 7 x, put 8 x, put 9 x, put 10 x, wait, del 6, del 7, del 8, del 9, del 10, wait, put 11 x, put 12 x, put 13 x, put 14 x, put 15 x, put 16 x, wait, get 1, get 11, get 16 | queued, queued, queued, queued, queued, queued, queued, queued, queued, queued, ok, ok, ok, ok, ok, ok, ok, queued, queued, queued, queued, queued, queued, ok, entry x, entry x, entry x
 picks ratio, blocks 3, pages 6, clean 0 < put 1 x, put 2 x, put 3 x, put 4 x, put 5 x, put 6 x, put 7 x, put 8 x, put 9 x, put 10 x, wait, del 6, del 7, del 8, del 9, del 10, wait, put 11 x, put 12 x, put 13 x, put 14 x, put 15 x, put 16 x, wait, get 1, get 11, get 16 | queued, queued, queued, queued, queued, queued, queued, queued, queued, queued, ok, ok, ok, ok, ok, ok, ok, queued, queued, queued, queued, queued, queued, ok, entry x, entry x, entry x
 picks fifo, blocks 3, pages 6, clean 0 < put 1 x, put 2 x, put 3 x, put 4 x, put 5 x, put 6 x, put 7 x, put 8 x, put 9 x, put 10 x, wait, del 6, del 7, del 8, del 9, del 10, wait, put 11 x, put 12 x, put 13 x, put 14 x, put 15 x, put 16 x, wait, get 1, get 11, get 16 | queued, queued, queued, queued, queued, queued, queued, queued, queued, queued, ok, ok, ok, ok, ok, ok, ok, queued, queued, queued, queued, queued, queued, ok, miss, entry x, entry x
-a picker of a caller's, here of block 1, in a box and by its own type; and a condition of a caller's, of odd hashes
-picks boxed, blocks 3, clean 0 < put 1 x, put 2 x, put 3 x, put 4 x, put 5 x, put 6 x, put 7 x, put 8 x, put 9 x, wait, put 10 x, wait, get 1, get 4, get 7, get 10 | queued, queued, queued, queued, queued, queued, queued, queued, queued, ok, queued, ok, entry x, miss, entry x, entry x
+a picker of a caller's, here of block 1, and a condition of a caller's, of odd hashes, both in boxes and by their own types
+picks boxed, blocks 3, clean 0 < put 1 x, put 3 x, put 5 x, put 7 x, put 9 x, put 11 x, put 13 x, put 15 x, put 17 x, put 2 x, wait, put 19 x, wait, get 1, get 7, get 13, get 19, get 2, counts puts | queued, queued, queued, queued, queued, queued, queued, queued, queued, deleted, ok, queued, ok, entry x, miss, entry x, entry x, miss, queued 10 ignored 0 dropped 0 rejected 1 returned 0 deletes 0
 picks own, blocks 3, clean 0 < put 1 x, put 3 x, put 5 x, put 7 x, put 9 x, put 11 x, put 13 x, put 15 x, put 17 x, put 2 x, wait, put 19 x, wait, get 1, get 7, get 13, get 19, get 2, counts puts | queued, queued, queued, queued, queued, queued, queued, queued, queued, deleted, ok, queued, ok, entry x, miss, entry x, entry x, miss, queued 10 ignored 0 dropped 0 rejected 1 returned 0 deletes 0
 no record is compressed
 packs zstd < enabled | refused Unsupported

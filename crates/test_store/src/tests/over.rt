@@ -38,6 +38,8 @@ pub(crate) struct Sizes {
     pub(crate) buffer: usize,
     /// The queued bytes above which pieces aren't taken.
     pub(crate) queue: usize,
+    /// How often a put that finds so many queued looks again.
+    pub(crate) patience: u32,
     pub(crate) has_log: bool,
 }
 
@@ -116,6 +118,7 @@ pub(crate) const USUAL: Over = Over {
         loads: 1,
         buffer: 262_144,
         queue: 16_777_216,
+        patience: 0,
         has_log: false,
     },
     limits: Limits {
@@ -335,6 +338,13 @@ fn with_number(over: Over, word: &str, how: &str) -> Over {
         },
         "seed" => Over {
             seed: number,
+            ..over
+        },
+        "patience" => Over {
+            sizes: Sizes {
+                patience: u32::try_from(number).unwrap_or(u32::MAX),
+                ..over.sizes
+            },
             ..over
         },
         _ => Over {

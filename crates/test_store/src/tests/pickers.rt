@@ -9,7 +9,9 @@ use foyer_block_manager::block::eviction::{
 };
 use foyer_device_page::error::Result;
 use foyer_device_statistics::IoState;
-use foyer_policy_filter::{StorageFilter, StorageFilterCondition, StorageFilterResult};
+use foyer_policy_filter::{
+    AnyCondition, StorageFilter, StorageFilterCondition, StorageFilterResult,
+};
 use std::alloc::Global;
 
 /// A picker that names one block, whether it is evictable or not.
@@ -53,6 +55,12 @@ impl StorageFilterCondition for Odd {
 /// A filter of that condition.
 pub(crate) fn odd_alone(alloc: Global) -> Result<StorageFilter<Odd, Global>> {
     StorageFilter::new().with_condition(alloc, Odd)
+}
+
+/// A filter of that condition in a box.
+pub(crate) fn odd_in_a_box(alloc: Global) -> Result<StorageFilter<AnyCondition, Global>> {
+    let odd = Box::new(alloc, Odd)?;
+    StorageFilter::new().with_condition(alloc, AnyCondition::Boxed(odd))
 }
 
 /// A picker that names block 1.

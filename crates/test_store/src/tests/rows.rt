@@ -55,6 +55,8 @@ a piece that is kept is answered without a step, and so is the question for it
 holds flush < force 1 a, reached, get 1, has 1, get 2, has 2, del 3, tally, others, held, open | queued, yes, piece a, yes, miss, no, ok, tally 1 0 1 0 1 0 0, others 1, yes, open
 a piece that isn't taken, since too much is queued, deletes its key: the older one is answered until it is written, and no more
 holds flush, queue 0 < force 1 a, reached, force 2 b, force 1 c, get 1, tally, held, open, wait, get 1, get 2, tally | queued, yes, queued, deleted, piece a, tally 2 1 0 0 0 0 0, yes, open, ok, miss, entry b, tally 2 1 0 1 1 1 0
+a put that finds too much queued looks again as often as it may, and isn't taken then: a flusher that is held hangs nobody
+holds flush, queue 0, patience 3 < force 1 a, reached, force 2 b, force 1 c, get 1, tally, held, open, wait, get 1, get 2 | queued, yes, queued, deleted, piece a, tally 2 1 0 0 0 0 0, yes, open, ok, miss, entry b
 calls are answered while a reclaim is held
 blocks 2, holds reclaim < put 1 x, wait, put 2 x, wait, put 3 x, wait, put 4 x, reached, has 4, del 2, has 2, held, open, wait, get 1, get 4 | queued, ok, queued, ok, queued, ok, queued, yes, yes, ok, no, yes, open, ok, miss, entry x
 calls are answered where each thread lets all others go first at each point
@@ -63,7 +65,7 @@ blocks 2, flushers 2, naps < put 1 x, wait, put 2 x, wait, put 3 x, wait, put 4 
 calls are answered while a load is held, which another thread asked for
 holds load < put 1 a, wait, reached, has 1, put 2 b, wait, has 2, del 2, has 2, held, open & seen 1, get 1 | queued, ok, yes, yes, queued, ok, yes, ok, no, yes, open & yes, entry a
 two threads load, each through an I/O engine of its own
-loads 2 < put 1 a, put 2 b, wait, seen 2, get 1, get 2 & seen 1, get 1, get 2 | queued, queued, ok, yes, entry a, entry b & yes, entry a, entry b
+loads 2 < put 1 a, put 2 b, wait, seen 2, get 1, get 2 & seen 1, seen 2, get 1, get 2 | queued, queued, ok, yes, entry a, entry b & yes, yes, entry a, entry b
 ";
 
 // Where fewer than `clean` blocks are, a reclaim begins of its own; with 0 one begins for a flusher that waits alone. Elsewhere

@@ -50,6 +50,7 @@ use foyer_storage::DEFAULT_BLOCK_SIZE;
 use foyer_storage::DEFAULT_BUFFER_POOL_SIZE;
 use foyer_storage::DEFAULT_CLEAN_BLOCK_THRESHOLD;
 use foyer_storage::DEFAULT_FLUSHERS;
+use foyer_storage::DEFAULT_ENQUEUE_PATIENCE;
 use foyer_storage::DEFAULT_LOAD_ENGINES;
 use foyer_storage::DEFAULT_RECLAIMERS;
 use foyer_storage::DEFAULT_RECOVER_CONCURRENCY;

@@ -1,10 +1,12 @@
-use Rattle.std.proofs.Common.{[], ◌∷◌, None, refl, sym, ap, subst, arith}
+use Rattle.std.proofs.Common.{false, [], ◌∷◌, None, refl, sym, ap, subst, arith}
 use Rattle.foyer_core_laws.specs.Content.{meaning}
 use Rattle.foyer_io_disk.specs.Disk.{SurelyCame}
 use Rattle.foyer_core_steps.specs.Answered.{Describes}
+use Rattle.foyer_core_steps.specs.Asked.{came_of}
 use Rattle.foyer_core_steps.specs.Refines.{IsRefined, Refines}
 use Rattle.foyer_core_steps.specs.declared.step.Step.TheVariants as step
 use Rattle.foyer_core_run.specs.Accesses.{load_of}
+use Rattle.foyer_core_run.specs.Causes.{is_fault}
 use Rattle.foyer_core_run.specs.Driven.{Drives}
 use Rattle.foyer_core_run.specs.Running.{ticket_in, with_ticket}
 use Rattle.foyer_core_run.specs.Runs.{IsFront}
@@ -28,7 +30,7 @@ returns-in_default g c =
     let h = c.args.hash in
     let throttled = c.args.throttled in
     let answer = c.apply.result in
-    let says = says_last m (load_of h throttled) [] unscanned uncleaned [] answer c.args.core.now c.apply.new.self bytes bytes
+    let says = says_last m false (load_of h throttled) [] unscanned uncleaned [] answer c.args.core.now c.apply.new.self bytes bytes
     (λ s sound w stands same.
     load_alone m s sound w h throttled answer c.apply.new.self bytes
     (step_alone m s sound encodes w (move.LoadBegin h throttled) (step.LoadBegin h throttled) answer c.args.core.now c.apply.new.self bytes stands same refl tt
@@ -58,7 +60,7 @@ returns-in_err-clone-clause-front g c = λ known.
     let throttled = c.args.throttled in
     let answer = c.apply.result in
     err_is c.from_residual.result
-    (front_is m (move.LoadBegin h throttled ∷ []) (move.LoadEnd 0 ∷ []) (with_ticket (ticket_in answer) []) unscanned uncleaned (answer ∷ []) c.args.core.now c.apply.new.self bytes bytes
+    (front_is m false (move.LoadBegin h throttled ∷ []) (move.LoadEnd 0 ∷ []) (with_ticket (ticket_in answer) []) unscanned uncleaned (answer ∷ []) c.args.core.now c.apply.new.self bytes bytes
     (λ s sound w stands same.
     step_alone m s sound encodes w (move.LoadBegin h throttled) (step.LoadBegin h throttled) answer c.args.core.now c.apply.new.self bytes stands same refl tt
     c.apply.ensures.back (λ v at. c.apply.ensures.meets s sound v.core at)))
@@ -81,7 +83,7 @@ returns-in_err-came-clause-front g c = λ known.
     let answer = c.apply.result in
     err_is c.from_residual-in_err-came.result
     (subst (λ new. IsFront m (load_of h throttled) c.args.core.now c.apply.new.self bytes new) (sym c.in_err-came.ensures.same)
-    (front_is m (move.LoadBegin h throttled ∷ []) (move.LoadEnd 0 ∷ []) (with_ticket (ticket_in answer) []) unscanned uncleaned (answer ∷ []) c.args.core.now c.apply.new.self bytes bytes
+    (front_is m false (move.LoadBegin h throttled ∷ []) (move.LoadEnd 0 ∷ []) (with_ticket (ticket_in answer) []) unscanned uncleaned (answer ∷ []) c.args.core.now c.apply.new.self bytes bytes
     (λ s sound w stands same.
     step_alone m s sound encodes w (move.LoadBegin h throttled) (step.LoadBegin h throttled) answer c.args.core.now c.apply.new.self bytes stands same refl tt
     c.apply.ensures.back (λ v at. c.apply.ensures.meets s sound v.core at))))
@@ -105,8 +107,8 @@ returns-clause-runs g c = λ known.
     let issued = c.apply.result in
     let answer = c.apply_load-reply.result.0 in
     let tickets = with_ticket (ticket_in answer) (None ∷ []) in
-    says_last m (load_of h throttled) tickets unscanned uncleaned (issued ∷ []) answer c.args.core.now c.apply_load-reply.new.self bytes (g.D.Disk.byte_at c.do_read.new.disk)
-    (subst (λ new. Goes m (load_of h throttled) tickets unscanned uncleaned (issued ∷ answer ∷ []) c.args.core.now c.apply_load-reply.new.self bytes new) (sym c.in_ok-came.ensures.same)
+    says_last m (is_fault (came_of c.in_ok-came.came)) (load_of h throttled) tickets unscanned uncleaned (issued ∷ []) answer c.args.core.now c.apply_load-reply.new.self bytes (g.D.Disk.byte_at c.do_read.new.disk)
+    (subst (λ new. Goes m (is_fault (came_of c.in_ok-came.came)) (load_of h throttled) tickets unscanned uncleaned (issued ∷ answer ∷ []) c.args.core.now c.apply_load-reply.new.self bytes new) (sym c.in_ok-came.ensures.same)
     (λ s sound w stands same.
     load_whole m s sound w h throttled c.in-Read.ticket c.in_ok-came.came issued answer c.apply.new.self c.apply_load-reply.new.self bytes
     (step_alone m s sound encodes w (move.LoadBegin h throttled) (step.LoadBegin h throttled) issued c.args.core.now c.apply.new.self bytes stands same refl tt

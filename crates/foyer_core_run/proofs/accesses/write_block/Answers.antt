@@ -1,6 +1,6 @@
 use Rattle.std.proofs.Common.{◌≡◌, ◌⊎◌, false, [], arith, None, Some, inl, inr, refl, sym, subst, ◌∙◌}
 use Rattle.foyer_block_index.proofs.Found.{slice_get_at}
-use Rattle.std.specs.Prelude.{length, slice_get}
+use Rattle.std.specs.Prelude.{drop, length, slice_get}
 use Rattle.foyer_io_disk.specs.Disk.{SurelyCame}
 use Rattle.foyer_io_disk.proofs.FaultLemmas.{came_behind}
 use Rattle.foyer_core_flusher.specs.Issuing.{written_bytes}
@@ -15,6 +15,7 @@ use Rattle.foyer_core_run.proofs.DriveLemmas.{writes_drive}
 use Rattle.foyer_core_run.proofs.HonestLemmas.{block_fails, report_fails, unsure_behind}
 use Rattle.foyer_core_run.proofs.RestLemmas.{block_asks, block_keeps, report_asks, report_more}
 use Rattle.foyer_core_run.proofs.WriteLemmas.{done_is}
+use Rattle.foyer_core_run.proofs.WriteRuns.{WritesSoFar, wrote_last, wrote_more, wrote_none, wrote_nothing, wrote_so_far}
 use Rattle.foyer_core_run.proofs.accesses.write_block.Goals as goal
 
 pub returns-in_default : goal.returns-in_default
@@ -27,6 +28,7 @@ returns-in_default g c =
     record {
       writes = λ known. writes;
       drives = λ known. writes_drive m c.args.flusher (Some c.apply.result) c.args.core.now c.apply.new.self bytes bytes writes;
+      caused = λ known. wrote_nothing m (SurelyCame (g.D.Disk.surely_has c.args.disk.now) (g.D.Disk.surely_lies c.args.disk.now) (g.D.Disk.faults c.args.disk.now) (g.D.Disk.faults c.args.disk.now)) c.args.flusher c.apply.result c.args.core.now c.apply.new.self bytes c.apply.ensures.meets;
       ends = block_asks m c.args.flusher c.apply.result c.args.core.now c.apply.new.self c.apply.ensures.meets;
       leads = block_keeps m c.args.flusher c.apply.result c.args.core.now c.apply.new.self c.apply.ensures.meets;
       lent = c.apply.ensures.lent;
@@ -55,6 +57,10 @@ writes-init g c =
             writing_first m s sound w c.args.flusher c.in-Write.block c.in-Write.writes c.args.core.now c.apply.new.self (g.D.Disk.byte_at c.args.disk.now) stands same
             (λ v at. subst (λ r. IsRefined m s sound (step.FlushBlock c.args.flusher) r c.apply.new.self v.core) c.in-Write.is (c.apply.ensures.meets s sound v.core at));
       };
+      so_far = λ known.
+          subst (λ xs. WritesSoFar m c.args.flusher c.in-Write.block xs c.args.core.now c.apply.new.self (g.D.Disk.byte_at c.args.disk.now) (g.D.Disk.byte_at c.args.disk.now)) (sym c.deref-write-items.ensures.value)
+          (wrote_none m c.args.flusher c.in-Write.block c.in-Write.writes c.args.core.now c.apply.new.self (g.D.Disk.byte_at c.args.disk.now)
+          (subst (λ r. Refines m (step.FlushBlock c.args.flusher) r c.args.core.now c.apply.new.self) c.in-Write.is c.apply.ensures.meets));
       leads = block_keeps m c.args.flusher c.apply.result c.args.core.now c.apply.new.self c.apply.ensures.meets;
       lent = c.apply.ensures.lent;
     }
@@ -76,8 +82,18 @@ returns-then-not-wants_next_write g c =
     (done_is before after b write outcome (c.do_write-wrote.ensures.wrote (c.writes.invariant.known known)) (c.do_write-wrote.ensures.torn (c.writes.invariant.known known)))
     (λ s sound v at. c.apply-reply.ensures.meets s sound v.core at)
     why in
+    let unsure = unsure_behind outcome (λ x y z sure. came_behind (g.D.Disk.surely_has c.args.disk.now) (g.D.Disk.surely_lies c.args.disk.now) (g.D.Disk.faults c.args.disk.now) (g.D.Disk.faults c.writes.disk) (g.D.Disk.faults c.do_write-wrote.new.disk)
+    c.writes.invariant.counted c.do_write-wrote.ensures.counted (g.D.Disk.surely_has c.writes.disk) (g.D.Disk.surely_lies c.writes.disk) c.writes.invariant.has c.writes.invariant.lies x y z sure)
+    b write.offset (length (written_bytes write.bytes)) c.do_write-wrote.ensures.fails in
     record {
       writes = writes;
+      caused = λ known.
+          wrote_last m c.args.flusher b c.writes.write-index c.deref-write-items.result.now write outcome c.apply-reply.result c.args.core.now c.writes.core c.apply-reply.new.self
+          (g.D.Disk.byte_at c.args.disk.now) before after (c.writes.invariant.so_far known) at
+          (done_is before after b write outcome (c.do_write-wrote.ensures.wrote (c.writes.invariant.known known)) (c.do_write-wrote.ensures.torn (c.writes.invariant.known known)))
+          c.apply-reply.ensures.meets
+          (SurelyCame (g.D.Disk.surely_has c.args.disk.now) (g.D.Disk.surely_lies c.args.disk.now) (g.D.Disk.faults c.args.disk.now) (g.D.Disk.faults c.do_write-wrote.new.disk))
+          unsure;
       honest = λ failed s sound it stands. record {
         block = b;
         writes = c.in-Write.writes;
@@ -91,11 +107,7 @@ returns-then-not-wants_next_write g c =
         runs = λ known.
             let far = written_so_far m c.args.flusher b c.writes.write-index c.deref-write-items.result.now c.args.core.now c.writes.core (g.D.Disk.byte_at c.args.disk.now) before (c.writes.invariant.written known) in
             (far.0, far.1, far.2 ∙ c.deref-write-items.ensures.value, far.3);
-        cause = report_fails c.args.flusher outcome c.writes.core
-            (unsure_behind outcome (λ x y z sure. came_behind (g.D.Disk.surely_has c.args.disk.now) (g.D.Disk.surely_lies c.args.disk.now) (g.D.Disk.faults c.args.disk.now) (g.D.Disk.faults c.writes.disk) (g.D.Disk.faults c.do_write-wrote.new.disk)
-            c.writes.invariant.counted c.do_write-wrote.ensures.counted (g.D.Disk.surely_has c.writes.disk) (g.D.Disk.surely_lies c.writes.disk) c.writes.invariant.has c.writes.invariant.lies x y z sure)
-            b write.offset (length (written_bytes write.bytes)) c.do_write-wrote.ensures.fails)
-            (c.apply-reply.ensures.failed failed);
+        cause = report_fails c.args.flusher outcome c.writes.core unsure (c.apply-reply.ensures.failed failed);
       };
       has = λ x o n h. c.do_write-wrote.ensures.has x o n (c.writes.invariant.has x o n h);
       lies = λ x o n h. c.do_write-wrote.ensures.lies x o n (c.writes.invariant.lies x o n h);
@@ -131,6 +143,11 @@ writes-preserved g c =
           (done_is before after b write outcome (c.do_write-wrote.ensures.wrote (c.writes.invariant.known known)) (c.do_write-wrote.ensures.torn (c.writes.invariant.known known)))
           (λ s sound v at. c.apply-reply.ensures.meets s sound v.core at)
           (sym ok ∙ c.if-not-wants_next_write.ensures.0) c.if-not-wants_next_write.ensures.1;
+      so_far = λ known.
+          wrote_more m c.args.flusher b c.writes.write-index c.deref-write-items.result.now write outcome c.apply-reply.result c.args.core.now c.writes.core c.apply-reply.new.self
+          (g.D.Disk.byte_at c.args.disk.now) before after (c.writes.invariant.so_far known) at
+          (done_is before after b write outcome (c.do_write-wrote.ensures.wrote (c.writes.invariant.known known)) (c.do_write-wrote.ensures.torn (c.writes.invariant.known known)))
+          c.apply-reply.ensures.meets (sym ok ∙ c.if-not-wants_next_write.ensures.0) c.if-not-wants_next_write.ensures.1;
     }
 
 pub returns : goal.returns
@@ -142,6 +159,9 @@ returns g c =
     record {
       writes = writes;
       drives = λ known. writes_drive m c.args.flusher None c.args.core.now c.writes.core bytes after (writes known);
+      caused = λ known.
+          wrote_so_far m (SurelyCame (g.D.Disk.surely_has c.args.disk.now) (g.D.Disk.surely_lies c.args.disk.now) (g.D.Disk.faults c.args.disk.now) (g.D.Disk.faults c.writes.disk))
+          c.args.flusher c.in-Write.block (drop c.writes.write-index c.deref-write-items.result.now) c.args.core.now c.writes.core bytes after (c.writes.invariant.so_far known);
       ends = tt;
       honest = tt;
       has = c.writes.invariant.has;

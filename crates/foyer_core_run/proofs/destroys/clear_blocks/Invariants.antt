@@ -1,5 +1,6 @@
 use Rattle.std.specs.Prelude.{◌≡◌, ◌≤◌, ℕ}
 use Rattle.foyer_core_laws.specs.Content.{meaning}
+use Rattle.foyer_core_run.specs.Causes.{HasCome}
 use Rattle.foyer_core_run.specs.Destroys.{ClearsUpTo}
 use Rattle.foyer_core_run.proofs.destroys.clear_blocks.Given as goal
 
@@ -10,6 +11,6 @@ invariant-each_block g l = record {
   counted : g.D.Disk.faults l.fn.disk ≤ g.D.Disk.faults l.disk;
   clears : g.D.Disk.is_known l.fn.disk
       → ClearsUpTo (meaning g.K.Code.encoding g.V.Code.encoding g.K.Code.is_encodable g.V.Code.is_encodable g.K.Code.is_decodable g.V.Code.is_decodable g.P.Properties.age)
-      l.block l.last l.fn.core l.core (g.D.Disk.byte_at l.fn.disk) (g.D.Disk.byte_at l.disk);
+      (HasCome g.D.Disk.surely_lies g.D.Disk.faults l.fn.disk l.disk) l.block l.last l.fn.core l.core (g.D.Disk.byte_at l.fn.disk) (g.D.Disk.byte_at l.disk);
   lent : (l.env.reinsertion ≡ l.fn.env.reinsertion) × (l.env.io ≡ l.fn.env.io);
 }

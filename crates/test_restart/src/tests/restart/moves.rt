@@ -90,12 +90,16 @@ fn found_behind(alloc: Global, is_cleaned: bool) -> Result<String> {
     let settings = sizes(1).with_clean_block_threshold(2);
     let mode = RecoverMode::Strict;
     let left = run_and_reopen(alloc, &mut first, &mut env, settings, mode, moves)?;
+    let has_failed = left.has_failed;
     let mut opened = Reopened {
         core: left.core,
         env,
         disk: left.disk,
     };
     let mut text = String::new(alloc);
+    if has_failed {
+        write!(&mut text, "an access failed ")?;
+    }
     for key in keys() {
         let sequence = match find(alloc, &mut opened, key)? {
             Some(found) if found.is_text => found.address.sequence,

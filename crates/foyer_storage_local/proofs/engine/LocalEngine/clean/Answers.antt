@@ -2,6 +2,7 @@ use Rattle.std.proofs.Common.{◌≡◌, sym, subst}
 use Rattle.std.specs.Prelude.{◌⊎◌, Some, IfSome}
 use Rattle.foyer_core_model.specs.Numbers.{page}
 use Rattle.foyer_core_laws.specs.Content.{meaning}
+use Rattle.foyer_core_run.specs.Causes.{HasCome}
 use Rattle.foyer_core_run.proofs.DestroyRuns.{cleans_once}
 use Rattle.foyer_core_run.proofs.ReclaimRuns.{clean_done}
 use Rattle.foyer_storage_local.proofs.LocalAnswers.{first_fault}
@@ -13,8 +14,8 @@ returns-clause-cleans g c = λ known.
     let bytes = g.D.Disk.byte_at c.args.self.now.disk in
     let after = g.D.Disk.byte_at c.clean_page-outcome.new.disk in
     let outcome = c.clean_page-outcome.result in
-    cleans_once m c.args.block outcome c.apply.result c.args.self.now.core c.apply.new.self bytes after
-    (clean_done bytes after c.args.block outcome (c.clean_page-outcome.ensures.cleaned known) (c.clean_page-outcome.ensures.torn known)) c.apply.ensures.meets
+    cleans_once m (HasCome g.D.Disk.surely_lies g.D.Disk.faults c.args.self.now.disk c.clean_page-outcome.new.disk) c.args.block outcome c.apply.result c.args.self.now.core c.apply.new.self bytes after
+    (clean_done bytes after c.args.block outcome (c.clean_page-outcome.ensures.cleaned known) (c.clean_page-outcome.ensures.torn known)) c.clean_page-outcome.ensures.fails c.apply.ensures.meets
 
 pub returns-clause-fault : goal.returns-clause-fault
 returns-clause-fault g c =

@@ -1,44 +1,37 @@
 use Rattle.std.proofs.Common.{◌≡◌, true, Ok, Err, inl, refl, ◌∙◌}
 use Rattle.foyer_device_page.specs.declared.error.Error.TheVariants as error
-use Rattle.foyer_core_run.proofs.DestroyLemmas.{destroys_cleared, destroys_if, destroys_kept, destroys_none}
 use Rattle.foyer_core_run.proofs.OpenedRuns.{err_weakens}
 use Rattle.foyer_core_laws.specs.Content.{meaning}
 use Rattle.foyer_storage_local.specs.EntryCalls.{IsCleanFault}
 use Rattle.foyer_storage_local.specs.StepAnswers.{is_wait_error}
 use Rattle.foyer_storage_local.proofs.LocalAnswers.{destroyed_ok, fault_answered, refused_not_ok, some_weakens}
-use Rattle.foyer_storage_local.proofs.LocalRuns.{fault_since, known_destroys, lies_more, lies_none}
+use Rattle.foyer_storage_local.proofs.LocalRuns.{destroy_cleared, destroy_kept, destroyed_if, destroys_here, fault_since, known_destroys, lies_more, lies_none}
 use Rattle.foyer_storage_local.proofs.engine.LocalEngine.clear.Goals as goal
 
 pub loop-init : goal.loop-init
 loop-init g c =
     let m = meaning g.K.Code.encoding g.V.Code.encoding g.K.Code.is_encodable g.V.Code.is_encodable g.K.Code.is_decodable g.V.Code.is_decodable g.P.Properties.age in
-    (λ known. (known, destroys_none m c.args.self.now.core (g.D.Disk.byte_at c.args.self.now.disk)), refl, refl, refl, lies_none g.D.Disk.surely_lies g.D.Disk.faults c.args.self.now.disk)
+    (destroys_here m g.D.Disk.is_known g.D.Disk.byte_at g.D.Disk.surely_lies g.D.Disk.faults c.args.self.now.core c.args.self.now.disk, refl, refl, refl, lies_none g.D.Disk.surely_lies g.D.Disk.faults c.args.self.now.disk)
 
 pub returns-in-Err-clause-destroyed : goal.returns-in-Err-clause-destroyed
 returns-in-Err-clause-destroyed g c =
     let m = meaning g.K.Code.encoding g.V.Code.encoding g.K.Code.is_encodable g.V.Code.is_encodable g.K.Code.is_decodable g.V.Code.is_decodable g.P.Properties.age in
-    known_destroys m ⊥ (c.answer_kept.result ≡ Ok tt) c.args.self.now.core c.loop.self.core c.clear_blocks.new.self.core (g.D.Disk.byte_at c.args.self.now.disk) (g.D.Disk.byte_at c.loop.self.disk) (g.D.Disk.byte_at c.clear_blocks.new.self.disk) c.loop.invariant.0
-    (λ known. (
-      c.clear_blocks.ensures.known known,
-      destroys_if m ⊥ (c.answer_kept.result ≡ Ok tt) c.loop.self.core c.clear_blocks.new.self.core (g.D.Disk.byte_at c.loop.self.disk) (g.D.Disk.byte_at c.clear_blocks.new.self.disk) (refused_not_ok c.answer_kept.result tt c.answer_kept.ensures.fails)
-          (destroys_kept m c.in-Err.back c.loop.self.core c.clear_blocks.new.self.core (g.D.Disk.byte_at c.loop.self.disk) (g.D.Disk.byte_at c.clear_blocks.new.self.disk) c.in-Err.ensures.kept),
-    ))
+    known_destroys m g.D.Disk.is_known g.D.Disk.byte_at g.D.Disk.surely_lies g.D.Disk.faults ⊥ (c.answer_kept.result ≡ Ok tt) c.args.self.now.core c.loop.self.core c.clear_blocks.new.self.core c.args.self.now.disk c.loop.self.disk c.clear_blocks.new.self.disk c.loop.invariant.0
+    (destroyed_if m g.D.Disk.is_known g.D.Disk.byte_at g.D.Disk.surely_lies g.D.Disk.faults ⊥ (c.answer_kept.result ≡ Ok tt) c.loop.self.core c.clear_blocks.new.self.core c.loop.self.disk c.clear_blocks.new.self.disk (refused_not_ok c.answer_kept.result tt c.answer_kept.ensures.fails)
+    (destroy_kept m g.D.Disk.is_known g.D.Disk.byte_at g.D.Disk.surely_lies g.D.Disk.faults c.in-Err.back c.loop.self.core c.clear_blocks.new.self.core c.loop.self.disk c.clear_blocks.new.self.disk c.clear_blocks.ensures.counts c.clear_blocks.ensures.known c.in-Err.ensures.kept))
 
 pub returns-in-Ok-clause-destroyed : goal.returns-in-Ok-clause-destroyed
 returns-in-Ok-clause-destroyed g c =
     let m = meaning g.K.Code.encoding g.V.Code.encoding g.K.Code.is_encodable g.V.Code.is_encodable g.K.Code.is_decodable g.V.Code.is_decodable g.P.Properties.age in
-    known_destroys m ⊥ (c.answer_cleaned.result ≡ Ok tt) c.args.self.now.core c.loop.self.core c.clear_blocks.new.self.core (g.D.Disk.byte_at c.args.self.now.disk) (g.D.Disk.byte_at c.loop.self.disk) (g.D.Disk.byte_at c.clear_blocks.new.self.disk) c.loop.invariant.0
-    (λ known. (
-      c.clear_blocks.ensures.known known,
-      destroys_cleared m (c.answer_cleaned.result ≡ Ok tt) c.loop.self.core.settings.blocks c.in-Ok.last c.loop.self.core c.clear_blocks.new.self.core (g.D.Disk.byte_at c.loop.self.disk) (g.D.Disk.byte_at c.clear_blocks.new.self.disk)
-          (destroyed_ok c.in-Ok.last c.in-Ok.first c.answer_cleaned.result c.answer_cleaned.ensures.says) (c.in-Ok.ensures.clears known),
-    ))
+    known_destroys m g.D.Disk.is_known g.D.Disk.byte_at g.D.Disk.surely_lies g.D.Disk.faults ⊥ (c.answer_cleaned.result ≡ Ok tt) c.args.self.now.core c.loop.self.core c.clear_blocks.new.self.core c.args.self.now.disk c.loop.self.disk c.clear_blocks.new.self.disk c.loop.invariant.0
+    (destroy_cleared m g.D.Disk.is_known g.D.Disk.byte_at g.D.Disk.surely_lies g.D.Disk.faults (c.answer_cleaned.result ≡ Ok tt) c.loop.self.core.settings.blocks c.in-Ok.last c.loop.self.core c.clear_blocks.new.self.core c.loop.self.disk c.clear_blocks.new.self.disk
+    c.clear_blocks.ensures.counts c.clear_blocks.ensures.known (destroyed_ok c.in-Ok.last c.in-Ok.first c.answer_cleaned.result c.answer_cleaned.ensures.says) c.in-Ok.ensures.clears)
 
 pub loop-preserved : goal.loop-preserved
 loop-preserved g c =
     let m = meaning g.K.Code.encoding g.V.Code.encoding g.K.Code.is_encodable g.V.Code.is_encodable g.K.Code.is_decodable g.V.Code.is_decodable g.P.Properties.age in (
-      known_destroys m ⊥ ⊥ c.args.self.now.core c.loop.self.core c.clear_blocks.new.self.core (g.D.Disk.byte_at c.args.self.now.disk) (g.D.Disk.byte_at c.loop.self.disk) (g.D.Disk.byte_at c.clear_blocks.new.self.disk) c.loop.invariant.0
-          (λ known. (c.clear_blocks.ensures.known known, destroys_kept m _ c.loop.self.core c.clear_blocks.new.self.core (g.D.Disk.byte_at c.loop.self.disk) (g.D.Disk.byte_at c.clear_blocks.new.self.disk) c.in-Err-Refused-Memory-default.ensures.kept)),
+      known_destroys m g.D.Disk.is_known g.D.Disk.byte_at g.D.Disk.surely_lies g.D.Disk.faults ⊥ ⊥ c.args.self.now.core c.loop.self.core c.clear_blocks.new.self.core c.args.self.now.disk c.loop.self.disk c.clear_blocks.new.self.disk c.loop.invariant.0
+          (destroy_kept m g.D.Disk.is_known g.D.Disk.byte_at g.D.Disk.surely_lies g.D.Disk.faults _ c.loop.self.core c.clear_blocks.new.self.core c.loop.self.disk c.clear_blocks.new.self.disk c.clear_blocks.ensures.counts c.clear_blocks.ensures.known c.in-Err-Refused-Memory-default.ensures.kept),
       c.clear_blocks.ensures.lent.0 ∙ c.loop.invariant.1,
       c.clear_blocks.ensures.lent.1 ∙ c.loop.invariant.2,
       c.clear_blocks.ensures.hasher ∙ c.loop.invariant.3,
@@ -48,12 +41,7 @@ loop-preserved g c =
 pub returns-clause-destroyed : goal.returns-clause-destroyed
 returns-clause-destroyed g c =
     let m = meaning g.K.Code.encoding g.V.Code.encoding g.K.Code.is_encodable g.V.Code.is_encodable g.K.Code.is_decodable g.V.Code.is_decodable g.P.Properties.age in
-    λ known.
-    let before = c.loop.invariant.0 known in (
-      before.0,
-      destroys_if m ⊥ (Err error.Memory ≡ Ok tt) c.args.self.now.core c.loop.self.core (g.D.Disk.byte_at c.args.self.now.disk) (g.D.Disk.byte_at c.loop.self.disk)
-          (refused_not_ok (Err error.Memory) tt refl) before.1,
-    )
+    destroyed_if m g.D.Disk.is_known g.D.Disk.byte_at g.D.Disk.surely_lies g.D.Disk.faults ⊥ (Err error.Memory ≡ Ok tt) c.args.self.now.core c.loop.self.core c.args.self.now.disk c.loop.self.disk (refused_not_ok (Err error.Memory) tt refl) c.loop.invariant.0
 
 pub returns-in-Err-clause-lent : goal.returns-in-Err-clause-lent
 returns-in-Err-clause-lent g c = (c.clear_blocks.ensures.lent.0 ∙ c.loop.invariant.1, c.clear_blocks.ensures.lent.1 ∙ c.loop.invariant.2)

@@ -3,6 +3,8 @@ use Rattle.foyer_core_laws.specs.Content.{meaning}
 use Rattle.foyer_core_model.specs.Numbers.{page}
 use Rattle.foyer_core_steps.specs.Refines.{Refines}
 use Rattle.foyer_core_steps.specs.declared.step.Step.TheVariants as step
+use Rattle.foyer_core_run.specs.Causes.{HasCome}
+use Rattle.foyer_core_run.proofs.CauseLemmas.{come_before, come_behind}
 use Rattle.foyer_core_run.proofs.DestroyRuns.{clears_all, clears_first, clears_more, clears_nothing}
 use Rattle.foyer_storage_local.specs.EntryCalls.{IsCleanFault}
 use Rattle.foyer_storage_local.proofs.LocalAnswers.{fault_more}
@@ -26,7 +28,7 @@ pub each_block-init : goal.each_block-init
 each_block-init g c =
     let m = meaning g.K.Code.encoding g.V.Code.encoding g.K.Code.is_encodable g.V.Code.is_encodable g.K.Code.is_decodable g.V.Code.is_decodable g.P.Properties.age in
     record {
-      clears = λ known. clears_first m c.args.self.now.core c.apply.new.self (g.D.Disk.byte_at c.args.self.now.disk)
+      clears = λ known. clears_first m (HasCome g.D.Disk.surely_lies g.D.Disk.faults c.args.self.now.disk c.args.self.now.disk) c.args.self.now.core c.apply.new.self (g.D.Disk.byte_at c.args.self.now.disk)
           (subst (λ r. Refines m step.DestroyClear r c.args.self.now.core c.apply.new.self) c.in-Cleared.is c.apply.ensures.meets);
       known = λ known. known;
       fault = tt;
@@ -44,7 +46,11 @@ each_block-preserved g c =
     let same : c.settings-blocks.result.blocks ≡ c.args.self.now.core.settings.blocks = ap (λ s. s.blocks) c.settings-blocks.ensures in
     let there : c.each_block.block < c.args.self.now.core.settings.blocks = omega (arith, c.each_block-test.true, same) in
     record {
-      clears = λ known. clears_more m c.each_block.block c.each_block.last c.clean-reply.result.0 c.args.self.now.core c.each_block.self.core c.clean-reply.new.self.core
+      clears = λ known. clears_more m (HasCome lies faults c.args.self.now.disk c.clean-reply.new.self.disk) (HasCome lies faults c.args.self.now.disk c.each_block.self.disk)
+          (HasCome lies faults c.each_block.self.disk c.clean-reply.new.self.disk)
+          (come_before lies faults c.args.self.now.disk c.each_block.self.disk c.clean-reply.new.self.disk (c.each_block.invariant.counts).1 (c.clean-reply.ensures.counts).1)
+          (come_behind lies faults c.args.self.now.disk c.each_block.self.disk c.clean-reply.new.self.disk (c.each_block.invariant.counts).1 (c.clean-reply.ensures.counts).1 (c.each_block.invariant.counts).0)
+          c.each_block.block c.each_block.last c.clean-reply.result.0 c.args.self.now.core c.each_block.self.core c.clean-reply.new.self.core
           (g.D.Disk.byte_at c.args.self.now.disk) (g.D.Disk.byte_at c.each_block.self.disk) (g.D.Disk.byte_at c.clean-reply.new.self.disk) there
           (c.each_block.invariant.clears known) (c.clean-reply.ensures.cleans (c.each_block.invariant.known known));
       known = λ known. c.clean-reply.ensures.known (c.each_block.invariant.known known);
@@ -61,7 +67,7 @@ returns-clause-clears g c = λ known.
     let m = meaning g.K.Code.encoding g.V.Code.encoding g.K.Code.is_encodable g.V.Code.is_encodable g.K.Code.is_decodable g.V.Code.is_decodable g.P.Properties.age in
     let same : c.settings-blocks.result.blocks ≡ c.args.self.now.core.settings.blocks = ap (λ s. s.blocks) c.settings-blocks.ensures in
     let all : c.each_block.block ≡ c.args.self.now.core.settings.blocks = omega (arith, same, c.each_block-test.false, c.each_block.auto.block-end) in
-    clears_all m c.each_block.block c.args.self.now.core.settings.blocks c.each_block.last c.args.self.now.core c.each_block.self.core (g.D.Disk.byte_at c.args.self.now.disk) (g.D.Disk.byte_at c.each_block.self.disk) all
+    clears_all m (HasCome g.D.Disk.surely_lies g.D.Disk.faults c.args.self.now.disk c.each_block.self.disk) c.each_block.block c.args.self.now.core.settings.blocks c.each_block.last c.args.self.now.core c.each_block.self.core (g.D.Disk.byte_at c.args.self.now.disk) (g.D.Disk.byte_at c.each_block.self.disk) all
     (c.each_block.invariant.clears known)
 
 pub returns-clause-known : goal.returns-clause-known

@@ -1,30 +1,50 @@
-use Rattle.std.proofs.Common.{refl}
 use Rattle.std.proofs.lemmas.Result.{IfOk-weaker}
 use Rattle.foyer_core_run.specs.AtRest.{LeavesAllIdle}
-use Rattle.foyer_core_run.specs.declared.moves.Move.TheVariants as move
 use Rattle.foyer_core_steps.specs.declared.step.Step.TheVariants as step
 use Rattle.foyer_core_run.proofs.RestLemmas.{IsAny, comes_to_rest, leads_more, step_leads}
-use Rattle.foyer_core_run.proofs.WaitingLemmas.{closes_more, closes_said}
+use Rattle.foyer_core_run.specs.Causes.{HasCome}
+use Rattle.foyer_core_run.specs.Waiting.{IsClosing}
+use Rattle.foyer_core_run.proofs.CauseLemmas.{cause_drives}
 use Rattle.foyer_core_laws.specs.Content.{meaning}
+use Rattle.foyer_storage_local.proofs.LocalRuns.{close_alone, close_before}
 use Rattle.foyer_storage_local.proofs.engine.LocalEngine.close.Goals as goal
+
+pub returns-in_err-answer_step-clause-honest : goal.returns-in_err-answer_step-clause-honest
+returns-in_err-answer_step-clause-honest g c =
+    let m = meaning g.K.Code.encoding g.V.Code.encoding g.K.Code.is_encodable g.V.Code.is_encodable g.K.Code.is_decodable g.V.Code.is_decodable g.P.Properties.age in
+    let came = HasCome g.D.Disk.surely_lies g.D.Disk.faults c.args.self.now.disk c.args.self.now.disk in
+    λ known. close_alone m came c.step-closed.result c.args.self.now.core c.step-closed.new.core (g.D.Disk.byte_at c.args.self.now.disk) c.step-closed.ensures.meets
 
 pub returns-in_err-answer_step-clause-closed : goal.returns-in_err-answer_step-clause-closed
 returns-in_err-answer_step-clause-closed g c =
     let m = meaning g.K.Code.encoding g.V.Code.encoding g.K.Code.is_encodable g.V.Code.is_encodable g.K.Code.is_decodable g.V.Code.is_decodable g.P.Properties.age in
+    let came = HasCome g.D.Disk.surely_lies g.D.Disk.faults c.args.self.now.disk c.args.self.now.disk in
+    let bytes = g.D.Disk.byte_at c.args.self.now.disk in
     λ known. (
       known,
-      closes_said m c.step-closed.result c.args.self.now.core c.step-closed.new.core (g.D.Disk.byte_at c.args.self.now.disk) (c.step-closed.ensures.runs move.Close refl (g.D.Disk.byte_at c.args.self.now.disk)),
+      cause_drives m came IsClosing c.args.self.now.core c.step-closed.new.core bytes bytes (close_alone m came c.step-closed.result c.args.self.now.core c.step-closed.new.core bytes c.step-closed.ensures.meets),
     )
+
+pub returns-clause-honest : goal.returns-clause-honest
+returns-clause-honest g c =
+    let m = meaning g.K.Code.encoding g.V.Code.encoding g.K.Code.is_encodable g.V.Code.is_encodable g.K.Code.is_decodable g.V.Code.is_decodable g.P.Properties.age in
+    let came = HasCome g.D.Disk.surely_lies g.D.Disk.faults c.args.self.now.disk c.flush_queued.new.self.disk in
+    let bytes = g.D.Disk.byte_at c.args.self.now.disk in
+    λ known. close_before m came c.args.self.now.core c.step-closed.new.core c.flush_queued.new.self.core bytes bytes (g.D.Disk.byte_at c.flush_queued.new.self.disk)
+    (close_alone m came c.step-closed.result c.args.self.now.core c.step-closed.new.core bytes c.step-closed.ensures.meets) ((c.flush_queued.ensures.waited).1 known).1
 
 pub returns-clause-closed : goal.returns-clause-closed
 returns-clause-closed g c =
     let m = meaning g.K.Code.encoding g.V.Code.encoding g.K.Code.is_encodable g.V.Code.is_encodable g.K.Code.is_decodable g.V.Code.is_decodable g.P.Properties.age in
-    λ known.
+    let came = HasCome g.D.Disk.surely_lies g.D.Disk.faults c.args.self.now.disk c.flush_queued.new.self.disk in
     let bytes = g.D.Disk.byte_at c.args.self.now.disk in
-    let waited = c.flush_queued.ensures.waited known in (
+    let after = g.D.Disk.byte_at c.flush_queued.new.self.disk in
+    λ known.
+    let waited = (c.flush_queued.ensures.waited).1 known in (
       waited.0,
-      closes_more m c.args.self.now.core c.step-closed.new.core c.flush_queued.new.self.core bytes bytes (g.D.Disk.byte_at c.flush_queued.new.self.disk)
-          (closes_said m c.step-closed.result c.args.self.now.core c.step-closed.new.core bytes (c.step-closed.ensures.runs move.Close refl bytes)) waited.1,
+      cause_drives m came IsClosing c.args.self.now.core c.flush_queued.new.self.core bytes after
+          (close_before m came c.args.self.now.core c.step-closed.new.core c.flush_queued.new.self.core bytes bytes after
+          (close_alone m came c.step-closed.result c.args.self.now.core c.step-closed.new.core bytes c.step-closed.ensures.meets) waited.1),
     )
 
 pub returns-clause-rest : goal.returns-clause-rest

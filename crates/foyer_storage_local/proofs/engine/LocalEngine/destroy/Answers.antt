@@ -1,50 +1,71 @@
 use Rattle.std.proofs.Common.{◌≡◌, true, Ok, inl, inr, refl, sym, subst, rules, ◌∙◌}
 use Rattle.std.specs.Prelude.{IfErr, IsErr}
-use Rattle.foyer_core_run.specs.declared.moves.Move.TheVariants as move
-use Rattle.foyer_core_run.proofs.DestroyLemmas.{destroys_begun, destroys_if, destroys_waiting}
+use Rattle.foyer_core_run.specs.Destroys.{HasDestroyed, IsDestroying}
+use Rattle.foyer_core_run.specs.Waiting.{AllSteps}
 use Rattle.foyer_core_run.proofs.OpenedRuns.{err_weakens}
 use Rattle.foyer_core_laws.specs.Content.{meaning}
 use Rattle.foyer_storage_local.specs.EntryCalls.{IsRefusedIfClosed}
 use Rattle.foyer_storage_local.specs.StepAnswers.{is_destroy_error, is_wait_error}
 use Rattle.foyer_storage_local.proofs.LocalAnswers.{refused_not_ok, wait_destroys}
 use Rattle.foyer_storage_local.proofs.RefusedSteps.{begun_open, destroy_refused_closed}
-use Rattle.foyer_storage_local.proofs.LocalRuns.{fault_since, known_destroys, lies_more}
+use Rattle.foyer_storage_local.proofs.LocalRuns.{destroy_begun, destroy_waited, destroyed_if, fault_since, known_destroys, leads_by, lies_more}
 use Rattle.foyer_storage_local.proofs.engine.LocalEngine.destroy.Goals as goal
+
+pub returns-in_err-answer_begun-clause-honest : goal.returns-in_err-answer_begun-clause-honest
+returns-in_err-answer_begun-clause-honest g c =
+    let m = meaning g.K.Code.encoding g.V.Code.encoding g.K.Code.is_encodable g.V.Code.is_encodable g.K.Code.is_decodable g.V.Code.is_decodable g.P.Properties.age in
+    let refused : IsErr c.from_residual.result = search rules in
+    let leads = destroyed_if m g.D.Disk.is_known g.D.Disk.byte_at g.D.Disk.surely_lies g.D.Disk.faults ⊥ (c.from_residual.result ≡ Ok tt) c.args.self.now.core c.step-begun.new.core c.args.self.now.disk c.args.self.now.disk (refused_not_ok c.from_residual.result tt refused)
+    (destroy_begun m g.D.Disk.is_known g.D.Disk.byte_at g.D.Disk.surely_lies g.D.Disk.faults c.step-begun.result c.args.self.now.core c.step-begun.new.core c.args.self.now.disk c.step-begun.ensures.meets) in
+    λ known. (leads.1 known).1
 
 pub returns-in_err-answer_begun-clause-destroyed : goal.returns-in_err-answer_begun-clause-destroyed
 returns-in_err-answer_begun-clause-destroyed g c =
     let m = meaning g.K.Code.encoding g.V.Code.encoding g.K.Code.is_encodable g.V.Code.is_encodable g.K.Code.is_decodable g.V.Code.is_decodable g.P.Properties.age in
-    λ known.
-    let bytes = g.D.Disk.byte_at c.args.self.now.disk in (
-      known,
-      destroys_if m ⊥ _ c.args.self.now.core c.step-begun.new.core bytes bytes (let refused : IsErr c.from_residual.result = search rules in refused_not_ok c.from_residual.result tt refused)
-          (destroys_begun m c.step-begun.result c.args.self.now.core c.step-begun.new.core bytes (c.step-begun.ensures.runs move.DestroyBegin refl bytes)),
-    )
+    let refused : IsErr c.from_residual.result = search rules in
+    let leads = destroyed_if m g.D.Disk.is_known g.D.Disk.byte_at g.D.Disk.surely_lies g.D.Disk.faults ⊥ (c.from_residual.result ≡ Ok tt) c.args.self.now.core c.step-begun.new.core c.args.self.now.disk c.args.self.now.disk (refused_not_ok c.from_residual.result tt refused)
+    (destroy_begun m g.D.Disk.is_known g.D.Disk.byte_at g.D.Disk.surely_lies g.D.Disk.faults c.step-begun.result c.args.self.now.core c.step-begun.new.core c.args.self.now.disk c.step-begun.ensures.meets) in
+    leads_by m g.D.Disk.is_known g.D.Disk.byte_at g.D.Disk.surely_lies g.D.Disk.faults (λ events. AllSteps IsDestroying events × (c.from_residual.result ≡ Ok tt → HasDestroyed events)) c.args.self.now.core c.args.self.now.disk c.step-begun.new.core c.args.self.now.disk leads
+
+pub returns-in_err-flush_until_done-clause-honest : goal.returns-in_err-flush_until_done-clause-honest
+returns-in_err-flush_until_done-clause-honest g c =
+    let m = meaning g.K.Code.encoding g.V.Code.encoding g.K.Code.is_encodable g.V.Code.is_encodable g.K.Code.is_decodable g.V.Code.is_decodable g.P.Properties.age in
+    let refused : IsErr c.from_residual-in_err-flush_until_done.result = search rules in
+    let flushed = known_destroys m g.D.Disk.is_known g.D.Disk.byte_at g.D.Disk.surely_lies g.D.Disk.faults ⊥ ⊥ c.args.self.now.core c.step-begun.new.core c.flush_until_done.new.self.core c.args.self.now.disk c.args.self.now.disk c.flush_until_done.new.self.disk
+    (destroy_begun m g.D.Disk.is_known g.D.Disk.byte_at g.D.Disk.surely_lies g.D.Disk.faults c.step-begun.result c.args.self.now.core c.step-begun.new.core c.args.self.now.disk c.step-begun.ensures.meets)
+    (destroy_waited m g.D.Disk.is_known g.D.Disk.byte_at g.D.Disk.surely_lies g.D.Disk.faults c.step-begun.new.core c.flush_until_done.new.self.core c.args.self.now.disk c.flush_until_done.new.self.disk c.flush_until_done.ensures.waited) in
+    let leads = destroyed_if m g.D.Disk.is_known g.D.Disk.byte_at g.D.Disk.surely_lies g.D.Disk.faults ⊥ (c.from_residual-in_err-flush_until_done.result ≡ Ok tt) c.args.self.now.core c.flush_until_done.new.self.core c.args.self.now.disk c.flush_until_done.new.self.disk (refused_not_ok c.from_residual-in_err-flush_until_done.result tt refused) flushed in
+    λ known. (leads.1 known).1
 
 pub returns-in_err-flush_until_done-clause-destroyed : goal.returns-in_err-flush_until_done-clause-destroyed
 returns-in_err-flush_until_done-clause-destroyed g c =
     let m = meaning g.K.Code.encoding g.V.Code.encoding g.K.Code.is_encodable g.V.Code.is_encodable g.K.Code.is_decodable g.V.Code.is_decodable g.P.Properties.age in
-    let bytes = g.D.Disk.byte_at c.args.self.now.disk in
-    let flushed = c.flush_until_done.new.self.core in
-    let after = g.D.Disk.byte_at c.flush_until_done.new.self.disk in
-    known_destroys m ⊥ _ c.args.self.now.core c.step-begun.new.core flushed bytes bytes after
-    (λ known. (known, destroys_begun m c.step-begun.result c.args.self.now.core c.step-begun.new.core bytes (c.step-begun.ensures.runs move.DestroyBegin refl bytes)))
-    (λ known. let waited = c.flush_until_done.ensures.waited known in (
-      waited.0,
-      destroys_if m ⊥ _ c.step-begun.new.core flushed bytes after (let refused : IsErr c.from_residual-in_err-flush_until_done.result = search rules in refused_not_ok c.from_residual-in_err-flush_until_done.result tt refused) (destroys_waiting m c.step-begun.new.core flushed bytes after waited.1),
-    ))
+    let refused : IsErr c.from_residual-in_err-flush_until_done.result = search rules in
+    let flushed = known_destroys m g.D.Disk.is_known g.D.Disk.byte_at g.D.Disk.surely_lies g.D.Disk.faults ⊥ ⊥ c.args.self.now.core c.step-begun.new.core c.flush_until_done.new.self.core c.args.self.now.disk c.args.self.now.disk c.flush_until_done.new.self.disk
+    (destroy_begun m g.D.Disk.is_known g.D.Disk.byte_at g.D.Disk.surely_lies g.D.Disk.faults c.step-begun.result c.args.self.now.core c.step-begun.new.core c.args.self.now.disk c.step-begun.ensures.meets)
+    (destroy_waited m g.D.Disk.is_known g.D.Disk.byte_at g.D.Disk.surely_lies g.D.Disk.faults c.step-begun.new.core c.flush_until_done.new.self.core c.args.self.now.disk c.flush_until_done.new.self.disk c.flush_until_done.ensures.waited) in
+    let leads = destroyed_if m g.D.Disk.is_known g.D.Disk.byte_at g.D.Disk.surely_lies g.D.Disk.faults ⊥ (c.from_residual-in_err-flush_until_done.result ≡ Ok tt) c.args.self.now.core c.flush_until_done.new.self.core c.args.self.now.disk c.flush_until_done.new.self.disk (refused_not_ok c.from_residual-in_err-flush_until_done.result tt refused) flushed in
+    leads_by m g.D.Disk.is_known g.D.Disk.byte_at g.D.Disk.surely_lies g.D.Disk.faults (λ events. AllSteps IsDestroying events × (c.from_residual-in_err-flush_until_done.result ≡ Ok tt → HasDestroyed events)) c.args.self.now.core c.args.self.now.disk c.flush_until_done.new.self.core c.flush_until_done.new.self.disk leads
+
+pub returns-clause-honest : goal.returns-clause-honest
+returns-clause-honest g c =
+    let m = meaning g.K.Code.encoding g.V.Code.encoding g.K.Code.is_encodable g.V.Code.is_encodable g.K.Code.is_decodable g.V.Code.is_decodable g.P.Properties.age in
+    let flushed = known_destroys m g.D.Disk.is_known g.D.Disk.byte_at g.D.Disk.surely_lies g.D.Disk.faults ⊥ ⊥ c.args.self.now.core c.step-begun.new.core c.flush_until_done.new.self.core c.args.self.now.disk c.args.self.now.disk c.flush_until_done.new.self.disk
+    (destroy_begun m g.D.Disk.is_known g.D.Disk.byte_at g.D.Disk.surely_lies g.D.Disk.faults c.step-begun.result c.args.self.now.core c.step-begun.new.core c.args.self.now.disk c.step-begun.ensures.meets)
+    (destroy_waited m g.D.Disk.is_known g.D.Disk.byte_at g.D.Disk.surely_lies g.D.Disk.faults c.step-begun.new.core c.flush_until_done.new.self.core c.args.self.now.disk c.flush_until_done.new.self.disk c.flush_until_done.ensures.waited) in
+    let leads = known_destroys m g.D.Disk.is_known g.D.Disk.byte_at g.D.Disk.surely_lies g.D.Disk.faults ⊥ (c.clear.result ≡ Ok tt) c.args.self.now.core c.flush_until_done.new.self.core c.clear.new.self.core c.args.self.now.disk c.flush_until_done.new.self.disk c.clear.new.self.disk
+    flushed c.clear.ensures.destroyed in
+    λ known. (leads.1 known).1
 
 pub returns-clause-destroyed : goal.returns-clause-destroyed
 returns-clause-destroyed g c =
     let m = meaning g.K.Code.encoding g.V.Code.encoding g.K.Code.is_encodable g.V.Code.is_encodable g.K.Code.is_decodable g.V.Code.is_decodable g.P.Properties.age in
-    let bytes = g.D.Disk.byte_at c.args.self.now.disk in
-    let flushed = c.flush_until_done.new.self.core in
-    let after = g.D.Disk.byte_at c.flush_until_done.new.self.disk in
-    known_destroys m ⊥ (c.clear.result ≡ Ok tt) c.args.self.now.core flushed c.clear.new.self.core bytes after (g.D.Disk.byte_at c.clear.new.self.disk)
-    (known_destroys m ⊥ ⊥ c.args.self.now.core c.step-begun.new.core flushed bytes bytes after
-    (λ known. (known, destroys_begun m c.step-begun.result c.args.self.now.core c.step-begun.new.core bytes (c.step-begun.ensures.runs move.DestroyBegin refl bytes)))
-    (λ known. let waited = c.flush_until_done.ensures.waited known in (waited.0, destroys_waiting m c.step-begun.new.core flushed bytes after waited.1)))
-    c.clear.ensures.destroyed
+    let flushed = known_destroys m g.D.Disk.is_known g.D.Disk.byte_at g.D.Disk.surely_lies g.D.Disk.faults ⊥ ⊥ c.args.self.now.core c.step-begun.new.core c.flush_until_done.new.self.core c.args.self.now.disk c.args.self.now.disk c.flush_until_done.new.self.disk
+    (destroy_begun m g.D.Disk.is_known g.D.Disk.byte_at g.D.Disk.surely_lies g.D.Disk.faults c.step-begun.result c.args.self.now.core c.step-begun.new.core c.args.self.now.disk c.step-begun.ensures.meets)
+    (destroy_waited m g.D.Disk.is_known g.D.Disk.byte_at g.D.Disk.surely_lies g.D.Disk.faults c.step-begun.new.core c.flush_until_done.new.self.core c.args.self.now.disk c.flush_until_done.new.self.disk c.flush_until_done.ensures.waited) in
+    let leads = known_destroys m g.D.Disk.is_known g.D.Disk.byte_at g.D.Disk.surely_lies g.D.Disk.faults ⊥ (c.clear.result ≡ Ok tt) c.args.self.now.core c.flush_until_done.new.self.core c.clear.new.self.core c.args.self.now.disk c.flush_until_done.new.self.disk c.clear.new.self.disk
+    flushed c.clear.ensures.destroyed in
+    leads_by m g.D.Disk.is_known g.D.Disk.byte_at g.D.Disk.surely_lies g.D.Disk.faults (λ events. AllSteps IsDestroying events × (c.clear.result ≡ Ok tt → HasDestroyed events)) c.args.self.now.core c.args.self.now.disk c.clear.new.self.core c.clear.new.self.disk leads
 
 pub returns-in_err-flush_until_done-clause-lies : goal.returns-in_err-flush_until_done-clause-lies
 returns-in_err-flush_until_done-clause-lies g c = (c.flush_until_done.ensures.counts).0

@@ -1,16 +1,15 @@
 use Rattle.std.proofs.Common.{◌≡◌, ◌+◌, refl, sym, ap, subst, ◌∙◌, arith}
 use Rattle.foyer_core_run.specs.AtRest.{Leads, LeavesIdle, LeavesIdleBelow}
 use Rattle.foyer_core_run.proofs.IdleLemmas.{still_idle}
-use Rattle.foyer_storage_local.proofs.LocalRuns.{left_alone, lies_more, lies_none}
+use Rattle.foyer_storage_local.proofs.LocalRuns.{left_alone, lies_more, lies_none, waits_here, waits_on}
 use Rattle.foyer_core_run.proofs.RestLemmas.{all_idle, flusher_more, leads_none}
-use Rattle.foyer_core_run.proofs.WaitingLemmas.{known_more, known_none}
 use Rattle.foyer_core_laws.specs.Content.{meaning}
 use Rattle.foyer_storage_local.proofs.engine.LocalEngine.flush_all.Goals as goal
 
 pub loop-flusher-init : goal.loop-flusher-init
 loop-flusher-init g c =
     let m = meaning g.K.Code.encoding g.V.Code.encoding g.K.Code.is_encodable g.V.Code.is_encodable g.K.Code.is_decodable g.V.Code.is_decodable g.P.Properties.age in (
-      known_none m (g.D.Disk.is_known c.args.self.now.disk) c.args.self.now.core (g.D.Disk.byte_at c.args.self.now.disk),
+      waits_here m g.D.Disk.is_known g.D.Disk.byte_at g.D.Disk.surely_lies g.D.Disk.faults c.args.self.now.core c.args.self.now.disk,
       leads_none m (LeavesIdleBelow c.args.self.now.env.reinsertion 0) c.args.self.now.core (λ it none f below. absurd (omega (arith, below))),
       refl,
       refl,
@@ -21,12 +20,12 @@ loop-flusher-init g c =
 pub returns-in_err-flush-clause-waited : goal.returns-in_err-flush-clause-waited
 returns-in_err-flush-clause-waited g c =
     let m = meaning g.K.Code.encoding g.V.Code.encoding g.K.Code.is_encodable g.V.Code.is_encodable g.K.Code.is_decodable g.V.Code.is_decodable g.P.Properties.age in
-    known_more m c.args.self.now.core c.loop-flusher.self.core c.flush.new.self.core (g.D.Disk.byte_at c.args.self.now.disk) (g.D.Disk.byte_at c.loop-flusher.self.disk) (g.D.Disk.byte_at c.flush.new.self.disk) c.loop-flusher.invariant.0 (c.flush.ensures.waited)
+    waits_on m g.D.Disk.is_known g.D.Disk.byte_at g.D.Disk.surely_lies g.D.Disk.faults c.args.self.now.core c.loop-flusher.self.core c.flush.new.self.core c.args.self.now.disk c.loop-flusher.self.disk c.flush.new.self.disk c.loop-flusher.invariant.0 (c.flush.ensures.waited)
 
 pub loop-flusher-preserved : goal.loop-flusher-preserved
 loop-flusher-preserved g c =
     let m = meaning g.K.Code.encoding g.V.Code.encoding g.K.Code.is_encodable g.V.Code.is_encodable g.K.Code.is_decodable g.V.Code.is_decodable g.P.Properties.age in (
-      known_more m c.args.self.now.core c.loop-flusher.self.core c.flush.new.self.core (g.D.Disk.byte_at c.args.self.now.disk) (g.D.Disk.byte_at c.loop-flusher.self.disk) (g.D.Disk.byte_at c.flush.new.self.disk) c.loop-flusher.invariant.0 (c.flush.ensures.waited),
+      waits_on m g.D.Disk.is_known g.D.Disk.byte_at g.D.Disk.surely_lies g.D.Disk.faults c.args.self.now.core c.loop-flusher.self.core c.flush.new.self.core c.args.self.now.disk c.loop-flusher.self.disk c.flush.new.self.disk c.loop-flusher.invariant.0 (c.flush.ensures.waited),
       flusher_more m c.loop-flusher.flusher c.args.self.now.core c.loop-flusher.self.core c.flush.new.self.core c.args.self.now.env.reinsertion (c.loop-flusher.flusher + 1) refl c.loop-flusher.invariant.1
           (subst (λ k. Leads m (LeavesIdle k c.loop-flusher.flusher) c.loop-flusher.self.core c.flush.new.self.core) c.loop-flusher.invariant.2 c.in_ok-flush.ensures.leads),
       c.flush.ensures.lent ∙ c.loop-flusher.invariant.2,

@@ -1,18 +1,17 @@
 use Rattle.std.proofs.Common.{refl, sym, ◌∙◌}
 use Rattle.foyer_core_run.specs.AtRest.{BeginsNone}
-use Rattle.foyer_core_run.specs.declared.moves.Move.TheVariants as move
+use Rattle.foyer_core_steps.specs.declared.step.Step.TheVariants as step
 use Rattle.foyer_core_run.proofs.FlusherSteps.{begins_none_same}
 use Rattle.foyer_core_run.proofs.RestLemmas.{leads_none, receive_more, receive_over, takes_all, takes_some}
-use Rattle.foyer_core_run.proofs.WaitingLemmas.{known_more, known_none, known_said}
 use Rattle.foyer_core_laws.specs.Content.{meaning}
 use Rattle.foyer_storage_local.proofs.LocalAnswers.{done_nothing}
-use Rattle.foyer_storage_local.proofs.LocalRuns.{lies_none}
+use Rattle.foyer_storage_local.proofs.LocalRuns.{lies_none, waits_here, waits_on, waits_stepped}
 use Rattle.foyer_storage_local.proofs.engine.LocalEngine.receive_all.Goals as goal
 
 pub loop-init : goal.loop-init
 loop-init g c =
     let m = meaning g.K.Code.encoding g.V.Code.encoding g.K.Code.is_encodable g.V.Code.is_encodable g.K.Code.is_decodable g.V.Code.is_decodable g.P.Properties.age in (
-      known_none m (g.D.Disk.is_known c.args.self.now.disk) c.args.self.now.core (g.D.Disk.byte_at c.args.self.now.disk),
+      waits_here m g.D.Disk.is_known g.D.Disk.byte_at g.D.Disk.surely_lies g.D.Disk.faults c.args.self.now.core c.args.self.now.disk,
       leads_none m (BeginsNone c.args.flusher) c.args.self.now.core (λ it. begins_none_same c.args.flusher it it refl),
       refl,
       refl,
@@ -23,7 +22,7 @@ loop-init g c =
 pub returns-in_err-answer_step-clause-waited : goal.returns-in_err-answer_step-clause-waited
 returns-in_err-answer_step-clause-waited g c =
     let m = meaning g.K.Code.encoding g.V.Code.encoding g.K.Code.is_encodable g.V.Code.is_encodable g.K.Code.is_decodable g.V.Code.is_decodable g.P.Properties.age in
-    known_more m c.args.self.now.core c.loop.self.core c.step-received.new.core (g.D.Disk.byte_at c.args.self.now.disk) (g.D.Disk.byte_at c.loop.self.disk) (g.D.Disk.byte_at c.loop.self.disk) c.loop.invariant.0 (known_said m (g.D.Disk.is_known c.loop.self.disk) (move.Receive c.args.flusher) c.step-received.result c.loop.self.core c.step-received.new.core (g.D.Disk.byte_at c.loop.self.disk) tt (c.step-received.ensures.runs (move.Receive c.args.flusher) refl (g.D.Disk.byte_at c.loop.self.disk)))
+    waits_on m g.D.Disk.is_known g.D.Disk.byte_at g.D.Disk.surely_lies g.D.Disk.faults c.args.self.now.core c.loop.self.core c.step-received.new.core c.args.self.now.disk c.loop.self.disk c.loop.self.disk c.loop.invariant.0 (waits_stepped m g.D.Disk.is_known g.D.Disk.byte_at g.D.Disk.surely_lies g.D.Disk.faults (step.Receive c.args.flusher) c.step-received.result c.loop.self.core c.step-received.new.core c.loop.self.disk (λ s sound w. tt) tt c.step-received.ensures.meets)
 
 pub returns-then-not-branch-clause-leads : goal.returns-then-not-branch-clause-leads
 returns-then-not-branch-clause-leads g c =
@@ -42,17 +41,17 @@ returns-then-wants_flush-clause-leads g c =
 pub returns-then-wants_flush-clause-waited : goal.returns-then-wants_flush-clause-waited
 returns-then-wants_flush-clause-waited g c =
     let m = meaning g.K.Code.encoding g.V.Code.encoding g.K.Code.is_encodable g.V.Code.is_encodable g.K.Code.is_decodable g.V.Code.is_decodable g.P.Properties.age in
-    known_more m c.args.self.now.core c.loop.self.core c.step-received.new.core (g.D.Disk.byte_at c.args.self.now.disk) (g.D.Disk.byte_at c.loop.self.disk) (g.D.Disk.byte_at c.loop.self.disk) c.loop.invariant.0 (known_said m (g.D.Disk.is_known c.loop.self.disk) (move.Receive c.args.flusher) c.step-received.result c.loop.self.core c.step-received.new.core (g.D.Disk.byte_at c.loop.self.disk) tt (c.step-received.ensures.runs (move.Receive c.args.flusher) refl (g.D.Disk.byte_at c.loop.self.disk)))
+    waits_on m g.D.Disk.is_known g.D.Disk.byte_at g.D.Disk.surely_lies g.D.Disk.faults c.args.self.now.core c.loop.self.core c.step-received.new.core c.args.self.now.disk c.loop.self.disk c.loop.self.disk c.loop.invariant.0 (waits_stepped m g.D.Disk.is_known g.D.Disk.byte_at g.D.Disk.surely_lies g.D.Disk.faults (step.Receive c.args.flusher) c.step-received.result c.loop.self.core c.step-received.new.core c.loop.self.disk (λ s sound w. tt) tt c.step-received.ensures.meets)
 
 pub returns-then-not-branch-clause-waited : goal.returns-then-not-branch-clause-waited
 returns-then-not-branch-clause-waited g c =
     let m = meaning g.K.Code.encoding g.V.Code.encoding g.K.Code.is_encodable g.V.Code.is_encodable g.K.Code.is_decodable g.V.Code.is_decodable g.P.Properties.age in
-    known_more m c.args.self.now.core c.loop.self.core c.step-received.new.core (g.D.Disk.byte_at c.args.self.now.disk) (g.D.Disk.byte_at c.loop.self.disk) (g.D.Disk.byte_at c.loop.self.disk) c.loop.invariant.0 (known_said m (g.D.Disk.is_known c.loop.self.disk) (move.Receive c.args.flusher) c.step-received.result c.loop.self.core c.step-received.new.core (g.D.Disk.byte_at c.loop.self.disk) tt (c.step-received.ensures.runs (move.Receive c.args.flusher) refl (g.D.Disk.byte_at c.loop.self.disk)))
+    waits_on m g.D.Disk.is_known g.D.Disk.byte_at g.D.Disk.surely_lies g.D.Disk.faults c.args.self.now.core c.loop.self.core c.step-received.new.core c.args.self.now.disk c.loop.self.disk c.loop.self.disk c.loop.invariant.0 (waits_stepped m g.D.Disk.is_known g.D.Disk.byte_at g.D.Disk.surely_lies g.D.Disk.faults (step.Receive c.args.flusher) c.step-received.result c.loop.self.core c.step-received.new.core c.loop.self.disk (λ s sound w. tt) tt c.step-received.ensures.meets)
 
 pub loop-preserved : goal.loop-preserved
 loop-preserved g c =
     let m = meaning g.K.Code.encoding g.V.Code.encoding g.K.Code.is_encodable g.V.Code.is_encodable g.K.Code.is_decodable g.V.Code.is_decodable g.P.Properties.age in (
-      known_more m c.args.self.now.core c.loop.self.core c.step-received.new.core (g.D.Disk.byte_at c.args.self.now.disk) (g.D.Disk.byte_at c.loop.self.disk) (g.D.Disk.byte_at c.loop.self.disk) c.loop.invariant.0 (known_said m (g.D.Disk.is_known c.loop.self.disk) (move.Receive c.args.flusher) c.step-received.result c.loop.self.core c.step-received.new.core (g.D.Disk.byte_at c.loop.self.disk) tt (c.step-received.ensures.runs (move.Receive c.args.flusher) refl (g.D.Disk.byte_at c.loop.self.disk))),
+      waits_on m g.D.Disk.is_known g.D.Disk.byte_at g.D.Disk.surely_lies g.D.Disk.faults c.args.self.now.core c.loop.self.core c.step-received.new.core c.args.self.now.disk c.loop.self.disk c.loop.self.disk c.loop.invariant.0 (waits_stepped m g.D.Disk.is_known g.D.Disk.byte_at g.D.Disk.surely_lies g.D.Disk.faults (step.Receive c.args.flusher) c.step-received.result c.loop.self.core c.step-received.new.core c.loop.self.disk (λ s sound w. tt) tt c.step-received.ensures.meets),
       receive_more m c.args.flusher c.args.self.now.core c.loop.self.core c.step-received.new.core c.step-received.result c.loop.invariant.1 c.step-received.ensures.meets,
       c.step-received.ensures.lent.0 ∙ c.loop.invariant.2,
       c.step-received.ensures.lent.1 ∙ c.loop.invariant.3,

@@ -1,20 +1,19 @@
 use Rattle.std.proofs.Common.{refl, ◌∙◌}
 use Rattle.foyer_core_run.specs.AtRest.{LeavesAllIdle, Without}
 use Rattle.foyer_core_run.proofs.RestLemmas.{any_none}
-use Rattle.foyer_core_run.proofs.WaitingLemmas.{known_more, known_none}
 use Rattle.foyer_core_laws.specs.Content.{meaning}
-use Rattle.foyer_storage_local.proofs.LocalRuns.{any_then, led_to_rest, lies_more, lies_none}
+use Rattle.foyer_storage_local.proofs.LocalRuns.{any_then, led_to_rest, lies_more, lies_none, waits_here, waits_on}
 use Rattle.foyer_storage_local.proofs.engine.LocalEngine.settle.Goals as goal
 
 pub loop-init : goal.loop-init
 loop-init g c =
     let m = meaning g.K.Code.encoding g.V.Code.encoding g.K.Code.is_encodable g.V.Code.is_encodable g.K.Code.is_decodable g.V.Code.is_decodable g.P.Properties.age in
-    (known_none m (g.D.Disk.is_known c.args.self.now.disk) c.args.self.now.core (g.D.Disk.byte_at c.args.self.now.disk), any_none m c.args.self.now.core, refl, refl, refl, lies_none g.D.Disk.surely_lies g.D.Disk.faults c.args.self.now.disk)
+    (waits_here m g.D.Disk.is_known g.D.Disk.byte_at g.D.Disk.surely_lies g.D.Disk.faults c.args.self.now.core c.args.self.now.disk, any_none m c.args.self.now.core, refl, refl, refl, lies_none g.D.Disk.surely_lies g.D.Disk.faults c.args.self.now.disk)
 
 pub returns-in_err-flush_all-clause-waited : goal.returns-in_err-flush_all-clause-waited
 returns-in_err-flush_all-clause-waited g c =
     let m = meaning g.K.Code.encoding g.V.Code.encoding g.K.Code.is_encodable g.V.Code.is_encodable g.K.Code.is_decodable g.V.Code.is_decodable g.P.Properties.age in
-    known_more m c.args.self.now.core c.loop.self.core c.flush_all.new.self.core (g.D.Disk.byte_at c.args.self.now.disk) (g.D.Disk.byte_at c.loop.self.disk) (g.D.Disk.byte_at c.flush_all.new.self.disk) c.loop.invariant.0 c.flush_all.ensures.waited
+    waits_on m g.D.Disk.is_known g.D.Disk.byte_at g.D.Disk.surely_lies g.D.Disk.faults c.args.self.now.core c.loop.self.core c.flush_all.new.self.core c.args.self.now.disk c.loop.self.disk c.flush_all.new.self.disk c.loop.invariant.0 c.flush_all.ensures.waited
 
 pub returns-in_err-flush_all-clause-lent : goal.returns-in_err-flush_all-clause-lent
 returns-in_err-flush_all-clause-lent g c = (c.flush_all.ensures.lent ∙ c.loop.invariant.2, c.flush_all.ensures.io ∙ c.loop.invariant.3)
@@ -29,12 +28,12 @@ returns-then-is_at_rest-clause-leads g c =
 pub returns-then-is_at_rest-clause-waited : goal.returns-then-is_at_rest-clause-waited
 returns-then-is_at_rest-clause-waited g c =
     let m = meaning g.K.Code.encoding g.V.Code.encoding g.K.Code.is_encodable g.V.Code.is_encodable g.K.Code.is_decodable g.V.Code.is_decodable g.P.Properties.age in
-    known_more m c.args.self.now.core c.loop.self.core c.flush_all.new.self.core (g.D.Disk.byte_at c.args.self.now.disk) (g.D.Disk.byte_at c.loop.self.disk) (g.D.Disk.byte_at c.flush_all.new.self.disk) c.loop.invariant.0 c.flush_all.ensures.waited
+    waits_on m g.D.Disk.is_known g.D.Disk.byte_at g.D.Disk.surely_lies g.D.Disk.faults c.args.self.now.core c.loop.self.core c.flush_all.new.self.core c.args.self.now.disk c.loop.self.disk c.flush_all.new.self.disk c.loop.invariant.0 c.flush_all.ensures.waited
 
 pub loop-preserved : goal.loop-preserved
 loop-preserved g c =
     let m = meaning g.K.Code.encoding g.V.Code.encoding g.K.Code.is_encodable g.V.Code.is_encodable g.K.Code.is_decodable g.V.Code.is_decodable g.P.Properties.age in (
-      known_more m c.args.self.now.core c.loop.self.core c.flush_all.new.self.core (g.D.Disk.byte_at c.args.self.now.disk) (g.D.Disk.byte_at c.loop.self.disk) (g.D.Disk.byte_at c.flush_all.new.self.disk) c.loop.invariant.0 c.flush_all.ensures.waited,
+      waits_on m g.D.Disk.is_known g.D.Disk.byte_at g.D.Disk.surely_lies g.D.Disk.faults c.args.self.now.core c.loop.self.core c.flush_all.new.self.core c.args.self.now.disk c.loop.self.disk c.flush_all.new.self.disk c.loop.invariant.0 c.flush_all.ensures.waited,
       any_then m (Without c.loop.self.env.reinsertion LeavesAllIdle) c.args.self.now.core c.loop.self.core c.flush_all.new.self.core c.loop.invariant.1 c.in_ok-flush_all.ensures.leads,
       c.flush_all.ensures.lent ∙ c.loop.invariant.2,
       c.flush_all.ensures.io ∙ c.loop.invariant.3,

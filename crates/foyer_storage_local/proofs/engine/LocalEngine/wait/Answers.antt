@@ -1,18 +1,25 @@
 use Rattle.std.proofs.Common.{refl, ◌∙◌}
-use Rattle.foyer_core_run.proofs.WaitingLemmas.{known_more, known_none}
+use Rattle.foyer_core_run.specs.Waiting.{AllSteps, IsWaiting}
 use Rattle.foyer_core_laws.specs.Content.{meaning}
-use Rattle.foyer_storage_local.proofs.LocalRuns.{lies_more, lies_none, rests}
+use Rattle.foyer_storage_local.proofs.LocalRuns.{leads_by, lies_more, lies_none, rests, waits_here, waits_on}
 use Rattle.foyer_storage_local.proofs.engine.LocalEngine.wait.Goals as goal
 
 pub loop-init : goal.loop-init
 loop-init g c =
     let m = meaning g.K.Code.encoding g.V.Code.encoding g.K.Code.is_encodable g.V.Code.is_encodable g.K.Code.is_decodable g.V.Code.is_decodable g.P.Properties.age in
-    (known_none m (g.D.Disk.is_known c.args.self.now.disk) c.args.self.now.core (g.D.Disk.byte_at c.args.self.now.disk), refl, refl, refl, lies_none g.D.Disk.surely_lies g.D.Disk.faults c.args.self.now.disk)
+    (waits_here m g.D.Disk.is_known g.D.Disk.byte_at g.D.Disk.surely_lies g.D.Disk.faults c.args.self.now.core c.args.self.now.disk, refl, refl, refl, lies_none g.D.Disk.surely_lies g.D.Disk.faults c.args.self.now.disk)
+
+pub returns-in_err-settle-clause-honest : goal.returns-in_err-settle-clause-honest
+returns-in_err-settle-clause-honest g c =
+    let m = meaning g.K.Code.encoding g.V.Code.encoding g.K.Code.is_encodable g.V.Code.is_encodable g.K.Code.is_decodable g.V.Code.is_decodable g.P.Properties.age in
+    let waits = waits_on m g.D.Disk.is_known g.D.Disk.byte_at g.D.Disk.surely_lies g.D.Disk.faults c.args.self.now.core c.loop.self.core c.settle.new.self.core c.args.self.now.disk c.loop.self.disk c.settle.new.self.disk c.loop.invariant.0 c.settle.ensures.waited in
+    λ known. (waits.1 known).1
 
 pub returns-in_err-settle-clause-waited : goal.returns-in_err-settle-clause-waited
 returns-in_err-settle-clause-waited g c =
     let m = meaning g.K.Code.encoding g.V.Code.encoding g.K.Code.is_encodable g.V.Code.is_encodable g.K.Code.is_decodable g.V.Code.is_decodable g.P.Properties.age in
-    known_more m c.args.self.now.core c.loop.self.core c.settle.new.self.core (g.D.Disk.byte_at c.args.self.now.disk) (g.D.Disk.byte_at c.loop.self.disk) (g.D.Disk.byte_at c.settle.new.self.disk) c.loop.invariant.0 c.settle.ensures.waited
+    let waits = waits_on m g.D.Disk.is_known g.D.Disk.byte_at g.D.Disk.surely_lies g.D.Disk.faults c.args.self.now.core c.loop.self.core c.settle.new.self.core c.args.self.now.disk c.loop.self.disk c.settle.new.self.disk c.loop.invariant.0 c.settle.ensures.waited in
+    leads_by m g.D.Disk.is_known g.D.Disk.byte_at g.D.Disk.surely_lies g.D.Disk.faults (AllSteps IsWaiting) c.args.self.now.core c.args.self.now.disk c.settle.new.self.core c.settle.new.self.disk waits
 
 pub returns-in_err-settle-clause-lent : goal.returns-in_err-settle-clause-lent
 returns-in_err-settle-clause-lent g c = (c.settle.ensures.lent.0 ∙ c.loop.invariant.1, c.settle.ensures.lent.1 ∙ c.loop.invariant.2)
@@ -22,25 +29,38 @@ returns-then-is_at_rest-clause-rest g c =
     let m = meaning g.K.Code.encoding g.V.Code.encoding g.K.Code.is_encodable g.V.Code.is_encodable g.K.Code.is_decodable g.V.Code.is_decodable g.P.Properties.age in
     rests m c.args.self.now.core c.keep_clean.new.self.core (c.is_at_rest.ensures c.if-is_at_rest.true)
 
+pub returns-then-is_at_rest-clause-honest : goal.returns-then-is_at_rest-clause-honest
+returns-then-is_at_rest-clause-honest g c =
+    let m = meaning g.K.Code.encoding g.V.Code.encoding g.K.Code.is_encodable g.V.Code.is_encodable g.K.Code.is_decodable g.V.Code.is_decodable g.P.Properties.age in
+    let settled = waits_on m g.D.Disk.is_known g.D.Disk.byte_at g.D.Disk.surely_lies g.D.Disk.faults c.args.self.now.core c.loop.self.core c.settle.new.self.core c.args.self.now.disk c.loop.self.disk c.settle.new.self.disk c.loop.invariant.0 c.settle.ensures.waited in
+    let waits = waits_on m g.D.Disk.is_known g.D.Disk.byte_at g.D.Disk.surely_lies g.D.Disk.faults c.args.self.now.core c.settle.new.self.core c.keep_clean.new.self.core c.args.self.now.disk c.settle.new.self.disk c.keep_clean.new.self.disk settled c.keep_clean.ensures.waited in
+    λ known. (waits.1 known).1
+
 pub returns-then-is_at_rest-clause-waited : goal.returns-then-is_at_rest-clause-waited
 returns-then-is_at_rest-clause-waited g c =
     let m = meaning g.K.Code.encoding g.V.Code.encoding g.K.Code.is_encodable g.V.Code.is_encodable g.K.Code.is_decodable g.V.Code.is_decodable g.P.Properties.age in
-    let settled = known_more m c.args.self.now.core c.loop.self.core c.settle.new.self.core (g.D.Disk.byte_at c.args.self.now.disk) (g.D.Disk.byte_at c.loop.self.disk) (g.D.Disk.byte_at c.settle.new.self.disk) c.loop.invariant.0 c.settle.ensures.waited in
-    known_more m c.args.self.now.core c.settle.new.self.core c.keep_clean.new.self.core (g.D.Disk.byte_at c.args.self.now.disk) (g.D.Disk.byte_at c.settle.new.self.disk) (g.D.Disk.byte_at c.keep_clean.new.self.disk) settled c.keep_clean.ensures.waited
+    let settled = waits_on m g.D.Disk.is_known g.D.Disk.byte_at g.D.Disk.surely_lies g.D.Disk.faults c.args.self.now.core c.loop.self.core c.settle.new.self.core c.args.self.now.disk c.loop.self.disk c.settle.new.self.disk c.loop.invariant.0 c.settle.ensures.waited in
+    let waits = waits_on m g.D.Disk.is_known g.D.Disk.byte_at g.D.Disk.surely_lies g.D.Disk.faults c.args.self.now.core c.settle.new.self.core c.keep_clean.new.self.core c.args.self.now.disk c.settle.new.self.disk c.keep_clean.new.self.disk settled c.keep_clean.ensures.waited in
+    leads_by m g.D.Disk.is_known g.D.Disk.byte_at g.D.Disk.surely_lies g.D.Disk.faults (AllSteps IsWaiting) c.args.self.now.core c.args.self.now.disk c.keep_clean.new.self.core c.keep_clean.new.self.disk waits
 
 pub loop-preserved : goal.loop-preserved
 loop-preserved g c =
     let m = meaning g.K.Code.encoding g.V.Code.encoding g.K.Code.is_encodable g.V.Code.is_encodable g.K.Code.is_decodable g.V.Code.is_decodable g.P.Properties.age in
-    let settled = known_more m c.args.self.now.core c.loop.self.core c.settle.new.self.core (g.D.Disk.byte_at c.args.self.now.disk) (g.D.Disk.byte_at c.loop.self.disk) (g.D.Disk.byte_at c.settle.new.self.disk) c.loop.invariant.0 c.settle.ensures.waited in (
-      known_more m c.args.self.now.core c.settle.new.self.core c.keep_clean.new.self.core (g.D.Disk.byte_at c.args.self.now.disk) (g.D.Disk.byte_at c.settle.new.self.disk) (g.D.Disk.byte_at c.keep_clean.new.self.disk) settled c.keep_clean.ensures.waited,
+    let settled = waits_on m g.D.Disk.is_known g.D.Disk.byte_at g.D.Disk.surely_lies g.D.Disk.faults c.args.self.now.core c.loop.self.core c.settle.new.self.core c.args.self.now.disk c.loop.self.disk c.settle.new.self.disk c.loop.invariant.0 c.settle.ensures.waited in (
+      waits_on m g.D.Disk.is_known g.D.Disk.byte_at g.D.Disk.surely_lies g.D.Disk.faults c.args.self.now.core c.settle.new.self.core c.keep_clean.new.self.core c.args.self.now.disk c.settle.new.self.disk c.keep_clean.new.self.disk settled c.keep_clean.ensures.waited,
       c.keep_clean.ensures.lent.0 ∙ c.settle.ensures.lent.0 ∙ c.loop.invariant.1,
       c.keep_clean.ensures.lent.1 ∙ c.settle.ensures.lent.1 ∙ c.loop.invariant.2,
       c.keep_clean.ensures.hasher ∙ c.settle.ensures.hasher ∙ c.loop.invariant.3,
       lies_more g.D.Disk.surely_lies g.D.Disk.faults c.args.self.now.disk c.settle.new.self.disk c.keep_clean.new.self.disk (lies_more g.D.Disk.surely_lies g.D.Disk.faults c.args.self.now.disk c.loop.self.disk c.settle.new.self.disk c.loop.invariant.4 c.settle.ensures.counts) c.keep_clean.ensures.counts,
     )
 
+pub returns-clause-honest : goal.returns-clause-honest
+returns-clause-honest g c = λ known. ((c.loop.invariant.0).1 known).1
+
 pub returns-clause-waited : goal.returns-clause-waited
-returns-clause-waited g c = c.loop.invariant.0
+returns-clause-waited g c =
+    let m = meaning g.K.Code.encoding g.V.Code.encoding g.K.Code.is_encodable g.V.Code.is_encodable g.K.Code.is_decodable g.V.Code.is_decodable g.P.Properties.age in
+    leads_by m g.D.Disk.is_known g.D.Disk.byte_at g.D.Disk.surely_lies g.D.Disk.faults (AllSteps IsWaiting) c.args.self.now.core c.args.self.now.disk c.loop.self.core c.loop.self.disk c.loop.invariant.0
 
 pub returns-then-is_at_rest-clause-lent : goal.returns-then-is_at_rest-clause-lent
 returns-then-is_at_rest-clause-lent g c = (

@@ -1,15 +1,14 @@
 use Rattle.std.proofs.Common.{refl, ◌∙◌}
 use Rattle.foyer_core_run.specs.AtRest.{KeepsOthersIdle}
 use Rattle.foyer_core_run.proofs.RestLemmas.{leads_none}
-use Rattle.foyer_core_run.proofs.WaitingLemmas.{known_more, known_none}
 use Rattle.foyer_core_laws.specs.Content.{meaning}
-use Rattle.foyer_storage_local.proofs.LocalRuns.{lies_more, lies_none, others_more}
+use Rattle.foyer_storage_local.proofs.LocalRuns.{lies_more, lies_none, others_more, waits_here, waits_on}
 use Rattle.foyer_storage_local.proofs.engine.LocalEngine.write_all.Goals as goal
 
 pub loop-init : goal.loop-init
 loop-init g c =
     let m = meaning g.K.Code.encoding g.V.Code.encoding g.K.Code.is_encodable g.V.Code.is_encodable g.K.Code.is_decodable g.V.Code.is_decodable g.P.Properties.age in (
-      known_none m (g.D.Disk.is_known c.args.self.now.disk) c.args.self.now.core (g.D.Disk.byte_at c.args.self.now.disk),
+      waits_here m g.D.Disk.is_known g.D.Disk.byte_at g.D.Disk.surely_lies g.D.Disk.faults c.args.self.now.core c.args.self.now.disk,
       leads_none m (KeepsOthersIdle c.args.self.now.env.reinsertion c.args.flusher) c.args.self.now.core (λ it none f ne idle. idle),
       refl,
       refl,
@@ -20,7 +19,7 @@ loop-init g c =
 pub returns-in_err-write_next-clause-waited : goal.returns-in_err-write_next-clause-waited
 returns-in_err-write_next-clause-waited g c =
     let m = meaning g.K.Code.encoding g.V.Code.encoding g.K.Code.is_encodable g.V.Code.is_encodable g.K.Code.is_decodable g.V.Code.is_decodable g.P.Properties.age in
-    known_more m c.args.self.now.core c.loop.self.core c.write_next.new.self.core (g.D.Disk.byte_at c.args.self.now.disk) (g.D.Disk.byte_at c.loop.self.disk) (g.D.Disk.byte_at c.write_next.new.self.disk) c.loop.invariant.0 c.write_next.ensures.waited
+    waits_on m g.D.Disk.is_known g.D.Disk.byte_at g.D.Disk.surely_lies g.D.Disk.faults c.args.self.now.core c.loop.self.core c.write_next.new.self.core c.args.self.now.disk c.loop.self.disk c.write_next.new.self.disk c.loop.invariant.0 c.write_next.ensures.waited
 
 pub returns-then-not-branch-clause-leads : goal.returns-then-not-branch-clause-leads
 returns-then-not-branch-clause-leads g c =
@@ -30,12 +29,12 @@ returns-then-not-branch-clause-leads g c =
 pub returns-then-not-branch-clause-waited : goal.returns-then-not-branch-clause-waited
 returns-then-not-branch-clause-waited g c =
     let m = meaning g.K.Code.encoding g.V.Code.encoding g.K.Code.is_encodable g.V.Code.is_encodable g.K.Code.is_decodable g.V.Code.is_decodable g.P.Properties.age in
-    known_more m c.args.self.now.core c.loop.self.core c.write_next.new.self.core (g.D.Disk.byte_at c.args.self.now.disk) (g.D.Disk.byte_at c.loop.self.disk) (g.D.Disk.byte_at c.write_next.new.self.disk) c.loop.invariant.0 c.write_next.ensures.waited
+    waits_on m g.D.Disk.is_known g.D.Disk.byte_at g.D.Disk.surely_lies g.D.Disk.faults c.args.self.now.core c.loop.self.core c.write_next.new.self.core c.args.self.now.disk c.loop.self.disk c.write_next.new.self.disk c.loop.invariant.0 c.write_next.ensures.waited
 
 pub loop-preserved : goal.loop-preserved
 loop-preserved g c =
     let m = meaning g.K.Code.encoding g.V.Code.encoding g.K.Code.is_encodable g.V.Code.is_encodable g.K.Code.is_decodable g.V.Code.is_decodable g.P.Properties.age in (
-      known_more m c.args.self.now.core c.loop.self.core c.write_next.new.self.core (g.D.Disk.byte_at c.args.self.now.disk) (g.D.Disk.byte_at c.loop.self.disk) (g.D.Disk.byte_at c.write_next.new.self.disk) c.loop.invariant.0 c.write_next.ensures.waited,
+      waits_on m g.D.Disk.is_known g.D.Disk.byte_at g.D.Disk.surely_lies g.D.Disk.faults c.args.self.now.core c.loop.self.core c.write_next.new.self.core c.args.self.now.disk c.loop.self.disk c.write_next.new.self.disk c.loop.invariant.0 c.write_next.ensures.waited,
       others_more m c.args.self.now.env.reinsertion c.loop.self.env.reinsertion c.loop.invariant.2 c.args.flusher c.args.self.now.core c.loop.self.core c.write_next.new.self.core c.loop.invariant.1 c.write_next.ensures.leads,
       c.write_next.ensures.lent ∙ c.loop.invariant.2,
       c.write_next.ensures.io ∙ c.loop.invariant.3,

@@ -4,8 +4,9 @@ use Rattle.foyer_core_laws.specs.Content.{Content, meaning}
 use Rattle.foyer_core_laws.specs.Sizes.{AreValid}
 use Rattle.foyer_core_steps.specs.StateOf.{IsStateOf}
 use Rattle.foyer_core_laws.specs.declared.settings.Settings.{Settings}
+use Rattle.foyer_core_run.specs.Causes.{HasCome}
 use Rattle.foyer_core_run.proofs.RunLemmas.{IsGoing}
-use Rattle.foyer_core_run.proofs.moves.run.Given as goal
+use Rattle.foyer_core_run.proofs.moves.run_noted.Given as goal
 
 abbrev pub invariant-loop-x : goal.invariant-loop-x
 invariant-loop-x g l = record {
@@ -17,6 +18,6 @@ invariant-loop-x g l = record {
   going : g.D.Disk.is_known l.fn.disk → (s : Settings) (sound : AreValid s) (w : World Content)
       → IsStateOf (meaning g.K.Code.encoding g.V.Code.encoding g.K.Code.is_encodable g.V.Code.is_encodable g.K.Code.is_decodable g.V.Code.is_decodable g.P.Properties.age) s l.fn.core w.core
       → ((b o : ℕ) → w.bytes b o ≡ g.D.Disk.byte_at l.fn.disk b o)
-      → IsGoing (meaning g.K.Code.encoding g.V.Code.encoding g.K.Code.is_encodable g.V.Code.is_encodable g.K.Code.is_decodable g.V.Code.is_decodable g.P.Properties.age) s sound w
-      l.yielded l.kept.tickets.items l.kept.issued.items l.kept.scans.items l.kept.cleans.items l.kept.replies.items l.core (g.D.Disk.byte_at l.disk);
+      → IsGoing (meaning g.K.Code.encoding g.V.Code.encoding g.K.Code.is_encodable g.V.Code.is_encodable g.K.Code.is_decodable g.V.Code.is_decodable g.P.Properties.age) s sound
+      (HasCome g.D.Disk.surely_lies g.D.Disk.faults l.fn.disk l.disk) l.kept.has_failed w l.yielded l.kept.tickets.items l.kept.issued.items l.kept.scans.items l.kept.cleans.items l.kept.replies.items l.core (g.D.Disk.byte_at l.disk);
 }

@@ -1,0 +1,2 @@
+pub mod RightLemmas
+pub mod ChronicleSteps

@@ -1,0 +1,185 @@
+//! One history of the events of all threads, which stands in the proofs alone. Each thread has seen a beginning of it, and has
+//! rights: an event that takes a right comes only from the thread that has it.
+#![tactic(auto)]
+
+ghost use Rattle.std.specs.Prelude.{◌≡◌, ℕ, Bool, List, [], ◌∷◌, IfOk};
+ghost use Rattle.foyer_core_chronicle.specs.Rights.{AreRights};
+ghost use Rattle.foyer_core_chronicle.specs.SharedHistory.{MayCome, HasRights, GoesOnBy, SeesAll, newcomer, viewer, joined, without_first, with_first};
+
+use atomic_table::{Join, Play, Seat, Split, Table, TableRule};
+use std::alloc::{AllocError, Global};
+use std::collections::LinkedList;
+use std::marker::PhantomData;
+
+#[cfg(test)]
+mod tests;
+
+/// What may happen, and which rights it takes.
+pub trait HistoryRule<E> {
+    // What holds of the history between any two events.
+    ghost holds: { List E → Type 0 };
+
+    // Whether an event takes the right of a number.
+    ghost takes: { E → ℕ → Bool };
+
+    // Whether an event makes a right, of the next number.
+    ghost makes: { E → Bool };
+
+    // The number of the first right that is made.
+    ghost base: { ℕ };
+
+    // The rights that there are from the start.
+    ghost first: { List ℕ };
+}
+
+/// What a thread has seen and the rights that it has, and the same of a witness that it took in. No value of this type is made.
+pub struct View<E> {
+    pub seen: LinkedList<E>,
+    pub has: LinkedList<u64>,
+    pub joined_seen: LinkedList<E>,
+    pub joined_has: LinkedList<u64>,
+}
+
+/// A thread's view of the history, of no bytes.
+pub type Witness<E> = Seat<E, View<E>>;
+
+/// The rule of the table that has the history.
+pub struct OneHistory<R> {
+    rule: PhantomData<R>,
+}
+
+impl<E, R: HistoryRule<E>> TableRule<E, View<E>, ()> for OneHistory<R> {
+    ghost use Rattle.foyer_core_chronicle.specs.SharedHistory.{ChronicleInvariant, newcomer};
+
+    ghost holds = { λ key s. ChronicleInvariant R.holds R.takes R.makes R.base s.views };
+
+    ghost first = { λ key. newcomer R.first };
+}
+
+struct Adds<R> {
+    rule: PhantomData<R>,
+}
+
+impl<E, R: HistoryRule<E>> Play<E, View<E>> for Adds<R> {
+    ghost use Rattle.std.specs.Prelude.{◌≡◌};
+    ghost use mathlib.Core.Option.{some};
+    ghost use Rattle.foyer_core_chronicle.specs.SharedHistory.{GoesOnBy};
+
+    ghost then = { λ step old n new. (new.1 ≡ old.1) × ((e : E) → step.said ≡ some e → GoesOnBy R.holds R.takes R.makes R.base old.0 e new.0) };
+}
+
+struct Looks<R> {
+    rule: PhantomData<R>,
+}
+
+impl<E, R: HistoryRule<E>> Play<E, View<E>> for Looks<R> {
+    ghost use Rattle.std.specs.Prelude.{◌≡◌};
+    ghost use Rattle.foyer_core_chronicle.specs.SharedHistory.{SeesAll};
+
+    ghost then = { λ step old n new. (new.1 ≡ old.1) × SeesAll R.holds R.takes old.0 new.0 };
+}
+
+struct FirstRight;
+
+impl<E> Split<View<E>> for FirstRight {
+    ghost use Rattle.foyer_core_chronicle.specs.SharedHistory.{without_first, with_first};
+
+    ghost left = { without_first };
+
+    ghost right = { with_first };
+}
+
+struct NoRight;
+
+impl<E> Split<View<E>> for NoRight {
+    ghost use Rattle.std.specs.Prelude.{[]};
+    ghost use Rattle.foyer_core_chronicle.specs.SharedHistory.{viewer};
+
+    ghost left = { λ v. v };
+
+    ghost right = { λ v. viewer v.seen [] };
+}
+
+struct Both;
+
+impl<E> Join<View<E>> for Both {
+    ghost use Rattle.std.specs.Prelude.{[]};
+    ghost use Rattle.foyer_core_chronicle.specs.SharedHistory.{joined, newcomer};
+
+    ghost both = { joined };
+
+    ghost spent = { newcomer [] };
+}
+
+/// The history, which threads share by reference. It has one word, which stays 0.
+pub struct Chronicle<E, R: HistoryRule<E>> {
+    pub table: Table<E, View<E>, (), OneHistory<R>, Global>,
+    pub ghost words: { table.shared.table_id.words ≡ 1 },
+}
+
+impl<E, R: HistoryRule<E>> Chronicle<E, R> {
+    /// An empty history, and the witness that has all rights.
+    pub fn open(alloc: Global) -> Result<(Chronicle<E, R>, Witness<E>), AllocError>
+        requires { R.holds [] × AreRights R.base R.first }
+        ensures { IfOk result (λ r. (r.1.table_id ≡ r.0.table.shared.table_id) × (r.1.me ≡ (newcomer R.first, []))) }
+    {
+        let (table, witness) = Table::of_words(alloc, &[0], &())?;
+        Ok((Chronicle { table }, witness))
+    }
+
+    /// The history goes on by an event, for which the witness has the rights, and which may come after whatever it hasn't seen.
+    pub fn add(&self, witness: &mut Witness<E>, event: &E)
+        requires own { witness.old.table_id ≡ self.now.table.shared.table_id }
+        requires rights { HasRights R.takes witness.old.me.0 event.now }
+        requires may { MayCome R.holds R.takes witness.old.me.0 event.now }
+        ensures same { (witness.new.table_id ≡ witness.old.table_id) × (witness.new.me.1 ≡ witness.old.me.1) }
+        ensures added { GoesOnBy R.holds R.takes R.makes R.base witness.old.me.0 event.now witness.new.me.0 }
+    {
+        let _ = self
+            .table
+            .shared
+            .compare_exchange_with::<Adds<R>>(witness, 0, 0, 0, event);
+    }
+
+    /// The witness sees the whole history as it is now. No event is added.
+    pub fn look(&self, witness: &mut Witness<E>)
+        requires own { witness.old.table_id ≡ self.now.table.shared.table_id }
+        ensures same { (witness.new.table_id ≡ witness.old.table_id) × (witness.new.me.1 ≡ witness.old.me.1) }
+        ensures seen { SeesAll R.holds R.takes witness.old.me.0 witness.new.me.0 }
+    {
+        let _ = self.table.shared.load::<Looks<R>>(witness, 0);
+    }
+
+    /// Another witness, of what this one has seen, to which its first right goes over.
+    pub fn give(&self, witness: &mut Witness<E>) -> Witness<E>
+        requires own { witness.old.table_id ≡ self.now.table.shared.table_id }
+        ensures same { (witness.new.table_id ≡ witness.old.table_id) × (witness.new.me ≡ (without_first witness.old.me.0, witness.old.me.1)) }
+        ensures given { (result.table_id ≡ witness.old.table_id) × (result.me ≡ (with_first witness.old.me.0, [])) }
+    {
+        self.table.shared.split_seat::<FirstRight>(witness)
+    }
+
+    /// Another witness, of what this one has seen, without a right.
+    pub fn give_seen(&self, witness: &mut Witness<E>) -> Witness<E>
+        requires own { witness.old.table_id ≡ self.now.table.shared.table_id }
+        ensures same { (witness.new.table_id ≡ witness.old.table_id) × (witness.new.me ≡ witness.old.me) }
+        ensures given { (result.table_id ≡ witness.old.table_id) × (result.me ≡ (viewer witness.old.me.0.seen [], [])) }
+    {
+        self.table.shared.split_seat::<NoRight>(witness)
+    }
+
+    /// Takes another witness in. What that one had seen is forgotten at the next `take`, unless an event or a look comes between.
+    pub fn take(&self, witness: &mut Witness<E>, other: Witness<E>)
+        requires own { (witness.old.table_id ≡ self.now.table.shared.table_id) × (other.table_id ≡ self.now.table.shared.table_id) × (other.me.1 ≡ []) }
+        ensures { (witness.new.table_id ≡ witness.old.table_id) × (witness.new.me ≡ (joined witness.old.me.0 other.me.0, witness.old.me.1)) }
+    {
+        self.table.shared.join_seat::<Both>(witness, other);
+    }
+}
+
+// Written out, so that it is proved once.
+impl<E: Drop, R: HistoryRule<E>> Drop for Chronicle<E, R> {
+    fn drop(self) {
+        let Chronicle { table: _ } = self;
+    }
+}

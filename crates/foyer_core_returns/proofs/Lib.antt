@@ -1,0 +1,12 @@
+pub mod LifeWrites
+pub mod Lived
+pub mod LivedCleans
+pub mod LivedSteps
+pub mod LivedEvents
+pub mod LivedStop
+pub mod ReturnsLaw
+pub mod EndedLaw
+pub mod CoreReturns
+pub mod OldBlocks
+pub mod WrittenBlock
+pub mod ReturnsReached

@@ -1,0 +1,4 @@
+pub mod EndedLives
+pub mod Lives
+pub mod LivesReached
+pub mod Returns

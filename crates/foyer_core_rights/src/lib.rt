@@ -1,0 +1,31 @@
+//! What threads do to a core and its disk, each access in one go under a lock, and which part of the world each right keeps.
+#![tactic(auto)]
+
+ghost use Rattle.std.specs.Prelude.{◌≡◌, Bool, true, List};
+ghost use Rattle.foyer_core_model.specs.Position.{Position, BlockLayout};
+ghost use Rattle.foyer_core_model.specs.Record.{Record};
+ghost use Rattle.foyer_core_model.specs.Rules.{Rules};
+ghost use Rattle.foyer_core_rights.specs.Frames.{FramesHold, AllIssuedStays};
+ghost use Rattle.foyer_core_rights.specs.Serving.{LosesByReclaim, Serves};
+
+/// Each right keeps its part of the world while others do what they have the rights for.
+pub fn frames_hold<C>()
+    ensures { FramesHold C }
+{}
+
+/// No read for a reclaim and no clean is issued again before it is reported.
+pub fn issued_stays<C>()
+    ensures { (rules : Rules C) (splits : Position → List (Record C) → List (BlockLayout C) → Bool) (is_value : C → Bool)
+        → AllIssuedStays rules (λ f rs ss. splits f rs ss ≡ true) (λ c. is_value c ≡ true) }
+{}
+
+/// Where a put is newest, the block of its commit is lost to the block's reclaim alone.
+pub fn loses_by_reclaim<C>()
+    ensures { LosesByReclaim C }
+{}
+
+/// What a thread does by its right may happen, and a load ends with what its look-up was promised.
+pub fn serves<C>()
+    ensures { (rules : Rules C) (splits : Position → List (Record C) → List (BlockLayout C) → Bool) (is_value : C → Bool)
+        → Serves rules (λ f rs ss. splits f rs ss ≡ true) (λ c. is_value c ≡ true) }
+{}

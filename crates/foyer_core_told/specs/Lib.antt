@@ -1,0 +1,6 @@
+pub mod ToldRuns
+pub mod ToldSteps
+pub mod ToldLoads
+pub mod ToldMisses
+pub mod ToldRights
+pub mod Telling

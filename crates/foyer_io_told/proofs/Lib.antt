@@ -1,0 +1,4 @@
+mod ToldBytes
+mod ToldAccessLemmas
+mod ToldReads
+mod ToldWrites

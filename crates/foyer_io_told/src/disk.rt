@@ -1,0 +1,221 @@
+//! A disk with the witness of its lock.
+ghost use Rattle.std.specs.Prelude.{◌≡◌, ◌<◌, [], ◌∷◌, IfOk, is_ok};
+ghost use Rattle.foyer_core_chronicle.specs.Rights.{times};
+ghost use Rattle.foyer_core_model.specs.Access.{ReadIssued, ReadDone, CleanIssued, CleanDone};
+ghost use Rattle.foyer_core_flusher.specs.Issuing.{write_of};
+ghost use Rattle.foyer_core_laws.specs.Content.{meaning};
+ghost use Rattle.foyer_core_steps.specs.Asked.{came_of};
+ghost use Rattle.foyer_core_told.specs.ToldLoads.{IsReadOf};
+ghost use Rattle.foyer_core_told.specs.ToldRights.{disk_right, writes_right, clean_right, scan_right, ticket_right};
+ghost use Rattle.foyer_io_told.specs.ToldAccess.{IsScanOf, IsWriteOf, IsCleanOf, LiesAt, HasTicket, HasScan, HasWrites, HasClean, HasAccessed, HasWritten};
+
+use foyer_block_index::manager::BlockId;
+use foyer_core_access::disk::{do_read, do_write};
+use foyer_core_access::reclaims::{BlockCleaner, Part, read_bytes};
+use foyer_core_steps::reply::Write;
+use foyer_core_steps::step::Ticket;
+use foyer_core_told::event::Told;
+use foyer_core_told::history::{ToldHistory, ToldWitness};
+use foyer_device_page::error::Result;
+use foyer_format_record::serde::{Code, Properties};
+use foyer_io_disk::disk::Disk;
+use std::alloc::{AllocError, Allocator};
+use std::marker::{Model, PhantomData};
+use std::snapshot::Snapshot;
+
+/// Names a history by its table.
+pub trait HistoryName {
+    ghost use Rattle.atomic_table.specs.Seated.{TableId};
+
+    ghost table: { TableId };
+}
+
+/// A disk whose bytes are known, with the witness that tells its accesses. It lies behind a lock.
+pub struct ToldDisk<J, K, V, P, A, D>
+where
+    J: HistoryName,
+    K: Code<A>,
+    V: Code<A>,
+    P: Properties,
+    A: Allocator,
+    D: Disk,
+{
+    disk: D,
+    // For the next read.
+    spare: Vec<u8, A>,
+    witness: ToldWitness<K, V, P, A, D>,
+    name: PhantomData<J>,
+}
+
+impl<J, K, V, P, A, D> Model for ToldDisk<J, K, V, P, A, D>
+where
+    J: HistoryName,
+    K: Code<A>,
+    V: Code<A>,
+    P: Properties,
+    A: Allocator,
+    D: Disk,
+{
+    ghost use Rattle.std.specs.Prelude.{◌≡◌, ◌<◌, []};
+    ghost use Rattle.foyer_core_chronicle.specs.Rights.{times};
+    ghost use Rattle.foyer_core_laws.specs.Content.{meaning};
+    ghost use Rattle.foyer_core_told.specs.ToldRights.{disk_right};
+    ghost use Rattle.foyer_io_told.specs.ToldAccess.{LiesAt};
+
+    ghost Value = { Unit {0} };
+
+    ghost view = { λ d. tt };
+
+    ghost invariant = { λ d. (d.witness.table_id ≡ J.table) × (d.witness.me.1 ≡ []) × (0 < times disk_right d.witness.me.0.has) × D.is_known d.disk
+        × LiesAt (meaning K.encoding V.encoding K.is_encodable V.is_encodable K.is_decodable V.is_decodable P.age) D.byte_at d.witness.me.0.seen d.disk };
+}
+
+impl<J, K, V, P, A, D> ToldDisk<J, K, V, P, A, D>
+where
+    J: HistoryName,
+    K: Code<A> + Drop,
+    V: Code<A> + Drop,
+    P: Properties,
+    A: Allocator + Clone,
+    D: Disk,
+{
+    /// The disk of a history that was told of it, with the witness that has the disk's right.
+    pub fn new(
+        disk: D,
+        spare: Vec<u8, A>,
+        witness: ToldWitness<K, V, P, A, D>,
+    ) -> ToldDisk<J, K, V, P, A, D>
+        requires history { (witness.table_id ≡ J.table) × (witness.me.1 ≡ []) }
+        requires right { 0 < times disk_right witness.me.0.has }
+        requires known { D.is_known disk }
+        requires told { LiesAt (meaning K.encoding V.encoding K.is_encodable V.is_encodable K.is_decodable V.is_decodable P.age) D.byte_at witness.me.0.seen disk }
+    {
+        ToldDisk {
+            disk,
+            spare,
+            witness,
+            name: PhantomData,
+        }
+    }
+
+    /// Does the read of a ticket, whose right the caller brings, and tells it. `Err` is a refused allocation: then nothing is told.
+    pub fn read(
+        &mut self,
+        history: &ToldHistory<K, V, P, A, D>,
+        mine: ToldWitness<K, V, P, A, D>,
+        alloc: A,
+        number: u64,
+        ticket: &Ticket,
+    ) -> (
+        std::result::Result<Result<Vec<u8, A>>, AllocError>,
+        ToldWitness<K, V, P, A, D>,
+    )
+        requires history { history.now.table.shared.table_id ≡ J.table }
+        requires mine { (mine.table_id ≡ J.table) × (mine.me.1 ≡ []) }
+        requires right { mine.me.0.has ≡ ticket_right number ∷ [] }
+        requires ticket { HasTicket (meaning K.encoding V.encoding K.is_encodable V.is_encodable K.is_decodable V.is_decodable P.age) D.byte_at mine.me.0.seen number ticket.now ReadIssued }
+        ensures mine { (result.1.table_id ≡ J.table) × (result.1.me.1 ≡ []) × (result.1.me.0.has ≡ mine.me.0.has) }
+        ensures told { IfOk result.0 (λ outcome. HasAccessed (meaning K.encoding V.encoding K.is_encodable V.is_encodable K.is_decodable V.is_decodable P.age) D.byte_at mine.me.0 result.1.me.0 (λ e. IsReadOf e number outcome)) }
+        ensures read { IfOk result.0 (λ outcome. HasTicket (meaning K.encoding V.encoding K.is_encodable V.is_encodable K.is_decodable V.is_decodable P.age) D.byte_at result.1.me.0.seen number ticket.now (ReadDone (came_of outcome))) }
+    {
+        let outcome = match do_read(alloc, &mut self.disk, ticket, &mut self.spare) {
+            Ok(outcome) => outcome,
+            Err(error) => return (Err(error), mine),
+        };
+        let event = Told::Reads {
+            number,
+            outcome: Snapshot::of(&outcome),
+        };
+        history.take(&mut self.witness, mine);
+        history.add(&mut self.witness, &event);
+        let mine = history.give(&mut self.witness);
+        (Ok(outcome), mine)
+    }
+
+    /// Does a read for the reclaim of a block, whose right the caller brings, and tells it. Memory that is refused for it is a fault too.
+    pub fn scan(
+        &mut self,
+        history: &ToldHistory<K, V, P, A, D>,
+        mine: ToldWitness<K, V, P, A, D>,
+        alloc: &A,
+        block: BlockId,
+        part: Part,
+    ) -> (Result<Vec<u8, A>>, ToldWitness<K, V, P, A, D>)
+        requires history { history.now.table.shared.table_id ≡ J.table }
+        requires mine { (mine.table_id ≡ J.table) × (mine.me.1 ≡ []) }
+        requires right { mine.me.0.has ≡ scan_right block ∷ [] }
+        requires scan { HasScan (meaning K.encoding V.encoding K.is_encodable V.is_encodable K.is_decodable V.is_decodable P.age) D.byte_at mine.me.0.seen block part ReadIssued }
+        ensures mine { (result.1.table_id ≡ J.table) × (result.1.me.1 ≡ []) }
+        ensures told { HasAccessed (meaning K.encoding V.encoding K.is_encodable V.is_encodable K.is_decodable V.is_decodable P.age) D.byte_at mine.me.0 result.1.me.0 (λ e. IsScanOf e block result.0) }
+        ensures scanned { HasScan (meaning K.encoding V.encoding K.is_encodable V.is_encodable K.is_decodable V.is_decodable P.age) D.byte_at result.1.me.0.seen block part (ReadDone (came_of result.0)) }
+    {
+        let outcome = read_bytes(alloc, &mut self.disk, block, part);
+        let event = Told::Scans {
+            block,
+            outcome: Snapshot::of(&outcome),
+        };
+        history.take(&mut self.witness, mine);
+        history.add(&mut self.witness, &event);
+        let mine = history.give(&mut self.witness);
+        (outcome, mine)
+    }
+
+    /// Does the next write of a flusher, whose right the caller brings, and tells it, also where it fails: then any bytes may be in its
+    /// range.
+    pub fn write(
+        &mut self,
+        history: &ToldHistory<K, V, P, A, D>,
+        mine: ToldWitness<K, V, P, A, D>,
+        flusher: u32,
+        block: BlockId,
+        write: &Write<A>,
+    ) -> (Result<()>, ToldWitness<K, V, P, A, D>)
+        requires history { history.now.table.shared.table_id ≡ J.table }
+        requires mine { (mine.table_id ≡ J.table) × (mine.me.1 ≡ []) }
+        requires right { mine.me.0.has ≡ writes_right flusher ∷ [] }
+        requires write { (results : _) × (left : _) × HasWrites (meaning K.encoding V.encoding K.is_encodable V.is_encodable K.is_decodable V.is_decodable P.age) D.byte_at mine.me.0.seen flusher block results (write_of write.now ∷ left) }
+        ensures mine { (result.1.table_id ≡ J.table) × (result.1.me.1 ≡ []) }
+        ensures told { (disk : D) × HasAccessed (meaning K.encoding V.encoding K.is_encodable V.is_encodable K.is_decodable V.is_decodable P.age) D.byte_at mine.me.0 result.1.me.0 (λ e. IsWriteOf e flusher (is_ok result.0) disk) }
+        ensures wrote { HasWritten (meaning K.encoding V.encoding K.is_encodable V.is_encodable K.is_decodable V.is_decodable P.age) D.byte_at mine.me.0 result.1.me.0 flusher block (write_of write.now) (is_ok result.0) }
+    {
+        let outcome = do_write(&mut self.disk, block, write);
+        let went_well = outcome.is_ok();
+        let event = Told::Writes {
+            flusher,
+            is_ok: went_well,
+            disk: Snapshot::of(&self.disk),
+        };
+        history.take(&mut self.witness, mine);
+        history.add(&mut self.witness, &event);
+        let mine = history.give(&mut self.witness);
+        (outcome, mine)
+    }
+
+    /// Cleans a block, whose right the caller brings, and tells it, also where it fails: then any bytes may be in its first page.
+    pub fn clean(
+        &mut self,
+        history: &ToldHistory<K, V, P, A, D>,
+        mine: ToldWitness<K, V, P, A, D>,
+        block: BlockId,
+    ) -> (Result<()>, ToldWitness<K, V, P, A, D>)
+        requires history { history.now.table.shared.table_id ≡ J.table }
+        requires mine { (mine.table_id ≡ J.table) × (mine.me.1 ≡ []) }
+        requires right { mine.me.0.has ≡ clean_right block ∷ [] }
+        requires clean { HasClean (meaning K.encoding V.encoding K.is_encodable V.is_encodable K.is_decodable V.is_decodable P.age) D.byte_at mine.me.0.seen block CleanIssued }
+        ensures mine { (result.1.table_id ≡ J.table) × (result.1.me.1 ≡ []) }
+        ensures told { (disk : D) × HasAccessed (meaning K.encoding V.encoding K.is_encodable V.is_encodable K.is_decodable V.is_decodable P.age) D.byte_at mine.me.0 result.1.me.0 (λ e. IsCleanOf e block (is_ok result.0) disk) }
+        ensures cleaned { HasClean (meaning K.encoding V.encoding K.is_encodable V.is_encodable K.is_decodable V.is_decodable P.age) D.byte_at result.1.me.0.seen block (CleanDone (is_ok result.0)) }
+    {
+        let outcome = BlockCleaner::clean(&mut self.disk, block);
+        let went_well = outcome.is_ok();
+        let event = Told::Cleans {
+            block,
+            is_ok: went_well,
+            disk: Snapshot::of(&self.disk),
+        };
+        history.take(&mut self.witness, mine);
+        history.add(&mut self.witness, &event);
+        let mine = history.give(&mut self.witness);
+        (outcome, mine)
+    }
+}

@@ -1,0 +1,166 @@
+//! Threads that answer gets, while another one reads requests on.
+use crate::answers::{Bytes, Cache, answer_get};
+use crate::replies::Replies;
+use foyer_format_record::serde::NoProperties;
+use foyer_lock::lock_spinning;
+use foyer_storage_build::config::Engine;
+use foyer_storage_build::threads::workers::Clock;
+use std::alloc::Global;
+use std::collections::VecDeque;
+use std::io::Write;
+use std::sync::{Condvar, Mutex, Wait};
+
+// How many gets may wait for each thread.
+const WAITING_FOR_EACH: usize = 16;
+
+/// A get that waits for a thread: its request's number, and its key.
+#[derive(Drop)]
+pub(crate) struct Get {
+    pub(crate) number: u32,
+    pub(crate) key: Bytes,
+}
+
+// What stands behind the lock: the gets that wait, in their order, and whether no more come.
+struct Queue {
+    waiting: VecDeque<Get>,
+    is_closed: bool,
+}
+
+// Written out, so that it is proved once.
+impl Drop for Queue {
+    fn drop(self) {
+        let Queue {
+            waiting: _,
+            is_closed: _,
+        } = self;
+    }
+}
+
+impl Queue {
+    // Adds a get, unless so many wait, or memory is refused: then it is handed back.
+    fn add(&mut self, get: Get, most: usize) -> std::result::Result<(), Get> {
+        if self.waiting.len() >= most || self.waiting.reserve(1).is_err() {
+            return Err(get);
+        }
+        self.waiting.push_back_reserved(get);
+        Ok(())
+    }
+
+    // Whether a thread has to wait.
+    fn is_idle(&self) -> bool {
+        self.waiting.is_empty() && !self.is_closed
+    }
+}
+
+/// The gets that wait for so many threads.
+pub(crate) struct Gets {
+    queue: Mutex<Queue>,
+    changed: Condvar,
+    readers: u32,
+}
+
+// Written out, so that it is proved once.
+impl Drop for Gets {
+    fn drop(self) {
+        let Gets {
+            queue: _,
+            changed: _,
+            readers: _,
+        } = self;
+    }
+}
+
+impl Gets {
+    /// None, for so many threads.
+    pub(crate) fn new(alloc: Global, readers: u32) -> Gets {
+        let queue = Queue {
+            waiting: VecDeque::new(alloc),
+            is_closed: false,
+        };
+        Gets {
+            queue: Mutex::new(queue),
+            changed: Condvar::new(),
+            readers,
+        }
+    }
+
+    /// How many threads they wait for.
+    pub(crate) fn readers(&self) -> u32 {
+        self.readers
+    }
+
+    /// Leaves a get to a thread. It is handed back if too many wait already, or memory is refused.
+    pub(crate) fn offer(&self, rt: &impl Wait, get: Get) -> std::result::Result<(), Get> {
+        let most = (self.readers as usize).saturating_mul(WAITING_FOR_EACH);
+        lock_spinning(&self.queue, rt).add(get, most)?;
+        self.changed.notify_one();
+        Ok(())
+    }
+
+    // The get that has waited longest, once there is one; none once no more come.
+    fn take(&self, rt: &impl Wait) -> Option<Get> {
+        let mut queue = self.changed.wait_while(
+            rt,
+            lock_spinning(&self.queue, rt),
+            |queue| queue.is_idle(),
+        );
+        queue.waiting.pop_front()
+    }
+
+    // Whether none waits.
+    fn is_empty(&self, rt: &impl Wait) -> bool {
+        lock_spinning(&self.queue, rt).waiting.is_empty()
+    }
+
+    /// Says that no more come: threads end once none waits.
+    pub(crate) fn close(&self, rt: &impl Wait) {
+        lock_spinning(&self.queue, rt).is_closed = true;
+        self.changed.notify_all();
+    }
+}
+
+/// A thread that answers gets, before it is started. It is a type of its own, so that the proof of who starts it doesn't go over its parts.
+pub(crate) struct Reader<'a, S: Drop, N: Drop, C, O: Write + Drop> {
+    pub(crate) cache: &'a Cache<N>,
+    pub(crate) session: S,
+    pub(crate) clock: &'a C,
+    pub(crate) gets: &'a Gets,
+    pub(crate) replies: &'a Replies<O>,
+}
+
+// Written out, so that it is proved once.
+impl<S: Drop, N: Drop, C, O: Write + Drop> Drop for Reader<'_, S, N, C, O> {
+    fn drop(self) {
+        let Reader {
+            cache: _,
+            session: _,
+            clock: _,
+            gets: _,
+            replies: _,
+        } = self;
+    }
+}
+
+impl<S, N, C, O> Reader<'_, S, N, C, O>
+where
+    S: Drop,
+    N: Engine<S, Bytes, Bytes, NoProperties>,
+    C: Clock,
+    O: Write + Drop,
+{
+    /// Answers gets until no more come. Each reply is flushed by its own thread or by that of a later get.
+    pub(crate) fn answer(self, rt: &impl Wait) {
+        let mut reader = self;
+        let (cache, gets, replies) = (reader.cache, reader.gets, reader.replies);
+        for _ in rt.forever() {
+            let Some(get) = gets.take(rt) else {
+                return;
+            };
+            let now = reader.clock.now();
+            answer_get(rt, cache, &mut reader.session, &get, now, replies);
+            if gets.is_empty(rt) {
+                let _ = replies.flush(rt);
+            }
+        }
+    }
+}

@@ -1,0 +1,174 @@
+//! How a flusher's worker takes what is queued.
+ghost use Rattle.std.specs.Prelude.{◌≡◌, ◌<◌};
+ghost use Rattle.foyer_storage_engine.specs.Ending.{HoldsNamed};
+
+use foyer_block_manager::block::eviction::EvictionPicker;
+use foyer_block_recover::gate::Gate;
+use foyer_core_tally::book::Kinds;
+use foyer_device_page::error::ErrorKind;
+use foyer_format_record::serde::{Code, Properties};
+use foyer_io_disk::disk::Disk;
+use foyer_lock::lock_spinning;
+use foyer_policy_filter::StorageFilterCondition;
+use foyer_policy_keeper::keeper::Keeper;
+use foyer_policy_piece::keeper::PieceRef;
+use foyer_storage_engine::core_shared::locked::Locked;
+use foyer_storage_engine::core_shared::notes::Noting;
+use foyer_storage_engine::core_shared::session::Session;
+use foyer_storage_engine::core_steps::apply::no_io;
+use foyer_storage_engine::core_steps::reply::Reply;
+use foyer_storage_engine::core_steps::step::Step;
+use foyer_storage_engine::engine::BlockEngine;
+use std::alloc::Allocator;
+use std::sync::Wait;
+use std::thread;
+
+// Takes the front of the queue: the reply, and whether a flush is wanted then.
+#[tactic(auto, using(foyer_storage_engine::proofs::HoldingLemmas::held_by, foyer_storage_engine::proofs::HoldingLemmas::held_same))]
+fn receive<L, K, V, P, A, E, C, N>(
+    locked: &mut Locked<L, K, V, P, A, E, C, N>,
+    session: &mut Session<L>,
+    flusher: u32,
+) -> (Reply<K, V, P, A>, bool)
+where
+    L: Kinds,
+    K: Code<A> + Drop,
+    V: Code<A> + Drop,
+    P: Properties + Drop,
+    A: Allocator + Clone,
+    E: EvictionPicker,
+    C: StorageFilterCondition,
+    N: Noting,
+    requires { 0 < session.old.shares.parts }
+    ensures named { HoldsNamed session.old session.new }
+    ensures parts { session.new.shares.parts ≡ session.old.shares.parts }
+{
+    match locked.step(session, no_io(), Step::Receive { flusher }) {
+        Ok(reply) => {
+            let wants_flush = locked.core().wants_flush(flusher);
+            (reply, wants_flush)
+        }
+        Err(step) => (Reply::Refused(ErrorKind::Memory, step), false),
+    }
+}
+
+// How many records are taken for a batch at most, so that its pages are written while they are still in the processor's cache.
+const MOST_OF_A_BATCH: usize = 64;
+
+// How often the core's lock is taken for a batch at most: marks and waits are no records.
+const MOST_HOLDS: u32 = 64;
+
+// What is taken under one hold of the core's lock at most: submissions, and bytes of records.
+const MOST_OF_A_HOLD: u32 = 64;
+
+const MOST_BYTES_OF_A_HOLD: usize = 64 << 10;
+
+// How a hold of the core's lock ended.
+#[derive(Drop)]
+enum HoldEnd<K, V, P, A: Allocator> {
+    // A batch has enough, or less than half of the buffer is left.
+    Enough,
+    // So much was taken as one hold takes.
+    More,
+    // Memory was refused: it is to be tried again.
+    Refused,
+    // A piece didn't fit, and is to be released; and whether a batch is to begin.
+    Back(PieceRef<K, V, P, A>, bool),
+    // Nothing more is queued; and whether anything was taken before.
+    Drained(bool),
+}
+
+// Takes what is queued under one hold of the core's lock, until nothing is, a piece doesn't fit, memory is refused, or it is enough for
+// a batch or for this hold.
+#[tactic(auto, using(foyer_storage_engine::proofs::HoldingLemmas::held_on))]
+fn receive_some<L, K, V, P, A, E, C, N>(
+    locked: &mut Locked<L, K, V, P, A, E, C, N>,
+    session: &mut Session<L>,
+    flusher: u32,
+) -> HoldEnd<K, V, P, A>
+where
+    L: Kinds,
+    K: Code<A> + Drop,
+    V: Code<A> + Drop,
+    P: Properties + Drop,
+    A: Allocator + Clone,
+    E: EvictionPicker,
+    C: StorageFilterCondition,
+    N: Noting,
+    requires { 0 < session.old.shares.parts }
+    ensures named { HoldsNamed session.old session.new }
+    ensures parts { session.new.shares.parts ≡ session.old.shares.parts }
+{
+    let (_, room) = locked.core().received(flusher);
+    let mut is_busy = false;
+    for _ in 0..MOST_OF_A_HOLD {
+        let (reply, wants_flush) = receive(locked, session, flusher);
+        match reply {
+            Reply::Received(None) => is_busy = true,
+            Reply::Received(Some(piece)) => return HoldEnd::Back(piece, wants_flush),
+            Reply::Refused(ErrorKind::Memory, _step) => return HoldEnd::Refused,
+            _other => return HoldEnd::Drained(is_busy),
+        }
+        let (records, left) = locked.core().received(flusher);
+        if wants_flush || records >= MOST_OF_A_BATCH {
+            return HoldEnd::Enough;
+        }
+        if room.saturating_sub(left) >= MOST_BYTES_OF_A_HOLD {
+            return HoldEnd::More;
+        }
+    }
+    HoldEnd::More
+}
+
+// Takes what is queued, until nothing is, a batch has enough, or less than half of the buffer is left: whether anything was taken,
+// or is to be tried again for want of memory. A piece that is handed back is released, once the core's lock is let go.
+#[tactic(auto, using(foyer_storage_engine::proofs::HoldingLemmas::held_on))]
+pub(super) fn receive_all<L, K, V, P, A, E, C, D, G, N>(
+    rt: &impl Wait,
+    engine: &BlockEngine<L, K, V, P, A, E, C, D, G, N>,
+    keeper: &Keeper<K, V, P, A>,
+    flusher: u32,
+    session: &mut Session<L>,
+) -> bool
+where
+    L: Kinds,
+    K: Code<A> + Eq + Drop,
+    V: Code<A> + Drop,
+    P: Properties + Drop,
+    A: Allocator + Clone,
+    E: EvictionPicker,
+    C: StorageFilterCondition,
+    D: Disk + Drop,
+    G: Gate,
+    N: Noting,
+    requires { 0 < session.old.shares.parts }
+    ensures named { HoldsNamed session.old session.new }
+    ensures parts { session.new.shares.parts ≡ session.old.shares.parts }
+{
+    let mut is_busy = false;
+    for _ in 0..MOST_HOLDS {
+        let end = receive_some(
+            &mut lock_spinning(engine.shared().locked(), rt),
+            session,
+            flusher,
+        );
+        match end {
+            HoldEnd::Enough => return true,
+            HoldEnd::More => is_busy = true,
+            HoldEnd::Refused => {
+                is_busy = true;
+                thread::yield_now();
+            }
+            HoldEnd::Back(piece, wants_flush) => {
+                is_busy = true;
+                engine.signals().work.add_returned_put();
+                keeper.release(rt, piece);
+                if wants_flush {
+                    return true;
+                }
+            }
+            HoldEnd::Drained(took) => return is_busy || took,
+        }
+    }
+    is_busy
+}
