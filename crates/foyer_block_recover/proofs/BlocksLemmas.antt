@@ -7,12 +7,12 @@ use Rattle.std.specs.FinMap.{get-empty}
 use Rattle.std.specs.Ordering.{nat_cmp}
 use Rattle.foyer_device_page.specs.declared.error.Error.{Error}
 use Rattle.foyer_device_page.specs.declared.error.Error.TheVariants.{Memory, Recover}
-use Rattle.foyer_format_blob.specs.declared.blob.BlobEntryIndex.{BlobEntryIndex}
+use Rattle.foyer_block_scan.specs.BlobEntryIndex.{BlobEntryIndex}
 use Rattle.foyer_block_index.specs.declared.indexer.HashedEntryAddress.{HashedEntryAddress}
 use Rattle.foyer_block_index.specs.Index.{IndexMap}
 use Rattle.foyer_block_index.specs.Insertion.{inserted, inserted_all}
 use Rattle.foyer_block_index.specs.declared.indexer.Index.TheVariants.{Address}
-use Rattle.foyer_format_buffer.specs.Listing.{Lists, kept}
+use Rattle.foyer_block_scan.specs.Listing.{Lists, kept}
 use Rattle.foyer_format_layout.specs.Each.{Each}
 use Rattle.foyer_format_layout.specs.Position.{Sizes}
 use Rattle.foyer_block_recover.specs.BlocksKept.{held_by, HoldsKept, AreBlocksRead, IsBlockCut, gathered}

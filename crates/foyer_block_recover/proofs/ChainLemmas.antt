@@ -5,14 +5,14 @@ use Rattle.std.proofs.lemmas.Bool.Decides.{nat_tests}
 use Rattle.std.proofs.lemmas.List.{map-append}
 use Rattle.foyer_format_layout.proofs.EachLaws.{each_join}
 use Rattle.foyer_format_layout.specs.Page.{page_up}
-use Rattle.foyer_format_blob.specs.declared.blob.BlobEntryIndex.{BlobEntryIndex}
+use Rattle.foyer_block_scan.specs.BlobEntryIndex.{BlobEntryIndex}
 use Rattle.foyer_block_index.specs.declared.indexer.HashedEntryAddress.{HashedEntryAddress}
 use Rattle.foyer_format_layout.specs.BlockBytes.{read}
 use Rattle.foyer_format_layout.specs.Each.{Each}
-use Rattle.foyer_format_buffer.specs.Fills.{AreSizes}
-use Rattle.foyer_format_buffer.specs.Holding.{all_read}
-use Rattle.foyer_format_buffer.specs.Listing.{Fits, IsIndex, behind, placed, Chain, Lists, rising, kept}
-use Rattle.foyer_format_buffer.specs.Listing.Chain.{ends, goes}
+use Rattle.foyer_block_scan.specs.Fills.{AreSizes}
+use Rattle.foyer_block_scan.specs.Holding.{all_read}
+use Rattle.foyer_block_scan.specs.Listing.{Fits, IsIndex, behind, placed, Chain, Lists, rising, kept}
+use Rattle.foyer_block_scan.specs.Listing.Chain.{ends, goes}
 use Rattle.foyer_format_layout.specs.Position.{Sizes}
 use Rattle.foyer_block_scan.specs.IndexBytes.{index_at, IsIndexOf}
 use Rattle.foyer_block_scan.specs.Scan.{next_blob, info_of, infos_of, ScanStep, scan_step, index_step}

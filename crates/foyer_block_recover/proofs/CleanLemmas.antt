@@ -1,7 +1,7 @@
 -- The blocks that keep nothing, as a list of ids.
 use Rattle.std.proofs.Common.{◌≡◌, ℕ, zero, suc, ◌+◌, ◌<◌, ◌≤◌, ◌==◌, Bool, true, false, ◌||◌, if◌then◌else◌, List, ◌∷◌, refl, sym, ap, ◌∙◌, arith}
 use Rattle.std.proofs.lemmas.Bool.{eqb-true, eqb-false}
-use Rattle.foyer_format_blob.specs.declared.blob.BlobEntryIndex.{BlobEntryIndex}
+use Rattle.foyer_block_scan.specs.BlobEntryIndex.{BlobEntryIndex}
 use Rattle.foyer_core_model.specs.Ids.{is_id_in, AreDistinct}
 use Rattle.foyer_block_recover.specs.Opening.{is_empty, clean_from}
 

@@ -1,6 +1,6 @@
 -- An opening that reads no block finds nothing.
 use Rattle.std.proofs.Common.{◌≡◌, ℕ, zero, suc, ◌+◌, ◌<◌, ◌≤◌, ◌^◌, Bool, None, List, [], ◌++◌, refl, ap, ◌∙◌, arith}
-use Rattle.foyer_format_blob.specs.declared.blob.BlobEntryIndex.{BlobEntryIndex}
+use Rattle.foyer_block_scan.specs.BlobEntryIndex.{BlobEntryIndex}
 use Rattle.foyer_format_layout.specs.Position.{Sizes}
 use Rattle.foyer_block_recover.specs.Opening.{Opened, Found, winner, slot_of, stand_in, all_stand, greatest, IsAtEnd}
 use Rattle.foyer_block_recover.specs.Recovery.{IsRecovered}

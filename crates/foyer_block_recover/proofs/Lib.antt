@@ -9,3 +9,4 @@ pub mod EmptyLemmas
 mod RisingLemmas
 pub mod ForgottenLemmas
 pub mod SourcesLemmas
+pub use Rattle.foyer_block_scan.proofs.IndexBytesLemmas

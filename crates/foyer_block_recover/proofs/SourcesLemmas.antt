@@ -4,7 +4,7 @@ use Rattle.foyer_format_layout.proofs.EachLaws.{each_join}
 use Rattle.std.proofs.lemmas.Bool.{eqb-true}
 use Rattle.foyer_format_layout.specs.Each.{Each}
 use Rattle.foyer_format_layout.specs.Position.{Sizes}
-use Rattle.foyer_format_blob.specs.declared.blob.BlobEntryIndex.{BlobEntryIndex}
+use Rattle.foyer_block_scan.specs.BlobEntryIndex.{BlobEntryIndex}
 use Rattle.foyer_block_index.specs.declared.indexer.HashedEntryAddress.{HashedEntryAddress}
 use Rattle.foyer_block_recover.specs.Chained.{hashed_entries, IsKeptBy, IsKeptOf}
 use Rattle.foyer_block_recover.specs.Placed.{IsPlaced, IsSomeKept}

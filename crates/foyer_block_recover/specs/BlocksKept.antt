@@ -1,14 +1,14 @@
 -- What the blocks keep, as an index, the greatest sequence, and the clean blocks.
 use Rattle.std.specs.Prelude.{◌≡◌, ℕ, ◌<◌, ◌==◌, nat_le, ◌&&◌, if◌then◌else◌, Bool, true, false, List, Option, Some, None}
 use Rattle.std.specs.FinMap as finite
-use Rattle.foyer_format_blob.specs.declared.blob.BlobEntryIndex.{BlobEntryIndex}
+use Rattle.foyer_block_scan.specs.BlobEntryIndex.{BlobEntryIndex}
 use Rattle.foyer_block_index.specs.Index.{IndexMap}
 use Rattle.foyer_block_index.specs.declared.indexer.EntryAddress.{EntryAddress}
 use Rattle.foyer_block_index.specs.Insertion.{inserted_all}
 use Rattle.foyer_block_index.specs.declared.indexer.HashedEntryAddress.{HashedEntryAddress}
 use Rattle.foyer_block_index.specs.declared.indexer.Index.{Index}
 use Rattle.foyer_block_index.specs.declared.indexer.Index.TheVariants.{Address, Tombstone}
-use Rattle.foyer_format_buffer.specs.Listing.{Lists, kept}
+use Rattle.foyer_block_scan.specs.Listing.{Lists, kept}
 use Rattle.foyer_format_layout.specs.Position.{Sizes}
 use Rattle.foyer_block_recover.specs.Kept.{greatest_in}
 use Rattle.foyer_block_recover.specs.Opening.{Found, Stands, Marked, winner, all_stand, greatest, clean_from, Keeps, IsCut}

@@ -1,9 +1,9 @@
 -- What the chain of one block gives, of a disk whose bytes contracts see.
 use Rattle.std.specs.Prelude.{◌≡◌, ℕ, Bool, true, false, List, ◌++◌}
-use Rattle.foyer_format_blob.specs.declared.blob.BlobEntryIndex.{BlobEntryIndex}
+use Rattle.foyer_block_scan.specs.BlobEntryIndex.{BlobEntryIndex}
 use Rattle.foyer_block_index.specs.declared.indexer.HashedEntryAddress.{HashedEntryAddress}
 use Rattle.foyer_format_layout.specs.Position.{Sizes}
-use Rattle.foyer_format_buffer.specs.Listing.{Lists, kept}
+use Rattle.foyer_block_scan.specs.Listing.{Lists, kept}
 use Rattle.foyer_block_scan.specs.Scan.{infos_of}
 use Rattle.foyer_block_recover.specs.Kept.{hashed_infos}
 use Rattle.foyer_block_recover.specs.Opening.{IsCut}

@@ -6,3 +6,4 @@ pub mod Placed
 pub mod Sources
 pub mod Recovery
 pub mod Forgotten
+pub use Rattle.foyer_block_scan.specs.IndexBytes

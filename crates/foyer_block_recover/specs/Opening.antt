@@ -1,8 +1,8 @@
 -- What an opening makes of the bytes of all blocks.
 use Rattle.std.specs.Prelude.{◌≡◌, ℕ, zero, suc, ◌+◌, ◌<◌, ◌≤◌, ◌==◌, ◌^◌, nat_lt, nat_le, if◌then◌else◌, Bool, true, false, List, [], ◌∷◌, ◌++◌, Option, Some, None}
-use Rattle.foyer_format_blob.specs.declared.blob.BlobEntryIndex.{BlobEntryIndex}
+use Rattle.foyer_block_scan.specs.BlobEntryIndex.{BlobEntryIndex}
 use Rattle.foyer_format_layout.specs.Position.{Sizes}
-use Rattle.foyer_format_buffer.specs.Listing.{Chain, Lists, kept}
+use Rattle.foyer_block_scan.specs.Listing.{Chain, Lists, kept}
 use Rattle.foyer_core_model.specs.Record.{Address, Slot, Indexed}
 use Rattle.foyer_block_recover.specs.declared.block.recover.RecoverMode.{RecoverMode}
 use Rattle.foyer_block_recover.specs.declared.block.recover.RecoverMode.TheVariants as recover_mode

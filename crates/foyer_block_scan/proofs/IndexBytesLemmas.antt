@@ -4,16 +4,16 @@ use Rattle.std.proofs.lemmas.Bool.{eqb-true, eq-eqb}
 use Rattle.std.proofs.lemmas.Bool.Decides.{nat_tests}
 use Rattle.std.proofs.lemmas.List.{at_drop_more, at_drop_all}
 use Rattle.foyer_format_checksum.specs.Xxh64.{xxh64}
-use Rattle.foyer_format_record.specs.Header.{number_at}
+use Rattle.foyer_format_buffer.specs.Header.{number_at}
 use Rattle.foyer_format_layout.specs.Page.{page_up}
-use Rattle.foyer_format_blob.specs.Blob.{IsSealed, entries_in, capacity_of}
-use Rattle.foyer_format_blob.proofs.BlobLemmas.{sealed_from}
+use Rattle.foyer_format_buffer.specs.Blob.{IsSealed, entries_in, capacity_of}
+use Rattle.foyer_format_buffer.proofs.BlobLemmas.{sealed_from}
 use Rattle.foyer_format_layout.specs.Each.{Each}
 use Rattle.foyer_format_layout.specs.Position.{Sizes}
 use Rattle.foyer_format_buffer.specs.Listing.{Fits}
 use Rattle.foyer_block_scan.specs.IndexBytes.{is_sealed, sealed_entries, fits, all_fit, index_at, IsIndexOf}
 use Rattle.foyer_block_scan.specs.Walk.{Judges}
-use Rattle.foyer_format_blob.specs.declared.blob.BlobEntryIndex.{BlobEntryIndex}
+use Rattle.foyer_format_buffer.specs.BlobEntryIndex.{BlobEntryIndex}
 
 -- both tests hold, or one doesn't
 pub both : {a b : Bool} → a && b ≡ true → (a ≡ true) × (b ≡ true)

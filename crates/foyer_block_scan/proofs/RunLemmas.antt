@@ -5,7 +5,7 @@ use Rattle.foyer_format_layout.specs.BlockBytes.{read}
 use Rattle.foyer_format_buffer.specs.Fills.{AreSizes}
 use Rattle.foyer_format_layout.specs.Position.{Sizes}
 use Rattle.foyer_format_buffer.specs.Listing.{IsIndex, behind, placed}
-use Rattle.foyer_format_blob.specs.declared.blob.BlobEntryIndex.{BlobEntryIndex}
+use Rattle.foyer_format_buffer.specs.BlobEntryIndex.{BlobEntryIndex}
 use Rattle.foyer_block_scan.specs.IndexBytes.{index_at}
 use Rattle.foyer_block_scan.specs.Scan.{next_blob, info_of, infos_of, scan_step, scan_end, index_step}
 use Rattle.foyer_block_scan.specs.ScanState.{Scan}

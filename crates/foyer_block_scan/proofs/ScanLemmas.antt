@@ -5,12 +5,12 @@ use Rattle.std.proofs.lemmas.List.{take_more}
 use Rattle.foyer_format_layout.specs.Page.{page_up}
 use Rattle.foyer_format_layout.specs.Position.{Sizes}
 use Rattle.foyer_format_buffer.specs.Listing.{Fits, behind, placed}
-use Rattle.foyer_format_blob.specs.Blob.{IsSealed}
+use Rattle.foyer_format_buffer.specs.Blob.{IsSealed}
 use Rattle.foyer_block_scan.specs.IndexBytes.{all_fit}
 use Rattle.foyer_block_scan.specs.ScanState.{Scan}
 use Rattle.foyer_block_scan.specs.Scan.{info_of, infos_of, index_step, scan_end, scan_step}
 use Rattle.foyer_block_scan.proofs.IndexBytesLemmas.{both, fits_so, index_found, index_unfit, index_unsealed}
-use Rattle.foyer_format_blob.specs.declared.blob.BlobEntryIndex.{BlobEntryIndex}
+use Rattle.foyer_format_buffer.specs.BlobEntryIndex.{BlobEntryIndex}
 use Rattle.foyer_block_scan.specs.declared.block.scanner.EntryInfo.{EntryInfo}
 
 -- the offset behind an index, by its last entry

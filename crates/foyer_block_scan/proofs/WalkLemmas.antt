@@ -9,7 +9,7 @@ use Rattle.foyer_format_buffer.specs.Fills.{AreSizes}
 use Rattle.foyer_format_layout.specs.Position.{Sizes}
 use Rattle.foyer_format_buffer.specs.Listing.{Fits, IsIndex, behind, placed, Chain, Lists}
 use Rattle.foyer_format_buffer.specs.Listing.Chain.{ends, goes}
-use Rattle.foyer_format_blob.specs.declared.blob.BlobEntryIndex.{BlobEntryIndex}
+use Rattle.foyer_format_buffer.specs.BlobEntryIndex.{BlobEntryIndex}
 use Rattle.foyer_block_scan.specs.IndexBytes.{index_at, IsIndexOf}
 use Rattle.foyer_block_scan.specs.Scan.{next_blob}
 use Rattle.foyer_block_scan.specs.Walk.{index_in, list_from, walk, list_of, Judges}

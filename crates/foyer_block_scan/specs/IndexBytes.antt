@@ -1,13 +1,13 @@
 -- Which bytes at an offset of a block are an index, as a function of the bytes.
 use Rattle.std.specs.Prelude.{ℕ, ◌+◌, ◌%◌, ◌==◌, nat_le, nat_lt, Bool, true, ◌&&◌, if◌then◌else◌, List, [], ◌∷◌, length, drop, Option, Some, None}
 use Rattle.foyer_format_checksum.specs.Xxh64.{xxh64}
-use Rattle.foyer_format_record.specs.Header.{number_at}
+use Rattle.foyer_format_buffer.specs.Header.{number_at}
 use Rattle.foyer_format_layout.specs.Page.{page_up}
-use Rattle.foyer_format_blob.specs.Blob.{IsSealed, entries_in, capacity_of}
+use Rattle.foyer_format_buffer.specs.Blob.{IsSealed, entries_in, capacity_of}
 use Rattle.foyer_format_layout.specs.Each.{Each}
 use Rattle.foyer_format_layout.specs.Position.{Sizes}
 use Rattle.foyer_format_buffer.specs.Listing.{Fits}
-use Rattle.foyer_format_blob.specs.declared.blob.BlobEntryIndex.{BlobEntryIndex}
+use Rattle.foyer_format_buffer.specs.BlobEntryIndex.{BlobEntryIndex}
 
 -- the checksum is right, and the count within the capacity
 abbrev pub is_sealed : List ℕ → Bool

@@ -3,3 +3,7 @@ pub mod ScanState
 pub mod Scan
 pub mod ScanRun
 pub mod Walk
+pub use Rattle.foyer_format_buffer.specs.BlobEntryIndex
+pub use Rattle.foyer_format_buffer.specs.Fills
+pub use Rattle.foyer_format_buffer.specs.Holding
+pub use Rattle.foyer_format_buffer.specs.Listing

@@ -5,7 +5,7 @@ use Rattle.foyer_format_layout.specs.Position.{Sizes}
 use Rattle.foyer_format_buffer.specs.Listing.{behind, placed}
 use Rattle.foyer_block_scan.specs.IndexBytes.{index_at}
 use Rattle.foyer_block_scan.specs.ScanState.{Scan}
-use Rattle.foyer_format_blob.specs.declared.blob.BlobEntryIndex.{BlobEntryIndex}
+use Rattle.foyer_format_buffer.specs.BlobEntryIndex.{BlobEntryIndex}
 use Rattle.foyer_block_scan.specs.declared.block.scanner.EntryInfo.{EntryInfo}
 
 -- where the chain goes on, if there is room for an index

@@ -6,7 +6,7 @@ use Rattle.foyer_format_layout.specs.Position.{Sizes}
 use Rattle.foyer_format_buffer.specs.Listing.{IsIndex, behind, placed, Chain, Lists}
 use Rattle.foyer_block_scan.specs.IndexBytes.{index_at, IsIndexOf}
 use Rattle.foyer_block_scan.specs.Scan.{next_blob}
-use Rattle.foyer_format_blob.specs.declared.blob.BlobEntryIndex.{BlobEntryIndex}
+use Rattle.foyer_format_buffer.specs.BlobEntryIndex.{BlobEntryIndex}
 
 -- what stands at offset p of a block, where its read came
 abbrev pub index_in : Sizes → (ℕ → ℕ) → (ℕ → Bool) → ℕ → Option (List BlobEntryIndex)

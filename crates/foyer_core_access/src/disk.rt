@@ -1,7 +1,7 @@
 //! The accesses of a core's tickets and writes, done at a disk.
 ghost use Rattle.std.specs.Prelude.{◌≡◌, length, vec_len, IsOk, IfOk, IfErr, OnOk, OnErr, ℕ, ◌≤◌};
 ghost use Rattle.foyer_format_layout.specs.Page.{page_up};
-ghost use Rattle.foyer_core_flusher.specs.Issuing.{written_bytes};
+ghost use Rattle.foyer_core_steps.specs.Issuing.{written_bytes};
 ghost use Rattle.foyer_io_disk.specs.Disk.{IsRead, IsWritten, IsTorn, SurelyCame};
 
 use foyer_block_index::manager::BlockId;

@@ -4,3 +4,7 @@ pub mod InvalidLemmas
 pub mod ListLemmas
 pub mod SetsLemmas
 pub mod SlotLemmas
+pub use Rattle.foyer_core_laws.proofs.FormatLemmas
+pub use Rattle.foyer_core_laws.proofs.LawLemmas
+pub use Rattle.foyer_core_laws.proofs.OpenedWorlds
+pub use Rattle.foyer_core_laws.proofs.TripLemmas

@@ -1,2 +1,9 @@
 pub mod Addresses
 pub mod Standing
+pub use Rattle.foyer_core_laws.specs.Begins
+pub use Rattle.foyer_core_laws.specs.Content
+pub use Rattle.foyer_core_laws.specs.CoreRules
+pub use Rattle.foyer_core_laws.specs.Headline
+pub use Rattle.foyer_core_laws.specs.Restart
+pub use Rattle.foyer_core_laws.specs.Sizes
+pub use Rattle.foyer_core_laws.specs.declared.settings.Settings

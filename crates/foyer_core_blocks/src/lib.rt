@@ -2,3 +2,5 @@
 #![tactic(auto)]
 
 pub mod manager;
+
+pub use foyer_core_laws as core_laws;

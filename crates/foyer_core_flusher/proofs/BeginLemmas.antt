@@ -19,14 +19,14 @@ use Rattle.foyer_core_layout.proofs.WithinLemmas.{all_within}
 use Rattle.foyer_core_layout.specs.Bridge.{filling_of, kept_of, AreBlocksAs}
 use Rattle.foyer_core_layout.specs.Laws.{IsLaidAs}
 use Rattle.foyer_core_layout.specs.Splits.{IsLaidOut, AreRules}
-use Rattle.foyer_core_laws.specs.Content.{Content, Meaning, content_of, contents_of}
-use Rattle.foyer_core_laws.specs.declared.settings.Settings.{Settings}
+use Rattle.foyer_core_blocks.specs.Content.{Content, Meaning, content_of, contents_of}
+use Rattle.foyer_core_blocks.specs.Settings.{Settings}
 use Rattle.foyer_core_blocks.specs.Addresses.{mark_of, invalid_of}
 use Rattle.foyer_core_flusher.specs.BatchBegun.{HasBegun}
 use Rattle.foyer_core_flusher.specs.Begun.{IsBegun}
 use Rattle.foyer_core_flusher.specs.Filled.{AreSome, WasSplit}
 use Rattle.foyer_core_flusher.specs.Flushing.{AreFrom, AreReceived, AreWriting, HasOwn, IsFlusherAs}
-use Rattle.foyer_core_laws.specs.Sizes.{sizes_in}
+use Rattle.foyer_core_blocks.specs.Sizes.{sizes_in}
 use Rattle.foyer_core_flusher.specs.Seen.{seen}
 use Rattle.foyer_core_flusher.specs.declared.flusher.Flusher.{Flusher}
 use Rattle.foyer_core_flusher.specs.declared.batch.Writing.{Writing}

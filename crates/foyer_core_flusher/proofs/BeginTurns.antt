@@ -3,8 +3,8 @@ use Rattle.std.proofs.Common.{◌≡◌, List, [], ◌∷◌, map, Option, Some,
 use Rattle.foyer_core_model.specs.Receive.{HasReceived}
 use Rattle.foyer_core_model.specs.State as model_state
 use Rattle.foyer_core_layout.specs.Bridge.{kept_of}
-use Rattle.foyer_core_laws.specs.Content.{Content, Meaning}
-use Rattle.foyer_core_laws.specs.declared.settings.Settings.{Settings}
+use Rattle.foyer_core_blocks.specs.Content.{Content, Meaning}
+use Rattle.foyer_core_blocks.specs.Settings.{Settings}
 use Rattle.foyer_core_blocks.specs.Addresses.{mark_of}
 use Rattle.foyer_core_flusher.specs.FlushInTurn.{MayBegin}
 use Rattle.foyer_core_flusher.specs.Flushing.{AreBatched, IsFlusherAs}

@@ -16,8 +16,8 @@ use Rattle.foyer_core_model.specs.Commit.{commit_of, committed_one as model_one,
 use Rattle.foyer_core_model.specs.Index as index
 use Rattle.foyer_core_model.specs.Numbers.{put}
 use Rattle.foyer_core_model.specs.Record as model_record
-use Rattle.foyer_core_laws.specs.Content.{Content}
-use Rattle.foyer_core_laws.specs.declared.settings.Settings.{Settings}
+use Rattle.foyer_core_blocks.specs.Content.{Content}
+use Rattle.foyer_core_blocks.specs.Settings.{Settings}
 use Rattle.foyer_core_blocks.specs.Addresses.{address_of}
 use Rattle.foyer_core_blocks.specs.Standing.{IsIndexedAs, slot_of}
 use Rattle.foyer_core_blocks.proofs.IndexLemmas.{entered_at}

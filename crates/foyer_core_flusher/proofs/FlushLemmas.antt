@@ -5,8 +5,8 @@ use Rattle.foyer_format_buffer.specs.declared.split.Block.{Block}
 use Rattle.foyer_core_model.specs.Position.{BlockLayout}
 use Rattle.foyer_core_model.specs.State as model_state
 use Rattle.foyer_core_layout.specs.Bridge.{AreBlocksAs}
-use Rattle.foyer_core_laws.specs.Content.{Content, Meaning}
-use Rattle.foyer_core_laws.specs.declared.settings.Settings.{Settings}
+use Rattle.foyer_core_blocks.specs.Content.{Content, Meaning}
+use Rattle.foyer_core_blocks.specs.Settings.{Settings}
 use Rattle.foyer_core_flusher.specs.Flushing.{IsWritingAs, AreWriting, IsBatchAs, AreBatched}
 use Rattle.foyer_core_flusher.specs.declared.batch.Batch.{Batch}
 use Rattle.foyer_core_flusher.specs.declared.batch.Writing.{Writing}

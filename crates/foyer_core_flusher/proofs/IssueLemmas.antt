@@ -21,8 +21,8 @@ use Rattle.foyer_core_model.specs.Rules.{Rules}
 use Rattle.foyer_core_model.specs.State as model_state
 use Rattle.foyer_core_layout.specs.Bridge.{AreEntriesOf, ArePartsAs, AreBlocksAs}
 use Rattle.foyer_core_layout.specs.Splits.{AreRules, AllEndBy, LiesWithin}
-use Rattle.foyer_core_laws.specs.Content.{Content, Meaning, content_of}
-use Rattle.foyer_core_laws.specs.declared.settings.Settings.{Settings}
+use Rattle.foyer_core_blocks.specs.Content.{Content, Meaning, content_of}
+use Rattle.foyer_core_blocks.specs.Settings.{Settings}
 use Rattle.foyer_core_blocks.specs.Addresses.{mark_of, invalid_of}
 use Rattle.foyer_core_flusher.specs.BlockIssued.{IsIssued}
 use Rattle.foyer_core_flusher.specs.Flushing.{AreFrom, AreEntering, AreWriting, IsBatchAs}

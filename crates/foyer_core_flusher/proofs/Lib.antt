@@ -10,3 +10,10 @@ pub mod NextLemmas
 pub mod OffsetLemmas
 pub mod TakenLemmas
 pub mod WroteLemmas
+pub use Rattle.foyer_core_blocks.proofs.ForgetLemmas
+pub use Rattle.foyer_core_blocks.proofs.FormatLemmas
+pub use Rattle.foyer_core_blocks.proofs.LawLemmas
+pub use Rattle.foyer_core_blocks.proofs.ListLemmas
+pub use Rattle.foyer_core_blocks.proofs.OpenedWorlds
+pub use Rattle.foyer_core_blocks.proofs.SetsLemmas
+pub use Rattle.foyer_core_blocks.proofs.SlotLemmas

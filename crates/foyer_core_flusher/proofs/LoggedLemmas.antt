@@ -7,10 +7,10 @@ use Rattle.foyer_core_model.specs.Receive.{turned}
 use Rattle.foyer_core_model.specs.Reply as model_reply
 use Rattle.foyer_core_model.specs.State as model_state
 use Rattle.foyer_core_model.specs.Step as model_step
-use Rattle.foyer_core_laws.specs.Content.{Content, Meaning}
-use Rattle.foyer_core_laws.specs.CoreRules.{machine}
-use Rattle.foyer_core_laws.specs.Sizes.{AreValid}
-use Rattle.foyer_core_laws.specs.declared.settings.Settings.{Settings}
+use Rattle.foyer_core_blocks.specs.Content.{Content, Meaning}
+use Rattle.foyer_core_blocks.specs.CoreRules.{machine}
+use Rattle.foyer_core_blocks.specs.Sizes.{AreValid}
+use Rattle.foyer_core_blocks.specs.Settings.{Settings}
 use Rattle.foyer_block_manager.specs.Managed.{Managed}
 use Rattle.foyer_core_blocks.proofs.SetsLemmas.{managed_kept, same_blocks, leaves_all, reclaims_all}
 use Rattle.foyer_core_flusher.specs.FlusherSteps.{StandsAt, FlusherStep}

@@ -6,11 +6,11 @@ use Rattle.foyer_block_index.specs.declared.indexer.Index.{Index}
 use Rattle.foyer_block_index.specs.declared.indexer.Index.TheVariants.{Address, Tombstone}
 use Rattle.foyer_format_layout.specs.Page.{page_up}
 use Rattle.foyer_core_model.specs.Queue.{invalidated_by}
-use Rattle.foyer_core_laws.specs.Content.{Meaning}
-use Rattle.foyer_core_laws.specs.CoreRules.{machine}
-use Rattle.foyer_core_laws.specs.Sizes.{AreValid}
+use Rattle.foyer_core_blocks.specs.Content.{Meaning}
+use Rattle.foyer_core_blocks.specs.CoreRules.{machine}
+use Rattle.foyer_core_blocks.specs.Sizes.{AreValid}
 use Rattle.foyer_core_blocks.specs.Standing.{slot_of}
-use Rattle.foyer_core_laws.specs.declared.settings.Settings.{Settings}
+use Rattle.foyer_core_blocks.specs.Settings.{Settings}
 use Rattle.foyer_core_flusher.specs.Marking.{bytes_of}
 
 pub pushed_out : {K V P : Type 0} (m : Meaning K V P) (s : Settings) (sound : AreValid s) (held : Option Index) (sequence : ℕ)

@@ -12,11 +12,11 @@ use Rattle.foyer_core_model.specs.State as model_state
 use Rattle.foyer_core_model.specs.Step as model_step
 use Rattle.foyer_core_flusher.specs.FlusherSteps.{StandsAt, FlusherStep}
 use Rattle.foyer_core_flusher.specs.BlockIssued.{IsIssued}
-use Rattle.foyer_core_laws.specs.Content.{Content, Meaning}
+use Rattle.foyer_core_blocks.specs.Content.{Content, Meaning}
 use Rattle.foyer_core_flusher.specs.Flushing.{IsBatchAs, AreBatched, HasOwn, IsThere, IsFlusherAs}
-use Rattle.foyer_core_laws.specs.CoreRules.{machine}
+use Rattle.foyer_core_blocks.specs.CoreRules.{machine}
 use Rattle.foyer_core_flusher.specs.Issuing.{write_of}
-use Rattle.foyer_core_laws.specs.Sizes.{AreValid}
+use Rattle.foyer_core_blocks.specs.Sizes.{AreValid}
 use Rattle.foyer_block_manager.specs.BlockSets.{Stands, HasSameRules, HandsOut, with_ready, after_hand_out}
 use Rattle.foyer_block_manager.specs.Managed.{Managed}
 use Rattle.foyer_core_blocks.specs.Standing.{sets_of, HasItsBlocks}
@@ -27,7 +27,7 @@ use Rattle.foyer_core_flusher.specs.Seen.{Seen}
 use Rattle.foyer_core_flusher.proofs.FlushLemmas.{batched, some_laid}
 use Rattle.foyer_core_flusher.specs.declared.batch.Batch.{Batch}
 use Rattle.foyer_core_flusher.specs.declared.batch.Write.{Write}
-use Rattle.foyer_core_laws.specs.declared.settings.Settings.{Settings}
+use Rattle.foyer_core_blocks.specs.Settings.{Settings}
 
 module _ {K V P : Type 0} (m : Meaning K V P) (s : Settings) (sound : AreValid s) where
   -- a flusher whose next block is issued

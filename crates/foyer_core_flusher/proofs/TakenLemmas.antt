@@ -19,12 +19,12 @@ use Rattle.foyer_core_model.specs.Reply as model_reply
 use Rattle.foyer_core_model.specs.State as model_state
 use Rattle.foyer_core_layout.specs.Bridge.{kept_of}
 use Rattle.foyer_core_layout.proofs.RoomLemmas.{fits_agree}
-use Rattle.foyer_core_laws.specs.Content.{Content, Meaning, content_of}
-use Rattle.foyer_core_laws.specs.CoreRules.{machine, encoded, has_record}
-use Rattle.foyer_core_laws.specs.Sizes.{AreValid, buffer_room}
-use Rattle.foyer_core_laws.specs.declared.settings.Settings.{Settings}
-use Rattle.foyer_core_laws.proofs.LawLemmas.{are_rules}
-use Rattle.foyer_core_laws.proofs.TripLemmas.{left, right, some_is}
+use Rattle.foyer_core_blocks.specs.Content.{Content, Meaning, content_of}
+use Rattle.foyer_core_blocks.specs.CoreRules.{machine, encoded, has_record}
+use Rattle.foyer_core_blocks.specs.Sizes.{AreValid, buffer_room}
+use Rattle.foyer_core_blocks.specs.Settings.{Settings}
+use Rattle.foyer_core_blocks.proofs.LawLemmas.{are_rules}
+use Rattle.foyer_core_blocks.proofs.TripLemmas.{left, right, some_is}
 use Rattle.foyer_core_blocks.specs.Addresses.{address_of, mark_of, invalid_of}
 use Rattle.foyer_core_blocks.specs.declared.manager.Invalidated.{Invalidated}
 use Rattle.foyer_core_flusher.specs.Filled.{HasRoomFor}

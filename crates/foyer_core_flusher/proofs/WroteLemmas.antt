@@ -15,14 +15,14 @@ use Rattle.foyer_core_model.specs.Reply as model_reply
 use Rattle.foyer_core_model.specs.State as model_state
 use Rattle.foyer_core_model.specs.Step as model_step
 use Rattle.foyer_core_flusher.specs.FlusherSteps.{StandsAt, FlusherStep, settled, failed_batch, issued_wrote, HasEnded}
-use Rattle.foyer_core_laws.specs.Content.{Content, Meaning}
+use Rattle.foyer_core_blocks.specs.Content.{Content, Meaning}
 use Rattle.foyer_core_flusher.specs.Flushing.{AreEntering, AreFrom, IsWritingAs, AreWriting, IsBatchAs, IsFlusherAs}
 use Rattle.foyer_core_blocks.specs.Addresses.{invalid_of}
 use Rattle.foyer_block_manager.specs.BlockSets.{Stands, HasSameRules}
 use Rattle.foyer_block_manager.specs.Managed.{Managed, filling_in}
-use Rattle.foyer_core_laws.specs.CoreRules.{machine}
+use Rattle.foyer_core_blocks.specs.CoreRules.{machine}
 use Rattle.foyer_core_blocks.specs.Addresses.{mark_of}
-use Rattle.foyer_core_laws.specs.Sizes.{AreValid}
+use Rattle.foyer_core_blocks.specs.Sizes.{AreValid}
 use Rattle.foyer_core_blocks.specs.Standing.{IsIndexedAs, sets_of}
 use Rattle.foyer_core_flusher.specs.Seen.{Seen}
 use Rattle.foyer_core_blocks.proofs.SetsLemmas.{filling_at, managed_kept, same_blocks, leaves_all, reclaims_all, releases, ready_same}
@@ -35,7 +35,7 @@ use Rattle.foyer_core_flusher.specs.declared.batch.Wrote.{Wrote as Answer}
 use Rattle.foyer_core_flusher.specs.declared.batch.Wrote.TheVariants as answers
 use Rattle.foyer_core_flusher.specs.declared.batch.Batch.{Batch}
 use Rattle.foyer_core_flusher.specs.declared.batch.Writing.{Writing}
-use Rattle.foyer_core_laws.specs.declared.settings.Settings.{Settings}
+use Rattle.foyer_core_blocks.specs.Settings.{Settings}
 
 first_left : (ws : List Write) → 0 < length ws → (first : Write) × (rest : List Write) × (ws ≡ first ∷ rest)
 first_left [] some = absurd (omega arith)

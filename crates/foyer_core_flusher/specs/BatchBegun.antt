@@ -8,13 +8,13 @@ use Rattle.foyer_core_model.specs.Reply as model_reply
 use Rattle.foyer_core_model.specs.Rules.{Rules, sizes_of}
 use Rattle.foyer_core_model.specs.State as model_state
 use Rattle.foyer_core_layout.specs.Splits.{IsLaidOut, AreRules}
-use Rattle.foyer_core_laws.specs.Content.{Content, Meaning}
-use Rattle.foyer_core_laws.specs.declared.settings.Settings.{Settings}
+use Rattle.foyer_core_blocks.specs.Content.{Content, Meaning}
+use Rattle.foyer_core_blocks.specs.Settings.{Settings}
 use Rattle.foyer_core_blocks.specs.Addresses.{mark_of}
 use Rattle.foyer_core_blocks.specs.Standing.{KeepsItsBlocks}
 use Rattle.foyer_core_flusher.specs.Begun.{IsBegun}
 use Rattle.foyer_core_flusher.specs.Flushing.{IsFlusherAs}
-use Rattle.foyer_core_laws.specs.Sizes.{sizes_in}
+use Rattle.foyer_core_blocks.specs.Sizes.{sizes_in}
 use Rattle.foyer_core_flusher.specs.Seen.{Seen, seen}
 use Rattle.foyer_core_flusher.specs.declared.flusher.Flusher.{Flusher}
 

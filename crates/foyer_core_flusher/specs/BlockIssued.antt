@@ -6,8 +6,8 @@ use Rattle.foyer_core_model.specs.Layout.{writes_in}
 use Rattle.foyer_core_model.specs.Rules.{Rules}
 use Rattle.foyer_core_model.specs.State as model_state
 use Rattle.foyer_core_layout.specs.Splits.{AreRules}
-use Rattle.foyer_core_laws.specs.Content.{Content, Meaning}
-use Rattle.foyer_core_laws.specs.declared.settings.Settings.{Settings}
+use Rattle.foyer_core_blocks.specs.Content.{Content, Meaning}
+use Rattle.foyer_core_blocks.specs.Settings.{Settings}
 use Rattle.foyer_core_flusher.specs.Flushing.{IsBatchAs}
 use Rattle.foyer_core_flusher.specs.Issuing.{write_of}
 use Rattle.foyer_core_flusher.specs.Issued.{IssuesFirst}

@@ -9,10 +9,10 @@ use Rattle.foyer_core_model.specs.Rules.{first_position}
 use Rattle.foyer_core_model.specs.State as model_state
 use Rattle.foyer_core_model.specs.Step as model_step
 use Rattle.foyer_policy_piece.specs.Referred.{Referred}
-use Rattle.foyer_core_laws.specs.Content.{Content, Meaning, content_of, contents_of}
-use Rattle.foyer_core_laws.specs.CoreRules.{layout, machine}
-use Rattle.foyer_core_laws.specs.Sizes.{AreValid}
-use Rattle.foyer_core_laws.specs.declared.settings.Settings.{Settings}
+use Rattle.foyer_core_blocks.specs.Content.{Content, Meaning, content_of, contents_of}
+use Rattle.foyer_core_blocks.specs.CoreRules.{layout, machine}
+use Rattle.foyer_core_blocks.specs.Sizes.{AreValid}
+use Rattle.foyer_core_blocks.specs.Settings.{Settings}
 use Rattle.foyer_block_manager.specs.Managed.{Managed}
 use Rattle.foyer_core_blocks.specs.Standing.{IsIndexedAs, sets_of, IsManagedAs, HasItsBlocks, LeavesOthers, KeepsReclaims}
 use Rattle.foyer_core_flusher.specs.Flushing.{IsFlusherAs}

@@ -10,9 +10,9 @@ use Rattle.foyer_core_model.specs.Record as model_record
 use Rattle.foyer_core_model.specs.State as model_state
 use Rattle.foyer_core_layout.specs.Bridge.{filling_of, kept_of, AreBlocksAs}
 use Rattle.foyer_core_layout.specs.Splits.{MayGoOn, AllEndBy, LiesWithin}
-use Rattle.foyer_core_laws.specs.Content.{Content, Meaning, content_of, contents_of}
-use Rattle.foyer_core_laws.specs.Sizes.{buffer_room, sizes_in}
-use Rattle.foyer_core_laws.specs.declared.settings.Settings.{Settings}
+use Rattle.foyer_core_blocks.specs.Content.{Content, Meaning, content_of, contents_of}
+use Rattle.foyer_core_blocks.specs.Sizes.{buffer_room, sizes_in}
+use Rattle.foyer_core_blocks.specs.Settings.{Settings}
 use Rattle.foyer_core_blocks.specs.Addresses.{address_of, mark_of, invalid_of}
 use Rattle.foyer_core_blocks.specs.declared.manager.Invalidated.{Invalidated}
 use Rattle.foyer_core_flusher.specs.Seen.{Seen}

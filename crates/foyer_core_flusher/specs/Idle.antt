@@ -1,8 +1,8 @@
 -- A flusher that has nothing.
 use Rattle.std.specs.Prelude.{◌-◌, [], None}
 use Rattle.foyer_format_buffer.specs.Position.{fresh_context}
-use Rattle.foyer_core_laws.specs.Sizes.{buffer_room, sizes_in}
-use Rattle.foyer_core_laws.specs.declared.settings.Settings.{Settings}
+use Rattle.foyer_core_blocks.specs.Sizes.{buffer_room, sizes_in}
+use Rattle.foyer_core_blocks.specs.Settings.{Settings}
 use Rattle.foyer_core_flusher.specs.Seen.{Seen}
 
 -- in a core of these sizes

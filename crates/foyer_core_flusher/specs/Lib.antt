@@ -15,3 +15,13 @@ pub mod Marking
 pub mod Offsets
 pub mod Seen
 pub mod Taking
+pub use Rattle.foyer_core_blocks.specs.Addresses
+pub use Rattle.foyer_core_blocks.specs.Begins
+pub use Rattle.foyer_core_blocks.specs.Content
+pub use Rattle.foyer_core_blocks.specs.CoreRules
+pub use Rattle.foyer_core_blocks.specs.Headline
+pub use Rattle.foyer_core_blocks.specs.Restart
+pub use Rattle.foyer_core_blocks.specs.Settings
+pub use Rattle.foyer_core_blocks.specs.Sizes
+pub use Rattle.foyer_core_blocks.specs.Standing
+pub use Rattle.foyer_core_layout.specs.Bridge

@@ -9,10 +9,10 @@ use Rattle.foyer_core_model.specs.Record.{Slot}
 use Rattle.foyer_core_model.specs.Refusal.{TakesMemory}
 use Rattle.foyer_core_model.specs.Reply as model_reply
 use Rattle.foyer_core_model.specs.State as model_state
-use Rattle.foyer_core_laws.specs.Content.{Content, Meaning, returned}
-use Rattle.foyer_core_laws.specs.CoreRules.{machine}
-use Rattle.foyer_core_laws.specs.Sizes.{AreValid}
-use Rattle.foyer_core_laws.specs.declared.settings.Settings.{Settings}
+use Rattle.foyer_core_blocks.specs.Content.{Content, Meaning, returned}
+use Rattle.foyer_core_blocks.specs.CoreRules.{machine}
+use Rattle.foyer_core_blocks.specs.Sizes.{AreValid}
+use Rattle.foyer_core_blocks.specs.Settings.{Settings}
 use Rattle.foyer_core_blocks.specs.Standing.{IsIndexedAs, KeepsItsBlocks}
 use Rattle.foyer_core_flusher.specs.Filled.{HasRoomFor}
 use Rattle.foyer_core_flusher.specs.Flushing.{IsFlusherAs}

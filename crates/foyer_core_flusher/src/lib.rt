@@ -14,3 +14,6 @@ pub mod logged;
 pub mod marking;
 pub mod receive;
 pub mod submission;
+
+pub use foyer_core_blocks as core_blocks;
+pub use foyer_core_blocks::core_laws;

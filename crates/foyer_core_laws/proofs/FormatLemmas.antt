@@ -4,17 +4,17 @@ use Rattle.std.specs.Option.{option_map}
 use Rattle.foyer_format_blob.specs.Blob.{IsSealed}
 use Rattle.foyer_format_blob.specs.declared.blob.BlobEntryIndex.{BlobEntryIndex}
 use Rattle.foyer_format_layout.specs.Each.{Each}
-use Rattle.foyer_format_buffer.specs.Listing.{Fits}
+use Rattle.foyer_core_restart.specs.Listing.{Fits}
 use Rattle.foyer_core_model.specs.Record.{IndexEntry}
-use Rattle.foyer_core_layout.specs.Bridge.{entry_of}
+use Rattle.foyer_core_restart.specs.Bridge.{entry_of}
 use Rattle.foyer_core_restart.specs.Entries.{entry_in}
 use Rattle.foyer_core_restart.specs.Newest.{KeepsNewest}
 use Rattle.foyer_core_restart.specs.Real.{IsFormat}
 use Rattle.foyer_core_restart.specs.Restart.{FindsAgain, FindsAll}
 use Rattle.foyer_core_restart.proofs.Layouts.{laid_restart_law_lem, laid_idle_law_lem}
 use Rattle.foyer_core_restart.proofs.Newest.{laid_newest_law_lem}
-use Rattle.foyer_block_scan.specs.IndexBytes.{index_at, IsIndexOf}
-use Rattle.foyer_block_scan.proofs.IndexBytesLemmas.{judged}
+use Rattle.foyer_core_restart.specs.IndexBytes.{index_at, IsIndexOf}
+use Rattle.foyer_core_restart.proofs.IndexBytesLemmas.{judged}
 use Rattle.foyer_core_laws.specs.CoreRules.{rules_of, layout, entries_at, IsEncoded}
 use Rattle.foyer_core_laws.specs.Sizes.{AreValid, sizes_in}
 use Rattle.foyer_core_laws.specs.declared.settings.Settings.{Settings}

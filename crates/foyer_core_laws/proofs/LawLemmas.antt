@@ -2,9 +2,9 @@
 use Rattle.std.proofs.Common.{ℕ, Bool, false, List, [], None, refl}
 use Rattle.foyer_core_model.specs.Laws.{Demands}
 use Rattle.foyer_core_model.specs.Layout.{PlacesAll}
-use Rattle.foyer_core_layout.specs.Splits.{AreRules}
-use Rattle.foyer_core_layout.proofs.GreedyLemmas as greedy
-use Rattle.foyer_core_layout.proofs.KeepsLemmas as keeps
+use Rattle.foyer_core_restart.specs.LayoutSplits.{AreRules}
+use Rattle.foyer_core_restart.proofs.GreedyLemmas as greedy
+use Rattle.foyer_core_restart.proofs.KeepsLemmas as keeps
 use Rattle.foyer_core_laws.specs.Content.{Meaning}
 use Rattle.foyer_core_laws.specs.CoreRules.{rules_of, layout, IsEncoded}
 use Rattle.foyer_core_laws.specs.Sizes.{AreValid}

@@ -11,10 +11,10 @@ use Rattle.foyer_core_model.specs.Opened.{IsOpened as IsOpenedWorld, IsFound, Al
 use Rattle.foyer_core_model.specs.Record.{Address, Slot, Indexed, Mark}
 use Rattle.foyer_core_model.specs.Rules.{Rules}
 use Rattle.foyer_core_model.specs.State as model_state
-use Rattle.foyer_block_recover.specs.Opening.{Opened, Found, Stands, Marked, hash_of, sequence_of, first_or, winner, opened_at, slot_of, stand_in, all_stand, all_marked, greatest, is_empty, clean_from}
-use Rattle.foyer_block_recover.specs.Placed.{IsPlaced, IsOpening}
-use Rattle.foyer_block_recover.proofs.CleanLemmas.{clean_is}
-use Rattle.foyer_block_recover.proofs.FoundLemmas.{clean_push}
+use Rattle.foyer_core_restart.specs.Opening.{Opened, Found, Stands, Marked, hash_of, sequence_of, first_or, winner, opened_at, slot_of, stand_in, all_stand, all_marked, greatest, is_empty, clean_from}
+use Rattle.foyer_core_restart.specs.Placed.{IsPlaced, IsOpening}
+use Rattle.foyer_core_restart.proofs.CleanLemmas.{clean_is}
+use Rattle.foyer_core_restart.proofs.FoundLemmas.{clean_push}
 use Rattle.foyer_core_laws.specs.Begins.{place_of, opened_state, opened_world}
 use Rattle.foyer_core_laws.specs.CoreRules.{rules_of}
 use Rattle.foyer_core_laws.specs.Sizes.{AreValid, sizes_in}

@@ -5,8 +5,8 @@ use Rattle.std.proofs.lemmas.List.{length-append, length-replicate, take_at, dro
 use Rattle.foyer_format_blob.specs.Blob.{IsSealed}
 use Rattle.foyer_format_blob.specs.declared.blob.BlobEntryIndex.{BlobEntryIndex}
 use Rattle.foyer_format_layout.specs.BlockBytes.{laid, read, Index, Write, Data, zeros_write}
-use Rattle.foyer_format_buffer.specs.Listing.{IsIndex, Lists}
-use Rattle.foyer_format_buffer.specs.Listing.Chain.{ends, goes}
+use Rattle.foyer_core_restart.specs.Listing.{IsIndex, Lists}
+use Rattle.foyer_core_restart.specs.Listing.Chain.{ends, goes}
 use Rattle.foyer_format_layout.proofs.BlockBytesLaws.{read_whole}
 use Rattle.foyer_format_layout.specs.Page.{page_up}
 use Rattle.foyer_format_record.specs.Record.{record_bytes}
@@ -27,12 +27,12 @@ use Rattle.foyer_core_model.specs.Access.{Idle, CleanIdle}
 use Rattle.foyer_core_model.specs.World.{World, WorldEvent, Applies, WriteBegins, WriteEnds, after, MayHappen}
 use Rattle.foyer_core_model.specs.Opened.{IsOpened, idle, full_filling}
 use Rattle.foyer_core_model.proofs.Basics.{put_at, put_other}
-use Rattle.foyer_core_layout.proofs.SealLemmas.{IndexOf, index_for}
-use Rattle.foyer_core_layout.specs.Splits.{with_records, IsPart}
-use Rattle.foyer_core_layout.specs.Splits.LaidOut.{part}
-use Rattle.foyer_core_layout.specs.Splits.Left.{done}
-use Rattle.foyer_block_recover.specs.Opening.{Keeps, Opened, Opens, winner, slot_of, all_stand, greatest, clean_from}
-use Rattle.foyer_block_recover.specs.declared.block.recover.RecoverMode.TheVariants as recover_mode
+use Rattle.foyer_core_restart.proofs.SealLemmas.{IndexOf, index_for}
+use Rattle.foyer_core_restart.specs.LayoutSplits.{with_records, IsPart}
+use Rattle.foyer_core_restart.specs.LayoutSplits.LaidOut.{part}
+use Rattle.foyer_core_restart.specs.LayoutSplits.Left.{done}
+use Rattle.foyer_core_restart.specs.Opening.{Keeps, Opened, Opens, winner, slot_of, all_stand, greatest, clean_from}
+use Rattle.foyer_core_restart.specs.RecoverMode.TheVariants as recover_mode
 use Rattle.foyer_core_restart.proofs.TornMachine.{issued_as}
 use Rattle.foyer_core_restart.proofs.Witness.{first_only}
 use Rattle.foyer_core_restart.specs.Restart.{HasNoStrays, IsWriting, no_fault}

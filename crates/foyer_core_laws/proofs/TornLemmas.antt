@@ -10,12 +10,12 @@ use Rattle.foyer_format_record.proofs.RecordBytes.{length-record_bytes}
 use Rattle.foyer_core_model.specs.Record.{IndexEntry, Record, Address}
 use Rattle.foyer_core_model.specs.Position.{Position}
 use Rattle.foyer_core_model.specs.Rules.{Rules, first_position}
-use Rattle.foyer_core_layout.proofs.SealLemmas.{IndexOf, index_for}
-use Rattle.foyer_core_layout.specs.Splits.{with_records, IsPart}
-use Rattle.foyer_core_layout.specs.Splits.LaidOut.{part}
-use Rattle.foyer_core_layout.specs.Splits.Left.{done, block}
-use Rattle.foyer_block_recover.specs.Opening.{Opened, Opens}
-use Rattle.foyer_block_recover.specs.declared.block.recover.RecoverMode.TheVariants as recover_mode
+use Rattle.foyer_core_restart.proofs.SealLemmas.{IndexOf, index_for}
+use Rattle.foyer_core_restart.specs.LayoutSplits.{with_records, IsPart}
+use Rattle.foyer_core_restart.specs.LayoutSplits.LaidOut.{part}
+use Rattle.foyer_core_restart.specs.LayoutSplits.Left.{done, block}
+use Rattle.foyer_core_restart.specs.Opening.{Opened, Opens}
+use Rattle.foyer_core_restart.specs.RecoverMode.TheVariants as recover_mode
 use Rattle.foyer_core_restart.proofs.TornMachine.{Machine, Item, record_of, StandsAlone}
 use Rattle.foyer_core_restart.proofs.TornStop.{found, reached_open}
 use Rattle.foyer_core_restart.specs.Restart.{no_fault}

@@ -7,7 +7,7 @@ use Rattle.foyer_core_model.specs.Record.{Address}
 use Rattle.foyer_core_model.specs.Rules.{Rules}
 use Rattle.foyer_core_model.specs.State.{State, BlockSet, Clean, Evictable, no_stats, NoDestroy}
 use Rattle.foyer_core_model.specs.World.{World}
-use Rattle.foyer_block_recover.specs.Opening.{Opened}
+use Rattle.foyer_core_restart.specs.Opening.{Opened}
 
 -- a block that keeps something may be reclaimed; all others are clean, and what is no block counts as clean
 abbrev pub place_of : (blocks : ℕ) → (clean : List ℕ) → ℕ → BlockSet

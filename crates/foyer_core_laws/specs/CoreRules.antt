@@ -8,10 +8,10 @@ use Rattle.foyer_format_record.specs.Record.Outcome.{NoRecord, Unsupported, Unde
 use Rattle.foyer_core_model.specs.Record as model_record
 use Rattle.foyer_core_model.specs.Record.{IndexEntry}
 use Rattle.foyer_core_model.specs.Rules.{Rules, Splitting}
-use Rattle.foyer_core_layout.specs.Bridge.{entry_of}
+use Rattle.foyer_core_restart.specs.Bridge.{entry_of}
 use Rattle.foyer_core_laws.specs.Content.{Content, Meaning}
-use Rattle.foyer_core_layout.specs.Splits.{IsLaidOut, part_writes}
-use Rattle.foyer_block_scan.specs.IndexBytes.{index_at}
+use Rattle.foyer_core_restart.specs.LayoutSplits.{IsLaidOut, part_writes}
+use Rattle.foyer_core_restart.specs.IndexBytes.{index_at}
 use Rattle.foyer_core_laws.specs.Sizes.{AreValid, buffer_room, sizes_in}
 use Rattle.foyer_core_laws.specs.declared.settings.Settings.{Settings}
 

@@ -4,8 +4,8 @@ use Rattle.foyer_core_model.specs.Companions.{QueueKeeps, CommitKeeps, ReclaimKe
 use Rattle.foyer_core_model.specs.Laws.{AnswersNewest, MissedNewest}
 use Rattle.foyer_core_model.specs.Opened.{IsOpened}
 use Rattle.foyer_core_model.specs.Record.{Address}
-use Rattle.foyer_block_recover.specs.Opening.{Opened}
-use Rattle.foyer_block_recover.specs.Placed.{IsOpening}
+use Rattle.foyer_core_restart.specs.Opening.{Opened}
+use Rattle.foyer_core_restart.specs.Placed.{IsOpening}
 use Rattle.foyer_core_laws.specs.Begins.{opened_world}
 use Rattle.foyer_core_laws.specs.CoreRules.{rules_of, layout, IsEncoded}
 use Rattle.foyer_core_laws.specs.Sizes.{AreValid, sizes_in}

@@ -5,3 +5,4 @@ pub mod Headline
 pub mod Reached
 pub mod ReachedTorn
 pub mod Sizes
+pub use Rattle.foyer_core_restart.specs.Restart

@@ -4,8 +4,8 @@ use Rattle.foyer_core_model.specs.Record.{Address, Indexed}
 use Rattle.foyer_core_model.specs.Rules.{Rules, Splitting, sizes_of}
 use Rattle.foyer_core_model.specs.State.{Writing}
 use Rattle.foyer_core_model.specs.World.{World}
-use Rattle.foyer_block_recover.specs.Opening.{Opened, Opens}
-use Rattle.foyer_block_recover.specs.declared.block.recover.RecoverMode.TheVariants as recover_mode
+use Rattle.foyer_core_restart.specs.Opening.{Opened, Opens}
+use Rattle.foyer_core_restart.specs.RecoverMode.TheVariants as recover_mode
 use Rattle.foyer_core_restart.specs.Restart.{IsRun, IsStopped, HasNoStrays, IsWriting, no_fault}
 use Rattle.foyer_core_laws.specs.declared.settings.Settings.{Settings}
 

@@ -2,8 +2,8 @@
 use Rattle.std.specs.Prelude.{ℕ, []}
 use Rattle.foyer_core_model.specs.Record.{Address}
 use Rattle.foyer_core_model.specs.Rules.{Rules, Splitting, sizes_of}
-use Rattle.foyer_block_recover.specs.Opening.{Opened, Opens}
-use Rattle.foyer_block_recover.specs.declared.block.recover.RecoverMode.TheVariants as recover_mode
+use Rattle.foyer_core_restart.specs.Opening.{Opened, Opens}
+use Rattle.foyer_core_restart.specs.RecoverMode.TheVariants as recover_mode
 use Rattle.foyer_core_restart.specs.Restart.{IsFoundAgain, no_fault}
 use Rattle.foyer_core_restart.specs.Torn.{IsTornStop, FindsAfter, FindsNewer}
 use Rattle.foyer_core_laws.specs.declared.settings.Settings.{Settings}

@@ -1,8 +1,8 @@
 -- A split batch is a placing of the plain machine.
 use Rattle.std.proofs.Common.{◌≡◌, ℕ, suc, ◌+◌, ◌-◌, ◌≤◌, List, [], ◌∷◌, ◌++◌, map, length, take, drop, refl, sym, ap, subst, ◌∙◌, arith}
 use Rattle.std.proofs.lemmas.List.{length-map, map-append, length-drop, length-take-le, drop-take, drop-drop, take-take}
-use Rattle.foyer_format_blob.specs.Blob.{IsSealed}
-use Rattle.foyer_format_blob.specs.declared.blob.BlobEntryIndex.{BlobEntryIndex}
+use Rattle.foyer_format_buffer.specs.Blob.{IsSealed}
+use Rattle.foyer_format_buffer.specs.BlobEntryIndex.{BlobEntryIndex}
 use Rattle.foyer_format_buffer.proofs.FillsLemmas.{part_is}
 use Rattle.foyer_format_buffer.proofs.SplitLemmas.{taken-append, taken_cons, taken_none, entries_cons, entries_none}
 use Rattle.foyer_format_buffer.specs.Entries.{Entry, Entries, IsFinished, IsPacked, entries_at}

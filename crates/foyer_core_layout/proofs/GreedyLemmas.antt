@@ -2,7 +2,7 @@
 use Rattle.std.proofs.Common.{◌≡◌, ℕ, suc, ◌+◌, ◌-◌, ◌<◌, ◌≤◌, ◌^◌, nat_le, nat_lt, Bool, true, false, List, [], ◌∷◌, ◌++◌, length, replicate, refl, sym, ap, subst, ◌∙◌, arith}
 use Rattle.std.proofs.lemmas.Bool.Decides.{nat_tests}
 use Rattle.std.proofs.lemmas.List.{length-append, length-replicate, take-append-le, take_at, drop_at, append_assoc}
-use Rattle.foyer_format_blob.specs.Blob.{capacity_of}
+use Rattle.foyer_format_buffer.specs.Blob.{capacity_of}
 use Rattle.foyer_format_layout.specs.Position.{Sizes, tail_of, fresh, next_blob}
 use Rattle.foyer_format_layout.proofs.PageLaws.{page_up-holds}
 use Rattle.foyer_format_layout.specs.Page.{page_up}

@@ -5,9 +5,9 @@ use Rattle.std.proofs.lemmas.Nat.{xor_lt}
 use Rattle.std.specs.Int.Bits.{bit_xor}
 use Rattle.byteorder.specs.Endian.{big_bytes}
 use Rattle.foyer_format_checksum.specs.Xxh64.{xxh64, avalanche, mul64, prime2, prime3}
-use Rattle.foyer_format_blob.proofs.BlobLemmas.{entry_put, sealed_by, entries_none}
-use Rattle.foyer_format_blob.specs.Blob.{entry_bytes, entries_in, IsSealed, FitsEntry, capacity_of}
-use Rattle.foyer_format_blob.specs.declared.blob.BlobEntryIndex.{BlobEntryIndex}
+use Rattle.foyer_format_buffer.proofs.BlobLemmas.{entry_put, sealed_by, entries_none}
+use Rattle.foyer_format_buffer.specs.Blob.{entry_bytes, entries_in, IsSealed, FitsEntry, capacity_of}
+use Rattle.foyer_format_buffer.specs.BlobEntryIndex.{BlobEntryIndex}
 use Rattle.foyer_format_layout.specs.Each.{Each}
 use Rattle.foyer_core_model.specs.Record.{IndexEntry}
 use Rattle.foyer_core_layout.specs.Splits.{is_encoded, IsIndexOf}

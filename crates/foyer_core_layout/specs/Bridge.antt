@@ -1,6 +1,6 @@
 -- A split batch in the words of the plain machine.
 use Rattle.std.specs.Prelude.{◌≡◌, ℕ, ◌+◌, List, [], ◌∷◌, map, length}
-use Rattle.foyer_format_blob.specs.declared.blob.BlobEntryIndex.{BlobEntryIndex}
+use Rattle.foyer_format_buffer.specs.BlobEntryIndex.{BlobEntryIndex}
 use Rattle.foyer_format_buffer.specs.Entries.{Entry}
 use Rattle.foyer_format_buffer.specs.Position as buffered
 use Rattle.foyer_format_buffer.specs.declared.split.BlobPart.{BlobPart}

@@ -1,7 +1,7 @@
 -- How the plain machine's records are placed into blocks, blobs and parts.
 use Rattle.std.specs.Prelude.{◌≡◌, ℕ, ◌+◌, ◌<◌, ◌≤◌, List, [], ◌∷◌, ◌++◌, map, length, take, drop}
-use Rattle.foyer_format_blob.specs.Blob.{IsSealed, capacity_of}
-use Rattle.foyer_format_blob.specs.declared.blob.BlobEntryIndex.{BlobEntryIndex}
+use Rattle.foyer_format_buffer.specs.Blob.{IsSealed, capacity_of}
+use Rattle.foyer_format_buffer.specs.BlobEntryIndex.{BlobEntryIndex}
 use Rattle.foyer_format_layout.specs.Each.{Each}
 use Rattle.foyer_format_layout.specs.Position.{Sizes, tail_of, next_blob, fresh}
 use Rattle.foyer_format_layout.specs.Page.{page_up}

@@ -22,3 +22,9 @@ pub mod TornStop
 pub mod TornWitness
 pub mod Layouts
 pub mod Newest
+pub use Rattle.foyer_block_recover.proofs.CleanLemmas
+pub use Rattle.foyer_block_recover.proofs.FoundLemmas
+pub use Rattle.foyer_block_recover.proofs.IndexBytesLemmas
+pub use Rattle.foyer_core_layout.proofs.GreedyLemmas
+pub use Rattle.foyer_core_layout.proofs.KeepsLemmas
+pub use Rattle.foyer_core_layout.proofs.SealLemmas

@@ -13,14 +13,14 @@ use Rattle.foyer_core_laws.specs.Sizes.{AreValid}
 use Rattle.foyer_core_steps.specs.StateOf.{IsStateOf}
 use Rattle.foyer_core_steps.specs.declared.reply.Reply.{Reply}
 use Rattle.foyer_core_steps.specs.declared.reply.Reply.TheVariants as reply
-use Rattle.foyer_core_flusher.specs.declared.batch.Write.{Write}
+use Rattle.foyer_core_steps.specs.Write.{Write}
 use Rattle.foyer_core_laws.specs.declared.settings.Settings.{Settings}
 use Rattle.foyer_core_steps.specs.declared.state.Core.{Core}
 use Rattle.foyer_core_steps.specs.declared.step.Step.{Step}
 use Rattle.foyer_core_steps.specs.declared.step.Step.TheVariants as step
 use Rattle.foyer_core_steps.specs.declared.step.Ticket.{Ticket}
 use Rattle.foyer_core_steps.proofs.Opening.{replicate-end}
-use Rattle.foyer_core_blocks.proofs.ListLemmas.{set_count, set_here}
+use Rattle.foyer_core_steps.proofs.ListLemmas.{set_count, set_here}
 use Rattle.foyer_core_run.specs.Accesses.{Says, WritesAll, WritesUntil, load_of, writes_of}
 use Rattle.foyer_core_run.specs.Causes.{is_fault}
 use Rattle.foyer_core_run.specs.Moves.{asked}

@@ -12,16 +12,16 @@ use Rattle.foyer_core_laws.specs.CoreRules.{layout}
 use Rattle.foyer_core_steps.specs.Refines.{IsRefined}
 use Rattle.foyer_core_laws.specs.CoreRules.{machine}
 use Rattle.foyer_core_steps.specs.Replied.{IsReply}
-use Rattle.foyer_core_flusher.specs.Issuing.{write_of}
+use Rattle.foyer_core_steps.specs.Issuing.{write_of}
 use Rattle.foyer_core_laws.specs.Sizes.{AreValid}
 use Rattle.foyer_core_steps.specs.declared.reply.Reply.{Reply}
 use Rattle.foyer_core_steps.specs.declared.reply.Reply.TheVariants as reply
-use Rattle.foyer_core_flusher.specs.declared.batch.Write.{Write}
+use Rattle.foyer_core_steps.specs.Write.{Write}
 use Rattle.foyer_core_laws.specs.declared.settings.Settings.{Settings}
 use Rattle.foyer_core_steps.specs.declared.state.Core.{Core}
 use Rattle.foyer_core_steps.specs.declared.step.Step.TheVariants as step
 use Rattle.foyer_core_steps.specs.declared.step.Ticket.{Ticket}
-use Rattle.foyer_core_blocks.proofs.ListLemmas.{set_here, set_there, set_count}
+use Rattle.foyer_core_steps.proofs.ListLemmas.{set_here, set_there, set_count}
 use Rattle.foyer_core_run.specs.Running.{IsDue, IsMoved, IsRunning, at, block_in, ticket_in, with_ticket}
 use Rattle.foyer_core_run.specs.declared.moves.Asked.TheVariants as asks
 use Rattle.foyer_core_run.specs.declared.moves.kept.Issued.{Issued}

@@ -23,7 +23,7 @@ use Rattle.foyer_core_steps.specs.declared.state.Core.{Core}
 use Rattle.foyer_core_steps.specs.declared.step.Step.{Step}
 use Rattle.foyer_core_steps.specs.declared.step.Step.TheVariants as step
 use Rattle.foyer_core_steps.specs.declared.step.Ticket.{Ticket}
-use Rattle.foyer_core_blocks.proofs.ListLemmas.{set_here, set_there, set_count}
+use Rattle.foyer_core_steps.proofs.ListLemmas.{set_here, set_there, set_count}
 use Rattle.foyer_core_run.specs.Running.{IsCleanDue, IsDue, IsMoved, IsRunning, at, is_set, ticket_in, with_ticket}
 use Rattle.foyer_core_run.specs.declared.moves.Asked.TheVariants as asks
 use Rattle.foyer_core_run.specs.declared.moves.kept.Issued.{Issued}

@@ -23,7 +23,7 @@ use Rattle.foyer_core_steps.specs.declared.state.Core.{Core}
 use Rattle.foyer_core_steps.specs.declared.step.Step.{Step}
 use Rattle.foyer_core_steps.specs.declared.step.Step.TheVariants as step
 use Rattle.foyer_block_manager.proofs.InitialLemmas.{in_ids}
-use Rattle.foyer_core_blocks.proofs.ListLemmas.{set_here, set_there, set_count}
+use Rattle.foyer_core_steps.proofs.ListLemmas.{set_here, set_there, set_count}
 use Rattle.foyer_core_run.specs.Due.{IsUnscanned}
 use Rattle.foyer_core_access.specs.Reclaims.{part_in}
 use Rattle.foyer_core_run.specs.Running.{IsCleanDue, IsFree, IsScanDue, at, cleans_noted, is_set, issuing_in, scans_noted}

@@ -9,11 +9,11 @@ use Rattle.foyer_core_model.specs.State as model_state
 use Rattle.foyer_core_laws.specs.Content.{Content, Meaning}
 use Rattle.foyer_core_laws.specs.declared.settings.Settings.{Settings}
 use Rattle.foyer_core_layout.specs.Bridge.{kept_of}
-use Rattle.foyer_core_flusher.proofs.BeginTurns.{no_map}
-use Rattle.foyer_core_flusher.specs.Flushing.{AreBatched, IsFlusherAs}
-use Rattle.foyer_core_flusher.specs.Seen.{Seen, is_still, seen}
-use Rattle.foyer_core_flusher.specs.declared.batch.Batch.{Batch}
-use Rattle.foyer_core_flusher.specs.declared.flusher.Flusher.{Flusher as CoreFlusher}
+use Rattle.foyer_core_steps.proofs.BeginTurns.{no_map}
+use Rattle.foyer_core_steps.specs.Flushing.{AreBatched, IsFlusherAs}
+use Rattle.foyer_core_steps.specs.Seen.{Seen, is_still, seen}
+use Rattle.foyer_core_steps.specs.Batch.{Batch}
+use Rattle.foyer_core_steps.specs.Flusher.{Flusher as CoreFlusher}
 use Rattle.foyer_core_steps.specs.StateOf.{IsStateOf}
 use Rattle.foyer_core_steps.specs.declared.state.Core.{Core}
 use Rattle.foyer_core_steps.proofs.StillLemmas.{idle_of}

@@ -33,3 +33,4 @@ pub mod FaultLists
 pub mod WriteRuns
 mod WellLemmas
 mod MakeLemmas
+pub use Rattle.foyer_core_access.proofs.CleanLemmas as AccessCleanLemmas

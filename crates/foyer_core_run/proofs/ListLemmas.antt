@@ -4,7 +4,7 @@ use Rattle.std.proofs.lemmas.Bool.Decides.{nat_tests}
 use Rattle.std.proofs.lemmas.Option.{slice_get_past}
 use Rattle.std.specs.Prelude.{IfSome, MatchOption, is_some, slice_index_or}
 use Rattle.foyer_block_index.proofs.Found.{slice_get_at}
-use Rattle.foyer_core_blocks.proofs.ListLemmas.{some_is}
+use Rattle.foyer_core_steps.proofs.ListLemmas.{some_is}
 use Rattle.foyer_core_run.specs.Running.{at}
 
 module _ {X : Type 0} where

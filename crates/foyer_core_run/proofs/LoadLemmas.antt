@@ -22,7 +22,7 @@ use Rattle.foyer_core_laws.specs.declared.settings.Settings.{Settings}
 use Rattle.foyer_core_steps.specs.declared.state.Core.{Core}
 use Rattle.foyer_core_steps.specs.declared.step.Step.TheVariants as step
 use Rattle.foyer_core_steps.specs.declared.step.Ticket.{Ticket}
-use Rattle.foyer_core_blocks.proofs.ListLemmas.{set_here, set_there, set_count, some_is}
+use Rattle.foyer_core_steps.proofs.ListLemmas.{set_here, set_there, set_count, some_is}
 use Rattle.foyer_io_disk.specs.Disk.{IsRead}
 use Rattle.foyer_core_run.specs.Causes.{HasReadCome, is_fault}
 use Rattle.foyer_core_run.specs.Due.{unread}

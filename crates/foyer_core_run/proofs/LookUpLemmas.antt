@@ -19,7 +19,7 @@ use Rattle.foyer_core_model.specs.State.{Batch, Destroy, NoDestroy, Begun, Clean
 use Rattle.foyer_core_model.specs.Step.{ReadResult, Bytes, Fault, Ticket, Step, Enqueue, Delete, Wait, MayContains, LoadBegin, LoadEnd, Receive, FlushBegin, FlushBlock, FlushWrote, LogWrote, FlushEnd, ReclaimBegin, ReclaimRead, ReclaimForget, ReclaimCleaned, ReclaimIdle, DestroyBegin, DestroyClear, DestroyCleaned, Close}
 use Rattle.foyer_core_model.specs.World.{World, WorldEvent, Applies, ReadBegins, ReadEnds, ScanBegins, ScanEnds, WriteBegins, WriteEnds, CleanBegins, CleanEnds, MayHappen, MayAllHappen, after, after_all, covers}
 use Rattle.foyer_core_model.proofs.Basics.{put_at, put_other, put_same}
-use Rattle.foyer_core_blocks.proofs.ListLemmas.{some_is}
+use Rattle.foyer_core_steps.proofs.ListLemmas.{some_is}
 use Rattle.foyer_core_run.proofs.ListLemmas.{append_none, append_twice}
 use Rattle.foyer_core_run.proofs.RunLemmas.{after_more}
 

@@ -7,7 +7,7 @@ use Rattle.foyer_core_steps.specs.Refines.{IsHandedBack}
 use Rattle.foyer_core_steps.specs.Replied.{IsReply}
 use Rattle.foyer_core_steps.specs.declared.reply.Reply.{Reply}
 use Rattle.foyer_core_steps.specs.declared.reply.Reply.TheVariants as reply
-use Rattle.foyer_core_flusher.specs.declared.batch.Write.{Write}
+use Rattle.foyer_core_steps.specs.Write.{Write}
 use Rattle.foyer_core_steps.specs.declared.step.Ticket.{Ticket}
 use Rattle.std.specs.declared.vec.Vec.{Vec}
 use Rattle.foyer_core_run.specs.Running.{ticket_in, block_in}

@@ -19,7 +19,7 @@ use Rattle.foyer_core_laws.specs.declared.settings.Settings.{Settings}
 use Rattle.foyer_core_steps.specs.declared.state.Core.{Core}
 use Rattle.foyer_core_steps.specs.declared.step.Step.TheVariants as step
 use Rattle.foyer_core_steps.specs.declared.step.Ticket.{Ticket}
-use Rattle.foyer_core_blocks.proofs.ListLemmas.{set_here, set_there, set_count}
+use Rattle.foyer_core_steps.proofs.ListLemmas.{set_here, set_there, set_count}
 use Rattle.foyer_core_run.specs.Causes.{is_fault}
 use Rattle.foyer_core_run.specs.Due.{IsUnscanned}
 use Rattle.foyer_core_access.specs.Reclaims.{part_in}

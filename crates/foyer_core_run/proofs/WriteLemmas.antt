@@ -17,16 +17,16 @@ use Rattle.foyer_core_laws.specs.Content.{Content, Meaning}
 use Rattle.foyer_core_steps.specs.Refines.{IsRefined}
 use Rattle.foyer_core_laws.specs.CoreRules.{machine}
 use Rattle.foyer_core_steps.specs.Replied.{IsReply}
-use Rattle.foyer_core_flusher.specs.Issuing.{write_of, written_bytes}
+use Rattle.foyer_core_steps.specs.Issuing.{write_of, written_bytes}
 use Rattle.foyer_core_laws.specs.Sizes.{AreValid}
 use Rattle.foyer_core_steps.specs.declared.reply.Reply.{Reply}
 use Rattle.foyer_core_steps.specs.declared.reply.Reply.TheVariants as reply
-use Rattle.foyer_core_flusher.specs.declared.batch.Write.{Write}
+use Rattle.foyer_core_steps.specs.Write.{Write}
 use Rattle.foyer_core_laws.specs.declared.settings.Settings.{Settings}
 use Rattle.foyer_core_steps.specs.declared.state.Core.{Core}
 use Rattle.foyer_core_steps.specs.declared.step.Step.TheVariants as step
 use Rattle.foyer_core_steps.specs.declared.step.Ticket.{Ticket}
-use Rattle.foyer_core_blocks.proofs.ListLemmas.{set_here, set_there, set_count}
+use Rattle.foyer_core_steps.proofs.ListLemmas.{set_here, set_there, set_count}
 use Rattle.foyer_io_disk.specs.Disk.{IsTorn, IsWritten}
 use Rattle.foyer_core_run.specs.Causes.{HasWriteCome}
 use Rattle.foyer_core_run.specs.Due.{due}

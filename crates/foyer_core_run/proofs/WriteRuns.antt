@@ -13,8 +13,8 @@ use Rattle.foyer_core_laws.specs.Content.{Content, Meaning}
 use Rattle.foyer_core_laws.specs.CoreRules.{layout as laid_out, machine, IsEncoded}
 use Rattle.foyer_core_laws.specs.Sizes.{AreValid}
 use Rattle.foyer_core_laws.specs.declared.settings.Settings.{Settings}
-use Rattle.foyer_core_flusher.specs.Issuing.{write_of, written_bytes}
-use Rattle.foyer_core_flusher.specs.declared.batch.Write.{Write}
+use Rattle.foyer_core_steps.specs.Issuing.{write_of, written_bytes}
+use Rattle.foyer_core_steps.specs.Write.{Write}
 use Rattle.foyer_core_steps.specs.Asked.{went_well}
 use Rattle.foyer_core_steps.specs.Refines.{IsRefined, Refines}
 use Rattle.foyer_core_steps.specs.Replied.{IsReply}

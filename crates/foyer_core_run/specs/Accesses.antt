@@ -8,7 +8,7 @@ use Rattle.foyer_core_laws.specs.declared.settings.Settings.{Settings}
 use Rattle.foyer_core_steps.specs.StateOf.{IsStateOf}
 use Rattle.foyer_core_steps.specs.declared.reply.Reply.{Reply}
 use Rattle.foyer_core_steps.specs.declared.reply.Reply.TheVariants as reply
-use Rattle.foyer_core_flusher.specs.declared.batch.Write.{Write}
+use Rattle.foyer_core_steps.specs.Write.{Write}
 use Rattle.foyer_core_steps.specs.declared.state.Core.{Core}
 use Rattle.foyer_core_run.specs.Runs.{Runs}
 use Rattle.foyer_core_run.specs.declared.moves.Move.{Move}

@@ -9,9 +9,9 @@ use Rattle.foyer_core_model.specs.State.{State}
 use Rattle.foyer_core_laws.specs.Content.{Content, Meaning}
 use Rattle.foyer_core_laws.specs.Sizes.{AreValid}
 use Rattle.foyer_core_laws.specs.declared.settings.Settings.{Settings}
-use Rattle.foyer_core_flusher.specs.Failing.{MustGrowFor}
-use Rattle.foyer_core_flusher.specs.Issuing.{written_bytes}
-use Rattle.foyer_core_flusher.specs.declared.batch.Write.{Write}
+use Rattle.foyer_core_steps.specs.Failing.{MustGrowFor}
+use Rattle.foyer_core_steps.specs.Issuing.{written_bytes}
+use Rattle.foyer_core_steps.specs.Write.{Write}
 use Rattle.foyer_core_steps.specs.Refines.{Refines}
 use Rattle.foyer_core_steps.specs.StateOf.{IsStateOf}
 use Rattle.foyer_core_steps.specs.declared.reply.Reply.{Reply}

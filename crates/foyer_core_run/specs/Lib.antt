@@ -16,3 +16,4 @@ pub mod Texts
 pub mod Waiting
 pub mod Honest
 pub mod Causes
+pub use Rattle.foyer_core_access.specs.Reclaims as AccessReclaims

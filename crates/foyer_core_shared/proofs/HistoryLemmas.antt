@@ -17,11 +17,11 @@ use Rattle.foyer_core_steps.specs.StateOf.{IsStateOf}
 use Rattle.foyer_core_model.specs.Follows.{Follows}
 use Rattle.foyer_core_model.specs.Reply as model_reply
 use Rattle.foyer_core_model.specs.State.{State}
-use Rattle.foyer_core_laws.specs.Begins.{opened_state}
-use Rattle.foyer_core_laws.specs.Content.{Content, Meaning, content_of}
-use Rattle.foyer_core_laws.specs.CoreRules.{layout, machine}
-use Rattle.foyer_core_laws.specs.Sizes.{AreValid}
-use Rattle.foyer_core_laws.specs.declared.settings.Settings.{Settings}
+use Rattle.foyer_core_steps.specs.Begins.{opened_state}
+use Rattle.foyer_core_steps.specs.Content.{Content, Meaning, content_of}
+use Rattle.foyer_core_steps.specs.CoreRules.{layout, machine}
+use Rattle.foyer_core_steps.specs.Sizes.{AreValid}
+use Rattle.foyer_core_steps.specs.Settings.{Settings}
 use Rattle.foyer_block_recover.specs.declared.block.recover.RecoverMode.{RecoverMode}
 use Rattle.foyer_core_shared.specs.Briefs.{brief_of}
 use Rattle.foyer_core_shared.specs.Kinds.{kind_of, one_if, count_of, tallied}

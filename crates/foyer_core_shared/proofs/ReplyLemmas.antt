@@ -10,7 +10,7 @@ use Rattle.foyer_core_model.specs.Reply as model_reply
 use Rattle.foyer_core_model.specs.Rules.{Rules, Splitting}
 use Rattle.foyer_core_model.specs.State.{State}
 use Rattle.foyer_core_model.specs.Step as model_step
-use Rattle.foyer_core_laws.specs.Content.{Content, Meaning}
+use Rattle.foyer_core_steps.specs.Content.{Content, Meaning}
 use Rattle.foyer_core_steps.specs.Asked.{came_of, went_well}
 use Rattle.foyer_core_steps.specs.Destroying.{kind_of}
 use Rattle.foyer_core_steps.specs.Replied.{IsReply}

@@ -1,7 +1,7 @@
 -- Codes of facts, by which values that have them beside them are compared.
 use Rattle.std.specs.Prelude.{List}
 use Rattle.std.specs.Coded.{Coded, prop_coded}
-use Rattle.foyer_core_flusher.specs.Offsets.{BlockFits, blocks_fit_once}
+use Rattle.foyer_core_steps.specs.Offsets.{BlockFits, blocks_fit_once}
 use Rattle.foyer_format_layout.specs.Each.{Each}
 use Rattle.foyer_format_buffer.specs.declared.split.Block.{Block}
 

@@ -13,11 +13,11 @@ use Rattle.foyer_block_recover.specs.Opening.{Opened}
 use Rattle.foyer_block_recover.specs.Placed.{IsOpening}
 use Rattle.foyer_block_recover.specs.Recovery.{IsRecovered}
 use Rattle.foyer_block_recover.specs.declared.block.recover.RecoverMode.{RecoverMode}
-use Rattle.foyer_core_laws.specs.Begins.{opened_state}
-use Rattle.foyer_core_laws.specs.Content.{Content, Meaning}
-use Rattle.foyer_core_laws.specs.CoreRules.{layout, machine}
-use Rattle.foyer_core_laws.specs.Sizes.{AreValid, sizes_in}
-use Rattle.foyer_core_laws.specs.declared.settings.Settings.{Settings}
+use Rattle.foyer_core_steps.specs.Begins.{opened_state}
+use Rattle.foyer_core_steps.specs.Content.{Content, Meaning}
+use Rattle.foyer_core_steps.specs.CoreRules.{layout, machine}
+use Rattle.foyer_core_steps.specs.Sizes.{AreValid, sizes_in}
+use Rattle.foyer_core_steps.specs.Settings.{Settings}
 
 -- a step with its contents, and its reply
 pub record Made (K V P A : Type 0) : Type 0 where

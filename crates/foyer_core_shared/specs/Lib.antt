@@ -9,3 +9,12 @@ pub mod Kinds
 pub mod Noted
 pub mod Replies
 pub mod Sessions
+pub use Rattle.foyer_core_steps.specs.Answered
+pub use Rattle.foyer_core_steps.specs.Asked
+pub use Rattle.foyer_core_steps.specs.Content
+pub use Rattle.foyer_core_steps.specs.Issuing
+pub use Rattle.foyer_core_steps.specs.Lent
+pub use Rattle.foyer_core_steps.specs.Refines
+pub use Rattle.foyer_core_steps.specs.declared.reply.Reply
+pub use Rattle.foyer_core_steps.specs.declared.step.Step
+pub use Rattle.foyer_core_steps.specs.declared.step.Ticket

@@ -2,7 +2,7 @@
 use Rattle.std.specs.Prelude.{◌≡◌, Bool, true, false, List, [], ◌∷◌, ◌++◌, map, Option, Some, None, is_some}
 use Rattle.std.specs.Option.{option_map}
 use Rattle.foyer_core_steps.specs.declared.state.Core.{Core}
-use Rattle.foyer_core_laws.specs.Content.{Meaning}
+use Rattle.foyer_core_steps.specs.Content.{Meaning}
 use Rattle.foyer_core_shared.specs.Briefs.{brief_of}
 use Rattle.foyer_core_shared.specs.History.{IsLegal, Made}
 use Rattle.foyer_core_shared.specs.Kinds.{tallied}

@@ -6,3 +6,5 @@ pub mod locked;
 pub mod notes;
 pub mod session;
 pub mod shared;
+
+pub use foyer_core_steps as core_steps;

@@ -1,7 +1,7 @@
 //! The core, what it is lent, and what is noted of its steps, as they lie behind the lock; and the sessions that ask it. Both
 //! stand in one module, so that a step of the core is the only way to write into either.
 ghost use Rattle.foyer_device_page.specs.declared.error.Error.TheVariants.{Memory};
-ghost use Rattle.foyer_core_laws.specs.Content.{meaning};
+ghost use Rattle.foyer_core_steps.specs.Content.{meaning};
 ghost use Rattle.foyer_core_shared.specs.Behind.{HasRoom, kept_notes};
 ghost use Rattle.foyer_core_shared.specs.Kinds.{kind_of, tallied};
 ghost use Rattle.foyer_core_shared.specs.Noted.{and_note, notes_at_first};
@@ -183,7 +183,7 @@ where
     A: Allocator,
     N: Noting,
 {
-    ghost use Rattle.foyer_core_laws.specs.Content.{meaning};
+    ghost use Rattle.foyer_core_steps.specs.Content.{meaning};
     ghost use Rattle.std.specs.Coded.{codes};
     ghost use Rattle.std_collections.specs.Layout.HashMap.{hash_map_code};
     ghost use Rattle.foyer_block_index.specs.Index.{index_map_code};
@@ -294,7 +294,7 @@ where
     ghost use Rattle.foyer_block_recover.specs.Recovery.{IsRefused, marks_of};
     ghost use Rattle.foyer_block_recover.specs.Sources.{AreSources, sure_of};
     ghost use Rattle.foyer_block_recover.specs.declared.block.recover.RecoverMode.TheVariants as recover_mode;
-    ghost use Rattle.foyer_core_laws.specs.Sizes.{AreValid, sizes_in};
+    ghost use Rattle.foyer_core_steps.specs.Sizes.{AreValid, sizes_in};
     ghost use Rattle.foyer_block_manager.specs.Shown.{evictable_below};
     ghost use Rattle.foyer_core_shared.specs.Briefs.{brief_of};
     ghost use Rattle.foyer_core_shared.specs.Chunks.{all_of};

@@ -3,12 +3,12 @@ use Rattle.std.proofs.Common.{◌≡◌, ℕ, zero, suc, ◌<◌, Bool, true, fa
 use Rattle.std.proofs.lemmas.Bool.Decides.{nat_tests}
 use Rattle.foyer_core_model.specs.Ids.{is_id_in, AreDistinct}
 use Rattle.foyer_core_model.specs.State as model_state
-use Rattle.foyer_core_laws.specs.declared.settings.Settings.{Settings}
+use Rattle.foyer_core_flusher.specs.Settings.{Settings}
 use Rattle.foyer_block_manager.specs.BlockSets.{BlockSets, Stands, HasSameRules, IsBlockAs}
 use Rattle.foyer_block_manager.specs.Initial.{new_block, new_manager, CanBeClean, with_clean}
 use Rattle.foyer_block_manager.specs.Managed.{Managed, is_evictable}
 use Rattle.foyer_block_manager.proofs.BlockStateLemmas.{there_is}
-use Rattle.foyer_core_blocks.specs.Standing.{IsManagedAs}
+use Rattle.foyer_core_flusher.specs.Standing.{IsManagedAs}
 use Rattle.foyer_core_steps.specs.Opened.{opened_sets}
 use Rattle.foyer_core_steps.proofs.OpenedLemmas.{replicate_count, replicate_at}
 

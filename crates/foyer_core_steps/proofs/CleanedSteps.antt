@@ -12,14 +12,14 @@ use Rattle.foyer_core_model.specs.Numbers.{put}
 use Rattle.foyer_core_model.specs.Reply as model_reply
 use Rattle.foyer_core_model.specs.State as model_state
 use Rattle.foyer_core_model.proofs.Ids.{same_in, later_in, in_cases, in_without}
-use Rattle.foyer_core_laws.specs.Content.{Content, Meaning}
-use Rattle.foyer_core_laws.specs.CoreRules.{machine}
-use Rattle.foyer_core_laws.specs.Sizes.{AreValid}
-use Rattle.foyer_core_laws.specs.declared.settings.Settings.{Settings}
+use Rattle.foyer_core_flusher.specs.Content.{Content, Meaning}
+use Rattle.foyer_core_flusher.specs.CoreRules.{machine}
+use Rattle.foyer_core_flusher.specs.Sizes.{AreValid}
+use Rattle.foyer_core_flusher.specs.Settings.{Settings}
 use Rattle.foyer_block_manager.proofs.IdLemmas.{same_test}
 use Rattle.foyer_block_manager.specs.BlockSets.{Stands, HasSameRules}
 use Rattle.foyer_block_manager.specs.IdList.{IdList, IsWithout}
-use Rattle.foyer_core_blocks.specs.Standing.{sets_of, IsIndexedAs}
+use Rattle.foyer_core_flusher.specs.Standing.{sets_of, IsIndexedAs}
 use Rattle.foyer_core_flusher.specs.Seen.{seen}
 use Rattle.foyer_core_steps.specs.Asked.{fault_of}
 use Rattle.foyer_core_steps.specs.Destroying.{awaits, fault_kind, first_of, HasCleaned, HasEnded, IsFaultAs, IsDestroyAs, AreLeftAs}

@@ -10,7 +10,7 @@ use Rattle.std.proofs.Common.{nat_cmp}
 use Rattle.foyer_block_index.specs.declared.indexer.Index.TheVariants.{Address}
 use Rattle.foyer_format_layout.specs.Position.{Sizes}
 use Rattle.foyer_format_buffer.specs.Position.{fresh_context}
-use Rattle.foyer_core_layout.specs.Bridge.{filling_of}
+use Rattle.foyer_core_flusher.specs.Bridge.{filling_of}
 use Rattle.foyer_core_model.specs.Destroy.{vacated, refilled, IsIdle}
 use Rattle.foyer_core_model.specs.Ids.{ids, is_id_in}
 use Rattle.foyer_core_model.specs.InTurn.{MayClear}
@@ -18,14 +18,14 @@ use Rattle.foyer_core_model.specs.Reclaim.{running}
 use Rattle.foyer_core_model.specs.Rules.{first_position}
 use Rattle.foyer_core_model.specs.State as model_state
 use Rattle.foyer_core_model.proofs.Ids.{in_append}
-use Rattle.foyer_core_laws.specs.Content.{Content, Meaning}
-use Rattle.foyer_core_laws.specs.CoreRules.{machine}
-use Rattle.foyer_core_laws.specs.Sizes.{AreValid}
-use Rattle.foyer_core_laws.specs.declared.settings.Settings.{Settings}
+use Rattle.foyer_core_flusher.specs.Content.{Content, Meaning}
+use Rattle.foyer_core_flusher.specs.CoreRules.{machine}
+use Rattle.foyer_core_flusher.specs.Sizes.{AreValid}
+use Rattle.foyer_core_flusher.specs.Settings.{Settings}
 use Rattle.foyer_block_manager.specs.BlockSets.{Stands, HasSameRules, is_reclaimed, reclaim_count}
 use Rattle.foyer_block_manager.specs.Clearing as sets
-use Rattle.foyer_core_blocks.proofs.ListLemmas.{map_count, some_is}
-use Rattle.foyer_core_blocks.specs.Standing.{sets_of, slot_of, IsIndexedAs}
+use Rattle.foyer_core_flusher.proofs.ListLemmas.{map_count, some_is}
+use Rattle.foyer_core_flusher.specs.Standing.{sets_of, slot_of, IsIndexedAs}
 use Rattle.foyer_core_flusher.specs.Cleared.{are_still, cleared}
 use Rattle.foyer_core_flusher.specs.Flushing.{AreBatched, IsFlusherAs}
 use Rattle.foyer_core_flusher.specs.Seen.{Seen, seen}

@@ -7,11 +7,11 @@ use Rattle.foyer_core_model.specs.Queue.{size_queued, IsCrowded}
 use Rattle.foyer_core_model.specs.State.{State}
 use Rattle.foyer_core_model.specs.Step as model_step
 use Rattle.foyer_core_steps.specs.Asked.{known_age}
-use Rattle.foyer_core_laws.specs.Content.{Content, Meaning}
-use Rattle.foyer_core_laws.specs.CoreRules.{machine}
-use Rattle.foyer_core_laws.specs.Sizes.{AreValid}
+use Rattle.foyer_core_flusher.specs.Content.{Content, Meaning}
+use Rattle.foyer_core_flusher.specs.CoreRules.{machine}
+use Rattle.foyer_core_flusher.specs.Sizes.{AreValid}
 use Rattle.foyer_core_steps.specs.StateOf.{IsStateOf}
-use Rattle.foyer_core_laws.specs.declared.settings.Settings.{Settings}
+use Rattle.foyer_core_flusher.specs.Settings.{Settings}
 use Rattle.foyer_core_steps.specs.declared.state.Core.{Core}
 use Rattle.foyer_core_steps.proofs.StateLemmas.{size_queued_is}
 

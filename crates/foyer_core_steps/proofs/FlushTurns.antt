@@ -12,13 +12,13 @@ use Rattle.foyer_core_model.specs.State as model_state
 use Rattle.foyer_core_model.specs.Step as model_step
 use Rattle.foyer_core_steps.specs.Asked.{went_well, step_of}
 use Rattle.foyer_core_flusher.specs.FlusherSteps.{StandsAt, FlusherStep}
-use Rattle.foyer_core_laws.specs.Content.{Content, Meaning}
+use Rattle.foyer_core_flusher.specs.Content.{Content, Meaning}
 use Rattle.foyer_core_flusher.specs.Flushing.{AreWriting, AreBatched}
-use Rattle.foyer_core_laws.specs.CoreRules.{machine}
+use Rattle.foyer_core_flusher.specs.CoreRules.{machine}
 use Rattle.foyer_core_steps.specs.Destroying.{IsDestroyAs}
 use Rattle.foyer_core_steps.specs.Reclaiming.{reclaim_at, KeepsReclaim, AreReclaimAs}
 use Rattle.foyer_core_steps.specs.Refines.{IsRefinedUncounted}
-use Rattle.foyer_core_laws.specs.Sizes.{AreValid}
+use Rattle.foyer_core_flusher.specs.Sizes.{AreValid}
 use Rattle.foyer_core_steps.specs.StateOf.{IsStateOf, AreFlushersAs, size_of_all}
 use Rattle.foyer_core_flusher.specs.Taking.{size_in}
 use Rattle.foyer_core_flusher.specs.FlushInTurn.{HasBlock}
@@ -27,7 +27,7 @@ use Rattle.foyer_core_steps.specs.Unchanged.{IsUnchanged}
 use Rattle.foyer_core_flusher.proofs.FlushLemmas.{none_laid, none_written}
 use Rattle.foyer_format_buffer.specs.Layout.{parts_of}
 use Rattle.foyer_format_buffer.specs.declared.split.Block.{Block}
-use Rattle.foyer_core_layout.specs.Bridge.{AreBlocksAs as AreLaidOutAs}
+use Rattle.foyer_core_flusher.specs.Bridge.{AreBlocksAs as AreLaidOutAs}
 use Rattle.foyer_core_flusher.proofs.NextLemmas.{would_issue}
 use Rattle.foyer_core_steps.proofs.ReclaimLemmas.{reclaim_kept}
 use Rattle.foyer_core_steps.proofs.StateLemmas.{flushers_count, flusher_at, flusher_put, size_put, unchanged_stands}
@@ -35,10 +35,10 @@ use Rattle.foyer_core_flusher.specs.declared.batch.Batch.{Batch}
 use Rattle.foyer_core_flusher.specs.declared.flusher.Flusher.{Flusher}
 use Rattle.foyer_core_flusher.specs.declared.batch.Writing.{Writing}
 use Rattle.foyer_core_steps.specs.declared.reply.Reply.TheVariants as reply
-use Rattle.foyer_core_laws.specs.declared.settings.Settings.{Settings}
+use Rattle.foyer_core_flusher.specs.Settings.{Settings}
 use Rattle.foyer_block_manager.specs.Managed.{Managed}
-use Rattle.foyer_core_blocks.specs.Standing.{HasItsBlocks}
-use Rattle.foyer_core_blocks.proofs.SetsLemmas.{blocks_put}
+use Rattle.foyer_core_flusher.specs.Standing.{HasItsBlocks}
+use Rattle.foyer_core_flusher.proofs.SetsLemmas.{blocks_put}
 use Rattle.foyer_core_steps.specs.declared.state.Core.{Core}
 use Rattle.foyer_core_steps.specs.declared.step.Step.{Step}
 

@@ -24,3 +24,5 @@ pub mod StateLemmas
 pub mod StillLemmas
 pub mod TurnLemmas
 pub mod ShowingLemmas
+pub use Rattle.foyer_core_flusher.proofs.BeginTurns
+pub use Rattle.foyer_core_flusher.proofs.ListLemmas

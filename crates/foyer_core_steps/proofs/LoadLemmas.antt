@@ -17,15 +17,15 @@ use Rattle.foyer_core_model.specs.Record.{NoRecord, Holds}
 use Rattle.foyer_core_model.specs.Reply as model_reply
 use Rattle.foyer_core_model.specs.State.{State}
 use Rattle.foyer_core_steps.specs.Asked.{ticket_of, age_of}
-use Rattle.foyer_core_laws.specs.Content.{Content, Meaning, content}
-use Rattle.foyer_core_laws.specs.CoreRules.{machine}
+use Rattle.foyer_core_flusher.specs.Content.{Content, Meaning, content}
+use Rattle.foyer_core_flusher.specs.CoreRules.{machine}
 use Rattle.foyer_core_steps.specs.Refines.{IsRefinedUncounted, missed}
-use Rattle.foyer_core_laws.specs.CoreRules.{outcome_of}
-use Rattle.foyer_core_laws.specs.Sizes.{AreValid}
+use Rattle.foyer_core_flusher.specs.CoreRules.{outcome_of}
+use Rattle.foyer_core_flusher.specs.Sizes.{AreValid}
 use Rattle.foyer_core_steps.specs.StateOf.{IsStateOf}
 use Rattle.foyer_core_steps.specs.declared.reply.Reply.{Reply}
 use Rattle.foyer_core_steps.specs.declared.reply.Reply.TheVariants as reply
-use Rattle.foyer_core_laws.specs.declared.settings.Settings.{Settings}
+use Rattle.foyer_core_flusher.specs.Settings.{Settings}
 use Rattle.foyer_core_steps.specs.declared.state.Core.{Core}
 use Rattle.foyer_core_steps.specs.declared.step.Step.{Step}
 use Rattle.foyer_core_steps.specs.declared.step.Step.TheVariants as step

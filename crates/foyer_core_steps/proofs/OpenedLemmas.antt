@@ -9,25 +9,25 @@ use Rattle.foyer_block_recover.specs.Opening.{Opened}
 use Rattle.foyer_block_recover.specs.Placed.{IsOpening}
 use Rattle.foyer_block_recover.specs.Recovery.{held_slot}
 use Rattle.foyer_core_model.specs.Ids.{is_id_in}
-use Rattle.foyer_core_laws.specs.Begins.{opened_state, place_of}
+use Rattle.foyer_core_flusher.specs.Begins.{opened_state, place_of}
 use Rattle.foyer_block_manager.specs.BlockSets.{is_reclaimed}
-use Rattle.foyer_core_laws.proofs.OpenedWorlds.{stands_at}
+use Rattle.foyer_core_flusher.proofs.OpenedWorlds.{stands_at}
 use Rattle.foyer_core_model.specs.State as model_state
-use Rattle.foyer_core_laws.specs.Content.{Content, Meaning}
+use Rattle.foyer_core_flusher.specs.Content.{Content, Meaning}
 use Rattle.foyer_core_flusher.specs.Flushing.{IsFlusherAs}
-use Rattle.foyer_core_laws.specs.CoreRules.{machine}
+use Rattle.foyer_core_flusher.specs.CoreRules.{machine}
 use Rattle.foyer_core_steps.specs.Opened.{IsOpened}
 use Rattle.foyer_core_flusher.specs.Idle.{idle}
-use Rattle.foyer_core_laws.specs.Sizes.{AreValid, sizes_in}
+use Rattle.foyer_core_flusher.specs.Sizes.{AreValid, sizes_in}
 use Rattle.foyer_core_steps.specs.Destroying.{IsDestroyAs}
 use Rattle.foyer_core_steps.specs.Reclaiming.{AreReclaimAs}
 use Rattle.foyer_core_steps.specs.StateOf.{IsStateOf, AreFlushersAs, size_of_all}
-use Rattle.foyer_core_blocks.specs.Addresses.{address_of}
-use Rattle.foyer_core_blocks.specs.Standing.{slot_of}
+use Rattle.foyer_core_flusher.specs.Addresses.{address_of}
+use Rattle.foyer_core_flusher.specs.Standing.{slot_of}
 use Rattle.foyer_core_flusher.specs.Seen.{Seen}
-use Rattle.foyer_core_laws.specs.declared.settings.Settings.{Settings}
+use Rattle.foyer_core_flusher.specs.Settings.{Settings}
 use Rattle.foyer_core_steps.specs.declared.state.Core.{Core}
-use Rattle.foyer_core_blocks.proofs.ListLemmas.{some_is}
+use Rattle.foyer_core_flusher.proofs.ListLemmas.{some_is}
 
 pub replicate_count : {X : Type 0} (n : ℕ) (x : X) → length (replicate n x) ≡ n
 replicate_count zero x = refl

@@ -2,14 +2,14 @@
 use Rattle.std.proofs.Common.{◌≡◌, ℕ, ◌+◌, ◌-◌, ◌*◌, ◌^◌, ◌<◌, ◌≤◌, List, [], ◌∷◌, ◌++◌, map, length, slice_set, slice_index_or, sym, ap, subst, ◌∙◌, arith}
 use Rattle.foyer_core_model.specs.Numbers.{put}
 use Rattle.foyer_core_model.specs.State as model_state
-use Rattle.foyer_core_laws.specs.Content.{Content, Meaning}
+use Rattle.foyer_core_flusher.specs.Content.{Content, Meaning}
 use Rattle.foyer_core_flusher.specs.Flushing.{IsFlusherAs, submission_of}
 use Rattle.foyer_core_steps.specs.StateOf.{AreFlushersAs, IsSizedAs, size_of_all}
 use Rattle.foyer_core_flusher.specs.Taking.{size_in}
 use Rattle.foyer_core_flusher.specs.Seen.{seen}
 use Rattle.foyer_core_flusher.specs.declared.flusher.Flusher.{Flusher}
 use Rattle.foyer_core_flusher.specs.declared.submission.Submission.{Submission}
-use Rattle.foyer_core_laws.specs.declared.settings.Settings.{Settings}
+use Rattle.foyer_core_flusher.specs.Settings.{Settings}
 use Rattle.foyer_core_steps.proofs.Opening.{map-end}
 use Rattle.foyer_core_steps.proofs.StateLemmas.{flusher_at, flusher_put, size_put, size_pushed}
 

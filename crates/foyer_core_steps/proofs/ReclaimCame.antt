@@ -11,11 +11,11 @@ use Rattle.foyer_core_model.specs.Refusal.{NeedsMemory}
 use Rattle.foyer_core_model.specs.Reply as model_reply
 use Rattle.foyer_core_model.specs.State as model_state
 use Rattle.foyer_core_model.specs.Step.{Bytes, ReclaimRead}
-use Rattle.foyer_core_laws.specs.Content.{Content, Meaning}
-use Rattle.foyer_core_laws.specs.CoreRules.{machine, layout}
-use Rattle.foyer_core_laws.specs.Sizes.{AreValid, sizes_in}
-use Rattle.foyer_core_laws.specs.declared.settings.Settings.{Settings}
-use Rattle.foyer_core_blocks.specs.Standing.{IsIndexedAs}
+use Rattle.foyer_core_flusher.specs.Content.{Content, Meaning}
+use Rattle.foyer_core_flusher.specs.CoreRules.{machine, layout}
+use Rattle.foyer_core_flusher.specs.Sizes.{AreValid, sizes_in}
+use Rattle.foyer_core_flusher.specs.Settings.{Settings}
+use Rattle.foyer_core_flusher.specs.Standing.{IsIndexedAs}
 use Rattle.foyer_device_statistics.specs.declared.state.IoState.{IoState}
 use Rattle.foyer_core_steps.specs.Reclaiming.{Reclaiming, ChangesReclaim, IsReclaimAs, IsStageAs, IsAtRead, IsReread, reclaim_at, awaited, read_of, after_index, index_infos, verdict_list, verdicts_of}
 use Rattle.foyer_core_steps.specs.Refines.{FollowsUncounted}

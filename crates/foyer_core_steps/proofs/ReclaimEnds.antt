@@ -11,21 +11,21 @@ use Rattle.foyer_core_model.specs.Reclaim.{addresses, admitted, running, stage_a
 use Rattle.foyer_core_model.specs.Reply as model_reply
 use Rattle.foyer_core_model.specs.State as model_state
 use Rattle.foyer_core_model.proofs.Basics.{put_at, put_one, put_same, put_other}
-use Rattle.foyer_core_laws.specs.Content.{Content, Meaning}
-use Rattle.foyer_core_laws.specs.CoreRules.{machine}
-use Rattle.foyer_core_laws.specs.Sizes.{AreValid}
-use Rattle.foyer_core_laws.specs.declared.settings.Settings.{Settings}
+use Rattle.foyer_core_flusher.specs.Content.{Content, Meaning}
+use Rattle.foyer_core_flusher.specs.CoreRules.{machine}
+use Rattle.foyer_core_flusher.specs.Sizes.{AreValid}
+use Rattle.foyer_core_flusher.specs.Settings.{Settings}
 use Rattle.foyer_block_manager.specs.BlockSets.{Stands, HasSameRules, HasFinished, without_stats, is_reclaimed}
 use Rattle.foyer_block_manager.specs.Managed.{Managed, filling_in}
 use Rattle.foyer_block_manager.proofs.BlockStateLemmas.{append_test}
-use Rattle.foyer_core_blocks.specs.Standing.{sets_of, IsIndexedAs, IsManagedAs, HasItsBlocks}
+use Rattle.foyer_core_flusher.specs.Standing.{sets_of, IsIndexedAs, IsManagedAs, HasItsBlocks}
 use Rattle.foyer_core_steps.specs.Reclaiming.{ChangesReclaim, first_reclaim, IsReclaimAs, at_offset}
 use Rattle.foyer_core_steps.specs.StateOf.{IsStateOf, AreFlushersAs, size_of_all}
 use Rattle.foyer_core_flusher.specs.Flushing.{IsFlusherAs}
 use Rattle.foyer_core_flusher.specs.Seen.{seen}
 use Rattle.foyer_core_flusher.specs.Taking.{size_in}
 use Rattle.foyer_core_steps.specs.declared.state.Core.{Core}
-use Rattle.foyer_core_blocks.proofs.SetsLemmas.{ready_same, filling_at}
+use Rattle.foyer_core_flusher.proofs.SetsLemmas.{ready_same, filling_at}
 use Rattle.foyer_core_steps.proofs.ReclaimSteps.{SameBeside, beside, has_put, reclaims_put}
 
 -- a flusher that waits is given a block

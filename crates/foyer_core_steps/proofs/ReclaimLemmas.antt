@@ -2,7 +2,7 @@
 use Rattle.std.proofs.Common.{◌≡◌, ℕ, zero, suc, ◌+◌, ◌==◌, nat_le, Bool, true, false, not, ◌&&◌, ◌||◌, if◌then◌else◌, List, [], ◌∷◌, ◌++◌, map, length, replicate, Option, Some, None, refl, sym, ap, subst, ◌∙◌}
 use Rattle.std.proofs.lemmas.Bool.{eqb-true}
 use Rattle.foyer_core_model.proofs.CommitSteps.{same_address}
-use Rattle.foyer_core_laws.specs.Sizes.{sizes_in}
+use Rattle.foyer_core_flusher.specs.Sizes.{sizes_in}
 use Rattle.foyer_format_blob.specs.declared.blob.BlobEntryIndex.{BlobEntryIndex}
 use Rattle.foyer_block_index.specs.declared.indexer.HashedEntryAddress.{HashedEntryAddress}
 use Rattle.foyer_format_buffer.specs.Listing.{behind, placed}
@@ -13,12 +13,12 @@ use Rattle.foyer_core_model.specs.Index.{is_same}
 use Rattle.foyer_core_model.specs.Record as model_record
 use Rattle.foyer_core_model.specs.Reclaim.{is_listed, not_among, addresses, admitted, place_behind, running}
 use Rattle.foyer_core_model.specs.State as model_state
-use Rattle.foyer_core_layout.specs.Bridge.{entry_of}
-use Rattle.foyer_core_laws.specs.declared.settings.Settings.{Settings}
+use Rattle.foyer_core_flusher.specs.Bridge.{entry_of}
+use Rattle.foyer_core_flusher.specs.Settings.{Settings}
 use Rattle.foyer_block_scan.specs.Scan.{next_blob, infos_of}
 use Rattle.foyer_block_manager.specs.BlockSets.{is_reclaimed, reclaim_count}
 use Rattle.foyer_block_manager.specs.Managed.{one_if}
-use Rattle.foyer_core_blocks.specs.Addresses.{listed_of}
+use Rattle.foyer_core_flusher.specs.Addresses.{listed_of}
 use Rattle.foyer_core_steps.specs.Reclaiming.{Reclaiming, IsReclaimAs, AreReclaimAs, IsAtRead, hashed_of, at_offset, chosen, is_entry, is_entry_among, left_in}
 
 -- where a block's reclaim, its set and its filling are as they were, it stands for the same

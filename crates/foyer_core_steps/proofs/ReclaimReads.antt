@@ -9,17 +9,17 @@ use Rattle.foyer_policy_filter.specs.declared.verdict.StorageFilterResult.{Stora
 use Rattle.foyer_core_model.specs.Record.{Address}
 use Rattle.foyer_core_model.specs.Reclaim.{addresses, admitted, stage_after, stage_behind, issued_at, reclaiming, Lists}
 use Rattle.foyer_core_model.specs.State as model_state
-use Rattle.foyer_core_layout.specs.Bridge.{entry_of}
-use Rattle.foyer_core_laws.specs.Content.{Content, Meaning}
-use Rattle.foyer_core_laws.specs.CoreRules.{machine}
-use Rattle.foyer_core_laws.specs.Sizes.{AreValid, sizes_in}
-use Rattle.foyer_core_laws.specs.declared.settings.Settings.{Settings}
+use Rattle.foyer_core_flusher.specs.Bridge.{entry_of}
+use Rattle.foyer_core_flusher.specs.Content.{Content, Meaning}
+use Rattle.foyer_core_flusher.specs.CoreRules.{machine}
+use Rattle.foyer_core_flusher.specs.Sizes.{AreValid, sizes_in}
+use Rattle.foyer_core_flusher.specs.Settings.{Settings}
 use Rattle.foyer_block_scan.specs.IndexBytes.{index_at}
 use Rattle.foyer_block_scan.specs.Scan.{next_blob, infos_of, index_step, scan_step}
 use Rattle.foyer_block_scan.specs.ScanRun.{infos_in}
 use Rattle.foyer_block_scan.specs.ScanState.{Scan}
 use Rattle.foyer_block_scan.specs.declared.block.scanner.EntryInfo.{EntryInfo}
-use Rattle.foyer_core_blocks.specs.Addresses.{listed_of}
+use Rattle.foyer_core_flusher.specs.Addresses.{listed_of}
 use Rattle.foyer_device_statistics.specs.declared.state.IoState.{IoState}
 use Rattle.foyer_core_steps.specs.Reclaiming.{Reclaiming, IsReclaimAs, IsStageAs, IsAtRead, IsReread, after_index, index_infos, chosen, chosen_of, hashed_of, verdict_list, verdicts_of}
 use Rattle.foyer_core_steps.proofs.ReclaimLemmas.{listed_more, addresses_are, admitted_is, behind_is, stage_from, stage_read, as_many, copies}

@@ -9,14 +9,14 @@ use Rattle.foyer_core_model.specs.Reclaim.{issued_at, stage_after, Scanned, Rere
 use Rattle.foyer_core_model.specs.Refusal.{NeedsMemory}
 use Rattle.foyer_core_model.specs.State as model_state
 use Rattle.foyer_core_model.specs.Step.{Bytes, ReclaimRead}
-use Rattle.foyer_core_laws.specs.Content.{Content, Meaning}
-use Rattle.foyer_core_laws.specs.CoreRules.{machine, layout}
-use Rattle.foyer_core_laws.specs.Sizes.{AreValid, sizes_in}
-use Rattle.foyer_core_laws.specs.declared.settings.Settings.{Settings}
+use Rattle.foyer_core_flusher.specs.Content.{Content, Meaning}
+use Rattle.foyer_core_flusher.specs.CoreRules.{machine, layout}
+use Rattle.foyer_core_flusher.specs.Sizes.{AreValid, sizes_in}
+use Rattle.foyer_core_flusher.specs.Settings.{Settings}
 use Rattle.foyer_block_scan.specs.Scan.{next_blob}
-use Rattle.foyer_core_blocks.proofs.SetsLemmas.{managed_kept, blocks_kept}
-use Rattle.foyer_core_blocks.specs.Addresses.{address_of, listed_of}
-use Rattle.foyer_core_blocks.specs.Standing.{IsIndexedAs, IsManagedAs, sets_of}
+use Rattle.foyer_core_flusher.proofs.SetsLemmas.{managed_kept, blocks_kept}
+use Rattle.foyer_core_flusher.specs.Addresses.{address_of, listed_of}
+use Rattle.foyer_core_flusher.specs.Standing.{IsIndexedAs, IsManagedAs, sets_of}
 use Rattle.foyer_core_flusher.specs.Seen.{seen}
 use Rattle.foyer_core_steps.specs.Destroying.{IsDestroyAs}
 use Rattle.foyer_core_steps.specs.Reclaiming.{Reclaiming, ChangesReclaim, IsReclaimAs, IsStageAs, IsAtRead, reclaim_at, awaited, after_record, requeue_first}

@@ -9,13 +9,13 @@ use Rattle.foyer_core_model.specs.Reclaim.{Scanned, reclaiming as model_reclaimi
 use Rattle.foyer_core_model.specs.Reply as model_reply
 use Rattle.foyer_core_model.specs.State as model_state
 use Rattle.foyer_core_model.specs.Step.{ReadResult, Bytes, Fault}
-use Rattle.foyer_core_laws.specs.Content.{Content, Meaning}
-use Rattle.foyer_core_laws.specs.CoreRules.{machine}
-use Rattle.foyer_core_laws.specs.Sizes.{AreValid, sizes_in}
-use Rattle.foyer_core_laws.specs.declared.settings.Settings.{Settings}
+use Rattle.foyer_core_flusher.specs.Content.{Content, Meaning}
+use Rattle.foyer_core_flusher.specs.CoreRules.{machine}
+use Rattle.foyer_core_flusher.specs.Sizes.{AreValid, sizes_in}
+use Rattle.foyer_core_flusher.specs.Settings.{Settings}
 use Rattle.foyer_block_scan.specs.Scan.{next_blob}
 use Rattle.foyer_block_manager.specs.BlockSets.{is_reclaimed}
-use Rattle.foyer_core_blocks.specs.Addresses.{address_of, listed_of}
+use Rattle.foyer_core_flusher.specs.Addresses.{address_of, listed_of}
 use Rattle.foyer_core_steps.specs.Reclaiming.{Reclaiming, IsReclaimAs, AreReclaimAs, IsStageAs, awaited, may_forget, may_clean, read_of, is_all_listed}
 use Rattle.foyer_core_steps.specs.declared.block.reclaimer.Wanted.{Wanted}
 use Rattle.foyer_core_steps.specs.declared.block.reclaimer.Wanted.TheVariants as wanted

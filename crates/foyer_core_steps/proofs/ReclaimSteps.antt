@@ -12,17 +12,17 @@ use Rattle.foyer_core_model.specs.State as model_state
 use Rattle.foyer_core_model.specs.Step as model_step
 use Rattle.foyer_core_model.specs.Step.{ReadResult, Bytes, Fault}
 use Rattle.foyer_core_model.proofs.Basics.{put_other}
-use Rattle.foyer_core_laws.specs.Content.{Content, Meaning}
-use Rattle.foyer_core_laws.specs.CoreRules.{machine, layout}
-use Rattle.foyer_core_laws.specs.Sizes.{AreValid}
-use Rattle.foyer_core_laws.specs.declared.settings.Settings.{Settings}
+use Rattle.foyer_core_flusher.specs.Content.{Content, Meaning}
+use Rattle.foyer_core_flusher.specs.CoreRules.{machine, layout}
+use Rattle.foyer_core_flusher.specs.Sizes.{AreValid}
+use Rattle.foyer_core_flusher.specs.Settings.{Settings}
 use Rattle.foyer_block_manager.specs.BlockSets.{BlockSets, Stands, MayReclaim, reclaim_count, model_set}
 use Rattle.foyer_block_manager.specs.Managed.{Managed, IsReclaimed, is_evictable, is_evictable_set}
 use Rattle.foyer_block_manager.specs.declared.block.states.BlockState.{BlockState}
 use Rattle.foyer_block_manager.specs.declared.block.states.BlockSet.{BlockSet}
 use Rattle.foyer_block_manager.specs.declared.block.states.BlockSet.TheVariants as set
 use Rattle.foyer_block_manager.proofs.BlockStateLemmas.{there_is, is_there}
-use Rattle.foyer_core_blocks.specs.Standing.{sets_of, IsIndexedAs, IsManagedAs, HasItsBlocks}
+use Rattle.foyer_core_flusher.specs.Standing.{sets_of, IsIndexedAs, IsManagedAs, HasItsBlocks}
 use Rattle.foyer_core_steps.specs.Destroying.{IsDestroyAs}
 use Rattle.foyer_core_steps.specs.Reclaiming.{Reclaiming, Reclaims, ChangesReclaim, AreReclaimAs, reclaim_at}
 use Rattle.foyer_core_steps.specs.StateOf.{IsStateOf, AreFlushersAs, size_of_all}

@@ -13,13 +13,13 @@ use Rattle.foyer_block_recover.specs.Opening.{Keeps, IsCut, Opened, Opens}
 use Rattle.foyer_block_recover.specs.Recovery.{AreFaults, IsRecovered}
 use Rattle.foyer_block_recover.specs.declared.block.recover.RecoverMode.{RecoverMode}
 use Rattle.foyer_block_recover.specs.declared.block.recover.RecoverMode.TheVariants as recover_mode
-use Rattle.foyer_core_restart.specs.Restart.{IsWriting, IsBeingWritten, IsFoundAgain, IsFoundNewer, no_fault}
-use Rattle.foyer_core_laws.proofs.FormatLemmas.{restart_lem, restart_idle_lem, restart_newest_lem}
-use Rattle.foyer_core_laws.specs.Begins.{opened_world}
-use Rattle.foyer_core_laws.specs.Content.{Content}
-use Rattle.foyer_core_laws.specs.CoreRules.{rules_of}
-use Rattle.foyer_core_laws.specs.Sizes.{AreValid, sizes_in}
-use Rattle.foyer_core_laws.specs.declared.settings.Settings.{Settings}
+use Rattle.foyer_core_flusher.specs.Restart.{IsWriting, IsBeingWritten, IsFoundAgain, IsFoundNewer, no_fault}
+use Rattle.foyer_core_flusher.proofs.FormatLemmas.{restart_lem, restart_idle_lem, restart_newest_lem}
+use Rattle.foyer_core_flusher.specs.Begins.{opened_world}
+use Rattle.foyer_core_flusher.specs.Content.{Content}
+use Rattle.foyer_core_flusher.specs.CoreRules.{rules_of}
+use Rattle.foyer_core_flusher.specs.Sizes.{AreValid, sizes_in}
+use Rattle.foyer_core_flusher.specs.Settings.{Settings}
 
 -- failed reads that end no chain change nothing
 module _ (s : Sizes) (b : ℕ) (B : ℕ → ℕ) (failed : ℕ → Bool) where

@@ -7,18 +7,18 @@ use Rattle.foyer_core_model.specs.Destroy.{IsIdle}
 use Rattle.foyer_core_model.specs.Queue.{queue_size, size_queued}
 use Rattle.foyer_core_model.specs.State as model_state
 use Rattle.foyer_core_model.proofs.Basics.{put_at, put_same, put_other}
-use Rattle.foyer_core_laws.specs.Content.{Content, Meaning}
+use Rattle.foyer_core_flusher.specs.Content.{Content, Meaning}
 use Rattle.foyer_core_flusher.specs.Flushing.{IsFlusherAs}
 use Rattle.foyer_core_steps.specs.Destroying.{IsDestroyAs}
 use Rattle.foyer_core_steps.specs.Reclaiming.{AreReclaimAs}
 use Rattle.foyer_core_steps.specs.StateOf.{AreFlushersAs, IsSizedAs, IsStateOf, size_of_all}
 use Rattle.foyer_core_flusher.specs.Taking.{size_in}
-use Rattle.foyer_core_blocks.specs.Standing.{IsIndexedAs, sets_of, IsManagedAs}
-use Rattle.foyer_core_blocks.proofs.ListLemmas.{map_count, set_map, set_here, set_there, set_count, some_is}
+use Rattle.foyer_core_flusher.specs.Standing.{IsIndexedAs, sets_of, IsManagedAs}
+use Rattle.foyer_core_flusher.proofs.ListLemmas.{map_count, set_map, set_here, set_there, set_count, some_is}
 use Rattle.foyer_core_flusher.specs.Seen.{seen}
 use Rattle.foyer_core_steps.specs.Unchanged.{IsUnchanged}
 use Rattle.foyer_core_flusher.specs.declared.flusher.Flusher.{Flusher}
-use Rattle.foyer_core_laws.specs.declared.settings.Settings.{Settings}
+use Rattle.foyer_core_flusher.specs.Settings.{Settings}
 use Rattle.foyer_core_steps.specs.declared.state.Core.{Core}
 
 module _ {K V P A : Type 0} (m : Meaning K V P) (s : Settings) where

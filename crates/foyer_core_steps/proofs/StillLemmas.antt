@@ -6,8 +6,8 @@ use Rattle.foyer_block_index.specs.declared.indexer.EntryAddress.{EntryAddress}
 use Rattle.foyer_core_model.specs.Destroy.{IsIdle}
 use Rattle.foyer_core_model.specs.State as model_state
 use Rattle.foyer_core_model.specs.Record as model_record
-use Rattle.foyer_core_laws.specs.Content.{Content, Meaning}
-use Rattle.foyer_core_laws.specs.declared.settings.Settings.{Settings}
+use Rattle.foyer_core_flusher.specs.Content.{Content, Meaning}
+use Rattle.foyer_core_flusher.specs.Settings.{Settings}
 use Rattle.foyer_core_flusher.proofs.BeginTurns.{no_map}
 use Rattle.foyer_core_flusher.specs.Cleared.{are_still}
 use Rattle.foyer_core_flusher.specs.Flushing.{AreBatched, AreReceived, IsFlusherAs, submission_of}
@@ -15,7 +15,7 @@ use Rattle.foyer_core_flusher.specs.Seen.{is_still, seen}
 use Rattle.foyer_core_flusher.specs.declared.batch.Batch.{Batch}
 use Rattle.foyer_core_flusher.specs.declared.flusher.Flusher.{Flusher}
 use Rattle.foyer_policy_piece.specs.Referred.{Referred}
-use Rattle.foyer_core_blocks.specs.Addresses.{mark_of}
+use Rattle.foyer_core_flusher.specs.Addresses.{mark_of}
 
 pub and_both : (a b : Bool) → (a && b) ≡ true → (a ≡ true) × (b ≡ true)
 and_both true true e = (refl, refl)

@@ -8,17 +8,17 @@ use Rattle.foyer_core_model.specs.Reply as model_reply
 use Rattle.foyer_core_model.specs.State.{State}
 use Rattle.foyer_core_model.specs.Follows.{IsOutOfTurn}
 use Rattle.foyer_core_steps.specs.Asked.{step_of}
-use Rattle.foyer_core_laws.specs.Content.{Content, Meaning}
-use Rattle.foyer_core_laws.specs.CoreRules.{layout}
-use Rattle.foyer_core_laws.specs.CoreRules.{machine}
+use Rattle.foyer_core_flusher.specs.Content.{Content, Meaning}
+use Rattle.foyer_core_flusher.specs.CoreRules.{layout}
+use Rattle.foyer_core_flusher.specs.CoreRules.{machine}
 use Rattle.foyer_core_steps.specs.Refines.{IsRefinedUncounted}
 use Rattle.foyer_core_steps.specs.Destroying.{kind_of}
-use Rattle.foyer_core_laws.specs.Sizes.{AreValid}
+use Rattle.foyer_core_flusher.specs.Sizes.{AreValid}
 use Rattle.foyer_core_steps.specs.StateOf.{IsStateOf}
 use Rattle.foyer_core_steps.specs.Unchanged.{IsUnchanged}
 use Rattle.foyer_core_steps.specs.declared.reply.Reply.{Reply}
 use Rattle.foyer_core_steps.specs.declared.reply.Reply.TheVariants as reply
-use Rattle.foyer_core_laws.specs.declared.settings.Settings.{Settings}
+use Rattle.foyer_core_flusher.specs.Settings.{Settings}
 use Rattle.foyer_core_steps.specs.declared.state.Core.{Core}
 use Rattle.foyer_core_steps.specs.declared.step.Step.{Step}
 use Rattle.foyer_core_steps.proofs.StateLemmas.{unchanged_stands}

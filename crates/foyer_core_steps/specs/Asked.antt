@@ -7,8 +7,8 @@ use Rattle.foyer_format_record.specs.declared.serde.ages.Age.TheVariants as age
 use Rattle.std.specs.declared.vec.Vec.{Vec}
 use Rattle.foyer_core_model.specs.Kind.{Kind, Io, Memory}
 use Rattle.foyer_core_model.specs.Step as model_step
-use Rattle.foyer_core_laws.specs.Content.{Content, Meaning, content_of}
-use Rattle.foyer_core_blocks.specs.Addresses.{address_of}
+use Rattle.foyer_core_flusher.specs.Content.{Content, Meaning, content_of}
+use Rattle.foyer_core_flusher.specs.Addresses.{address_of}
 use Rattle.foyer_core_steps.specs.declared.step.Step.{Step}
 use Rattle.foyer_core_steps.specs.declared.step.Step.TheVariants as step
 use Rattle.foyer_core_steps.specs.declared.step.Ticket.{Ticket}

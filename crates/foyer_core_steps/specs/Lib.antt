@@ -13,3 +13,16 @@ pub mod Scanning
 pub mod Showing
 pub mod StateOf
 pub mod Unchanged
+pub use Rattle.foyer_core_flusher.specs.Begins
+pub use Rattle.foyer_core_flusher.specs.Content
+pub use Rattle.foyer_core_flusher.specs.CoreRules
+pub use Rattle.foyer_core_flusher.specs.Failing
+pub use Rattle.foyer_core_flusher.specs.Flushing
+pub use Rattle.foyer_core_flusher.specs.Issuing
+pub use Rattle.foyer_core_flusher.specs.Offsets
+pub use Rattle.foyer_core_flusher.specs.Seen
+pub use Rattle.foyer_core_flusher.specs.Settings
+pub use Rattle.foyer_core_flusher.specs.Sizes
+pub use Rattle.foyer_core_flusher.specs.declared.batch.Batch
+pub use Rattle.foyer_core_flusher.specs.declared.batch.Write
+pub use Rattle.foyer_core_flusher.specs.declared.flusher.Flusher

@@ -8,11 +8,11 @@ use Rattle.foyer_block_recover.specs.Opening.{Opened}
 use Rattle.foyer_block_recover.specs.Placed.{IsOpening}
 use Rattle.foyer_block_recover.specs.Recovery.{held_slot, IsRecovered}
 use Rattle.foyer_block_recover.specs.declared.block.recover.RecoverMode.{RecoverMode}
-use Rattle.foyer_core_laws.specs.Begins.{place_of}
-use Rattle.foyer_core_laws.specs.Sizes.{sizes_in}
-use Rattle.foyer_core_laws.specs.declared.settings.Settings.{Settings}
+use Rattle.foyer_core_flusher.specs.Begins.{place_of}
+use Rattle.foyer_core_flusher.specs.Sizes.{sizes_in}
+use Rattle.foyer_core_flusher.specs.Settings.{Settings}
 use Rattle.foyer_block_manager.specs.BlockSets.{BlockSets}
-use Rattle.foyer_core_blocks.specs.Standing.{IsManagedAs}
+use Rattle.foyer_core_flusher.specs.Standing.{IsManagedAs}
 use Rattle.foyer_core_steps.specs.Reclaiming.{reclaim_at}
 use Rattle.foyer_core_steps.specs.declared.destroy.Destroy.TheVariants as destroy
 use Rattle.foyer_core_steps.specs.declared.state.Core.{Core}

@@ -14,14 +14,14 @@ use Rattle.foyer_policy_filter.specs.declared.verdict.StorageFilterResult.{Stora
 use Rattle.foyer_core_model.specs.Record as model_record
 use Rattle.foyer_core_model.specs.Reclaim.{is_listed}
 use Rattle.foyer_core_model.specs.State as model_state
-use Rattle.foyer_core_laws.specs.Sizes.{sizes_in}
-use Rattle.foyer_core_laws.specs.declared.settings.Settings.{Settings}
+use Rattle.foyer_core_flusher.specs.Sizes.{sizes_in}
+use Rattle.foyer_core_flusher.specs.Settings.{Settings}
 use Rattle.foyer_block_scan.specs.Scan.{next_blob, scan_step, scan_end}
 use Rattle.foyer_block_scan.specs.ScanRun.{infos_in}
 use Rattle.foyer_block_scan.specs.ScanState.{Scan}
 use Rattle.foyer_block_scan.specs.declared.block.scanner.EntryInfo.{EntryInfo}
 use Rattle.foyer_block_manager.specs.BlockSets.{is_reclaimed}
-use Rattle.foyer_core_blocks.specs.Addresses.{address_of, listed_of}
+use Rattle.foyer_core_flusher.specs.Addresses.{address_of, listed_of}
 use Rattle.foyer_device_statistics.specs.declared.state.IoState.{IoState}
 use Rattle.foyer_core_steps.specs.declared.block.reclaimer.Reclaimer.{Reclaimer}
 use Rattle.foyer_core_steps.specs.declared.block.reclaimer.Wanted.{Wanted}

@@ -11,12 +11,12 @@ use Rattle.foyer_block_recover.specs.Opening.{Opened}
 use Rattle.foyer_block_recover.specs.Recovery.{held_slot}
 use Rattle.foyer_block_recover.specs.declared.block.recover.RecoverMode.{RecoverMode}
 use Rattle.foyer_block_recover.specs.declared.block.recover.RecoverMode.TheVariants as recover_mode
-use Rattle.foyer_core_restart.specs.Restart.{IsRun, IsStopped, HasNoStrays, IsWhole}
-use Rattle.foyer_core_laws.specs.Begins.{opened_world}
-use Rattle.foyer_core_laws.specs.Content.{Content}
-use Rattle.foyer_core_laws.specs.CoreRules.{rules_of, layout, IsEncoded}
-use Rattle.foyer_core_laws.specs.Sizes.{AreValid}
-use Rattle.foyer_core_laws.specs.declared.settings.Settings.{Settings}
+use Rattle.foyer_core_flusher.specs.Restart.{IsRun, IsStopped, HasNoStrays, IsWhole}
+use Rattle.foyer_core_flusher.specs.Begins.{opened_world}
+use Rattle.foyer_core_flusher.specs.Content.{Content}
+use Rattle.foyer_core_flusher.specs.CoreRules.{rules_of, layout, IsEncoded}
+use Rattle.foyer_core_flusher.specs.Sizes.{AreValid}
+use Rattle.foyer_core_flusher.specs.Settings.{Settings}
 
 -- it is sure of each place at which an index has room
 abbrev pub HasPlaces : Settings → (ℕ → ℕ → ℕ → Type 0) → Type 0

@@ -4,8 +4,8 @@ use Rattle.foyer_core_model.specs.Position as model_position
 use Rattle.foyer_core_model.specs.Reply as model_reply
 use Rattle.foyer_core_steps.specs.Asked.{ticket_of, age_of, step_of}
 use Rattle.foyer_core_flusher.specs.Issuing.{write_of}
-use Rattle.foyer_core_laws.specs.Content.{Content, Meaning, content, content_of, contents_of, returned}
-use Rattle.foyer_core_blocks.specs.Addresses.{mark_of}
+use Rattle.foyer_core_flusher.specs.Content.{Content, Meaning, content, content_of, contents_of, returned}
+use Rattle.foyer_core_flusher.specs.Addresses.{mark_of}
 use Rattle.foyer_core_steps.specs.Destroying.{kind_of, IsFaultAs}
 use Rattle.foyer_core_steps.specs.Reclaiming.{verdicts_of}
 use Rattle.foyer_core_steps.specs.declared.reply.Reply.{Reply}

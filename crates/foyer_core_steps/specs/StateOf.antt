@@ -2,9 +2,9 @@
 use Rattle.std.specs.Prelude.{◌≡◌, ℕ, zero, suc, ◌+◌, ◌*◌, ◌^◌, ◌≤◌, List, map, length, Some, slice_get}
 use Rattle.foyer_core_model.specs.Destroy.{IsIdle}
 use Rattle.foyer_core_model.specs.State as model_state
-use Rattle.foyer_core_laws.specs.Content.{Content, Meaning}
-use Rattle.foyer_core_laws.specs.declared.settings.Settings.{Settings}
-use Rattle.foyer_core_blocks.specs.Standing.{IsIndexedAs, sets_of, IsManagedAs, HasItsBlocks}
+use Rattle.foyer_core_flusher.specs.Content.{Content, Meaning}
+use Rattle.foyer_core_flusher.specs.Settings.{Settings}
+use Rattle.foyer_core_flusher.specs.Standing.{IsIndexedAs, sets_of, IsManagedAs, HasItsBlocks}
 use Rattle.foyer_core_flusher.specs.Flushing.{IsFlusherAs}
 use Rattle.foyer_core_flusher.specs.Seen.{Seen, seen}
 use Rattle.foyer_core_flusher.specs.Taking.{size_in}

@@ -6,7 +6,7 @@ ghost use Rattle.foyer_device_page.specs.declared.error.ErrorKind.TheVariants.{M
 ghost use Rattle.foyer_core_steps.specs.Answered.{HandsBack, Describes, MayFail, MayWantMemory, IsPicked};
 ghost use Rattle.foyer_core_steps.specs.Scanning.{IsJudged};
 ghost use Rattle.foyer_core_steps.specs.Showing.{IsShown};
-ghost use Rattle.foyer_core_laws.specs.Content.{meaning};
+ghost use Rattle.foyer_core_flusher.specs.Content.{meaning};
 ghost use Rattle.foyer_core_steps.specs.Refines.{IsHandedBack, RefinesUncounted, Refines};
 ghost use Rattle.foyer_core_steps.specs.declared.reply.Reply.TheVariants as reply;
 ghost use Rattle.foyer_core_steps.specs.declared.step.Step.{Step};

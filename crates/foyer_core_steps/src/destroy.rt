@@ -5,7 +5,7 @@ ghost use Rattle.foyer_core_steps.specs.Answered.{HandsBack, DescribesNothing};
 ghost use Rattle.foyer_core_steps.specs.Destroying.{awaits, fault_kind, first_of, HasCleaned, HasEnded};
 ghost use Rattle.foyer_core_steps.specs.Refines.{RefinesUncounted};
 ghost use Rattle.foyer_core_steps.specs.declared.step.Step.TheVariants as step;
-ghost use Rattle.foyer_core_laws.specs.Content.{Meaning};
+ghost use Rattle.foyer_core_flusher.specs.Content.{Meaning};
 ghost use Rattle.foyer_core_steps.specs.Showing.{IsShown};
 
 use crate::env::Env;

@@ -5,7 +5,7 @@ ghost use Rattle.foyer_core_flusher.specs.Seen.{is_still};
 ghost use Rattle.foyer_core_flusher.specs.declared.flusher.Flusher.{Flusher};
 ghost use Rattle.foyer_format_record.specs.declared.serde.ages.Age.{Age as age};
 ghost use Rattle.foyer_core_steps.specs.Answered.{HandsBack, DescribesNothing, MayFail};
-ghost use Rattle.foyer_core_laws.specs.Content.{Meaning, meaning};
+ghost use Rattle.foyer_core_flusher.specs.Content.{Meaning, meaning};
 ghost use Rattle.foyer_core_steps.specs.Refines.{RefinesUncounted};
 ghost use Rattle.foyer_core_steps.specs.declared.reply.Reply.TheVariants as reply;
 ghost use Rattle.foyer_core_steps.specs.declared.step.Step.TheVariants as step;

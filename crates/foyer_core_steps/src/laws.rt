@@ -7,17 +7,17 @@ ghost use Rattle.foyer_core_steps.specs.StateOf.{IsStateOf};
 ghost use Rattle.foyer_core_steps.specs.declared.state.Core.{Core};
 ghost use Rattle.foyer_block_recover.specs.Opening.{Opened};
 ghost use Rattle.foyer_block_recover.specs.Placed.{IsOpening};
-ghost use Rattle.foyer_core_laws.specs.Begins.{opened_state};
-ghost use Rattle.foyer_core_laws.specs.Content.{Meaning};
-ghost use Rattle.foyer_core_laws.specs.CoreRules.{rules_of};
-ghost use Rattle.foyer_core_laws.specs.Headline.{Begins};
-ghost use Rattle.foyer_core_laws.specs.Sizes.{AreValid, sizes_in};
-ghost use Rattle.foyer_core_laws.specs.declared.settings.Settings.{Settings};
+ghost use Rattle.foyer_core_flusher.specs.Begins.{opened_state};
+ghost use Rattle.foyer_core_flusher.specs.Content.{Meaning};
+ghost use Rattle.foyer_core_flusher.specs.CoreRules.{rules_of};
+ghost use Rattle.foyer_core_flusher.specs.Headline.{Begins};
+ghost use Rattle.foyer_core_flusher.specs.Sizes.{AreValid, sizes_in};
+ghost use Rattle.foyer_core_flusher.specs.Settings.{Settings};
 
-pub use foyer_core_laws::laws::{
+pub use foyer_core_flusher::core_laws::laws::{
     answers_only, demands_are_met, headline, missed_only, puts_are_queued, steps_keep_their_clauses,
 };
-pub use foyer_core_laws::restart::{restart, restart_idle, restart_keeps_newest};
+pub use foyer_core_flusher::core_laws::restart::{restart, restart_idle, restart_keeps_newest};
 
 /// An opened core stands for the state that has what was found, with some marks, and the world with that state, over any bytes, is one that
 /// the laws begin with.

@@ -18,7 +18,7 @@ mod reclaim;
 pub mod reply;
 pub mod restart;
 
-pub use foyer_core_laws::settings;
+pub use foyer_core_flusher::core_laws::settings;
 
 pub mod state;
 pub mod step;

@@ -8,10 +8,10 @@ ghost use Rattle.foyer_core_flusher.specs.Seen.{seen};
 ghost use Rattle.foyer_core_model.specs.Ids.{is_id_in, AreDistinct};
 ghost use Rattle.foyer_block_recover.specs.Recovery.{IsRefused, marks_of, opened_of};
 ghost use Rattle.foyer_block_recover.specs.Sources.{AreSources, sure_of};
-ghost use Rattle.foyer_core_laws.specs.Sizes.{AreValid, sizes_in};
+ghost use Rattle.foyer_core_flusher.specs.Sizes.{AreValid, sizes_in};
 ghost use Rattle.foyer_core_steps.specs.Showing.{HaveLearned};
 ghost use Rattle.foyer_block_manager.specs.Shown.{evictable_below};
-ghost use Rattle.foyer_core_blocks.specs.Standing.{IsManagedAs};
+ghost use Rattle.foyer_core_flusher.specs.Standing.{IsManagedAs};
 
 use crate::destroy::Destroy;
 use crate::env::Env;

@@ -6,7 +6,7 @@ ghost use Rattle.foyer_core_steps.specs.Scanning.{HasNoVerdicts, IsJudged, scan_
 ghost use Rattle.foyer_core_steps.specs.Answered.{HandsBack, DescribesNothing, Idling, IsPicked};
 ghost use Rattle.foyer_core_steps.specs.Refines.{RefinesUncounted};
 ghost use Rattle.foyer_core_steps.specs.declared.step.Step.TheVariants as step;
-ghost use Rattle.foyer_core_laws.specs.Content.{Meaning};
+ghost use Rattle.foyer_core_flusher.specs.Content.{Meaning};
 ghost use Rattle.foyer_core_steps.specs.Showing.{IsShown};
 
 use crate::block::reclaimer;
@@ -19,7 +19,7 @@ use foyer_block_index::indexer::{EntryAddress, HashedEntryAddress};
 use foyer_block_index::manager::BlockId;
 use foyer_block_manager::block::eviction::EvictionPicker;
 use foyer_block_manager::block::manager::ReclaimingBlock;
-use foyer_core_blocks::manager::filling_of;
+use foyer_core_flusher::core_blocks::manager::filling_of;
 use foyer_core_flusher::flusher::{Reinsertion, Submission};
 use foyer_device_page::error::{ErrorKind, Result};
 use foyer_format_record::block::buffer::PAGE;

@@ -7,10 +7,10 @@ ghost use Rattle.foyer_core_model.specs.Record.{Address, Indexed};
 ghost use Rattle.foyer_core_model.specs.State.{Writing};
 ghost use Rattle.foyer_core_model.specs.World.{World};
 ghost use Rattle.foyer_block_recover.specs.declared.block.recover.RecoverMode.{RecoverMode};
-ghost use Rattle.foyer_core_restart.specs.Restart.{IsWriting, IsBeingWritten};
-ghost use Rattle.foyer_core_laws.specs.Content.{Content};
-ghost use Rattle.foyer_core_laws.specs.Sizes.{AreValid};
-ghost use Rattle.foyer_core_laws.specs.declared.settings.Settings.{Settings};
+ghost use Rattle.foyer_core_flusher.specs.Restart.{IsWriting, IsBeingWritten};
+ghost use Rattle.foyer_core_flusher.specs.Content.{Content};
+ghost use Rattle.foyer_core_flusher.specs.Sizes.{AreValid};
+ghost use Rattle.foyer_core_flusher.specs.Settings.{Settings};
 
 use foyer_io_disk::disk::Disk;
 

@@ -3,7 +3,7 @@ use Rattle.std.proofs.Common.{◌≡◌, ℕ, zero, suc, ◌+◌, ◌*◌, ◌<�
 use Rattle.std.proofs.lemmas.List.{length-append, length-drop, length-take-le, drop-append-le, drop-drop, drop_at, take-append-drop}
 use Rattle.byteorder.specs.Endian.{big_bytes, big_number}
 use Rattle.byteorder.specs.Numbers.{big_number-reads_back, big_from-append}
-use Rattle.foyer_format_checksum.specs.Xxh64.{xxh64}
+use Rattle.foyer_format_record.specs.Xxh64.{xxh64}
 use Rattle.foyer_format_record.specs.Header.{number_at}
 use Rattle.foyer_format_blob.specs.Blob.{entry_bytes, entry_of, entries_in, FitsEntry, IsSealed, capacity_of}
 use Rattle.foyer_format_blob.specs.declared.blob.BlobEntryIndex.{BlobEntryIndex}

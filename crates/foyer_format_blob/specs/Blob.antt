@@ -1,7 +1,7 @@
 -- The index of a blob: its checksum, its count, and its entries.
 use Rattle.std.specs.Prelude.{◌≡◌, ℕ, zero, suc, ◌+◌, ◌-◌, ◌*◌, ◌/◌, ◌<◌, ◌≤◌, ◌^◌, List, [], ◌∷◌, ◌++◌, length, drop}
 use Rattle.byteorder.specs.Endian.{big_bytes}
-use Rattle.foyer_format_checksum.specs.Xxh64.{xxh64}
+use Rattle.foyer_format_record.specs.Xxh64.{xxh64}
 use Rattle.foyer_format_record.specs.Header.{number_at}
 use Rattle.foyer_format_blob.specs.declared.blob.BlobEntryIndex.{BlobEntryIndex}
 

@@ -1,7 +1,7 @@
 //! The index of a blob: a checksum, a count, and an entry for each record.
 ghost use Rattle.std.specs.Prelude.{◌≡◌, ◌+◌, ◌-◌, ◌*◌, ◌<◌, ◌≤◌, ◌^◌, ◌↔◌, [], ◌∷◌, ◌++◌, List, length, drop, IsTrue, IfOk, IfErr, IfSome, IfNone};
-ghost use Rattle.foyer_format_checksum.specs.Xxh64.{xxh64};
-ghost use Rattle.foyer_device_page.specs.declared.error.Error.{Error as error};
+ghost use Rattle.foyer_format_record.specs.Xxh64.{xxh64};
+ghost use Rattle.foyer_format_record.specs.Error.{Error as error};
 ghost use Rattle.foyer_format_record.specs.Header.{number_at};
 ghost use Rattle.foyer_format_layout.specs.Page.{page_up};
 ghost use Rattle.foyer_format_blob.specs.Blob.{entry_bytes, entry_of, entries_in, capacity_of, IsSealed, FitsEntry};
@@ -9,10 +9,10 @@ ghost use Rattle.foyer_format_blob.specs.OpenIndex.{entries_of, room_of};
 ghost use Rattle.foyer_format_blob.specs.declared.blob.BlobEntryIndex.{BlobEntryIndex};
 
 use byteorder::{BigEndian, ByteOrder};
-use foyer_device_page::error::Result;
-use foyer_device_page::io::bytes::IoSliceMut;
 use foyer_format_record::block::buffer::whole_pages;
 use foyer_format_record::block::serde::Sequence;
+use foyer_format_record::device_page::error::Result;
+use foyer_format_record::device_page::io::bytes::IoSliceMut;
 use foyer_format_record::serde::Checksummer;
 use std::alloc::Allocator;
 use std::marker::Model;

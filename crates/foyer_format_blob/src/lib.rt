@@ -4,3 +4,4 @@
 mod blob;
 
 pub use blob::{BlobEntryIndex, BlobIndex, BlobIndexReader};
+pub use foyer_format_record as format_record;

@@ -4,7 +4,7 @@ use Rattle.std.specs.Prelude.{map}
 use Rattle.std.proofs.lemmas.Bool.Decides.{nat_tests}
 use Rattle.std.proofs.lemmas.List.{append-nil, length-append}
 use Rattle.foyer_device_page.specs.Section.{Section, bytes_of}
-use Rattle.foyer_format_record.specs.Header.{number_at}
+use Rattle.foyer_format_blob.specs.Header.{number_at}
 use Rattle.foyer_format_layout.specs.BlockBytes.{read, laid, all_laid, zeroed}
 use Rattle.foyer_format_layout.proofs.BlockBytesLaws.{laid_beside, all_laid_zeros, zeroed_there}
 use Rattle.foyer_format_layout.specs.Position.{Sizes, tail_of, next_blob}

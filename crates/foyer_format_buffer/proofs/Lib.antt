@@ -7,3 +7,4 @@ pub mod NestingLemmas
 pub mod PagesLemmas
 pub mod SplitLemmas
 pub mod StoredLemmas
+pub use Rattle.foyer_format_blob.proofs.BlobLemmas

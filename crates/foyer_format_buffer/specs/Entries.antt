@@ -3,8 +3,8 @@ use Rattle.std.specs.Prelude.{◌≡◌, ℕ, ◌+◌, ◌-◌, ◌≤◌, List,
 use Rattle.foyer_format_layout.specs.Page.{page_up}
 use Rattle.foyer_format_buffer.specs.Position.{taken}
 use Rattle.foyer_format_buffer.specs.declared.BufferEntryInfo.{BufferEntryInfo}
-use Rattle.foyer_format_record.specs.declared.compress.Compression.{Compression}
-use Rattle.foyer_format_record.specs.declared.compress.Compression.TheVariants as compression
+use Rattle.foyer_format_blob.specs.Compression.{Compression}
+use Rattle.foyer_format_blob.specs.Compression.TheVariants as compression
 
 -- a record of this hash and this sequence, or a slice that was taken for one
 pub record Entry : Type 0 where

@@ -9,3 +9,6 @@ pub mod Layout
 pub mod LayoutLaws
 pub mod Splitting
 pub mod Stored
+pub use Rattle.foyer_format_blob.specs.Blob
+pub use Rattle.foyer_format_blob.specs.Header
+pub use Rattle.foyer_format_blob.specs.declared.blob.BlobEntryIndex

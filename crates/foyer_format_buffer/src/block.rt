@@ -2,4 +2,4 @@
 
 pub mod buffer;
 
-pub use foyer_format_record::block::serde;
+pub use foyer_format_blob::format_record::block::serde;

@@ -6,16 +6,16 @@ ghost use Rattle.foyer_device_page.specs.declared.error.Error.{Error as error};
 ghost use Rattle.foyer_format_layout.specs.Page.{page_up};
 ghost use Rattle.foyer_format_buffer.specs.Entries.{EachTakes, FitsBuffer, IsFinished, IsPacked, entries_at, with_entry, left_of, size_of};
 ghost use Rattle.foyer_format_buffer.specs.Position.{taken};
-ghost use Rattle.foyer_format_record.specs.Record.{record_bytes};
+ghost use Rattle.foyer_format_blob.specs.Record.{record_bytes};
 
 use super::BufferEntryInfo;
 use super::pages::Pages;
 use foyer_device_page::error::Result;
 use foyer_device_page::io::bytes::IoSliceMut;
-use foyer_format_record::block::buffer::whole_pages;
-use foyer_format_record::block::serde::{EntryHeader, Sequence};
-use foyer_format_record::compress::Compression;
-use foyer_format_record::serde::{Code, EntrySerializer};
+use foyer_format_blob::format_record::block::buffer::whole_pages;
+use foyer_format_blob::format_record::block::serde::{EntryHeader, Sequence};
+use foyer_format_blob::format_record::compress::Compression;
+use foyer_format_blob::format_record::serde::{Code, EntrySerializer};
 use std::alloc::Allocator;
 use std::marker::Model;
 

@@ -5,8 +5,8 @@
 ghost use Rattle.std.specs.Prelude.{◌≡◌, ◌<◌, ◌^◌};
 ghost use Rattle.foyer_format_layout.specs.Page.{page_up};
 
-use foyer_format_record::block::buffer::whole_pages;
-use foyer_format_record::block::serde::Sequence;
+use foyer_format_blob::format_record::block::buffer::whole_pages;
+use foyer_format_blob::format_record::block::serde::Sequence;
 
 pub mod block;
 mod entries;
@@ -16,6 +16,7 @@ mod split;
 mod splitting;
 
 pub use entries::Buffer;
+pub use foyer_format_blob as format_blob;
 pub use foyer_format_blob::{BlobEntryIndex, BlobIndex, BlobIndexReader};
 pub use split::{Batch, BlobPart, Block, SplitCtx, Splitter};
 

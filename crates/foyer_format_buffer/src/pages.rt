@@ -1,13 +1,13 @@
 //! Pages that are written from their front, as a writer that takes exactly as much as there is.
 ghost use Rattle.std.specs.Prelude.{◌≡◌, ◌+◌, ◌-◌, ◌^◌, ◌<◌, ◌≤◌, length, take, drop, Some, MatchBool, true};
 ghost use Rattle.std.specs.Bool.{OnTrue};
-ghost use Rattle.foyer_format_record.specs.Record.{record_bytes};
+ghost use Rattle.foyer_format_blob.specs.Record.{record_bytes};
 
 use foyer_device_page::error::{Error, Result};
 use foyer_device_page::io::bytes::IoSliceMut;
-use foyer_format_record::block::serde::{EntryHeader, Sequence};
-use foyer_format_record::compress::Compression;
-use foyer_format_record::serde::{Checksummer, Code, EntrySerializer, Sink};
+use foyer_format_blob::format_record::block::serde::{EntryHeader, Sequence};
+use foyer_format_blob::format_record::compress::Compression;
+use foyer_format_blob::format_record::serde::{Checksummer, Code, EntrySerializer, Sink};
 use std::alloc::Allocator;
 use std::io;
 use std::io::Write;

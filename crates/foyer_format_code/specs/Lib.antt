@@ -7,3 +7,5 @@ pub mod Tracked
 pub mod Vectors
 pub mod WideBytes
 pub mod Writing
+pub use Rattle.foyer_device_page.specs.Error as PageError
+pub use Rattle.foyer_device_page.specs.declared.error.Error

@@ -7,4 +7,5 @@ pub mod laws;
 mod sinks;
 
 pub use coding::{Code, StorageKey, StorageValue};
+pub use foyer_device_page as device_page;
 pub use sinks::{Sink, TrackedWriter};

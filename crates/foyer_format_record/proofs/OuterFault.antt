@@ -1,8 +1,8 @@
 -- The faults of an entry that show before its codes are asked.
 use Rattle.std.proofs.Common.{◌≡◌, ◌+◌, ℕ, List, Bool, true, false, Option, Some, None, take, drop, length, nat_lt, not, if◌then◌else◌, ◌&&◌, refl, subst}
 use Rattle.foyer_format_checksum.specs.Xxh64.{xxh64}
-use Rattle.foyer_device_page.specs.declared.error.Error.{Error}
-use Rattle.foyer_device_page.specs.declared.error.Error.TheVariants as error
+use Rattle.foyer_format_code.specs.Error.{Error}
+use Rattle.foyer_format_code.specs.Error.TheVariants as error
 use Rattle.foyer_format_record.specs.declared.compress.Compression.{Compression}
 use Rattle.foyer_format_record.specs.Record.{entry_fault, outer_fault, is_other_sum, is_plain}
 use Rattle.foyer_format_record.specs.Refusals.{IsEntryFault}

@@ -7,13 +7,13 @@ use Rattle.std.proofs.lemmas.Bool.Decides.{nat_tests}
 use Rattle.foyer_format_checksum.specs.Xxh64.{xxh64, avalanche, mul64, prime2, prime3}
 use Rattle.std.proofs.lemmas.Nat.{xor_lt}
 use Rattle.std.proofs.Math.Nat.{mod-lt}
-use Rattle.foyer_device_page.specs.declared.error.Error.{Error}
+use Rattle.foyer_format_code.specs.Error.{Error}
 use Rattle.foyer_format_record.specs.declared.compress.Compression.TheVariants as compression
 use Rattle.foyer_format_record.specs.declared.block.serde.EntryHeader.{EntryHeader}
 use Rattle.foyer_format_record.specs.Header.{header_bytes, header_of, FitsFields}
 use Rattle.foyer_format_record.specs.Record.{body_outcome, record_bytes, entry_fault, pair_of, outcome_with}
 use Rattle.foyer_format_record.specs.Record.{Outcome as outcome}
-use Rattle.foyer_device_page.specs.declared.error.Error.TheVariants as error
+use Rattle.foyer_format_code.specs.Error.TheVariants as error
 use Rattle.foyer_format_record.specs.Refusals.{IsEntryFault, IsRecordFault}
 use Rattle.foyer_format_record.proofs.RefusalLemmas.{record_fault}
 use Rattle.foyer_format_record.proofs.HeaderLemmas.{header_again_of, length-header_bytes}

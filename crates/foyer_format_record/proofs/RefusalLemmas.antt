@@ -1,9 +1,9 @@
 -- Refusals of codes, entries and records.
 use Rattle.std.proofs.Common.{◌≡◌, ◌≢◌, ℕ, List, Option, Some, None, Result, Ok, Err, refl, sym, ap, ◌∙◌, subst}
 use Rattle.std.specs.Prelude.{IfOk, IfErr, IfSome, IfNone}
-use Rattle.foyer_device_page.specs.Error.{IsDecodeFault}
-use Rattle.foyer_device_page.specs.declared.error.Error.{Error}
-use Rattle.foyer_device_page.specs.declared.error.Error.TheVariants as error
+use Rattle.foyer_format_code.specs.PageError.{IsDecodeFault}
+use Rattle.foyer_format_code.specs.Error.{Error}
+use Rattle.foyer_format_code.specs.Error.TheVariants as error
 use Rattle.foyer_format_record.specs.Record.{Outcome, outcome_of}
 use Rattle.foyer_format_record.specs.Record.{Outcome as outcome}
 use Rattle.foyer_format_record.specs.Refusals.{IsEntryFault, ReachesCodes, ReachesPair, IsRecordFault}

@@ -1,7 +1,7 @@
 -- The byte that names a compression.
 use Rattle.std.specs.Prelude.{ℕ, zero, suc, Result, Ok, Err}
-use Rattle.foyer_device_page.specs.declared.error.Error.{Error}
-use Rattle.foyer_device_page.specs.declared.error.Error.TheVariants.{Parse}
+use Rattle.foyer_format_code.specs.Error.{Error}
+use Rattle.foyer_format_code.specs.Error.TheVariants.{Parse}
 use Rattle.foyer_format_record.specs.declared.compress.Compression.{Compression}
 use Rattle.foyer_format_record.specs.declared.compress.Compression.TheVariants as compression
 

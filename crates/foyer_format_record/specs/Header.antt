@@ -1,8 +1,8 @@
 -- The header of a record.
 use Rattle.std.specs.Prelude.{ℕ, ◌+◌, ◌/◌, ◌%◌, ◌<◌, ◌^◌, ◌==◌, List, ◌++◌, drop, Result, Ok, Err, if◌then◌else◌, ◌*◌}
 use Rattle.byteorder.specs.Endian.{big_number, big_bytes}
-use Rattle.foyer_device_page.specs.declared.error.Error.{Error}
-use Rattle.foyer_device_page.specs.declared.error.Error.TheVariants.{MagicMismatch}
+use Rattle.foyer_format_code.specs.Error.{Error}
+use Rattle.foyer_format_code.specs.Error.TheVariants.{MagicMismatch}
 use Rattle.foyer_format_record.specs.Compression.{byte_of, compression_of}
 use Rattle.foyer_format_record.specs.declared.compress.Compression.{Compression}
 use Rattle.foyer_format_record.specs.declared.block.serde.EntryHeader.{EntryHeader}

@@ -1,8 +1,8 @@
 -- A record: its header, the value's bytes, and the key's bytes; and what bytes are as a record.
 use Rattle.std.specs.Prelude.{ℕ, ◌+◌, ◌==◌, ◌&&◌, not, nat_lt, Bool, true, false, List, ◌++◌, length, take, drop, Option, Some, None, Result, Ok, Err, if◌then◌else◌}
 use Rattle.foyer_format_checksum.specs.Xxh64.{xxh64}
-use Rattle.foyer_device_page.specs.declared.error.Error.{Error}
-use Rattle.foyer_device_page.specs.declared.error.Error.TheVariants as error
+use Rattle.foyer_format_code.specs.Error.{Error}
+use Rattle.foyer_format_code.specs.Error.TheVariants as error
 use Rattle.foyer_format_record.specs.declared.compress.Compression.{Compression}
 use Rattle.foyer_format_record.specs.declared.compress.Compression.TheVariants as compression
 use Rattle.foyer_format_record.specs.declared.block.serde.EntryHeader.{EntryHeader}

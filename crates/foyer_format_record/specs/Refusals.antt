@@ -1,7 +1,7 @@
 -- What the calls on entries and records answer in place of their result.
 use Rattle.std.specs.Prelude.{◌≡◌, ◌⊎◌, ℕ, Option, Some, None}
-use Rattle.foyer_device_page.specs.declared.error.Error.{Error}
-use Rattle.foyer_device_page.specs.declared.error.Error.TheVariants as error
+use Rattle.foyer_format_code.specs.Error.{Error}
+use Rattle.foyer_format_code.specs.Error.TheVariants as error
 use Rattle.foyer_format_record.specs.declared.compress.Compression.{Compression}
 use Rattle.foyer_format_record.specs.declared.compress.Compression.TheVariants as compression
 use Rattle.foyer_format_record.specs.Record.{Outcome}

@@ -4,7 +4,7 @@ ghost use Rattle.foyer_format_record.specs.Compression.{byte_of, compression_of}
 ghost use Rattle.foyer_format_record.specs.declared.compress.Compression.{Compression};
 ghost use Rattle.foyer_format_record.specs.declared.compress.Compression.TheVariants as compression;
 
-use foyer_device_page::error::{Error, Result};
+use foyer_format_code::device_page::error::{Error, Result};
 
 /// How a record's value is compressed. Only `None` can be written and decoded.
 #[derive(Clone, Copy, Debug, PartialEq, Eq)]

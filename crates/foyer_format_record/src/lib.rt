@@ -5,3 +5,5 @@ pub mod block;
 pub mod compress;
 pub mod laws;
 pub mod serde;
+
+pub use foyer_format_code::device_page;

@@ -4,11 +4,11 @@ use Rattle.std.specs.declared.vec.Vec.{Vec}
 use Rattle.std.specs.Result.{IfOk}
 use Rattle.foyer_format_layout.specs.Page.{page_up}
 use Rattle.foyer_core_shared.specs.Answers.{IsAnswer}
-use Rattle.foyer_core_steps.specs.declared.reply.Reply.{Reply}
-use Rattle.foyer_core_steps.specs.declared.reply.Reply.TheVariants as reply
-use Rattle.foyer_core_steps.specs.declared.step.Step.{Step}
-use Rattle.foyer_core_steps.specs.declared.step.Step.TheVariants as step
-use Rattle.foyer_core_steps.specs.declared.step.Ticket.{Ticket}
+use Rattle.foyer_core_shared.specs.Reply.{Reply}
+use Rattle.foyer_core_shared.specs.Reply.TheVariants as reply
+use Rattle.foyer_core_shared.specs.Step.{Step}
+use Rattle.foyer_core_shared.specs.Step.TheVariants as step
+use Rattle.foyer_core_shared.specs.Ticket.{Ticket}
 use Rattle.foyer_device_page.specs.declared.error.Error.{Error}
 use Rattle.foyer_device_page.specs.declared.error.Error.TheVariants as error
 use Rattle.foyer_device_page.specs.declared.error.ErrorKind.TheVariants as kind

@@ -1,10 +1,10 @@
 -- What a step that isn't refused leaves in its session, and how a destroy ends.
 use Rattle.std.proofs.Common.{◌≡◌, ◌⊎◌, ◌∙◌, ℕ, Bool, true, false, None, Some, Option, Result, Ok, Err, ap, inl, inr, refl}
 use Rattle.std.specs.Result.{IfErr}
-use Rattle.foyer_core_steps.specs.declared.reply.Reply.{Reply}
-use Rattle.foyer_core_steps.specs.declared.reply.Reply.TheVariants as reply
-use Rattle.foyer_core_steps.specs.declared.step.Step.{Step}
-use Rattle.foyer_core_steps.specs.declared.step.Step.TheVariants as step
+use Rattle.foyer_core_shared.specs.Reply.{Reply}
+use Rattle.foyer_core_shared.specs.Reply.TheVariants as reply
+use Rattle.foyer_core_shared.specs.Step.{Step}
+use Rattle.foyer_core_shared.specs.Step.TheVariants as step
 use Rattle.foyer_device_page.specs.declared.error.Error.{Error}
 use Rattle.foyer_device_page.specs.declared.error.ErrorKind.{ErrorKind}
 use Rattle.foyer_device_page.specs.declared.error.ErrorKind.TheVariants as kind

@@ -4,9 +4,9 @@ use Rattle.std.proofs.Common.{◌≡◌, ◌⊎◌, ◌∙◌, ◌+◌, ℕ, Boo
 use Rattle.foyer_core_shared.specs.Briefed.{IsNotedIn}
 use Rattle.foyer_core_shared.specs.Briefs.{brief_of}
 use Rattle.foyer_core_shared.specs.Kinds.{kind_in, kind_of}
-use Rattle.foyer_core_steps.specs.declared.reply.Reply.{Reply}
-use Rattle.foyer_core_steps.specs.declared.reply.Reply.TheVariants as reply
-use Rattle.foyer_core_steps.specs.declared.step.Step.{Step}
+use Rattle.foyer_core_shared.specs.Reply.{Reply}
+use Rattle.foyer_core_shared.specs.Reply.TheVariants as reply
+use Rattle.foyer_core_shared.specs.Step.{Step}
 use Rattle.foyer_core_shared.specs.Sessions.{SessionState}
 use Rattle.foyer_core_shared.specs.declared.brief.ReplyBrief.{ReplyBrief}
 use Rattle.foyer_core_shared.specs.declared.brief.ReplyBrief.TheVariants as replied

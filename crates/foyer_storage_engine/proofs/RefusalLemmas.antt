@@ -1,9 +1,9 @@
 -- What the engine's calls are refused for.
 use Rattle.std.proofs.Common.{◌≡◌, ◌⊎◌, Bool, true, Result, Ok, Err, inl, inr, refl, sym, ap, subst, ◌∙◌}
 use Rattle.std.specs.Result.{IfErr}
-use Rattle.foyer_core_steps.specs.declared.reply.Reply.{Reply}
-use Rattle.foyer_core_steps.specs.declared.reply.Reply.TheVariants as reply
-use Rattle.foyer_core_steps.specs.declared.step.Step.{Step}
+use Rattle.foyer_core_shared.specs.Reply.{Reply}
+use Rattle.foyer_core_shared.specs.Reply.TheVariants as reply
+use Rattle.foyer_core_shared.specs.Step.{Step}
 use Rattle.foyer_device_page.specs.declared.error.Error.{Error}
 use Rattle.foyer_device_page.specs.declared.error.Error.TheVariants as error
 use Rattle.foyer_device_page.specs.declared.error.ErrorKind.TheVariants as kind

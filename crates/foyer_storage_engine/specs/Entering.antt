@@ -1,9 +1,9 @@
 -- What a keeper's shard holds, as the map of a run of the store.
 use Rattle.std.specs.Prelude.{◌≡◌, ℕ, Bool, true, List, Option, Some, None}
 use Rattle.std.specs.Option.{option_map}
-use Rattle.foyer_core_laws.specs.Content.{Content, Meaning, content_of}
-use Rattle.foyer_core_steps.specs.declared.reply.Reply.{Reply}
-use Rattle.foyer_core_steps.specs.declared.reply.Reply.TheVariants as reply
+use Rattle.foyer_core_shared.specs.Content.{Content, Meaning, content_of}
+use Rattle.foyer_core_shared.specs.Reply.{Reply}
+use Rattle.foyer_core_shared.specs.Reply.TheVariants as reply
 use Rattle.foyer_core_store_runs.specs.StoreLaw.{IsEquality}
 use Rattle.foyer_core_store_runs.specs.StoreRun.{Kept, Store, entered}
 use Rattle.foyer_policy_keeper.specs.PieceMap.{PieceMap, piece_at}

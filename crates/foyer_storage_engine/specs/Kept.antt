@@ -1,7 +1,7 @@
 -- What an enqueue makes of a keeper's shard.
 use Rattle.std.specs.Prelude.{ℕ, Bool, Some}
-use Rattle.foyer_core_steps.specs.declared.reply.Reply.{Reply}
-use Rattle.foyer_core_steps.specs.declared.reply.Reply.TheVariants as reply
+use Rattle.foyer_core_shared.specs.Reply.{Reply}
+use Rattle.foyer_core_shared.specs.Reply.TheVariants as reply
 use Rattle.foyer_policy_keeper.specs.PieceMap.{PieceMap, ChangesAt, HoldsSame}
 use Rattle.foyer_policy_piece.specs.Record.{Record}
 use Rattle.foyer_policy_piece.specs.Referred.{Referred}

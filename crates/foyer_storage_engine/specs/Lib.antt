@@ -10,3 +10,5 @@ pub mod Waiting
 pub mod Reporting
 pub mod Calls
 pub use Rattle.foyer_core_shared.specs.Sessions
+pub use Rattle.foyer_core_shared.specs.Issuing
+pub use Rattle.foyer_core_shared.specs.Lent

@@ -1,22 +1,22 @@
 //! The enqueue.
-ghost use Rattle.foyer_core_steps.specs.Refines.{Refines};
-ghost use Rattle.foyer_core_steps.specs.declared.reply.Reply.TheVariants as reply;
-ghost use Rattle.foyer_core_steps.specs.declared.step.Step.TheVariants as steps;
+ghost use Rattle.foyer_core_shared.specs.Refines.{Refines};
+ghost use Rattle.foyer_core_shared.specs.Reply.TheVariants as reply;
+ghost use Rattle.foyer_core_shared.specs.Step.TheVariants as steps;
 ghost use Rattle.foyer_device_page.specs.declared.error.ErrorKind.TheVariants as kind;
 ghost use Rattle.foyer_storage_engine.specs.Entering.{EntersRun};
 ghost use Rattle.foyer_storage_engine.specs.Kept.{IsPutWhereQueued, reference_of};
 ghost use Rattle.foyer_core_shared.specs.Replies.{may_reply};
 ghost use Rattle.foyer_policy_keeper.specs.PieceMap.{HasRoomFor, HoldsSame};
-ghost use Rattle.foyer_core_laws.specs.Content.{meaning};
+ghost use Rattle.foyer_core_shared.specs.Content.{meaning};
 ghost use Rattle.foyer_core_shared.specs.Briefed.{IsNotedIn};
 ghost use Rattle.std.specs.Prelude.{◌≡◌, ◌⊎◌, ◌+◌, ◌<◌, ◌≤◌, IfOk, OnErr, IfErr, true};
 
 use foyer_block_manager::block::eviction::EvictionPicker;
+use foyer_core_shared::core_steps::reply::Reply;
+use foyer_core_shared::core_steps::step::Step;
 use foyer_core_shared::locked::Locked;
 use foyer_core_shared::notes::Noting;
 use foyer_core_shared::session::Session;
-use foyer_core_steps::reply::Reply;
-use foyer_core_steps::step::Step;
 use foyer_core_tally::book::Kinds;
 use foyer_device_page::error::{Error, ErrorKind, Result};
 use foyer_device_statistics::IoState;

@@ -11,4 +11,4 @@ pub mod load;
 
 pub use foyer_core_access as core_access;
 pub use foyer_core_shared as core_shared;
-pub use foyer_core_steps as core_steps;
+pub use foyer_core_shared::core_steps;

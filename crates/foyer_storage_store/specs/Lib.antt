@@ -1,1 +1,2 @@
 pub mod Storing
+pub use Rattle.foyer_storage_engine.specs.Lent

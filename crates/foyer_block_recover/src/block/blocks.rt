@@ -1,9 +1,9 @@
 //! The blocks of a disk, one after the other, as an index.
 ghost use Rattle.std.specs.Prelude.{◌≡◌, ℕ, ◌+◌, ◌<◌, ◌≤◌, ◌^◌, ◌⊎◌, Bool, List, [], ◌++◌, true, length, vec_len, IfOk, IfErr, OnOk, IsOkUnless};
-ghost use Rattle.foyer_format_blob.specs.declared.blob.BlobEntryIndex.{BlobEntryIndex};
+ghost use Rattle.foyer_block_scan.specs.BlobEntryIndex.{BlobEntryIndex};
 ghost use Rattle.foyer_block_index.specs.Insertion.{inserted_all};
 ghost use Rattle.foyer_block_index.specs.declared.indexer.HashedEntryAddress.{HashedEntryAddress};
-ghost use Rattle.foyer_format_buffer.specs.Fills.{AreSizes};
+ghost use Rattle.foyer_block_scan.specs.Fills.{AreSizes};
 ghost use Rattle.foyer_device_page.specs.declared.error.Error.TheVariants as error;
 ghost use Rattle.foyer_io_disk.specs.Disk.{SurelyCame};
 ghost use Rattle.foyer_block_recover.specs.Chained.{hashed_entries};

@@ -2,7 +2,7 @@
 ghost use Rattle.std.specs.Prelude.{◌≡◌, ℕ, ◌<◌, ◌≤◌, ◌^◌, [], Bool, vec_len, replicate, slice_get, slice_set, Some, None, true, IfOk, IfSome, IsOkUnless};
 ghost use Rattle.std.specs.Bool.{OnTrue, OnFalse};
 ghost use Rattle.foyer_device_page.specs.declared.error.Error.TheVariants.{Memory};
-ghost use Rattle.foyer_format_buffer.specs.Fills.{AreSizes};
+ghost use Rattle.foyer_block_scan.specs.Fills.{AreSizes};
 ghost use Rattle.foyer_io_disk.specs.Disk.{SurelyCame};
 ghost use Rattle.foyer_block_recover.specs.Chained.{IsKeptOf};
 ghost use Rattle.foyer_block_recover.specs.Placed.{IsSomeKept};

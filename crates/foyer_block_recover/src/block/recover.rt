@@ -1,6 +1,6 @@
 //! Recovery.
 ghost use Rattle.std.specs.Prelude.{◌≡◌, ◌≢◌, ℕ, ◌<◌, ◌≤◌, ◌^◌, ◌⊎◌, ◌++◌, ◌∷◌, if◌then◌else◌, Bool, [], vec_len, map, IfOk, IfErr, OnOk, IsOkUnless};
-ghost use Rattle.foyer_format_buffer.specs.Fills.{AreSizes};
+ghost use Rattle.foyer_block_scan.specs.Fills.{AreSizes};
 ghost use Rattle.foyer_device_page.specs.declared.error.Error.TheVariants as error;
 ghost use Rattle.foyer_io_disk.specs.Disk.{SurelyCame};
 ghost use Rattle.foyer_block_recover.specs.BlocksKept.{AreBlocksKept};

@@ -10,7 +10,7 @@ ghost use Rattle.foyer_block_scan.specs.Scan.{next_blob, infos_of, scan_step, sc
 use foyer_block_index::indexer::EntryAddress;
 use foyer_block_index::manager::BlockId;
 use foyer_device_page::error::Result;
-use foyer_format_blob::{BlobEntryIndex, BlobIndexReader};
+use foyer_format_buffer::format_blob::{BlobEntryIndex, BlobIndexReader};
 use std::alloc::Allocator;
 use std::marker::Model;
 

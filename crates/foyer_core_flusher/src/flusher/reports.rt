@@ -4,9 +4,9 @@ ghost use Rattle.foyer_core_model.specs.Flush.{released};
 ghost use Rattle.foyer_core_model.specs.State as model_state;
 ghost use Rattle.foyer_core_model.specs.State.{State};
 ghost use Rattle.foyer_core_model.specs.Step as model_step;
-ghost use Rattle.foyer_core_laws.specs.Content.{Content, Meaning};
-ghost use Rattle.foyer_core_laws.specs.Sizes.{AreValid};
-ghost use Rattle.foyer_core_laws.specs.declared.settings.Settings.{Settings};
+ghost use Rattle.foyer_core_blocks.specs.Content.{Content, Meaning};
+ghost use Rattle.foyer_core_blocks.specs.Sizes.{AreValid};
+ghost use Rattle.foyer_core_blocks.specs.Settings.{Settings};
 ghost use Rattle.foyer_block_manager.specs.BlockSets.{BlockSets, Stands, HasSameRules};
 ghost use Rattle.foyer_block_manager.specs.Shown.{AreShownAll, written_of};
 

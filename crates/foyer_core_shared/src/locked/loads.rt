@@ -1,5 +1,5 @@
 //! The step that ends a load, of which what was read is judged before: it gives the buffer of the read back.
-ghost use Rattle.foyer_core_laws.specs.Content.{meaning};
+ghost use Rattle.foyer_core_steps.specs.Content.{meaning};
 ghost use Rattle.foyer_core_shared.specs.Briefs.{brief_of};
 ghost use Rattle.foyer_core_shared.specs.History.{BeginAlike, IsLegal, Made};
 ghost use Rattle.foyer_core_shared.specs.Kinds.{kind_of};

@@ -4,4 +4,4 @@ pub use crate::{
     Batch, BlobEntryIndex, BlobIndex, BlobIndexReader, BlobPart, Block, Buffer, BufferEntryInfo,
     SplitCtx, Splitter,
 };
-pub use foyer_format_record::block::buffer::{PAGE, whole_pages};
+pub use foyer_format_blob::format_record::block::buffer::{PAGE, whole_pages};

@@ -2,7 +2,7 @@
 ghost use Rattle.std.specs.Prelude.{◌≡◌, ◌+◌, ◌^◌, ◌<◌};
 ghost use Rattle.foyer_format_layout.specs.Page.{page_up};
 
-pub use foyer_device_page::io::bytes::PAGE;
+pub use foyer_format_code::device_page::io::bytes::PAGE;
 
 /// The least whole number of pages that has so many bytes, in bytes.
 #[tactic(auto, unfolding(foyer_format_layout::specs::Page::page_up))]

@@ -5,12 +5,12 @@ ghost use Rattle.foyer_format_record.specs.Record.{body_outcome, pair_of, record
 ghost use Rattle.foyer_format_record.specs.Record.{Outcome as outcome};
 ghost use Rattle.foyer_format_record.specs.Refusals.{IsRecordFault};
 ghost use Rattle.foyer_format_record.specs.declared.block.serde.EntryHeader.{EntryHeader};
-ghost use Rattle.foyer_device_page.specs.declared.error.Error.{Error as error};
+ghost use Rattle.foyer_format_code.specs.Error.{Error as error};
 
 use crate::compress::Compression;
 use crate::serde::{Code, EntryDeserializer};
 use byteorder::{BigEndian, ByteOrder};
-use foyer_device_page::error::{Error, Result};
+use foyer_format_code::device_page::error::{Error, Result};
 use std::alloc::Allocator;
 
 /// The place of a write in the order of all writes.

@@ -1,7 +1,7 @@
 //! The bytes of an entry: the value's, and then the key's.
 ghost use Rattle.std.specs.Prelude.{◌≡◌, ◌≤◌, ◌+◌, ◌-◌, ◌^◌, ◌++◌, ◌⊎◌, min, length, take, drop, None, Some, OnOk, OnErr, IfOk, IfErr, true};
 ghost use Rattle.std.specs.Io.KnownBytes.{Appends};
-ghost use Rattle.foyer_device_page.specs.declared.error.Error.TheVariants.{Memory};
+ghost use Rattle.foyer_format_code.specs.Error.TheVariants.{Memory};
 ghost use Rattle.foyer_format_record.specs.declared.compress.Compression.TheVariants as compression_of;
 ghost use Rattle.foyer_format_record.specs.Record.{entry_fault, outer_fault};
 ghost use Rattle.foyer_format_record.specs.Refusals.{IsSerializeFault, IsEntryFault};
@@ -9,8 +9,8 @@ ghost use Rattle.foyer_format_record.specs.Written.{IsWritten};
 ghost use Rattle.foyer_format_code.specs.Writing.{Takes, Extends};
 
 use crate::compress::Compression;
-use foyer_device_page::error::{Error, Result};
 use foyer_format_checksum::Checksummer;
+use foyer_format_code::device_page::error::{Error, Result};
 use foyer_format_code::{Code, Sink};
 use std::alloc::Allocator;
 

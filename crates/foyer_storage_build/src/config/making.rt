@@ -4,7 +4,7 @@ ghost use Rattle.std.specs.Prelude.{◌≡◌, ◌+◌, ◌*◌, ◌<◌, ◌≤
 ghost use Rattle.foyer_device_page.specs.declared.error.Error.TheVariants as error;
 ghost use Rattle.foyer_storage_build.specs.Building.{IsOpenError};
 ghost use Rattle.foyer_core_tally.specs.Ledgers.{AreOf};
-ghost use Rattle.foyer_core_steps.specs.Lent.{generator_of};
+ghost use Rattle.foyer_storage_store.specs.Lent.{generator_of};
 
 use super::block::BlockEngineConfig;
 use super::device_workers::{BlockFlusher, BlockReclaimer};
@@ -276,7 +276,7 @@ where
     ghost use Rattle.std.specs.Prelude.{◌≡◌, ◌+◌, ◌^◌, false, vec_len};
     ghost use Rattle.foyer_storage_plan.specs.Plans.{settings_of};
     ghost use Rattle.foyer_core_tally.specs.Ledgers.{AreOf};
-    ghost use Rattle.foyer_core_steps.specs.Lent.{generator_of};
+    ghost use Rattle.foyer_storage_store.specs.Lent.{generator_of};
     ghost use Rattle.foyer_storage_build.specs.Building.{IsOpenError};
     ghost use Rattle.foyer_storage_build.specs.declared.config.EngineBuildContext.{EngineBuildContext};
     ghost use Rattle.foyer_storage_build.specs.declared.config.block.BlockEngineConfig.{BlockEngineConfig};

@@ -1,7 +1,7 @@
 //! The calls of an engine that wait for its workers.
 ghost use Rattle.std.specs.Prelude.{◌≡◌, ◌⊎◌, ◌-◌, ◌<◌, IfErr, IfOk, OnOk, Some, true};
-ghost use Rattle.foyer_core_steps.specs.declared.reply.Reply.TheVariants as reply;
-ghost use Rattle.foyer_core_steps.specs.declared.step.Step.{Step};
+ghost use Rattle.foyer_core_shared.specs.Reply.TheVariants as reply;
+ghost use Rattle.foyer_core_shared.specs.Step.{Step};
 ghost use Rattle.foyer_device_page.specs.declared.error.ErrorKind.TheVariants as kind;
 ghost use Rattle.foyer_core_shared.specs.Answers.{IsAnswer};
 ghost use Rattle.foyer_core_shared.specs.Briefs.{brief_of, reply_brief, step_brief};
@@ -15,11 +15,11 @@ use super::{BlockEngine, error_of};
 use foyer_block_index::manager::BlockId;
 use foyer_block_manager::block::eviction::EvictionPicker;
 use foyer_block_recover::gate::Gate;
+use foyer_core_shared::core_steps::apply::no_io;
+use foyer_core_shared::core_steps::reply::Reply;
+use foyer_core_shared::core_steps::step::Step;
 use foyer_core_shared::notes::Noting;
 use foyer_core_shared::session::Session;
-use foyer_core_steps::apply::no_io;
-use foyer_core_steps::reply::Reply;
-use foyer_core_steps::step::Step;
 use foyer_core_tally::book::Kinds;
 use foyer_device_page::error::{Error, ErrorKind, Result};
 use foyer_device_statistics::IoState;

@@ -9,7 +9,7 @@ ghost use Rattle.foyer_device_page.specs.declared.error.Error.{Error as error};
 use foyer_block_index::manager::BlockId;
 use foyer_core_access::disk::do_read;
 use foyer_core_access::reclaims::BlockCleaner;
-use foyer_core_steps::step::Ticket;
+use foyer_core_shared::core_steps::step::Ticket;
 use foyer_device_page::error::Result;
 use foyer_io_disk::disk::Disk;
 use std::alloc::Allocator;

@@ -4,7 +4,7 @@ ghost use Rattle.foyer_core_model.specs.Numbers.{page};
 ghost use Rattle.foyer_core_laws.specs.Content.{meaning};
 ghost use Rattle.foyer_core_run.specs.Causes.{DrivesForCause, HasCome};
 ghost use Rattle.foyer_core_run.specs.Destroys.{Cleans, Destroys, DestroysForCause, HasDestroyed, IsClearing, IsDestroying, IsUncleared};
-ghost use Rattle.foyer_core_access.specs.Reclaims.{IsCleaned};
+ghost use Rattle.foyer_core_run.specs.AccessReclaims.{IsCleaned};
 ghost use Rattle.foyer_core_run.specs.Waiting.{AllSteps, DrivesBy, IsWaiting};
 ghost use Rattle.foyer_io_disk.specs.Disk.{IsTorn};
 ghost use Rattle.foyer_storage_local.specs.EntryCalls.{IsCleanFault, IsRefusedIfClosed, KeepsLies, LeadsForCause};

@@ -1,6 +1,6 @@
 //! A flusher's worker: it takes what is queued, writes it in batches, and gives back what was written.
 ghost use Rattle.std.specs.Prelude.{◌≡◌, ◌<◌, length};
-ghost use Rattle.foyer_core_flusher.specs.Issuing.{written_bytes};
+ghost use Rattle.foyer_storage_engine.specs.Issuing.{written_bytes};
 ghost use Rattle.foyer_io_disk.specs.Disk.{SurelyCame};
 ghost use Rattle.foyer_storage_engine.specs.Ending.{HoldsNamed};
 ghost use Rattle.foyer_storage_engine.specs.Reporting.{ReportsWrite};

@@ -3,7 +3,7 @@ use Rattle.foyer_block_index.proofs.Found.{slice_get_at}
 use Rattle.std.specs.Prelude.{drop, length, slice_get}
 use Rattle.foyer_io_disk.specs.Disk.{SurelyCame}
 use Rattle.foyer_io_disk.proofs.FaultLemmas.{came_behind}
-use Rattle.foyer_core_flusher.specs.Issuing.{written_bytes}
+use Rattle.foyer_core_steps.specs.Issuing.{written_bytes}
 use Rattle.foyer_core_laws.specs.Content.{meaning}
 use Rattle.foyer_core_steps.specs.Refines.{IsRefined, Refines}
 use Rattle.foyer_core_steps.specs.Asked.{went_well}

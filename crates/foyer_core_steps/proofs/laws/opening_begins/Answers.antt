@@ -1,5 +1,5 @@
 use Rattle.foyer_core_steps.proofs.OpenedLemmas.{opened_stands}
-use Rattle.foyer_core_laws.proofs.OpenedWorlds.{world_opened}
+use Rattle.foyer_core_flusher.proofs.OpenedWorlds.{world_opened}
 use Rattle.foyer_core_steps.proofs.laws.opening_begins.Goals as goal
 
 pub returns-clause-stands : goal.returns-clause-stands

@@ -1,6 +1,6 @@
 use Rattle.std.proofs.Common.{◌≡◌, ℕ, List, ◌++◌, drop, take, length, arith, ap, ◌∙◌}
 use Rattle.std.proofs.lemmas.List.{drop_at, drop-drop, length-take-le}
-use Rattle.foyer_format_checksum.specs.Xxh64.{xxh64}
+use Rattle.foyer_format_record.specs.Xxh64.{xxh64}
 use borrow.Rule.Slice.PartMut.{put_mid}
 use Rattle.foyer_format_blob.proofs.BlobLemmas.{sealed_by}
 use Rattle.foyer_format_blob.proofs.blob.seal_bytes.Goals as goal

@@ -1,7 +1,7 @@
 use Rattle.std.proofs.Common.{◌≡◌, ℕ, ◌+◌, ◌-◌, List, ◌++◌, take, drop, length, ap, ◌∙◌, arith}
 use Rattle.std.proofs.lemmas.List.{length-drop, length-take-le, drop-take}
-use Rattle.foyer_format_record.proofs.HeaderLemmas.{length-header_bytes}
-use Rattle.foyer_format_record.proofs.RecordBytes.{whole_record}
+use Rattle.foyer_format_blob.proofs.HeaderLemmas.{length-header_bytes}
+use Rattle.foyer_format_blob.proofs.RecordBytes.{whole_record}
 use Rattle.foyer_format_buffer.proofs.PagesLemmas.{written_part}
 use Rattle.foyer_format_buffer.proofs.pages.seal.Goals as goal
 

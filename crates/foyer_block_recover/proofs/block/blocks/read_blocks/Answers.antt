@@ -4,7 +4,7 @@ use Rattle.foyer_io_disk.specs.Disk.{SurelyCame}
 use Rattle.foyer_io_disk.proofs.FaultLemmas.{came_before, came_behind}
 use Rattle.foyer_block_index.proofs.Found.{slice_get-set_other}
 use Rattle.foyer_format_layout.specs.Position.{Sizes}
-use Rattle.foyer_format_buffer.specs.Listing.{kept}
+use Rattle.foyer_block_scan.specs.Listing.{kept}
 use Rattle.foyer_block_recover.specs.BlocksKept.{AreBlocksRead, gathered}
 use Rattle.foyer_block_recover.specs.Chained.{hashed_entries, IsKeptOf}
 use Rattle.foyer_block_recover.specs.Placed.{IsSomeKept, AreSomeKept}

@@ -1,7 +1,7 @@
 use Rattle.std.proofs.Common.{◌≡◌, ℕ, ◌+◌, ◌≤◌, vec_len, true, false, refl, sym, ap, subst, ◌∙◌, rules, arith}
 use Rattle.std.specs.Option.{option_map}
 use Rattle.foyer_format_layout.specs.BlockBytes.{read}
-use Rattle.foyer_format_buffer.specs.Fills.{AreSizes}
+use Rattle.foyer_block_scan.specs.Fills.{AreSizes}
 use Rattle.foyer_format_layout.specs.Position.{Sizes}
 use Rattle.foyer_block_scan.specs.ScanState.{Scan}
 use Rattle.foyer_io_disk.specs.Disk.{SurelyCame}

@@ -3,7 +3,7 @@ use Rattle.foyer_format_layout.specs.Page.{page_up}
 use Rattle.foyer_format_layout.specs.Position.{Sizes}
 use Rattle.foyer_format_buffer.specs.Listing.{Fits}
 use Rattle.foyer_block_scan.proofs.ScanLemmas.{fit_at, behind_last, some_there}
-use Rattle.foyer_format_blob.specs.declared.blob.BlobEntryIndex.{BlobEntryIndex}
+use Rattle.foyer_format_buffer.specs.BlobEntryIndex.{BlobEntryIndex}
 use Rattle.foyer_block_scan.proofs.block.scanner.blob_end.Goals as goal
 
 pub overflow_add-result-3 : goal.overflow_add-result-3

@@ -6,7 +6,7 @@ use Rattle.foyer_format_buffer.specs.Listing.{Fits, placed}
 use Rattle.foyer_block_scan.specs.Scan.{infos_of}
 use Rattle.foyer_block_scan.specs.declared.block.scanner.EntryInfo.{EntryInfo}
 use Rattle.foyer_block_scan.proofs.ScanLemmas.{fit_at, infos_more}
-use Rattle.foyer_format_blob.specs.declared.blob.BlobEntryIndex.{BlobEntryIndex}
+use Rattle.foyer_format_buffer.specs.BlobEntryIndex.{BlobEntryIndex}
 use Rattle.foyer_block_scan.proofs.block.scanner.infos_of.Goals as goal
 
 pub overflow_cast-blob_offset : goal.overflow_cast-blob_offset

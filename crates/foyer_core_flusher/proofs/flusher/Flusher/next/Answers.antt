@@ -6,8 +6,8 @@ use Rattle.foyer_core_flusher.specs.FlusherSteps.{FlusherStep}
 use Rattle.foyer_core_flusher.specs.Issued.{IssuesFirst}
 use Rattle.foyer_core_flusher.specs.Issuing.{write_of}
 use Rattle.foyer_core_flusher.specs.Seen.{seen}
-use Rattle.foyer_core_laws.specs.CoreRules.{machine}
-use Rattle.foyer_core_laws.proofs.LawLemmas.{are_rules}
+use Rattle.foyer_core_blocks.specs.CoreRules.{machine}
+use Rattle.foyer_core_blocks.proofs.LawLemmas.{are_rules}
 use Rattle.foyer_block_manager.specs.BlockSets.{HasSameRules, HandsOut}
 use Rattle.foyer_block_manager.specs.Managed.{Managed}
 use Rattle.foyer_core_blocks.specs.Standing.{sets_of}

@@ -5,7 +5,7 @@ use Rattle.foyer_block_index.specs.declared.indexer.Index.TheVariants.{Tombstone
 use Rattle.foyer_format_buffer.specs.Entries.{FitsBuffer, with_entry}
 use Rattle.foyer_format_record.specs.Record.{record_bytes}
 use Rattle.foyer_format_record.specs.declared.compress.Compression.TheVariants as compression
-use Rattle.foyer_core_laws.specs.Content.{meaning}
+use Rattle.foyer_core_blocks.specs.Content.{meaning}
 use Rattle.foyer_core_flusher.specs.Marking.{bytes_of}
 use Rattle.foyer_core_flusher.specs.Seen.{seen}
 use Rattle.foyer_core_blocks.specs.Addresses.{mark_of, invalid_of}

@@ -1,6 +1,6 @@
 use Rattle.std.proofs.Common.{false, not, inl, inr, sym, ap, ◌∙◌}
 use Rattle.std.specs.Prelude.{Some, length, slice_get, slice_set}
-use Rattle.foyer_core_flusher.specs.Issuing.{written_bytes}
+use Rattle.foyer_core_steps.specs.Issuing.{written_bytes}
 use Rattle.foyer_core_laws.specs.Content.{meaning}
 use Rattle.foyer_core_steps.proofs.FlushTurns.{went_is}
 use Rattle.foyer_core_steps.specs.Asked.{went_well}

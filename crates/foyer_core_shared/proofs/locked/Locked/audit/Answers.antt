@@ -1,5 +1,5 @@
 use Rattle.std.proofs.Common.{sym, ap, ◌∙◌}
-use Rattle.foyer_core_laws.specs.Content.{meaning}
+use Rattle.foyer_core_steps.specs.Content.{meaning}
 use Rattle.foyer_core_shared.specs.Behind.{kept_notes}
 use Rattle.foyer_core_shared.proofs.HistoryLemmas.{noted_tallies}
 use Rattle.foyer_core_shared.proofs.locked.Locked.audit.Goals as goal

@@ -2,10 +2,10 @@ use Rattle.std.proofs.Common.{IfErr, ap, sym, subst, ◌∙◌}
 use Rattle.std.proofs.lemmas.Result.{err_from_is_err_and}
 use Rattle.foyer_block_recover.specs.Recovery.{IsRefused, marks_of}
 use Rattle.foyer_block_recover.specs.Sources.{sure_of}
-use Rattle.foyer_core_laws.specs.Sizes.{sizes_in}
+use Rattle.foyer_core_steps.specs.Sizes.{sizes_in}
 use Rattle.foyer_io_disk.specs.Disk.{SurelyCame}
 use Rattle.std.specs.Option.{is_some}
-use Rattle.foyer_core_laws.specs.Content.{meaning}
+use Rattle.foyer_core_steps.specs.Content.{meaning}
 use Rattle.foyer_core_shared.specs.Behind.{kept_notes}
 use Rattle.foyer_core_shared.proofs.HistoryLemmas.{begins_with, noted_first, some_first}
 use Rattle.foyer_core_shared.proofs.locked.Locked.open.Goals as goal

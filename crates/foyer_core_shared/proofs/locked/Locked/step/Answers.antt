@@ -1,6 +1,6 @@
 use Rattle.std.proofs.Common.{ap, sym, ◌∙◌}
 use Rattle.std.specs.Option.{is_some}
-use Rattle.foyer_core_laws.specs.Content.{meaning}
+use Rattle.foyer_core_steps.specs.Content.{meaning}
 use Rattle.foyer_core_shared.specs.Noted.{and_note}
 use Rattle.foyer_core_shared.specs.Behind.{kept_notes}
 use Rattle.foyer_core_shared.specs.Kinds.{kind_of}

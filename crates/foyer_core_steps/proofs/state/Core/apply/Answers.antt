@@ -1,6 +1,6 @@
 use Rattle.std.proofs.Common.{◌+◌, ◌-◌, ◌^◌, ◌<◌, refl, arith}
 use Rattle.foyer_block_index.proofs.Rooms.{kept_itself}
-use Rattle.foyer_core_laws.specs.Content.{meaning}
+use Rattle.foyer_core_flusher.specs.Content.{meaning}
 use Rattle.foyer_core_steps.proofs.RefinesLemmas.{met, met_back, met_at_end}
 use Rattle.foyer_core_steps.proofs.state.Core.apply.Goals as goal
 

@@ -1,7 +1,7 @@
 use Rattle.std.proofs.Common.{◌+◌, ◌-◌, ◌^◌, ◌<◌, refl, sym, subst, arith}
 use Rattle.foyer_block_index.proofs.Rooms.{kept_itself}
 use Rattle.foyer_device_page.specs.declared.error.ErrorKind.TheVariants as kind
-use Rattle.foyer_core_laws.specs.Content.{meaning}
+use Rattle.foyer_core_flusher.specs.Content.{meaning}
 use Rattle.foyer_core_steps.specs.Refines.{IsRefined}
 use Rattle.foyer_core_steps.specs.declared.reply.Reply.TheVariants as reply
 use Rattle.foyer_core_steps.specs.declared.step.Step.TheVariants as step

@@ -1,6 +1,6 @@
 use Rattle.std.proofs.Common.{nat_eq, option_map, refl, ap, subst}
 use Rattle.std.specs.Map.{lookup}
-use Rattle.foyer_core_blocks.specs.Standing.{IsManagedAs}
+use Rattle.foyer_core_flusher.specs.Standing.{IsManagedAs}
 use Rattle.foyer_core_steps.specs.Opened.{opened_sets}
 use Rattle.foyer_core_steps.specs.Reclaiming.{reclaiming}
 use Rattle.foyer_core_steps.proofs.state.Core.begin.Goals as goal

@@ -8,8 +8,8 @@ use Rattle.foyer_core_model.specs.State as model_state
 use Rattle.foyer_core_model.specs.State.{Remove}
 use Rattle.foyer_core_flusher.specs.declared.submission.Submission.TheVariants.{Tombstone}
 use Rattle.foyer_core_flusher.specs.Seen.{seen}
-use Rattle.foyer_core_blocks.specs.Standing.{sets_of, IsManagedAs}
-use Rattle.foyer_core_blocks.proofs.SetsLemmas.{managed_kept, blocks_kept}
+use Rattle.foyer_core_flusher.specs.Standing.{sets_of, IsManagedAs}
+use Rattle.foyer_core_flusher.proofs.SetsLemmas.{managed_kept, blocks_kept}
 use Rattle.foyer_core_steps.specs.Destroying.{IsDestroyAs}
 use Rattle.foyer_core_steps.specs.declared.step.Step.TheVariants as step
 use Rattle.foyer_core_steps.proofs.FlusherLists.{same_seen}

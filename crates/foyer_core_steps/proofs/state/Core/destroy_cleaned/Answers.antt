@@ -2,8 +2,8 @@ use Rattle.std.proofs.Common.{refl, sym, subst, ◌∙◌}
 use Rattle.foyer_core_model.specs.Destroy.{CleansOne}
 use Rattle.foyer_core_model.specs.Reply as model_reply
 use Rattle.foyer_block_manager.specs.BlockSets.{Stands, without_stats}
-use Rattle.foyer_core_blocks.specs.Standing.{sets_of}
-use Rattle.foyer_core_laws.specs.CoreRules.{machine}
+use Rattle.foyer_core_flusher.specs.Standing.{sets_of}
+use Rattle.foyer_core_flusher.specs.CoreRules.{machine}
 use Rattle.foyer_core_steps.specs.Asked.{fault_of}
 use Rattle.foyer_core_steps.specs.Destroying.{HasCleaned, HasEnded}
 use Rattle.foyer_core_steps.proofs.CleanedSteps.{in_turn, does, its_fault, after_cleaned, cleaned_stands, goes_on, ends}

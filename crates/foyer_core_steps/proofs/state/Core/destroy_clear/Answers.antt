@@ -3,8 +3,8 @@ use Rattle.std.proofs.lemmas.Bool.{false≢true}
 use Rattle.foyer_device_page.specs.declared.error.ErrorKind.TheVariants as kind
 use Rattle.foyer_core_model.specs.Ids.{ids}
 use Rattle.foyer_core_model.specs.Reply as model_reply
-use Rattle.foyer_core_laws.specs.declared.settings.Settings.{Settings}
-use Rattle.foyer_core_blocks.specs.Standing.{sets_of}
+use Rattle.foyer_core_flusher.specs.Settings.{Settings}
+use Rattle.foyer_core_flusher.specs.Standing.{sets_of}
 use Rattle.foyer_core_flusher.specs.Cleared.{are_still, cleared}
 use Rattle.foyer_core_flusher.specs.Seen.{seen}
 use Rattle.foyer_core_steps.specs.declared.step.Step.TheVariants as step

@@ -11,10 +11,10 @@ use Rattle.foyer_core_flusher.proofs.MarkLemmas.{pushed_out}
 use Rattle.foyer_core_flusher.specs.Flushing.{invalid_of_all}
 use Rattle.foyer_core_flusher.specs.Seen.{seen}
 use Rattle.foyer_core_flusher.specs.declared.submission.Submission.TheVariants.{Tombstone}
-use Rattle.foyer_core_laws.specs.CoreRules.{machine}
-use Rattle.foyer_core_blocks.proofs.SetsLemmas.{managed_kept, blocks_kept}
-use Rattle.foyer_core_blocks.proofs.SlotLemmas.{index_inserted}
-use Rattle.foyer_core_blocks.specs.Standing.{IsIndexedAs}
+use Rattle.foyer_core_flusher.specs.CoreRules.{machine}
+use Rattle.foyer_core_flusher.proofs.SetsLemmas.{managed_kept, blocks_kept}
+use Rattle.foyer_core_flusher.proofs.SlotLemmas.{index_inserted}
+use Rattle.foyer_core_flusher.specs.Standing.{IsIndexedAs}
 use Rattle.foyer_core_steps.proofs.FlusherLists.{same_seen}
 use Rattle.foyer_core_steps.proofs.QueueLemmas.{with_queued, queue_pushed_at, size_grown}
 use Rattle.foyer_core_steps.proofs.StateLemmas.{flushers_count}

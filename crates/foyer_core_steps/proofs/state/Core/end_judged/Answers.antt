@@ -10,8 +10,8 @@ use Rattle.foyer_core_model.specs.Step as model_step
 use Rattle.foyer_core_model.specs.Load.{judged, age_at}
 use Rattle.foyer_core_model.specs.Record.{Outcome, Holds}
 use Rattle.foyer_core_steps.specs.Asked.{ticket_of, age_of as asked_age}
-use Rattle.foyer_core_laws.specs.Content.{Content, content, meaning}
-use Rattle.foyer_core_laws.specs.CoreRules.{machine}
+use Rattle.foyer_core_flusher.specs.Content.{Content, content, meaning}
+use Rattle.foyer_core_flusher.specs.CoreRules.{machine}
 use Rattle.foyer_core_steps.specs.Judging.{IsJudged, IsReadAs}
 use Rattle.foyer_core_steps.specs.Refines.{IsRefinedUncounted}
 use Rattle.foyer_block_manager.specs.BlockSets.{IsBlockAs}

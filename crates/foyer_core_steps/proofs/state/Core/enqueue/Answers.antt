@@ -6,10 +6,10 @@ use Rattle.foyer_core_model.specs.Queue.{IsCrowded}
 use Rattle.foyer_core_model.specs.Reply as model_reply
 use Rattle.foyer_core_model.specs.State.{Piece}
 use Rattle.foyer_core_model.specs.Step.{Young}
-use Rattle.foyer_core_blocks.proofs.SetsLemmas.{managed_kept, blocks_kept}
+use Rattle.foyer_core_flusher.proofs.SetsLemmas.{managed_kept, blocks_kept}
 use Rattle.foyer_core_steps.specs.Asked.{known_age}
-use Rattle.foyer_core_laws.specs.Content.{content_of}
-use Rattle.foyer_core_laws.specs.CoreRules.{machine}
+use Rattle.foyer_core_flusher.specs.Content.{content_of}
+use Rattle.foyer_core_flusher.specs.CoreRules.{machine}
 use Rattle.foyer_core_flusher.specs.declared.submission.Submission.TheVariants.{CacheEntry}
 use Rattle.foyer_core_steps.specs.declared.step.Step.TheVariants as step
 use Rattle.foyer_core_steps.specs.Marking.{marked}

@@ -7,15 +7,15 @@ use Rattle.foyer_core_model.specs.Reply as model_reply
 use Rattle.foyer_core_flusher.specs.BatchBegun.{HasBegun}
 use Rattle.foyer_core_flusher.specs.Begun.{IsBegun}
 use Rattle.foyer_core_flusher.specs.Flushing.{IsFlusherAs}
-use Rattle.foyer_core_laws.specs.CoreRules.{machine}
-use Rattle.foyer_core_blocks.specs.Addresses.{mark_of}
+use Rattle.foyer_core_flusher.specs.CoreRules.{machine}
+use Rattle.foyer_core_flusher.specs.Addresses.{mark_of}
 use Rattle.foyer_core_flusher.specs.Seen.{seen}
 use Rattle.foyer_core_flusher.specs.Taking.{size_in}
-use Rattle.foyer_core_blocks.proofs.SetsLemmas.{managed_kept, blocks_kept}
+use Rattle.foyer_core_flusher.proofs.SetsLemmas.{managed_kept, blocks_kept}
 use Rattle.foyer_core_steps.specs.declared.step.Step.TheVariants as step
 use Rattle.foyer_core_flusher.proofs.BeginLemmas.{has_begun}
 use Rattle.foyer_core_flusher.proofs.BeginTurns.{may_begin, may_begin_back}
-use Rattle.foyer_core_laws.proofs.LawLemmas.{are_rules}
+use Rattle.foyer_core_flusher.proofs.LawLemmas.{are_rules}
 use Rattle.foyer_core_steps.proofs.QueueLemmas.{size_kept}
 use Rattle.foyer_core_steps.proofs.StateLemmas.{flushers_count, flusher_at, flusher_put}
 use Rattle.foyer_core_steps.proofs.TurnLemmas.{is_early, refused, not_now}

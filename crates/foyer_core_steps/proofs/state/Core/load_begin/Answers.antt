@@ -6,12 +6,12 @@ use Rattle.foyer_core_model.specs.Numbers.{put}
 use Rattle.foyer_core_model.specs.Record.{Indexed}
 use Rattle.foyer_core_model.specs.Reply as model_reply
 use Rattle.foyer_block_manager.specs.BlockSets.{IsBlockAs}
-use Rattle.foyer_core_blocks.specs.Addresses.{address_of}
+use Rattle.foyer_core_flusher.specs.Addresses.{address_of}
 use Rattle.foyer_core_steps.specs.Asked.{ticket_of}
-use Rattle.foyer_core_laws.specs.CoreRules.{machine}
-use Rattle.foyer_core_blocks.specs.Standing.{slot_of, IsIndexedAs, sets_of}
+use Rattle.foyer_core_flusher.specs.CoreRules.{machine}
+use Rattle.foyer_core_flusher.specs.Standing.{slot_of, IsIndexedAs, sets_of}
 use Rattle.foyer_core_steps.specs.declared.step.Ticket.{Ticket}
-use Rattle.foyer_core_blocks.proofs.SlotLemmas.{held_address, index_removed, without_itself}
+use Rattle.foyer_core_flusher.proofs.SlotLemmas.{held_address, index_removed, without_itself}
 use Rattle.foyer_core_steps.proofs.state.Core.load_begin.Goals as goal
 
 pub returns-then-address-state-clause-meets : goal.returns-then-address-state-clause-meets

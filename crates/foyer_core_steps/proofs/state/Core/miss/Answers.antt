@@ -1,4 +1,4 @@
-use Rattle.foyer_core_blocks.proofs.SlotLemmas.{index_removed}
+use Rattle.foyer_core_flusher.proofs.SlotLemmas.{index_removed}
 use Rattle.foyer_core_steps.proofs.state.Core.miss.Goals as goal
 
 pub returns-clause-meets : goal.returns-clause-meets

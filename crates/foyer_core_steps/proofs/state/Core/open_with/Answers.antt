@@ -8,7 +8,7 @@ use Rattle.foyer_block_recover.specs.Recovery.{IsRecovered, IsRefused, MayRefuse
 use Rattle.foyer_block_recover.specs.declared.block.recover.RecoverMode.TheVariants as recover_mode
 use Rattle.foyer_block_recover.specs.declared.block.recover.RecoverRunner.{RecoverRunner}
 use Rattle.foyer_device_page.specs.declared.error.Error.TheVariants as error
-use Rattle.foyer_core_laws.specs.Sizes.{sizes_in}
+use Rattle.foyer_core_flusher.specs.Sizes.{sizes_in}
 use Rattle.foyer_io_disk.specs.Disk.{SurelyCame}
 use Rattle.foyer_block_recover.specs.Sources.{AreSources, sure_of}
 use Rattle.foyer_core_steps.specs.Opened.{IsOpenedFrom}

@@ -3,7 +3,7 @@ use Rattle.std.specs.Prelude.{IfSome}
 use Rattle.foyer_block_index.proofs.Rooms.{kept_itself}
 use Rattle.foyer_device_page.specs.declared.error.ErrorKind.TheVariants as kind
 use Rattle.foyer_core_model.specs.Reply as model_reply
-use Rattle.foyer_core_laws.specs.declared.settings.Settings.{Settings}
+use Rattle.foyer_core_flusher.specs.Settings.{Settings}
 use Rattle.foyer_core_steps.specs.Reclaiming.{ChangesReclaim, IsReread, reclaim_at, after_index, awaited, index_infos, verdict_list}
 use Rattle.foyer_core_steps.specs.Replied.{IsReply}
 use Rattle.foyer_core_steps.specs.Scanning.{IsJudged, scan_reply}

@@ -7,10 +7,10 @@ use Rattle.foyer_core_flusher.specs.declared.submission.Submission.TheVariants.{
 use Rattle.foyer_format_layout.specs.Page.{page_up}
 use Rattle.foyer_core_model.specs.Reclaim.{issued_at}
 use Rattle.foyer_core_model.specs.State as model_state
-use Rattle.foyer_core_laws.specs.CoreRules.{machine}
-use Rattle.foyer_core_blocks.specs.Addresses.{address_of}
+use Rattle.foyer_core_flusher.specs.CoreRules.{machine}
+use Rattle.foyer_core_flusher.specs.Addresses.{address_of}
 use Rattle.foyer_core_model.specs.Reply as model_reply
-use Rattle.foyer_core_laws.specs.declared.settings.Settings.{Settings}
+use Rattle.foyer_core_flusher.specs.Settings.{Settings}
 use Rattle.foyer_core_steps.specs.Reclaiming.{Reclaiming, reclaim_at, awaited, requeue_count}
 use Rattle.foyer_core_steps.specs.Replied.{IsReply}
 use Rattle.foyer_core_steps.specs.Scanning.{HasNoVerdicts, scan_reply}

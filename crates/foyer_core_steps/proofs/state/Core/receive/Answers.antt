@@ -3,14 +3,14 @@ use Rattle.foyer_block_index.proofs.Rooms.{kept_itself}
 use Rattle.foyer_device_page.specs.declared.error.ErrorKind.TheVariants as kind
 use Rattle.foyer_core_model.specs.Receive.{turned, TakesFront as TakesOne}
 use Rattle.foyer_core_model.specs.Reply as model_reply
-use Rattle.foyer_core_laws.specs.Content.{meaning}
+use Rattle.foyer_core_flusher.specs.Content.{meaning}
 use Rattle.foyer_core_flusher.specs.Flushing.{IsFlusherAs}
-use Rattle.foyer_core_laws.specs.CoreRules.{machine}
-use Rattle.foyer_core_laws.specs.Content.{returned}
+use Rattle.foyer_core_flusher.specs.CoreRules.{machine}
+use Rattle.foyer_core_flusher.specs.Content.{returned}
 use Rattle.foyer_core_flusher.specs.Taking.{IsReceivedAs, TakesFront}
 use Rattle.foyer_core_flusher.specs.Seen.{seen}
-use Rattle.foyer_core_blocks.proofs.SetsLemmas.{managed_kept, blocks_kept}
-use Rattle.foyer_core_blocks.specs.Standing.{IsIndexedAs}
+use Rattle.foyer_core_flusher.proofs.SetsLemmas.{managed_kept, blocks_kept}
+use Rattle.foyer_core_flusher.specs.Standing.{IsIndexedAs}
 use Rattle.foyer_core_steps.specs.declared.step.Step.TheVariants as step
 use Rattle.foyer_core_steps.proofs.QueueLemmas.{size_shrunk}
 use Rattle.foyer_core_steps.proofs.StateLemmas.{flushers_count, flusher_at, flusher_kept, flusher_put}

@@ -11,7 +11,7 @@ use Rattle.foyer_block_manager.specs.Managed.{is_evictable}
 use Rattle.foyer_block_manager.specs.ModelPicks.{MatchTheModel}
 use Rattle.foyer_block_manager.specs.Picks.{Picks, usable_in}
 use Rattle.foyer_block_manager.proofs.ModelPickLemmas.{picks_match}
-use Rattle.foyer_core_blocks.specs.Standing.{sets_of}
+use Rattle.foyer_core_flusher.specs.Standing.{sets_of}
 use Rattle.foyer_core_steps.specs.Reclaiming.{Reclaiming, ChangesReclaim, reclaim_at, reclaiming, first_reclaim}
 use Rattle.foyer_core_steps.specs.declared.step.Step.TheVariants as step
 use Rattle.foyer_core_steps.proofs.ReclaimEnds.{picked, after_pick, asked_by_all}

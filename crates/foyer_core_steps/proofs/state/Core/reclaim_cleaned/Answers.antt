@@ -1,7 +1,7 @@
 use Rattle.std.proofs.Common.{◌≡◌, ◌<◌, true, false, IsTrue, refl, sym, subst, ◌∙◌}
 use Rattle.foyer_core_model.specs.Reply as model_reply
 use Rattle.foyer_core_model.specs.State as model_state
-use Rattle.foyer_core_blocks.specs.Standing.{sets_of}
+use Rattle.foyer_core_flusher.specs.Standing.{sets_of}
 use Rattle.foyer_core_steps.specs.Reclaiming.{reclaim_at}
 use Rattle.foyer_core_steps.proofs.ReclaimLemmas.{reclaims_set}
 use Rattle.foyer_core_steps.proofs.ReclaimEnds.{finished}

@@ -6,9 +6,9 @@ use Rattle.foyer_core_model.specs.Numbers.{put}
 use Rattle.foyer_core_model.specs.Reclaim.{Forgets, not_among}
 use Rattle.foyer_core_model.specs.Reply as model_reply
 use Rattle.foyer_core_model.specs.State as model_state
-use Rattle.foyer_core_laws.specs.CoreRules.{machine}
-use Rattle.foyer_core_blocks.specs.Standing.{IsIndexedAs}
-use Rattle.foyer_core_blocks.proofs.ForgetLemmas.{forgotten_is}
+use Rattle.foyer_core_flusher.specs.CoreRules.{machine}
+use Rattle.foyer_core_flusher.specs.Standing.{IsIndexedAs}
+use Rattle.foyer_core_flusher.proofs.ForgetLemmas.{forgotten_is}
 use Rattle.foyer_core_steps.specs.Reclaiming.{Reclaiming, ChangesReclaim, reclaim_at, after_forget, left_in}
 use Rattle.foyer_core_steps.proofs.ReclaimLemmas.{left_as}
 use Rattle.foyer_core_steps.proofs.ReclaimStages.{forgets, at_stage, unforgotten_at}

@@ -2,7 +2,7 @@ use Rattle.std.proofs.Common.{◌≡◌, ◌==◌, refl, sym, ap, ◌∙◌}
 use Rattle.foyer_core_model.specs.Reclaim.{running}
 use Rattle.foyer_core_model.specs.Reply as model_reply
 use Rattle.foyer_block_manager.specs.BlockSets.{reclaim_count}
-use Rattle.foyer_core_blocks.specs.Standing.{sets_of}
+use Rattle.foyer_core_flusher.specs.Standing.{sets_of}
 use Rattle.foyer_core_steps.proofs.ReclaimSteps.{as_many_run}
 use Rattle.foyer_core_steps.proofs.state.Core.reclaim_idle.Goals as goal
 

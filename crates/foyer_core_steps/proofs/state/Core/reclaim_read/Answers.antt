@@ -4,8 +4,8 @@ use Rattle.foyer_core_model.specs.Reclaim.{Rereads}
 use Rattle.foyer_core_model.specs.Reply as model_reply
 use Rattle.foyer_core_model.specs.State as model_state
 use Rattle.foyer_core_model.specs.Step as model_step
-use Rattle.foyer_core_laws.specs.CoreRules.{machine}
-use Rattle.foyer_core_laws.specs.Sizes.{sizes_in}
+use Rattle.foyer_core_flusher.specs.CoreRules.{machine}
+use Rattle.foyer_core_flusher.specs.Sizes.{sizes_in}
 use Rattle.foyer_block_scan.specs.ScanState.{Scan}
 use Rattle.foyer_core_steps.specs.Reclaiming.{Reclaiming, ChangesReclaim, IsStageAs, reclaim_at, after_fault}
 use Rattle.foyer_core_steps.specs.declared.step.Step.TheVariants as step

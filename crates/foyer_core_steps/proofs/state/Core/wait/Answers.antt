@@ -5,7 +5,7 @@ use Rattle.foyer_core_model.specs.Reply.{Memory, Done, Refused}
 use Rattle.foyer_core_model.specs.State.{Await}
 use Rattle.foyer_core_model.specs.Step as model_step
 use Rattle.foyer_core_flusher.specs.declared.submission.Submission.TheVariants.{Wait}
-use Rattle.foyer_core_blocks.proofs.SetsLemmas.{managed_kept, blocks_kept}
+use Rattle.foyer_core_flusher.proofs.SetsLemmas.{managed_kept, blocks_kept}
 use Rattle.foyer_core_steps.proofs.QueueLemmas.{with_queued, queue_pushed, size_grown}
 use Rattle.foyer_core_steps.proofs.StateLemmas.{flushers_count, unchanged_stands}
 use Rattle.foyer_core_flusher.specs.Seen.{seen}

@@ -2,7 +2,7 @@ use Rattle.std.proofs.Common.{◌≡◌, ◌+◌, ℕ, List, true, take, drop, l
 use Rattle.std.proofs.lemmas.Result.{MatchResult-from_err}
 use Rattle.std.proofs.lemmas.List.{drop-take}
 use Rattle.foyer_format_layout.specs.Page.{page_up}
-use Rattle.foyer_format_record.specs.Record.{record_bytes}
+use Rattle.foyer_format_blob.specs.Record.{record_bytes}
 use Rattle.foyer_format_layout.proofs.PageLaws.{page_up-holds, page_up-fewest, page_up-least}
 use Rattle.foyer_format_buffer.proofs.EntriesLemmas.{shown, one_more, none_more, keeps, never, on_err}
 use Rattle.foyer_format_buffer.proofs.entries.Buffer.push.Goals as goal

@@ -1,5 +1,5 @@
-use Rattle.foyer_core_steps.specs.declared.step.Step.TheVariants as step
-use Rattle.foyer_core_steps.specs.Asked.{went_well}
+use Rattle.foyer_core_shared.specs.Step.TheVariants as step
+use Rattle.foyer_core_shared.specs.Asked.{went_well}
 use Rattle.foyer_storage_engine.proofs.AnsweringLemmas.{end_of}
 use Rattle.foyer_storage_engine.proofs.RefusalLemmas.{end_refused, end_throttled}
 use Rattle.foyer_storage_engine.proofs.engine.BlockEngine.end_load.Goals as goal

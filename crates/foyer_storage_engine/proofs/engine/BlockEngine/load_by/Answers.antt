@@ -1,5 +1,5 @@
 use Rattle.std.proofs.Common.{◌≡◌, true, subst}
-use Rattle.foyer_core_steps.specs.declared.step.Step.TheVariants as step
+use Rattle.foyer_core_shared.specs.Step.TheVariants as step
 use Rattle.foyer_storage_engine.specs.Answering.{IsLoadOf, is_load_error}
 use Rattle.foyer_core_shared.specs.Replies.{is_look_up_reply}
 use Rattle.std.specs.Result.{IfErr}

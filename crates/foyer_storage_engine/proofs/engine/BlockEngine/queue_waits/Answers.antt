@@ -1,5 +1,5 @@
 use Rattle.std.proofs.Common.{◌≡◌, ◌+◌, ◌-◌, refl, sym, subst, ◌∙◌, arith}
-use Rattle.foyer_core_steps.specs.declared.step.Step.TheVariants as step
+use Rattle.foyer_core_shared.specs.Step.TheVariants as step
 use Rattle.foyer_storage_engine.specs.Ending.{AsksToWait}
 use Rattle.foyer_storage_engine.proofs.EndingLemmas.{asked_to_wait}
 use Rattle.foyer_storage_engine.proofs.HoldingLemmas.{held_by_made, held_on}

@@ -1,5 +1,5 @@
 use Rattle.std.proofs.Common.{ℕ}
-use Rattle.foyer_core_access.proofs.CleanLemmas.{zeros_clean}
+use Rattle.foyer_core_run.proofs.AccessCleanLemmas.{zeros_clean}
 use Rattle.std.proofs.lemmas.List.{length-replicate}
 use Rattle.foyer_core_model.specs.Numbers.{page}
 use Rattle.foyer_storage_local.proofs.LocalRuns.{failed_unsure}
