@@ -1,5 +1,6 @@
 //! The whole program: a store is built, filled, and called by threads.
-ghost use Rattle.std.specs.Prelude.{◌≡◌, ◌^◌};
+ghost use Rattle.std.specs.Prelude.{◌≡◌, ◌⊎◌, ◌^◌};
+ghost use Rattle.foyer_cli.specs.Arguments.{AskVersion};
 ghost use Rattle.foyer_bench_stats.specs.declared.plan.Plan.{Plan};
 ghost use Rattle.foyer_bench_stats.specs.BenchPlans.{HasBounds};
 ghost use Rattle.foyer_core_tally.specs.Ledgers.{AreOf};
@@ -16,7 +17,7 @@ use foyer_bench_stats::plan::Plan;
 use foyer_bench_stats::settings::Refusal;
 use foyer_bench_stats::values::key_of;
 use foyer_bench_stats::zipf::Zipf;
-use foyer_cli::options::Options;
+use foyer_cli::options::{Options, ask_version, print_version};
 use foyer_core_tally::book::{Blanks, Kinds};
 use foyer_device_page::error::{Error, Result};
 use foyer_device_partition::io::device::{
@@ -394,7 +395,7 @@ where
 
 /// Runs the words `DIR CAPACITY BLOCK THREADS VALUE_BYTES SECONDS [NAME=VALUE..]`: so many threads call one store for so long, and
 /// what they counted is printed. Gives the exit status: 0, or 1 where a call was refused or answered wrongly, the store couldn't be
-/// built or the output failed, or 2 for bad words.
+/// built or the output failed, or 2 for bad words. `--version` alone prints the version.
 pub fn bench<L, T, B, W, E>(
     rt: T,
     alloc: Global,
@@ -410,8 +411,12 @@ where
     W: Write + Drop,
     E: Write + Drop,
     requires { AreOf L.name_of L.all blanks × (L.all ≡ 2 ^ 32) }
-    ensures usage { ((o : Options) (p : Plan) → ¬ AreBenchWords words.now o p) → result ≡ 2 }
+    ensures usage { ¬ AskVersion words.now → ((o : Options) (p : Plan) → ¬ AreBenchWords words.now o p) → result ≡ 2 }
+    ensures version { AskVersion words.now → (result ≡ 0) ⊎ (result ≡ 1) }
 {
+    if ask_version(words) {
+        return print_version(output, "foyerbench");
+    }
     match read_words(words) {
         Ok((options, plan)) => {
             run::<L, T, W, E>(rt, alloc, blanks, &options, &plan, output, errors)

@@ -8,8 +8,8 @@ use Rattle.std.specs.Prelude.{string_bytes}
 use Rattle.std.specs.declared.string.String.{String}
 use Rattle.foyer_format_layout.specs.Page.{page_up}
 use Rattle.foyer_format_layout.proofs.PageLaws.{page_up-holds, even-page_up, page_up-least}
-use Rattle.foyer_core_laws.specs.Sizes.{AreValid}
-use Rattle.foyer_core_laws.specs.declared.settings.Settings.{Settings}
+use Rattle.foyer_core_settings.specs.Sizes.{AreValid}
+use Rattle.foyer_core_settings.specs.declared.settings.Settings.{Settings}
 use Rattle.foyer_cli.specs.Arguments.{AreWords, AreAsked, GoTogether}
 use Rattle.foyer_cli.specs.Lines.{IsNumber}
 use Rattle.foyer_cli.specs.declared.options.Options.{Options}

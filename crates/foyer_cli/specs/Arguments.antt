@@ -1,9 +1,9 @@
 -- The program's arguments.
-use Rattle.std.specs.Prelude.{◌≡◌, ℕ, ◌/◌, ◌^◌, ◌<◌, ◌≤◌, List, [], ◌∷◌, false, string_bytes}
+use Rattle.std.specs.Prelude.{◌≡◌, ℕ, ◌/◌, ◌^◌, ◌<◌, ◌≤◌, List, [], ◌∷◌, false, string_bytes, codes}
 use Rattle.std.specs.declared.string.String.{String}
 use Rattle.foyer_format_layout.specs.Page.{page_up}
-use Rattle.foyer_core_laws.specs.Sizes.{IsDefaultShardCount}
-use Rattle.foyer_core_laws.specs.declared.settings.Settings.{Settings}
+use Rattle.foyer_core_settings.specs.Sizes.{IsDefaultShardCount}
+use Rattle.foyer_core_settings.specs.declared.settings.Settings.{Settings}
 use Rattle.foyer_cli.specs.Lines.{IsNumber}
 use Rattle.foyer_cli.specs.declared.options.Options.{Options}
 
@@ -15,6 +15,12 @@ AreWords (d ∷ (c ∷ [])) o = ⊥
 AreWords (d ∷ (c ∷ (b ∷ []))) o =
     ((o.directory).now ≡ string_bytes d) × IsNumber (string_bytes c) o.capacity × IsNumber (string_bytes b) o.block_size
 AreWords (d ∷ (c ∷ (b ∷ (w ∷ ws)))) o = ⊥
+
+-- one word, which asks for the version
+abbrev pub AskVersion : {A : Type 0} → List (String A) → Type 0
+AskVersion [] = ⊥
+AskVersion (w ∷ []) = string_bytes w ≡ codes "--version"
+AskVersion (w ∷ (x ∷ ws)) = ⊥
 
 -- how many blocks a device of so many bytes holds, the size of a block rounded up to whole pages
 abbrev pub blocks_held : Options → ℕ

@@ -1,19 +1,23 @@
 //! The program's arguments.
-ghost use Rattle.std.specs.Prelude.{◌≡◌, ◌↔◌, ◌-◌, ◌/◌, ◌<◌, ◌≤◌, true, false, IfOk, IsOk, IsOkUnless, IsTrue, MatchOption, codes};
+ghost use Rattle.std.specs.Prelude.{◌≡◌, ◌⊎◌, ◌↔◌, ◌-◌, ◌/◌, ◌<◌, ◌≤◌, true, false, IfOk, IsOk, IsOkUnless, IsTrue, MatchOption, codes};
 ghost use Rattle.foyer_block_tombstone.specs.Pages.{log_pages};
 ghost use Rattle.foyer_device_page.specs.declared.error.Error.TheVariants.{Config};
-ghost use Rattle.foyer_core_laws.specs.Sizes.{AreValid};
-ghost use Rattle.foyer_cli.specs.Arguments.{AreAsked, AreWords, GoTogether};
+ghost use Rattle.foyer_core_settings.specs.Sizes.{AreValid};
+ghost use Rattle.foyer_cli.specs.Arguments.{AreAsked, AreWords, AskVersion, GoTogether};
 
 use crate::command::number;
 use foyer_block_tombstone::block::tombstone::log_pages;
-use foyer_core_laws::settings::{DEFAULT_TOMBSTONE_LOG, MAX_BLOCK_SIZE, Settings};
+use foyer_core_settings::settings::{DEFAULT_TOMBSTONE_LOG, MAX_BLOCK_SIZE, Settings};
 use foyer_device_page::error::{Error, Result};
 use foyer_format_record::block::buffer::PAGE;
 use std::alloc::Allocator;
+use std::io::Write;
 
 /// Printed where the arguments are bad.
 pub const USAGE: &str = "usage: foyerdisk DIR CAPACITY BLOCK\n";
+
+/// Printed behind a program's name if its one word is `--version`: the library's version, and the toolchain that proved it.
+pub const VERSION: &str = " 0.1.0, rattle-kit-13b\n";
 
 /// The directory that stands for memory.
 pub const MEMORY: &str = ":memory:";
@@ -30,6 +34,28 @@ pub struct Options<'a> {
     pub capacity: u64,
     /// The size of a block in bytes, before it is rounded up to whole pages of 4096.
     pub block_size: u64,
+}
+
+/// Whether the words ask for the version: `--version` alone.
+pub fn ask_version<A: Allocator>(words: &[String<A>]) -> bool
+    ensures { IsTrue result ↔ AskVersion words.now }
+{
+    match words {
+        [word] => word.as_str() == "--version",
+        _ => false,
+    }
+}
+
+/// Prints a program's name and the version, and gives the exit status: 0, or 1 if the output failed.
+pub fn print_version<W: Write + Drop>(mut output: W, program: &str) -> u8
+    ensures { (result ≡ 0) ⊎ (result ≡ 1) }
+{
+    let is_named = output.write_all(program.as_bytes()).is_ok();
+    if is_named && output.write_all(VERSION.as_bytes()).is_ok() && output.flush().is_ok() {
+        0
+    } else {
+        1
+    }
 }
 
 /// How many blocks of so many bytes a device of so many bytes has room for, beside the pages of its log of deletes where it

@@ -18,7 +18,7 @@ use Rattle.foyer_core_model.proofs.CommitSteps.{same_address}
 use Rattle.foyer_core_blocks.specs.Addresses.{address_of, listed_of}
 use Rattle.foyer_core_blocks.specs.Standing.{slot_of, IsIndexedAs}
 use Rattle.foyer_core_blocks.proofs.SlotLemmas.{same_itself}
-use Rattle.foyer_core_laws.specs.declared.settings.Settings.{Settings}
+use Rattle.foyer_core_laws.specs.Settings.{Settings}
 
 -- both comparisons go either way
 same_turned : (a b : model_record.Address) → is_same a b ≡ is_same b a

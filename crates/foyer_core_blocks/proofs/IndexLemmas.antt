@@ -17,7 +17,7 @@ use Rattle.foyer_core_model.proofs.Basics.{put_at}
 use Rattle.foyer_core_blocks.specs.Addresses.{address_of}
 use Rattle.foyer_core_blocks.specs.Addresses.{mark_of}
 use Rattle.foyer_core_blocks.specs.Standing.{slot_of, IsIndexedAs}
-use Rattle.foyer_core_laws.specs.declared.settings.Settings.{Settings}
+use Rattle.foyer_core_laws.specs.Settings.{Settings}
 
 -- an insertion of the model is the index's
 entered_is : (held : Option Index) (a : EntryAddress) → slot_of (Some (entered held (Address a))) ≡ index.inserted (slot_of held) (model_record.Indexed (address_of a))

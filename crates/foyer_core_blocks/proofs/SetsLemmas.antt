@@ -5,7 +5,7 @@ use Rattle.foyer_core_model.specs.Ids.{is_id_in, without_id}
 use Rattle.foyer_core_model.specs.Numbers.{put}
 use Rattle.foyer_core_model.specs.State as model_state
 use Rattle.foyer_core_model.proofs.Basics.{put_at, put_one, put_other}
-use Rattle.foyer_core_laws.specs.declared.settings.Settings.{Settings}
+use Rattle.foyer_core_laws.specs.Settings.{Settings}
 use Rattle.foyer_block_manager.specs.BlockSets.{BlockSets, Stands, IsBlockAs, model_set, is_reclaimed}
 use Rattle.foyer_block_manager.specs.Managed.{Managed, IsWritten, filling_in}
 use Rattle.foyer_block_manager.specs.declared.block.states.BlockSet.{BlockSet}

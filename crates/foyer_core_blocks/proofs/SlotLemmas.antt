@@ -19,7 +19,7 @@ use Rattle.foyer_core_model.proofs.Basics.{put_at}
 use Rattle.foyer_core_model.proofs.CommitSteps.{same_address}
 use Rattle.foyer_core_blocks.specs.Addresses.{address_of}
 use Rattle.foyer_core_blocks.specs.Standing.{slot_of, IsIndexedAs}
-use Rattle.foyer_core_laws.specs.declared.settings.Settings.{Settings}
+use Rattle.foyer_core_laws.specs.Settings.{Settings}
 
 abbrev pub plain_of : Index → Slot
 plain_of (Address a) = Indexed (address_of a)

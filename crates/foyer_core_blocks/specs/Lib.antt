@@ -6,4 +6,4 @@ pub use Rattle.foyer_core_laws.specs.CoreRules
 pub use Rattle.foyer_core_laws.specs.Headline
 pub use Rattle.foyer_core_laws.specs.Restart
 pub use Rattle.foyer_core_laws.specs.Sizes
-pub use Rattle.foyer_core_laws.specs.declared.settings.Settings
+pub use Rattle.foyer_core_laws.specs.Settings

@@ -9,7 +9,7 @@ use Rattle.foyer_core_model.specs.Flush.{is_cleaning}
 use Rattle.foyer_core_model.specs.Ids.{is_id_in}
 use Rattle.foyer_core_model.specs.Record as model_record
 use Rattle.foyer_core_model.specs.State as model_state
-use Rattle.foyer_core_laws.specs.declared.settings.Settings.{Settings}
+use Rattle.foyer_core_laws.specs.Settings.{Settings}
 use Rattle.foyer_block_manager.specs.BlockSets.{BlockSets, Stands, is_reclaimed}
 use Rattle.foyer_block_manager.specs.Managed.{Managed}
 use Rattle.foyer_core_blocks.specs.Addresses.{address_of}

@@ -16,7 +16,7 @@ use Rattle.foyer_core_model.specs.State as model_state
 use Rattle.foyer_core_layout.proofs.BridgeLemmas.{batch_lays}
 use Rattle.foyer_core_layout.proofs.KeepsLemmas.{keeps_records, goes_on}
 use Rattle.foyer_core_layout.proofs.WithinLemmas.{all_within}
-use Rattle.foyer_core_layout.specs.Bridge.{filling_of, kept_of, AreBlocksAs}
+use Rattle.foyer_core_layout.specs.Bridge.{position_of, kept_of, AreBlocksAs}
 use Rattle.foyer_core_layout.specs.Laws.{IsLaidAs}
 use Rattle.foyer_core_layout.specs.Splits.{IsLaidOut, AreRules}
 use Rattle.foyer_core_blocks.specs.Content.{Content, Meaning, content_of, contents_of}
@@ -85,11 +85,11 @@ module _ {K V P A : Type 0} (m : Meaning K V P) (rules : Rules Content) (s : Set
   it = st.flushers f
 
   -- the layout
-  laid : IsLaidAs (sizes_in s) it.context (filling_of new.context.filling) it.buffer is.split
+  laid : IsLaidAs (sizes_in s) it.context (position_of new.context.filling) it.buffer is.split
   laid =
       let w : WasSplit old.filled old.context.sizes old.context.filling new.context.filling is.split = is.was_split in
-      subst (λ c. IsLaidAs (sizes_in s) c (filling_of new.context.filling) it.buffer is.split) (sym stands.context)
-      (subst (λ z. IsLaidAs z (filling_of old.context.filling) (filling_of new.context.filling) it.buffer is.split) stands.sizes
+      subst (λ c. IsLaidAs (sizes_in s) c (position_of new.context.filling) it.buffer is.split) (sym stands.context)
+      (subst (λ z. IsLaidAs z (position_of old.context.filling) (position_of new.context.filling) it.buffer is.split) stands.sizes
       (batch_lays old.context.sizes (record old.filled { room = length w.bytes }) w.bytes w.infos w.whole old.context.filling new.context.filling is.split it.buffer
       w.finished w.same stands.buffer (omega (arith, stands.goes_on.past, ap (λ c. c.at) stands.context, ap (λ z. z.index) stands.sizes)) w.laid))
 

@@ -8,7 +8,7 @@ use Rattle.foyer_policy_piece.specs.Referred.{Referred}
 use Rattle.foyer_core_model.specs.Position.{records_of}
 use Rattle.foyer_core_model.specs.Record as model_record
 use Rattle.foyer_core_model.specs.State as model_state
-use Rattle.foyer_core_layout.specs.Bridge.{filling_of, kept_of, AreBlocksAs}
+use Rattle.foyer_core_layout.specs.Bridge.{position_of, kept_of, AreBlocksAs}
 use Rattle.foyer_core_layout.specs.Splits.{MayGoOn, AllEndBy, LiesWithin}
 use Rattle.foyer_core_blocks.specs.Content.{Content, Meaning, content_of, contents_of}
 use Rattle.foyer_core_blocks.specs.Sizes.{buffer_room, sizes_in}
@@ -117,6 +117,6 @@ pub record IsFlusherAs {K V P A : Type 0} (m : Meaning K V P) (s : Settings) (φ
   pub own : it.own ≡ φ.own
   pub there : IsThere s.blocks φ.own
   pub sizes : φ.context.sizes ≡ sizes_in s
-  pub context : it.context ≡ filling_of φ.context.filling
+  pub context : it.context ≡ position_of φ.context.filling
   pub goes_on : MayGoOn (sizes_in s) it.context
   pub batch : AreBatched m s φ.own φ.batch it.batch

@@ -16,8 +16,8 @@ use Rattle.foyer_core_restart.proofs.Newest.{laid_newest_law_lem}
 use Rattle.foyer_core_restart.specs.IndexBytes.{index_at, IsIndexOf}
 use Rattle.foyer_core_restart.proofs.IndexBytesLemmas.{judged}
 use Rattle.foyer_core_laws.specs.CoreRules.{rules_of, layout, entries_at, IsEncoded}
-use Rattle.foyer_core_laws.specs.Sizes.{AreValid, sizes_in}
-use Rattle.foyer_core_laws.specs.declared.settings.Settings.{Settings}
+use Rattle.foyer_core_settings.specs.Sizes.{AreValid, sizes_in}
+use Rattle.foyer_core_settings.specs.declared.settings.Settings.{Settings}
 use Rattle.foyer_core_laws.proofs.LawLemmas.{demands}
 
 -- an entry in the model's words is that entry again

@@ -7,8 +7,8 @@ use Rattle.foyer_core_restart.proofs.GreedyLemmas as greedy
 use Rattle.foyer_core_restart.proofs.KeepsLemmas as keeps
 use Rattle.foyer_core_laws.specs.Content.{Meaning}
 use Rattle.foyer_core_laws.specs.CoreRules.{rules_of, layout, IsEncoded}
-use Rattle.foyer_core_laws.specs.Sizes.{AreValid}
-use Rattle.foyer_core_laws.specs.declared.settings.Settings.{Settings}
+use Rattle.foyer_core_settings.specs.Sizes.{AreValid}
+use Rattle.foyer_core_settings.specs.declared.settings.Settings.{Settings}
 use Rattle.foyer_core_laws.proofs.TripLemmas.{round_trip}
 
 -- the rules of a core take whole pages, and each part its two writes

@@ -17,8 +17,8 @@ use Rattle.foyer_core_restart.proofs.CleanLemmas.{clean_is}
 use Rattle.foyer_core_restart.proofs.FoundLemmas.{clean_push}
 use Rattle.foyer_core_laws.specs.Begins.{place_of, opened_state, opened_world}
 use Rattle.foyer_core_laws.specs.CoreRules.{rules_of}
-use Rattle.foyer_core_laws.specs.Sizes.{AreValid, sizes_in}
-use Rattle.foyer_core_laws.specs.declared.settings.Settings.{Settings}
+use Rattle.foyer_core_settings.specs.Sizes.{AreValid, sizes_in}
+use Rattle.foyer_core_settings.specs.declared.settings.Settings.{Settings}
 
 -- whether something was found of a hash
 abbrev is_named : ℕ → List Found → Bool

@@ -39,8 +39,8 @@ use Rattle.foyer_core_restart.specs.Restart.{HasNoStrays, IsWriting, no_fault}
 use Rattle.foyer_core_laws.specs.Content.{Content}
 use Rattle.foyer_core_laws.specs.CoreRules.{rules_of, layout, has_record, encoded, IsEncoded}
 use Rattle.foyer_core_laws.specs.Reached.{smallest, IsReached}
-use Rattle.foyer_core_laws.specs.Sizes.{AreValid, sizes_in}
-use Rattle.foyer_core_laws.specs.declared.settings.Settings.{Settings}
+use Rattle.foyer_core_settings.specs.Sizes.{AreValid, sizes_in}
+use Rattle.foyer_core_settings.specs.declared.settings.Settings.{Settings}
 
 module _ (is_key is_value : List ℕ → Bool) (s : Settings) (sound : AreValid (smallest s)) (key value : List ℕ)
     (key_is : is_key key ≡ true) (value_is : is_value value ≡ true) (short : length value + length key ≤ 4060) where

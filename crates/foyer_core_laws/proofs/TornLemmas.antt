@@ -23,8 +23,8 @@ use Rattle.foyer_core_restart.specs.Torn.{IsTornStop, FindsNewer, Place, alone}
 use Rattle.foyer_core_laws.specs.Content.{Content}
 use Rattle.foyer_core_laws.specs.CoreRules.{rules_of, layout, has_record, encoded, IsEncoded, outcome_of, entries_at, page_up_above, holds_page}
 use Rattle.foyer_core_laws.specs.ReachedTorn.{two_flushers, IsReachedTorn}
-use Rattle.foyer_core_laws.specs.Sizes.{AreValid, sizes_in, buffer_room}
-use Rattle.foyer_core_laws.specs.declared.settings.Settings.{Settings}
+use Rattle.foyer_core_settings.specs.Sizes.{AreValid, sizes_in, buffer_room}
+use Rattle.foyer_core_settings.specs.declared.settings.Settings.{Settings}
 use Rattle.foyer_core_laws.proofs.FormatLemmas.{restart_lem}
 
 -- a record begins with the length of its key, of which a small one has no first bytes

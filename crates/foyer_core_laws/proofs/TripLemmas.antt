@@ -9,8 +9,8 @@ use Rattle.foyer_core_model.specs.Rules.{HasRoundTrip}
 use Rattle.foyer_core_laws.specs.Content.{Content, Meaning}
 use Rattle.foyer_core_laws.specs.CoreRules.{machine}
 use Rattle.foyer_core_laws.specs.CoreRules.{outcome_of, has_record, IsEncoded}
-use Rattle.foyer_core_laws.specs.Sizes.{AreValid}
-use Rattle.foyer_core_laws.specs.declared.settings.Settings.{Settings}
+use Rattle.foyer_core_settings.specs.Sizes.{AreValid}
+use Rattle.foyer_core_settings.specs.declared.settings.Settings.{Settings}
 
 pub left : (a b : Bool) → (a && b) ≡ true → a ≡ true
 left true b e = refl

@@ -12,8 +12,8 @@ use Rattle.foyer_core_restart.specs.Bridge.{entry_of}
 use Rattle.foyer_core_laws.specs.Content.{Content, Meaning}
 use Rattle.foyer_core_restart.specs.LayoutSplits.{IsLaidOut, part_writes}
 use Rattle.foyer_core_restart.specs.IndexBytes.{index_at}
-use Rattle.foyer_core_laws.specs.Sizes.{AreValid, buffer_room, sizes_in}
-use Rattle.foyer_core_laws.specs.declared.settings.Settings.{Settings}
+use Rattle.foyer_core_settings.specs.Sizes.{AreValid, buffer_room, sizes_in}
+use Rattle.foyer_core_settings.specs.declared.settings.Settings.{Settings}
 
 -- what bytes are, as the model has it
 abbrev pub outcome_of : Outcome → model_record.Outcome Content

@@ -8,8 +8,8 @@ use Rattle.foyer_core_restart.specs.Opening.{Opened}
 use Rattle.foyer_core_restart.specs.Placed.{IsOpening}
 use Rattle.foyer_core_laws.specs.Begins.{opened_world}
 use Rattle.foyer_core_laws.specs.CoreRules.{rules_of, layout, IsEncoded}
-use Rattle.foyer_core_laws.specs.Sizes.{AreValid, sizes_in}
-use Rattle.foyer_core_laws.specs.declared.settings.Settings.{Settings}
+use Rattle.foyer_core_settings.specs.Sizes.{AreValid, sizes_in}
+use Rattle.foyer_core_settings.specs.declared.settings.Settings.{Settings}
 
 -- Whatever an opening found, with some marks, over any bytes: a world with it, whose history has a put for each address
 -- that was found, is one that the laws begin with.

@@ -4,5 +4,6 @@ pub mod CoreRules
 pub mod Headline
 pub mod Reached
 pub mod ReachedTorn
-pub mod Sizes
 pub use Rattle.foyer_core_restart.specs.Restart
+pub use Rattle.foyer_core_settings.specs.Sizes
+pub use Rattle.foyer_core_settings.specs.declared.settings.Settings

@@ -7,7 +7,7 @@ use Rattle.foyer_core_model.specs.World.{World}
 use Rattle.foyer_core_restart.specs.Opening.{Opened, Opens}
 use Rattle.foyer_core_restart.specs.RecoverMode.TheVariants as recover_mode
 use Rattle.foyer_core_restart.specs.Restart.{IsRun, IsStopped, HasNoStrays, IsWriting, no_fault}
-use Rattle.foyer_core_laws.specs.declared.settings.Settings.{Settings}
+use Rattle.foyer_core_settings.specs.declared.settings.Settings.{Settings}
 
 -- one flusher, one block of two pages, the first of which is its index, and room for a page; all else as it was
 abbrev pub smallest : Settings → Settings

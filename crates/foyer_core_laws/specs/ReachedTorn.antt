@@ -6,7 +6,7 @@ use Rattle.foyer_core_restart.specs.Opening.{Opened, Opens}
 use Rattle.foyer_core_restart.specs.RecoverMode.TheVariants as recover_mode
 use Rattle.foyer_core_restart.specs.Restart.{IsFoundAgain, no_fault}
 use Rattle.foyer_core_restart.specs.Torn.{IsTornStop, FindsAfter, FindsNewer}
-use Rattle.foyer_core_laws.specs.declared.settings.Settings.{Settings}
+use Rattle.foyer_core_settings.specs.declared.settings.Settings.{Settings}
 
 -- two flushers, three blocks of two pages, the first of which is its index, and room for two pages at each flusher; all else as
 -- it was

@@ -7,8 +7,8 @@ ghost use Rattle.foyer_core_model.specs.Laws.{Demands, AnswersOnly, AnswersNewes
 ghost use Rattle.foyer_core_model.specs.Layout.{PlacesAll};
 ghost use Rattle.foyer_core_laws.specs.Headline.{IsHeadline};
 ghost use Rattle.foyer_core_laws.specs.CoreRules.{rules_of, layout, IsEncoded};
-ghost use Rattle.foyer_core_laws.specs.Sizes.{AreValid};
-ghost use Rattle.foyer_core_laws.specs.declared.settings.Settings.{Settings};
+ghost use Rattle.foyer_core_settings.specs.Sizes.{AreValid};
+ghost use Rattle.foyer_core_settings.specs.declared.settings.Settings.{Settings};
 
 /// What the laws ask of codes and layout holds of every code and of the plain layout: a record's bytes read back as
 /// its pair, and after its writes each record stands where it was placed.

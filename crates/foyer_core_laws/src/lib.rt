@@ -3,4 +3,5 @@
 
 pub mod laws;
 pub mod restart;
-pub mod settings;
+
+pub use foyer_core_settings::settings;

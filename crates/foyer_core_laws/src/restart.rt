@@ -5,8 +5,8 @@ ghost use Rattle.foyer_core_restart.specs.Restart.{FindsAgain, FindsAll};
 ghost use Rattle.foyer_core_laws.specs.CoreRules.{rules_of, layout, IsEncoded};
 ghost use Rattle.foyer_core_laws.specs.Reached.{smallest, IsReached};
 ghost use Rattle.foyer_core_laws.specs.ReachedTorn.{two_flushers, IsReachedTorn};
-ghost use Rattle.foyer_core_laws.specs.Sizes.{AreValid};
-ghost use Rattle.foyer_core_laws.specs.declared.settings.Settings.{Settings};
+ghost use Rattle.foyer_core_settings.specs.Sizes.{AreValid};
+ghost use Rattle.foyer_core_settings.specs.declared.settings.Settings.{Settings};
 
 /// Where a run of a core is stopped at any moment, inside a write too, and the bytes that it left are opened, each address
 /// that the index had is found again, or a newer record of its hash, unless its block was being written.

@@ -22,7 +22,7 @@ use Rattle.foyer_format_layout.specs.Page.{page_up}
 use Rattle.foyer_core_model.specs.Position.{Position, Part, BlockLayout, last_end}
 use Rattle.foyer_core_model.specs.Receive.{bytes_taken}
 use Rattle.foyer_core_model.specs.Record.{Record}
-use Rattle.foyer_core_layout.specs.Bridge.{entry_of, filling_of, kept_of, AreEntriesOf, IsPartAs, ArePartsAs, AreBlocksAs}
+use Rattle.foyer_core_layout.specs.Bridge.{entry_of, position_of, kept_of, AreEntriesOf, IsPartAs, ArePartsAs, AreBlocksAs}
 use Rattle.foyer_core_layout.specs.Laws.{IsLaidAs}
 use Rattle.foyer_core_layout.specs.Splits.{is_encoded, entries_from, laid_from, with_records, AreBytesOf, IsPart, LaidOut, Left, IsLaidOut}
 use Rattle.foyer_core_layout.specs.Splits.LaidOut.{part, none}
@@ -151,7 +151,7 @@ module _ {C : Type 0} where
 
   -- the filling behind records
   with_same : (w : Section) (start : ℕ) (f : buffered.Position) (now : List BufferEntryInfo) (rs : List (Record C)) → StandAt (bytes_of w) start now rs
-      → with_records (filling_of f) rs ≡ filling_of (buffered.with_records f now)
+      → with_records (position_of f) rs ≡ position_of (buffered.with_records f now)
   with_same w start f now rs stand =
       let count : bytes_taken page_up rs ≡ taken now = stand_taken (bytes_of w) start now rs stand in
       let listed : map entry_of f.listed ++ entries_from f.at rs ≡ map entry_of (f.listed ++ buffered.entries_from f.at now) =
@@ -165,20 +165,20 @@ module _ {C : Type 0} where
       pub qs : List (Part C)
       pub end : Position
       pub others : List (BlockLayout C)
-      pub placed : LaidOut s (filling_of f) rs qs end others
+      pub placed : LaidOut s (position_of f) rs qs end others
       pub first_are : ArePartsAs parts qs
       pub others_are : AreBlocksAs blocks others
-      pub last : last_end end others ≡ filling_of g
+      pub last : last_end end others ≡ position_of g
 
     -- where the present part takes no more
     record LaidLeft (f : buffered.Position) (rs : List (Record C)) (parts : List (BlobPart A)) (blocks : List (List (BlobPart A))) (g : buffered.Position) : Type 0 where
       pub qs : List (Part C)
       pub end : Position
       pub others : List (BlockLayout C)
-      pub left : Left s (filling_of f) rs qs end others
+      pub left : Left s (position_of f) rs qs end others
       pub first_are : ArePartsAs parts qs
       pub others_are : AreBlocksAs blocks others
-      pub last : last_end end others ≡ filling_of g
+      pub last : last_end end others ≡ position_of g
 
     -- a part's records
     abbrev plain_part : (f : buffered.Position) → BlobPart A → List (Record C) → Part C
@@ -196,7 +196,7 @@ module _ {C : Type 0} where
     }
 
     part_is_plain : (start : ℕ) (f : buffered.Position) (now : List BufferEntryInfo) (p : BlobPart A) (rs : List (Record C)) → StandAt (bytes_of w) start now rs
-        → start + taken now ≤ length (bytes_of w) → buffered_placing.IsPart s w start f now p → IsPart s (filling_of f) rs (plain_part f p rs)
+        → start + taken now ≤ length (bytes_of w) → buffered_placing.IsPart s w start f now p → IsPart s (position_of f) rs (plain_part f p rs)
     part_is_plain start f now p rs stand within is =
         let count : bytes_taken page_up rs ≡ taken now = stand_taken (bytes_of w) start now rs stand in
         let many : length rs ≡ length now = stand_len (bytes_of w) start now rs stand in
@@ -220,12 +220,12 @@ module _ {C : Type 0} where
           let sum : taken (now ++ rest) ≡ taken now + taken rest = taken-append now rest in
           let of : Parted (bytes_of w) start now rest rs = parted (bytes_of w) start now rest rs stand in
           let l : LaidLeft (buffered.with_records f now) of.others parts blocks g = left_lays of.others of.later (omega arith) left in
-          let same : with_records (filling_of f) of.first ≡ filling_of (buffered.with_records f now) = with_same w start f now of.first of.stand in
+          let same : with_records (position_of f) of.first ≡ position_of (buffered.with_records f now) = with_same w start f now of.first of.stand in
           record {
             qs = plain_part f p of.first ∷ l.qs;
             end = l.end;
             others = l.others;
-            placed = subst (λ xs. LaidOut s (filling_of f) xs (plain_part f p of.first ∷ l.qs) l.end l.others) of.all
+            placed = subst (λ xs. LaidOut s (position_of f) xs (plain_part f p of.first ∷ l.qs) l.end l.others) of.all
                 (part (part_is_plain start f now p of.first of.stand (omega arith) is) (subst (λ h. Left s h of.others l.qs l.end l.others) (sym same) l.left));
             first_are = (part_as start f now p of.first of.stand is, l.first_are);
             others_are = l.others_are;
@@ -240,7 +240,7 @@ module _ {C : Type 0} where
           → buffered_placing.Left s w start f infos parts blocks g → LaidLeft f rs parts blocks g
       left_lays [] stand within (buffered_done {f = f} room) =
           let many : length (map entry_of f.listed) ≡ length f.listed = length-map f.listed entry_of in
-          record { qs = []; end = filling_of f; others = []; left = done (omega arith); first_are = tt; others_are = tt; last = refl }
+          record { qs = []; end = position_of f; others = []; left = done (omega arith); first_are = tt; others_are = tt; last = refl }
       left_lays (r ∷ rs) stand within (buffered_done room) = absurd stand
       left_lays rs stand within (buffered_blob {start = start} {f = f} {g = g} {infos = infos} {parts = parts} {blocks = blocks} full placed) =
           let many : length (map entry_of f.listed) ≡ length f.listed = length-map f.listed entry_of in
@@ -253,7 +253,7 @@ module _ {C : Type 0} where
           let l : Laid (fresh s) (r ∷ rs) parts blocks g = lays (r ∷ rs) stand within placed in
           record {
             qs = [];
-            end = filling_of f;
+            end = position_of f;
             others = record { parts = l.qs; end = l.end } ∷ l.others;
             left = block {first = record { parts = l.qs; end = l.end }} (omega arith) (omega arith) l.placed;
             first_are = tt;
@@ -263,7 +263,7 @@ module _ {C : Type 0} where
 
     places_lays : (f g : buffered.Position) (infos : List BufferEntryInfo) (blocks : List (List (BlobPart A))) (rs : List (Record C))
         → s.index ≤ f.at → StandAt (bytes_of w) 0 infos rs → taken infos ≤ length (bytes_of w) → Places s w f infos blocks g
-        → (spreads : List (BlockLayout C)) × IsLaidOut s (filling_of f) rs spreads × AreBlocksAs blocks spreads × (last_end (filling_of f) spreads ≡ filling_of g)
+        → (spreads : List (BlockLayout C)) × IsLaidOut s (position_of f) rs spreads × AreBlocksAs blocks spreads × (last_end (position_of f) spreads ≡ position_of g)
     places_lays f g infos [] rs past stand within placed = absurd placed
     places_lays f g infos (parts ∷ blocks) rs past stand within placed =
         let l : Laid f rs parts blocks g = lays rs stand (omega arith) placed in
@@ -271,7 +271,7 @@ module _ {C : Type 0} where
 
   pub batch_lays : {A : Type 0} (s : Sizes) (b : Entries) (bytes : List ℕ) (infos : List BufferEntryInfo) (whole : Section) (f g : buffered.Position)
       (batch : Batch A) (rs : List (Record C)) → IsFinished b bytes infos → bytes_of whole ≡ bytes → map kept_of rs ≡ b.entries → s.index ≤ f.at
-      → IsCodeLayout s whole infos f batch g → IsLaidAs s (filling_of f) (filling_of g) rs batch
+      → IsCodeLayout s whole infos f batch g → IsLaidAs s (position_of f) (position_of g) rs batch
   batch_lays s b bytes infos whole f g batch rs finished same are past placed =
       let stand : StandAt bytes 0 infos rs = entries_stand bytes 0 infos rs finished.packed (omega (arith, finished.within)) (are ∙ sym finished.entries) in
       let room : taken infos ≤ length (bytes_of whole) = omega (arith, finished.within, ap length same) in

@@ -11,8 +11,8 @@ use Rattle.foyer_core_model.specs.Record.{IndexEntry, Record}
 abbrev pub entry_of : BlobEntryIndex → IndexEntry
 entry_of e = record { hash = e.hash; sequence = e.sequence; offset = e.offset; len = e.len }
 
-abbrev pub filling_of : buffered.Position → Position
-filling_of f = record { blob = f.blob; at = f.at; listed = map entry_of f.listed }
+abbrev pub position_of : buffered.Position → Position
+position_of f = record { blob = f.blob; at = f.at; listed = map entry_of f.listed }
 
 module _ {C : Type 0} where
   -- what a buffer keeps of a record

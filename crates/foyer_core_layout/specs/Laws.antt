@@ -15,7 +15,7 @@ use Rattle.foyer_core_model.specs.Receive.{Fits}
 use Rattle.foyer_core_model.specs.Record.{Record}
 use Rattle.foyer_core_model.specs.Rules.{Rules, sizes_of}
 use Rattle.foyer_core_model.specs.State.{State, Flusher}
-use Rattle.foyer_core_layout.specs.Bridge.{filling_of, kept_of, AreBlocksAs}
+use Rattle.foyer_core_layout.specs.Bridge.{position_of, kept_of, AreBlocksAs}
 use Rattle.foyer_core_layout.specs.Splits.{MayGoOn, IsLaidOut, AreRules, LiesWithin}
 
 -- after its writes, over any bytes, each record stands where it was placed, and no later write falls into its pages
@@ -44,7 +44,7 @@ BatchIsLaidOut C A =
     (s : Sizes) (b : Entries) (bytes : List ℕ) (infos : List BufferEntryInfo) (whole : Section) (f g : buffered.Position)
     (batch : Batch A) (rs : List (Record C))
     → IsFinished b bytes infos → bytes_of whole ≡ bytes → map kept_of rs ≡ b.entries → s.index ≤ f.at
-    → IsCodeLayout s whole infos f batch g → IsLaidAs s (filling_of f) (filling_of g) rs batch
+    → IsCodeLayout s whole infos f batch g → IsLaidAs s (position_of f) (position_of g) rs batch
 
 -- A record of 36 bytes and n more fits into the buffer just where the plain machine says that it fits: into the room
 -- that is left of the buffer, and into a block.

@@ -2,7 +2,7 @@
 use Rattle.std.proofs.Common.{ℕ, Bool, List}
 use Rattle.foyer_core_laws.specs.CoreRules.{rules_of, layout, IsEncoded}
 use Rattle.foyer_core_laws.specs.Sizes.{AreValid}
-use Rattle.foyer_core_laws.specs.declared.settings.Settings.{Settings}
+use Rattle.foyer_core_laws.specs.Settings.{Settings}
 use Rattle.foyer_core_laws.proofs.FormatLemmas.{core_format}
 use Rattle.foyer_core_laws.proofs.LawLemmas.{demands}
 use Rattle.foyer_core_returns.specs.EndedLives.{EndedIsGone}

@@ -43,7 +43,7 @@ use Rattle.foyer_core_laws.specs.Content.{Content}
 use Rattle.foyer_core_laws.specs.CoreRules.{rules_of, layout, has_record, encoded, IsEncoded}
 use Rattle.foyer_core_returns.specs.LivesReached.{four_pages, IsReachedOver}
 use Rattle.foyer_core_laws.specs.Sizes.{AreValid, sizes_in}
-use Rattle.foyer_core_laws.specs.declared.settings.Settings.{Settings}
+use Rattle.foyer_core_laws.specs.Settings.{Settings}
 use Rattle.foyer_core_returns.specs.Lives.{Life, life_of}
 use Rattle.foyer_core_returns.specs.Returns.{IsCovered, HasNoOwnStrays, HasNoTornClean}
 use Rattle.foyer_core_model.proofs.Basics.{put_at}

@@ -13,7 +13,7 @@ use Rattle.foyer_core_model.specs.World.{World, WorldEvent, MayAllHappen, after,
 use Rattle.foyer_core_restart.specs.Restart.{IsStopped, no_fault}
 use Rattle.foyer_block_recover.specs.Opening.{IsCut, Opened, Opens}
 use Rattle.foyer_block_recover.specs.declared.block.recover.RecoverMode.TheVariants as recover_mode
-use Rattle.foyer_core_laws.specs.declared.settings.Settings.{Settings}
+use Rattle.foyer_core_laws.specs.Settings.{Settings}
 use Rattle.foyer_core_returns.specs.EndedLives.{EndsLife}
 use Rattle.foyer_core_returns.specs.Lives.{cleaned_life, life_from, life_of}
 use Rattle.foyer_core_returns.specs.Returns.{HasNoOwnStrays, HasNoTornClean}

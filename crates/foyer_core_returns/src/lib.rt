@@ -8,7 +8,7 @@ ghost use Rattle.foyer_core_model.specs.Position.{Position, BlockLayout};
 ghost use Rattle.foyer_core_model.specs.Rules.{Rules};
 ghost use Rattle.foyer_core_laws.specs.CoreRules.{rules_of, layout, IsEncoded};
 ghost use Rattle.foyer_core_laws.specs.Sizes.{AreValid};
-ghost use Rattle.foyer_core_laws.specs.declared.settings.Settings.{Settings};
+ghost use Rattle.foyer_core_laws.specs.Settings.{Settings};
 ghost use Rattle.foyer_core_laws.specs.Content.{Content};
 ghost use Rattle.foyer_core_store_runs.specs.StoreLaw.{QueuedAreFound};
 ghost use Rattle.foyer_core_returns.specs.EndedLives.{EndedLaw, LaidEndedLaw, EndedIsGone};

@@ -18,7 +18,7 @@ use Rattle.foyer_core_model.proofs.Basics.{put_same, put_other}
 use Rattle.foyer_core_model.proofs.Ids.{in_front, in_last}
 use Rattle.foyer_core_laws.specs.Content.{Content, Meaning}
 use Rattle.foyer_core_laws.specs.CoreRules.{layout, machine, IsEncoded}
-use Rattle.foyer_core_laws.specs.declared.settings.Settings.{Settings}
+use Rattle.foyer_core_laws.specs.Settings.{Settings}
 use Rattle.foyer_core_steps.specs.Asked.{fault_of, went_well}
 use Rattle.foyer_core_steps.specs.Refines.{IsRefined, Refines}
 use Rattle.foyer_core_steps.specs.StateOf.{IsStateOf}

@@ -13,7 +13,7 @@ use Rattle.foyer_core_model.proofs.Basics.{put_at, put_same, put_other}
 use Rattle.foyer_core_laws.specs.Content.{Content, Meaning}
 use Rattle.foyer_core_laws.specs.CoreRules.{layout, machine}
 use Rattle.foyer_core_laws.specs.Sizes.{AreValid}
-use Rattle.foyer_core_laws.specs.declared.settings.Settings.{Settings}
+use Rattle.foyer_core_laws.specs.Settings.{Settings}
 use Rattle.foyer_core_steps.specs.Asked.{step_of}
 use Rattle.foyer_core_steps.specs.Refines.{IsRefined}
 use Rattle.foyer_core_steps.specs.Replied.{IsReply}

@@ -16,7 +16,7 @@ use Rattle.foyer_core_steps.specs.Replied.{IsReply}
 use Rattle.foyer_core_laws.specs.Content.{Content, Meaning}
 use Rattle.foyer_core_laws.specs.CoreRules.{layout, machine}
 use Rattle.foyer_core_laws.specs.Sizes.{AreValid}
-use Rattle.foyer_core_laws.specs.declared.settings.Settings.{Settings}
+use Rattle.foyer_core_laws.specs.Settings.{Settings}
 use Rattle.foyer_core_steps.specs.Failing.{MustGrowFor}
 use Rattle.foyer_core_steps.specs.Answered.{Looks, MayFail}
 use Rattle.foyer_core_steps.specs.Asked.{step_of}

@@ -7,7 +7,7 @@ use Rattle.foyer_core_model.specs.Destroy.{IsIdle}
 use Rattle.foyer_core_model.specs.State.{Flusher, State}
 use Rattle.foyer_core_model.specs.State as model_state
 use Rattle.foyer_core_laws.specs.Content.{Content, Meaning}
-use Rattle.foyer_core_laws.specs.declared.settings.Settings.{Settings}
+use Rattle.foyer_core_laws.specs.Settings.{Settings}
 use Rattle.foyer_core_layout.specs.Bridge.{kept_of}
 use Rattle.foyer_core_steps.proofs.BeginTurns.{no_map}
 use Rattle.foyer_core_steps.specs.Flushing.{AreBatched, IsFlusherAs}

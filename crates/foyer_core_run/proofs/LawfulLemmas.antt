@@ -13,7 +13,7 @@ use Rattle.foyer_core_laws.specs.CoreRules.{machine}
 use Rattle.foyer_core_laws.specs.CoreRules.{IsEncoded}
 use Rattle.foyer_core_laws.specs.Sizes.{AreValid}
 use Rattle.foyer_core_steps.specs.declared.reply.Reply.{Reply}
-use Rattle.foyer_core_laws.specs.declared.settings.Settings.{Settings}
+use Rattle.foyer_core_laws.specs.Settings.{Settings}
 use Rattle.foyer_core_steps.specs.declared.state.Core.{Core}
 use Rattle.foyer_core_laws.proofs.LawLemmas.{demands}
 use Rattle.foyer_core_model.specs.Opened.{IsOpened as IsOpenedWorld}

@@ -21,7 +21,7 @@ use Rattle.foyer_core_model.proofs.Basics.{put_at, put_same}
 use Rattle.foyer_core_laws.specs.Content.{Content, Meaning}
 use Rattle.foyer_core_laws.specs.CoreRules.{layout, machine}
 use Rattle.foyer_core_laws.specs.Sizes.{AreValid}
-use Rattle.foyer_core_laws.specs.declared.settings.Settings.{Settings}
+use Rattle.foyer_core_laws.specs.Settings.{Settings}
 use Rattle.foyer_core_steps.specs.Asked.{came_of, step_of}
 use Rattle.foyer_core_steps.specs.Reclaiming.{IsReread, IsVerdictOn, Reclaiming, index_infos, reclaim_at, verdict_list, verdicts_of, wanted_of}
 use Rattle.foyer_core_steps.specs.Scanning.{AreOn, HasJudged, IsJudged}

@@ -16,7 +16,7 @@ use Rattle.foyer_core_model.proofs.Basics.{put_at, put_same}
 use Rattle.foyer_core_laws.specs.Content.{Content, Meaning}
 use Rattle.foyer_core_laws.specs.CoreRules.{layout, machine, IsEncoded}
 use Rattle.foyer_core_laws.specs.Sizes.{AreValid}
-use Rattle.foyer_core_laws.specs.declared.settings.Settings.{Settings}
+use Rattle.foyer_core_laws.specs.Settings.{Settings}
 use Rattle.foyer_core_steps.specs.Asked.{came_of, went_well}
 use Rattle.foyer_core_steps.specs.Refines.{IsRefined, Refines}
 use Rattle.foyer_core_steps.specs.Replied.{IsReply}

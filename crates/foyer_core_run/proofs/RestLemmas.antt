@@ -10,7 +10,7 @@ use Rattle.foyer_core_model.specs.Step as model_step
 use Rattle.foyer_core_laws.specs.Content.{Content, Meaning}
 use Rattle.foyer_core_laws.specs.CoreRules.{layout, machine}
 use Rattle.foyer_core_laws.specs.Sizes.{AreValid}
-use Rattle.foyer_core_laws.specs.declared.settings.Settings.{Settings}
+use Rattle.foyer_core_laws.specs.Settings.{Settings}
 use Rattle.foyer_core_steps.specs.Asked.{step_of, went_well}
 use Rattle.foyer_core_steps.specs.Refines.{IsHandedBack, Refines}
 use Rattle.foyer_core_steps.specs.Replied.{IsReply}

@@ -10,7 +10,7 @@ use Rattle.foyer_block_recover.specs.declared.block.recover.RecoverMode.TheVaria
 use Rattle.foyer_core_laws.specs.Content.{Content, Meaning}
 use Rattle.foyer_core_laws.specs.CoreRules.{machine}
 use Rattle.foyer_core_laws.specs.Sizes.{AreValid}
-use Rattle.foyer_core_laws.specs.declared.settings.Settings.{Settings}
+use Rattle.foyer_core_laws.specs.Settings.{Settings}
 use Rattle.foyer_core_steps.specs.Opened.{IsOpenedFrom}
 use Rattle.foyer_core_steps.specs.Reopened.{ReadsAll, IsReopened}
 use Rattle.foyer_core_steps.specs.declared.reply.Reply.{Reply}

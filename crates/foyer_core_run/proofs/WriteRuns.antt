@@ -12,7 +12,7 @@ use Rattle.foyer_core_model.proofs.Basics.{put_same}
 use Rattle.foyer_core_laws.specs.Content.{Content, Meaning}
 use Rattle.foyer_core_laws.specs.CoreRules.{layout as laid_out, machine, IsEncoded}
 use Rattle.foyer_core_laws.specs.Sizes.{AreValid}
-use Rattle.foyer_core_laws.specs.declared.settings.Settings.{Settings}
+use Rattle.foyer_core_laws.specs.Settings.{Settings}
 use Rattle.foyer_core_steps.specs.Issuing.{write_of, written_bytes}
 use Rattle.foyer_core_steps.specs.Write.{Write}
 use Rattle.foyer_core_steps.specs.Asked.{went_well}

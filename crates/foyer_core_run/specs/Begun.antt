@@ -8,7 +8,7 @@ use Rattle.foyer_core_laws.specs.Begins.{opened_world}
 use Rattle.foyer_core_laws.specs.Content.{Meaning}
 use Rattle.foyer_core_laws.specs.CoreRules.{machine}
 use Rattle.foyer_core_laws.specs.Sizes.{AreValid, sizes_in}
-use Rattle.foyer_core_laws.specs.declared.settings.Settings.{Settings}
+use Rattle.foyer_core_laws.specs.Settings.{Settings}
 use Rattle.foyer_core_steps.specs.declared.state.Core.{Core}
 use Rattle.foyer_core_run.specs.Newest.{IsHistory}
 

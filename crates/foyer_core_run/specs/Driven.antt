@@ -7,7 +7,7 @@ use Rattle.foyer_core_laws.specs.CoreRules.{machine}
 use Rattle.foyer_core_laws.specs.CoreRules.{IsEncoded}
 use Rattle.foyer_core_laws.specs.Sizes.{AreValid}
 use Rattle.foyer_core_steps.specs.StateOf.{IsStateOf}
-use Rattle.foyer_core_laws.specs.declared.settings.Settings.{Settings}
+use Rattle.foyer_core_laws.specs.Settings.{Settings}
 use Rattle.foyer_core_steps.specs.declared.state.Core.{Core}
 
 -- events that may happen from this world on lead to a world whose core and bytes these are

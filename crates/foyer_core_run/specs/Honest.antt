@@ -8,7 +8,7 @@ use Rattle.foyer_format_layout.specs.Page.{page_up}
 use Rattle.foyer_core_model.specs.State.{State}
 use Rattle.foyer_core_laws.specs.Content.{Content, Meaning}
 use Rattle.foyer_core_laws.specs.Sizes.{AreValid}
-use Rattle.foyer_core_laws.specs.declared.settings.Settings.{Settings}
+use Rattle.foyer_core_laws.specs.Settings.{Settings}
 use Rattle.foyer_core_steps.specs.Failing.{MustGrowFor}
 use Rattle.foyer_core_steps.specs.Issuing.{written_bytes}
 use Rattle.foyer_core_steps.specs.Write.{Write}

@@ -21,7 +21,7 @@ use Rattle.foyer_block_recover.specs.Recovery.{IsRecovered}
 use Rattle.foyer_block_recover.specs.declared.block.recover.RecoverMode.{RecoverMode}
 use Rattle.foyer_core_laws.specs.Sizes.{AreValid, sizes_in}
 use Rattle.foyer_core_steps.specs.declared.reply.Reply.{Reply}
-use Rattle.foyer_core_laws.specs.declared.settings.Settings.{Settings}
+use Rattle.foyer_core_laws.specs.Settings.{Settings}
 use Rattle.foyer_core_run.specs.Moves.{AreMade}
 use Rattle.foyer_core_run.specs.declared.moves.Move.{Move}
 

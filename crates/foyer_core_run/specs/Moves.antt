@@ -12,7 +12,7 @@ use Rattle.foyer_core_laws.specs.CoreRules.{machine}
 use Rattle.foyer_core_steps.specs.Replied.{IsReply}
 use Rattle.foyer_core_laws.specs.Sizes.{AreValid}
 use Rattle.foyer_core_steps.specs.declared.reply.Reply.{Reply}
-use Rattle.foyer_core_laws.specs.declared.settings.Settings.{Settings}
+use Rattle.foyer_core_laws.specs.Settings.{Settings}
 use Rattle.foyer_core_steps.specs.declared.step.Step.TheVariants as step
 use Rattle.foyer_core_run.specs.Due.{unread, due, IsUnscanned}
 use Rattle.foyer_core_run.specs.declared.moves.Asked.{Asked}

@@ -15,7 +15,7 @@ use Rattle.foyer_core_laws.specs.Sizes.{AreValid}
 use Rattle.foyer_core_steps.specs.StateOf.{IsStateOf}
 use Rattle.foyer_core_steps.specs.declared.reply.Reply.{Reply}
 use Rattle.foyer_core_steps.specs.declared.reply.Reply.TheVariants as reply
-use Rattle.foyer_core_laws.specs.declared.settings.Settings.{Settings}
+use Rattle.foyer_core_laws.specs.Settings.{Settings}
 use Rattle.foyer_core_steps.specs.declared.state.Core.{Core}
 
 -- these events led from an opened world, whatever it found, to this core and these bytes

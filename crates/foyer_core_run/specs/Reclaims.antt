@@ -9,7 +9,7 @@ use Rattle.foyer_core_model.specs.World.{World, WorldEvent, Applies, ScanBegins,
 use Rattle.foyer_core_laws.specs.Content.{Content, Meaning}
 use Rattle.foyer_core_laws.specs.CoreRules.{machine}
 use Rattle.foyer_core_laws.specs.Sizes.{AreValid}
-use Rattle.foyer_core_laws.specs.declared.settings.Settings.{Settings}
+use Rattle.foyer_core_laws.specs.Settings.{Settings}
 use Rattle.foyer_core_steps.specs.Refines.{IsHandedBack}
 use Rattle.foyer_core_steps.specs.Replied.{IsReply}
 use Rattle.foyer_core_steps.specs.StateOf.{IsStateOf}

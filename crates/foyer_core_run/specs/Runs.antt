@@ -8,7 +8,7 @@ use Rattle.foyer_core_laws.specs.CoreRules.{IsEncoded}
 use Rattle.foyer_core_laws.specs.Sizes.{AreValid}
 use Rattle.foyer_core_steps.specs.StateOf.{IsStateOf}
 use Rattle.foyer_core_steps.specs.declared.reply.Reply.{Reply}
-use Rattle.foyer_core_laws.specs.declared.settings.Settings.{Settings}
+use Rattle.foyer_core_laws.specs.Settings.{Settings}
 use Rattle.foyer_core_steps.specs.declared.state.Core.{Core}
 use Rattle.foyer_core_run.specs.Causes.{AreForCause, has_fault}
 use Rattle.foyer_core_run.specs.Moves.{AreMade}

@@ -14,7 +14,7 @@ use Rattle.foyer_core_laws.specs.CoreRules.{layout}
 use Rattle.foyer_core_laws.specs.CoreRules.{machine}
 use Rattle.foyer_core_laws.specs.CoreRules.{IsEncoded}
 use Rattle.foyer_core_laws.specs.Sizes.{AreValid}
-use Rattle.foyer_core_laws.specs.declared.settings.Settings.{Settings}
+use Rattle.foyer_core_laws.specs.Settings.{Settings}
 use Rattle.foyer_core_steps.specs.Opened.{IsOpened}
 use Rattle.foyer_core_steps.specs.Reclaiming.{verdicts_of}
 use Rattle.foyer_core_steps.specs.Reopened.{HasAgain, HasNewer, BeginsWithNewest}

@@ -5,7 +5,7 @@ use Rattle.foyer_core_model.specs.World.{World, WorldEvent, Applies}
 use Rattle.foyer_core_laws.specs.Content.{Content, Meaning}
 use Rattle.foyer_core_laws.specs.Sizes.{AreValid}
 use Rattle.foyer_core_steps.specs.StateOf.{IsStateOf}
-use Rattle.foyer_core_laws.specs.declared.settings.Settings.{Settings}
+use Rattle.foyer_core_laws.specs.Settings.{Settings}
 use Rattle.foyer_core_steps.specs.declared.state.Core.{Core}
 use Rattle.foyer_core_run.specs.Driven.{IsDriven}
 

@@ -5,7 +5,7 @@ ghost use Rattle.foyer_io_disk.specs.Disk.{SurelyCame};
 ghost use Rattle.foyer_core_model.specs.World.{World, WorldEvent};
 ghost use Rattle.foyer_core_laws.specs.Content.{Content, Meaning, meaning};
 ghost use Rattle.foyer_core_laws.specs.Sizes.{AreValid};
-ghost use Rattle.foyer_core_laws.specs.declared.settings.Settings.{Settings};
+ghost use Rattle.foyer_core_laws.specs.Settings.{Settings};
 ghost use Rattle.foyer_core_steps.specs.Refines.{Refines};
 ghost use Rattle.foyer_core_steps.specs.declared.state.Core.{Core};
 ghost use Rattle.foyer_core_run.specs.Accesses.{AsksNoMore, Says, Writes, load_of};

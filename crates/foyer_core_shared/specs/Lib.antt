@@ -18,3 +18,4 @@ pub use Rattle.foyer_core_steps.specs.Refines
 pub use Rattle.foyer_core_steps.specs.declared.reply.Reply
 pub use Rattle.foyer_core_steps.specs.declared.step.Step
 pub use Rattle.foyer_core_steps.specs.declared.step.Ticket
+pub use Rattle.foyer_core_steps.specs.Refusals

@@ -10,7 +10,7 @@ use Rattle.std.proofs.Common.{nat_cmp}
 use Rattle.foyer_block_index.specs.declared.indexer.Index.TheVariants.{Address}
 use Rattle.foyer_format_layout.specs.Position.{Sizes}
 use Rattle.foyer_format_buffer.specs.Position.{fresh_context}
-use Rattle.foyer_core_flusher.specs.Bridge.{filling_of}
+use Rattle.foyer_core_flusher.specs.Bridge.{position_of}
 use Rattle.foyer_core_model.specs.Destroy.{vacated, refilled, IsIdle}
 use Rattle.foyer_core_model.specs.Ids.{ids, is_id_in}
 use Rattle.foyer_core_model.specs.InTurn.{MayClear}
@@ -187,7 +187,7 @@ module _ {K V P A : Type 0} (m : Meaning K V P) (s : Settings) (sound : AreValid
     own = refl;
     there = tt;
     sizes = is.sizes;
-    context = ap (λ (z : Sizes). filling_of (fresh_context z).filling) (sym is.sizes);
+    context = ap (λ (z : Sizes). position_of (fresh_context z).filling) (sym is.sizes);
     goes_on = record {
       past = let le : s.blob_index_size ≤ s.blob_index_size = omega arith in le;
       room = let page : 4096 ≤ s.blob_index_size = (machine m s sound).index_holds_page in let lt : s.blob_index_size < s.block_size = sound.room in omega arith;

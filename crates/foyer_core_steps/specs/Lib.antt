@@ -13,6 +13,7 @@ pub mod Scanning
 pub mod Showing
 pub mod StateOf
 pub mod Unchanged
+pub mod Refusals
 pub use Rattle.foyer_core_flusher.specs.Begins
 pub use Rattle.foyer_core_flusher.specs.Content
 pub use Rattle.foyer_core_flusher.specs.CoreRules

@@ -15,6 +15,7 @@ pub mod load;
 pub mod open;
 mod queue;
 mod reclaim;
+pub mod refusal;
 pub mod reply;
 pub mod restart;
 

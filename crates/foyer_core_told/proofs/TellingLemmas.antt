@@ -9,7 +9,7 @@ use Rattle.foyer_core_model.specs.World.{World, IsFed}
 use Rattle.foyer_core_laws.specs.Content.{Content, Meaning}
 use Rattle.foyer_core_laws.specs.CoreRules.{layout, machine, IsEncoded}
 use Rattle.foyer_core_laws.specs.Sizes.{AreValid}
-use Rattle.foyer_core_laws.specs.declared.settings.Settings.{Settings}
+use Rattle.foyer_core_laws.specs.Settings.{Settings}
 use Rattle.foyer_core_steps.specs.Asked.{step_of}
 use Rattle.foyer_core_steps.specs.Refines.{Refines}
 use Rattle.foyer_core_steps.specs.declared.state.Core.{Core}

@@ -16,7 +16,7 @@ use Rattle.foyer_core_rights.specs.Deeds.{Deed, events_in, after_deed, takes_blo
 use Rattle.foyer_core_laws.specs.Content.{Content, Meaning, content}
 use Rattle.foyer_core_laws.specs.CoreRules.{layout, machine, IsEncoded}
 use Rattle.foyer_core_laws.specs.Sizes.{AreValid}
-use Rattle.foyer_core_laws.specs.declared.settings.Settings.{Settings}
+use Rattle.foyer_core_laws.specs.Settings.{Settings}
 use Rattle.foyer_core_steps.specs.Asked.{step_of, ticket_of}
 use Rattle.foyer_core_steps.specs.Replied.{IsReply}
 use Rattle.foyer_core_steps.specs.Destroying.{kind_of}

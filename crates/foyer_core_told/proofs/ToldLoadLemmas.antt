@@ -19,7 +19,7 @@ use Rattle.foyer_core_rights.proofs.ServingLemmas.{looks, read_done, ends}
 use Rattle.foyer_core_laws.specs.Content.{Content, Meaning, content}
 use Rattle.foyer_core_laws.specs.CoreRules.{layout, machine, IsEncoded}
 use Rattle.foyer_core_laws.specs.Sizes.{AreValid}
-use Rattle.foyer_core_laws.specs.declared.settings.Settings.{Settings}
+use Rattle.foyer_core_laws.specs.Settings.{Settings}
 use Rattle.foyer_core_laws.proofs.LawLemmas.{demands}
 use Rattle.foyer_core_steps.specs.Asked.{step_of, ticket_of, came_of, age_of}
 use Rattle.foyer_core_steps.specs.Replied.{IsReply}

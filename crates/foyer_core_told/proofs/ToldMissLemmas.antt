@@ -23,7 +23,7 @@ use Rattle.foyer_core_rights.proofs.ServingLemmas.{keeps, answers as served_answ
 use Rattle.foyer_core_laws.specs.Content.{Content, Meaning}
 use Rattle.foyer_core_laws.specs.CoreRules.{layout, machine, IsEncoded}
 use Rattle.foyer_core_laws.specs.Sizes.{AreValid}
-use Rattle.foyer_core_laws.specs.declared.settings.Settings.{Settings}
+use Rattle.foyer_core_laws.specs.Settings.{Settings}
 use Rattle.foyer_core_laws.proofs.LawLemmas.{demands}
 use Rattle.foyer_core_steps.specs.Asked.{step_of, ticket_of, came_of}
 use Rattle.foyer_core_steps.specs.Replied.{IsReply}

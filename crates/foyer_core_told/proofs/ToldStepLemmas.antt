@@ -9,7 +9,7 @@ use Rattle.foyer_core_laws.specs.Begins.{opened_state, opened_world}
 use Rattle.foyer_core_laws.specs.Content.{Content, Meaning}
 use Rattle.foyer_core_laws.specs.CoreRules.{machine}
 use Rattle.foyer_core_laws.specs.Sizes.{AreValid, sizes_in}
-use Rattle.foyer_core_laws.specs.declared.settings.Settings.{Settings}
+use Rattle.foyer_core_laws.specs.Settings.{Settings}
 use Rattle.foyer_core_laws.proofs.OpenedWorlds.{world_opened}
 use Rattle.foyer_core_steps.specs.Asked.{step_of}
 use Rattle.foyer_core_steps.specs.Opened.{IsOpened}

@@ -9,7 +9,7 @@ use Rattle.foyer_core_model.specs.Event.{Put, newest}
 use Rattle.foyer_core_model.specs.World.{World}
 use Rattle.foyer_core_laws.specs.Content.{Content, Meaning, content}
 use Rattle.foyer_core_laws.specs.Sizes.{AreValid}
-use Rattle.foyer_core_laws.specs.declared.settings.Settings.{Settings}
+use Rattle.foyer_core_laws.specs.Settings.{Settings}
 use Rattle.foyer_core_steps.specs.declared.step.Ticket.{Ticket}
 use Rattle.foyer_core_steps.specs.declared.step.Step.TheVariants as steps
 use Rattle.foyer_core_steps.specs.declared.reply.Reply.{Reply}

@@ -11,7 +11,7 @@ use Rattle.foyer_core_model.specs.Step as model_step
 use Rattle.foyer_core_model.specs.World.{World}
 use Rattle.foyer_core_laws.specs.Content.{Content, Meaning, content}
 use Rattle.foyer_core_laws.specs.Sizes.{AreValid}
-use Rattle.foyer_core_laws.specs.declared.settings.Settings.{Settings}
+use Rattle.foyer_core_laws.specs.Settings.{Settings}
 use Rattle.foyer_core_steps.specs.Asked.{step_of, ticket_of, came_of}
 use Rattle.foyer_core_steps.specs.Destroying.{kind_of}
 use Rattle.foyer_core_steps.specs.declared.step.Ticket.{Ticket}

@@ -8,7 +8,7 @@ use Rattle.foyer_core_model.specs.World.{World}
 use Rattle.foyer_core_rights.specs.Frames.{IsSettled, HasLoad}
 use Rattle.foyer_core_laws.specs.Content.{Content, Meaning}
 use Rattle.foyer_core_laws.specs.Sizes.{AreValid}
-use Rattle.foyer_core_laws.specs.declared.settings.Settings.{Settings}
+use Rattle.foyer_core_laws.specs.Settings.{Settings}
 use Rattle.foyer_core_steps.specs.declared.step.Step.{Step}
 use Rattle.foyer_core_steps.specs.declared.step.Step.TheVariants as steps
 use Rattle.foyer_core_told.specs.declared.event.Told.{Told}

@@ -11,12 +11,12 @@ use Rattle.foyer_format_buffer.specs.Position.{Position, taken, entries_from, wi
 use Rattle.foyer_format_buffer.specs.Layout.{IsPart, LaidOut, Left, Places, parts_of}
 use Rattle.foyer_format_buffer.specs.Layout.LaidOut.{part, none}
 use Rattle.foyer_format_buffer.specs.Layout.Left.{done, blob, block}
-use Rattle.foyer_format_buffer.specs.Splitting.{Going, Closed, sizes_of, filling_of, blocks_with}
+use Rattle.foyer_format_buffer.specs.Splitting.{Going, Closed, sizes_of, position_of, blocks_with}
 use Rattle.foyer_format_buffer.specs.declared.BufferEntryInfo.{BufferEntryInfo}
 use Rattle.foyer_format_blob.specs.declared.blob.BlobEntryIndex.{BlobEntryIndex}
 use Rattle.foyer_format_buffer.specs.declared.split.BlobPart.{BlobPart}
 use Rattle.foyer_format_buffer.specs.declared.split.Block.{Block}
-use Rattle.foyer_format_buffer.specs.declared.splitting.Splitting.{Splitting}
+use Rattle.foyer_format_buffer.specs.declared.split_progress.SplitProgress.{SplitProgress}
 use Rattle.foyer_format_blob.proofs.BlobLemmas.{length-entries_in, entries_none as none_in}
 
 pub length-entries_from : (at : ℕ) (is : List BufferEntryInfo) → length (entries_from at is) ≡ length is
@@ -68,7 +68,7 @@ nil_from_length (i ∷ is) e = absurd (omega (arith, e))
 
 module _ {A : Type 0} where
   -- nothing was collected
-  pub closes_none : (s : Section) (f0 : Position) (all rest : List BufferEntryInfo) (w : Splitting A) → w.indices.items ≡ []
+  pub closes_none : (s : Section) (f0 : Position) (all rest : List BufferEntryInfo) (w : SplitProgress A) → w.indices.items ≡ []
       → Going s f0 all w rest → Closed s f0 all w rest
   closes_none s f0 all rest w empty o =
       let len : length o.now ≡ 0 = sym (length-entries_from w.at o.now) ∙ ap length (sym o.indices ∙ empty) in
@@ -85,7 +85,7 @@ module _ {A : Type 0} where
       }
 
   -- what was collected is a part
-  pub closes_part : (s : Section) (f0 : Position) (all rest : List BufferEntryInfo) (w x : Splitting A) (p : BlobPart A)
+  pub closes_part : (s : Section) (f0 : Position) (all rest : List BufferEntryInfo) (w x : SplitProgress A) (p : BlobPart A)
       → 0 < length w.indices.items
       → p.blob_block_offset ≡ w.blob → p.part_blob_offset ≡ w.at → p.part_data ≡ part_of s w.start (w.start + w.size)
       → p.indices.items ≡ w.indices.items → IsSealed p.index (entries_of w.index) → length p.index ≡ w.index_size
@@ -122,7 +122,7 @@ module _ {A : Type 0} where
       }
 
   -- the index is full
-  pub begins_blob : (s : Section) (f0 : Position) (all rest : List BufferEntryInfo) (w x : Splitting A)
+  pub begins_blob : (s : Section) (f0 : Position) (all rest : List BufferEntryInfo) (w x : SplitProgress A)
       → w.index.count ≡ capacity_of w.index_size
       → x.parts ≡ w.parts → x.blocks ≡ w.blocks → x.block_size ≡ w.block_size → x.index_size ≡ w.index_size
       → x.start ≡ w.start → x.blob ≡ w.blob + w.at → x.at ≡ w.index_size
@@ -146,7 +146,7 @@ module _ {A : Type 0} where
       }
 
   -- the next record doesn't fit
-  pub begins_block : (s : Section) (f0 : Position) (all rest : List BufferEntryInfo) (i : BufferEntryInfo) (b : Block A) (w x : Splitting A)
+  pub begins_block : (s : Section) (f0 : Position) (all rest : List BufferEntryInfo) (i : BufferEntryInfo) (b : Block A) (w x : SplitProgress A)
       → w.index.count < capacity_of w.index_size
       → w.block_size < w.blob + w.at + page_up i.len
       → b.blob_parts ≡ w.parts → x.parts.items ≡ [] → x.blocks.items ≡ w.blocks.items ++ b ∷ []
@@ -180,7 +180,7 @@ module _ {A : Type 0} where
       }
 
   -- a record is collected
-  pub appends : (s : Section) (f0 : Position) (all rest : List BufferEntryInfo) (i : BufferEntryInfo) (e : BlobEntryIndex) (w x : Splitting A)
+  pub appends : (s : Section) (f0 : Position) (all rest : List BufferEntryInfo) (i : BufferEntryInfo) (e : BlobEntryIndex) (w x : SplitProgress A)
       → w.blob + w.at + w.size + page_up i.len ≤ w.block_size
       → e ≡ record { hash = i.hash; sequence = i.sequence; offset = w.at + w.size; len = i.len }
       → x.parts ≡ w.parts → x.blocks ≡ w.blocks → x.block_size ≡ w.block_size → x.index_size ≡ w.index_size
@@ -211,10 +211,10 @@ module _ {A : Type 0} where
       }
 
   -- before the first record
-  pub begins : (s : Section) (all : List BufferEntryInfo) (w : Splitting A) → w.parts.items ≡ [] → w.blocks.items ≡ [] → w.indices.items ≡ []
-      → w.start ≡ 0 → w.size ≡ 0 → Going s (filling_of w) all w all
+  pub begins : (s : Section) (all : List BufferEntryInfo) (w : SplitProgress A) → w.parts.items ≡ [] → w.blocks.items ≡ [] → w.indices.items ≡ []
+      → w.start ≡ 0 → w.size ≡ 0 → Going s (position_of w) all w all
   begins s all w no_parts no_blocks none_yet start size = record {
-    f = filling_of w;
+    f = position_of w;
     now = [];
     goes = λ parts blocks g placed. rw (no_parts, no_blocks) (rw start at placed);
     blob = refl;
@@ -226,20 +226,20 @@ module _ {A : Type 0} where
   }
 
   -- behind the last record
-  pub ends : (s : Section) (f0 : Position) (all : List BufferEntryInfo) (w : Splitting A) → w.index.count < capacity_of w.index_size
+  pub ends : (s : Section) (f0 : Position) (all : List BufferEntryInfo) (w : SplitProgress A) → w.index.count < capacity_of w.index_size
       → Closed s f0 all w []
-      → Places (sizes_of w) s f0 all (map parts_of w.blocks.items ++ w.parts.items ∷ []) (filling_of w)
+      → Places (sizes_of w) s f0 all (map parts_of w.blocks.items ++ w.parts.items ∷ []) (position_of w)
   ends s f0 all w room o =
-      let same : o.f ≡ filling_of w = rw (← o.at, ← o.blob, o.listed) refl in
+      let same : o.f ≡ position_of w = rw (← o.at, ← o.blob, o.listed) refl in
       let is_open : length o.f.listed < capacity_of w.index_size = omega (arith, ap length o.listed, length-entries_in w.index.bytes w.index.count) in
       let placed : Places (sizes_of w) s f0 all (blocks_with w [] []) o.f = o.goes [] [] o.f (done is_open) in
       rw (append-nil, same) at placed
 
   -- the last block is closed
-  pub finishes : (s : Section) (f0 : Position) (all : List BufferEntryInfo) (b : Block A) (w : Splitting A) (blocks : List (Block A))
+  pub finishes : (s : Section) (f0 : Position) (all : List BufferEntryInfo) (b : Block A) (w : SplitProgress A) (blocks : List (Block A))
       → w.index.count < capacity_of w.index_size → b.blob_parts ≡ w.parts → blocks ≡ w.blocks.items ++ b ∷ []
       → Closed s f0 all w []
-      → Places (sizes_of w) s f0 all (map parts_of blocks) (filling_of w)
+      → Places (sizes_of w) s f0 all (map parts_of blocks) (position_of w)
   finishes s f0 all b w blocks room block_is blocks_are o =
       let same : map parts_of blocks ≡ map parts_of w.blocks.items ++ w.parts.items ∷ [] =
       ap (map parts_of) blocks_are ∙ map-append parts_of w.blocks.items (b ∷ [])

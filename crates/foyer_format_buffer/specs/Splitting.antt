@@ -8,22 +8,22 @@ use Rattle.foyer_format_buffer.specs.Position.{Position, Context, taken, entries
 use Rattle.foyer_format_buffer.specs.Layout.{LaidOut, Left, Places, parts_of}
 use Rattle.foyer_format_buffer.specs.declared.BufferEntryInfo.{BufferEntryInfo}
 use Rattle.foyer_format_buffer.specs.declared.split.BlobPart.{BlobPart}
-use Rattle.foyer_format_buffer.specs.declared.splitting.Splitting.{Splitting}
+use Rattle.foyer_format_buffer.specs.declared.split_progress.SplitProgress.{SplitProgress}
 
 module _ {A : Type 0} where
-  abbrev pub sizes_of : Splitting A → Sizes
+  abbrev pub sizes_of : SplitProgress A → Sizes
   sizes_of w = record { block = w.block_size; index = w.index_size }
 
-  abbrev pub filling_of : Splitting A → Position
-  filling_of w = record { blob = w.blob; at = w.at; listed = entries_of w.index }
+  abbrev pub position_of : SplitProgress A → Position
+  position_of w = record { blob = w.blob; at = w.at; listed = entries_of w.index }
 
   -- the batch's blocks, where these parts and blocks follow
-  abbrev pub blocks_with : Splitting A → List (BlobPart A) → List (List (BlobPart A))
+  abbrev pub blocks_with : SplitProgress A → List (BlobPart A) → List (List (BlobPart A))
       → List (List (BlobPart A))
   blocks_with w parts blocks = map parts_of w.blocks.items ++ (w.parts.items ++ parts) ∷ blocks
 
   -- Whatever places the collected records and the rest completes the batch.
-  pub record Going (whole : Section) (f0 : Position) (all : List BufferEntryInfo) (w : Splitting A)
+  pub record Going (whole : Section) (f0 : Position) (all : List BufferEntryInfo) (w : SplitProgress A)
       (rest : List BufferEntryInfo) : Type 0 where
     pub f : Position
     pub now : List BufferEntryInfo
@@ -38,7 +38,7 @@ module _ {A : Type 0} where
     pub within : 0 < length now → w.blob + w.at + w.size ≤ w.block_size
 
   -- The same where no record is collected, and the present part takes no more.
-  pub record Closed (whole : Section) (f0 : Position) (all : List BufferEntryInfo) (w : Splitting A)
+  pub record Closed (whole : Section) (f0 : Position) (all : List BufferEntryInfo) (w : SplitProgress A)
       (rest : List BufferEntryInfo) : Type 0 where
     pub f : Position
     pub goes : (parts : List (BlobPart A)) (blocks : List (List (BlobPart A))) (g : Position)
@@ -51,15 +51,15 @@ module _ {A : Type 0} where
     pub size : w.size ≡ 0
 
   -- the sizes stay, and so many bytes more were taken
-  pub record Moves (bytes : ℕ) (old new : Splitting A) : Type 0 where
+  pub record Moves (bytes : ℕ) (old new : SplitProgress A) : Type 0 where
     pub block_size : new.block_size ≡ old.block_size
     pub index_size : new.index_size ≡ old.index_size
     pub sum : new.start + new.size ≡ old.start + old.size + bytes
 
   -- a split begins where the context says, and nothing is collected
-  pub record IsBegun (c : Context) (w : Splitting A) : Type 0 where
+  pub record IsBegun (c : Context) (w : SplitProgress A) : Type 0 where
     pub sizes : sizes_of w ≡ c.sizes
-    pub filling : filling_of w ≡ c.filling
+    pub filling : position_of w ≡ c.filling
     pub start : w.start ≡ 0
     pub size : w.size ≡ 0
     pub indices : w.indices.items ≡ []

@@ -13,7 +13,7 @@ mod entries;
 pub mod laws;
 mod pages;
 mod split;
-mod splitting;
+mod split_progress;
 
 pub use entries::Buffer;
 pub use foyer_format_blob as format_blob;

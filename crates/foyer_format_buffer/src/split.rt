@@ -5,7 +5,7 @@ ghost use Rattle.foyer_device_page.specs.Section.{bytes_of};
 ghost use Rattle.foyer_format_buffer.specs.Position.{FitsBlock, fresh_context, taken};
 
 use super::BufferEntryInfo;
-use super::splitting::Splitting;
+use super::split_progress::SplitProgress;
 use foyer_device_page::error::Result;
 use foyer_device_page::io::bytes::{IoSlice, IoSliceMut};
 use foyer_format_blob::{BlobEntryIndex, BlobIndex};
@@ -83,7 +83,7 @@ impl<A: Allocator> Model for SplitCtx<A> {
 
 impl<A: Allocator> SplitCtx<A> {
     ghost use Rattle.foyer_format_blob.specs.Blob.{capacity_of};
-    ghost use Rattle.foyer_format_buffer.specs.Splitting.{IsBegun, sizes_of, filling_of};
+    ghost use Rattle.foyer_format_buffer.specs.Splitting.{IsBegun, sizes_of, position_of};
 
     /// At the start of a block, with an index without entries. Memory where it was refused.
     #[tactic(auto, using(foyer_format_layout::proofs::PageLaws::pages))]
@@ -124,13 +124,13 @@ impl<A: Allocator> SplitCtx<A> {
     }
 
     // A split that begins here.
-    fn begin(&self, alloc: &A) -> Result<Splitting<A>>
+    fn begin(&self, alloc: &A) -> Result<SplitProgress<A>>
     where
         A: Clone,
         ensures begun { IfOk result (IsBegun self.now) }
         ensures memory { IfErr result (λ e. e ≡ error.Memory) }
     {
-        Ok(Splitting {
+        Ok(SplitProgress {
             block_size: self.block_size,
             index_size: self.blob_index_size,
             blob: self.current_blob_block_offset,
@@ -145,14 +145,14 @@ impl<A: Allocator> SplitCtx<A> {
     }
 
     // Goes on where the split has come to, and gives its blocks.
-    fn commit(&mut self, split: Splitting<A>) -> Vec<Block<A>, A>
+    fn commit(&mut self, split: SplitProgress<A>) -> Vec<Block<A>, A>
         requires sizes { sizes_of split ≡ self.old.sizes }
         requires open { split.index.count < capacity_of split.index_size }
         ensures sizes { self.new.sizes ≡ self.old.sizes }
-        ensures filling { self.new.filling ≡ filling_of split }
+        ensures filling { self.new.filling ≡ position_of split }
         ensures blocks { result ≡ split.blocks }
     {
-        let Splitting {
+        let SplitProgress {
             blob,
             at,
             index,

@@ -13,7 +13,7 @@ use Rattle.foyer_core_rights.proofs.ServingLemmas as serving
 use Rattle.foyer_core_laws.specs.Content.{Content, Meaning}
 use Rattle.foyer_core_laws.specs.CoreRules.{layout, machine, IsEncoded}
 use Rattle.foyer_core_laws.specs.Sizes.{AreValid}
-use Rattle.foyer_core_laws.specs.declared.settings.Settings.{Settings}
+use Rattle.foyer_core_laws.specs.Settings.{Settings}
 use Rattle.foyer_core_told.specs.declared.event.Told.{Told}
 use Rattle.foyer_core_told.specs.declared.event.Told.TheVariants as told
 use Rattle.foyer_core_told.specs.ToldRuns.{Tells, IsTold}

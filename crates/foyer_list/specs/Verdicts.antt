@@ -8,8 +8,8 @@ use Rattle.foyer_device_page.specs.declared.error.Error.TheVariants as error
 use Rattle.foyer_block_recover.specs.Opening.{Opened}
 use Rattle.foyer_block_recover.specs.Recovery.{IsRecovered, held_slot}
 use Rattle.foyer_block_recover.specs.declared.block.recover.RecoverMode.TheVariants as recover_mode
-use Rattle.foyer_core_laws.specs.Sizes.{AreValid}
-use Rattle.foyer_core_laws.specs.declared.settings.Settings.{Settings}
+use Rattle.foyer_core_settings.specs.Sizes.{AreValid}
+use Rattle.foyer_core_settings.specs.declared.settings.Settings.{Settings}
 
 -- An index holds what an opening of n blocks of these bytes finds, without marks of deletes.
 pub record HoldsWinners (s : Sizes) (n : ℕ) (bytes : ℕ → ℕ → ℕ) (surely_has : ℕ → ℕ → ℕ → Type 0) (found : IndexMap) : Type 0 where

@@ -1,4 +1,7 @@
 //! The program.
+ghost use Rattle.std.specs.Prelude.{◌≡◌, ◌⊎◌};
+ghost use Rattle.foyer_cli.specs.Arguments.{AskVersion};
+
 use crate::files::BlockFiles;
 use crate::lines::{block_line, end_line, entry_line};
 use crate::listing::{Listing, list_block};
@@ -6,8 +9,8 @@ use crate::verdict::{verdict_of, winners};
 use foyer_block_index::indexer::Indexer;
 use foyer_block_index::manager::BlockId;
 use foyer_cli::faults::{name_of, print_fault};
-use foyer_cli::options::Options;
-use foyer_core_laws::settings::Settings;
+use foyer_cli::options::{Options, ask_version, print_version};
+use foyer_core_settings::settings::Settings;
 use foyer_device_page::error::{Error, ErrorKind};
 use foyer_io_disk::disk::Disk;
 use std::alloc::{AllocError, Allocator};
@@ -57,7 +60,7 @@ impl From<io::Error> for Stopped {
 }
 
 /// Lists what the blocks of a directory hold, by the words `DIR CAPACITY BLOCK`, and gives the exit status: 0, or 1 where a
-/// fault was printed or the output failed, or 2 for bad words, of which `:memory:` is one.
+/// fault was printed or the output failed, or 2 for bad words, of which `:memory:` is one. `--version` alone prints the version.
 ///
 /// Files are opened for reading alone. A missing file, or one that is too short, is a failed read. Where a file that is
 /// there can't be opened, a line of `errors` says so beside the fault that is printed.
@@ -74,7 +77,11 @@ where
     B: Allocator,
     W: Write + Drop,
     E: Write + Drop,
+    ensures version { AskVersion words.now → (result ≡ 0) ⊎ (result ≡ 1) }
 {
+    if ask_version(words) {
+        return print_version(output, "foyerlist");
+    }
     let Some(options) = options_of(words) else {
         let _ = errors.write_all(USAGE.as_bytes());
         return STATUS_USAGE;

@@ -2,14 +2,14 @@
 ghost use Rattle.std.specs.Prelude.{◌≡◌, ◌⊎◌, ◌↔◌, ◌≤◌, ◌^◌, IfOk, IfErr, Some, true, false};
 ghost use Rattle.foyer_block_index.specs.Index.{address_at};
 ghost use Rattle.foyer_device_page.specs.declared.error.Error.TheVariants as error;
-ghost use Rattle.foyer_core_laws.specs.Sizes.{AreValid, sizes_in};
+ghost use Rattle.foyer_core_settings.specs.Sizes.{AreValid, sizes_in};
 ghost use Rattle.foyer_io_disk.specs.Disk.{SurelyCame};
 ghost use Rattle.foyer_list.specs.Verdicts.{HoldsWinners, MayRefuseWinners};
 
 use foyer_block_index::indexer::Indexer;
 use foyer_block_recover::block::recover::{RecoverMode, RecoverRunner};
 use foyer_block_scan::block::scanner::EntryInfo;
-use foyer_core_laws::settings::Settings;
+use foyer_core_settings::settings::Settings;
 use foyer_device_page::error::Result;
 use foyer_io_disk::disk::Disk;
 use std::alloc::Allocator;

@@ -1,5 +1,6 @@
 //! The whole program, over any reader and writers.
-ghost use Rattle.std.specs.Prelude.{◌≡◌, ◌^◌};
+ghost use Rattle.std.specs.Prelude.{◌≡◌, ◌⊎◌, ◌^◌};
+ghost use Rattle.foyer_cli.specs.Arguments.{AskVersion};
 ghost use denote.Param.Send.{IsSend, IsSync};
 ghost use Rattle.foyer_core_tally.specs.Ledgers.{AreOf};
 
@@ -9,7 +10,7 @@ use crate::options::{PipeOptions, USAGE, parse_words};
 use crate::readers::{Gets, Reader};
 use crate::replies::Replies;
 use foyer_cli::faults::name_of;
-use foyer_cli::options::{GENERATOR_SEED, Options};
+use foyer_cli::options::{GENERATOR_SEED, Options, ask_version, print_version};
 use foyer_core_tally::book::{Blanks, Kinds};
 use foyer_device_page::error::{Error, Result};
 use foyer_device_partition::io::device::{
@@ -428,7 +429,8 @@ fn report<W: Write>(errors: &mut W, error: Error) -> io::Result<()> {
 }
 
 /// Runs the program over the words `DIR CAPACITY BLOCK` and settings, each `NAME=VALUE`, and gives its exit status: 0; or 1 if the cache
-/// couldn't be built, a frame was none or cut short, a stream failed, or the close was refused; or 2 for bad words.
+/// couldn't be built, a frame was none or cut short, a stream failed, or the close was refused; or 2 for bad words. `--version` alone
+/// prints the version.
 ///
 /// Each request of the input is answered by one reply with its number: in order, except gets that other threads answer. Replies of the
 /// others are written out before more input is asked for.
@@ -457,7 +459,11 @@ where
     W: Write + Drop + Send,
     E: Write + Drop,
     requires { AreOf L.name_of L.all blanks × (L.all ≡ 2 ^ 32) }
+    ensures version { AskVersion words.now → (result ≡ 0) ⊎ (result ≡ 1) }
 {
+    if ask_version(words) {
+        return print_version(output, "foyerpipe");
+    }
     let Some((words, options)) = parse_words(words) else {
         let _ = errors.write_all(USAGE.as_bytes());
         return STATUS_USAGE;

@@ -1,13 +1,13 @@
 //! The whole program, over any reader and writers.
-ghost use Rattle.std.specs.Prelude.{◌≡◌, ◌^◌};
-ghost use Rattle.foyer_cli.specs.Arguments.{AreWords};
+ghost use Rattle.std.specs.Prelude.{◌≡◌, ◌⊎◌, ◌^◌};
+ghost use Rattle.foyer_cli.specs.Arguments.{AreWords, AskVersion};
 ghost use Rattle.foyer_cli.specs.declared.options.Options.{Options};
 ghost use Rattle.foyer_core_tally.specs.Ledgers.{AreOf};
 
 use crate::lines::{Texts, answer_all};
 use foyer_cli::faults::{Failed, print_fault, report};
 use foyer_cli::lines::Lines;
-use foyer_cli::options::{GENERATOR_SEED, Options, USAGE};
+use foyer_cli::options::{GENERATOR_SEED, Options, USAGE, ask_version, print_version};
 use foyer_core_tally::book::{Blanks, Kinds};
 use foyer_device_page::error::{ErrorKind, Result};
 use foyer_device_partition::io::device::{
@@ -169,7 +169,7 @@ fn memory(alloc: Global, capacity: usize) -> Result<SharedMemoryIoEngineConfig<G
 }
 
 /// Runs the program over the words `DIR CAPACITY BLOCK`, and gives its exit status: 0, or 1 where a fault or a bad line was
-/// printed, an input or output failed, or the end's close was refused, or 2 for bad words.
+/// printed, an input or output failed, or the end's close was refused, or 2 for bad words. `--version` alone prints the version.
 ///
 /// Each line of the input is answered by one line. Answers are written out before more input is asked for. Where the directory
 /// can't be opened, a line of `errors` names it and what failed, beside the fault that is answered.
@@ -190,8 +190,12 @@ where
     W: Write + Drop,
     E: Write + Drop,
     requires { AreOf L.name_of L.all blanks × (L.all ≡ 2 ^ 32) }
-    ensures usage { ((o : Options) → ¬ AreWords words.now o) → result ≡ 2 }
+    ensures usage { ¬ AskVersion words.now → ((o : Options) → ¬ AreWords words.now o) → result ≡ 2 }
+    ensures version { AskVersion words.now → (result ≡ 0) ⊎ (result ≡ 1) }
 {
+    if ask_version(words) {
+        return print_version(output, "foyerdisk");
+    }
     let Some(options) = Options::parse(words) else {
         let _ = errors.write_all(USAGE.as_bytes());
         return STATUS_USAGE;

@@ -3,6 +3,7 @@ use Rattle.std.specs.Prelude.{◌≡◌, ◌⊎◌, ℕ, Bool, true, false, List
 use Rattle.std.specs.declared.vec.Vec.{Vec}
 use Rattle.foyer_format_layout.specs.Page.{page_up}
 use Rattle.foyer_core_shared.specs.Answered.{BringsPair}
+use Rattle.foyer_core_shared.specs.Refusals.{error_of}
 use Rattle.foyer_core_shared.specs.Reply.{Reply}
 use Rattle.foyer_core_shared.specs.Reply.TheVariants as reply
 use Rattle.foyer_core_shared.specs.Step.{Step}
@@ -10,8 +11,6 @@ use Rattle.foyer_core_shared.specs.Step.TheVariants as step
 use Rattle.foyer_core_shared.specs.Ticket.{Ticket}
 use Rattle.foyer_device_page.specs.declared.error.Error.{Error}
 use Rattle.foyer_device_page.specs.declared.error.Error.TheVariants as error
-use Rattle.foyer_device_page.specs.declared.error.ErrorKind.{ErrorKind}
-use Rattle.foyer_device_page.specs.declared.error.ErrorKind.TheVariants as kind
 use Rattle.foyer_storage_engine.specs.declared.load.Load.{Load}
 use Rattle.foyer_storage_engine.specs.declared.load.Load.TheVariants as load
 use Rattle.foyer_core_shared.specs.Briefs.{len_of, reply_brief}
@@ -26,21 +25,6 @@ use Rattle.foyer_storage_engine.specs.declared.engine.Enqueued.TheVariants as en
 use Rattle.foyer_core_tally.specs.Tally.{grown}
 use Rattle.foyer_core_tally.specs.declared.kinds.Counts.{Counts}
 use Rattle.foyer_core_tally.specs.declared.kinds.StepKind.TheVariants.{Read}
-
-abbrev pub error_of : ErrorKind → Error
-error_of kind.Io = error.Io
-error_of kind.Memory = error.Memory
-error_of kind.Config = error.Config
-error_of kind.Parse = error.Parse
-error_of kind.MagicMismatch = error.MagicMismatch
-error_of kind.ChecksumMismatch = error.ChecksumMismatch
-error_of kind.OutOfRange = error.OutOfRange
-error_of kind.BufferSizeLimit = error.BufferSizeLimit
-error_of kind.NoSpace = error.NoSpace
-error_of kind.Recover = error.Recover
-error_of kind.Closed = error.Closed
-error_of kind.Unsupported = error.Unsupported
-error_of kind.SequenceEnd = error.SequenceEnd
 
 -- why a put or a delete is refused
 abbrev pub is_draw_error : Error → Bool

@@ -11,7 +11,7 @@ use Rattle.foyer_core_shared.specs.declared.brief.ReplyBrief.TheVariants as repl
 use Rattle.foyer_core_shared.specs.declared.brief.StepBrief.{StepBrief}
 use Rattle.foyer_core_shared.specs.declared.brief.StepBrief.TheVariants as asked
 use Rattle.foyer_core_tally.specs.Tally.{grown, none}
-use Rattle.foyer_storage_engine.specs.Answering.{error_of}
+use Rattle.foyer_core_shared.specs.Refusals.{error_of}
 
 -- The session counts no step of the seven named kinds beside those that it had: it made no put, no delete and no load.
 abbrev pub HoldsNamed : SessionState → SessionState → Type 0

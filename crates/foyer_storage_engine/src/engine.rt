@@ -6,7 +6,7 @@ ghost use Rattle.foyer_device_page.specs.declared.error.Error.{Error as error};
 ghost use Rattle.foyer_core_shared.specs.Briefs.{reply_brief};
 ghost use Rattle.foyer_core_shared.specs.declared.brief.StepBrief.TheVariants as asked;
 ghost use Rattle.foyer_core_shared.specs.Replies.{is_delete_reply, is_end_reply, is_enqueue_reply, is_look_up_reply, is_question_reply};
-ghost use Rattle.foyer_storage_engine.specs.Answering.{IsAnsweredAs, IsEndOf, IsLoaded, asked_as, deleted_as, enqueued_as, IsLoadOf, IsTicketOf, error_of};
+ghost use Rattle.foyer_storage_engine.specs.Answering.{IsAnsweredAs, IsEndOf, IsLoaded, asked_as, deleted_as, enqueued_as, IsLoadOf, IsTicketOf};
 ghost use Rattle.foyer_storage_engine.specs.Answering.{is_draw_error, is_load_error, is_question_error};
 ghost use Rattle.foyer_storage_engine.specs.declared.load.Load.TheVariants as load;
 
@@ -22,8 +22,8 @@ use self::signals::Signals;
 use crate::enqueue::enqueue;
 use crate::load::{Load, Populated};
 use foyer_block_manager::block::eviction::EvictionPicker;
-use foyer_block_recover::gate::{Gate, Point};
 use foyer_core_shared::core_steps::apply::no_io;
+use foyer_core_shared::core_steps::refusal::error_of;
 use foyer_core_shared::core_steps::reply::Reply;
 use foyer_core_shared::core_steps::settings::Settings;
 use foyer_core_shared::core_steps::step::{Step, Ticket};
@@ -31,9 +31,10 @@ use foyer_core_shared::notes::Noting;
 use foyer_core_shared::session::Session;
 use foyer_core_shared::shared::Shared;
 use foyer_core_tally::book::Kinds;
-use foyer_device_page::error::{Error, ErrorKind, Result};
+use foyer_device_page::error::{Error, Result};
 use foyer_format_record::serde::{Code, Properties};
 use foyer_io_disk::disk::Disk;
+use foyer_io_gate::gate::{Gate, Point};
 use foyer_lock::lock_spinning;
 use foyer_policy_filter::StorageFilterCondition;
 use foyer_policy_keeper::keeper::Keeper;
@@ -51,27 +52,6 @@ pub enum Enqueued {
     Ignored,
     /// It isn't taken, since too much is queued, and its hash is deleted.
     Deleted,
-}
-
-/// The error of a kind.
-pub fn error_of(kind: ErrorKind) -> Error
-    ensures { result ≡ error_of kind }
-{
-    match kind {
-        ErrorKind::Io => Error::Io,
-        ErrorKind::Memory => Error::Memory,
-        ErrorKind::Config => Error::Config,
-        ErrorKind::Parse => Error::Parse,
-        ErrorKind::MagicMismatch => Error::MagicMismatch,
-        ErrorKind::ChecksumMismatch => Error::ChecksumMismatch,
-        ErrorKind::OutOfRange => Error::OutOfRange,
-        ErrorKind::BufferSizeLimit => Error::BufferSizeLimit,
-        ErrorKind::NoSpace => Error::NoSpace,
-        ErrorKind::Recover => Error::Recover,
-        ErrorKind::Closed => Error::Closed,
-        ErrorKind::Unsupported => Error::Unsupported,
-        ErrorKind::SequenceEnd => Error::SequenceEnd,
-    }
 }
 
 // What the last step of a load is answered as.

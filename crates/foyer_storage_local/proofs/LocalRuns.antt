@@ -6,7 +6,7 @@ use Rattle.foyer_io_disk.proofs.FaultLemmas.{not_both}
 use Rattle.foyer_core_laws.specs.Content.{Content, Meaning}
 use Rattle.foyer_core_laws.specs.CoreRules.{layout, machine, IsEncoded}
 use Rattle.foyer_core_laws.specs.Sizes.{AreValid}
-use Rattle.foyer_core_laws.specs.declared.settings.Settings.{Settings}
+use Rattle.foyer_core_laws.specs.Settings.{Settings}
 use Rattle.foyer_core_model.specs.State.{State}
 use Rattle.foyer_core_model.specs.World.{World, WorldEvent, IsFed}
 use Rattle.foyer_core_steps.specs.Asked.{step_of}

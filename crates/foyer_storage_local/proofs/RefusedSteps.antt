@@ -15,7 +15,7 @@ use Rattle.foyer_core_model.specs.Step as model_step
 use Rattle.foyer_core_laws.specs.Content.{Content, Meaning}
 use Rattle.foyer_core_laws.specs.CoreRules.{layout, machine}
 use Rattle.foyer_core_laws.specs.Sizes.{AreValid}
-use Rattle.foyer_core_laws.specs.declared.settings.Settings.{Settings}
+use Rattle.foyer_core_laws.specs.Settings.{Settings}
 use Rattle.foyer_core_steps.specs.Asked.{step_of}
 use Rattle.foyer_core_steps.specs.Destroying.{kind_of}
 use Rattle.foyer_core_steps.specs.Refines.{Refines}
@@ -31,7 +31,8 @@ use Rattle.foyer_core_run.specs.Accesses.{Says, load_of}
 use Rattle.foyer_core_run.specs.Honest.{FailsAtRead}
 use Rattle.foyer_core_run.proofs.ReplyLemmas.{ordinary}
 use Rattle.foyer_storage_local.specs.EntryCalls.{IsIoForCause, IsRefusedIfClosed, IsRefusedOnlyAs}
-use Rattle.foyer_storage_local.specs.StepAnswers.{begun_as, contains_as, deleted_as, enqueued_as, error_of, is_draw_error, is_load_error, is_question_error, loaded_as}
+use Rattle.foyer_core_steps.specs.Refusals.{error_of}
+use Rattle.foyer_storage_local.specs.StepAnswers.{begun_as, contains_as, deleted_as, enqueued_as, is_draw_error, is_load_error, is_question_error, loaded_as}
 use Rattle.foyer_storage_local.specs.declared.load.Load.{Load}
 use Rattle.foyer_storage_local.specs.declared.load.Load.TheVariants as load
 use Rattle.foyer_storage_local.proofs.LoadAnswered.{IsAnswered, load_is_answered}

@@ -11,7 +11,7 @@ use Rattle.foyer_core_model.specs.World.{World, after_all}
 use Rattle.foyer_core_laws.specs.Content.{Content, Meaning}
 use Rattle.foyer_core_laws.specs.CoreRules.{layout, machine}
 use Rattle.foyer_core_laws.specs.Sizes.{AreValid}
-use Rattle.foyer_core_laws.specs.declared.settings.Settings.{Settings}
+use Rattle.foyer_core_laws.specs.Settings.{Settings}
 use Rattle.foyer_core_steps.specs.Replied.{IsReply}
 use Rattle.foyer_core_steps.specs.StateOf.{IsStateOf}
 use Rattle.foyer_core_steps.specs.declared.reply.Reply.{Reply}
@@ -20,7 +20,8 @@ use Rattle.foyer_core_steps.specs.declared.state.Core.{Core}
 use Rattle.foyer_core_run.specs.Accesses.{Says, load_of}
 use Rattle.foyer_device_page.specs.declared.error.Error.{Error}
 use Rattle.foyer_storage_local.specs.EntryCalls.{IsThrottledIfSaid}
-use Rattle.foyer_storage_local.specs.StepAnswers.{error_of, loaded_as}
+use Rattle.foyer_core_steps.specs.Refusals.{error_of}
+use Rattle.foyer_storage_local.specs.StepAnswers.{loaded_as}
 use Rattle.foyer_storage_local.specs.declared.load.Load.{Load}
 use Rattle.foyer_storage_local.specs.declared.load.Load.TheVariants as load
 use Rattle.foyer_storage_local.proofs.LoadAnswered.{answered_in_world}

@@ -15,7 +15,7 @@ use Rattle.foyer_policy_piece.specs.Record.{Record}
 use Rattle.foyer_policy_piece.specs.Referred.{Referred}
 use Rattle.foyer_core_laws.specs.Content.{Content, Meaning, content}
 use Rattle.foyer_core_laws.specs.Sizes.{AreValid}
-use Rattle.foyer_core_laws.specs.declared.settings.Settings.{Settings}
+use Rattle.foyer_core_laws.specs.Settings.{Settings}
 use Rattle.foyer_core_steps.specs.StateOf.{IsStateOf}
 use Rattle.foyer_core_steps.specs.declared.reply.Reply.{Reply}
 use Rattle.foyer_core_steps.specs.declared.reply.Reply.TheVariants as reply
@@ -26,7 +26,8 @@ use Rattle.foyer_core_run.specs.Newest.{IsHistory, IsNewest, MayFail, OfPut}
 use Rattle.foyer_core_run.specs.Runs.{IsFront}
 use Rattle.foyer_core_run.specs.declared.moves.Move.TheVariants as move
 use Rattle.foyer_storage_local.specs.EntryLoads.{answer_of_key}
-use Rattle.foyer_storage_local.specs.StepAnswers.{contains_as, deleted_as, enqueued_as, error_of, loaded_as}
+use Rattle.foyer_core_steps.specs.Refusals.{error_of}
+use Rattle.foyer_storage_local.specs.StepAnswers.{contains_as, deleted_as, enqueued_as, loaded_as}
 use Rattle.foyer_storage_local.specs.declared.load.Enqueued.{Enqueued}
 use Rattle.foyer_storage_local.specs.declared.load.Load.{Load}
 use Rattle.foyer_storage_local.specs.declared.load.Load.TheVariants as load

@@ -1,32 +1,13 @@
 //! What the core's replies are answered as.
 ghost use Rattle.std.specs.Prelude.{◌≡◌, ◌⊎◌, true, Some, IfErr, IsErr};
-ghost use Rattle.foyer_storage_local.specs.StepAnswers.{error_of, is_destroy_error, is_wait_error, wait_error};
+ghost use Rattle.foyer_storage_local.specs.StepAnswers.{is_destroy_error, is_wait_error, wait_error};
 ghost use Rattle.foyer_storage_local.specs.StepAnswers.{begun_as, contains_as, deleted_as, destroyed_as, done_as, enqueued_as, kept_as, loaded_as, wrote_as};
 
 use crate::load::{Enqueued, Load, Populated};
+use foyer_core_steps::refusal::error_of;
 use foyer_core_steps::reply::Reply;
 use foyer_device_page::error::{Error, ErrorKind, Result};
 use std::alloc::Allocator;
-
-fn error_of(kind: ErrorKind) -> Error
-    ensures { result ≡ error_of kind }
-{
-    match kind {
-        ErrorKind::Io => Error::Io,
-        ErrorKind::Memory => Error::Memory,
-        ErrorKind::Config => Error::Config,
-        ErrorKind::Parse => Error::Parse,
-        ErrorKind::MagicMismatch => Error::MagicMismatch,
-        ErrorKind::ChecksumMismatch => Error::ChecksumMismatch,
-        ErrorKind::OutOfRange => Error::OutOfRange,
-        ErrorKind::BufferSizeLimit => Error::BufferSizeLimit,
-        ErrorKind::NoSpace => Error::NoSpace,
-        ErrorKind::Recover => Error::Recover,
-        ErrorKind::Closed => Error::Closed,
-        ErrorKind::Unsupported => Error::Unsupported,
-        ErrorKind::SequenceEnd => Error::SequenceEnd,
-    }
-}
 
 // Why a step of a wait, or of a destroy that has begun, was refused: for memory, or since no step is left, and for nothing
 // else.

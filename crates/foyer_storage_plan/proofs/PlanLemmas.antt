@@ -7,8 +7,8 @@ use Rattle.std.proofs.lemmas.Bool.Decides.{nat_tests}
 use Rattle.std.proofs.lemmas.Nat.{pow_pos}
 use Rattle.std.specs.Int.{IsNextPowerOfTwo}
 use Rattle.foyer_format_layout.specs.Page.{page_up}
-use Rattle.foyer_core_laws.specs.Sizes.{AreValid, IsDefaultShardCount}
-use Rattle.foyer_core_laws.specs.declared.settings.Settings.{Settings}
+use Rattle.foyer_core_settings.specs.Sizes.{AreValid, IsDefaultShardCount}
+use Rattle.foyer_core_settings.specs.declared.settings.Settings.{Settings}
 use Rattle.foyer_storage_plan.specs.Plans.{ArePlanned, AreSizes, settings_of}
 use Rattle.foyer_storage_plan.specs.declared.sizes.EngineSizes.{EngineSizes}
 

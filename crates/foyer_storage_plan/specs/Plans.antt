@@ -3,8 +3,8 @@ use Rattle.std.specs.Prelude.{◌≡◌, ℕ, ◌+◌, ◌-◌, ◌/◌, ◌^◌
 use Rattle.foyer_device_page.specs.declared.error.Error.{Error}
 use Rattle.foyer_device_page.specs.declared.error.Error.TheVariants.{Config, NoSpace}
 use Rattle.foyer_format_layout.specs.Page.{page_up}
-use Rattle.foyer_core_laws.specs.Sizes.{IsDefaultShardCount}
-use Rattle.foyer_core_laws.specs.declared.settings.Settings.{Settings}
+use Rattle.foyer_core_settings.specs.Sizes.{IsDefaultShardCount}
+use Rattle.foyer_core_settings.specs.declared.settings.Settings.{Settings}
 use Rattle.foyer_storage_plan.specs.declared.sizes.EngineSizes.{EngineSizes}
 
 -- a core of so many blocks of these sizes, which are rounded up to whole pages, with so many shards of the index

@@ -1,7 +1,7 @@
 //! What a plan is worth.
 ghost use Rattle.std.specs.Prelude.{◌≡◌, ℕ, ◌<◌};
-ghost use Rattle.foyer_core_laws.specs.Sizes.{AreValid};
-ghost use Rattle.foyer_core_laws.specs.declared.settings.Settings.{Settings};
+ghost use Rattle.foyer_core_settings.specs.Sizes.{AreValid};
+ghost use Rattle.foyer_core_settings.specs.declared.settings.Settings.{Settings};
 ghost use Rattle.foyer_storage_plan.specs.Plans.{ArePlanned, AreSizes, HasRoom, blocks_held};
 ghost use Rattle.foyer_storage_plan.specs.declared.sizes.EngineSizes.{EngineSizes};
 

@@ -2,7 +2,7 @@
 ghost use Rattle.std.specs.Prelude.{◌≡◌, ◌⊎◌, ◌↔◌, ◌<◌, ◌≤◌, ◌^◌, None, Err, IsOk, IfErr, IfOk, IsOkUnless, OnErr, false};
 ghost use Rattle.foyer_storage_plan.specs.Plans.{ArePlanned, AreSizes, HasRoom, IsFirstCause, blocks_held};
 
-use foyer_core_laws::settings::{
+use foyer_core_settings::settings::{
     DEFAULT_BLOB_INDEX_SIZE, DEFAULT_BUFFER_POOL_SIZE, DEFAULT_CLEAN_BLOCK_THRESHOLD,
     DEFAULT_FLUSHERS, DEFAULT_RECLAIMERS, DEFAULT_SUBMIT_QUEUE_SIZE_THRESHOLD,
     DEFAULT_TOMBSTONE_LOG, MAX_BLOCK_SIZE, Settings, default_indexer_shards,

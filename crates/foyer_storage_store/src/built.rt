@@ -7,7 +7,6 @@ ghost use Rattle.foyer_storage_store.specs.Storing.{IsAdmission, IsVerdictWithWa
 use crate::calls::{DeviceSummary, Engine};
 use crate::session::StoreSession;
 use foyer_block_manager::block::eviction::EvictionPicker;
-use foyer_block_recover::gate::Gate;
 use foyer_core_tally::book::Kinds;
 use foyer_device_page::error::Result;
 use foyer_device_partition::io::device::Partition;
@@ -16,6 +15,7 @@ use foyer_device_throttle::Throttle;
 use foyer_format_record::serde::{Code, Properties};
 use foyer_io_blocks::partitions::PartitionedDisk;
 use foyer_io_engine::io::engine::IoEngine;
+use foyer_io_gate::gate::Gate;
 use foyer_io_monitor::MonitoredIoEngine;
 use foyer_lock::lock_spinning;
 use foyer_policy_filter::{StorageFilter, StorageFilterCondition, StorageFilterResult};

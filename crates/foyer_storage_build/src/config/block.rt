@@ -4,8 +4,8 @@ ghost use Rattle.foyer_storage_build.specs.Building.{default_sizes};
 
 use super::pickers::{DefaultPickers, GivenPickers, PickerSource};
 use foyer_block_manager::block::eviction::EvictionPicker;
-use foyer_block_recover::gate::{Gate, OpenGate};
 use foyer_device_partition::io::device::Device;
+use foyer_io_gate::gate::{Gate, OpenGate};
 use foyer_policy_filter::{BuiltInCondition, StorageFilter, StorageFilterCondition};
 use foyer_storage_plan::sizes::EngineSizes;
 use std::alloc::{AllocError, Allocator, Global};

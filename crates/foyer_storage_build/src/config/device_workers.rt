@@ -1,12 +1,12 @@
 //! The workers of an engine over the blocks of a device, and its log of deletes.
 use crate::config::DeviceBlocks;
 use foyer_block_manager::block::eviction::EvictionPicker;
-use foyer_block_recover::gate::Gate;
 use foyer_block_tombstone::block::tombstone::TombstoneLog;
 use foyer_core_tally::book::Kinds;
 use foyer_device_partition::io::device::Partition;
 use foyer_format_record::serde::{Code, Properties};
 use foyer_io_engine::io::engine::IoEngine;
+use foyer_io_gate::gate::Gate;
 use foyer_io_monitor::MonitoredIoEngine;
 use foyer_policy_filter::StorageFilterCondition;
 use foyer_storage_store::engine::core_shared::notes::NoNotes;

@@ -4,10 +4,10 @@ ghost use Rattle.foyer_device_page.specs.declared.error.Error.TheVariants as err
 
 use super::DeviceBlocks;
 use foyer_block_recover::block::listing::{BlockListing, Listings};
-use foyer_block_recover::gate::{Gate, GatedDisk};
 use foyer_device_page::error::Result;
 use foyer_device_partition::io::device::Partition;
 use foyer_io_engine::io::engine::IoEngine;
+use foyer_io_gate::gate::{Gate, GatedDisk};
 use foyer_storage_workers::recover::{DiskRecoverer, Recoverer};
 use std::alloc::Global;
 use std::sync::Arc;

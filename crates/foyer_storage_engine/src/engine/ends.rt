@@ -11,11 +11,11 @@ ghost use Rattle.foyer_core_shared.specs.declared.brief.ReplyBrief.TheVariants a
 ghost use Rattle.foyer_core_shared.specs.declared.brief.StepBrief.TheVariants as asked;
 ghost use Rattle.foyer_storage_engine.specs.Ending.{AsksForReclaims, AsksToWait, BringsClean, CountsStep, EndsWithClean, HasBegun, HoldsNamed, IsUnbegun, is_late_error};
 
-use super::{BlockEngine, error_of};
+use super::BlockEngine;
 use foyer_block_index::manager::BlockId;
 use foyer_block_manager::block::eviction::EvictionPicker;
-use foyer_block_recover::gate::Gate;
 use foyer_core_shared::core_steps::apply::no_io;
+use foyer_core_shared::core_steps::refusal::error_of;
 use foyer_core_shared::core_steps::reply::Reply;
 use foyer_core_shared::core_steps::step::Step;
 use foyer_core_shared::notes::Noting;
@@ -25,6 +25,7 @@ use foyer_device_page::error::{Error, ErrorKind, Result};
 use foyer_device_statistics::IoState;
 use foyer_format_record::serde::{Code, Properties};
 use foyer_io_disk::disk::Disk;
+use foyer_io_gate::gate::Gate;
 use foyer_policy_filter::StorageFilterCondition;
 use std::alloc::Allocator;
 use std::sync::Wait;

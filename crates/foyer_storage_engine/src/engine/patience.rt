@@ -3,11 +3,11 @@ ghost use Rattle.std.specs.Prelude.{◌≡◌};
 
 use super::BlockEngine;
 use foyer_block_manager::block::eviction::EvictionPicker;
-use foyer_block_recover::gate::Gate;
 use foyer_core_shared::notes::Noting;
 use foyer_core_tally::book::Kinds;
 use foyer_format_record::serde::{Code, Properties};
 use foyer_io_disk::disk::Disk;
+use foyer_io_gate::gate::Gate;
 use foyer_lock::lock_spinning;
 use foyer_policy_filter::StorageFilterCondition;
 use std::alloc::Allocator;

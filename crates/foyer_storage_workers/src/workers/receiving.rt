@@ -3,11 +3,11 @@ ghost use Rattle.std.specs.Prelude.{◌≡◌, ◌<◌};
 ghost use Rattle.foyer_storage_engine.specs.Ending.{HoldsNamed};
 
 use foyer_block_manager::block::eviction::EvictionPicker;
-use foyer_block_recover::gate::Gate;
 use foyer_core_tally::book::Kinds;
 use foyer_device_page::error::ErrorKind;
 use foyer_format_record::serde::{Code, Properties};
 use foyer_io_disk::disk::Disk;
+use foyer_io_gate::gate::Gate;
 use foyer_lock::lock_spinning;
 use foyer_policy_filter::StorageFilterCondition;
 use foyer_policy_keeper::keeper::Keeper;

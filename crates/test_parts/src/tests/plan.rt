@@ -1,5 +1,5 @@
 //! What an engine's sizes come to on a device, and which are refused first.
-use foyer_core_laws::settings::Settings;
+use foyer_core_settings::settings::Settings;
 use foyer_device_page::error::{Error, Result};
 use foyer_storage_plan::sizes::EngineSizes;
 use foyer_testing::said::Said;

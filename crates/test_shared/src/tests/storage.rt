@@ -4,12 +4,12 @@ ghost use Rattle.foyer_core_tally.specs.Ledgers.{AreOf};
 
 use foyer_block_manager::block::eviction::BuiltInPicker;
 use foyer_block_recover::block::listing::Listings;
-use foyer_block_recover::gate::Gate;
 use foyer_core_run::accesses::{step, write_block};
 use foyer_core_tally::book::{Blanks, Kinds};
 use foyer_device_page::error::{Error, Result};
 use foyer_format_record::serde::{Age, Properties};
 use foyer_io_blocks::memory::MemoryDisk;
+use foyer_io_gate::gate::Gate;
 use foyer_policy_filter::BuiltInCondition;
 use foyer_policy_piece::keeper::{Piece, PieceRef};
 use foyer_storage_engine::core_shared::locked::Locked;

@@ -6,12 +6,12 @@ use crate::tests::asked::{Beside, LowBits, Texts, answers_to};
 use crate::tests::dials::Dial;
 use crate::tests::gates::HoldingGate;
 use crate::tests::over::Over;
-use foyer_block_recover::gate::Gate;
 use foyer_core_tally::book::{Blanks, Kinds};
 use foyer_device_page::error::{Error, Result};
 use foyer_device_partition::io::device::Device;
 use foyer_format_record::serde::NoProperties;
 use foyer_io_engine::io::engine::IoEngineConfig;
+use foyer_io_gate::gate::Gate;
 use foyer_policy_filter::StorageFilterCondition;
 use foyer_program::store::builder::StoreBuilder;
 use foyer_program::store::config::{

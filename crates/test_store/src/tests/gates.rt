@@ -1,5 +1,5 @@
 //! A gate that holds threads at a point until it is opened.
-use foyer_block_recover::gate::{Gate, Point};
+use foyer_io_gate::gate::{Gate, Point};
 use std::alloc::{AllocError, Global};
 use std::sync::Arc;
 use std::sync::atomic::{AtomicBool, Ordering};

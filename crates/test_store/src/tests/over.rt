@@ -1,8 +1,8 @@
 //! What a store is built over, by words.
 use foyer_block_recover::block::recover::RecoverMode;
-use foyer_block_recover::gate::Point;
 use foyer_device_partition::io::device::{IopsCounter, Throttle};
 use foyer_format_record::compress::Compression;
+use foyer_io_gate::gate::Point;
 
 const PAGE: usize = 4096;
 

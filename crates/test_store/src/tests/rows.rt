@@ -120,6 +120,9 @@ length untouched | missing
 bad words give the usage: two words, and one with a blank
 disk :memory:, 16384 < put 1 a | errors usage: foyerdisk DIR CAPACITY BLOCK, status 2
 disk :memory:, 16384, 1  < put 1 a | errors usage: foyerdisk DIR CAPACITY BLOCK, status 2
+the version is printed, and no line is answered; with another word it is a bad word
+disk --version < put 1 a | foyerdisk 0.1.0, rattle-kit-13b, status 0
+disk --version, 16384 < put 1 a | errors usage: foyerdisk DIR CAPACITY BLOCK, status 2
 bad lines are answered and passed, and the last one has no end
 unended :memory:, 16384, 16384 < put 1, , get 18446744073709551616, put 1 , wait, get 01, get +1, get , wait , GET 1, put 18446744073709551615 z, wait, get 18446744073709551615 | bad line, bad line, bad line, queued, ok, entry , bad line, bad line, bad line, bad line, queued, ok, entry z, status 1
 a line that is no text is bad

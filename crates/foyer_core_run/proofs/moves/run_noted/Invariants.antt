@@ -3,7 +3,7 @@ use Rattle.foyer_core_model.specs.World.{World}
 use Rattle.foyer_core_laws.specs.Content.{Content, meaning}
 use Rattle.foyer_core_laws.specs.Sizes.{AreValid}
 use Rattle.foyer_core_steps.specs.StateOf.{IsStateOf}
-use Rattle.foyer_core_laws.specs.declared.settings.Settings.{Settings}
+use Rattle.foyer_core_laws.specs.Settings.{Settings}
 use Rattle.foyer_core_run.specs.Causes.{HasCome}
 use Rattle.foyer_core_run.proofs.RunLemmas.{IsGoing}
 use Rattle.foyer_core_run.proofs.moves.run_noted.Given as goal

@@ -1,6 +1,6 @@
 //! Threads at a gate.
 use super::{is_raised, raise};
-use foyer_block_recover::gate::{Gate, OpenGate, Point};
+use foyer_io_gate::gate::{Gate, OpenGate, Point};
 use std::sync::atomic::{AtomicBool, Ordering};
 use std::thread;
 

@@ -3,9 +3,9 @@ ghost use Rattle.std.specs.Prelude.{◌≡◌, ◌<◌, ◌^◌};
 ghost use Rattle.foyer_core_tally.specs.Ledgers.{AreOf};
 
 use super::{Numbers, opened, piece_of};
-use foyer_block_recover::gate::OpenGate;
 use foyer_core_tally::book::{Blanks, Kinds};
 use foyer_device_page::error::{Error, Result};
+use foyer_io_gate::gate::OpenGate;
 use foyer_storage_engine::core_shared::brief::{ReplyBrief, StepBrief};
 use foyer_storage_engine::core_shared::session::Session;
 use foyer_storage_engine::engine::Enqueued;

@@ -3,9 +3,9 @@ ghost use Rattle.std.specs.Prelude.{◌≡◌, ◌-◌, ◌<◌, ◌^◌};
 ghost use Rattle.foyer_core_tally.specs.Ledgers.{AreOf};
 
 use super::{Numbers, opened};
-use foyer_block_recover::gate::{Gate, Point};
 use foyer_core_tally::book::{Blanks, Kinds};
 use foyer_device_page::error::Result;
+use foyer_io_gate::gate::{Gate, Point};
 use foyer_storage_engine::core_shared::session::Session;
 use foyer_storage_engine::load::Load;
 use std::alloc::Global;

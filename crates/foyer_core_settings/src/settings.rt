@@ -1,9 +1,9 @@
 //! The sizes that a core is opened with.
 ghost use Rattle.std.specs.Prelude.{◌≡◌, ◌^◌, ◌↔◌, false, IsOk, IsOkUnless};
-ghost use Rattle.foyer_core_laws.specs.Sizes.{AreValid, IsDefaultShardCount, buffer_room};
+ghost use Rattle.foyer_core_settings.specs.Sizes.{AreValid, IsDefaultShardCount, buffer_room};
 
 use foyer_device_page::error::{Error, Result};
-use foyer_format_record::block::buffer::PAGE;
+use foyer_device_page::io::bytes::PAGE;
 
 /// The bytes of a blob index where none are given.
 pub const DEFAULT_BLOB_INDEX_SIZE: usize = PAGE;

@@ -1,7 +1,7 @@
 use Rattle.foyer_format_layout.proofs.PageLaws.{page_laws, even-page_up}
 use Rattle.std.proofs.Common.{◌+◌, ℕ, refl, ap, ◌∙◌, arith}
 use Rattle.foyer_format_buffer.proofs.SplitLemmas.{appends}
-use Rattle.foyer_format_buffer.proofs.splitting.Splitting.append.Goals as goal
+use Rattle.foyer_format_buffer.proofs.split_progress.SplitProgress.append.Goals as goal
 
 pub returns-clause-going : goal.returns-clause-going
 returns-clause-going g c = λ s f all rest o.

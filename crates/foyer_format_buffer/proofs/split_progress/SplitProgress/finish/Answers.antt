@@ -1,7 +1,7 @@
 use Rattle.std.proofs.Common.{◌<◌, refl}
 use Rattle.foyer_format_blob.specs.Blob.{capacity_of}
 use Rattle.foyer_format_buffer.proofs.SplitLemmas.{finishes}
-use Rattle.foyer_format_buffer.proofs.splitting.Splitting.finish.Goals as goal
+use Rattle.foyer_format_buffer.proofs.split_progress.SplitProgress.finish.Goals as goal
 
 pub returns-clause-placed : goal.returns-clause-placed
 returns-clause-placed g c = λ f all going.

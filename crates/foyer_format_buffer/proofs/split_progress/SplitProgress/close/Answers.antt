@@ -1,7 +1,7 @@
 use Rattle.std.proofs.Common.{◌≡◌, ◌<◌, [], length, refl, ap, ◌∙◌, arith}
 use Rattle.std.proofs.lemmas.Grind.{common_steps}
 use Rattle.foyer_format_buffer.proofs.SplitLemmas.{closes_none, closes_part}
-use Rattle.foyer_format_buffer.proofs.splitting.Splitting.close.Goals as goal
+use Rattle.foyer_format_buffer.proofs.split_progress.SplitProgress.close.Goals as goal
 
 pub returns-then-is_empty-clause-closed : goal.returns-then-is_empty-clause-closed
 returns-then-is_empty-clause-closed g c = λ f all rest o.

@@ -14,7 +14,7 @@ use std::mem;
 /// How far the splitter has come. What it collects is given away only at the end, so that a refusal
 /// changes nothing.
 #[derive(Drop)]
-pub(super) struct Splitting<A: Allocator> {
+pub(super) struct SplitProgress<A: Allocator> {
     pub(super) block_size: usize,
     pub(super) index_size: usize,
     pub(super) blob: usize,
@@ -54,12 +54,12 @@ fn end_block<A: Allocator + Clone>(
     Ok(())
 }
 
-impl<A: Allocator + Clone> Splitting<A> {
+impl<A: Allocator + Clone> SplitProgress<A> {
     ghost use Rattle.std.specs.Prelude.{◌+◌, ◌<◌, ◌≤◌, length, map, OnOk, IsTrue};
     ghost use Rattle.foyer_device_page.specs.Section.{Section, bytes_of};
     ghost use Rattle.foyer_format_layout.specs.Page.{page_up};
     ghost use Rattle.foyer_format_buffer.specs.Position.{Position, FitsBlock};
-    ghost use Rattle.foyer_format_buffer.specs.Splitting.{Going, Closed, Moves, sizes_of, filling_of};
+    ghost use Rattle.foyer_format_buffer.specs.Splitting.{Going, Closed, Moves, sizes_of, position_of};
     ghost use Rattle.foyer_format_buffer.specs.Layout.{Places, parts_of};
     ghost use Rattle.foyer_format_buffer.specs.declared.BufferEntryInfo.{BufferEntryInfo};
 
@@ -223,7 +223,7 @@ impl<A: Allocator + Clone> Splitting<A> {
         requires open { self.old.index.count < capacity_of self.old.index_size }
         ensures placed { OnOk result ((f : Position) (all : List BufferEntryInfo)
             → Going bytes.now f all self.old [] → Places (sizes_of self.new) bytes.now f all
-            (map parts_of self.new.blocks.items) (filling_of self.new)) }
+            (map parts_of self.new.blocks.items) (position_of self.new)) }
         ensures moves { OnOk result (Moves 0 self.old self.new) }
         ensures open { OnOk result (self.new.index.count < capacity_of self.new.index_size) }
         ensures memory { IfErr result (λ e. e ≡ error.Memory) }

@@ -2,7 +2,7 @@
 use Rattle.std.specs.Prelude.{◌≡◌, ℕ, ◌*◌, ◌/◌, ◌+◌, ◌%◌, ◌^◌, ◌<◌, ◌≤◌, ◌==◌, ◌-◌, min, max, if◌then◌else◌}
 use Rattle.std.specs.Int.{IsNextPowerOfTwo, div_ceil}
 use Rattle.foyer_format_layout.specs.Position.{Sizes}
-use Rattle.foyer_core_laws.specs.declared.settings.Settings.{Settings}
+use Rattle.foyer_core_settings.specs.declared.settings.Settings.{Settings}
 
 -- of a block and of a blob's index
 abbrev pub sizes_in : Settings → Sizes

@@ -1,6 +1,6 @@
 use Rattle.std.proofs.Common.{refl}
 use Rattle.foyer_format_buffer.proofs.SplitLemmas.{begins_block}
-use Rattle.foyer_format_buffer.proofs.splitting.Splitting.next_block.Goals as goal
+use Rattle.foyer_format_buffer.proofs.split_progress.SplitProgress.next_block.Goals as goal
 
 pub returns-clause-going : goal.returns-clause-going
 returns-clause-going g c = λ s f all rest o.
