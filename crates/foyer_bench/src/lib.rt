@@ -4,5 +4,7 @@
 pub mod asked;
 pub mod bench;
 pub mod caller;
+pub mod calls;
 pub mod report;
+pub mod stores;
 pub mod words;

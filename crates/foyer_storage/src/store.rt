@@ -1,6 +1,10 @@
 //! The store: a keeper of the pieces that aren't written yet, before an engine.
 pub use foyer_storage_build::builder::StoreBuilder;
+pub use foyer_storage_build::cores::engines::{TwoEngines, is_high};
+pub use foyer_storage_build::cores::kinds::{CoreBlanks, CoreKinds};
+pub use foyer_storage_build::cores::sessions::{CallerSession, TwoSessions};
 pub use foyer_storage_build::counters::StoreCounters;
+pub use foyer_storage_build::running::{JoinWorkers, RunningEngine, TwoWorkers, beside};
 pub use foyer_storage_build::session::StoreSession;
 pub use foyer_storage_build::store::Store;
 pub use foyer_storage_build::threads::workers::Workers;

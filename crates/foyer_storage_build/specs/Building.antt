@@ -1,5 +1,5 @@
 -- What an engine is built of, and why it isn't.
-use Rattle.std.specs.Prelude.{◌≡◌, ◌⊎◌, ◌^◌, Bool, true, false, None}
+use Rattle.std.specs.Prelude.{◌≡◌, ◌⊎◌, ℕ, ◌/◌, ◌^◌, max, Bool, true, false, None}
 use Rattle.foyer_storage_plan.specs.declared.sizes.EngineSizes.{EngineSizes}
 use Rattle.foyer_block_recover.specs.declared.block.recover.RecoverMode.{RecoverMode}
 use Rattle.foyer_block_recover.specs.declared.block.recover.RecoverMode.TheVariants as recover_mode
@@ -26,6 +26,10 @@ is_begin_error other = false
 -- or, if its mode is strict alone, a block that can't be read.
 abbrev pub IsOpenError : RecoverMode → Error → Type 0
 IsOpenError mode e = (is_begin_error e ≡ true) ⊎ ((e ≡ error.SequenceEnd) ⊎ ((e ≡ error.Recover) × (mode ≡ recover_mode.Strict)))
+
+-- the value of the bit below one of this value
+abbrev pub next_bit : ℕ → ℕ
+next_bit bit = max (bit / 2) 1
 
 -- every size at its default
 abbrev pub default_sizes : EngineSizes

@@ -1,11 +1,12 @@
 //! What a store is built of.
 ghost use Rattle.std.specs.Arc.{arc_value};
-ghost use Rattle.std.specs.Prelude.{◌≡◌, ◌≢◌, ◌⊎◌, ◌+◌, ◌<◌, ◌^◌, IfErr, IfOk, Err, not, vec_len};
+ghost use Rattle.std.specs.Prelude.{◌≡◌, ◌≢◌, ◌⊎◌, ◌+◌, ◌<◌, ◌^◌, IfErr, IfOk, IsOk, Err, not, vec_len};
 ghost use Rattle.foyer_block_recover.specs.declared.block.recover.RecoverMode.TheVariants as recover_mode;
 ghost use Rattle.foyer_device_page.specs.declared.error.Error.TheVariants.{Config, Memory, Unsupported};
 ghost use Rattle.foyer_format_record.specs.declared.compress.Compression.TheVariants as compression;
 
 use crate::config::{Built, EngineBuildContext, EngineConfig, NoopEngineConfig, Recovering};
+use crate::running::RunningEngine;
 use crate::whole::WholeSession;
 use foyer_core_tally::book::{Blanks, Kinds};
 use foyer_device_page::error::{Error, Result};
@@ -66,6 +67,29 @@ impl<H: Drop> StoreBuilder<H, NoopEngineConfig, PsyncIoEngineConfig> {
     }
 }
 
+// What an engine is built with. `Unsupported` with a compression.
+fn context_of<I: Drop, T: Clock>(
+    io_engine: I,
+    codec: Compression,
+    mode: RecoverMode,
+    clock: T,
+    generator: u64,
+) -> Result<EngineBuildContext<I, T>>
+    ensures given { IfOk result (λ c. (c.io_engine_config ≡ io_engine) × (c.recover_mode ≡ mode) × (c.clock ≡ clock) × (c.generator ≡ generator)) }
+    ensures compressed { codec ≢ compression.None → result ≡ Err Unsupported }
+    ensures plain { codec ≡ compression.None → IsOk result }
+{
+    if codec != Compression::None {
+        return Err(Error::Unsupported);
+    }
+    Ok(EngineBuildContext {
+        io_engine_config: io_engine,
+        recover_mode: mode,
+        clock,
+        generator,
+    })
+}
+
 // Begins an opening, and gives it what the workers of its recovery listed, whose threads have ended.
 fn open<R, X, S, K, V, P, N>(rt: R, alloc: Global, engine: N, context: X) -> Result<N::Opening>
 where
@@ -120,6 +144,50 @@ where
         return Err(Error::Memory);
     }
     Ok((StoreSession::new(session), workers))
+}
+
+// Opens an engine, and starts its workers.
+fn run<R, I, T, L, K, V, P, N>(
+    rt: R,
+    alloc: Global,
+    engine: N,
+    context: EngineBuildContext<I, T>,
+    blanks: Blanks,
+    keeper: &Arc<Keeper<K, V, P, Global>, Global>,
+) -> Result<RunningEngine<N::Engine, StoreSession<L>, Workers<L>>>
+where
+    R: Threads + Wait + Copy + Send + 'static,
+    I: Drop,
+    T: Clock,
+    L: Kinds + Send + Sync + 'static,
+    K: Eq + Drop,
+    V: Drop,
+    P: Drop,
+    N: EngineConfig<R, EngineBuildContext<I, T>, WholeSession<L>, K, V, P>,
+    N::Flusher: Worker<Hand<L>> + Send + 'static,
+    N::Reclaimer: Worker<Hand<L>> + Send + 'static,
+    N::Recoverer: Recoverer<N::Listed> + Send + 'static,
+    N::Listed: Send + 'static,
+    requires { N.fits blanks }
+    ensures parts { IfOk result (λ r. r.session.steps.shares.parts + vec_len r.workers.flushers + vec_len r.workers.reclaimers ≡ 2 ^ 32) }
+    ensures more { IfOk result (λ r. 1 < r.session.steps.shares.parts) }
+    ensures enabled { IfOk result (λ r. r.is_enabled ≡ not (N.keeps_nothing engine)) }
+    ensures built { IfOk result (λ r. N.may_build engine context r.engine r.throttle (vec_len r.workers.flushers) (vec_len r.workers.reclaimers)) }
+    ensures refused { IfErr result (λ e. (e ≡ Memory) ⊎ N.may_refuse engine context e) }
+{
+    let is_enabled = !engine.is_noop();
+    let opening = open::<R, _, WholeSession<L>, K, V, P, N>(rt, alloc, engine, context)?;
+    let Built {
+        engine,
+        session,
+        signals,
+        flushers,
+        reclaimers,
+        statistics,
+        throttle,
+    } = N::build(opening, rt, alloc, blanks, keeper)?;
+    let (session, workers) = start(rt, alloc, signals, flushers, reclaimers, session)?;
+    Ok(RunningEngine::of_one(engine, session, workers, is_enabled, statistics, throttle))
 }
 
 impl<H: Drop, N: Drop, I: Drop> StoreBuilder<H, N, I> {
@@ -261,31 +329,66 @@ impl<H: Drop, N: Drop, I: Drop> StoreBuilder<H, N, I> {
         if shards == 0 {
             return Err(Error::Config);
         }
-        if compression != Compression::None {
-            return Err(Error::Unsupported);
-        }
-        let is_enabled = !engine.is_noop();
+        let context = context_of(io_engine, compression, recover_mode, clock, generator)?;
         let keeper = Arc::new(alloc, Keeper::new(alloc, shards)?)?;
-        let context = EngineBuildContext {
-            io_engine_config: io_engine,
-            recover_mode,
-            clock,
-            generator,
-        };
-        let opening = open::<R, _, WholeSession<L>, K, V, P, N>(rt, alloc, engine, context)?;
-        let Built {
+        let running = run::<R, I, T, L, K, V, P, N>(rt, alloc, engine, context, blanks, &keeper)?;
+        running.into_store(&rt, alloc, name, hasher, keeper)
+    }
+
+    /// The engine of a store of several cores, one for each: `beside` puts another one beside it, and
+    /// `RunningEngine::into_store` makes the store, of a name, a hasher and the keeper that all of them were opened with. So of this
+    /// builder's own settings the engine's and the I/O engines' config, the compression and the recovery's mode are taken. Each core has a
+    /// device and ledgers of its own. Refused as `build` is.
+    pub fn open_engine<
+        R: Threads + Wait + Copy + Send + 'static,
+        T: Clock,
+        L: Kinds + Send + Sync + 'static,
+        K: Eq + Drop,
+        V: Drop,
+        P: Drop,
+    >(
+        self,
+        rt: R,
+        alloc: Global,
+        blanks: Blanks,
+        clock: T,
+        generator: u64,
+        keeper: &Arc<Keeper<K, V, P, Global>, Global>,
+    ) -> Result<RunningEngine<N::Engine, StoreSession<L>, Workers<L>>>
+    where
+        N: EngineConfig<R, EngineBuildContext<I, T>, WholeSession<L>, K, V, P>,
+        N::Flusher: Worker<Hand<L>> + Send + 'static,
+        N::Reclaimer: Worker<Hand<L>> + Send + 'static,
+        N::Recoverer: Recoverer<N::Listed> + Send + 'static,
+        N::Listed: Send + 'static,
+        requires { N.fits blanks }
+        ensures parts { IfOk result (λ r. r.session.steps.shares.parts + vec_len r.workers.flushers + vec_len r.workers.reclaimers ≡ 2 ^ 32) }
+        ensures more { IfOk result (λ r. 1 < r.session.steps.shares.parts) }
+        ensures enabled { IfOk result (λ r. r.is_enabled ≡ not (N.keeps_nothing self.engine)) }
+        ensures built { IfOk result (λ r. N.may_build self.engine (record {
+          io_engine_config = self.io_engine;
+          recover_mode = self.recover_mode;
+          clock = clock;
+          generator = generator;
+        }) r.engine r.throttle (vec_len r.workers.flushers) (vec_len r.workers.reclaimers)) }
+        ensures compressed { self.compression ≢ compression.None → result ≡ Err Unsupported }
+        ensures refused { self.compression ≡ compression.None → IfErr result (λ e. (e ≡ Memory) ⊎ N.may_refuse self.engine (record {
+          io_engine_config = self.io_engine;
+          recover_mode = self.recover_mode;
+          clock = clock;
+          generator = generator;
+        }) e) }
+    {
+        let StoreBuilder {
+            name: _,
+            hasher: _,
+            shards: _,
             engine,
-            session,
-            signals,
-            flushers,
-            reclaimers,
-            statistics,
-            throttle,
-        } = N::build(opening, rt, alloc, blanks, &keeper)?;
-        let store = Store::new(
-            alloc, name, hasher, is_enabled, keeper, engine, statistics, throttle,
-        )?;
-        let (session, workers) = start(rt, alloc, signals, flushers, reclaimers, session)?;
-        Ok((store, session, workers))
+            io_engine,
+            compression,
+            recover_mode,
+        } = self;
+        let context = context_of(io_engine, compression, recover_mode, clock, generator)?;
+        run::<R, I, T, L, K, V, P, N>(rt, alloc, engine, context, blanks, keeper)
     }
 }

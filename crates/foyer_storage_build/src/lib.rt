@@ -5,7 +5,10 @@
 
 pub mod builder;
 pub mod config;
+pub mod cores_run;
+pub mod running;
 pub mod whole;
 
+pub use foyer_storage_cores as cores;
 pub use foyer_storage_store::{counters, engine, session, store};
 pub use foyer_storage_workers as threads;

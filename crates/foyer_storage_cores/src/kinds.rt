@@ -1,0 +1,40 @@
+//! The names of the ledgers of several cores.
+ghost use Rattle.std.specs.Prelude.{◌≡◌, ◌+◌, ◌*◌};
+ghost use Rattle.foyer_storage_cores.specs.CoreLedgers.{HaveParts};
+
+use foyer_core_tally::book::{Blanks, Kinds};
+use std::marker::PhantomData;
+
+/// The ledgers of the core of a number: of the names of `L` eight for each core, in the order of the cores.
+pub struct CoreKinds<L, const I: u8> {
+    of: PhantomData<L>,
+}
+
+impl<L: Kinds, const I: u8> Kinds for CoreKinds<L, I> {
+    ghost name_of = { λ kind. L.name_of (8 * I + kind) };
+
+    ghost all = { L.all };
+}
+
+/// New ledgers for four cores.
+#[derive(Drop)]
+pub struct CoreBlanks {
+    pub first: Blanks,
+    pub second: Blanks,
+    pub third: Blanks,
+    pub fourth: Blanks,
+}
+
+impl CoreBlanks {
+    /// Of so many parts each.
+    pub fn new(parts: u64) -> CoreBlanks
+        ensures { HaveParts parts result.first × HaveParts parts result.second × HaveParts parts result.third × HaveParts parts result.fourth }
+    {
+        CoreBlanks {
+            first: Blanks::new(parts),
+            second: Blanks::new(parts),
+            third: Blanks::new(parts),
+            fourth: Blanks::new(parts),
+        }
+    }
+}
