@@ -4,7 +4,5 @@
 pub mod asked;
 pub mod bench;
 pub mod caller;
-pub mod calls;
 pub mod report;
-pub mod stores;
 pub mod words;

@@ -23,7 +23,6 @@ name_of setting.Fill = codes "fill"
 name_of setting.Engines = codes "engines"
 name_of setting.Flushers = codes "flushers"
 name_of setting.Recoverers = codes "recoverers"
-name_of setting.Cores = codes "cores"
 name_of setting.Patience = codes "patience"
 name_of setting.Through = codes "through"
 name_of setting.Reinsert = codes "reinsert"
@@ -33,7 +32,6 @@ least_of setting.Keys = 1
 least_of setting.Engines = 1
 least_of setting.Flushers = 1
 least_of setting.Recoverers = 1
-least_of setting.Cores = 1
 least_of _ = 0
 
 abbrev pub greatest_of : Setting → ℕ
@@ -43,7 +41,6 @@ greatest_of setting.Gets = 100
 greatest_of setting.Engines = 1024
 greatest_of setting.Flushers = 1024
 greatest_of setting.Recoverers = 1024
-greatest_of setting.Cores = 4
 greatest_of setting.Patience = 2 ^ 32 - 1
 greatest_of setting.Through = 1
 greatest_of setting.Reinsert = 1

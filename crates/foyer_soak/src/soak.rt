@@ -1,13 +1,13 @@
 //! Threads that ask a store at once, each of keys of its own, and judge each answer by what they put last.
 ghost use Rattle.std.specs.Prelude.{◌≡◌, ◌≢◌, ◌^◌, length};
-ghost use Rattle.foyer_storage_build.specs.CoreLedgers.{AreOfCores};
+ghost use Rattle.foyer_core_tally.specs.Ledgers.{AreOf};
 
 mod asker;
 
 use asker::{Asker, Plan, Values};
 use foyer_cli::command::number;
 use foyer_cli::options::Options;
-use foyer_core_tally::book::Kinds;
+use foyer_core_tally::book::{Blanks, Kinds};
 use foyer_device_page::error::Result;
 use foyer_device_partition::io::device::{
     Device, DeviceBuilder, FsDeviceBuilder, MemoryDeviceBuilder,
@@ -18,12 +18,8 @@ use foyer_io_engine::io::engine::{
 };
 use foyer_storage_build::builder::StoreBuilder;
 use foyer_storage_build::config::{BlockEngineConfig, Engine};
-use foyer_storage_build::cores::kinds::CoreBlanks;
-use foyer_storage_build::cores::paths::core_path;
-use foyer_storage_build::cores::sessions::CallerSession;
-use foyer_storage_build::cores_run::{StoreTask, run_over_cores};
-use foyer_storage_build::running::JoinWorkers;
-use foyer_storage_build::threads::workers::Moment;
+use foyer_storage_build::session::StoreSession;
+use foyer_storage_build::threads::workers::{Moment, Workers};
 use std::alloc::{Allocator, Global};
 use std::fs::File;
 use std::io::Write;
@@ -32,14 +28,8 @@ use std::sync::Wait;
 use std::thread::Threads;
 use std::{io, thread};
 
-// Into how many shards the keeper is divided.
-const KEEPER_SHARDS: usize = 64;
-
-// One more than a store can have, so that a number beyond is refused.
-const MOST_CORES: u64 = 5;
-
 /// Printed where the arguments are bad.
-pub const USAGE: &str = "usage: foyersoak DIR CAPACITY BLOCK THREADS CALLS SEED CORES\n";
+pub const USAGE: &str = "usage: foyersoak DIR CAPACITY BLOCK THREADS CALLS SEED\n";
 
 /// What threads asked and found: how many calls they made, loads that were answered by a value, answers that can't be right, and
 /// calls that were refused.
@@ -71,24 +61,24 @@ impl Found {
 
 // What a thread is given, and what it gives back.
 #[derive(Drop)]
-struct Job<S: Drop> {
-    session: S,
+struct Job<L: Kinds> {
+    session: StoreSession<L>,
     plan: Plan,
 }
 
 #[derive(Drop)]
-struct Report<S: Drop> {
-    session: S,
+struct Report<L: Kinds> {
+    session: StoreSession<L>,
     found: Found,
 }
 
 // One thread's calls.
-fn ask_one<S: Drop, N: Engine<S, u64, Vec<u8>, NoProperties>>(
+fn ask_one<L: Kinds, N: Engine<StoreSession<L>, u64, Vec<u8>, NoProperties>>(
     rt: &impl Wait,
     alloc: Global,
     store: &Values<N>,
-    job: Job<S>,
-) -> Report<S> {
+    job: Job<L>,
+) -> Report<L> {
     let Job { mut session, plan } = job;
     let mut asker = Asker::new(plan.seed);
     asker.ask(rt, alloc, store, &mut session, plan);
@@ -99,7 +89,7 @@ fn ask_one<S: Drop, N: Engine<S, u64, Vec<u8>, NoProperties>>(
 }
 
 // The half of a session's parts; None where it has one alone.
-fn split<S: CallerSession>(session: &mut S) -> Option<S> {
+fn split<L: Kinds>(session: &mut StoreSession<L>) -> Option<StoreSession<L>> {
     let half = session.parts() / 2;
     if half == 0 {
         return None;
@@ -108,12 +98,12 @@ fn split<S: CallerSession>(session: &mut S) -> Option<S> {
 }
 
 // A job for each thread, each with parts of the session. Memory.
-fn jobs_of<S: CallerSession>(
+fn jobs_of<L: Kinds>(
     alloc: Global,
-    session: &mut S,
+    session: &mut StoreSession<L>,
     threads: u64,
     plan: Plan,
-) -> Result<Vec<Job<S>>> {
+) -> Result<Vec<Job<L>>> {
     let mut jobs = Vec::new(alloc);
     for number in 0..threads {
         let Some(part) = split(session) else {
@@ -132,21 +122,21 @@ fn jobs_of<S: CallerSession>(
 }
 
 // Asks a store by so many threads, closes it, and joins its workers.
-fn ask_all<S, N, R>(
+fn ask_all<L, N, R>(
     rt: &R,
     alloc: Global,
     store: &Values<N>,
-    session: &mut S,
+    session: &mut StoreSession<L>,
     threads: u64,
     plan: Plan,
 ) -> Result<Found>
 where
-    S: CallerSession + Send,
-    N: Engine<S, u64, Vec<u8>, NoProperties> + Send + Sync,
+    L: Kinds + Send + Sync + 'static,
+    N: Engine<StoreSession<L>, u64, Vec<u8>, NoProperties> + Send + Sync,
     R: Threads + Wait + Sync,
 {
     let jobs = jobs_of(alloc, session, threads, plan)?;
-    let ask = |job: Job<S>| -> Report<S> { ask_one(rt, alloc, store, job) };
+    let ask = |job: Job<L>| -> Report<L> { ask_one(rt, alloc, store, job) };
     let reports = thread::map_vec(rt, jobs, &ask)?;
     let mut found = NOTHING;
     for report in reports {
@@ -160,51 +150,16 @@ where
     Ok(found)
 }
 
-// What a store is asked, once it is built.
-#[derive(Drop)]
-struct Soak {
-    alloc: Global,
-    threads: u64,
-    plan: Plan,
-}
-
-impl<R> StoreTask<R, u64, Vec<u8>, NoProperties, IdentityHashBuilder> for Soak
-where
-    R: Threads + Wait + Sync,
-{
-    type Output = Result<Found>;
-
-    // Asks it, closes it and joins its workers.
-    fn run<S, W, N>(self, rt: &R, store: Values<N>, session: S, workers: W) -> Result<Found>
-    where
-        S: CallerSession + Send,
-        W: JoinWorkers<S>,
-        N: Engine<S, u64, Vec<u8>, NoProperties> + Send + Sync,
-    {
-        let mut session = session;
-        let found = ask_all(
-            rt,
-            self.alloc,
-            &store,
-            &mut session,
-            self.threads,
-            self.plan,
-        );
-        let closed = store.close(rt, &mut session);
-        let _ = workers.join(rt, session);
-        closed?;
-        found
-    }
-}
-
-// Builds a store over these devices, one for each core, and asks it.
+// Builds a store over a device, asks it, closes it and joins its workers.
 fn soak_over<L, T, I, D>(
     rt: T,
     alloc: Global,
-    blanks: CoreBlanks,
-    places: Vec<(D, I)>,
+    blanks: Blanks,
+    device: D,
+    io_engine: I,
     block_size: usize,
-    soak: Soak,
+    threads: u64,
+    plan: Plan,
 ) -> Result<Found>
 where
     L: Kinds + Send + Sync + 'static,
@@ -213,41 +168,25 @@ where
     I::Engine: Send + 'static,
     D: Device,
     D::Partition: Drop + Send + Sync + 'static,
-    requires { AreOfCores L.name_of L.all blanks × (L.all ≡ 2 ^ 32) }
+    requires { AreOf L.name_of L.all blanks × (L.all ≡ 2 ^ 32) }
 {
-    let mut builders = Vec::new(alloc);
-    for (device, io_engine) in places {
-        let config = BlockEngineConfig::new(device).with_block_size(block_size);
-        let builder = StoreBuilder::new("foyersoak", IdentityHashBuilder, KEEPER_SHARDS)
-            .with_engine_config(config)
-            .with_io_engine_config(io_engine);
-        builders.push(builder)?;
-    }
-    run_over_cores::<T, Moment, L, u64, Vec<u8>, NoProperties, _, _, D, _, _, _, I, _>(
+    let config = BlockEngineConfig::new(device).with_block_size(block_size);
+    let builder = StoreBuilder::new("foyersoak", IdentityHashBuilder, 64)
+        .with_engine_config(config)
+        .with_io_engine_config(io_engine);
+    let (store, session, workers) = builder.build::<T, Moment, L, u64, Vec<u8>, NoProperties>(
         rt,
         alloc,
         blanks,
-        "foyersoak",
-        IdentityHashBuilder,
-        KEEPER_SHARDS,
-        builders,
         Moment(0),
         0,
-        soak,
-    )?
+    )?;
+    ask_and_close(&rt, alloc, store, session, workers, threads, plan)
 }
 
-// How a store is asked, and over how many cores.
-#[derive(Clone, Copy)]
-struct Asked {
-    threads: u64,
-    plan: Plan,
-    cores: u64,
-}
-
-// The last four words.
-fn numbers<B: Allocator>(words: &[String<B>]) -> Option<Asked> {
-    if words.len() != 4 {
+// The last three words.
+fn numbers<B: Allocator>(words: &[String<B>]) -> Option<(u64, Plan)> {
+    if words.len() != 3 {
         return None;
     }
     let threads = number(words[0].as_bytes())?;
@@ -256,11 +195,7 @@ fn numbers<B: Allocator>(words: &[String<B>]) -> Option<Asked> {
         seed: number(words[2].as_bytes())?,
         first: 0,
     };
-    Some(Asked {
-        threads,
-        plan,
-        cores: number(words[3].as_bytes())?,
-    })
+    Some((threads, plan))
 }
 
 // What was found: whether all went well on the output, and the numbers, which depend on the schedule, among the errors.
@@ -283,13 +218,13 @@ fn print_found<W: Write, E: Write>(output: &mut W, errors: &mut E, found: Found)
     Ok(1)
 }
 
-/// Runs the words `DIR CAPACITY BLOCK THREADS CALLS SEED CORES`: so many threads ask one store of so many cores, each as many calls, of keys of its own,
+/// Runs the words `DIR CAPACITY BLOCK THREADS CALLS SEED`: so many threads ask one store, each as many calls, of keys of its own,
 /// and judge each answer by what they put last. Gives the exit status: 0, or 1 where an answer was wrong, a call was refused or the
 /// store couldn't be built, or 2 for bad words. A value that an earlier run left in the directory may be found.
 pub fn soak<L, T, B, W, E>(
     rt: T,
     alloc: Global,
-    blanks: CoreBlanks,
+    blanks: Blanks,
     words: &[String<B>],
     mut output: W,
     mut errors: E,
@@ -300,29 +235,26 @@ where
     B: Allocator,
     W: Write + Drop,
     E: Write + Drop,
-    requires { AreOfCores L.name_of L.all blanks × (L.all ≡ 2 ^ 32) }
-    ensures usage { length words.now ≢ 7 → result ≡ 2 }
+    requires { AreOf L.name_of L.all blanks × (L.all ≡ 2 ^ 32) }
+    ensures usage { length words.now ≢ 6 → result ≡ 2 }
 {
-    if words.len() != 7 {
+    if words.len() != 6 {
         let _ = errors.write_all(USAGE.as_bytes());
         return 2;
     }
-    let (options, asked) = match (Options::parse(&words[..3]), numbers(&words[3..])) {
-        (Some(options), Some(asked)) => (options, asked),
+    let (options, plan) = match (Options::parse(&words[..3]), numbers(&words[3..])) {
+        (Some(options), Some(plan)) => (options, plan),
         _ => {
             let _ = errors.write_all(USAGE.as_bytes());
             return 2;
         }
     };
-    let soak = Soak {
-        alloc,
-        threads: asked.threads,
-        plan: asked.plan,
-    };
+    let (threads, plan) = plan;
+    let (capacity, block_size) = (options.capacity as usize, options.block_size as usize);
     let found = if options.is_memory() {
-        soak_memory::<L, T>(rt, alloc, blanks, &options, asked.cores, soak)
+        soak_memory::<L, T>(rt, alloc, blanks, capacity, block_size, threads, plan)
     } else {
-        soak_directory::<L, T>(rt, alloc, blanks, &options, asked.cores, soak)
+        soak_directory::<L, T>(rt, alloc, blanks, &options, threads, plan)
     };
     match found {
         Ok(found) => print_found(&mut output, &mut errors, found).unwrap_or(1),
@@ -333,55 +265,71 @@ where
     }
 }
 
-// As `soak_over`, over memory, of which each core has an equal part.
+// As `soak_over`, over memory.
 fn soak_memory<L, T>(
     rt: T,
     alloc: Global,
-    blanks: CoreBlanks,
-    options: &Options<'_>,
-    cores: u64,
-    soak: Soak,
+    blanks: Blanks,
+    capacity: usize,
+    block_size: usize,
+    threads: u64,
+    plan: Plan,
 ) -> Result<Found>
 where
     L: Kinds + Send + Sync + 'static,
     T: Threads + Wait + Files + Copy + Send + Sync + 'static,
-    requires { AreOfCores L.name_of L.all blanks × (L.all ≡ 2 ^ 32) }
+    requires { AreOf L.name_of L.all blanks × (L.all ≡ 2 ^ 32) }
 {
-    let capacity = (options.capacity / cores.max(1)) as usize;
-    let mut places = Vec::new(alloc);
-    for _ in 0..cores.min(MOST_CORES) {
-        let mut engine = MemoryIoEngine::new(alloc);
-        engine.add_file(alloc, capacity)?;
-        let io_engine = SharedMemoryIoEngineConfig::new(alloc, engine)?;
-        let device = MemoryDeviceBuilder::new(capacity).build(&rt, alloc, 0)?;
-        places.push((device, io_engine))?;
-    }
-    let block_size = options.block_size as usize;
-    soak_over::<L, T, _, _>(rt, alloc, blanks, places, block_size, soak)
+    let mut engine = MemoryIoEngine::new(alloc);
+    engine.add_file(alloc, capacity)?;
+    let io_engine = SharedMemoryIoEngineConfig::new(alloc, engine)?;
+    let device = MemoryDeviceBuilder::new(capacity).build(&rt, alloc, 0)?;
+    soak_over::<L, T, _, _>(
+        rt, alloc, blanks, device, io_engine, block_size, threads, plan,
+    )
 }
 
-// As `soak_over`, over the files of a directory for each core.
+// Asks a store, closes it and joins its workers.
+fn ask_and_close<L, N, T>(
+    rt: &T,
+    alloc: Global,
+    store: Values<N>,
+    mut session: StoreSession<L>,
+    workers: Workers<L>,
+    threads: u64,
+    plan: Plan,
+) -> Result<Found>
+where
+    L: Kinds + Send + Sync + 'static,
+    N: Engine<StoreSession<L>, u64, Vec<u8>, NoProperties> + Send + Sync,
+    T: Threads + Wait + Sync,
+{
+    let found = ask_all(rt, alloc, &store, &mut session, threads, plan);
+    let closed = store.close(rt, &mut session);
+    let _ = workers.join(rt, session.into_steps());
+    closed?;
+    found
+}
+
+// As `soak_over`, over the files of a directory.
 fn soak_directory<L, T>(
     rt: T,
     alloc: Global,
-    blanks: CoreBlanks,
+    blanks: Blanks,
     options: &Options<'_>,
-    cores: u64,
-    soak: Soak,
+    threads: u64,
+    plan: Plan,
 ) -> Result<Found>
 where
     L: Kinds + Send + Sync + 'static,
     T: Threads + Wait + Files<File = File> + AllocGlobal + Copy + Send + Sync + 'static,
-    requires { AreOfCores L.name_of L.all blanks × (L.all ≡ 2 ^ 32) }
+    requires { AreOf L.name_of L.all blanks × (L.all ≡ 2 ^ 32) }
 {
-    let capacity = (options.capacity / cores.max(1)) as usize;
-    let mut places = Vec::new(alloc);
-    for core in 0..cores.min(MOST_CORES) {
-        let path = core_path(alloc, options.directory, core, cores)?;
-        let builder = FsDeviceBuilder::new(path.as_str()).with_capacity(capacity);
-        let device = builder.build(&rt, alloc, 0)?;
-        places.push((device, PsyncIoEngineConfig::new()))?;
-    }
+    let builder = FsDeviceBuilder::new(options.directory).with_capacity(options.capacity as usize);
+    let device = builder.build(&rt, alloc, 0)?;
+    let io_engine = PsyncIoEngineConfig::new();
     let block_size = options.block_size as usize;
-    soak_over::<L, T, _, _>(rt, alloc, blanks, places, block_size, soak)
+    soak_over::<L, T, _, _>(
+        rt, alloc, blanks, device, io_engine, block_size, threads, plan,
+    )
 }

@@ -75,7 +75,7 @@ fn context_of<I: Drop, T: Clock>(
     clock: T,
     generator: u64,
 ) -> Result<EngineBuildContext<I, T>>
-    ensures given { IfOk result (λ c. (c.io_engine_config ≡ io_engine) × (c.recover_mode ≡ mode) × (c.clock ≡ clock) × (c.generator ≡ generator)) }
+    ensures given { IfOk result (λ c. c ≡ record { io_engine_config = io_engine; recover_mode = mode; clock = clock; generator = generator }) }
     ensures compressed { codec ≢ compression.None → result ≡ Err Unsupported }
     ensures plain { codec ≡ compression.None → IsOk result }
 {

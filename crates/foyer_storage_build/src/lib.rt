@@ -5,7 +5,6 @@
 
 pub mod builder;
 pub mod config;
-pub mod cores_run;
 pub mod running;
 pub mod whole;
 

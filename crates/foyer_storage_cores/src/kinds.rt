@@ -17,12 +17,23 @@ impl<L: Kinds, const I: u8> Kinds for CoreKinds<L, I> {
 }
 
 /// New ledgers for four cores.
-#[derive(Drop)]
 pub struct CoreBlanks {
     pub first: Blanks,
     pub second: Blanks,
     pub third: Blanks,
     pub fourth: Blanks,
+}
+
+// Written out, so that it is proved once.
+impl Drop for CoreBlanks {
+    fn drop(self) {
+        let CoreBlanks {
+            first: _,
+            second: _,
+            third: _,
+            fourth: _,
+        } = self;
+    }
 }
 
 impl CoreBlanks {
@@ -36,5 +47,18 @@ impl CoreBlanks {
             third: Blanks::new(parts),
             fourth: Blanks::new(parts),
         }
+    }
+
+    /// Those of each core.
+    pub fn into_parts(self) -> (Blanks, Blanks, Blanks, Blanks)
+        ensures { (result.0 ≡ self.first) × (result.1 ≡ self.second) × (result.2 ≡ self.third) × (result.3 ≡ self.fourth) }
+    {
+        let CoreBlanks {
+            first,
+            second,
+            third,
+            fourth,
+        } = self;
+        (first, second, third, fourth)
     }
 }

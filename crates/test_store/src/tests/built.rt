@@ -1,7 +1,6 @@
 //! Stores that are built, asked, closed and joined.
 ghost use Rattle.std.specs.Prelude.{◌≡◌, ◌^◌};
 ghost use Rattle.foyer_core_tally.specs.Ledgers.{AreOf};
-ghost use Rattle.foyer_storage_cores.specs.CoreLedgers.{AreOfCores};
 
 use crate::tests::asked::{Beside, LowBits, Texts, answers_to};
 use crate::tests::dials::Dial;
@@ -18,10 +17,6 @@ use foyer_program::store::builder::StoreBuilder;
 use foyer_program::store::config::{
     BlockEngineConfig, Engine, EngineBuildContext, EngineConfig, PickerSource,
 };
-use foyer_program::store::cores::kinds::CoreBlanks;
-use foyer_program::store::cores::sessions::CallerSession;
-use foyer_program::store::cores_run::{StoreTask, run_over_cores};
-use foyer_program::store::running::JoinWorkers;
 use foyer_program::store::session::StoreSession;
 use foyer_program::store::threads::hand::Hand;
 use foyer_program::store::threads::recover::Recoverer;
@@ -74,17 +69,17 @@ fn take(said: &mut Said, other: Said) {
 }
 
 // The answers to a script; behind an ampersand comes one that another thread asks meanwhile, and its answers.
-fn answers_of_both<S, N, R>(
+fn answers_of_both<L, N, R>(
     rt: &R,
     alloc: Global,
     store: &Texts<N>,
     beside: Beside<'_>,
-    session: &mut S,
+    session: &mut StoreSession<L>,
     script: &str,
 ) -> Said
 where
-    S: CallerSession + Send,
-    N: Engine<S, u128, String, NoProperties> + Send + Sync,
+    L: Kinds + Send + Sync + 'static,
+    N: Engine<StoreSession<L>, u128, String, NoProperties> + Send + Sync,
     R: Threads + Wait + Sync,
 {
     let (own, others) = script.split_once(" & ").unwrap_or((script, ""));
@@ -102,25 +97,24 @@ where
 }
 
 // Asks a store, closes it, and joins its workers.
-fn answers_of_store<S, W, N, R>(
+fn answers_of_store<L, N, R>(
     rt: &R,
     alloc: Global,
     store: &Texts<N>,
-    mut session: S,
-    workers: W,
+    mut session: StoreSession<L>,
+    workers: Workers<L>,
     asked: &Asked,
 ) -> Said
 where
-    S: CallerSession + Send,
-    W: JoinWorkers<S>,
-    N: Engine<S, u128, String, NoProperties> + Send + Sync,
+    L: Kinds + Send + Sync + 'static,
+    N: Engine<StoreSession<L>, u128, String, NoProperties> + Send + Sync,
     R: Threads + Wait + Sync,
 {
     let script = asked.script.as_str();
     let said = answers_of_both(rt, alloc, store, asked.beside(), &mut session, script);
     asked.gate.open();
     let _ = store.close(rt, &mut session);
-    let _ = workers.join(rt, session);
+    let _ = workers.join(rt, session.into_steps());
     said
 }
 
@@ -210,67 +204,4 @@ where
     requires { AreOf L.name_of L.all blanks × (L.all ≡ 2 ^ 32) }
 {
     answers_of_built::<L, R, _, _>(rt, alloc, blanks, builder, asked)
-}
-
-// What a store of several cores is asked.
-#[derive(Drop)]
-struct AskedTask<'a> {
-    alloc: Global,
-    asked: &'a Asked,
-}
-
-impl<'a, R> StoreTask<R, u128, String, NoProperties, LowBits> for AskedTask<'a>
-where
-    R: Threads + Wait + Sync,
-{
-    type Output = Said;
-
-    fn run<S, W, N>(self, rt: &R, store: Texts<N>, session: S, workers: W) -> Said
-    where
-        S: CallerSession + Send,
-        W: JoinWorkers<S>,
-        N: Engine<S, u128, String, NoProperties> + Send + Sync,
-    {
-        answers_of_store(rt, self.alloc, &store, session, workers, self.asked)
-    }
-}
-
-/// Builds a store of as many cores as there are builders, and asks it, or notes why it isn't built.
-pub(crate) fn answers_of_cores<L, R, I, D, S, C, G>(
-    rt: R,
-    alloc: Global,
-    blanks: CoreBlanks,
-    builders: Vec<StoreBuilder<LowBits, BlockEngineConfig<D, S, C, G>, I>>,
-    asked: &Asked,
-) -> Said
-where
-    L: Kinds + Send + Sync + 'static,
-    R: Threads + Wait + Files + Copy + Send + Sync + 'static,
-    I: IoEngineConfig<R> + Drop,
-    I::Engine: Send + 'static,
-    D: Device,
-    D::Partition: Drop + Send + Sync + 'static,
-    S: PickerSource,
-    S::Picker: Send + 'static,
-    C: StorageFilterCondition + Send + Sync + 'static,
-    G: Gate + Send + Sync + 'static,
-    requires { AreOfCores L.name_of L.all blanks × (L.all ≡ 2 ^ 32) }
-{
-    let task = AskedTask { alloc, asked };
-    let answered = run_over_cores::<R, Dial, L, u128, String, NoProperties, _, _, D, S, C, G, I, _>(
-        rt,
-        alloc,
-        blanks,
-        "cores",
-        LowBits,
-        asked.over.shards,
-        builders,
-        asked.dial,
-        asked.over.seed,
-        task,
-    );
-    match answered {
-        Ok(said) => said,
-        Err(error) => refusal(alloc, error),
-    }
 }

@@ -89,29 +89,6 @@ device combined, log, clean 0 < device, put 1 a, wait, del 1, wait, counts writt
 device combined, write-bytes 4096 < put 1 a, wait, judge 2 | queued, ok, throttled 3000
 ";
 
-// The cores of a key are told apart by bits of its hash: of two cores the second has 1 and 3, of four the second 1, the fourth 3.
-const CORES: &str = "a store of two cores, or of four, answers as one, and its counts are sums
-cores 2 < put 1 a, put 2 b, put 3 c, put 4 d, wait, get 1, get 2, get 3, get 4, get 5, has 4, has 5, del 1, del 2, get 1, get 2, get 3, tally, counts puts, device | queued, queued, queued, queued, ok, entry a, entry b, entry c, entry d, miss, yes, no, ok, ok, miss, miss, entry c, tally 4 0 2 5 3 5 0, queued 4 ignored 0 dropped 0 rejected 0 returned 0 deletes 2, has 131072 gave 131072 in 8
-cores 4 < put 1 a, put 2 b, put 3 c, put 4 d, wait, get 1, get 2, get 3, get 4, get 5, has 4, has 5, del 1, del 2, get 1, get 2, get 3, tally, counts puts, device | queued, queued, queued, queued, ok, entry a, entry b, entry c, entry d, miss, yes, no, ok, ok, miss, miss, entry c, tally 4 0 2 5 3 5 0, queued 4 ignored 0 dropped 0 rejected 0 returned 0 deletes 2, has 262144 gave 262144 in 16
-a destroy, a close and a wait go to all cores
-cores 2 < put 1 a, put 2 b, wait, destroy, get 1, get 2, put 1 c, put 2 d, wait, get 1, get 2, close, put 3 e, del 1, get 2, wait, destroy | queued, queued, ok, ok, miss, miss, queued, queued, ok, entry c, entry d, ok, fault Closed, fault Closed, entry d, ok, fault Closed
-cores 4 < put 1 a, put 2 b, put 3 c, wait, destroy, get 1, get 2, get 3, close, put 1 e, put 2 f, put 3 g | queued, queued, queued, ok, ok, miss, miss, miss, ok, fault Closed, fault Closed, fault Closed
-threads ask with sessions of their own
-cores 4 < put 1 a, wait, get 1 & put 2 b, wait, get 2 | queued, ok, entry a & queued, ok, entry b
-each core has blocks of its own: a key's are used up by the keys of its core alone
-cores 2, blocks 2 < put 2 x, wait, put 1 a, wait, put 3 b, wait, put 6 c, wait, put 8 d, wait, put 9 e, wait, put 11 f, wait, put 14 g, wait, get 2, get 1, get 14 | queued, ok, queued, ok, queued, ok, queued, ok, queued, ok, queued, ok, queued, ok, queued, ok, entry x, miss, entry g
-built again with as many cores all is found; with another number what lies in cores that aren't there, or in another core than the key's, is not
-cores 4 < put 1 a, put 2 b, put 3 c, put 5 e, wait / get 1, get 2, get 3, get 5 / cores 2 < get 1, get 2, get 3, get 5 / cores 1 < get 1, get 2, get 3, get 5 | queued, queued, queued, queued, ok / entry a, entry b, entry c, entry e / entry a, entry b, miss, entry e / miss, entry b, miss, entry e
-deletes of all cores are kept in their logs
-cores 2, log < put 1 a, put 2 b, wait, del 1, del 2, wait / get 1, get 2 | queued, queued, ok, ok, ok, ok / miss, miss
-there are one, two or four cores
-cores 3 < enabled | refused Config
-cores 0 < enabled | refused Config
-a core that is refused ends the others
-cores 2, flushers 0 < enabled | refused Config
-cores 4, blocks 2, flushers 3 < enabled | refused Config
-";
-
 #[test]
 fn sizes_change_answers_so(rt: HostRuntime) -> std::result::Result<(), Fail> {
     let answers = rows_of(rt, rt.alloc(), SIZES)?;
@@ -130,12 +107,5 @@ fn other_options_change_answers_so(rt: HostRuntime) -> std::result::Result<(), F
 fn devices_keep_blocks_so(rt: HostRuntime) -> std::result::Result<(), Fail> {
     let answers = rows_of(rt, rt.alloc(), DEVICES)?;
     assert!(rt; answers.as_str() == DEVICES, "{answers}");
-    Ok(())
-}
-
-#[test]
-fn cores_answer_as_one(rt: HostRuntime) -> std::result::Result<(), Fail> {
-    let answers = rows_of(rt, rt.alloc(), CORES)?;
-    assert!(rt; answers.as_str() == CORES, "{answers}");
     Ok(())
 }

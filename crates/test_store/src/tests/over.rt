@@ -77,8 +77,6 @@ pub(crate) struct Over {
     pub(crate) sizes: Sizes,
     pub(crate) limits: Limits,
     pub(crate) picks: Picks,
-    /// How many cores it has, each with a device of its own.
-    pub(crate) cores: u64,
     /// The shards of its keeper.
     pub(crate) shards: usize,
     /// Whether it admits what isn't forced.
@@ -131,7 +129,6 @@ pub(crate) const USUAL: Over = Over {
         per: 0,
     },
     picks: Picks::Usual,
-    cores: 1,
     shards: 4,
     admits: true,
     mode: RecoverMode::Quiet,
@@ -319,10 +316,6 @@ fn with_number(over: Over, word: &str, how: &str) -> Over {
     match word {
         "shards" => Over {
             shards: bytes,
-            ..over
-        },
-        "cores" => Over {
-            cores: number,
             ..over
         },
         "fails" => Over {
