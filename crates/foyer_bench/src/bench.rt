@@ -393,10 +393,8 @@ where
     }
 }
 
-/// Runs the words `DIR CAPACITY BLOCK THREADS VALUE_BYTES SECONDS [NAME=VALUE..]`: so many threads call one store for so long, and
-/// what they counted is printed. Gives the exit status: 0, or 1 where a call was refused or answered wrongly, the store couldn't be
-/// built or the output failed, or 2 for bad words. `--version` alone prints the version.
-pub fn bench<L, T, B, W, E>(
+// As `bench`, of words that don't ask for the version.
+fn bench_words<L, T, B, W, E>(
     rt: T,
     alloc: Global,
     blanks: Blanks,
@@ -411,12 +409,8 @@ where
     W: Write + Drop,
     E: Write + Drop,
     requires { AreOf L.name_of L.all blanks × (L.all ≡ 2 ^ 32) }
-    ensures usage { ¬ AskVersion words.now → ((o : Options) (p : Plan) → ¬ AreBenchWords words.now o p) → result ≡ 2 }
-    ensures version { AskVersion words.now → (result ≡ 0) ⊎ (result ≡ 1) }
+    ensures usage { ((o : Options) (p : Plan) → ¬ AreBenchWords words.now o p) → result ≡ 2 }
 {
-    if ask_version(words) {
-        return print_version(output, "foyerbench");
-    }
     match read_words(words) {
         Ok((options, plan)) => {
             run::<L, T, W, E>(rt, alloc, blanks, &options, &plan, output, errors)
@@ -426,4 +420,31 @@ where
             2
         }
     }
+}
+
+/// Runs the words `DIR CAPACITY BLOCK THREADS VALUE_BYTES SECONDS [NAME=VALUE..]`: so many threads call one store for so long, and
+/// what they counted is printed. Gives the exit status: 0, or 1 where a call was refused or answered wrongly, the store couldn't be
+/// built or the output failed, or 2 for bad words. `--version` alone prints the version.
+pub fn bench<L, T, B, W, E>(
+    rt: T,
+    alloc: Global,
+    blanks: Blanks,
+    words: &[String<B>],
+    output: W,
+    errors: E,
+) -> u8
+where
+    L: Kinds + Send + Sync + 'static,
+    T: Threads + Wait + Clock + Files<File = File> + AllocGlobal + Copy + Send + Sync + 'static,
+    B: Allocator,
+    W: Write + Drop,
+    E: Write + Drop,
+    requires { AreOf L.name_of L.all blanks × (L.all ≡ 2 ^ 32) }
+    ensures usage { ¬ AskVersion words.now → ((o : Options) (p : Plan) → ¬ AreBenchWords words.now o p) → result ≡ 2 }
+    ensures version { AskVersion words.now → (result ≡ 0) ⊎ (result ≡ 1) }
+{
+    if ask_version(words) {
+        return print_version(output, "foyerbench");
+    }
+    bench_words::<L, T, B, W, E>(rt, alloc, blanks, words, output, errors)
 }
