@@ -1,5 +1,5 @@
 -- Which of two engines a hash belongs to, and what both say together.
-use Rattle.std.specs.Prelude.{◌≡◌, ℕ, ◌+◌, ◌*◌, ◌-◌, ◌/◌, ◌%◌, ◌^◌, ◌==◌, min, Bool, true, false, Result, Ok, Err}
+use Rattle.std.specs.Prelude.{ℕ, ◌+◌, ◌*◌, ◌-◌, ◌/◌, ◌%◌, ◌^◌, ◌==◌, min, Bool, true, false, Result, Ok, Err}
 use Rattle.foyer_device_page.specs.declared.error.Error.{Error}
 use Rattle.foyer_storage_store.specs.declared.calls.DeviceSummary.{DeviceSummary}
 

@@ -3,5 +3,4 @@
 
 pub mod engines;
 pub mod kinds;
-pub mod paths;
 pub mod sessions;
