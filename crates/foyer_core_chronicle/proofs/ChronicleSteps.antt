@@ -5,9 +5,9 @@ use lib.ListN.{get_elem?}
 use Rattle.atomic_table.specs.Table.{State, Allows, Splits, Joins, keeps}
 use Rattle.atomic_table.proofs.Lists.{at_set, at_snoc, set_else}
 use Rattle.foyer_core_chronicle.specs.declared.View.{View}
-use Rattle.foyer_core_chronicle.specs.Rights.{one, times, first_of, others_of, fresh, AreRights}
-use Rattle.foyer_core_chronicle.specs.SharedHistory.{made, IsUntouched, Continues, Fits, rights_of, held, ChronicleInvariant, viewer, newcomer, joined, without_first, with_first, GoesOnBy, SeesAll, MayCome, HasRights}
-use Rattle.foyer_core_chronicle.proofs.RightLemmas.{times_append, cut, fresh_count, fresh_none}
+use Rattle.foyer_core_chronicle.specs.Rights.{one, times, only, without, first_of, others_of, fresh, AreRights}
+use Rattle.foyer_core_chronicle.specs.SharedHistory.{made, IsUntouched, Continues, Fits, rights_of, held, ChronicleInvariant, viewer, newcomer, joined, having, without_first, with_first, without_rights, with_rights, with_only, with_others, GoesOnBy, GoesOnWith, SeesAll, MayCome, HasRights}
+use Rattle.foyer_core_chronicle.proofs.RightLemmas.{times_append, cut, cut_out, cut_free, cut_whole, fresh_count, fresh_none, fresh_there}
 
 module _ {E : Type 0} where
   held_set : (k : ℕ) (views : List (View E)) (by : ℕ) (v w : View E) → get_elem? views by ≡ some v → held k (set views by w) + times k (rights_of v) ≡ held k views + times k (rights_of w)
@@ -133,26 +133,72 @@ module _ {E : Type 0} where
           (refl, record { log = h.0; legal = h.1; fits = h.4 id v at; is = refl }),
         )
 
-    pub gives : (id : ℕ) (v : View E) → Splits (λ (s : State E (View E)). ChronicleInvariant holds takes makes base s.views) id v (without_first v) (with_first v)
-    gives id v s h at =
+    -- rights that go over from a view to another one
+    parts_given : (id : ℕ) (v : View E) (kept given : List ℕ) → ((k : ℕ) → times k given + times k kept ≡ times k v.has)
+        → Splits (λ (s : State E (View E)). ChronicleInvariant holds takes makes base s.views) id v (having kept v) (viewer v.seen given)
+    parts_given id v kept given parts s h at =
         let views = s.views in
         let fits : Fits takes h.0 v = h.4 id v at in
-        let count : (k : ℕ) → held k (set views id (without_first v) ++ with_first v ∷ []) ≡ held k views = (λ k.
-        let a : held k (set views id (without_first v)) + times k (rights_of v) ≡ held k views + times k (v.joined_has ++ others_of v.has) = held_set k views id v (without_first v) at in
-        let b : held k (set views id (without_first v) ++ with_first v ∷ []) ≡ held k (set views id (without_first v)) + times k (first_of v.has) = held_snoc k (set views id (without_first v)) (with_first v) in
-        let c : times k (v.joined_has ++ others_of v.has) ≡ times k v.joined_has + times k (others_of v.has) = times_append k v.joined_has (others_of v.has) in
+        let count : (k : ℕ) → held k (set views id (having kept v) ++ viewer v.seen given ∷ []) ≡ held k views = (λ k.
+        let a : held k (set views id (having kept v)) + times k (rights_of v) ≡ held k views + times k (v.joined_has ++ kept) = held_set k views id v (having kept v) at in
+        let b : held k (set views id (having kept v) ++ viewer v.seen given ∷ []) ≡ held k (set views id (having kept v)) + times k given = held_snoc k (set views id (having kept v)) (viewer v.seen given) in
+        let c : times k (v.joined_has ++ kept) ≡ times k v.joined_has + times k kept = times_append k v.joined_has kept in
         let d : times k (v.joined_has ++ v.has) ≡ times k v.joined_has + times k v.has = times_append k v.joined_has v.has in
-        let x : times k (first_of v.has) + times k (others_of v.has) ≡ times k v.has = cut k v.has in
+        let x : times k given + times k kept ≡ times k v.has = parts k in
         omega arith) in (
           h.0,
           h.1,
           (λ k. let c = count k in let le = h.2 k in omega arith),
           (λ k far. count k ∙ h.3 k far),
           (λ j u at_j. ⊎_elim
-              (λ was. fits_set takes h.0 views id (without_first v) (λ i x _ at_i. h.4 i x at_i) (keeps_fewer takes h.0 v.seen v.has (others_of v.has) fits.0 (λ k. let x = cut k v.has in omega arith), fits.1) j u was)
-              (λ (same : with_first v ≡ u). subst (λ (y : View E). Fits takes h.0 y) same (keeps_fewer takes h.0 v.seen v.has (first_of v.has) fits.0 (λ k. let x = cut k v.has in omega arith), keeps_none takes h.0))
-              (at_snoc (set views id (without_first v)) (with_first v) u j at_j)),
+              (λ was. fits_set takes h.0 views id (having kept v) (λ i x _ at_i. h.4 i x at_i) (keeps_fewer takes h.0 v.seen v.has kept fits.0 (λ k. let x = parts k in omega arith), fits.1) j u was)
+              (λ (same : viewer v.seen given ≡ u). subst (λ (y : View E). Fits takes h.0 y) same (keeps_fewer takes h.0 v.seen v.has given fits.0 (λ k. let x = parts k in omega arith), keeps_none takes h.0))
+              (at_snoc (set views id (having kept v)) (viewer v.seen given) u j at_j)),
         )
+
+    pub gives : (id : ℕ) (v : View E) → Splits (λ (s : State E (View E)). ChronicleInvariant holds takes makes base s.views) id v (without_first v) (with_first v)
+    gives id v = parts_given id v (others_of v.has) (first_of v.has) (λ k. cut k v.has)
+
+    pub gives_all : (id : ℕ) (v : View E) → Splits (λ (s : State E (View E)). ChronicleInvariant holds takes makes base s.views) id v (without_rights v) (with_rights v)
+    gives_all id v = parts_given id v [] v.has (λ k. omega arith)
+
+    pub gives_others : (n id : ℕ) (v : View E) → Splits (λ (s : State E (View E)). ChronicleInvariant holds takes makes base s.views) id v (with_only n v) (with_others n v)
+    gives_others n id v = parts_given id v (only n v.has) (without n v.has) (λ k. let x = cut_out n k v.has in omega arith)
+
+    -- an event of two views
+    pub went_on : (n : ℕ) (own mine both w owns has : View E) (e : E) → both ≡ joined own (with_rights mine) → GoesOnBy holds takes makes base both e w → owns ≡ with_only n w → has ≡ with_others n w
+        → GoesOnWith holds takes makes base n own mine e owns has
+    went_on n own mine both w owns has e is added owns_is has_is =
+        let fits : Fits takes added.log (joined own (with_rights mine)) = subst (Fits takes added.log) is added.fits in
+        let fresh_rights = fresh (base + made makes added.log) (makes e) in
+        let seen : w.seen ≡ added.log ++ e ∷ [] = ap (λ (v : View E). v.seen) added.is in
+        let all : w.has ≡ fresh_rights ++ (mine.has ++ own.has) = ap (λ (v : View E). v.has) added.is ∙ ap (λ (v : View E). fresh_rights ++ rights_of v) is in
+        let count : (k : ℕ) → times k w.has ≡ times k fresh_rights + (times k mine.has + times k own.has) =
+        (λ k. ap (times k) all ∙ times_append k fresh_rights (mine.has ++ own.has) ∙ ap (λ t. times k fresh_rights + t) (times_append k mine.has own.has)) in
+        let others : (k : ℕ) → (k ≡ n → ⊥) → times k has.has ≡ times k w.has =
+        (λ k apart. let out : times k (only n w.has) + times k (without n w.has) ≡ times k w.has = cut_out n k w.has in let free : times k (only n w.has) ≡ 0 = cut_free n k w.has apart in
+        ap (λ (v : View E). times k v.has) has_is ∙ omega arith) in
+        record {
+          log = added.log;
+          legal = added.legal;
+          fits = fits.0;
+          kept = fits.1;
+          goes_on = added.goes_on;
+          own_seen = ap (λ (v : View E). v.seen) owns_is ∙ seen;
+          seen = ap (λ (v : View E). v.seen) has_is ∙ seen;
+          right = λ enough.
+              let out : times n (only n w.has) + times n (without n w.has) ≡ times n w.has = cut_out n n w.has in
+              let whole : times n (without n w.has) ≡ 0 = cut_whole n w.has in
+              let c = count n in
+              subst (λ (v : View E). 0 < times n v.has) (sym owns_is) (omega arith);
+          rights = λ k apart enough. let o = others k apart in let c = count k in omega arith;
+          fresh_right = λ makes_it apart.
+              let k = base + made makes added.log in
+              let o = others k apart in
+              let c = count k in
+              let new : 0 < times k (fresh k (makes e)) = subst (λ b. 0 < times k (fresh k b)) (sym makes_it) (fresh_there k) in
+              omega arith;
+        }
 
     pub shares : (id : ℕ) (v : View E) → Splits (λ (s : State E (View E)). ChronicleInvariant holds takes makes base s.views) id v v (viewer v.seen [])
     shares id v s h at =

@@ -1,5 +1,5 @@
 -- Rights are numbers in lists.
-use Rattle.std.specs.Prelude.{◌≡◌, ℕ, ◌+◌, ◌≤◌, ◌==◌, Bool, true, false, List, [], ◌∷◌}
+use Rattle.std.specs.Prelude.{◌≡◌, ℕ, ◌+◌, ◌≤◌, ◌==◌, Bool, true, false, if◌then◌else◌, List, [], ◌∷◌}
 
 abbrev pub one : Bool → ℕ
 one true = 1
@@ -18,6 +18,15 @@ first_of (k ∷ ks) = k ∷ []
 abbrev pub others_of : List ℕ → List ℕ
 others_of [] = []
 others_of (k ∷ ks) = ks
+
+-- one right wherever it stands in a list, and all others
+abbrev pub only : ℕ → List ℕ → List ℕ
+only k [] = []
+only k (x ∷ xs) = if x == k then x ∷ only k xs else only k xs
+
+abbrev pub without : ℕ → List ℕ → List ℕ
+without k [] = []
+without k (x ∷ xs) = if x == k then without k xs else x ∷ without k xs
 
 -- the right that an event makes, of the next number
 abbrev pub fresh : ℕ → Bool → List ℕ

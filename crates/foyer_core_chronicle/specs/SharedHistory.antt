@@ -2,7 +2,7 @@
 use Rattle.std.specs.Prelude.{◌≡◌, ℕ, ◌+◌, ◌<◌, ◌≤◌, Bool, true, false, List, [], ◌∷◌, ◌++◌}
 use mathlib.Core.Option.{some}
 use lib.ListN.{get_elem?}
-use Rattle.foyer_core_chronicle.specs.Rights.{one, times, first_of, others_of, fresh}
+use Rattle.foyer_core_chronicle.specs.Rights.{one, times, only, without, first_of, others_of, fresh}
 use Rattle.foyer_core_chronicle.specs.declared.View.{View}
 
 module _ {E : Type 0} where
@@ -50,8 +50,26 @@ module _ {E : Type 0} where
   abbrev pub joined : View E → View E → View E
   joined v w = record { seen = v.seen; has = v.has; joined_seen = w.seen; joined_has = w.has }
 
+  -- the same view with other rights of its own
+  abbrev pub having : List ℕ → View E → View E
+  having has v = record { seen = v.seen; has = has; joined_seen = v.joined_seen; joined_has = v.joined_has }
+
+  -- with none, and the one to which all went over
+  abbrev pub without_rights : View E → View E
+  without_rights v = having [] v
+
+  abbrev pub with_rights : View E → View E
+  with_rights v = viewer v.seen v.has
+
+  -- with this right alone, and the one to which all others went over
+  abbrev pub with_only : ℕ → View E → View E
+  with_only k v = having (only k v.has) v
+
+  abbrev pub with_others : ℕ → View E → View E
+  with_others k v = viewer v.seen (without k v.has)
+
   abbrev pub without_first : View E → View E
-  without_first v = record { seen = v.seen; has = others_of v.has; joined_seen = v.joined_seen; joined_has = v.joined_has }
+  without_first v = having (others_of v.has) v
 
   abbrev pub with_first : View E → View E
   with_first v = viewer v.seen (first_of v.has)
@@ -64,6 +82,20 @@ module _ {E : Type 0} where
     pub fits : Fits takes log v
     pub goes_on : holds (log ++ e ∷ [])
     pub is : w ≡ viewer (log ++ e ∷ []) (fresh (base + made makes log) (makes e) ++ rights_of v)
+
+  -- A history goes on by an event of two views. Both have seen it then. The first keeps one right, and the second all others of both,
+  -- and the right that the event made.
+  pub record GoesOnWith (holds : List E → Type 0) (takes : E → ℕ → Bool) (makes : E → Bool) (base n : ℕ) (own mine : View E) (e : E) (owns has : View E) : Type 0 where
+    pub log : List E
+    pub legal : holds log
+    pub fits : Continues takes log own.seen own.has
+    pub kept : Continues takes log mine.seen mine.has
+    pub goes_on : holds (log ++ e ∷ [])
+    pub own_seen : owns.seen ≡ log ++ e ∷ []
+    pub seen : has.seen ≡ log ++ e ∷ []
+    pub right : 0 < times n own.has → 0 < times n owns.has
+    pub rights : (k : ℕ) → (k ≡ n → ⊥) → 0 < times k mine.has → 0 < times k has.has
+    pub fresh_right : makes e ≡ true → (base + made makes log ≡ n → ⊥) → 0 < times (base + made makes log) has.has
 
   -- the same without an event
   pub record SeesAll (holds : List E → Type 0) (takes : E → ℕ → Bool) (v w : View E) : Type 0 where

@@ -4,12 +4,12 @@
 
 ghost use Rattle.std.specs.Prelude.{◌≡◌, ℕ, Bool, List, [], ◌∷◌, IfOk};
 ghost use Rattle.foyer_core_chronicle.specs.Rights.{AreRights};
-ghost use Rattle.foyer_core_chronicle.specs.SharedHistory.{MayCome, HasRights, GoesOnBy, SeesAll, newcomer, viewer, joined, without_first, with_first};
+ghost use Rattle.foyer_core_chronicle.specs.SharedHistory.{MayCome, HasRights, GoesOnBy, GoesOnWith, SeesAll, newcomer, viewer, joined, without_first, with_first, without_rights, with_rights, with_only, with_others};
 
 use atomic_table::{Join, Play, Seat, Split, Table, TableRule};
 use std::alloc::{AllocError, Global};
 use std::collections::LinkedList;
-use std::marker::PhantomData;
+use std::marker::{Brand, PhantomData};
 
 #[cfg(test)]
 mod tests;
@@ -89,6 +89,37 @@ impl<E> Split<View<E>> for FirstRight {
     ghost right = { with_first };
 }
 
+struct AllRights;
+
+impl<E> Split<View<E>> for AllRights {
+    ghost use Rattle.foyer_core_chronicle.specs.SharedHistory.{without_rights, with_rights};
+
+    ghost left = { without_rights };
+
+    ghost right = { with_rights };
+}
+
+/// The number of a right. A call that passes `Brand` picks it.
+pub trait RightNumber {
+    ghost right: { ℕ };
+}
+
+impl RightNumber for Brand {
+    ghost right = { 0 };
+}
+
+struct Others<R> {
+    right: PhantomData<R>,
+}
+
+impl<E, R: RightNumber> Split<View<E>> for Others<R> {
+    ghost use Rattle.foyer_core_chronicle.specs.SharedHistory.{with_only, with_others};
+
+    ghost left = { with_only R.right };
+
+    ghost right = { with_others R.right };
+}
+
 struct NoRight;
 
 impl<E> Split<View<E>> for NoRight {
@@ -159,6 +190,24 @@ impl<E, R: HistoryRule<E>> Chronicle<E, R> {
         self.table.shared.split_seat::<FirstRight>(witness)
     }
 
+    /// Another witness, of what this one has seen, to which all its rights go over.
+    pub fn give_all(&self, witness: &mut Witness<E>) -> Witness<E>
+        requires own { witness.old.table_id ≡ self.now.table.shared.table_id }
+        ensures same { (witness.new.table_id ≡ witness.old.table_id) × (witness.new.me ≡ (without_rights witness.old.me.0, witness.old.me.1)) }
+        ensures given { (result.table_id ≡ witness.old.table_id) × (result.me ≡ (with_rights witness.old.me.0, [])) }
+    {
+        self.table.shared.split_seat::<AllRights>(witness)
+    }
+
+    /// Another witness, of what this one has seen, to which all its rights go over except this one.
+    pub fn give_others<N: RightNumber>(&self, witness: &mut Witness<E>) -> Witness<E>
+        requires own { witness.old.table_id ≡ self.now.table.shared.table_id }
+        ensures same { (witness.new.table_id ≡ witness.old.table_id) × (witness.new.me ≡ (with_only N.right witness.old.me.0, witness.old.me.1)) }
+        ensures given { (result.table_id ≡ witness.old.table_id) × (result.me ≡ (with_others N.right witness.old.me.0, [])) }
+    {
+        self.table.shared.split_seat::<Others<N>>(witness)
+    }
+
     /// Another witness, of what this one has seen, without a right.
     pub fn give_seen(&self, witness: &mut Witness<E>) -> Witness<E>
         requires own { witness.old.table_id ≡ self.now.table.shared.table_id }
@@ -174,6 +223,30 @@ impl<E, R: HistoryRule<E>> Chronicle<E, R> {
         ensures { (witness.new.table_id ≡ witness.old.table_id) × (witness.new.me ≡ (joined witness.old.me.0 other.me.0, witness.old.me.1)) }
     {
         self.table.shared.join_seat::<Both>(witness, other);
+    }
+}
+
+impl<E: Drop, R: HistoryRule<E>> Chronicle<E, R> {
+    /// The history goes on by an event, for which two witnesses together have the rights: that of a lock, and that of who holds it. The
+    /// first keeps the right `N` alone.
+    pub fn add_with<N: RightNumber>(
+        &self,
+        own: &mut Witness<E>,
+        mine: &mut Witness<E>,
+        event: &E,
+    )
+        requires own { (own.old.table_id ≡ self.now.table.shared.table_id) × (mine.old.table_id ≡ self.now.table.shared.table_id) }
+        requires whole { (own.old.me.1 ≡ []) × (mine.old.me.1 ≡ []) }
+        requires rights { HasRights R.takes (joined own.old.me.0 mine.old.me.0) event.now }
+        requires may { MayCome R.holds R.takes (joined own.old.me.0 mine.old.me.0) event.now }
+        ensures same { (own.new.table_id ≡ own.old.table_id) × (mine.new.table_id ≡ mine.old.table_id) }
+        ensures whole { (own.new.me.1 ≡ []) × (mine.new.me.1 ≡ []) }
+        ensures added { GoesOnWith R.holds R.takes R.makes R.base N.right own.old.me.0 mine.old.me.0 event.now own.new.me.0 mine.new.me.0 }
+    {
+        let brought = self.give_all(mine);
+        self.take(own, brought);
+        self.add(own, event);
+        *mine = self.give_others::<N>(own);
     }
 }
 

@@ -1,4 +1,5 @@
-ghost use Rattle.std.specs.Prelude.{◌≡◌, [], ◌∷◌, true, IfOk};
+ghost use Rattle.std.specs.Prelude.{◌≡◌, ◌<◌, [], ◌∷◌, true, IfOk};
+ghost use Rattle.foyer_core_chronicle.specs.Rights.{times};
 ghost use Rattle.foyer_core_chronicle.specs.SharedHistory.{newcomer, viewer, rights_of};
 
 use super::*;
@@ -65,6 +66,28 @@ fn act_by_threads<R: Threads + Sync>(
     chronicle.take(&mut witness, second);
     chronicle.look(&mut witness);
     chronicle.give_seen(&mut witness)
+}
+
+// The thread that has right 0 brings about an event of who has right 1, and each keeps its right.
+fn act_under_a_lock(
+    chronicle: &Chronicle<Deed, Anything>,
+    mut witness: Witness<Deed>,
+) -> (Witness<Deed>, Witness<Deed>)
+    requires { (witness.table_id ≡ chronicle.now.table.shared.table_id) × (witness.me ≡ (newcomer (0 ∷ 1 ∷ []), [])) }
+    ensures tables { (result.0.table_id ≡ witness.table_id) × (result.1.table_id ≡ witness.table_id) }
+    ensures seen { result.0.me.0.seen ≡ result.1.me.0.seen }
+    ensures rights { (0 < times 0 result.0.me.0.has) × (0 < times 1 result.1.me.0.has) }
+{
+    let mut own = chronicle.give(&mut witness);
+    chronicle.add_with::<Brand>(&mut own, &mut witness, &Deed { by: 1 });
+    (own, witness)
+}
+
+#[test]
+fn an_event_of_two_witnesses_is_seen_by_both(rt: HostRuntime) -> Result<(), Fail> {
+    let (chronicle, witness) = Chronicle::<Deed, Anything>::open(rt.alloc())?;
+    let _witnesses = act_under_a_lock(&chronicle, witness);
+    Ok(())
 }
 
 #[test]

@@ -1,6 +1,6 @@
-mod ToldCounts
+pub mod ToldCounts
 pub mod ToldStepLemmas
 pub mod ToldLoadLemmas
-mod ToldMissLemmas
+pub mod ToldMissLemmas
 pub mod ToldRightLemmas
 pub mod TellingLemmas

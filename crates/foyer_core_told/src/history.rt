@@ -1,13 +1,16 @@
 //! The history as threads have it: its rule, and who tells the opening and the steps.
-ghost use Rattle.std.specs.Prelude.{◌≡◌, [], IfOk};
+ghost use Rattle.std.specs.Prelude.{◌≡◌, ◌+◌, ◌<◌, [], IfOk, true, false};
+ghost use Rattle.foyer_core_chronicle.specs.Rights.{times};
+ghost use Rattle.foyer_core_model.specs.Numbers.{last_number};
 ghost use Rattle.foyer_core_chronicle.specs.SharedHistory.{newcomer};
 ghost use Rattle.foyer_core_model.specs.Ids.{ids};
 ghost use Rattle.foyer_core_laws.specs.Content.{meaning};
-ghost use Rattle.foyer_core_told.specs.ToldRights.{rights_count};
-ghost use Rattle.foyer_core_told.specs.Telling.{WasOpened, IsNew, HasOpened, MayStep, BringsTrue, IsCoreStep, HasTold};
+ghost use Rattle.foyer_core_told.specs.ToldLoads.{is_read, tickets_in};
+ghost use Rattle.foyer_core_told.specs.ToldRights.{rights_count, core_right};
+ghost use Rattle.foyer_core_told.specs.Telling.{WasOpened, IsNew, HasOpened, MayStep, BringsTrue, IsCoreStep, StandsAt, HasStepped};
 
 use crate::event::Told;
-use foyer_core_chronicle::{Chronicle, HistoryRule, Witness};
+use foyer_core_chronicle::{Chronicle, HistoryRule, RightNumber, Witness};
 use foyer_core_steps::reply::Reply;
 use foyer_core_steps::state::Core;
 use foyer_core_steps::step::Step;
@@ -45,6 +48,15 @@ where
     ghost base = { rights_count };
 
     ghost first = { ids rights_count };
+}
+
+/// The number of the core's right.
+pub struct CoreRight;
+
+impl RightNumber for CoreRight {
+    ghost use Rattle.foyer_core_told.specs.ToldRights.{core_right};
+
+    ghost right = { core_right };
 }
 
 /// The history of a core and its disk.
@@ -94,31 +106,56 @@ where
     history.add(witness, &event);
 }
 
-/// Tells a step of the core, its reply, and the core that it left. The witness is that of the core's lock, which knows the core before.
+// One ticket more, if the reply issues one: how many there were before.
+fn count_ticket<K, V, P, A: Allocator>(tickets: &mut u64, reply: &Reply<K, V, P, A>) -> u64
+    ensures before { result ≡ tickets.old }
+    ensures same { is_read reply.now ≡ false → tickets.new ≡ tickets.old }
+    ensures more { is_read reply.now ≡ true → tickets.old < last_number → tickets.new ≡ tickets.old + 1 }
+{
+    let number = *tickets;
+    if let Reply::Read(_) = reply {
+        *tickets = tickets.wrapping_add(1);
+    }
+    number
+}
+
+/// Tells a step of the core, its reply, and the core that it left, under the core's lock. `own` is the lock's witness, which knows the core
+/// before. `mine` is the caller's, with the right of the step; a read that is issued leaves the right of its ticket there. The result
+/// is the number of the next ticket before the step: that of the one that it issues, if it does.
 pub fn tell_step<K, V, P, A, D>(
     history: &ToldHistory<K, V, P, A, D>,
-    witness: &mut ToldWitness<K, V, P, A, D>,
+    own: &mut ToldWitness<K, V, P, A, D>,
+    mine: &mut ToldWitness<K, V, P, A, D>,
+    tickets: &mut u64,
     step: Snapshot<Step<K, V, P, A>>,
     reply: &Reply<K, V, P, A>,
     core: &Core<K, V, P, A>,
-)
+) -> u64
 where
     K: Code<A>,
     V: Code<A>,
     P: Properties,
     A: Allocator,
     D: Disk,
-    requires own { witness.old.table_id ≡ history.now.table.shared.table_id }
-    requires rights { MayStep witness.old.me.0 step.value }
-    requires core { IsCoreStep (meaning K.encoding V.encoding K.is_encodable V.is_encodable K.is_decodable V.is_decodable P.age) D.byte_at witness.old.me.0 step.value reply.now core.now }
-    requires brings { BringsTrue (meaning K.encoding V.encoding K.is_encodable V.is_encodable K.is_decodable V.is_decodable P.age) D.byte_at witness.old.me.0 step.value }
-    ensures same { (witness.new.table_id ≡ witness.old.table_id) × (witness.new.me.1 ≡ witness.old.me.1) }
-    ensures told { HasTold (meaning K.encoding V.encoding K.is_encodable V.is_encodable K.is_decodable V.is_decodable P.age) D.byte_at witness.old.me.0 step.value reply.now core.now witness.new.me.0 }
+    requires own { (own.old.table_id ≡ history.now.table.shared.table_id) × (own.old.me.1 ≡ []) }
+    requires mine { (mine.old.table_id ≡ history.now.table.shared.table_id) × (mine.old.me.1 ≡ []) }
+    requires rights { MayStep own.old.me.0 mine.old.me.0 step.value }
+    requires counted { tickets.old ≡ tickets_in own.old.me.0.seen }
+    requires core { IsCoreStep (meaning K.encoding V.encoding K.is_encodable V.is_encodable K.is_decodable V.is_decodable P.age) D.byte_at own.old.me.0 step.value reply.now core.now }
+    requires brings { BringsTrue (meaning K.encoding V.encoding K.is_encodable V.is_encodable K.is_decodable V.is_decodable P.age) D.byte_at mine.old.me.0 step.value }
+    ensures same { (own.new.table_id ≡ own.old.table_id) × (mine.new.table_id ≡ mine.old.table_id) }
+    ensures whole { (own.new.me.1 ≡ []) × (mine.new.me.1 ≡ []) }
+    ensures right { 0 < times core_right own.new.me.0.has }
+    ensures core { StandsAt (meaning K.encoding V.encoding K.is_encodable V.is_encodable K.is_decodable V.is_decodable P.age) D.byte_at own.new.me.0.seen core.now }
+    ensures counted { tickets.new ≡ tickets_in own.new.me.0.seen }
+    ensures told { HasStepped (meaning K.encoding V.encoding K.is_encodable V.is_encodable K.is_decodable V.is_decodable P.age) D.byte_at mine.old.me.0 mine.new.me.0 step.value reply.now result }
 {
+    let number = count_ticket(tickets, reply);
     let event = Told::Steps {
         step,
         reply: Snapshot::of(reply),
         core: Snapshot::of(core),
     };
-    history.add(witness, &event);
+    history.add_with::<CoreRight>(own, mine, &event);
+    number
 }

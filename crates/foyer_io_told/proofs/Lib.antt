@@ -1,4 +1,4 @@
-mod ToldBytes
-mod ToldAccessLemmas
-mod ToldReads
-mod ToldWrites
+pub mod ToldBytes
+pub mod ToldAccessLemmas
+pub mod ToldReads
+pub mod ToldWrites

@@ -2,8 +2,8 @@
 use Rattle.std.proofs.Common.{◌≡◌, inl, inr, ℕ, ◌+◌, ◌<◌, ◌==◌, ◌||◌, Bool, false, List, [], ◌∷◌, ◌++◌, refl, sym, ap, ◌∙◌, subst, arith}
 use Rattle.std.proofs.lemmas.Bool.{eqb-true}
 use Rattle.foyer_format_layout.specs.BlockBytes.{Write}
-use Rattle.foyer_core_chronicle.specs.Rights.{one, times, fresh, first_of, others_of}
-use Rattle.foyer_core_chronicle.specs.SharedHistory.{made, Continues, Fits, rights_of, joined, with_first, without_first, GoesOnBy, HasRights}
+use Rattle.foyer_core_chronicle.specs.Rights.{times}
+use Rattle.foyer_core_chronicle.specs.SharedHistory.{Continues, joined, GoesOnWith, HasRights}
 use Rattle.foyer_core_chronicle.specs.declared.View.{View}
 use Rattle.foyer_core_chronicle.proofs.RightLemmas.{times_append}
 use Rattle.foyer_core_access.specs.declared.reclaims.Part.{Part}
@@ -21,16 +21,10 @@ use Rattle.foyer_core_told.specs.ToldRuns.{Tells, IsRun, IsTold, Knows}
 use Rattle.foyer_core_told.specs.ToldLoads.{makes_ticket}
 use Rattle.foyer_core_told.specs.ToldRights.{disk_right, writes_right, clean_right, scan_right, rights_count, ticket_right, takes, RightsKeep}
 use Rattle.foyer_core_told.proofs.ToldStepLemmas.{leads_split, run_join}
-use Rattle.foyer_core_told.proofs.ToldRightLemmas.{same_self, kept_by_rights}
+use Rattle.foyer_core_told.proofs.ToldRightLemmas.{kept_by_rights}
 use Rattle.foyer_core_told.proofs.TellingLemmas.{or_case, not_empty, seen_some}
-use Rattle.foyer_io_told.specs.ToldAccess.{LiesAt, HasTicket, HasScan, HasWrites, HasClean, HasAccessed}
-
--- the one right of a list
-times_own : (k : ℕ) → 0 < times k (k ∷ [])
-times_own k = subst (λ (t : Bool). 0 < one t + 0) (sym (same_self k)) (omega arith)
-
-mine_right : (k : ℕ) (has : List ℕ) → has ≡ k ∷ [] → 0 < times k has
-mine_right k has is = subst (λ (h : List ℕ). 0 < times k h) (sym is) (times_own k)
+use Rattle.foyer_core_told.specs.Telling.{HasGoneOn}
+use Rattle.foyer_io_told.specs.ToldAccess.{LiesAt, HasTicket, HasScan, HasWrites, HasClean}
 
 -- it takes the right of the disk and this one
 abbrev pub IsOfRight : {K V P A D : Type 0} → Told K V P A D → ℕ → Type 0
@@ -38,27 +32,17 @@ IsOfRight e k = ((j : ℕ) → takes e j ≡ (j == disk_right) || (j == k)) × (
 
 module _ {K V P A D : Type 0} where
   -- the lock has the disk's right, and the caller the other
-  pub access_rights : (own mine both : View (Told K V P A D)) (e : Told K V P A D) (k : ℕ) → both ≡ joined own mine → 0 < times disk_right own.has → mine.has ≡ k ∷ [] → IsOfRight e k → HasRights takes both e
-  access_rights own mine both e k is right has event j taken =
+  pub access_rights : (own mine : View (Told K V P A D)) (e : Told K V P A D) (k : ℕ) → 0 < times disk_right own.has → 0 < times k mine.has → IsOfRight e k → HasRights takes (joined own mine) e
+  access_rights own mine e k right has event j taken =
       let all : times j (mine.has ++ own.has) ≡ times j mine.has + times j own.has = times_append j mine.has own.has in
-      let here : 0 < times j (mine.has ++ own.has) = elim (or_case (j == disk_right) (j == k) (sym (event.0 j) ∙ taken)) [
+      elim (or_case (j == disk_right) (j == k) (sym (event.0 j) ∙ taken)) [
         | inl of_disk ↦ (let owns : 0 < times j own.has = subst (λ i. 0 < times i own.has) (sym (eqb-true j disk_right of_disk)) right in omega arith)
-        | inr of_mine ↦ (let brings : 0 < times j mine.has = subst (λ (x : ℕ × List ℕ). 0 < times x.0 x.1) (λ i. (sym (eqb-true j k of_mine) i, sym has i)) (times_own k) in omega arith)
-      ] in
-      subst (λ (v : View (Told K V P A D)). 0 < times j (rights_of v)) (sym is) here
-
-  -- what each has then
-  pub parted : (holds : List (Told K V P A D) → Type 0) (own mine both w : View (Told K V P A D)) (e : Told K V P A D) (k : ℕ) → both ≡ joined own mine → mine.has ≡ k ∷ [] → IsOfRight e k
-      → GoesOnBy holds takes makes_ticket rights_count both e w → ((without_first w).has ≡ own.has) × ((with_first w).has ≡ mine.has)
-  parted holds own mine both w e k is has event added =
-      let all : w.has ≡ k ∷ own.has =
-      ap (λ (v : View (Told K V P A D)). v.has) added.is ∙ ap (λ (t : Bool). fresh (rights_count + made makes_ticket added.log) t ++ rights_of both) event.1
-      ∙ ap (λ (v : View (Told K V P A D)). rights_of v) is ∙ ap (λ (h : List ℕ). h ++ own.has) has in
-      (ap others_of all, ap first_of all ∙ sym has)
+        | inr of_mine ↦ (let brings : 0 < times j mine.has = subst (λ i. 0 < times i mine.has) (sym (eqb-true j k of_mine)) has in omega arith)
+      ]
 
   module _ (m : Meaning K V P) (byte_at : D → ℕ → ℕ → ℕ) where
     -- what is known stays known while the right for it is held
-    known_on : (seen : List (Told K V P A D)) (has : List ℕ) (IsSo : Settings → World Content → Type 0) (log : List (Told K V P A D)) → Knows m byte_at seen IsSo → (k : Continues takes log seen has)
+    pub known_on : (seen : List (Told K V P A D)) (has : List ℕ) (IsSo : Settings → World Content → Type 0) (log : List (Told K V P A D)) → Knows m byte_at seen IsSo → (k : Continues takes log seen has)
         → ((s : Settings) (w u : World Content) → RightsKeep w k.0 u → IsSo s w → IsSo s u) → Knows m byte_at log IsSo
     known_on seen has IsSo log knows k keeps = (
       (λ none. seen_some seen k.0 (sym k.1 ∙ none) knows.0),
@@ -86,7 +70,7 @@ module _ {K V P A D : Type 0} where
         ]
 
     -- the last event of a run
-    last_of : (s : Settings) (sound : AreValid s) (log : List (Told K V P A D)) (e : Told K V P A D) (u : World Content) → (log ≡ [] → ⊥) → IsRun m s sound byte_at (log ++ e ∷ []) u
+    pub last_of : (s : Settings) (sound : AreValid s) (log : List (Told K V P A D)) (e : Told K V P A D) (u : World Content) → (log ≡ [] → ⊥) → IsRun m s sound byte_at (log ++ e ∷ []) u
         → (w : World Content) × IsRun m s sound byte_at log w × ((d : Deed Content) × Tells m s sound byte_at w e d × (u ≡ after_deed (machine m s sound) w d))
     last_of s sound [] e u some run = absurd (some refl)
     last_of s sound (x ∷ log) e u some run =
@@ -106,32 +90,23 @@ module _ {K V P A D : Type 0} where
     pub disk_on : (log seen : List (Told K V P A D)) (has : List ℕ) (now : D) → 0 < times disk_right has → LiesAt m byte_at seen now → Continues takes log seen has → LiesAt m byte_at log now
     disk_on log seen has now right at k = known_on seen has _ log at k (λ s w u keeps h. keeps.disk (k.2 disk_right right) ∙ h)
 
-    pub ticket_on : (log seen : List (Told K V P A D)) (has : List ℕ) (n : ℕ) (ticket : Ticket) → has ≡ ticket_right n ∷ [] → HasTicket m byte_at seen n ticket ReadIssued → Continues takes log seen has
+    pub ticket_on : (log seen : List (Told K V P A D)) (has : List ℕ) (n : ℕ) (ticket : Ticket) → 0 < times (ticket_right n) has → HasTicket m byte_at seen n ticket ReadIssued → Continues takes log seen has
         → HasTicket m byte_at log n ticket ReadIssued
-    ticket_on log seen has n ticket is knows k =
-        known_on seen has _ log knows k (λ s w u keeps h. (h.0, keeps.loads n (ticket_of ticket) h.0 ReadIssued tt (k.2 (ticket_right n) (mine_right (ticket_right n) has is)) h.1))
+    ticket_on log seen has n ticket enough knows k =
+        known_on seen has _ log knows k (λ s w u keeps h. (h.0, keeps.loads n (ticket_of ticket) h.0 ReadIssued tt (k.2 (ticket_right n) enough) h.1))
 
-    pub scan_on : (log seen : List (Told K V P A D)) (has : List ℕ) (b : ℕ) (part : Part) → has ≡ scan_right b ∷ [] → HasScan m byte_at seen b part ReadIssued → Continues takes log seen has → HasScan m byte_at log b part ReadIssued
-    scan_on log seen has b part is knows k = known_on seen has _ log knows k (λ s w u keeps h. keeps.scans b _ tt (k.2 (scan_right b) (mine_right (scan_right b) has is)) h)
+    pub scan_on : (log seen : List (Told K V P A D)) (has : List ℕ) (b : ℕ) (part : Part) → 0 < times (scan_right b) has → HasScan m byte_at seen b part ReadIssued → Continues takes log seen has → HasScan m byte_at log b part ReadIssued
+    scan_on log seen has b part enough knows k = known_on seen has _ log knows k (λ s w u keeps h. keeps.scans b _ tt (k.2 (scan_right b) enough) h)
 
-    pub writes_on : (log seen : List (Told K V P A D)) (has : List ℕ) (f b : ℕ) (results : List Bool) (writes : List Write) → has ≡ writes_right f ∷ [] → HasWrites m byte_at seen f b results writes → Continues takes log seen has
+    pub writes_on : (log seen : List (Told K V P A D)) (has : List ℕ) (f b : ℕ) (results : List Bool) (writes : List Write) → 0 < times (writes_right f) has → HasWrites m byte_at seen f b results writes → Continues takes log seen has
         → HasWrites m byte_at log f b results writes
-    writes_on log seen has f b results writes is knows k = known_on seen has _ log knows k (λ s w u keeps h. keeps.writes f (k.2 (writes_right f) (mine_right (writes_right f) has is)) ∙ h)
+    writes_on log seen has f b results writes enough knows k = known_on seen has _ log knows k (λ s w u keeps h. keeps.writes f (k.2 (writes_right f) enough) ∙ h)
 
-    pub clean_on : (log seen : List (Told K V P A D)) (has : List ℕ) (b : ℕ) → has ≡ clean_right b ∷ [] → HasClean m byte_at seen b CleanIssued → Continues takes log seen has → HasClean m byte_at log b CleanIssued
-    clean_on log seen has b is knows k = known_on seen has _ log knows k (λ s w u keeps h. keeps.cleans b (k.2 (clean_right b) (mine_right (clean_right b) has is)) h)
+    pub clean_on : (log seen : List (Told K V P A D)) (has : List ℕ) (b : ℕ) → 0 < times (clean_right b) has → HasClean m byte_at seen b CleanIssued → Continues takes log seen has → HasClean m byte_at log b CleanIssued
+    clean_on log seen has b enough knows k = known_on seen has _ log knows k (λ s w u keeps h. keeps.cleans b (k.2 (clean_right b) enough) h)
 
     -- what the caller has seen then
-    pub accessed : (own mine both w : View (Told K V P A D)) (e : Told K V P A D) (k : ℕ) (Is : Told K V P A D → Type 0) → both ≡ joined own mine → mine.has ≡ k ∷ [] → IsOfRight e k
-        → GoesOnBy (IsTold m byte_at) takes makes_ticket rights_count both e w → Is e → HasAccessed m byte_at mine (with_first w) Is
-    accessed own mine both w e k Is is has event added so =
-        let fits : Fits takes added.log (joined own mine) = subst (Fits takes added.log) is added.fits in
-        record {
-          log = added.log;
-          event = e;
-          kept = fits.1;
-          seen = ap (λ (v : View (Told K V P A D)). v.seen) added.is;
-          has = (parted (IsTold m byte_at) own mine both w e k is has event added).1;
-          is = so;
-          goes_on = added.goes_on;
-        }
+    pub accessed : (own mine owns has : View (Told K V P A D)) (e : Told K V P A D) (Is : Told K V P A D → Type 0) → GoesOnWith (IsTold m byte_at) takes makes_ticket rights_count disk_right own mine e owns has → Is e
+        → HasGoneOn m byte_at mine has Is
+    accessed own mine owns has e Is added so =
+        record { log = added.log; event = e; kept = added.kept; seen = added.seen; rights = λ k above. added.rights k (λ same. absurd (omega (arith, same, above))); is = so; goes_on = added.goes_on }

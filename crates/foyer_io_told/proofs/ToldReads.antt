@@ -5,7 +5,7 @@ use Rattle.std.specs.declared.vec.Vec.{Vec}
 use Rattle.foyer_device_page.specs.declared.error.Error.{Error}
 use Rattle.foyer_format_layout.specs.Page.{page_up}
 use Rattle.foyer_core_chronicle.specs.Rights.{times}
-use Rattle.foyer_core_chronicle.specs.SharedHistory.{Fits, joined, GoesOnBy, MayCome}
+use Rattle.foyer_core_chronicle.specs.SharedHistory.{joined, GoesOnWith, MayCome}
 use Rattle.foyer_core_chronicle.specs.declared.View.{View}
 use Rattle.foyer_io_disk.specs.Disk as disk
 use Rattle.foyer_core_access.specs.declared.reclaims.Part.{Part}
@@ -85,63 +85,57 @@ module _ {K V P A D : Type 0} (m : Meaning K V P) (byte_at : D → ℕ → ℕ �
     scan_at w (told.Scans k c) d b scan outcome is tells h issued = absurd tells
     scan_at w e d b scan outcome is tells h issued = absurd is
 
-  pub read_may : (own mine both : View (Told K V P A D)) (now : D) (e : Told K V P A D) (n : ℕ) (ticket : Ticket) (outcome : Result (Vec ℕ A) Error) → both ≡ joined own mine → 0 < times disk_right own.has
-      → LiesAt m byte_at own.seen now → mine.has ≡ ticket_right n ∷ [] → HasTicket m byte_at mine.seen n ticket ReadIssued → IsReadOf e n outcome
+  pub read_may : (own mine : View (Told K V P A D)) (now : D) (e : Told K V P A D) (n : ℕ) (ticket : Ticket) (outcome : Result (Vec ℕ A) Error) → 0 < times disk_right own.has
+      → LiesAt m byte_at own.seen now → 0 < times (ticket_right n) mine.has → HasTicket m byte_at mine.seen n ticket ReadIssued → IsReadOf e n outcome
       → IfOk outcome (λ b. disk.IsRead (byte_at now) ticket.address.block ticket.address.offset b.items) → IfOk outcome (λ b. vec_len b ≡ page_up ticket.address.len)
-      → MayCome (IsTold m byte_at) takes both e
-  read_may own mine both now e n ticket outcome is right at has knows event read len log legal fits_both =
-      let fits : Fits takes log (joined own mine) = subst (Fits takes log) is fits_both in
+      → MayCome (IsTold m byte_at) takes (joined own mine) e
+  read_may own mine now e n ticket outcome right at has knows event read len log legal fits =
       let lies : LiesAt m byte_at log now = disk_on m byte_at log own.seen own.has now right at fits.0 in
       let issued : HasTicket m byte_at log n ticket ReadIssued = ticket_on m byte_at log mine.seen mine.has n ticket has knows fits.1 in
       on_may m byte_at log e legal lies.0
       (λ s sound u run. let h = issued.1 s sound u run in
       (deeds.ReadsAt n (came_of outcome), read_tells s sound u e n outcome event, read_happens s sound u n ticket h.0 outcome (byte_at now) h.1 (lies.1 s sound u run) read len))
 
-  pub scan_may : (own mine both : View (Told K V P A D)) (now : D) (e : Told K V P A D) (b : ℕ) (part : Part) (outcome : Result (Vec ℕ A) Error) → both ≡ joined own mine → 0 < times disk_right own.has
-      → LiesAt m byte_at own.seen now → mine.has ≡ scan_right b ∷ [] → HasScan m byte_at mine.seen b part ReadIssued → IsScanOf e b outcome
+  pub scan_may : (own mine : View (Told K V P A D)) (now : D) (e : Told K V P A D) (b : ℕ) (part : Part) (outcome : Result (Vec ℕ A) Error) → 0 < times disk_right own.has
+      → LiesAt m byte_at own.seen now → 0 < times (scan_right b) mine.has → HasScan m byte_at mine.seen b part ReadIssued → IsScanOf e b outcome
       → IfOk outcome (λ v. disk.IsRead (byte_at now) b part.offset v.items) → IfOk outcome (λ v. vec_len v ≡ part.len)
-      → MayCome (IsTold m byte_at) takes both e
-  scan_may own mine both now e b part outcome is right at has knows event read len log legal fits_both =
-      let fits : Fits takes log (joined own mine) = subst (Fits takes log) is fits_both in
+      → MayCome (IsTold m byte_at) takes (joined own mine) e
+  scan_may own mine now e b part outcome right at has knows event read len log legal fits =
       let lies : LiesAt m byte_at log now = disk_on m byte_at log own.seen own.has now right at fits.0 in
       let issued : HasScan m byte_at log b part ReadIssued = scan_on m byte_at log mine.seen mine.has b part has knows fits.1 in
       on_may m byte_at log e legal lies.0
       (λ s sound u run. (deeds.ScansAt b (came_of outcome), scan_tells s sound u e b outcome event, scan_happens s sound u b part outcome (byte_at now) (issued.1 s sound u run) (lies.1 s sound u run) read len))
 
   -- what the lock keeps
-  pub read_lies : (own mine both w : View (Told K V P A D)) (e : Told K V P A D) (old new : D) (n : ℕ) (outcome : Result (Vec ℕ A) Error) → both ≡ joined own mine → 0 < times disk_right own.has → LiesAt m byte_at own.seen old
-      → GoesOnBy (IsTold m byte_at) takes makes_ticket rights_count both e w → IsReadOf e n outcome → byte_at new ≡ byte_at old → LiesAt m byte_at w.seen new
-  read_lies own mine both w e old new n outcome is right at added event same =
-      let fits : Fits takes added.log (joined own mine) = subst (Fits takes added.log) is added.fits in
-      let lies : LiesAt m byte_at added.log old = disk_on m byte_at added.log own.seen own.has old right at fits.0 in
-      subst (λ l. LiesAt m byte_at l new) (sym (ap (λ (v : View (Told K V P A D)). v.seen) added.is))
+  pub read_lies : (own mine owns after : View (Told K V P A D)) (e : Told K V P A D) (old new : D) (n : ℕ) (outcome : Result (Vec ℕ A) Error) → 0 < times disk_right own.has → LiesAt m byte_at own.seen old
+      → GoesOnWith (IsTold m byte_at) takes makes_ticket rights_count disk_right own mine e owns after → IsReadOf e n outcome → byte_at new ≡ byte_at old → LiesAt m byte_at owns.seen new
+  read_lies own mine owns after e old new n outcome right at added event same =
+      let lies : LiesAt m byte_at added.log old = disk_on m byte_at added.log own.seen own.has old right at added.fits in
+      subst (λ l. LiesAt m byte_at l new) (sym added.own_seen)
       (known_after m byte_at added.log e (λ s u. u.bytes ≡ byte_at old) (λ s u. u.bytes ≡ byte_at new) lies (λ s sound u d tells h. read_bytes s sound u e d n outcome event tells ∙ h ∙ sym same))
 
-  pub scan_lies : (own mine both w : View (Told K V P A D)) (e : Told K V P A D) (old new : D) (b : ℕ) (outcome : Result (Vec ℕ A) Error) → both ≡ joined own mine → 0 < times disk_right own.has → LiesAt m byte_at own.seen old
-      → GoesOnBy (IsTold m byte_at) takes makes_ticket rights_count both e w → IsScanOf e b outcome → byte_at new ≡ byte_at old → LiesAt m byte_at w.seen new
-  scan_lies own mine both w e old new b outcome is right at added event same =
-      let fits : Fits takes added.log (joined own mine) = subst (Fits takes added.log) is added.fits in
-      let lies : LiesAt m byte_at added.log old = disk_on m byte_at added.log own.seen own.has old right at fits.0 in
-      subst (λ l. LiesAt m byte_at l new) (sym (ap (λ (v : View (Told K V P A D)). v.seen) added.is))
+  pub scan_lies : (own mine owns after : View (Told K V P A D)) (e : Told K V P A D) (old new : D) (b : ℕ) (outcome : Result (Vec ℕ A) Error) → 0 < times disk_right own.has → LiesAt m byte_at own.seen old
+      → GoesOnWith (IsTold m byte_at) takes makes_ticket rights_count disk_right own mine e owns after → IsScanOf e b outcome → byte_at new ≡ byte_at old → LiesAt m byte_at owns.seen new
+  scan_lies own mine owns after e old new b outcome right at added event same =
+      let lies : LiesAt m byte_at added.log old = disk_on m byte_at added.log own.seen own.has old right at added.fits in
+      subst (λ l. LiesAt m byte_at l new) (sym added.own_seen)
       (known_after m byte_at added.log e (λ s u. u.bytes ≡ byte_at old) (λ s u. u.bytes ≡ byte_at new) lies (λ s sound u d tells h. scan_bytes s sound u e d b outcome event tells ∙ h ∙ sym same))
 
   -- what the caller knows
-  pub read_known : (own mine both w : View (Told K V P A D)) (e : Told K V P A D) (n : ℕ) (ticket : Ticket) (outcome : Result (Vec ℕ A) Error) → both ≡ joined own mine → mine.has ≡ ticket_right n ∷ []
-      → HasTicket m byte_at mine.seen n ticket ReadIssued → GoesOnBy (IsTold m byte_at) takes makes_ticket rights_count both e w → IsReadOf e n outcome → HasTicket m byte_at w.seen n ticket (ReadDone (came_of outcome))
-  read_known own mine both w e n ticket outcome is has knows added event =
-      let fits : Fits takes added.log (joined own mine) = subst (Fits takes added.log) is added.fits in
-      let issued : HasTicket m byte_at added.log n ticket ReadIssued = ticket_on m byte_at added.log mine.seen mine.has n ticket has knows fits.1 in
-      subst (λ l. HasTicket m byte_at l n ticket (ReadDone (came_of outcome))) (sym (ap (λ (v : View (Told K V P A D)). v.seen) added.is))
+  pub read_known : (own mine owns after : View (Told K V P A D)) (e : Told K V P A D) (n : ℕ) (ticket : Ticket) (outcome : Result (Vec ℕ A) Error) → 0 < times (ticket_right n) mine.has
+      → HasTicket m byte_at mine.seen n ticket ReadIssued → GoesOnWith (IsTold m byte_at) takes makes_ticket rights_count disk_right own mine e owns after → IsReadOf e n outcome → HasTicket m byte_at after.seen n ticket (ReadDone (came_of outcome))
+  read_known own mine owns after e n ticket outcome has knows added event =
+      let issued : HasTicket m byte_at added.log n ticket ReadIssued = ticket_on m byte_at added.log mine.seen mine.has n ticket has knows added.kept in
+      subst (λ l. HasTicket m byte_at l n ticket (ReadDone (came_of outcome))) (sym added.seen)
       (known_after m byte_at added.log e (λ s u. (promise : Option (Event Content)) × HasLoad u n (ticket_of ticket) promise ReadIssued)
       (λ s u. (promise : Option (Event Content)) × HasLoad u n (ticket_of ticket) promise (ReadDone (came_of outcome))) issued
       (λ s sound u d tells h. (h.0, read_at m s sound byte_at u e d n outcome (ticket_of ticket) h.0 event tells h.1)))
 
-  pub scan_known : (own mine both w : View (Told K V P A D)) (e : Told K V P A D) (b : ℕ) (part : Part) (outcome : Result (Vec ℕ A) Error) → both ≡ joined own mine → mine.has ≡ scan_right b ∷ []
-      → HasScan m byte_at mine.seen b part ReadIssued → GoesOnBy (IsTold m byte_at) takes makes_ticket rights_count both e w → IsScanOf e b outcome → HasScan m byte_at w.seen b part (ReadDone (came_of outcome))
-  scan_known own mine both w e b part outcome is has knows added event =
-      let fits : Fits takes added.log (joined own mine) = subst (Fits takes added.log) is added.fits in
-      let issued : HasScan m byte_at added.log b part ReadIssued = scan_on m byte_at added.log mine.seen mine.has b part has knows fits.1 in
-      subst (λ l. HasScan m byte_at l b part (ReadDone (came_of outcome))) (sym (ap (λ (v : View (Told K V P A D)). v.seen) added.is))
+  pub scan_known : (own mine owns after : View (Told K V P A D)) (e : Told K V P A D) (b : ℕ) (part : Part) (outcome : Result (Vec ℕ A) Error) → 0 < times (scan_right b) mine.has
+      → HasScan m byte_at mine.seen b part ReadIssued → GoesOnWith (IsTold m byte_at) takes makes_ticket rights_count disk_right own mine e owns after → IsScanOf e b outcome → HasScan m byte_at after.seen b part (ReadDone (came_of outcome))
+  scan_known own mine owns after e b part outcome has knows added event =
+      let issued : HasScan m byte_at added.log b part ReadIssued = scan_on m byte_at added.log mine.seen mine.has b part has knows added.kept in
+      subst (λ l. HasScan m byte_at l b part (ReadDone (came_of outcome))) (sym added.seen)
       (known_after m byte_at added.log e (λ s u. u.scans b ≡ Some (record { offset = part.offset; len = part.len; read_state = ReadIssued }))
       (λ s u. u.scans b ≡ Some (record { offset = part.offset; len = part.len; read_state = ReadDone (came_of outcome) })) issued
       (λ s sound u d tells h. scan_at s sound u e d b _ outcome event tells h refl))

@@ -2,7 +2,7 @@
 use Rattle.std.proofs.Common.{◌≡◌, ℕ, ◌<◌, ◌==◌, ◌||◌, if◌then◌else◌, Bool, List, [], ◌∷◌, ◌++◌, refl, sym, ap, ◌∙◌, subst}
 use Rattle.foyer_format_layout.specs.BlockBytes.{Write, laid}
 use Rattle.foyer_core_chronicle.specs.Rights.{times}
-use Rattle.foyer_core_chronicle.specs.SharedHistory.{Fits, joined, with_first, GoesOnBy, MayCome}
+use Rattle.foyer_core_chronicle.specs.SharedHistory.{joined, GoesOnWith, MayCome}
 use Rattle.foyer_core_chronicle.specs.declared.View.{View}
 use Rattle.foyer_core_model.specs.Access.{Issued, CleanIssued, CleanDone, cleaned_page}
 use Rattle.foyer_core_model.specs.Numbers.{put}
@@ -72,11 +72,10 @@ module _ {K V P A D : Type 0} (m : Meaning K V P) (byte_at : D → ℕ → ℕ �
     cleaned_at w (told.Cleans c went leaves) d b ok new is tells pending = absurd tells
     cleaned_at w e d b ok new is tells pending = absurd is
 
-  pub write_may : (own mine both : View (Told K V P A D)) (old new : D) (e : Told K V P A D) (f b : ℕ) (w : Write) (ok : Bool) → both ≡ joined own mine → 0 < times disk_right own.has → LiesAt m byte_at own.seen old
-      → mine.has ≡ writes_right f ∷ [] → (results : List Bool) (left : List Write) → HasWrites m byte_at mine.seen f b results (w ∷ left) → IsWriteOf e f ok new → IsDone (byte_at old) (byte_at new) b w ok
-      → MayCome (IsTold m byte_at) takes both e
-  write_may own mine both old new e f b w ok is right at has results left knows event did log legal fits_both =
-      let fits : Fits takes log (joined own mine) = subst (Fits takes log) is fits_both in
+  pub write_may : (own mine : View (Told K V P A D)) (old new : D) (e : Told K V P A D) (f b : ℕ) (w : Write) (ok : Bool) → 0 < times disk_right own.has → LiesAt m byte_at own.seen old
+      → 0 < times (writes_right f) mine.has → (results : List Bool) (left : List Write) → HasWrites m byte_at mine.seen f b results (w ∷ left) → IsWriteOf e f ok new → IsDone (byte_at old) (byte_at new) b w ok
+      → MayCome (IsTold m byte_at) takes (joined own mine) e
+  write_may own mine old new e f b w ok right at has results left knows event did log legal fits =
       let lies : LiesAt m byte_at log old = disk_on m byte_at log own.seen own.has old right at fits.0 in
       let issued : HasWrites m byte_at log f b results (w ∷ left) = writes_on m byte_at log mine.seen mine.has f b results (w ∷ left) has knows fits.1 in
       let torn : ℕ → ℕ = byte_at new b in
@@ -89,11 +88,10 @@ module _ {K V P A D : Type 0} (m : Meaning K V P) (byte_at : D → ℕ → ℕ �
       (λ i q o. left_at u.bytes (byte_at old) (byte_at new) b w ok (λ q o. ap (λ (h : ℕ → ℕ → ℕ). h q o) bytes) did q o i) in
       (deeds.WritesAt f ok torn, write_tells s sound u e f ok torn new event (serves.2 ∙ leaves), serves.0))
 
-  pub clean_may : (own mine both : View (Told K V P A D)) (old new : D) (e : Told K V P A D) (b : ℕ) (ok : Bool) → both ≡ joined own mine → 0 < times disk_right own.has → LiesAt m byte_at own.seen old
-      → mine.has ≡ clean_right b ∷ [] → HasClean m byte_at mine.seen b CleanIssued → IsCleanOf e b ok new → IsCleanDone (byte_at old) (byte_at new) b ok
-      → MayCome (IsTold m byte_at) takes both e
-  clean_may own mine both old new e b ok is right at has knows event did log legal fits_both =
-      let fits : Fits takes log (joined own mine) = subst (Fits takes log) is fits_both in
+  pub clean_may : (own mine : View (Told K V P A D)) (old new : D) (e : Told K V P A D) (b : ℕ) (ok : Bool) → 0 < times disk_right own.has → LiesAt m byte_at own.seen old
+      → 0 < times (clean_right b) mine.has → HasClean m byte_at mine.seen b CleanIssued → IsCleanOf e b ok new → IsCleanDone (byte_at old) (byte_at new) b ok
+      → MayCome (IsTold m byte_at) takes (joined own mine) e
+  clean_may own mine old new e b ok right at has knows event did log legal fits =
       let lies : LiesAt m byte_at log old = disk_on m byte_at log own.seen own.has old right at fits.0 in
       let issued : HasClean m byte_at log b CleanIssued = clean_on m byte_at log mine.seen mine.has b has knows fits.1 in
       let torn : ℕ → ℕ = byte_at new b in
@@ -107,24 +105,22 @@ module _ {K V P A D : Type 0} (m : Meaning K V P) (byte_at : D → ℕ → ℕ �
       (deeds.CleansAt b ok torn, clean_tells s sound u e b ok torn new event (serves.2 ∙ leaves), serves.0))
 
   -- what the lock keeps
-  pub left_lies : (both w : View (Told K V P A D)) (e : Told K V P A D) (new : D) → GoesOnBy (IsTold m byte_at) takes makes_ticket rights_count both e w → IsDiskLeft e new → LiesAt m byte_at w.seen new
-  left_lies both w e new added left =
-      subst (λ l. LiesAt m byte_at l new) (sym (ap (λ (v : View (Told K V P A D)). v.seen) added.is)) (not_empty added.log e, λ s sound u run. leaves_disk m s sound byte_at added.log e new left u run)
+  pub left_lies : (own mine owns after : View (Told K V P A D)) (e : Told K V P A D) (new : D) → GoesOnWith (IsTold m byte_at) takes makes_ticket rights_count disk_right own mine e owns after → IsDiskLeft e new → LiesAt m byte_at owns.seen new
+  left_lies own mine owns after e new added left =
+      subst (λ l. LiesAt m byte_at l new) (sym added.own_seen) (not_empty added.log e, λ s sound u run. leaves_disk m s sound byte_at added.log e new left u run)
 
   -- what the caller knows
-  pub write_known : (own mine both w : View (Told K V P A D)) (e : Told K V P A D) (f b : ℕ) (write : Write) (ok : Bool) (new : D) → both ≡ joined own mine → mine.has ≡ writes_right f ∷ []
-      → GoesOnBy (IsTold m byte_at) takes makes_ticket rights_count both e w → IsWriteOf e f ok new → HasWritten m byte_at mine (with_first w) f b write ok
-  write_known own mine both w e f b write ok new is has added event results left knows =
-      let fits : Fits takes added.log (joined own mine) = subst (Fits takes added.log) is added.fits in
-      let issued : HasWrites m byte_at added.log f b results (write ∷ left) = writes_on m byte_at added.log mine.seen mine.has f b results (write ∷ left) has knows fits.1 in
-      subst (λ l. HasWrites m byte_at l f b (results ++ ok ∷ []) (if ok then left else [])) (sym (ap (λ (v : View (Told K V P A D)). v.seen) added.is))
+  pub write_known : (own mine owns after : View (Told K V P A D)) (e : Told K V P A D) (f b : ℕ) (write : Write) (ok : Bool) (new : D) → 0 < times (writes_right f) mine.has
+      → GoesOnWith (IsTold m byte_at) takes makes_ticket rights_count disk_right own mine e owns after → IsWriteOf e f ok new → HasWritten m byte_at mine after f b write ok
+  write_known own mine owns after e f b write ok new has added event results left knows =
+      let issued : HasWrites m byte_at added.log f b results (write ∷ left) = writes_on m byte_at added.log mine.seen mine.has f b results (write ∷ left) has knows added.kept in
+      subst (λ l. HasWrites m byte_at l f b (results ++ ok ∷ []) (if ok then left else [])) (sym added.seen)
       (known_after m byte_at added.log e (λ s u. u.block_writes f ≡ Issued b results (write ∷ left)) (λ s u. u.block_writes f ≡ Issued b (results ++ ok ∷ []) (if ok then left else [])) issued
       (λ s sound u d tells h. wrote_at s sound u e d f b results write left ok new event tells h))
 
-  pub clean_known : (own mine both w : View (Told K V P A D)) (e : Told K V P A D) (b : ℕ) (ok : Bool) (new : D) → both ≡ joined own mine → mine.has ≡ clean_right b ∷ [] → HasClean m byte_at mine.seen b CleanIssued
-      → GoesOnBy (IsTold m byte_at) takes makes_ticket rights_count both e w → IsCleanOf e b ok new → HasClean m byte_at (with_first w).seen b (CleanDone ok)
-  clean_known own mine both w e b ok new is has knows added event =
-      let fits : Fits takes added.log (joined own mine) = subst (Fits takes added.log) is added.fits in
-      let issued : HasClean m byte_at added.log b CleanIssued = clean_on m byte_at added.log mine.seen mine.has b has knows fits.1 in
-      subst (λ l. HasClean m byte_at l b (CleanDone ok)) (sym (ap (λ (v : View (Told K V P A D)). v.seen) added.is))
+  pub clean_known : (own mine owns after : View (Told K V P A D)) (e : Told K V P A D) (b : ℕ) (ok : Bool) (new : D) → 0 < times (clean_right b) mine.has → HasClean m byte_at mine.seen b CleanIssued
+      → GoesOnWith (IsTold m byte_at) takes makes_ticket rights_count disk_right own mine e owns after → IsCleanOf e b ok new → HasClean m byte_at after.seen b (CleanDone ok)
+  clean_known own mine owns after e b ok new has knows added event =
+      let issued : HasClean m byte_at added.log b CleanIssued = clean_on m byte_at added.log mine.seen mine.has b has knows added.kept in
+      subst (λ l. HasClean m byte_at l b (CleanDone ok)) (sym added.seen)
       (known_after m byte_at added.log e (λ s u. u.clean_states b ≡ CleanIssued) (λ s u. u.clean_states b ≡ CleanDone ok) issued (λ s sound u d tells h. cleaned_at s sound u e d b ok new event tells h))

@@ -1,9 +1,9 @@
 -- What the lock of a disk keeps, and what a thread knows of its access before and after.
 use Rattle.std.specs.Prelude.{◌≡◌, ℕ, Bool, if◌then◌else◌, List, [], ◌∷◌, ◌++◌, Option, Some, Result}
 use Rattle.std.specs.declared.vec.Vec.{Vec}
+use Rattle.atomic_table.specs.Seated.{TableId}
 use Rattle.foyer_device_page.specs.declared.error.Error.{Error}
 use Rattle.foyer_format_layout.specs.BlockBytes.{Write}
-use Rattle.foyer_core_chronicle.specs.SharedHistory.{Continues}
 use Rattle.foyer_core_chronicle.specs.declared.View.{View}
 use Rattle.foyer_core_model.specs.Access.{Issued, CleanState, ReadState}
 use Rattle.foyer_core_model.specs.Event.{Event}
@@ -14,8 +14,11 @@ use Rattle.foyer_core_steps.specs.declared.step.Ticket.{Ticket}
 use Rattle.foyer_core_access.specs.declared.reclaims.Part.{Part}
 use Rattle.foyer_core_told.specs.declared.event.Told.{Told}
 use Rattle.foyer_core_told.specs.declared.event.Told.TheVariants as told
-use Rattle.foyer_core_told.specs.ToldRuns.{IsTold, Knows}
-use Rattle.foyer_core_told.specs.ToldRights.{takes}
+use Rattle.foyer_core_told.specs.ToldRuns.{Knows}
+
+-- a name that no table has
+abbrev pub no_table : TableId
+no_table = record { words = 0; slots = 0; views_name = 0; atom = 0; block = 0; offset = 0; slot_names = [] }
 
 -- the event is a read for the reclaim of this block, and gave this
 abbrev pub IsScanOf : {K V P A D : Type 0} → Told K V P A D → ℕ → Result (Vec ℕ A) Error → Type 0
@@ -52,16 +55,6 @@ module _ {K V P A D : Type 0} (m : Meaning K V P) (byte_at : D → ℕ → ℕ �
   -- the clean of a block is in this state
   abbrev pub HasClean : List (Told K V P A D) → (block : ℕ) → CleanState → Type 0
   HasClean log b state = Knows m byte_at log (λ s u. u.clean_states b ≡ state)
-
-  -- What the caller has seen then: all that it had seen, what others told since without its right, and this event at the end.
-  pub record HasAccessed (mine after : View (Told K V P A D)) (Is : Told K V P A D → Type 0) : Type 0 where
-    pub log : List (Told K V P A D)
-    pub event : Told K V P A D
-    pub kept : Continues takes log mine.seen mine.has
-    pub seen : after.seen ≡ log ++ event ∷ []
-    pub has : after.has ≡ mine.has
-    pub is : Is event
-    pub goes_on : IsTold m byte_at (log ++ event ∷ [])
 
   -- a write that was done is to be reported then, and the writes behind it are to be done if it went well
   abbrev pub HasWritten : (mine after : View (Told K V P A D)) → (flusher block : ℕ) → Write → Bool → Type 0

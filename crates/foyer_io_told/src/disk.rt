@@ -1,5 +1,5 @@
 //! A disk with the witness of its lock.
-ghost use Rattle.std.specs.Prelude.{◌≡◌, ◌<◌, [], ◌∷◌, IfOk, is_ok};
+ghost use Rattle.std.specs.Prelude.{◌≡◌, ◌<◌, [], ◌∷◌, IfErr, IfOk, is_ok};
 ghost use Rattle.foyer_core_chronicle.specs.Rights.{times};
 ghost use Rattle.foyer_core_model.specs.Access.{ReadIssued, ReadDone, CleanIssued, CleanDone};
 ghost use Rattle.foyer_core_flusher.specs.Issuing.{write_of};
@@ -7,27 +7,44 @@ ghost use Rattle.foyer_core_laws.specs.Content.{meaning};
 ghost use Rattle.foyer_core_steps.specs.Asked.{came_of};
 ghost use Rattle.foyer_core_told.specs.ToldLoads.{IsReadOf};
 ghost use Rattle.foyer_core_told.specs.ToldRights.{disk_right, writes_right, clean_right, scan_right, ticket_right};
-ghost use Rattle.foyer_io_told.specs.ToldAccess.{IsScanOf, IsWriteOf, IsCleanOf, LiesAt, HasTicket, HasScan, HasWrites, HasClean, HasAccessed, HasWritten};
+ghost use Rattle.foyer_core_told.specs.Telling.{HasGoneOn};
+ghost use Rattle.foyer_io_told.specs.ToldAccess.{IsScanOf, IsWriteOf, IsCleanOf, LiesAt, HasTicket, HasScan, HasWrites, HasClean, HasWritten};
 
 use foyer_block_index::manager::BlockId;
 use foyer_core_access::disk::{do_read, do_write};
 use foyer_core_access::reclaims::{BlockCleaner, Part, read_bytes};
 use foyer_core_steps::reply::Write;
 use foyer_core_steps::step::Ticket;
+use foyer_core_chronicle::RightNumber;
 use foyer_core_told::event::Told;
 use foyer_core_told::history::{ToldHistory, ToldWitness};
 use foyer_device_page::error::Result;
 use foyer_format_record::serde::{Code, Properties};
 use foyer_io_disk::disk::Disk;
 use std::alloc::{AllocError, Allocator};
-use std::marker::{Model, PhantomData};
+use std::marker::{Brand, Model, PhantomData};
 use std::snapshot::Snapshot;
 
-/// Names a history by its table.
+/// The number of the disk's right.
+pub struct DiskRight;
+
+impl RightNumber for DiskRight {
+    ghost use Rattle.foyer_core_told.specs.ToldRights.{disk_right};
+
+    ghost right = { disk_right };
+}
+
+/// Names a history by its table. A call that passes `Brand` picks it.
 pub trait HistoryName {
     ghost use Rattle.atomic_table.specs.Seated.{TableId};
 
     ghost table: { TableId };
+}
+
+impl HistoryName for Brand {
+    ghost use Rattle.foyer_io_told.specs.ToldAccess.{no_table};
+
+    ghost table = { no_table };
 }
 
 /// A disk whose bytes are known, with the witness that tells its accesses. It lies behind a lock.
@@ -45,6 +62,26 @@ where
     spare: Vec<u8, A>,
     witness: ToldWitness<K, V, P, A, D>,
     name: PhantomData<J>,
+}
+
+// Written out, so that it is proved once.
+impl<J, K, V, P, A, D> Drop for ToldDisk<J, K, V, P, A, D>
+where
+    J: HistoryName,
+    K: Code<A>,
+    V: Code<A>,
+    P: Properties,
+    A: Allocator,
+    D: Disk + Drop,
+{
+    fn drop(self) {
+        let ToldDisk {
+            disk: _,
+            spare: _,
+            witness: _,
+            name: _,
+        } = self;
+    }
 }
 
 impl<J, K, V, P, A, D> Model for ToldDisk<J, K, V, P, A, D>
@@ -98,85 +135,79 @@ where
         }
     }
 
-    /// Does the read of a ticket, whose right the caller brings, and tells it. `Err` is a refused allocation: then nothing is told.
+    /// Does the read of a ticket, whose right the caller has, and tells it. `Err` is a refused allocation: then nothing is told.
     pub fn read(
         &mut self,
         history: &ToldHistory<K, V, P, A, D>,
-        mine: ToldWitness<K, V, P, A, D>,
+        mine: &mut ToldWitness<K, V, P, A, D>,
         alloc: A,
         number: u64,
         ticket: &Ticket,
-    ) -> (
-        std::result::Result<Result<Vec<u8, A>>, AllocError>,
-        ToldWitness<K, V, P, A, D>,
-    )
+    ) -> std::result::Result<Result<Vec<u8, A>>, AllocError>
         requires history { history.now.table.shared.table_id ≡ J.table }
-        requires mine { (mine.table_id ≡ J.table) × (mine.me.1 ≡ []) }
-        requires right { mine.me.0.has ≡ ticket_right number ∷ [] }
-        requires ticket { HasTicket (meaning K.encoding V.encoding K.is_encodable V.is_encodable K.is_decodable V.is_decodable P.age) D.byte_at mine.me.0.seen number ticket.now ReadIssued }
-        ensures mine { (result.1.table_id ≡ J.table) × (result.1.me.1 ≡ []) × (result.1.me.0.has ≡ mine.me.0.has) }
-        ensures told { IfOk result.0 (λ outcome. HasAccessed (meaning K.encoding V.encoding K.is_encodable V.is_encodable K.is_decodable V.is_decodable P.age) D.byte_at mine.me.0 result.1.me.0 (λ e. IsReadOf e number outcome)) }
-        ensures read { IfOk result.0 (λ outcome. HasTicket (meaning K.encoding V.encoding K.is_encodable V.is_encodable K.is_decodable V.is_decodable P.age) D.byte_at result.1.me.0.seen number ticket.now (ReadDone (came_of outcome))) }
+        requires mine { (mine.old.table_id ≡ J.table) × (mine.old.me.1 ≡ []) }
+        requires right { 0 < times (ticket_right number) mine.old.me.0.has }
+        requires ticket { HasTicket (meaning K.encoding V.encoding K.is_encodable V.is_encodable K.is_decodable V.is_decodable P.age) D.byte_at mine.old.me.0.seen number ticket.now ReadIssued }
+        ensures mine { (mine.new.table_id ≡ J.table) × (mine.new.me.1 ≡ []) }
+        ensures told { IfOk result (λ outcome. HasGoneOn (meaning K.encoding V.encoding K.is_encodable V.is_encodable K.is_decodable V.is_decodable P.age) D.byte_at mine.old.me.0 mine.new.me.0 (λ e. IsReadOf e number outcome)) }
+        ensures read { IfOk result (λ outcome. HasTicket (meaning K.encoding V.encoding K.is_encodable V.is_encodable K.is_decodable V.is_decodable P.age) D.byte_at mine.new.me.0.seen number ticket.now (ReadDone (came_of outcome))) }
+        ensures untold { IfErr result (λ _. mine.new ≡ mine.old) }
     {
         let outcome = match do_read(alloc, &mut self.disk, ticket, &mut self.spare) {
             Ok(outcome) => outcome,
-            Err(error) => return (Err(error), mine),
+            Err(error) => return Err(error),
         };
         let event = Told::Reads {
             number,
             outcome: Snapshot::of(&outcome),
         };
-        history.take(&mut self.witness, mine);
-        history.add(&mut self.witness, &event);
-        let mine = history.give(&mut self.witness);
-        (Ok(outcome), mine)
+        history.add_with::<DiskRight>(&mut self.witness, mine, &event);
+        Ok(outcome)
     }
 
-    /// Does a read for the reclaim of a block, whose right the caller brings, and tells it. Memory that is refused for it is a fault too.
+    /// Does a read for the reclaim of a block, whose right the caller has, and tells it. Memory that is refused for it is a fault too.
     pub fn scan(
         &mut self,
         history: &ToldHistory<K, V, P, A, D>,
-        mine: ToldWitness<K, V, P, A, D>,
+        mine: &mut ToldWitness<K, V, P, A, D>,
         alloc: &A,
         block: BlockId,
         part: Part,
-    ) -> (Result<Vec<u8, A>>, ToldWitness<K, V, P, A, D>)
+    ) -> Result<Vec<u8, A>>
         requires history { history.now.table.shared.table_id ≡ J.table }
-        requires mine { (mine.table_id ≡ J.table) × (mine.me.1 ≡ []) }
-        requires right { mine.me.0.has ≡ scan_right block ∷ [] }
-        requires scan { HasScan (meaning K.encoding V.encoding K.is_encodable V.is_encodable K.is_decodable V.is_decodable P.age) D.byte_at mine.me.0.seen block part ReadIssued }
-        ensures mine { (result.1.table_id ≡ J.table) × (result.1.me.1 ≡ []) }
-        ensures told { HasAccessed (meaning K.encoding V.encoding K.is_encodable V.is_encodable K.is_decodable V.is_decodable P.age) D.byte_at mine.me.0 result.1.me.0 (λ e. IsScanOf e block result.0) }
-        ensures scanned { HasScan (meaning K.encoding V.encoding K.is_encodable V.is_encodable K.is_decodable V.is_decodable P.age) D.byte_at result.1.me.0.seen block part (ReadDone (came_of result.0)) }
+        requires mine { (mine.old.table_id ≡ J.table) × (mine.old.me.1 ≡ []) }
+        requires right { 0 < times (scan_right block) mine.old.me.0.has }
+        requires scan { HasScan (meaning K.encoding V.encoding K.is_encodable V.is_encodable K.is_decodable V.is_decodable P.age) D.byte_at mine.old.me.0.seen block part ReadIssued }
+        ensures mine { (mine.new.table_id ≡ J.table) × (mine.new.me.1 ≡ []) }
+        ensures told { HasGoneOn (meaning K.encoding V.encoding K.is_encodable V.is_encodable K.is_decodable V.is_decodable P.age) D.byte_at mine.old.me.0 mine.new.me.0 (λ e. IsScanOf e block result) }
+        ensures scanned { HasScan (meaning K.encoding V.encoding K.is_encodable V.is_encodable K.is_decodable V.is_decodable P.age) D.byte_at mine.new.me.0.seen block part (ReadDone (came_of result)) }
     {
         let outcome = read_bytes(alloc, &mut self.disk, block, part);
         let event = Told::Scans {
             block,
             outcome: Snapshot::of(&outcome),
         };
-        history.take(&mut self.witness, mine);
-        history.add(&mut self.witness, &event);
-        let mine = history.give(&mut self.witness);
-        (outcome, mine)
+        history.add_with::<DiskRight>(&mut self.witness, mine, &event);
+        outcome
     }
 
-    /// Does the next write of a flusher, whose right the caller brings, and tells it, also where it fails: then any bytes may be in its
+    /// Does the next write of a flusher, whose right the caller has, and tells it, also if it fails: then any bytes may be in its
     /// range.
     pub fn write(
         &mut self,
         history: &ToldHistory<K, V, P, A, D>,
-        mine: ToldWitness<K, V, P, A, D>,
+        mine: &mut ToldWitness<K, V, P, A, D>,
         flusher: u32,
         block: BlockId,
         write: &Write<A>,
-    ) -> (Result<()>, ToldWitness<K, V, P, A, D>)
+    ) -> Result<()>
         requires history { history.now.table.shared.table_id ≡ J.table }
-        requires mine { (mine.table_id ≡ J.table) × (mine.me.1 ≡ []) }
-        requires right { mine.me.0.has ≡ writes_right flusher ∷ [] }
-        requires write { (results : _) × (left : _) × HasWrites (meaning K.encoding V.encoding K.is_encodable V.is_encodable K.is_decodable V.is_decodable P.age) D.byte_at mine.me.0.seen flusher block results (write_of write.now ∷ left) }
-        ensures mine { (result.1.table_id ≡ J.table) × (result.1.me.1 ≡ []) }
-        ensures told { (disk : D) × HasAccessed (meaning K.encoding V.encoding K.is_encodable V.is_encodable K.is_decodable V.is_decodable P.age) D.byte_at mine.me.0 result.1.me.0 (λ e. IsWriteOf e flusher (is_ok result.0) disk) }
-        ensures wrote { HasWritten (meaning K.encoding V.encoding K.is_encodable V.is_encodable K.is_decodable V.is_decodable P.age) D.byte_at mine.me.0 result.1.me.0 flusher block (write_of write.now) (is_ok result.0) }
+        requires mine { (mine.old.table_id ≡ J.table) × (mine.old.me.1 ≡ []) }
+        requires right { 0 < times (writes_right flusher) mine.old.me.0.has }
+        requires write { (results : _) × (left : _) × HasWrites (meaning K.encoding V.encoding K.is_encodable V.is_encodable K.is_decodable V.is_decodable P.age) D.byte_at mine.old.me.0.seen flusher block results (write_of write.now ∷ left) }
+        ensures mine { (mine.new.table_id ≡ J.table) × (mine.new.me.1 ≡ []) }
+        ensures told { (disk : D) × HasGoneOn (meaning K.encoding V.encoding K.is_encodable V.is_encodable K.is_decodable V.is_decodable P.age) D.byte_at mine.old.me.0 mine.new.me.0 (λ e. IsWriteOf e flusher (is_ok result) disk) }
+        ensures wrote { HasWritten (meaning K.encoding V.encoding K.is_encodable V.is_encodable K.is_decodable V.is_decodable P.age) D.byte_at mine.old.me.0 mine.new.me.0 flusher block (write_of write.now) (is_ok result) }
     {
         let outcome = do_write(&mut self.disk, block, write);
         let went_well = outcome.is_ok();
@@ -185,26 +216,24 @@ where
             is_ok: went_well,
             disk: Snapshot::of(&self.disk),
         };
-        history.take(&mut self.witness, mine);
-        history.add(&mut self.witness, &event);
-        let mine = history.give(&mut self.witness);
-        (outcome, mine)
+        history.add_with::<DiskRight>(&mut self.witness, mine, &event);
+        outcome
     }
 
-    /// Cleans a block, whose right the caller brings, and tells it, also where it fails: then any bytes may be in its first page.
+    /// Cleans a block, whose right the caller has, and tells it, also if it fails: then any bytes may be in its first page.
     pub fn clean(
         &mut self,
         history: &ToldHistory<K, V, P, A, D>,
-        mine: ToldWitness<K, V, P, A, D>,
+        mine: &mut ToldWitness<K, V, P, A, D>,
         block: BlockId,
-    ) -> (Result<()>, ToldWitness<K, V, P, A, D>)
+    ) -> Result<()>
         requires history { history.now.table.shared.table_id ≡ J.table }
-        requires mine { (mine.table_id ≡ J.table) × (mine.me.1 ≡ []) }
-        requires right { mine.me.0.has ≡ clean_right block ∷ [] }
-        requires clean { HasClean (meaning K.encoding V.encoding K.is_encodable V.is_encodable K.is_decodable V.is_decodable P.age) D.byte_at mine.me.0.seen block CleanIssued }
-        ensures mine { (result.1.table_id ≡ J.table) × (result.1.me.1 ≡ []) }
-        ensures told { (disk : D) × HasAccessed (meaning K.encoding V.encoding K.is_encodable V.is_encodable K.is_decodable V.is_decodable P.age) D.byte_at mine.me.0 result.1.me.0 (λ e. IsCleanOf e block (is_ok result.0) disk) }
-        ensures cleaned { HasClean (meaning K.encoding V.encoding K.is_encodable V.is_encodable K.is_decodable V.is_decodable P.age) D.byte_at result.1.me.0.seen block (CleanDone (is_ok result.0)) }
+        requires mine { (mine.old.table_id ≡ J.table) × (mine.old.me.1 ≡ []) }
+        requires right { 0 < times (clean_right block) mine.old.me.0.has }
+        requires clean { HasClean (meaning K.encoding V.encoding K.is_encodable V.is_encodable K.is_decodable V.is_decodable P.age) D.byte_at mine.old.me.0.seen block CleanIssued }
+        ensures mine { (mine.new.table_id ≡ J.table) × (mine.new.me.1 ≡ []) }
+        ensures told { (disk : D) × HasGoneOn (meaning K.encoding V.encoding K.is_encodable V.is_encodable K.is_decodable V.is_decodable P.age) D.byte_at mine.old.me.0 mine.new.me.0 (λ e. IsCleanOf e block (is_ok result) disk) }
+        ensures cleaned { HasClean (meaning K.encoding V.encoding K.is_encodable V.is_encodable K.is_decodable V.is_decodable P.age) D.byte_at mine.new.me.0.seen block (CleanDone (is_ok result)) }
     {
         let outcome = BlockCleaner::clean(&mut self.disk, block);
         let went_well = outcome.is_ok();
@@ -213,9 +242,7 @@ where
             is_ok: went_well,
             disk: Snapshot::of(&self.disk),
         };
-        history.take(&mut self.witness, mine);
-        history.add(&mut self.witness, &event);
-        let mine = history.give(&mut self.witness);
-        (outcome, mine)
+        history.add_with::<DiskRight>(&mut self.witness, mine, &event);
+        outcome
     }
 }
