@@ -1,3 +1,4 @@
 mod engine;
 mod shared;
 mod storage;
+mod told;

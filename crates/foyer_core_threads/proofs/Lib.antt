@@ -1,0 +1,5 @@
+pub mod HistoryJoins
+pub mod ToldOpenings
+pub mod PlainSteps
+pub mod LoadLemmas
+pub mod WriteLemmas

@@ -1,0 +1,218 @@
+//! A core with the witness of its lock.
+ghost use Rattle.std.specs.Prelude.{◌≡◌, ◌<◌, ℕ, [], IfErr, IfOk, true};
+ghost use Rattle.foyer_core_chronicle.specs.Rights.{times};
+ghost use Rattle.foyer_core_laws.specs.Content.{meaning};
+ghost use Rattle.foyer_core_shared.specs.Answers.{IsAnswer};
+ghost use Rattle.foyer_core_shared.specs.Briefed.{IsNotedIn};
+ghost use Rattle.foyer_core_shared.specs.Replies.{may_reply};
+ghost use Rattle.foyer_core_steps.specs.Answered.{spare_of};
+ghost use Rattle.foyer_core_steps.specs.Judging.{IsJudged};
+ghost use Rattle.foyer_core_steps.specs.declared.step.Step.TheVariants as steps;
+ghost use Rattle.foyer_core_told.specs.ToldLoads.{tickets_in};
+ghost use Rattle.foyer_core_told.specs.ToldRights.{core_right, step_takes};
+ghost use Rattle.foyer_core_told.specs.Telling.{BringsTrue, HasStepped, StandsAt};
+
+use crate::session::ToldSession;
+use foyer_block_manager::block::eviction::EvictionPicker;
+use foyer_core_shared::locked::Locked;
+use foyer_core_shared::notes::Noting;
+use foyer_core_steps::load::Judged;
+use foyer_core_steps::reply::Reply;
+use foyer_core_steps::step::Step;
+use foyer_core_tally::book::Kinds;
+use foyer_core_told::history::{ToldHistory, ToldWitness, tell_step};
+use foyer_device_statistics::IoState;
+use foyer_format_record::serde::{Code, Properties};
+use foyer_io_disk::disk::Disk;
+use foyer_io_told::disk::HistoryName;
+use foyer_policy_filter::StorageFilterCondition;
+use std::alloc::Allocator;
+use std::marker::{Model, PhantomData};
+use std::snapshot::Snapshot;
+
+/// A noted core, with the witness that tells its steps. It lies behind a lock.
+pub struct ToldCore<J, L, K, V, P, A, E, C, N, D>
+where
+    J: HistoryName,
+    L: Kinds,
+    K: Code<A>,
+    V: Code<A>,
+    P: Properties + Drop,
+    A: Allocator,
+    E: EvictionPicker,
+    C: StorageFilterCondition,
+    N: Noting,
+    D: Disk,
+{
+    locked: Locked<L, K, V, P, A, E, C, N>,
+    witness: ToldWitness<K, V, P, A, D>,
+    // How many tickets were issued.
+    tickets: u64,
+    name: PhantomData<J>,
+}
+
+// Written out, so that it is proved once.
+impl<J, L, K, V, P, A, E, C, N, D> Drop for ToldCore<J, L, K, V, P, A, E, C, N, D>
+where
+    J: HistoryName,
+    L: Kinds,
+    K: Code<A> + Drop,
+    V: Code<A> + Drop,
+    P: Properties + Drop,
+    A: Allocator,
+    E: EvictionPicker,
+    C: StorageFilterCondition,
+    N: Noting,
+    D: Disk,
+{
+    fn drop(self) {
+        let ToldCore {
+            locked: _,
+            witness: _,
+            tickets: _,
+            name: _,
+        } = self;
+    }
+}
+
+impl<J, L, K, V, P, A, E, C, N, D> Model for ToldCore<J, L, K, V, P, A, E, C, N, D>
+where
+    J: HistoryName,
+    L: Kinds,
+    K: Code<A>,
+    V: Code<A>,
+    P: Properties + Drop,
+    A: Allocator,
+    E: EvictionPicker,
+    C: StorageFilterCondition,
+    N: Noting,
+    D: Disk,
+{
+    ghost use Rattle.std.specs.Prelude.{◌≡◌, ◌<◌, []};
+    ghost use Rattle.foyer_core_chronicle.specs.Rights.{times};
+    ghost use Rattle.foyer_core_laws.specs.Content.{meaning};
+    ghost use Rattle.foyer_core_told.specs.ToldLoads.{tickets_in};
+    ghost use Rattle.foyer_core_told.specs.ToldRights.{core_right};
+    ghost use Rattle.foyer_core_told.specs.Telling.{StandsAt};
+
+    ghost Value = { Unit {0} };
+
+    ghost view = { λ d. tt };
+
+    ghost invariant = { λ d. (d.witness.table_id ≡ J.table) × (d.witness.me.1 ≡ []) × (0 < times core_right d.witness.me.0.has)
+        × (d.tickets ≡ tickets_in d.witness.me.0.seen)
+        × StandsAt (meaning K.encoding V.encoding K.is_encodable V.is_encodable K.is_decodable V.is_decodable P.age) D.byte_at d.witness.me.0.seen d.locked.noted.core };
+}
+
+impl<J, L, K, V, P, A, E, C, N, D> ToldCore<J, L, K, V, P, A, E, C, N, D>
+where
+    J: HistoryName,
+    L: Kinds,
+    K: Code<A> + Drop,
+    V: Code<A> + Drop,
+    P: Properties + Drop,
+    A: Allocator + Clone,
+    E: EvictionPicker,
+    C: StorageFilterCondition,
+    N: Noting,
+    D: Disk,
+{
+    /// The core of a history that was told of its opening, with the witness that has the core's right.
+    pub fn new(
+        locked: Locked<L, K, V, P, A, E, C, N>,
+        witness: ToldWitness<K, V, P, A, D>,
+    ) -> ToldCore<J, L, K, V, P, A, E, C, N, D>
+        requires history { (witness.table_id ≡ J.table) × (witness.me.1 ≡ []) }
+        requires right { 0 < times core_right witness.me.0.has }
+        requires fresh { tickets_in witness.me.0.seen ≡ 0 }
+        requires told { StandsAt (meaning K.encoding V.encoding K.is_encodable V.is_encodable K.is_decodable V.is_decodable P.age) D.byte_at witness.me.0.seen locked.noted.core }
+    {
+        ToldCore {
+            locked,
+            witness,
+            tickets: 0,
+            name: PhantomData,
+        }
+    }
+
+    /// Applies a step as `Locked::step` does, and tells it: the history goes on by exactly this step with this reply, after all that
+    /// the session had seen. The session brings the right that the step takes, and what shows that the outcome that it brings has come. Beside
+    /// the reply is the number of the next ticket before the step: that of the ticket that it issues, if it does, whose right the session
+    /// has then.
+    pub fn step(
+        &mut self,
+        history: &ToldHistory<K, V, P, A, D>,
+        session: &mut ToldSession<L, K, V, P, A, D>,
+        io: IoState,
+        step: Step<K, V, P, A>,
+    ) -> std::result::Result<(Reply<K, V, P, A>, u64), Step<K, V, P, A>>
+        requires history { history.now.table.shared.table_id ≡ J.table }
+        requires mine { (session.old.witness.table_id ≡ J.table) × (session.old.witness.me.1 ≡ []) }
+        requires part { 0 < session.old.session.shares.parts }
+        requires rights { (k : ℕ) → step_takes step k ≡ true → 0 < times k session.old.witness.me.0.has }
+        requires brings { BringsTrue (meaning K.encoding V.encoding K.is_encodable V.is_encodable K.is_decodable V.is_decodable P.age) D.byte_at session.old.witness.me.0 step }
+        ensures mine { (session.new.witness.table_id ≡ J.table) × (session.new.witness.me.1 ≡ []) }
+        ensures told { IfOk result (λ r. HasStepped (meaning K.encoding V.encoding K.is_encodable V.is_encodable K.is_decodable V.is_decodable P.age) D.byte_at session.old.witness.me.0 session.new.witness.me.0 step r.0 r.1) }
+        ensures answer { IfOk result (λ r. IsAnswer K.is_decodable V.is_decodable K.encoding V.encoding step r.0) }
+        ensures noted { IfOk result (λ r. IsNotedIn session.old.session session.new.session step r.0) }
+        ensures replied { IfOk result (λ r. may_reply step r.0 ≡ true) }
+        ensures parts { session.new.session.shares.parts ≡ session.old.session.shares.parts }
+        ensures roomless { IfErr result (λ given. (given ≡ step) × (session.new ≡ session.old) × (N.keeps ≡ true)) }
+    {
+        let said = Snapshot::of(&step);
+        let reply = match self.locked.step(&mut session.session, io, step) {
+            Ok(reply) => reply,
+            Err(step) => return Err(step),
+        };
+        let number = tell_step(
+            history,
+            &mut self.witness,
+            &mut session.witness,
+            &mut self.tickets,
+            said,
+            &reply,
+            self.locked.core(),
+        );
+        Ok((reply, number))
+    }
+
+    /// Brings what was read for a ticket and judged, as `Locked::end_judged` does, and tells it as `step` tells a `LoadEnd`.
+    pub fn end_judged(
+        &mut self,
+        history: &ToldHistory<K, V, P, A, D>,
+        session: &mut ToldSession<L, K, V, P, A, D>,
+        said: Snapshot<Step<K, V, P, A>>,
+        judged: Judged<K, V, A>,
+    ) -> std::result::Result<(Reply<K, V, P, A>, Option<Vec<u8, A>>), Step<K, V, P, A>>
+        requires history { history.now.table.shared.table_id ≡ J.table }
+        requires mine { (session.old.witness.table_id ≡ J.table) × (session.old.witness.me.1 ≡ []) }
+        requires part { 0 < session.old.session.shares.parts }
+        requires judged { IsJudged K.is_decodable V.is_decodable K.encoding V.encoding K.is_encodable V.is_encodable
+            judged.ticket judged.outcome judged.found }
+        requires said { said.value ≡ steps.LoadEnd judged.ticket judged.outcome }
+        requires brings { BringsTrue (meaning K.encoding V.encoding K.is_encodable V.is_encodable K.is_decodable V.is_decodable P.age) D.byte_at session.old.witness.me.0 (steps.LoadEnd judged.ticket judged.outcome) }
+        ensures mine { (session.new.witness.table_id ≡ J.table) × (session.new.witness.me.1 ≡ []) }
+        ensures told { IfOk result (λ r. (n : ℕ) × HasStepped (meaning K.encoding V.encoding K.is_encodable V.is_encodable K.is_decodable V.is_decodable P.age) D.byte_at session.old.witness.me.0 session.new.witness.me.0 (steps.LoadEnd judged.ticket judged.outcome) r.0 n) }
+        ensures answer { IfOk result (λ r. IsAnswer K.is_decodable V.is_decodable K.encoding V.encoding (steps.LoadEnd judged.ticket judged.outcome) r.0) }
+        ensures noted { IfOk result (λ r. IsNotedIn session.old.session session.new.session (steps.LoadEnd judged.ticket judged.outcome) r.0) }
+        ensures replied { IfOk result (λ r. may_reply (steps.LoadEnd judged.ticket judged.outcome) r.0 ≡ true) }
+        ensures spare { IfOk result (λ r. r.1 ≡ spare_of judged.outcome r.0) }
+        ensures parts { session.new.session.shares.parts ≡ session.old.session.shares.parts }
+        ensures roomless { IfErr result (λ given. (given ≡ steps.LoadEnd judged.ticket judged.outcome) × (session.new ≡ session.old) × (N.keeps ≡ true)) }
+    {
+        let (reply, spare) = match self.locked.end_judged(&mut session.session, judged) {
+            Ok(answer) => answer,
+            Err(step) => return Err(step),
+        };
+        let _ = tell_step(
+            history,
+            &mut self.witness,
+            &mut session.witness,
+            &mut self.tickets,
+            said,
+            &reply,
+            self.locked.core(),
+        );
+        Ok((reply, spare))
+    }
+}

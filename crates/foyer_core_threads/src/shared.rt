@@ -1,0 +1,260 @@
+//! A core and its disk, each behind one lock, and the one history of what threads do to them.
+ghost use Rattle.std.specs.Prelude.{◌≡◌, ◌⊎◌, ◌<◌, ◌∷◌, ℕ, [], true};
+ghost use Rattle.foyer_core_chronicle.specs.Rights.{times};
+ghost use Rattle.foyer_core_chronicle.specs.SharedHistory.{newcomer};
+ghost use Rattle.foyer_core_laws.specs.Content.{meaning};
+ghost use Rattle.foyer_core_model.specs.Ids.{ids};
+ghost use Rattle.foyer_core_shared.specs.Answers.{IsAnswer};
+ghost use Rattle.foyer_core_shared.specs.Briefed.{IsNotedIn};
+ghost use Rattle.foyer_core_shared.specs.Replies.{may_reply};
+ghost use Rattle.foyer_core_steps.specs.Answered.{spare_of};
+ghost use Rattle.foyer_core_steps.specs.declared.reply.Reply.TheVariants as reply;
+ghost use Rattle.foyer_core_steps.specs.declared.step.Step.TheVariants as steps;
+ghost use Rattle.foyer_device_page.specs.declared.error.ErrorKind.TheVariants as kind;
+ghost use Rattle.foyer_core_told.specs.ToldRights.{disk_right, rights_count, step_takes};
+ghost use Rattle.foyer_core_told.specs.ToldSteps.{IsOpeningOf};
+ghost use Rattle.foyer_core_told.specs.Telling.{BringsTrue, HasStepped, WasOpened};
+ghost use Rattle.foyer_core_threads.specs.Asking.{IsPlain};
+
+mod load;
+mod opening;
+mod write;
+
+use crate::locked::ToldCore;
+use crate::session::ToldSession;
+use foyer_block_manager::block::eviction::EvictionPicker;
+use foyer_core_shared::locked::Locked;
+use foyer_core_shared::notes::Noting;
+use foyer_core_shared::session::Session;
+use foyer_core_steps::load::Judged;
+use foyer_core_steps::reply::Reply;
+use foyer_core_steps::step::{Step, Ticket};
+use foyer_core_tally::book::Kinds;
+use foyer_core_told::history::{CoreRight, ToldHistory, ToldWitness, tell_opening};
+use foyer_device_page::error::{ErrorKind, Result};
+use foyer_device_statistics::IoState;
+use foyer_format_record::serde::{Code, Properties};
+use foyer_io_disk::disk::Disk;
+use foyer_io_told::disk::{DiskRight, HistoryName, ToldDisk};
+use foyer_lock::lock_spinning;
+use foyer_policy_filter::StorageFilterCondition;
+use std::alloc::Allocator;
+use std::snapshot::Snapshot;
+use std::sync::{Mutex, Wait};
+
+/// A core behind one lock, its disk behind another, and their history. Threads share it by reference, and each asks it with a session of
+/// its own.
+pub struct ToldShared<J, L, K, V, P, A, E, C, N, D>
+where
+    J: HistoryName,
+    L: Kinds,
+    K: Code<A>,
+    V: Code<A>,
+    P: Properties + Drop,
+    A: Allocator,
+    E: EvictionPicker,
+    C: StorageFilterCondition,
+    N: Noting,
+    D: Disk,
+{
+    history: ToldHistory<K, V, P, A, D>,
+    core: Mutex<ToldCore<J, L, K, V, P, A, E, C, N, D>>,
+    disk: Mutex<ToldDisk<J, K, V, P, A, D>>,
+    ghost named: { history.table.shared.table_id ≡ J.table },
+}
+
+// Written out, so that it is proved once.
+impl<J, L, K, V, P, A, E, C, N, D> Drop for ToldShared<J, L, K, V, P, A, E, C, N, D>
+where
+    J: HistoryName,
+    L: Kinds,
+    K: Code<A> + Drop,
+    V: Code<A> + Drop,
+    P: Properties + Drop,
+    A: Allocator,
+    E: EvictionPicker,
+    C: StorageFilterCondition,
+    N: Noting,
+    D: Disk + Drop,
+{
+    fn drop(self) {
+        let ToldShared {
+            history: _,
+            core: _,
+            disk: _,
+        } = self;
+    }
+}
+
+// What the end of a load brings, or another step.
+fn parts_of<K: Drop, V: Drop, P: Drop, A: Allocator>(
+    step: Step<K, V, P, A>,
+) -> std::result::Result<(Ticket, Result<Vec<u8, A>>), Step<K, V, P, A>>
+    ensures parts { (ticket : _) (outcome : _) → step ≡ steps.LoadEnd ticket outcome → result ≡ Ok (ticket, outcome) }
+{
+    match step {
+        Step::LoadEnd { ticket, result } => Ok((ticket, result)),
+        step => Err(step),
+    }
+}
+
+// The end of a load as a step, and what it is made of again.
+fn end_step<K: Drop, V: Drop, P: Drop, A: Allocator>(
+    ticket: Ticket,
+    outcome: Result<Vec<u8, A>>,
+) -> (Snapshot<Step<K, V, P, A>>, Ticket, Result<Vec<u8, A>>)
+    ensures said { result.0.value ≡ steps.LoadEnd ticket outcome }
+    ensures same { (result.1 ≡ ticket) × (result.2 ≡ outcome) }
+{
+    let step = Step::LoadEnd {
+        ticket,
+        result: outcome,
+    };
+    let said = Snapshot::of(&step);
+    match parts_of(step) {
+        Ok((ticket, outcome)) => (said, ticket, outcome),
+        Err(_step) => unreachable!(),
+    }
+}
+
+impl<J, L, K, V, P, A, E, C, N, D> ToldShared<J, L, K, V, P, A, E, C, N, D>
+where
+    J: HistoryName,
+    L: Kinds,
+    K: Code<A> + Drop,
+    V: Code<A> + Drop,
+    P: Properties + Drop,
+    A: Allocator + Clone,
+    E: EvictionPicker,
+    C: StorageFilterCondition,
+    N: Noting,
+    D: Disk,
+{
+    /// A core that was opened over this disk, whose bytes are known, and the session that has all parts and all rights of flushers and
+    /// blocks. Their opening is the first event of the history, which is new; `spare` is a buffer for the first read.
+    pub fn new(
+        history: ToldHistory<K, V, P, A, D>,
+        witness: ToldWitness<K, V, P, A, D>,
+        locked: Locked<L, K, V, P, A, E, C, N>,
+        session: Session<L>,
+        disk: D,
+        spare: Vec<u8, A>,
+    ) -> (
+        ToldShared<J, L, K, V, P, A, E, C, N, D>,
+        ToldSession<L, K, V, P, A, D>,
+    )
+        requires history { history.table.shared.table_id ≡ J.table }
+        requires witness { (witness.table_id ≡ J.table) × (witness.me ≡ (newcomer (ids rights_count), [])) }
+        requires opened { WasOpened locked.noted.core }
+        requires known { D.is_known disk }
+        ensures session { result.1.session ≡ session }
+        ensures whole { (result.1.witness.table_id ≡ J.table) × (result.1.witness.me.1 ≡ []) }
+        ensures seen { (e : _) × IsOpeningOf locked.noted.core disk e × (result.1.witness.me.0.seen ≡ e ∷ []) }
+        ensures rights { (k : ℕ) → disk_right < k → k < rights_count → 0 < times k result.1.witness.me.0.has }
+    {
+        let mut own = witness;
+        tell_opening(&history, &mut own, locked.core(), &disk);
+        let mut of_disk = history.give_others::<CoreRight>(&mut own);
+        let witness = history.give_others::<DiskRight>(&mut of_disk);
+        let core = ToldCore::new(locked, own);
+        let disk = ToldDisk::new(disk, spare, of_disk);
+        let shared = ToldShared {
+            history,
+            core: Mutex::new(core),
+            disk: Mutex::new(disk),
+        };
+        (shared, ToldSession { session, witness })
+    }
+
+    /// The one history of its steps and accesses.
+    pub fn history(&self) -> &ToldHistory<K, V, P, A, D>
+        ensures { result.now ≡ self.now.history }
+    {
+        &self.history
+    }
+
+    /// One step, under the core's lock; a filter that is asked is shown `io`. The history goes on by exactly this step with this reply, after
+    /// all that the session had seen. The session brings the right that the step takes, and what shows that the outcome that it brings has
+    /// come. If notes are kept and memory for this one is refused, the reply is `Refused(Memory, step)`, and nothing is noted or added to the history.
+    /// Beside the reply is the number of the next ticket before the step.
+    pub fn step(
+        &self,
+        rt: &impl Wait,
+        session: &mut ToldSession<L, K, V, P, A, D>,
+        io: IoState,
+        step: Step<K, V, P, A>,
+    ) -> (Reply<K, V, P, A>, u64)
+        requires mine { (session.old.witness.table_id ≡ J.table) × (session.old.witness.me.1 ≡ []) }
+        requires part { 0 < session.old.session.shares.parts }
+        requires rights { (k : ℕ) → step_takes step k ≡ true → 0 < times k session.old.witness.me.0.has }
+        requires brings { BringsTrue (meaning K.encoding V.encoding K.is_encodable V.is_encodable K.is_decodable V.is_decodable P.age) D.byte_at session.old.witness.me.0 step }
+        ensures mine { (session.new.witness.table_id ≡ J.table) × (session.new.witness.me.1 ≡ []) }
+        ensures told { HasStepped (meaning K.encoding V.encoding K.is_encodable V.is_encodable K.is_decodable V.is_decodable P.age) D.byte_at session.old.witness.me.0 session.new.witness.me.0 step result.0 result.1
+            ⊎ ((N.keeps ≡ true) × (result.0 ≡ reply.Refused kind.Memory step) × (session.new ≡ session.old)) }
+        ensures answer { IsAnswer K.is_decodable V.is_decodable K.encoding V.encoding step result.0 }
+        ensures noted { IsNotedIn session.old.session session.new.session step result.0
+            ⊎ ((N.keeps ≡ true) × (result.0 ≡ reply.Refused kind.Memory step) × (session.new ≡ session.old)) }
+        ensures replied { (may_reply step result.0 ≡ true) ⊎ ((N.keeps ≡ true) × (result.0 ≡ reply.Refused kind.Memory step)) }
+        ensures parts { session.new.session.shares.parts ≡ session.old.session.shares.parts }
+    {
+        match lock_spinning(&self.core, rt).step(&self.history, session, io, step) {
+            Ok(answer) => answer,
+            Err(step) => (Reply::Refused(ErrorKind::Memory, step), 0),
+        }
+    }
+
+    /// One step that takes no right and brings no outcome of an access, as `step` does.
+    pub fn ask(
+        &self,
+        rt: &impl Wait,
+        session: &mut ToldSession<L, K, V, P, A, D>,
+        io: IoState,
+        step: Step<K, V, P, A>,
+    ) -> (Reply<K, V, P, A>, u64)
+        requires mine { (session.old.witness.table_id ≡ J.table) × (session.old.witness.me.1 ≡ []) }
+        requires part { 0 < session.old.session.shares.parts }
+        requires plain { IsPlain step }
+        ensures mine { (session.new.witness.table_id ≡ J.table) × (session.new.witness.me.1 ≡ []) }
+        ensures told { HasStepped (meaning K.encoding V.encoding K.is_encodable V.is_encodable K.is_decodable V.is_decodable P.age) D.byte_at session.old.witness.me.0 session.new.witness.me.0 step result.0 result.1
+            ⊎ ((N.keeps ≡ true) × (result.0 ≡ reply.Refused kind.Memory step) × (session.new ≡ session.old)) }
+        ensures answer { IsAnswer K.is_decodable V.is_decodable K.encoding V.encoding step result.0 }
+        ensures noted { IsNotedIn session.old.session session.new.session step result.0
+            ⊎ ((N.keeps ≡ true) × (result.0 ≡ reply.Refused kind.Memory step) × (session.new ≡ session.old)) }
+        ensures replied { (may_reply step result.0 ≡ true) ⊎ ((N.keeps ≡ true) × (result.0 ≡ reply.Refused kind.Memory step)) }
+        ensures parts { session.new.session.shares.parts ≡ session.old.session.shares.parts }
+    {
+        self.step(rt, session, io, step)
+    }
+
+    /// Brings what was read for a ticket, as `step` does with a `LoadEnd`, and gives the buffer of the read back beside the reply. What was
+    /// read is judged before the lock is taken: a pair takes its memory from this allocator.
+    pub fn end_load(
+        &self,
+        rt: &impl Wait,
+        session: &mut ToldSession<L, K, V, P, A, D>,
+        alloc: &A,
+        ticket: Ticket,
+        outcome: Result<Vec<u8, A>>,
+    ) -> (Reply<K, V, P, A>, Option<Vec<u8, A>>)
+        requires mine { (session.old.witness.table_id ≡ J.table) × (session.old.witness.me.1 ≡ []) }
+        requires part { 0 < session.old.session.shares.parts }
+        requires brings { BringsTrue (meaning K.encoding V.encoding K.is_encodable V.is_encodable K.is_decodable V.is_decodable P.age) D.byte_at session.old.witness.me.0 (steps.LoadEnd ticket outcome) }
+        ensures mine { (session.new.witness.table_id ≡ J.table) × (session.new.witness.me.1 ≡ []) }
+        ensures told { ((n : ℕ) × HasStepped (meaning K.encoding V.encoding K.is_encodable V.is_encodable K.is_decodable V.is_decodable P.age) D.byte_at session.old.witness.me.0 session.new.witness.me.0 (steps.LoadEnd ticket outcome) result.0 n)
+            ⊎ ((N.keeps ≡ true) × (result.0 ≡ reply.Refused kind.Memory (steps.LoadEnd ticket outcome)) × (session.new ≡ session.old)) }
+        ensures answer { IsAnswer K.is_decodable V.is_decodable K.encoding V.encoding (steps.LoadEnd ticket outcome) result.0 }
+        ensures noted { IsNotedIn session.old.session session.new.session (steps.LoadEnd ticket outcome) result.0
+            ⊎ ((N.keeps ≡ true) × (result.0 ≡ reply.Refused kind.Memory (steps.LoadEnd ticket outcome)) × (session.new ≡ session.old)) }
+        ensures replied { (may_reply (steps.LoadEnd ticket outcome) result.0 ≡ true)
+            ⊎ ((N.keeps ≡ true) × (result.0 ≡ reply.Refused kind.Memory (steps.LoadEnd ticket outcome))) }
+        ensures spare { result.1 ≡ spare_of outcome result.0 }
+        ensures parts { session.new.session.shares.parts ≡ session.old.session.shares.parts }
+    {
+        let (said, ticket, outcome) = end_step(ticket, outcome);
+        let judged = Judged::of(alloc, ticket, outcome);
+        match lock_spinning(&self.core, rt).end_judged(&self.history, session, said, judged) {
+            Ok(answer) => answer,
+            Err(step) => (Reply::Refused(ErrorKind::Memory, step), None),
+        }
+    }
+}
