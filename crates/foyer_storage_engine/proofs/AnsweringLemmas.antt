@@ -101,10 +101,10 @@ module _ {K V P A : Type 0} (is_key is_value : List ℕ → Bool) (key_of : K �
   IsMade old new given answer = IsNotedIn old new given answer ⊎ ((keeps ≡ true) × (answer ≡ reply.Refused kind.Memory given) × (new ≡ old))
 
   -- a look-up without a ticket
-  pub looked_up : (old new : SessionState) (hash : ℕ) (throttled : Bool) (answer : Reply K V P A) (result : Result (Load K V P A) Error)
+  pub looked_up : (read_by : Ticket → Result (Vec ℕ A) Error → Type 0) (old new : SessionState) (hash : ℕ) (throttled : Bool) (answer : Reply K V P A) (result : Result (Load K V P A) Error)
       → IsMade old new (step.LoadBegin hash throttled) answer → IsAnswer is_key is_value key_of value_of (step.LoadBegin hash throttled) answer
-      → (IsRead (reply_brief answer) → ⊥) → IsLoadOf answer result → IsLoaded is_key is_value key_of value_of keeps old new hash throttled result
-  looked_up old new hash throttled answer result (inl noted) answers unread is = inl (record {
+      → (IsRead (reply_brief answer) → ⊥) → IsLoadOf answer result → IsLoaded is_key is_value key_of value_of read_by keeps old new hash throttled result
+  looked_up read_by old new hash throttled answer result (inl noted) answers unread is = inl (record {
     answer = reply_brief answer;
     noted = record { newest = noted.newest; counted = noted.counted };
     before = noted.before;
@@ -112,7 +112,7 @@ module _ {K V P A : Type 0} (is_key is_value : List ℕ → Bool) (key_of : K �
     said = load_as answer result is;
     pair = pair_as is_key is_value key_of value_of (step.LoadBegin hash throttled) answer result answers is;
   })
-  looked_up old new hash throttled answer result (inr none) answers unread is =
+  looked_up read_by old new hash throttled answer result (inr none) answers unread is =
       inr (inr (inr ((none.0, refused_load answer (step.LoadBegin hash throttled) result none.1 is, none.2))))
 
   -- one that got a ticket was noted
@@ -136,11 +136,11 @@ module _ {K V P A : Type 0} (is_key is_value : List ℕ → Bool) (key_of : K �
   end_of old new ticket came last result (inr none) answers load = inr ((none.0, refused_load last (step.LoadEnd ticket came) result none.1 load, none.2))
 
   -- a load that was ended so
-  pub ended : (old between new : SessionState) (hash : ℕ) (throttled : Bool) (ticket : Ticket) (came : Result (Vec ℕ A) Error) (first : Reply K V P A)
+  pub ended : (read_by : Ticket → Result (Vec ℕ A) Error → Type 0) (old between new : SessionState) (hash : ℕ) (throttled : Bool) (ticket : Ticket) (came : Result (Vec ℕ A) Error) (first : Reply K V P A)
       (result : Result (Load K V P A) Error) → first ≡ reply.Read ticket → IsMade old between (step.LoadBegin hash throttled) first
-      → IsAnswer is_key is_value key_of value_of (step.LoadBegin hash throttled) first → IfOk came (λ bytes. vec_len bytes ≡ page_up ticket.address.len)
-      → IsEndOf is_key is_value key_of value_of keeps between new ticket came result → IsLoaded is_key is_value key_of value_of keeps old new hash throttled result
-  ended old between new hash throttled ticket came first result is made looks len (inl end) =
+      → IsAnswer is_key is_value key_of value_of (step.LoadBegin hash throttled) first → IfOk came (λ bytes. vec_len bytes ≡ page_up ticket.address.len) → read_by ticket came
+      → IsEndOf is_key is_value key_of value_of keeps between new ticket came result → IsLoaded is_key is_value key_of value_of read_by keeps old new hash throttled result
+  ended read_by old between new hash throttled ticket came first result is made looks len read (inl end) =
       let begun = got_ticket old between hash throttled ticket first is made in
       inr (inr (inl (record {
         ticket = ticket;
@@ -151,9 +151,10 @@ module _ {K V P A : Type 0} (is_key is_value : List ℕ → Bool) (key_of : K �
         said = end.said;
         own = subst (IsAnswer is_key is_value key_of value_of (step.LoadBegin hash throttled)) is looks;
         len = len;
+        read = read;
         pair = end.pair;
       })))
-  ended old between new hash throttled ticket came first result is made looks len (inr none) =
+  ended read_by old between new hash throttled ticket came first result is made looks len read (inr none) =
       let begun = got_ticket old between hash throttled ticket first is made in
       inr (inl (record {
         ticket = ticket;

@@ -1,6 +1,6 @@
 -- What a step that isn't refused leaves in its session, and how a destroy ends.
 use Rattle.std.proofs.Common.{◌≡◌, ◌⊎◌, ◌∙◌, ℕ, Bool, true, false, None, Some, Option, Result, Ok, Err, ap, inl, inr, refl}
-use Rattle.std.specs.Result.{IfErr}
+use Rattle.std.specs.Result.{IfErr, OnOk}
 use Rattle.foyer_core_shared.specs.Reply.{Reply}
 use Rattle.foyer_core_shared.specs.Reply.TheVariants as reply
 use Rattle.foyer_core_shared.specs.Step.{Step}
@@ -52,10 +52,10 @@ module _ {K V P A : Type 0} where
   asked_to_wait keeps old new flusher id answer (inr none) isnt = absurd (isnt kind.Memory (step.Wait flusher id) none.1)
 
 -- a destroy is answered as its last clean
-pub ends_with : (block : ℕ) (session : SessionState) (ended : Option (Result (Unit {0}) Error)) (answered : Result (Unit {0}) Error)
-    → BringsClean block session ended → answered ≡ ended_as ended → EndsWithClean block session answered
-ends_with block session ended answered brings is =
-    record { outcome = brings.outcome; answer = brings.answer; newest = brings.newest; said = is ∙ ap ended_as brings.said }
+pub ends_with : (came : ℕ → Result (Unit {0}) Error → Type 0) (block : ℕ) (session : SessionState) (ended : Option (Result (Unit {0}) Error)) (answered : Result (Unit {0}) Error)
+    → BringsClean came block session ended → answered ≡ ended_as ended → EndsWithClean came block session answered
+ends_with came block session ended answered brings is =
+    record { outcome = brings.outcome; answer = brings.answer; newest = brings.newest; did = brings.did; said = is ∙ ap ended_as brings.said }
 
 pub refused_or : (answered : Result (Unit {0}) Error) (Q : Error → Type 0) {P : Type 0} → P → IfErr answered (λ e. Q e ⊎ P)
 refused_or (Ok done) Q p = tt
@@ -64,3 +64,7 @@ refused_or (Err e) Q p = inr p
 pub unbegun_or : (answered : Result (Unit {0}) Error) (Q R : Error → Type 0) {P : Type 0} → P → IfErr answered (λ e. Q e ⊎ (R e ⊎ P))
 unbegun_or (Ok done) Q R p = tt
 unbegun_or (Err e) Q R p = inr (inr p)
+
+pub well_or : (answered : Result (Unit {0}) Error) {P : Type 0} → P → OnOk answered P
+well_or (Ok done) p = p
+well_or (Err e) p = tt

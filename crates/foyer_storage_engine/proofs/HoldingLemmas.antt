@@ -1,6 +1,6 @@
 -- What steps of no named kind leave of a session's counts.
 use native.Mathlib.Numerals.{unary_clauses}
-use Rattle.std.proofs.Common.{◌≡◌, ◌⊎◌, ◌∙◌, ◌+◌, ℕ, Bool, true, inl, inr, refl, sym, ap}
+use Rattle.std.proofs.Common.{◌≡◌, ◌⊎◌, ◌∙◌, ◌+◌, ℕ, Bool, true, inl, inr, refl, sym, subst, ap, arith}
 use Rattle.foyer_core_shared.specs.Briefed.{IsNotedIn}
 use Rattle.foyer_core_shared.specs.Briefs.{brief_of}
 use Rattle.foyer_core_shared.specs.Kinds.{kind_in, kind_of}
@@ -17,7 +17,7 @@ use Rattle.foyer_core_tally.specs.declared.kinds.Counts.{Counts}
 use Rattle.foyer_core_tally.specs.declared.kinds.StepKind.TheVariants.{Other}
 use Rattle.foyer_device_page.specs.declared.error.ErrorKind.{ErrorKind}
 use Rattle.foyer_device_page.specs.declared.error.ErrorKind.TheVariants as kind
-use Rattle.foyer_storage_engine.specs.Ending.{CountsStep, CountsUnnamed, HoldsNamed}
+use Rattle.foyer_storage_engine.specs.Ending.{CountsStep, CountsUnnamed, HasMade, HoldsNamed}
 
 of_other : (c d : Counts) (n : ℕ) → d ≡ record c { other = n } → d ≡ record c { other = d.other }
 of_other c d n is = is ∙ ap (λ (x : Counts). record c { other = x.other }) (sym is)
@@ -80,6 +80,31 @@ module _ {K V P A : Type 0} where
       → (IsNotedIn old new given answer ⊎ ((keeps ≡ true) × (answer ≡ reply.Refused kind.Memory given) × (new ≡ old))) → HoldsNamed old new
   held_by_made keeps old new given answer is (inl noted) = held_by old new (noted.counted ∙ ap (λ kind. grown kind old.shares.amounts) is)
   held_by_made keeps old new given answer is (inr none) = held_same old new none.2
+
+  -- and one that isn't refused was made
+  pub made_one : (keeps : Bool) (old between new : SessionState) (given : Step K V P A) (answer : Reply K V P A) (steps : ℕ) → kind_of (brief_of given answer) ≡ Other
+      → (IsNotedIn between new given answer ⊎ ((keeps ≡ true) × (answer ≡ reply.Refused kind.Memory given) × (new ≡ between)))
+      → ((why : ErrorKind) (back : Step K V P A) → answer ≡ reply.Refused why back → ⊥) → HasMade steps old between → HasMade (steps + 1) old new
+  made_one keeps old between new given answer steps is (inl noted) isnt made =
+      let one : new.shares.amounts.other ≡ between.shares.amounts.other + 1 = ap (λ (c : Counts). c.other) (noted.counted ∙ ap (λ kind. grown kind between.shares.amounts) is) in
+      omega (arith, one, made)
+  made_one keeps old between new given answer steps is (inr none) isnt made = absurd (isnt kind.Memory given none.1)
+
+  -- so was one that is answered
+  pub made_answer : (keeps : Bool) (old between new : SessionState) (given : Step K V P A) (is : Bool) (answer : Reply K V P A) (steps : ℕ) → answer ≡ reply.Answer is
+      → kind_of (brief_of given answer) ≡ Other → (IsNotedIn between new given answer ⊎ ((keeps ≡ true) × (answer ≡ reply.Refused kind.Memory given) × (new ≡ between)))
+      → HasMade steps old between → HasMade (steps + 1) old new
+  made_answer keeps old between new given is answer steps answered other noted made =
+      made_one keeps old between new given answer steps other noted
+      (λ why back refused. let clash : ◌≡◌ {A = Reply K V P A} (reply.Answer is) (reply.Refused why back) = sym answered ∙ refused in absurd cc) made
+
+  -- no step takes one back
+  pub made_still : (keeps : Bool) (old between new : SessionState) (given : Step K V P A) (answer : Reply K V P A) (steps : ℕ) → kind_of (brief_of given answer) ≡ Other
+      → (IsNotedIn between new given answer ⊎ ((keeps ≡ true) × (answer ≡ reply.Refused kind.Memory given) × (new ≡ between))) → HasMade steps old between → HasMade steps old new
+  made_still keeps old between new given answer steps is (inl noted) made =
+      let one : new.shares.amounts.other ≡ between.shares.amounts.other + 1 = ap (λ (c : Counts). c.other) (noted.counted ∙ ap (λ kind. grown kind between.shares.amounts) is) in
+      omega (arith, one, made)
+  made_still keeps old between new given answer steps is (inr none) made = subst (HasMade steps old) (sym none.2) made
 
 -- what counted no named step before counts none after
 pub unnamed_still : (old new : SessionState) → CountsUnnamed old → HoldsNamed old new → CountsUnnamed new

@@ -2,3 +2,4 @@ pub mod AnsweringLemmas
 pub mod RefusalLemmas
 pub mod EndingLemmas
 pub mod HoldingLemmas
+pub mod ReportingLemmas

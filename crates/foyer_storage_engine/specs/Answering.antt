@@ -152,8 +152,8 @@ module _ {K V P A : Type 0} (is_key is_value : List ℕ → Bool) (key_of : K �
   IsEndOf keeps old new ticket came answered =
       IsEndedWith old new ticket came answered ⊎ ((keeps ≡ true) × (answered ≡ Err error.Memory) × (new ≡ old))
 
-  -- what was read for the ticket ended the load: as many bytes as its pages have, of which an entry is the pair, or a fault
-  pub record IsEnded (old new : SessionState) (hash : ℕ) (throttled : Bool) (answered : Result (Load K V P A) Error) : Type 0 where
+  -- What was read for the ticket ended the load: as many bytes as its pages have, of which an entry is the pair, or a fault. It was read so.
+  pub record IsEnded (read_by : Ticket → Result (Vec ℕ A) Error → Type 0) (old new : SessionState) (hash : ℕ) (throttled : Bool) (answered : Result (Load K V P A) Error) : Type 0 where
     pub ticket : Ticket
     pub came : Result (Vec ℕ A) Error
     pub answer : ReplyBrief
@@ -162,11 +162,12 @@ module _ {K V P A : Type 0} (is_key is_value : List ℕ → Bool) (key_of : K �
     pub said : IsLoadAs answer answered
     pub own : (ticket.hash ≡ hash) × (throttled ≡ false)
     pub len : IfOk came (λ bytes. vec_len bytes ≡ page_up ticket.address.len)
+    pub read : read_by ticket came
     pub pair : IsPairOf (step.LoadEnd ticket came) answered
 
   -- A load makes one step, or two where it reads, and answers what their briefs say, and an entry only of the bytes that it read; or,
   -- where notes are kept, nothing was noted.
-  abbrev pub IsLoaded : (keeps : Bool) → SessionState → SessionState → (hash : ℕ) → (throttled : Bool) → Result (Load K V P A) Error → Type 0
-  IsLoaded keeps old new hash throttled answered =
+  abbrev pub IsLoaded : (read_by : Ticket → Result (Vec ℕ A) Error → Type 0) → (keeps : Bool) → SessionState → SessionState → (hash : ℕ) → (throttled : Bool) → Result (Load K V P A) Error → Type 0
+  IsLoaded read_by keeps old new hash throttled answered =
       IsLookedUp old new hash throttled answered ⊎ (IsCutShort old new hash throttled answered
-      ⊎ (IsEnded old new hash throttled answered ⊎ ((keeps ≡ true) × (answered ≡ Err error.Memory) × (new ≡ old))))
+      ⊎ (IsEnded read_by old new hash throttled answered ⊎ ((keeps ≡ true) × (answered ≡ Err error.Memory) × (new ≡ old))))

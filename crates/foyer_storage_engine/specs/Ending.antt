@@ -1,21 +1,29 @@
 -- What a session shows of a wait, a close or a destroy that it made.
-use Rattle.std.specs.Prelude.{◌≡◌, ◌⊎◌, ℕ, Bool, true, false, Option, None, Some, Result, Ok, Err}
+use Rattle.std.specs.Prelude.{◌≡◌, ◌⊎◌, ◌+◌, ◌≤◌, ℕ, Bool, true, false, Option, None, Some, Result, Ok, Err}
 use Rattle.std.specs.Option.{unwrap_or}
 use Rattle.foyer_device_page.specs.declared.error.Error.{Error}
 use Rattle.foyer_device_page.specs.declared.error.Error.TheVariants as error
 use Rattle.foyer_device_page.specs.declared.error.ErrorKind.{ErrorKind}
+use Rattle.foyer_device_page.specs.declared.error.ErrorKind.TheVariants as kind
+use Rattle.foyer_core_shared.specs.Briefs.{outcome_of}
 use Rattle.foyer_core_shared.specs.Sessions.{SessionState}
 use Rattle.foyer_core_shared.specs.Kinds.{kind_in}
 use Rattle.foyer_core_shared.specs.declared.brief.ReplyBrief.{ReplyBrief}
 use Rattle.foyer_core_shared.specs.declared.brief.ReplyBrief.TheVariants as replied
 use Rattle.foyer_core_shared.specs.declared.brief.StepBrief.{StepBrief}
 use Rattle.foyer_core_shared.specs.declared.brief.StepBrief.TheVariants as asked
+use Rattle.foyer_storage_engine.specs.declared.engine.ends.Early.{Early}
+use Rattle.foyer_storage_engine.specs.declared.engine.ends.Early.TheVariants as early
 use Rattle.foyer_core_tally.specs.Tally.{grown, none}
 use Rattle.foyer_core_shared.specs.Refusals.{error_of}
 
 -- The session counts no step of the seven named kinds beside those that it had: it made no put, no delete and no load.
 abbrev pub HoldsNamed : SessionState → SessionState → Type 0
 HoldsNamed old new = new.shares.amounts ≡ record old.shares.amounts { other = new.shares.amounts.other }
+
+-- it made so many steps of no named kind at least
+abbrev pub HasMade : (steps : ℕ) → SessionState → SessionState → Type 0
+HasMade steps old new = old.shares.amounts.other + steps ≤ new.shares.amounts.other
 
 -- all steps that it counts are of no named kind
 abbrev pub CountsUnnamed : SessionState → Type 0
@@ -57,11 +65,12 @@ cleaned_as (replied.Destroyed first) = Some (destroyed_as first)
 cleaned_as (replied.Refused kind) = Some (Err (error_of kind))
 cleaned_as other = None
 
--- the newest step brings the outcome of this block's clean, and is answered so
-pub record BringsClean (block : ℕ) (session : SessionState) (answered : Option (Result (Unit {0}) Error)) : Type 0 where
-  pub outcome : Result (Unit {0}) ErrorKind
+-- the newest step brings the outcome of this block's clean, which came of it so, and is answered so
+pub record BringsClean (came : ℕ → Result (Unit {0}) Error → Type 0) (block : ℕ) (session : SessionState) (answered : Option (Result (Unit {0}) Error)) : Type 0 where
+  pub outcome : Result (Unit {0}) Error
   pub answer : ReplyBrief
-  pub newest : session.newest ≡ Some (record { step = asked.DestroyCleaned block outcome; reply = answer })
+  pub newest : session.newest ≡ Some (record { step = asked.DestroyCleaned block (outcome_of outcome); reply = answer })
+  pub did : came block outcome
   pub said : answered ≡ cleaned_as answer
 
 -- what a destroy is answered as, by what its last clean is: it ends with none but that
@@ -70,10 +79,11 @@ ended_as outcome = unwrap_or outcome (Err error.Unsupported)
 
 -- The same of the last block's clean, behind which the destroy is answered as the reply says. So it goes well only where that
 -- clean's reply says that the destroy ended, and no clean failed.
-pub record EndsWithClean (block : ℕ) (session : SessionState) (answered : Result (Unit {0}) Error) : Type 0 where
-  pub outcome : Result (Unit {0}) ErrorKind
+pub record EndsWithClean (came : ℕ → Result (Unit {0}) Error → Type 0) (block : ℕ) (session : SessionState) (answered : Result (Unit {0}) Error) : Type 0 where
+  pub outcome : Result (Unit {0}) Error
   pub answer : ReplyBrief
-  pub newest : session.newest ≡ Some (record { step = asked.DestroyCleaned block outcome; reply = answer })
+  pub newest : session.newest ≡ Some (record { step = asked.DestroyCleaned block (outcome_of outcome); reply = answer })
+  pub did : came block outcome
   pub said : answered ≡ ended_as (cleaned_as answer)
 
 -- why a destroy that has begun ends early: no step is left, or the engine's bells are closed
@@ -81,6 +91,17 @@ abbrev pub is_late_error : Error → Bool
 is_late_error error.Closed = true
 is_late_error error.SequenceEnd = true
 is_late_error other = false
+
+-- what an early end of a destroy is answered as
+abbrev pub early_error : Early → Error
+early_error (early.Refused why) = error_of why
+early_error (early.Closed seen) = error.Closed
+
+-- The newest step is this one, and was refused so; or, where notes are kept, one finds no room for it; or the bell was seen closed.
+abbrev pub IsEarly : (keeps : Bool) → StepBrief → SessionState → Early → Type 0
+IsEarly keeps given session (early.Refused why) =
+    (session.newest ≡ Some (record { step = given; reply = replied.Refused why })) ⊎ ((keeps ≡ true) × (why ≡ kind.Memory))
+IsEarly keeps given session (early.Closed seen) = Unit {0}
 
 -- A destroy hasn't begun: its first step is the newest, and was refused so; or, where notes are kept, one finds no room for it.
 abbrev pub IsUnbegun : (keeps : Bool) → SessionState → Error → Type 0

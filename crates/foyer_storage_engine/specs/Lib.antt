@@ -1,3 +1,4 @@
+pub mod Accessing
 pub mod Answering
 pub mod Loading
 pub mod Decided
@@ -12,3 +13,5 @@ pub mod Calls
 pub use Rattle.foyer_core_shared.specs.Sessions
 pub use Rattle.foyer_core_shared.specs.Issuing
 pub use Rattle.foyer_core_shared.specs.Lent
+pub use Rattle.foyer_core_shared.specs.Ticket
+pub use Rattle.foyer_core_shared.specs.Briefs

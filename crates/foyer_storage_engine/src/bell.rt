@@ -1,5 +1,5 @@
 //! A bell: threads wait at it until something moved.
-ghost use Rattle.std.specs.Prelude.{◌≡◌, ◌+◌, ◌%◌, ◌^◌, IsTrue, not, true, false};
+ghost use Rattle.std.specs.Prelude.{◌≡◌, ◌↔◌, ◌+◌, ◌%◌, ◌^◌, IsSome, IsTrue, not, true, false};
 ghost use Rattle.foyer_storage_engine.specs.Ringing.{is_past};
 
 use foyer_lock::lock_spinning;
@@ -10,6 +10,12 @@ use std::sync::{Condvar, Mutex, Wait};
 // How often a thread looks at a bell or at its wait before it sleeps: some 25 microseconds, or 60 where the processor pauses for longer.
 // A small batch takes less, and so does what it costs to sleep and to be woken.
 pub(crate) const LOOKS: u32 = 1000;
+
+/// What shows that a bell was closed, behind this count: only who waited at it has one.
+#[derive(Clone, Copy, Debug, PartialEq, Eq)]
+pub struct BellClosed {
+    count: u64,
+}
 
 // What stands behind the lock: a count of moves, whether no more come, and whether a thread has begun to wait since the last
 // time that all were woken.
@@ -65,12 +71,15 @@ impl Moves {
         true
     }
 
-    // What a wait answers, which may end nowhere else.
-    fn is_closed_past(&self, seen: u64) -> bool
+    // What a wait gives, which may end nowhere else.
+    fn closed_past(&self, seen: u64) -> Option<BellClosed>
         requires { IsTrue (is_past self.now seen) }
-        ensures { result ≡ self.now.is_closed }
+        ensures { IsSome result ↔ IsTrue self.now.is_closed }
     {
-        self.is_closed
+        if !self.is_closed {
+            return None;
+        }
+        Some(BellClosed { count: self.count })
     }
 }
 
@@ -116,24 +125,28 @@ impl Bell {
         lock_spinning(&self.moves, rt).count
     }
 
-    // What a wait answers, where it may end; None also where another thread is at the bell.
-    fn look_past(&self, seen: u64) -> Option<bool> {
+    // What a wait gives, where it may end; None also where another thread is at the bell.
+    fn look_past(&self, seen: u64) -> Option<Option<BellClosed>> {
         let Some(moves) = self.moves.try_lock() else {
             return None;
         };
         if moves.is_past(seen) {
-            Some(moves.is_closed_past(seen))
+            Some(moves.closed_past(seen))
         } else {
             None
         }
     }
 
-    /// Waits until the count is another than `seen`, or the bell is closed. True once it is closed. Before it sleeps it looks for some
-    /// microseconds, in which no ring has to wake it.
+    /// Waits until the count is another than `seen`, or the bell is closed. True once it is closed.
     pub fn wait_past(&self, rt: &impl Wait, seen: u64) -> bool {
+        self.closed_past(rt, seen).is_some()
+    }
+
+    /// The same, which gives what shows that it is closed. Before it sleeps it looks for some microseconds, in which no ring has to wake it.
+    pub fn closed_past(&self, rt: &impl Wait, seen: u64) -> Option<BellClosed> {
         for _ in 0..LOOKS {
-            if let Some(is_closed) = self.look_past(seen) {
-                return is_closed;
+            if let Some(closed) = self.look_past(seen) {
+                return closed;
             }
             spin_loop();
         }
@@ -142,6 +155,6 @@ impl Bell {
             lock_spinning(&self.moves, rt),
             |moves| moves.begins_to_wait(seen),
         );
-        moves.is_closed_past(seen)
+        moves.closed_past(seen)
     }
 }

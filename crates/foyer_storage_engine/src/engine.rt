@@ -6,6 +6,7 @@ ghost use Rattle.foyer_device_page.specs.declared.error.Error.{Error as error};
 ghost use Rattle.foyer_core_shared.specs.Briefs.{reply_brief};
 ghost use Rattle.foyer_core_shared.specs.declared.brief.StepBrief.TheVariants as asked;
 ghost use Rattle.foyer_core_shared.specs.Replies.{is_delete_reply, is_end_reply, is_enqueue_reply, is_look_up_reply, is_question_reply};
+ghost use Rattle.foyer_storage_engine.specs.Accessing.{IsReadBy};
 ghost use Rattle.foyer_storage_engine.specs.Answering.{IsAnsweredAs, IsEndOf, IsLoaded, asked_as, deleted_as, enqueued_as, IsLoadOf, IsTicketOf};
 ghost use Rattle.foyer_storage_engine.specs.Answering.{is_draw_error, is_load_error, is_question_error};
 ghost use Rattle.foyer_storage_engine.specs.declared.load.Load.TheVariants as load;
@@ -424,7 +425,7 @@ where
         throttled: bool,
     ) -> Result<Load<K, V, P, A>>
         requires { 0 < session.old.shares.parts }
-        ensures answer { IsLoaded K.is_decodable V.is_decodable K.encoding V.encoding N.keeps session.old session.new hash throttled result }
+        ensures answer { IsLoaded K.is_decodable V.is_decodable K.encoding V.encoding (IsReadBy D.is_known D.byte_at D.may_answer) N.keeps session.old session.new hash throttled result }
         ensures throttled { result ≡ Ok load.Throttled → throttled ≡ true }
         ensures refused { IfErr result (λ e. is_load_error e ≡ true) }
         ensures parts { session.new.shares.parts ≡ session.old.shares.parts }
@@ -445,7 +446,7 @@ where
         disk: usize,
     ) -> Result<Load<K, V, P, A>>
         requires { 0 < session.old.shares.parts }
-        ensures answer { IsLoaded K.is_decodable V.is_decodable K.encoding V.encoding N.keeps session.old session.new hash throttled result }
+        ensures answer { IsLoaded K.is_decodable V.is_decodable K.encoding V.encoding (IsReadBy D.is_known D.byte_at D.may_answer) N.keeps session.old session.new hash throttled result }
         ensures throttled { result ≡ Ok load.Throttled → throttled ≡ true }
         ensures refused { IfErr result (λ e. is_load_error e ≡ true) }
         ensures parts { session.new.shares.parts ≡ session.old.shares.parts }

@@ -12,3 +12,4 @@ pub mod load;
 pub use foyer_core_access as core_access;
 pub use foyer_core_shared as core_shared;
 pub use foyer_core_shared::core_steps;
+pub use foyer_io_disk as io_disk;

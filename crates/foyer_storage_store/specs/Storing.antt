@@ -1,6 +1,8 @@
 -- What the calls of a store make of its engine's answers.
 use Rattle.std.specs.Prelude.{◌≡◌, ◌+◌, ◌-◌, ◌^◌, ◌<◌, ◌⊎◌, ℕ, min, Bool, true, false, List, length, Option, Some, None, Result, Ok, Err, IfErr, OnOk}
 use Rattle.foyer_storage_engine.specs.Sessions.{SessionState}
+use Rattle.foyer_storage_engine.specs.Ticket.{Ticket}
+use Rattle.std.specs.declared.vec.Vec.{Vec}
 use Rattle.foyer_device_page.specs.declared.error.Error.{Error}
 use Rattle.foyer_device_page.specs.declared.error.Error.TheVariants as error
 use Rattle.foyer_device_throttle.specs.declared.throttle.Throttle.{Throttle}
@@ -14,19 +16,20 @@ use Rattle.std.specs.Duration.{as_nanos, max_nanos}
 use Rattle.std.specs.declared.time.Duration.{Duration}
 use Rattle.foyer_storage_engine.specs.Answering.{IsLoaded, is_draw_error}
 use Rattle.foyer_storage_engine.specs.Decided.{decided_load}
-use Rattle.foyer_storage_engine.specs.Ending.{AsksForReclaims, EndsWithClean}
+use Rattle.foyer_storage_engine.specs.Ending.{AsksForReclaims, EndsWithClean, HasMade}
 use Rattle.foyer_storage_engine.specs.declared.engine.Enqueued.{Enqueued}
 use Rattle.foyer_storage_engine.specs.declared.engine.Enqueued.TheVariants as enqueued
 use Rattle.foyer_storage_engine.specs.declared.load.Load.{Load}
 use Rattle.foyer_storage_engine.specs.declared.load.Load.TheVariants as load
 
--- A load looks its hash up, throttled only where there is a limit of reads; an entry that it answers is the pair of what it read.
-pub record IsLoadedUnder {K V P A : Type 0} (is_key is_value : List ℕ → Bool) (key_of : K → List ℕ) (value_of : V → List ℕ) (limits : Throttle)
+-- A load looks its hash up, throttled only where there is a limit of reads; an entry that it answers is the pair of what it read, and it was
+-- read so.
+pub record IsLoadedUnder {K V P A : Type 0} (is_key is_value : List ℕ → Bool) (key_of : K → List ℕ) (value_of : V → List ℕ) (read_by : Ticket → Result (Vec ℕ A) Error → Type 0) (limits : Throttle)
     (old new : SessionState) (hash : ℕ) (answered : Result (Load K V P A) Error) : Type 0 where
   pub throttled : Bool
   pub unlimited : limits.read_throughput ≡ None → limits.read_iops ≡ None → throttled ≡ false
   pub said : answered ≡ Ok load.Throttled → throttled ≡ true
-  pub loaded : IsLoaded is_key is_value key_of value_of false old new hash throttled answered
+  pub loaded : IsLoaded is_key is_value key_of value_of read_by false old new hash throttled answered
 
 -- what the keeper alone answers: the key's piece, young
 abbrev pub IsKept : {K V P A : Type 0} → (K → K → Bool) → K → Result (Load K V P A) Error → Type 0
@@ -82,13 +85,14 @@ IsStored may_judge may_enqueue may_delete force answered =
     ⊎ ((force ≡ false) × (verdict : StorageFilterResult) × may_judge verdict × ((IsAdmit verdict × may_enqueue answered)
     ⊎ ((IsAdmit verdict → ⊥) × (deleted : Result (Unit {0}) Error) × may_delete deleted × (answered ≡ deleted_for deleted))))
 
--- a wait, or a close, that ended: its last step asks whether no reclaim runs
-abbrev pub HasWaited : SessionState → Result (Unit {0}) Error → Type 0
-HasWaited new answered = OnOk answered (AsksForReclaims new) × IfErr answered (λ e. is_draw_error e ≡ true)
+-- a wait, or a close, that ended: it made so many steps at least, of which the last asks whether no reclaim runs
+abbrev pub HasWaited : (steps : ℕ) → SessionState → SessionState → Result (Unit {0}) Error → Type 0
+HasWaited steps old new answered =
+    OnOk answered (AsksForReclaims new) × OnOk answered (HasMade steps old new) × IfErr answered (λ e. is_draw_error e ≡ true)
 
--- a destroy of so many blocks that ended: its last step brings the outcome of the last block's clean, and it is answered so; or it is
--- refused before that
-abbrev pub HasDestroyed : (blocks : ℕ) → SessionState → Result (Unit {0}) Error → Type 0
-HasDestroyed blocks new answered =
-    OnOk answered (0 < blocks → EndsWithClean (blocks - 1) new answered)
-    × IfErr answered (λ e. (is_draw_error e ≡ true) ⊎ (0 < blocks → EndsWithClean (blocks - 1) new answered))
+-- a destroy of so many blocks that ended: its last step brings the outcome of the last block's clean, which came of it so, and it is
+-- answered so; or it is refused before that
+abbrev pub HasDestroyed : (came : ℕ → Result (Unit {0}) Error → Type 0) → (blocks : ℕ) → SessionState → Result (Unit {0}) Error → Type 0
+HasDestroyed came blocks new answered =
+    OnOk answered (0 < blocks → EndsWithClean came (blocks - 1) new answered)
+    × IfErr answered (λ e. (is_draw_error e ≡ true) ⊎ (0 < blocks → EndsWithClean came (blocks - 1) new answered))

@@ -25,6 +25,7 @@ use foyer_storage_engine::core_shared::notes::NoNotes;
 use foyer_storage_engine::core_steps::apply::no_io;
 use foyer_storage_engine::engine::counts::WorkCounts;
 use foyer_storage_engine::engine::{BlockEngine, Enqueued};
+use foyer_storage_engine::io_disk::disk::Disk;
 use foyer_storage_engine::load::Load;
 use std::alloc::Global;
 use std::sync::atomic::{AtomicUsize, Ordering};
@@ -216,7 +217,8 @@ where
     Q: Partition + Copy,
     G: Gate,
 {
-    ghost use Rattle.std.specs.Prelude.{◌≡◌};
+    ghost use Rattle.std.specs.Prelude.{◌≡◌, ◌+◌};
+    ghost use Rattle.foyer_storage_engine.specs.Accessing.{IsCleanedBy, IsReadBy};
     ghost use Rattle.foyer_storage_engine.specs.Calls.{IsDeleteAnswer, IsEnqueueAnswer, IsQuestionAnswer};
     ghost use Rattle.std.specs.Arc.{arc_value};
     ghost use Rattle.foyer_storage_store.specs.Storing.{HasDestroyed, HasWaited, IsAdmissionUnder, IsLoadedUnder};
@@ -227,17 +229,19 @@ where
 
     ghost may_enqueue = { λ _ old new hash size answer. IsEnqueueAnswer old.steps new.steps hash size answer × (new.steps.shares.parts ≡ old.steps.shares.parts) };
 
-    ghost may_load = { λ b old new hash answer. IsLoadedUnder K.is_decodable V.is_decodable K.encoding V.encoding b.throttle old.steps new.steps hash answer × (new.steps.shares.parts ≡ old.steps.shares.parts) };
+    ghost may_load = { λ b old new hash answer. IsLoadedUnder K.is_decodable V.is_decodable K.encoding V.encoding
+        (IsReadBy ⟦<DeviceBlocks<N, Q> as Disk>⟧.is_known ⟦<DeviceBlocks<N, Q> as Disk>⟧.byte_at ⟦<DeviceBlocks<N, Q> as Disk>⟧.may_answer) b.throttle old.steps new.steps hash answer × (new.steps.shares.parts ≡ old.steps.shares.parts) };
 
     ghost may_delete = { λ _ old new hash answer. IsDeleteAnswer old.steps new.steps hash answer × (new.steps.shares.parts ≡ old.steps.shares.parts) };
 
     ghost may_ask = { λ _ old new hash answer. IsQuestionAnswer old.steps new.steps hash answer × (new.steps.shares.parts ≡ old.steps.shares.parts) };
 
-    ghost may_wait = { λ _ old new answer. HasWaited new.steps answer × (new.steps.shares.parts ≡ old.steps.shares.parts) };
+    ghost may_wait = { λ b old new answer. HasWaited ((arc_value b.engine).settings.flushers + 1) old.steps new.steps answer × (new.steps.shares.parts ≡ old.steps.shares.parts) };
 
-    ghost may_close = { λ _ old new answer. HasWaited new.steps answer × (new.steps.shares.parts ≡ old.steps.shares.parts) };
+    ghost may_close = { λ b old new answer. HasWaited ((arc_value b.engine).settings.flushers + 2) old.steps new.steps answer × (new.steps.shares.parts ≡ old.steps.shares.parts) };
 
-    ghost may_destroy = { λ b old new answer. HasDestroyed (arc_value b.engine).settings.blocks new.steps answer × (new.steps.shares.parts ≡ old.steps.shares.parts) };
+    ghost may_destroy = { λ b old new answer. HasDestroyed (IsCleanedBy ⟦<DeviceBlocks<N, Q> as Disk>⟧.is_known ⟦<DeviceBlocks<N, Q> as Disk>⟧.byte_at
+        ⟦<DeviceBlocks<N, Q> as Disk>⟧.surely_has ⟦<DeviceBlocks<N, Q> as Disk>⟧.surely_lies ⟦<DeviceBlocks<N, Q> as Disk>⟧.faults) (arc_value b.engine).settings.blocks new.steps answer × (new.steps.shares.parts ≡ old.steps.shares.parts) };
 
     fn device(&self) -> DeviceSummary {
         self.device

@@ -1,5 +1,5 @@
 //! The calls of an engine that wait for its workers.
-ghost use Rattle.std.specs.Prelude.{◌≡◌, ◌⊎◌, ◌-◌, ◌<◌, IfErr, IfOk, OnOk, Some, true};
+ghost use Rattle.std.specs.Prelude.{◌≡◌, ◌⊎◌, ◌+◌, ◌-◌, ◌<◌, IfErr, IfOk, None, OnOk, Some, false, true};
 ghost use Rattle.foyer_core_shared.specs.Reply.TheVariants as reply;
 ghost use Rattle.foyer_core_shared.specs.Step.{Step};
 ghost use Rattle.foyer_device_page.specs.declared.error.ErrorKind.TheVariants as kind;
@@ -9,9 +9,12 @@ ghost use Rattle.foyer_core_shared.specs.Replies.{may_reply};
 ghost use Rattle.foyer_storage_engine.specs.Answering.{is_draw_error};
 ghost use Rattle.foyer_core_shared.specs.declared.brief.ReplyBrief.TheVariants as replied;
 ghost use Rattle.foyer_core_shared.specs.declared.brief.StepBrief.TheVariants as asked;
-ghost use Rattle.foyer_storage_engine.specs.Ending.{AsksForReclaims, AsksToWait, BringsClean, CountsStep, EndsWithClean, HasBegun, HoldsNamed, IsUnbegun, is_late_error};
+ghost use Rattle.foyer_storage_engine.specs.Accessing.{IsCleanedBy};
+ghost use Rattle.foyer_storage_engine.specs.Ending.{AsksForReclaims, AsksToWait, BringsClean, CountsStep, EndsWithClean, HasBegun, HasMade, HoldsNamed, IsEarly, IsUnbegun, early_error, is_late_error};
 
 use super::BlockEngine;
+use super::waits::{AnsweredWait, BegunWait};
+use crate::bell::BellClosed;
 use foyer_block_index::manager::BlockId;
 use foyer_block_manager::block::eviction::EvictionPicker;
 use foyer_core_shared::core_steps::apply::no_io;
@@ -30,6 +33,24 @@ use foyer_policy_filter::StorageFilterCondition;
 use std::alloc::Allocator;
 use std::sync::Wait;
 use std::thread;
+
+// Why a destroy ends before its cleans: a step of it was refused, or no worker runs any more.
+#[derive(Clone, Copy, Debug, PartialEq, Eq)]
+enum Early {
+    Refused(ErrorKind),
+    Closed(BellClosed),
+}
+
+impl Early {
+    fn error(self) -> Error
+        ensures { result ≡ early_error self }
+    {
+        match self {
+            Early::Refused(kind) => error_of(kind),
+            Early::Closed(_) => Error::Closed,
+        }
+    }
+}
 
 impl<L, K, V, P, A, E, C, D, G, N> BlockEngine<L, K, V, P, A, E, C, D, G, N>
 where
@@ -77,14 +98,17 @@ where
 
     // Queues a wait at each flusher. Where one is refused the wait is given up, and those that are queued stay.
     #[tactic(auto, using(crate::proofs::HoldingLemmas::held_by_made, crate::proofs::HoldingLemmas::held_on))]
-    fn queue_waits(&self, rt: &impl Wait, session: &mut Session<L>) -> Result<u64>
+    fn queue_waits(&self, rt: &impl Wait, session: &mut Session<L>) -> Result<BegunWait>
         requires { 0 < session.old.shares.parts }
-        ensures queued { IfOk result (λ id. 0 < self.now.settings.flushers → AsksToWait (self.now.settings.flushers - 1) id session.new) }
+        ensures counted { OnOk result (HasMade self.now.settings.flushers session.old session.new) }
+        ensures all { IfOk result (λ wait. wait.flushers ≡ self.now.settings.flushers) }
+        ensures queued { IfOk result (λ wait. 0 < self.now.settings.flushers → AsksToWait (self.now.settings.flushers - 1) wait.id session.new) }
         ensures refused { IfErr result (λ e. is_draw_error e ≡ true) }
         ensures named { HoldsNamed session.old session.new }
         ensures parts { session.new.shares.parts ≡ session.old.shares.parts }
     {
-        let id = self.signals.waits.begin(rt, self.settings.flushers)?;
+        let begun = self.signals.waits.begin(rt, self.settings.flushers)?;
+        let id = begun.id();
         for flusher in 0..self.settings.flushers {
             let reply = self
                 .shared
@@ -96,14 +120,22 @@ where
             }
         }
         self.signals.queued.ring(rt);
-        Ok(id)
+        Ok(begun)
     }
 
-    // Waits until no reclaim runs.
-    #[tactic(auto, using(crate::proofs::HoldingLemmas::held_by_made, crate::proofs::HoldingLemmas::held_on))]
-    fn wait_for_reclaims(&self, rt: &impl Wait, session: &mut Session<L>) -> Result<()>
+    // Waits until no reclaim runs, once flushers have answered; or until the bell is closed, as what it gives shows.
+    #[tactic(auto, using(crate::proofs::HoldingLemmas::held_by_made, crate::proofs::HoldingLemmas::held_on, crate::proofs::HoldingLemmas::made_answer, crate::proofs::HoldingLemmas::made_still))]
+    fn wait_for_reclaims(
+        &self,
+        rt: &impl Wait,
+        session: &mut Session<L>,
+        _answered: AnsweredWait,
+    ) -> Result<Option<BellClosed>>
         requires { 0 < session.old.shares.parts }
         ensures asks { OnOk result (AsksForReclaims session.new) }
+        ensures idle { IfOk result (λ closed. closed ≡ None
+            → session.new.newest ≡ Some (record { step = asked.ReclaimIdle; reply = replied.Answer true })) }
+        ensures counted { OnOk result (HasMade 1 session.old session.new) }
         ensures refused { IfErr result (λ e. is_draw_error e ≡ true) }
         ensures named { HoldsNamed session.old session.new }
         ensures parts { session.new.shares.parts ≡ session.old.shares.parts }
@@ -112,8 +144,11 @@ where
             let seen = self.signals.done.count(rt);
             match self.shared.step(rt, session, no_io(), Step::ReclaimIdle) {
                 Reply::Answer(is_idle) => {
-                    if is_idle || self.signals.done.wait_past(rt, seen) {
-                        return Ok(());
+                    if is_idle {
+                        return Ok(None);
+                    }
+                    if let Some(closed) = self.signals.done.closed_past(rt, seen) {
+                        return Ok(Some(closed));
                     }
                 }
                 Reply::Refused(kind, _) => return Err(error_of(kind)),
@@ -130,13 +165,15 @@ where
     pub fn wait(&self, rt: &impl Wait, session: &mut Session<L>) -> Result<()>
         requires { 0 < session.old.shares.parts }
         ensures asks { OnOk result (AsksForReclaims session.new) }
+        ensures counted { OnOk result (HasMade (self.now.settings.flushers + 1) session.old session.new) }
         ensures refused { IfErr result (λ e. is_draw_error e ≡ true) }
         ensures named { HoldsNamed session.old session.new }
         ensures parts { session.new.shares.parts ≡ session.old.shares.parts }
     {
-        let id = self.queue_waits(rt, session)?;
-        self.signals.waits.wait_for(rt, id);
-        self.wait_for_reclaims(rt, session)
+        let begun = self.queue_waits(rt, session)?;
+        let answered = self.signals.waits.wait_for(rt, begun);
+        let _ = self.wait_for_reclaims(rt, session, answered)?;
+        Ok(())
     }
 
     /// Takes no more enqueues, deletes and destroys, and waits as `wait` does.
@@ -144,6 +181,7 @@ where
     pub fn close(&self, rt: &impl Wait, session: &mut Session<L>) -> Result<()>
         requires { 0 < session.old.shares.parts }
         ensures asks { OnOk result (AsksForReclaims session.new) }
+        ensures counted { OnOk result (HasMade (self.now.settings.flushers + 2) session.old session.new) }
         ensures refused { IfErr result (λ e. is_draw_error e ≡ true) }
         ensures named { HoldsNamed session.old session.new }
         ensures parts { session.new.shares.parts ≡ session.old.shares.parts }
@@ -156,11 +194,16 @@ where
 
     // Begins a destroy, once none is under way.
     #[tactic(auto, using(crate::proofs::HoldingLemmas::held_by_made, crate::proofs::HoldingLemmas::held_on))]
-    fn begin_destroy(&self, rt: &impl Wait, session: &mut Session<L>) -> Result<()>
+    fn begin_destroy(
+        &self,
+        rt: &impl Wait,
+        session: &mut Session<L>,
+    ) -> std::result::Result<(), Early>
         requires { 0 < session.old.shares.parts }
         ensures begun { OnOk result (HasBegun session.new) }
-        ensures refused { IfErr result (λ e. is_draw_error e ≡ true) }
-        ensures unbegun { IfErr result (λ e. (is_late_error e ≡ true) ⊎ IsUnbegun N.keeps session.new e) }
+        ensures early { IfErr result (IsEarly N.keeps asked.DestroyBegin session.new) }
+        ensures refused { IfErr result (λ early. is_draw_error (early_error early) ≡ true) }
+        ensures unbegun { IfErr result (λ early. (is_late_error (early_error early) ≡ true) ⊎ IsUnbegun N.keeps session.new (early_error early)) }
         ensures named { HoldsNamed session.old session.new }
         ensures parts { session.new.shares.parts ≡ session.old.shares.parts }
     {
@@ -168,10 +211,10 @@ where
             let seen = self.signals.done.count(rt);
             match self.shared.step(rt, session, no_io(), Step::DestroyBegin) {
                 Reply::Destroying(_) => return Ok(()),
-                Reply::Refused(kind, _) => return Err(error_of(kind)),
+                Reply::Refused(kind, _) => return Err(Early::Refused(kind)),
                 _ => {
-                    if self.signals.done.wait_past(rt, seen) {
-                        return Err(Error::Closed);
+                    if let Some(closed) = self.signals.done.closed_past(rt, seen) {
+                        return Err(Early::Closed(closed));
                     }
                 }
             }
@@ -199,10 +242,11 @@ where
 
     // Clears the index, once nothing is under way.
     #[tactic(auto, using(crate::proofs::HoldingLemmas::held_by_step, crate::proofs::HoldingLemmas::held_on))]
-    fn clear(&self, rt: &impl Wait, session: &mut Session<L>) -> Result<()>
+    fn clear(&self, rt: &impl Wait, session: &mut Session<L>) -> std::result::Result<(), Early>
         requires { 0 < session.old.shares.parts }
         ensures cleared { OnOk result (session.new.newest ≡ Some (record { step = asked.DestroyClear; reply = replied.Cleared })) }
-        ensures refused { IfErr result (λ e. is_late_error e ≡ true) }
+        ensures early { IfErr result (IsEarly false asked.DestroyClear session.new) }
+        ensures refused { IfErr result (λ early. is_late_error (early_error early) ≡ true) }
         ensures named { HoldsNamed session.old session.new }
         ensures parts { session.new.shares.parts ≡ session.old.shares.parts }
     {
@@ -210,10 +254,10 @@ where
             let seen = self.signals.done.count(rt);
             match self.step_again(rt, session, no_io(), Step::DestroyClear) {
                 Reply::Cleared => return Ok(()),
-                Reply::Refused(kind, _) => return Err(error_of(kind)),
+                Reply::Refused(kind, _) => return Err(Early::Refused(kind)),
                 _ => {
-                    if self.signals.done.wait_past(rt, seen) {
-                        return Err(Error::Closed);
+                    if let Some(closed) = self.signals.done.closed_past(rt, seen) {
+                        return Err(Early::Closed(closed));
                     }
                 }
             }
@@ -225,7 +269,7 @@ where
     #[tactic(auto, using(crate::proofs::HoldingLemmas::held_by_step, crate::proofs::HoldingLemmas::held_on))]
     fn clean(&self, rt: &impl Wait, session: &mut Session<L>, block: BlockId) -> Option<Result<()>>
         requires { 0 < session.old.shares.parts }
-        ensures brings { BringsClean block session.new result }
+        ensures brings { BringsClean (IsCleanedBy D.is_known D.byte_at D.surely_has D.surely_lies D.faults) block session.new result }
         ensures named { HoldsNamed session.old session.new }
         ensures parts { session.new.shares.parts ≡ session.old.shares.parts }
     {
@@ -244,17 +288,24 @@ where
     #[tactic(auto, using(crate::proofs::HoldingLemmas::held_on))]
     pub fn destroy(&self, rt: &impl Wait, session: &mut Session<L>) -> Result<()>
         requires { 0 < session.old.shares.parts }
-        ensures cleaned { OnOk result (0 < self.now.settings.blocks → EndsWithClean (self.now.settings.blocks - 1) session.new result) }
+        ensures cleaned { OnOk result (0 < self.now.settings.blocks → EndsWithClean (IsCleanedBy D.is_known D.byte_at D.surely_has D.surely_lies D.faults)
+            (self.now.settings.blocks - 1) session.new result) }
         ensures refused { IfErr result (λ e. (is_draw_error e ≡ true)
-            ⊎ (0 < self.now.settings.blocks → EndsWithClean (self.now.settings.blocks - 1) session.new result)) }
+            ⊎ (0 < self.now.settings.blocks → EndsWithClean (IsCleanedBy D.is_known D.byte_at D.surely_has D.surely_lies D.faults)
+            (self.now.settings.blocks - 1) session.new result)) }
         ensures unbegun { IfErr result (λ e. (is_late_error e ≡ true) ⊎ (IsUnbegun N.keeps session.new e
-            ⊎ (0 < self.now.settings.blocks → EndsWithClean (self.now.settings.blocks - 1) session.new result))) }
+            ⊎ (0 < self.now.settings.blocks → EndsWithClean (IsCleanedBy D.is_known D.byte_at D.surely_has D.surely_lies D.faults)
+            (self.now.settings.blocks - 1) session.new result))) }
         ensures named { HoldsNamed session.old session.new }
         ensures parts { session.new.shares.parts ≡ session.old.shares.parts }
     {
-        self.begin_destroy(rt, session)?;
+        if let Err(early) = self.begin_destroy(rt, session) {
+            return Err(early.error());
+        }
         self.wait_again(rt, session)?;
-        self.clear(rt, session)?;
+        if let Err(early) = self.clear(rt, session) {
+            return Err(early.error());
+        }
         let mut ended = Some(Ok(()));
         for block in 0..self.settings.blocks {
             ended = self.clean(rt, session, block);

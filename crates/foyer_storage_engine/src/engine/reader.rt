@@ -5,6 +5,7 @@ ghost use Rattle.foyer_io_disk.specs.Disk.{IsRead, IsTorn, SurelyCame};
 ghost use Rattle.foyer_core_model.specs.Numbers.{page};
 ghost use Rattle.foyer_core_access.specs.Reclaims.{IsCleaned};
 ghost use Rattle.foyer_device_page.specs.declared.error.Error.{Error as error};
+ghost use Rattle.foyer_storage_engine.specs.Accessing.{IsCleanedBy, IsReadBy};
 
 use foyer_block_index::manager::BlockId;
 use foyer_core_access::disk::do_read;
@@ -44,6 +45,7 @@ impl<D: Disk + Drop, A: Allocator + Clone> Reader<D, A> {
             ticket.now.address.block ticket.now.address.offset (page_up ticket.now.address.len) → ⊥)) }
         ensures fault { IfOk result (λ outcome. IfErr outcome (D.may_answer self.old.disk ticket.now.address.block
             ticket.now.address.offset (page_up ticket.now.address.len))) }
+        ensures by { IfOk result (IsReadBy D.is_known D.byte_at D.may_answer ticket.now) }
         ensures known { D.is_known self.old.disk → D.is_known self.new.disk }
         ensures has { (b o n : ℕ) → D.surely_has self.old.disk b o n → D.surely_has self.new.disk b o n }
         ensures lies { (b o n : ℕ) → D.surely_lies self.old.disk b o n → D.surely_lies self.new.disk b o n }
@@ -61,6 +63,7 @@ impl<D: Disk + Drop, A: Allocator + Clone> Reader<D, A> {
         ensures torn { D.is_known self.old.disk → OnErr result (IsTorn (D.byte_at self.old.disk) block 0 page (D.byte_at self.new.disk)) }
         ensures fails { OnErr result (SurelyCame (D.surely_has self.old.disk) (D.surely_lies self.old.disk) (D.faults self.old.disk) (D.faults self.new.disk)
             block 0 page → ⊥) }
+        ensures by { IsCleanedBy D.is_known D.byte_at D.surely_has D.surely_lies D.faults block result }
         ensures known { D.is_known self.old.disk → D.is_known self.new.disk }
         ensures lies { (b o n : ℕ) → D.surely_lies self.old.disk b o n → D.surely_lies self.new.disk b o n }
         ensures counted { D.faults self.old.disk ≤ D.faults self.new.disk }

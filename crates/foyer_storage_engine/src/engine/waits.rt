@@ -1,5 +1,5 @@
 //! Waits of callers, which workers answer.
-ghost use Rattle.std.specs.Prelude.{◌≡◌, ◌++◌, ◌∷◌, [], true, false, not, IfOk, IsOkUnless, OnErr};
+ghost use Rattle.std.specs.Prelude.{◌≡◌, ◌+◌, ◌%◌, ◌^◌, ◌++◌, ◌∷◌, [], ◌↔◌, true, false, not, IfOk, IfSome, IsOkUnless, IsSome, IsTrue, OnErr};
 ghost use Rattle.foyer_device_page.specs.declared.error.Error.TheVariants.{Memory};
 ghost use Rattle.foyer_storage_engine.specs.Waiting.{is_over, place_of, IsAnsweredAt, IsForgottenAt};
 
@@ -16,6 +16,28 @@ use std::sync::{Condvar, Mutex, Wait};
 struct OpenWait {
     id: u64,
     left: u32,
+}
+
+/// A wait that was begun: its number, and how many flushers are to answer it.
+#[derive(Clone, Copy, Debug, PartialEq, Eq)]
+pub struct BegunWait {
+    id: u64,
+    flushers: u32,
+}
+
+impl BegunWait {
+    /// The number by which flushers answer it.
+    pub fn id(&self) -> u64
+        ensures { result ≡ self.now.id }
+    {
+        self.id
+    }
+}
+
+/// What shows that all have answered a wait, or that nobody answers any more: only who waited for it has one.
+#[derive(Clone, Copy, Debug, PartialEq, Eq)]
+pub struct AnsweredWait {
+    id: u64,
 }
 
 // What stands behind the lock: the waits that aren't answered, whether none is answered any more, and whether a caller has begun
@@ -48,16 +70,17 @@ impl<A: Allocator> WaitTable<A> {
     }
 
     // A new wait, that so many flushers are to answer. Memory.
-    fn begin(&mut self, flushers: u32) -> Result<u64>
+    fn begin(&mut self, flushers: u32) -> Result<BegunWait>
         ensures refused { IsOkUnless result Memory }
-        ensures id { IfOk result (λ id. id ≡ self.old.next) }
-        ensures added { IfOk result (λ id. self.new.waiting.items ≡ self.old.waiting.items ++ record { id = id; left = flushers } ∷ []) }
+        ensures next { IfOk result (λ _. self.new.next ≡ (self.old.next + 1) % 2 ^ 64) }
+        ensures wait { IfOk result (λ wait. (wait.id ≡ self.old.next) × (wait.flushers ≡ flushers)) }
+        ensures added { IfOk result (λ _. self.new.waiting.items ≡ self.old.waiting.items ++ record { id = self.old.next; left = flushers } ∷ []) }
         ensures same { OnErr result ((self.new.waiting.items ≡ self.old.waiting.items) × (self.new.next ≡ self.old.next)) }
     {
         let id = self.next;
         self.waiting.push(OpenWait { id, left: flushers })?;
         self.next = id.wrapping_add(1);
-        Ok(id)
+        Ok(BegunWait { id, flushers })
     }
 
     // One flusher answers a wait: whether callers are to be woken. A wait that isn't there, since its caller gave it up, is left
@@ -91,6 +114,25 @@ impl<A: Allocator> WaitTable<A> {
         ensures { result ≡ is_over self.now id }
     {
         self.is_closed || place_of(&self.waiting, id).is_none()
+    }
+
+    // What shows that a wait is over, where it is.
+    fn answered(&self, id: u64) -> Option<AnsweredWait>
+        ensures over { IsSome result ↔ IsTrue (is_over self.now id) }
+        ensures own { IfSome result (λ wait. wait.id ≡ id) }
+    {
+        if !self.is_over(id) {
+            return None;
+        }
+        Some(AnsweredWait { id })
+    }
+
+    // The same of one that is known to be over.
+    fn over(&self, id: u64) -> AnsweredWait
+        requires { IsTrue (is_over self.now id) }
+        ensures { result.id ≡ id }
+    {
+        AnsweredWait { id }
     }
 
     // Whether to wait on: who does is to be woken where a wait ends.
@@ -132,9 +174,10 @@ impl<A: Allocator> Waits<A> {
         }
     }
 
-    /// A new wait, by its number, that so many flushers are to answer. Memory.
-    pub fn begin(&self, rt: &impl Wait, flushers: u32) -> Result<u64>
+    /// A new wait, that so many flushers are to answer. Memory.
+    pub fn begin(&self, rt: &impl Wait, flushers: u32) -> Result<BegunWait>
         ensures refused { IsOkUnless result Memory }
+        ensures flushers { IfOk result (λ wait. wait.flushers ≡ flushers) }
     {
         lock_spinning(&self.table, rt).begin(flushers)
     }
@@ -158,27 +201,33 @@ impl<A: Allocator> Waits<A> {
         self.answered.notify_all();
     }
 
-    // Whether a wait is over; not where another thread has the lock.
-    fn looks_over(&self, id: u64) -> bool {
+    // What shows that a wait is over; not where another thread has the lock.
+    fn look(&self, id: u64) -> Option<AnsweredWait>
+        ensures { IfSome result (λ wait. wait.id ≡ id) }
+    {
         match self.table.try_lock() {
-            Some(table) => table.is_over(id),
-            None => false,
+            Some(table) => table.answered(id),
+            None => None,
         }
     }
 
     /// Waits until all flushers have answered a wait, or nobody answers any more. Before it sleeps it looks for some microseconds, in
     /// which no answer has to wake it.
-    pub fn wait_for(&self, rt: &impl Wait, id: u64) {
+    pub fn wait_for(&self, rt: &impl Wait, begun: BegunWait) -> AnsweredWait
+        ensures { result.id ≡ begun.id }
+    {
+        let id = begun.id;
         for _ in 0..LOOKS {
-            if self.looks_over(id) {
-                return;
+            if let Some(answered) = self.look(id) {
+                return answered;
             }
             spin_loop();
         }
-        let _table = self.answered.wait_while(
+        let table = self.answered.wait_while(
             rt,
             lock_spinning(&self.table, rt),
             |table| table.begins_to_wait(id),
         );
+        table.over(id)
     }
 }

@@ -3,6 +3,7 @@ ghost use Rattle.std.specs.Prelude.{◌≡◌, ◌<◌, length};
 ghost use Rattle.foyer_storage_engine.specs.Issuing.{written_bytes};
 ghost use Rattle.foyer_io_disk.specs.Disk.{SurelyCame};
 ghost use Rattle.foyer_storage_engine.specs.Ending.{HoldsNamed};
+ghost use Rattle.foyer_storage_engine.specs.Briefs.{reply_brief};
 ghost use Rattle.foyer_storage_engine.specs.Reporting.{ReportsWrite};
 
 use super::Worker;
@@ -68,7 +69,8 @@ where
     ensures parts { session.new.shares.parts ≡ session.old.shares.parts }
     ensures reports { O.is_known disk.old → ReportsWrite flusher block write.now.offset (written_bytes write.now.bytes) (O.byte_at disk.old) (O.byte_at disk.new)
         (SurelyCame (O.surely_has disk.old) (O.surely_lies disk.old) (O.faults disk.old) (O.faults disk.new)
-        block write.now.offset (length (written_bytes write.now.bytes))) session.new }
+        block write.now.offset (length (written_bytes write.now.bytes))) session.new (reply_brief result) }
+    ensures known { O.is_known disk.old → O.is_known disk.new }
 {
     let result = do_write(disk, block, write);
     let step = Step::FlushWrote { flusher, result };

@@ -1,6 +1,7 @@
 //! How a flusher's worker takes what is queued.
 ghost use Rattle.std.specs.Prelude.{◌≡◌, ◌<◌};
 ghost use Rattle.foyer_storage_engine.specs.Ending.{HoldsNamed};
+ghost use Rattle.foyer_storage_engine.specs.Reporting.{AsksToReceive};
 
 use foyer_block_manager::block::eviction::EvictionPicker;
 use foyer_core_tally::book::Kinds;
@@ -42,6 +43,7 @@ where
     requires { 0 < session.old.shares.parts }
     ensures named { HoldsNamed session.old session.new }
     ensures parts { session.new.shares.parts ≡ session.old.shares.parts }
+    ensures asks { AsksToReceive N.keeps flusher session.old session.new result.0 }
 {
     match locked.step(session, no_io(), Step::Receive { flusher }) {
         Ok(reply) => {

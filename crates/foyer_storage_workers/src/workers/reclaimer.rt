@@ -102,6 +102,8 @@ where
     requires { 0 < session.old.shares.parts }
     ensures named { HoldsNamed session.old session.new }
     ensures parts { session.new.shares.parts ≡ session.old.shares.parts }
+    ensures known { O.is_known parts.old.disk → O.is_known parts.new.disk }
+    ensures same { O.byte_at parts.new.disk ≡ O.byte_at parts.old.disk }
 {
     let mut part = Part {
         offset: 0,
@@ -176,6 +178,9 @@ where
     requires { 0 < session.old.shares.parts }
     ensures named { HoldsNamed session.old session.new }
     ensures parts { session.new.shares.parts ≡ session.old.shares.parts }
+    ensures reports { O.is_known parts.old.disk → (before : O) × (O.byte_at before ≡ O.byte_at parts.old.disk)
+        × ReportsClean block (O.byte_at before) (O.byte_at parts.new.disk)
+        (SurelyCame (O.surely_has before) (O.surely_lies before) (O.faults before) (O.faults parts.new.disk) block 0 page) session.new }
 {
     engine.gate().pass(Point::Reclaim);
     read_block(rt, engine, parts, session, block);
