@@ -229,12 +229,7 @@ impl<E, R: HistoryRule<E>> Chronicle<E, R> {
 impl<E: Drop, R: HistoryRule<E>> Chronicle<E, R> {
     /// The history goes on by an event, for which two witnesses together have the rights: that of a lock, and that of who holds it. The
     /// first keeps the right `N` alone.
-    pub fn add_with<N: RightNumber>(
-        &self,
-        own: &mut Witness<E>,
-        mine: &mut Witness<E>,
-        event: &E,
-    )
+    pub fn add_with<N: RightNumber>(&self, own: &mut Witness<E>, mine: &mut Witness<E>, event: &E)
         requires own { (own.old.table_id ≡ self.now.table.shared.table_id) × (mine.old.table_id ≡ self.now.table.shared.table_id) }
         requires whole { (own.old.me.1 ≡ []) × (mine.old.me.1 ≡ []) }
         requires rights { HasRights R.takes (joined own.old.me.0 mine.old.me.0) event.now }

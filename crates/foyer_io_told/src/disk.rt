@@ -13,9 +13,9 @@ ghost use Rattle.foyer_io_told.specs.ToldAccess.{IsScanOf, IsWriteOf, IsCleanOf,
 use foyer_block_index::manager::BlockId;
 use foyer_core_access::disk::{do_read, do_write};
 use foyer_core_access::reclaims::{BlockCleaner, Part, read_bytes};
+use foyer_core_chronicle::RightNumber;
 use foyer_core_steps::reply::Write;
 use foyer_core_steps::step::Ticket;
-use foyer_core_chronicle::RightNumber;
 use foyer_core_told::event::Told;
 use foyer_core_told::history::{ToldHistory, ToldWitness};
 use foyer_device_page::error::Result;
