@@ -1,5 +1,5 @@
 -- A load, from its look-up to its answer, in the history that its session has seen.
-use Rattle.std.proofs.Common.{◌≡◌, ◌≢◌, ◌⊎◌, inl, inr, ℕ, ◌+◌, ◌<◌, Bool, true, false, true≢false, ◌||◌, List, [], ◌∷◌, ◌++◌, Option, Some, Result, Ok, Err, refl, sym, ap, ◌∙◌, subst, arith}
+use Rattle.std.proofs.Common.{◌≡◌, ◌≢◌, ◌⊎◌, inl, inr, ℕ, ◌<◌, Bool, true, false, true≢false, ◌||◌, List, [], ◌∷◌, ◌++◌, Option, Some, Result, Ok, Err, refl, sym, ap, ◌∙◌, subst}
 use Rattle.std.specs.declared.vec.Vec.{Vec}
 use Rattle.foyer_device_page.specs.declared.error.Error.{Error}
 use Rattle.foyer_device_page.specs.declared.error.ErrorKind.TheVariants as kind
@@ -7,14 +7,12 @@ use Rattle.foyer_format_record.specs.declared.serde.ages.Age.{Age}
 use Rattle.foyer_core_chronicle.specs.Rights.{times}
 use Rattle.foyer_core_chronicle.specs.SharedHistory.{Continues}
 use Rattle.foyer_core_chronicle.specs.declared.View.{View}
-use Rattle.foyer_core_model.specs.Access.{ReadState, ReadIssued, ReadDone}
+use Rattle.foyer_core_model.specs.Access.{ReadIssued, ReadDone}
 use Rattle.foyer_core_model.specs.Event.{Event, Put, newest}
 use Rattle.foyer_core_model.specs.Follows.{Follows}
 use Rattle.foyer_core_model.specs.Numbers.{last_number}
-use Rattle.foyer_core_model.specs.Record.{Outcome, NoRecord, Holds}
+use Rattle.foyer_core_model.specs.Record.{NoRecord, Holds}
 use Rattle.foyer_core_model.specs.Reply as model_reply
-use Rattle.foyer_core_model.specs.State.{State}
-use Rattle.foyer_core_model.specs.Step as model_step
 use Rattle.foyer_core_model.specs.World.{World, MayAllHappen}
 use Rattle.foyer_core_rights.specs.Deeds as deeds
 use Rattle.foyer_core_rights.specs.Deeds.{Deed, events_in, after_deed}
@@ -36,7 +34,7 @@ use Rattle.foyer_core_told.specs.declared.event.Told.TheVariants as told
 use Rattle.foyer_core_told.specs.ToldRuns.{Opens, Tells, IsRun, IsTold}
 use Rattle.foyer_core_told.specs.ToldLoads.{tickets_in, steps_in, IssuesTicket, IsReadOf, AreOthers, AnswersEntry}
 use Rattle.foyer_core_told.specs.ToldMisses.{LooksUp, EndsLoad, IsTaken, takes_away, is_taken_in}
-use Rattle.foyer_core_told.specs.ToldRights.{disk_right, ticket_right, takes}
+use Rattle.foyer_core_told.specs.ToldRights.{ticket_right, takes}
 use Rattle.foyer_core_told.specs.Telling.{IsStep, BringsTrue, HasGoneOn, HasStepped}
 use Rattle.foyer_core_told.proofs.ToldStepLemmas.{run_split}
 use Rattle.foyer_core_told.proofs.ToldCounts.{runs_counted}

@@ -1,6 +1,5 @@
 -- Steps that take no right and bring no outcome.
 use Rattle.std.proofs.Common.{◌≡◌, ℕ, Bool, true, true≢false, List, ◌&&◌, refl, sym, Option}
-use Rattle.foyer_core_chronicle.specs.SharedHistory.{Continues}
 use Rattle.foyer_core_chronicle.specs.declared.View.{View}
 use Rattle.foyer_format_record.specs.declared.serde.ages.Age.{Age}
 use Rattle.foyer_core_model.specs.World.{World, IsFed}

@@ -15,7 +15,6 @@ use Rattle.foyer_core_laws.specs.Content.{Meaning}
 use Rattle.foyer_core_steps.specs.declared.state.Core.{Core}
 use Rattle.foyer_core_told.specs.declared.event.Told.{Told}
 use Rattle.foyer_core_told.specs.declared.event.Told.TheVariants as told
-use Rattle.foyer_core_told.specs.ToldRuns.{IsCoreAt, IsDiskAt}
 use Rattle.foyer_core_told.specs.ToldSteps.{IsOpeningOf, IsLeft, IsDiskLeft}
 use Rattle.foyer_core_told.specs.ToldLoads.{tickets_in}
 use Rattle.foyer_core_told.specs.ToldRights.{core_right, disk_right, rights_count}

@@ -1,5 +1,5 @@
 -- The writes of a flusher, in the history that its session has seen.
-use Rattle.std.proofs.Common.{◌≡◌, ◌⊎◌, ℕ, ◌+◌, ◌<◌, if◌then◌else◌, Bool, true, false, true≢false, List, [], ◌∷◌, ◌++◌, map, drop, length, get_or, suc, Option, Some, None, Result, Ok, Err, refl, sym, ap, ◌∙◌, subst, is_ok, arith}
+use Rattle.std.proofs.Common.{◌≡◌, ◌⊎◌, ℕ, ◌+◌, ◌<◌, if◌then◌else◌, Bool, true, false, List, [], ◌∷◌, map, drop, suc, Option, Some, None, Result, Ok, Err, refl, sym, ap, ◌∙◌, subst, is_ok, arith}
 use Rattle.std.specs.declared.vec.Vec.{Vec}
 use Rattle.foyer_format_layout.specs.BlockBytes.{Write}
 use Rattle.foyer_device_page.specs.declared.error.Error.{Error}
@@ -8,7 +8,7 @@ use Rattle.foyer_core_chronicle.specs.Rights.{times}
 use Rattle.foyer_core_chronicle.specs.declared.View.{View}
 use Rattle.foyer_core_flusher.specs.Issuing.{write_of}
 use Rattle.foyer_core_model.proofs.Basics.{put_same}
-use Rattle.foyer_core_model.specs.Access.{BlockWrites, Issued, writes_reported, result_of}
+use Rattle.foyer_core_model.specs.Access.{Issued, writes_reported, result_of}
 use Rattle.foyer_core_model.specs.Follows.{Follows}
 use Rattle.foyer_core_model.specs.Flush.{Wrote}
 use Rattle.foyer_core_model.specs.Reply as model_reply
@@ -26,17 +26,16 @@ use Rattle.foyer_core_steps.specs.Replied.{IsReply}
 use Rattle.foyer_core_steps.specs.declared.reply.Reply.{Reply}
 use Rattle.foyer_core_steps.specs.declared.reply.Reply.TheVariants as replies
 use Rattle.foyer_core_steps.specs.declared.reply.Write.{Write as CoreWrite}
-use Rattle.foyer_core_steps.specs.declared.step.Step.{Step}
 use Rattle.foyer_core_steps.specs.declared.step.Step.TheVariants as steps
 use Rattle.foyer_core_told.specs.declared.event.Told.{Told}
 use Rattle.foyer_core_told.specs.declared.event.Told.TheVariants as told
-use Rattle.foyer_core_told.specs.ToldRuns.{Tells, IsRun}
+use Rattle.foyer_core_told.specs.ToldRuns.{Tells}
 use Rattle.foyer_core_told.specs.ToldRights.{writes_right}
 use Rattle.foyer_core_told.specs.Telling.{IsStep, BringsTrue, HasStepped}
 use Rattle.foyer_core_told.proofs.ToldStepLemmas.{run_split}
 use Rattle.foyer_core_told.proofs.TellingLemmas.{not_empty}
 use Rattle.foyer_io_told.specs.ToldAccess.{HasWrites}
-use Rattle.foyer_io_told.proofs.ToldAccessLemmas.{known_on, known_after}
+use Rattle.foyer_io_told.proofs.ToldAccessLemmas.{known_on}
 use Rattle.std.proofs.Math.Seq.{drop-cons}
 use Rattle.std.proofs.lemmas.Option.{slice_get_within, get_or_from_slice_get}
 use Rattle.std.specs.List.{slice_get}

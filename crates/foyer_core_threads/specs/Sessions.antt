@@ -1,5 +1,5 @@
 -- What a session has seen.
-use Rattle.std.specs.Prelude.{◌≡◌, ℕ, ◌<◌, List, ◌++◌}
+use Rattle.std.specs.Prelude.{ℕ, ◌<◌}
 use Rattle.foyer_core_chronicle.specs.Rights.{times}
 use Rattle.foyer_core_chronicle.specs.SharedHistory.{Continues}
 use Rattle.foyer_core_chronicle.specs.declared.View.{View}

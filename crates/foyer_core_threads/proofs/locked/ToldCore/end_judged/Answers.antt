@@ -1,4 +1,4 @@
-use Rattle.std.proofs.Common.{◌≡◌, true, false, true≢false, sym, subst}
+use Rattle.std.proofs.Common.{◌≡◌, true, true≢false, sym, subst}
 use Rattle.foyer_core_laws.specs.Content.{meaning}
 use Rattle.foyer_core_steps.specs.Refines.{Refines}
 use Rattle.foyer_core_steps.specs.declared.step.Step.TheVariants as steps

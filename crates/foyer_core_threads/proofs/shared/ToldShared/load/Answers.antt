@@ -1,5 +1,5 @@
-use Rattle.std.proofs.Common.{◌≡◌, refl, subst, ◌∙◌, sym}
-use Rattle.foyer_core_laws.specs.Content.{content, meaning}
+use Rattle.std.proofs.Common.{refl, subst, ◌∙◌, sym}
+use Rattle.foyer_core_laws.specs.Content.{meaning}
 use Rattle.foyer_core_steps.specs.declared.reply.Reply.TheVariants as replies
 use Rattle.foyer_core_steps.specs.declared.step.Step.TheVariants as steps
 use Rattle.foyer_core_shared.specs.Answers.{IsAnswer}

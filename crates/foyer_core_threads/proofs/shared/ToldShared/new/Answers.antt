@@ -1,10 +1,10 @@
-use Rattle.std.proofs.Common.{[], ◌∷◌, sym, ap, subst, ◌∙◌}
+use Rattle.std.proofs.Common.{sym, ap, subst, ◌∙◌}
 use Rattle.foyer_core_laws.specs.Content.{meaning}
 use Rattle.foyer_core_told.specs.ToldLoads.{tickets_in}
 use Rattle.foyer_core_told.specs.ToldSteps.{IsOpeningOf}
 use Rattle.foyer_core_told.specs.Telling.{StandsAt, WasOpened}
 use Rattle.foyer_io_told.specs.ToldAccess.{LiesAt}
-use Rattle.foyer_core_threads.proofs.ToldOpenings.{AreParted, all_new, opened_has, opened_seen, rights_parted, opened_stands, opened_lies, opened_fresh}
+use Rattle.foyer_core_threads.proofs.ToldOpenings.{all_new, opened_has, opened_seen, rights_parted, opened_stands, opened_lies, opened_fresh}
 use Rattle.foyer_core_threads.proofs.shared.ToldShared.new.Goals as goal
 
 pub tell_opening-requires-clause-new : goal.tell_opening-requires-clause-new

@@ -1,4 +1,4 @@
-use Rattle.std.proofs.Common.{[], ◌∷◌, is_ok, if◌then◌else◌}
+use Rattle.std.proofs.Common.{[], is_ok, if◌then◌else◌}
 use Rattle.foyer_core_laws.specs.Content.{meaning}
 use Rattle.foyer_core_told.specs.ToldRights.{writes_right}
 use Rattle.foyer_core_threads.proofs.HistoryJoins.{writes_above}

@@ -1,6 +1,5 @@
-use Rattle.std.proofs.Common.{◌<◌, map, drop, suc, sym, subst, ◌∙◌}
+use Rattle.std.proofs.Common.{◌<◌, sym, subst, ◌∙◌}
 use Rattle.foyer_block_index.proofs.Found.{slice_get_at}
-use Rattle.foyer_core_flusher.specs.Issuing.{write_of}
 use Rattle.foyer_core_laws.specs.Content.{meaning}
 use Rattle.foyer_core_threads.proofs.WriteLemmas.{any_to_write, next_of}
 use Rattle.foyer_core_threads.proofs.shared.ToldShared.write_all.Goals as goal
