@@ -1,5 +1,5 @@
 -- A read of a ticket, or for a reclaim, under the lock of a disk.
-use Rattle.std.proofs.Common.{◌≡◌, ℕ, ◌+◌, ◌<◌, ◌==◌, ◌||◌, [], ◌∷◌, Option, Some, Result, Ok, Err, refl, sym, ap, ◌∙◌, subst, arith}
+use Rattle.std.proofs.Common.{◌≡◌, ℕ, ◌+◌, ◌<◌, ◌==◌, ◌||◌, Option, Some, Result, Ok, Err, refl, sym, ap, ◌∙◌, subst, arith}
 use Rattle.std.specs.Prelude.{IfOk, vec_len}
 use Rattle.std.specs.declared.vec.Vec.{Vec}
 use Rattle.foyer_device_page.specs.declared.error.Error.{Error}

@@ -1,5 +1,5 @@
 use Rattle.std.proofs.Common.{ap, ◌∙◌}
-use Rattle.foyer_core_chronicle.specs.SharedHistory.{joined, with_only, with_others}
+use Rattle.foyer_core_chronicle.specs.SharedHistory.{joined}
 use Rattle.foyer_core_chronicle.proofs.ChronicleSteps.{went_on}
 use Rattle.foyer_core_chronicle.proofs.Chronicle.add_with.Goals as goal
 
