@@ -3,3 +3,4 @@ pub mod ToldOpenings
 pub mod PlainSteps
 pub mod LoadLemmas
 pub mod WriteLemmas
+pub mod DoneLemmas

@@ -1,5 +1,5 @@
 -- The writes of a flusher, in the history that its session has seen.
-use Rattle.std.proofs.Common.{◌≡◌, ◌⊎◌, ℕ, ◌+◌, ◌<◌, if◌then◌else◌, Bool, true, false, List, [], ◌∷◌, map, drop, suc, Option, Some, None, Result, Ok, Err, refl, sym, ap, ◌∙◌, subst, is_ok, arith}
+use Rattle.std.proofs.Common.{◌≡◌, ◌≢◌, ◌⊎◌, inl, inr, ℕ, ◌+◌, ◌<◌, if◌then◌else◌, Bool, true, false, List, [], ◌∷◌, map, drop, suc, length, Option, Some, None, Result, Ok, Err, refl, sym, ap, ◌∙◌, subst, is_ok, arith}
 use Rattle.std.specs.declared.vec.Vec.{Vec}
 use Rattle.foyer_format_layout.specs.BlockBytes.{Write}
 use Rattle.foyer_device_page.specs.declared.error.Error.{Error}
@@ -40,14 +40,15 @@ use Rattle.std.proofs.Math.Seq.{drop-cons}
 use Rattle.std.proofs.lemmas.Option.{slice_get_within, get_or_from_slice_get}
 use Rattle.std.specs.List.{slice_get}
 use Rattle.foyer_core_threads.specs.Asking.{AreToWrite}
+use Rattle.foyer_core_threads.specs.Done.{HasWrote, HasWroteAll}
 use Rattle.foyer_core_threads.proofs.LoadLemmas.{opens_no_step, stepped_as}
 
-well_is : {X : Type 0} (outcome : Result X Error) → went_well outcome ≡ is_ok outcome
+pub well_is : {X : Type 0} (outcome : Result X Error) → went_well outcome ≡ is_ok outcome
 well_is (Ok x) = refl
 well_is (Err e) = refl
 
 module _ {K V P : Type 0} (m : Meaning K V P) where
-  next_went_well : (s : Settings) (sound : AreValid s) (old new : State Content) (f : ℕ) (ok : Bool) → Follows (machine m s sound) (layout s) old (model_step.FlushWrote f ok) model_reply.Next new → ok ≡ true
+  pub next_went_well : (s : Settings) (sound : AreValid s) (old new : State Content) (f : ℕ) (ok : Bool) → Follows (machine m s sound) (layout s) old (model_step.FlushWrote f ok) model_reply.Next new → ok ≡ true
   next_went_well s sound old new f ok (few, turn, (made, wrote, is)) = go ok (old.flushers f).batch wrote
     where
       go : (b : Bool) (batch : Option (Batch Content)) → Wrote (machine m s sound) old f b batch model_reply.Next made → b ≡ true
@@ -145,3 +146,23 @@ module _ {K V P A D : Type 0} (m : Meaning K V P) (byte_at : D → ℕ → ℕ �
       let one : suc i ≡ i + 1 = omega arith in
       subst (λ k. HasWrites m byte_at log f block [] (write_of x ∷ map write_of (drop k items))) one (
       subst (λ l. AreToWrite m byte_at log f block (map write_of l)) (drop-cons items i x (slice_get_within items i x at) ∙ ap (λ y. y ∷ drop (suc i) items) (get_or_from_slice_get items i x x at)) to_write)
+
+  -- the list from here on
+  from_here : (items : List (CoreWrite A)) (i : ℕ) (x : CoreWrite A) → slice_get items i ≡ Some x → x ∷ drop (i + 1) items ≡ drop i items
+  from_here items i x at =
+      let one : suc i ≡ i + 1 = omega arith in
+      sym (drop-cons items i x (slice_get_within items i x at) ∙ ap (λ y. y ∷ drop (suc i) items) (get_or_from_slice_get items i x x at) ∙ ap (λ k. x ∷ drop k items) one)
+
+  pub wrote_next : (keeps : Bool) (mine next after : View (Told K V P A D)) (f block : ℕ) (items : List (CoreWrite A)) (i : ℕ) (x : CoreWrite A) (last : Option (Reply K V P A)) → slice_get items i ≡ Some x
+      → HasWrote m byte_at keeps mine next f block (write_of x) replies.Next → HasWroteAll m byte_at keeps next after f block (map write_of (drop (i + 1) items)) last
+      → HasWroteAll m byte_at keeps mine after f block (map write_of (drop i items)) last
+  wrote_next keeps mine next after f block items i x last at wrote rest =
+      subst (λ l. HasWroteAll m byte_at keeps mine after f block (map write_of l) last) (from_here items i x at) (inl (next, wrote, rest))
+
+  pub wrote_last : (keeps : Bool) (mine after : View (Told K V P A D)) (f block : ℕ) (items : List (CoreWrite A)) (i : ℕ) (x : CoreWrite A) (answer : Reply K V P A) → slice_get items i ≡ Some x
+      → HasWrote m byte_at keeps mine after f block (write_of x) answer → answer ≢ replies.Next → HasWroteAll m byte_at keeps mine after f block (map write_of (drop i items)) (Some answer)
+  wrote_last keeps mine after f block items i x answer at wrote other =
+      subst (λ l. HasWroteAll m byte_at keeps mine after f block (map write_of l) (Some answer)) (from_here items i x at) (inr (answer, wrote, other, refl))
+
+  pub wrote_none : (keeps : Bool) (mine : View (Told K V P A D)) (f block : ℕ) (items : List (CoreWrite A)) (i : ℕ) → drop i items ≡ [] → HasWroteAll m byte_at keeps mine mine f block (map write_of (drop i items)) None
+  wrote_none keeps mine f block items i over = subst (λ l. HasWroteAll m byte_at keeps mine mine f block (map write_of l) None) (sym over) (refl, refl)

@@ -1,3 +1,4 @@
 pub mod Sessions
 pub mod Asking
 pub mod Newest
+pub mod Done

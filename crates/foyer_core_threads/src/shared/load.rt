@@ -1,15 +1,19 @@
 //! A load, from its look-up to its answer.
-ghost use Rattle.std.specs.Prelude.{◌≡◌, ◌<◌, [], IfOk};
+ghost use Rattle.std.specs.Prelude.{◌≡◌, ◌<◌, ℕ, [], IfErr, IfOk};
 ghost use Rattle.foyer_core_chronicle.specs.Rights.{times};
 ghost use Rattle.foyer_core_laws.specs.Content.{content, meaning};
 ghost use Rattle.foyer_core_model.specs.Access.{ReadIssued, ReadDone};
 ghost use Rattle.foyer_core_steps.specs.Asked.{came_of};
 ghost use Rattle.foyer_core_steps.specs.declared.reply.Reply.TheVariants as reply;
+ghost use Rattle.foyer_core_steps.specs.declared.step.Step.TheVariants as steps;
+ghost use Rattle.foyer_core_steps.specs.declared.step.Ticket.{Ticket};
+ghost use Rattle.foyer_device_page.specs.declared.error.Error.TheVariants.{Memory};
 ghost use Rattle.foyer_core_told.specs.ToldLoads.{IsReadOf};
 ghost use Rattle.foyer_core_told.specs.ToldRights.{ticket_right};
-ghost use Rattle.foyer_core_told.specs.Telling.{HasGoneOn};
+ghost use Rattle.foyer_core_told.specs.Telling.{HasGoneOn, HasStepped};
 ghost use Rattle.foyer_io_told.specs.ToldAccess.{HasTicket};
 ghost use Rattle.foyer_core_threads.specs.Asking.{IsTicketIn};
+ghost use Rattle.foyer_core_threads.specs.Done.{HasLoaded, IsLoadNoted};
 ghost use Rattle.foyer_core_threads.specs.Newest.{WasNewest, WasMissed};
 
 use super::ToldShared;
@@ -71,6 +75,7 @@ where
         ensures told { IfOk result (λ outcome. HasGoneOn (meaning K.encoding V.encoding K.is_encodable V.is_encodable K.is_decodable V.is_decodable P.age) D.byte_at session.old.witness.me.0 session.new.witness.me.0 (λ e. IsReadOf e number outcome)) }
         ensures read { IfOk result (λ outcome. HasTicket (meaning K.encoding V.encoding K.is_encodable V.is_encodable K.is_decodable V.is_decodable P.age) D.byte_at session.new.witness.me.0.seen number ticket.now (ReadDone (came_of outcome))) }
         ensures same { session.new.session ≡ session.old.session }
+        ensures refused { IfErr result (λ e. (e ≡ Memory) × (session.new ≡ session.old)) }
     {
         let alloc = alloc.clone()?;
         let outcome = lock_spinning(&self.disk, rt).read(
@@ -85,7 +90,7 @@ where
 
     /// Looks a hash up, reads what it stands for, and ends the load: the last reply. An entry was the newest put of its hash at a moment
     /// between the call and the return, in the one history of all threads, after all that the session had seen. A miss has its cause there.
-    /// `Memory` is a read for which none was found.
+    /// `Memory` is a read for which none was found: then its look-up issued a ticket, and nothing was read.
     pub fn load(
         &self,
         rt: &impl Wait,
@@ -97,6 +102,9 @@ where
         requires mine { (session.old.witness.table_id ≡ J.table) × (session.old.witness.me.1 ≡ []) }
         requires part { 0 < session.old.session.shares.parts }
         ensures mine { (session.new.witness.table_id ≡ J.table) × (session.new.witness.me.1 ≡ []) }
+        ensures told { IfOk result (λ answer. HasLoaded (meaning K.encoding V.encoding K.is_encodable V.is_encodable K.is_decodable V.is_decodable P.age) D.byte_at N.keeps session.old.witness.me.0 session.new.witness.me.0 hash throttled answer) }
+        ensures noted { IfOk result (λ answer. IsLoadNoted N.keeps session.old.session session.new.session hash throttled answer) }
+        ensures refused { IfErr result (λ e. (e ≡ Memory) × ((ticket : Ticket) × (n : ℕ) × HasStepped (meaning K.encoding V.encoding K.is_encodable V.is_encodable K.is_decodable V.is_decodable P.age) D.byte_at session.old.witness.me.0 session.new.witness.me.0 (steps.LoadBegin hash throttled) (reply.Read ticket) n)) }
         ensures newest { IfOk result (λ answer. (key : K) (value : V) (age : _) → answer ≡ reply.Entry key value age
             → WasNewest (meaning K.encoding V.encoding K.is_encodable V.is_encodable K.is_decodable V.is_decodable P.age) D.byte_at session.old.witness.me.0.seen session.new.witness.me.0.seen hash (content (meaning K.encoding V.encoding K.is_encodable V.is_encodable K.is_decodable V.is_decodable P.age) key value)) }
         ensures missed { IfOk result (λ answer. answer ≡ reply.Miss

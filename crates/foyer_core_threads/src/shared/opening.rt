@@ -1,8 +1,16 @@
 //! An opening, told as the first event.
-ghost use Rattle.std.specs.Prelude.{◌≡◌, ◌<◌, ℕ, [], ◌∷◌, IfOk};
+ghost use Rattle.std.specs.Prelude.{◌≡◌, ◌≢◌, ◌⊎◌, ◌<◌, ℕ, [], ◌∷◌, IfErr, IfOk};
+ghost use Rattle.foyer_block_recover.specs.Recovery.{marks_of};
+ghost use Rattle.foyer_block_recover.specs.declared.block.recover.RecoverMode.TheVariants as recover_mode;
 ghost use Rattle.foyer_core_chronicle.specs.Rights.{times};
 ghost use Rattle.foyer_core_chronicle.specs.SharedHistory.{newcomer};
 ghost use Rattle.foyer_core_model.specs.Ids.{ids};
+ghost use Rattle.foyer_core_laws.specs.Sizes.{AreValid};
+ghost use Rattle.foyer_core_steps.specs.Opened.{IsOpenedFrom};
+ghost use Rattle.foyer_core_steps.specs.declared.state.Core.{Core};
+ghost use Rattle.foyer_core_told.specs.ToldSteps.{IsOpeningOf};
+ghost use Rattle.foyer_device_page.specs.declared.error.Error.TheVariants.{Config, Memory, Recover, SequenceEnd};
+ghost use Rattle.foyer_io_disk.specs.Disk.{SurelyCame};
 ghost use Rattle.foyer_core_tally.specs.Ledgers.{AreOf};
 ghost use Rattle.foyer_core_tally.specs.Tally.{none};
 ghost use Rattle.foyer_core_told.specs.ToldRights.{disk_right, rights_count};
@@ -39,8 +47,8 @@ where
     N: Noting,
     D: Disk + Drop,
 {
-    /// Opens a core over a disk whose bytes are known, as `Locked::open` does, and tells the opening: the first event of a new history. The session
-    /// has all parts, and all rights of flushers and blocks.
+    /// Opens a core over a disk whose bytes are known, as `Locked::open` does, and tells the opening: the first event of a new history is that
+    /// of a core that was opened from the disk's bytes. The session has all parts, and all rights of flushers and blocks.
     pub fn open(
         history: ToldHistory<K, V, P, A, D>,
         witness: ToldWitness<K, V, P, A, D>,
@@ -63,7 +71,13 @@ where
         requires ledgers { AreOf L.name_of L.all blanks }
         ensures session { IfOk result (λ r. r.1.session.shares ≡ record { parts = L.all; amounts = none }) }
         ensures whole { IfOk result (λ r. (r.1.witness.table_id ≡ J.table) × (r.1.witness.me.1 ≡ [])) }
-        ensures seen { IfOk result (λ r. (e : _) × (r.1.witness.me.0.seen ≡ e ∷ [])) }
+        ensures seen { IfOk result (λ r. (core : Core K V P A) × (over : D) × (e : _) × IsOpeningOf core over e × (r.1.witness.me.0.seen ≡ e ∷ [])
+            × (D.byte_at over ≡ D.byte_at disk)
+            × IsOpenedFrom settings (D.byte_at disk) (SurelyCame (D.surely_has disk) (D.surely_lies disk) (D.faults disk) (D.faults over)) mode (marks_of marks.now)
+            ((mode ≡ recover_mode.None) ⊎ D.is_known disk) core) }
+        ensures sound { IfOk result (λ _. AreValid settings) }
+        ensures refused { IfErr result (λ e. (e ≡ Memory) ⊎ ((e ≡ Config) × (AreValid settings → ⊥))
+            ⊎ ((e ≡ Recover) × (mode ≡ recover_mode.Strict)) ⊎ ((e ≡ SequenceEnd) × (mode ≡ recover_mode.None → marks.now ≢ []))) }
         ensures rights { IfOk result (λ r. (k : ℕ) → disk_right < k → k < rights_count → 0 < times k r.1.witness.me.0.has) }
     {
         let mut disk = disk;

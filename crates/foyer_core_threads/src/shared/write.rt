@@ -4,13 +4,14 @@ ghost use Rattle.foyer_format_layout.specs.BlockBytes.{Write as BlockWrite};
 ghost use Rattle.foyer_core_chronicle.specs.Rights.{times};
 ghost use Rattle.foyer_core_flusher.specs.Issuing.{write_of};
 ghost use Rattle.foyer_core_laws.specs.Content.{meaning};
+ghost use Rattle.foyer_core_shared.specs.Replies.{may_reply};
 ghost use Rattle.foyer_core_steps.specs.declared.reply.Reply.TheVariants as reply;
 ghost use Rattle.foyer_core_steps.specs.declared.step.Step.TheVariants as steps;
 ghost use Rattle.foyer_device_page.specs.declared.error.ErrorKind.TheVariants as kind;
 ghost use Rattle.foyer_core_told.specs.ToldRights.{writes_right};
-ghost use Rattle.foyer_core_told.specs.Telling.{HasStepped};
 ghost use Rattle.foyer_io_told.specs.ToldAccess.{HasWrites};
 ghost use Rattle.foyer_core_threads.specs.Asking.{AreToWrite};
+ghost use Rattle.foyer_core_threads.specs.Done.{HasWrote, HasWroteAll, IsMade, IsNoted};
 
 use super::ToldShared;
 use crate::session::ToldSession;
@@ -55,6 +56,9 @@ where
         requires right { 0 < times (writes_right flusher) session.old.witness.me.0.has }
         ensures mine { (session.new.witness.table_id ≡ J.table) × (session.new.witness.me.1 ≡ []) }
         ensures right { 0 < times (writes_right flusher) session.new.witness.me.0.has }
+        ensures told { IsMade (meaning K.encoding V.encoding K.is_encodable V.is_encodable K.is_decodable V.is_decodable P.age) D.byte_at N.keeps session.old.witness.me.0 session.new.witness.me.0 (steps.FlushBlock flusher) result }
+        ensures noted { IsNoted N.keeps session.old.session session.new.session (steps.FlushBlock flusher) result }
+        ensures replied { (may_reply (steps.FlushBlock flusher) result ≡ true) ⊎ ((N.keeps ≡ true) × (result ≡ reply.Refused kind.Memory (steps.FlushBlock flusher))) }
         ensures issued { (block : _) (writes : _) → result ≡ reply.Write block writes
             → AreToWrite (meaning K.encoding V.encoding K.is_encodable V.is_encodable K.is_decodable V.is_decodable P.age) D.byte_at session.new.witness.me.0.seen flusher block (map write_of writes.items) }
         ensures parts { session.new.session.shares.parts ≡ session.old.session.shares.parts }
@@ -79,6 +83,8 @@ where
         requires write { (left : List BlockWrite) × HasWrites (meaning K.encoding V.encoding K.is_encodable V.is_encodable K.is_decodable V.is_decodable P.age) D.byte_at session.old.witness.me.0.seen flusher block [] (write_of write.now ∷ left) }
         ensures mine { (session.new.witness.table_id ≡ J.table) × (session.new.witness.me.1 ≡ []) }
         ensures right { 0 < times (writes_right flusher) session.new.witness.me.0.has }
+        ensures told { HasWrote (meaning K.encoding V.encoding K.is_encodable V.is_encodable K.is_decodable V.is_decodable P.age) D.byte_at N.keeps session.old.witness.me.0 session.new.witness.me.0 flusher block (write_of write.now) result }
+        ensures noted { (outcome : _) × IsNoted N.keeps session.old.session session.new.session (steps.FlushWrote flusher outcome) result }
         ensures next { (left : List BlockWrite) → HasWrites (meaning K.encoding V.encoding K.is_encodable V.is_encodable K.is_decodable V.is_decodable P.age) D.byte_at session.old.witness.me.0.seen flusher block [] (write_of write.now ∷ left)
             → result ≡ reply.Next → HasWrites (meaning K.encoding V.encoding K.is_encodable V.is_encodable K.is_decodable V.is_decodable P.age) D.byte_at session.new.witness.me.0.seen flusher block [] left }
         ensures parts { session.new.session.shares.parts ≡ session.old.session.shares.parts }
@@ -110,6 +116,7 @@ where
         requires writes { AreToWrite (meaning K.encoding V.encoding K.is_encodable V.is_encodable K.is_decodable V.is_decodable P.age) D.byte_at session.old.witness.me.0.seen flusher block (map write_of writes.now) }
         ensures mine { (session.new.witness.table_id ≡ J.table) × (session.new.witness.me.1 ≡ []) }
         ensures right { 0 < times (writes_right flusher) session.new.witness.me.0.has }
+        ensures told { HasWroteAll (meaning K.encoding V.encoding K.is_encodable V.is_encodable K.is_decodable V.is_decodable P.age) D.byte_at N.keeps session.old.witness.me.0 session.new.witness.me.0 flusher block (map write_of writes.now) result }
         ensures parts { session.new.session.shares.parts ≡ session.old.session.shares.parts }
     {
         'writes: for write in writes {

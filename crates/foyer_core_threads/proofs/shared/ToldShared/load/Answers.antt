@@ -1,9 +1,11 @@
-use Rattle.std.proofs.Common.{refl, subst, ◌∙◌, sym}
+use Rattle.std.proofs.Common.{◌≡◌, inl, inr, refl, subst, ap, ◌∙◌, sym}
 use Rattle.foyer_core_laws.specs.Content.{meaning}
 use Rattle.foyer_core_steps.specs.declared.reply.Reply.TheVariants as replies
 use Rattle.foyer_core_steps.specs.declared.step.Step.TheVariants as steps
 use Rattle.foyer_core_shared.specs.Answers.{IsAnswer}
 use Rattle.foyer_core_threads.proofs.LoadLemmas.{looked_known, end_brings, was_newest, was_missed, was_missed_late, no_entry, stepped_as, ended_as, may_miss, miss_no_refusal, entry_no_refusal, read_no_refusal}
+use Rattle.foyer_core_threads.specs.Done.{IsNoted}
+use Rattle.foyer_core_threads.proofs.DoneLemmas.{made_of, made_as, noted_of, noted_as, only_looked, noted_look_up}
 use Rattle.foyer_core_threads.proofs.HistoryJoins.{ticket_above}
 use Rattle.foyer_core_told.specs.ToldRights.{ticket_right}
 use Rattle.foyer_core_threads.proofs.shared.ToldShared.load.Goals as goal
@@ -39,3 +41,37 @@ returns-clause-missed g c = λ is.
     let ended = ended_as (meaning g.K.Code.encoding g.V.Code.encoding g.K.Code.is_encodable g.V.Code.is_encodable g.K.Code.is_decodable g.V.Code.is_decodable g.P.Properties.age) g.D.Disk.byte_at c.read.new.session.witness.me.0 c.end_load-reply.new.session.witness.me.0 (steps.LoadEnd c.in-Ok.ticket c.in_ok-outcome.outcome) c.end_load-reply.result.0 replies.Miss c.end_load-reply.ensures.told is miss_no_refusal in
     was_missed_late (meaning g.K.Code.encoding g.V.Code.encoding g.K.Code.is_encodable g.V.Code.is_encodable g.K.Code.is_decodable g.V.Code.is_decodable g.P.Properties.age) g.D.Disk.byte_at c.args.session.now.witness.me.0 c.ask-reply.new.session.witness.me.0 c.read.new.session.witness.me.0 c.end_load-reply.new.session.witness.me.0 c.args.hash c.args.throttled c.in-Ok.ticket c.ask-reply.result.1 ended.0 c.in_ok-outcome.outcome (stepped_as (meaning g.K.Code.encoding g.V.Code.encoding g.K.Code.is_encodable g.V.Code.is_encodable g.K.Code.is_decodable g.V.Code.is_decodable g.P.Properties.age) g.D.Disk.byte_at c.args.session.now.witness.me.0 c.ask-reply.new.session.witness.me.0 (steps.LoadBegin c.args.hash c.args.throttled) c.ask-reply.result.0 (replies.Read c.in-Ok.ticket) c.ask-reply.result.1 c.ask-reply.ensures.told c.in-Ok.ensures (read_no_refusal c.in-Ok.ticket)) c.in_ok-outcome.ensures.told ended.1
     (may_miss (steps.LoadEnd c.in-Ok.ticket c.in_ok-outcome.outcome) c.end_load-reply.result.0 c.end_load-reply.ensures.replied is) looks.0
+
+pub returns-in-Err-clause-told : goal.returns-in-Err-clause-told
+returns-in-Err-clause-told g c =
+    only_looked (meaning g.K.Code.encoding g.V.Code.encoding g.K.Code.is_encodable g.V.Code.is_encodable g.K.Code.is_decodable g.V.Code.is_decodable g.P.Properties.age) g.D.Disk.byte_at c.args.session.now.witness.me.0 c.ask-reply.new.session.witness.me.0 c.args.hash c.args.throttled c.ask-reply.result.0 c.in-Err.reply g.N.Noting.keeps
+    (made_of (meaning g.K.Code.encoding g.V.Code.encoding g.K.Code.is_encodable g.V.Code.is_encodable g.K.Code.is_decodable g.V.Code.is_decodable g.P.Properties.age) g.D.Disk.byte_at c.args.session.now.witness.me.0 c.ask-reply.new.session.witness.me.0 (steps.LoadBegin c.args.hash c.args.throttled) c.ask-reply.result.0 c.ask-reply.result.1 g.N.Noting.keeps _ (λ same. ap (λ x. x.witness.me.0) same) c.ask-reply.ensures.told)
+    c.in-Err.ensures.0 c.in-Err.ensures.1
+
+pub returns-in-Err-clause-noted : goal.returns-in-Err-clause-noted
+returns-in-Err-clause-noted g c =
+    noted_look_up c.args.session.now.session c.ask-reply.new.session.session c.args.hash c.args.throttled c.ask-reply.result.0 c.in-Err.reply g.N.Noting.keeps
+    (noted_of c.args.session.now.session c.ask-reply.new.session.session (steps.LoadBegin c.args.hash c.args.throttled) c.ask-reply.result.0 g.N.Noting.keeps _ (λ same. ap (λ x. x.session) same) c.ask-reply.ensures.noted)
+    c.in-Err.ensures.0
+
+pub returns-clause-told : goal.returns-clause-told
+returns-clause-told g c = inr (record {
+  looked = c.ask-reply.new.session.witness.me.0;
+  read = c.read.new.session.witness.me.0;
+  ticket = c.in-Ok.ticket;
+  number = c.ask-reply.result.1;
+  outcome = c.in_ok-outcome.outcome;
+  look_up = (stepped_as (meaning g.K.Code.encoding g.V.Code.encoding g.K.Code.is_encodable g.V.Code.is_encodable g.K.Code.is_decodable g.V.Code.is_decodable g.P.Properties.age) g.D.Disk.byte_at c.args.session.now.witness.me.0 c.ask-reply.new.session.witness.me.0 (steps.LoadBegin c.args.hash c.args.throttled) c.ask-reply.result.0 (replies.Read c.in-Ok.ticket) c.ask-reply.result.1 c.ask-reply.ensures.told c.in-Ok.ensures (read_no_refusal c.in-Ok.ticket));
+  access = c.in_ok-outcome.ensures.told;
+  end = made_as (meaning g.K.Code.encoding g.V.Code.encoding g.K.Code.is_encodable g.V.Code.is_encodable g.K.Code.is_decodable g.V.Code.is_decodable g.P.Properties.age) g.D.Disk.byte_at c.read.new.session.witness.me.0 c.end_load-reply.new.session.witness.me.0 (steps.LoadEnd c.in-Ok.ticket c.in_ok-outcome.outcome) c.end_load-reply.result.0 g.N.Noting.keeps _ (λ same. ap (λ x. x.witness.me.0) same) c.end_load-reply.ensures.told;
+})
+
+pub returns-clause-noted : goal.returns-clause-noted
+returns-clause-noted g c = inr (
+  c.ask-reply.new.session.session,
+  c.in-Ok.ticket,
+  c.in_ok-outcome.outcome,
+  noted_as c.args.session.now.session c.ask-reply.new.session.session (steps.LoadBegin c.args.hash c.args.throttled) c.ask-reply.result.0 (replies.Read c.in-Ok.ticket) c.ask-reply.ensures.noted c.in-Ok.ensures (read_no_refusal c.in-Ok.ticket),
+  subst (λ x. IsNoted g.N.Noting.keeps x c.end_load-reply.new.session.session (steps.LoadEnd c.in-Ok.ticket c.in_ok-outcome.outcome) c.end_load-reply.result.0) c.read.ensures.same
+      (noted_of c.read.new.session.session c.end_load-reply.new.session.session (steps.LoadEnd c.in-Ok.ticket c.in_ok-outcome.outcome) c.end_load-reply.result.0 g.N.Noting.keeps _ (λ same. ap (λ x. x.session) same) c.end_load-reply.ensures.noted),
+)
