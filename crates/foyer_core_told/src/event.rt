@@ -43,6 +43,3 @@ pub enum Told<K, V, P, A: Allocator, D> {
         disk: Snapshot<D>,
     },
 }
-
-// What it has are snapshots, which own nothing.
-unsafe impl<K, V, P, A: Allocator, D> Send for Told<K, V, P, A, D> {}
