@@ -1,1 +1,2 @@
+pub mod WorkerSteps
 pub use Rattle.foyer_storage_engine.specs.Ending

@@ -1,10 +1,10 @@
 //! A flusher's worker: it takes what is queued, writes it in batches, and gives back what was written.
-ghost use Rattle.std.specs.Prelude.{◌≡◌, ◌<◌, length};
+ghost use Rattle.std.specs.Prelude.{◌≡◌, ◌<◌, false, length};
 ghost use Rattle.foyer_storage_engine.specs.Issuing.{written_bytes};
 ghost use Rattle.foyer_io_disk.specs.Disk.{SurelyCame};
 ghost use Rattle.foyer_storage_engine.specs.Ending.{HoldsNamed};
 ghost use Rattle.foyer_storage_engine.specs.Briefs.{reply_brief};
-ghost use Rattle.foyer_storage_engine.specs.Reporting.{ReportsWrite};
+ghost use Rattle.foyer_storage_workers.specs.WorkerSteps.{AreWritten, IsAtBatchEnd, IsDoneAs, ReportsWrite, names_block};
 
 use super::Worker;
 use super::receiving::receive_all;
@@ -41,8 +41,8 @@ pub struct FlusherParts<K: Eq, V, P, A: Allocator, D: Disk + Drop, M: MarkLog + 
     pub keeper: Arc<Keeper<K, V, P, A>, Global>,
 }
 
-// Does a write of a block, and reports its outcome.
-#[tactic(auto, using(foyer_storage_engine::proofs::HoldingLemmas::held_on, foyer_storage_engine::proofs::HoldingLemmas::held_by_step))]
+// Does a write of a block, and reports its outcome: whether the next one is to be done.
+#[tactic(auto, using(foyer_storage_engine::proofs::HoldingLemmas::held_on, foyer_storage_engine::proofs::HoldingLemmas::held_by_step, crate::proofs::WorkerStepLemmas::not_next))]
 fn write_one<L, K, V, P, A, E, C, D, G, N, O>(
     rt: &impl Wait,
     engine: &BlockEngine<L, K, V, P, A, E, C, D, G, N>,
@@ -51,7 +51,7 @@ fn write_one<L, K, V, P, A, E, C, D, G, N, O>(
     session: &mut Session<L>,
     block: BlockId,
     write: &Write<A>,
-) -> Reply<K, V, P, A>
+) -> bool
 where
     L: Kinds,
     K: Code<A> + Drop,
@@ -69,12 +69,22 @@ where
     ensures parts { session.new.shares.parts ≡ session.old.shares.parts }
     ensures reports { O.is_known disk.old → ReportsWrite flusher block write.now.offset (written_bytes write.now.bytes) (O.byte_at disk.old) (O.byte_at disk.new)
         (SurelyCame (O.surely_has disk.old) (O.surely_lies disk.old) (O.faults disk.old) (O.faults disk.new)
-        block write.now.offset (length (written_bytes write.now.bytes))) session.new (reply_brief result) }
+        block write.now.offset (length (written_bytes write.now.bytes))) session.new result }
     ensures known { O.is_known disk.old → O.is_known disk.new }
 {
     let result = do_write(disk, block, write);
+    let is_written = result.is_ok();
     let step = Step::FlushWrote { flusher, result };
-    engine.step_again(rt, session, no_io(), step)
+    match engine.step_again(rt, session, no_io(), step) {
+        Reply::Next => is_written,
+        Reply::Failed => {
+            engine.signals().work.add_failed_block();
+            // The flusher leaves the block.
+            engine.signals().reclaims.ring(rt);
+            false
+        }
+        _ => false,
+    }
 }
 
 // Does a block's writes, and reports each, until one fails or ends the block.
@@ -103,27 +113,72 @@ where
     requires { 0 < session.old.shares.parts }
     ensures named { HoldsNamed session.old session.new }
     ensures parts { session.new.shares.parts ≡ session.old.shares.parts }
+    ensures writes { O.is_known disk.old → AreWritten writes.now (λ w. w.offset) (λ w. written_bytes w.bytes) flusher block session.new (O.byte_at disk.old) (O.byte_at disk.new) }
 {
     if writes.is_empty() {
         return;
     }
     engine.gate().pass(Point::FlushWrite);
     'writes: for write in writes {
-        match write_one(rt, engine, disk, flusher, session, block, write) {
-            Reply::Next => {}
-            Reply::Failed => {
-                engine.signals().work.add_failed_block();
-                // The flusher leaves the block.
-                engine.signals().reclaims.ring(rt);
-                return;
-            }
-            _ => return,
+        if !write_one(rt, engine, disk, flusher, session, block, write) {
+            return;
         }
     }
 }
 
-// Writes the blocks of a batch, and waits for a block where none is clean. A reclaim may begin where the flusher leaves its own
-// block for another, since that takes a clean one and the other may be evicted: `own` is the block that it wrote last.
+// Does what the reply to a batch's question for a block asks: writes it, or waits for one where none is clean. Whether the batch goes on. A
+// reclaim may begin where the flusher leaves its own block for another, since that takes a clean one and the other may be evicted: `own` is
+// the block that it wrote last.
+#[tactic(auto, using(crate::proofs::WorkerStepLemmas::does_none, crate::proofs::WorkerStepLemmas::names_none))]
+fn do_asked<L, K, V, P, A, E, C, D, G, N, O>(
+    rt: &impl Wait,
+    engine: &BlockEngine<L, K, V, P, A, E, C, D, G, N>,
+    disk: &mut O,
+    flusher: u32,
+    own: &mut Option<BlockId>,
+    session: &mut Session<L>,
+    seen: u64,
+    reply: Reply<K, V, P, A>,
+) -> bool
+where
+    L: Kinds,
+    K: Code<A> + Drop,
+    V: Code<A> + Drop,
+    P: Properties + Drop,
+    A: Allocator + Clone,
+    E: EvictionPicker,
+    C: StorageFilterCondition,
+    D: Disk + Drop,
+    G: Gate,
+    N: Noting,
+    O: Disk,
+    requires { 0 < session.old.shares.parts }
+    ensures named { HoldsNamed session.old session.new }
+    ensures parts { session.new.shares.parts ≡ session.old.shares.parts }
+    ensures does { O.is_known disk.old → IsDoneAs reply flusher session.new (O.byte_at disk.old) (O.byte_at disk.new) }
+    ensures goes_on { result ≡ names_block (reply_brief reply) }
+    ensures same { result ≡ false → session.new ≡ session.old }
+{
+    match reply {
+        Reply::Write { block, writes } => {
+            if *own != Some(block) {
+                *own = Some(block);
+                engine.signals().reclaims.ring(rt);
+            }
+            write_block(rt, engine, disk, flusher, session, block, &writes);
+            true
+        }
+        Reply::NoBlock => {
+            *own = None;
+            engine.signals().reclaims.ring(rt);
+            let _ = engine.signals().done.wait_past(rt, seen);
+            true
+        }
+        _ => false,
+    }
+}
+
+// Writes the blocks of a batch, until it asks for none.
 #[tactic(auto, using(foyer_storage_engine::proofs::HoldingLemmas::held_on, foyer_storage_engine::proofs::HoldingLemmas::held_by_step))]
 fn write_batch<L, K, V, P, A, E, C, D, G, N, O>(
     rt: &impl Wait,
@@ -148,23 +203,13 @@ where
     requires { 0 < session.old.shares.parts }
     ensures named { HoldsNamed session.old session.new }
     ensures parts { session.new.shares.parts ≡ session.old.shares.parts }
+    ensures ended { IsAtBatchEnd flusher session.new }
 {
     for _ in rt.forever() {
         let seen = engine.signals().done.count(rt);
-        match engine.step_again(rt, session, no_io(), Step::FlushBlock { flusher }) {
-            Reply::Write { block, writes } => {
-                if *own != Some(block) {
-                    *own = Some(block);
-                    engine.signals().reclaims.ring(rt);
-                }
-                write_block(rt, engine, disk, flusher, session, block, &writes);
-            }
-            Reply::NoBlock => {
-                *own = None;
-                engine.signals().reclaims.ring(rt);
-                let _ = engine.signals().done.wait_past(rt, seen);
-            }
-            _ => return,
+        let reply = engine.step_again(rt, session, no_io(), Step::FlushBlock { flusher });
+        if !do_asked(rt, engine, disk, flusher, own, session, seen, reply) {
+            return;
         }
     }
     unreachable!()

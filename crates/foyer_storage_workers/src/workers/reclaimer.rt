@@ -4,6 +4,7 @@ ghost use Rattle.foyer_core_model.specs.Numbers.{page};
 ghost use Rattle.foyer_io_disk.specs.Disk.{IsRead, SurelyCame};
 ghost use Rattle.foyer_storage_engine.specs.Ending.{HoldsNamed};
 ghost use Rattle.foyer_storage_engine.specs.Reporting.{ReportsClean};
+ghost use Rattle.foyer_storage_workers.specs.WorkerSteps.{HasRead};
 
 use super::Worker;
 use crate::clock::Clock;
@@ -17,6 +18,7 @@ use foyer_format_record::serde::{Code, Properties};
 use foyer_io_disk::disk::Disk;
 use foyer_io_gate::gate::{Gate, Point};
 use foyer_policy_filter::StorageFilterCondition;
+use foyer_storage_engine::bell::BellClosed;
 use foyer_storage_engine::core_access::reclaims::{BlockCleaner, Part, next_part, read_bytes};
 use foyer_storage_engine::core_shared::notes::Noting;
 use foyer_storage_engine::core_shared::session::Session;
@@ -77,7 +79,7 @@ fn admitted<K, V, P, A: Allocator>(reply: &Reply<K, V, P, A>) -> u64 {
     }
 }
 
-// Reads what the reclaim of a block asks for, from its first index on.
+// Reads what the reclaim of a block asks for, from its first index on, until it asks for no more.
 #[tactic(auto, using(foyer_storage_engine::proofs::HoldingLemmas::held_on, foyer_storage_engine::proofs::HoldingLemmas::held_by_step))]
 fn read_block<L, K, V, P, A, E, C, D, G, N, O, T>(
     rt: &impl Wait,
@@ -102,6 +104,7 @@ where
     requires { 0 < session.old.shares.parts }
     ensures named { HoldsNamed session.old session.new }
     ensures parts { session.new.shares.parts ≡ session.old.shares.parts }
+    ensures read { HasRead block session.new }
     ensures known { O.is_known parts.old.disk → O.is_known parts.new.disk }
     ensures same { O.byte_at parts.new.disk ≡ O.byte_at parts.old.disk }
 {
@@ -197,7 +200,7 @@ fn work<L, K, V, P, A, E, C, D, G, N, O, T>(
     engine: &BlockEngine<L, K, V, P, A, E, C, D, G, N>,
     mut parts: ReclaimerParts<A, O, T>,
     session: &mut Session<L>,
-)
+) -> BellClosed
 where
     L: Kinds,
     K: Code<A> + Drop,
@@ -223,12 +226,13 @@ where
                 reclaim(rt, engine, &mut parts, session, block);
             }
             _ => {
-                if engine.signals().reclaims.wait_past(rt, seen) {
-                    return;
+                if let Some(closed) = engine.signals().reclaims.closed_past(rt, seen) {
+                    return closed;
                 }
             }
         }
     }
+    unreachable!()
 }
 
 /// A reclaimer's worker, before its thread is started.
@@ -294,7 +298,7 @@ where
     fn work(self, rt: &impl Wait, hand: Hand<L>) -> Hand<L> {
         let ReclaimerWorker { engine, parts } = self;
         let mut session = hand.into_session();
-        work(rt, &*engine, parts, &mut session);
+        let _ = work(rt, &*engine, parts, &mut session);
         Hand::from_session(session)
     }
 }
