@@ -11,11 +11,12 @@ use std::sync::Wait;
 use std::thread;
 use std::thread::Threads;
 
-// A thread's session, and its job or its report.
+// A thread's session, its job until it is called, and then its report.
 #[derive(Drop)]
-struct Seat<S: Drop, J: Drop> {
+struct Seat<S: Drop, J: Drop, Y: Drop> {
     session: S,
-    work: J,
+    job: Option<J>,
+    report: Option<Y>,
 }
 
 // So many parts of a session; None if it has no more than these, or these are none.
@@ -27,11 +28,11 @@ fn split<S: CallerSession>(session: &mut S, parts: u64) -> Option<S> {
 }
 
 // A seat for each job, each with an equal share of the session's parts. Memory, also if there are too few parts.
-fn seats_of<S: CallerSession, J: Drop>(
+fn seats_of<S: CallerSession, J: Drop, Y: Drop>(
     alloc: Global,
     session: &mut S,
     jobs: Vec<J>,
-) -> Result<Vec<Seat<S, J>>> {
+) -> Result<Vec<Seat<S, J, Y>>> {
     let parts = session.parts() / (jobs.len() as u64).saturating_add(1);
     let mut seats = Vec::new(alloc);
     for job in jobs {
@@ -40,26 +41,30 @@ fn seats_of<S: CallerSession, J: Drop>(
         };
         seats.push(Seat {
             session: part,
-            work: job,
+            job: Some(job),
+            report: None,
         })?;
     }
     Ok(seats)
 }
 
 // The reports, whose sessions are taken in. Memory.
-fn reports_of<S: CallerSession, J: Drop>(
+fn reports_of<S: CallerSession, J: Drop, Y: Drop>(
     alloc: Global,
     session: &mut S,
-    seats: Vec<Seat<S, J>>,
-) -> Result<Vec<J>> {
+    seats: Vec<Seat<S, J, Y>>,
+) -> Result<Vec<Y>> {
     let mut reports = Vec::new(alloc);
     for seat in seats {
         let Seat {
             session: part,
-            work,
+            job: _,
+            report,
         } = seat;
         session.join(part);
-        reports.push(work)?;
+        if let Some(report) = report {
+            reports.push(report)?;
+        }
     }
     Ok(reports)
 }
@@ -70,8 +75,8 @@ fn call_one<R, K, V, P, H, U, N, S>(
     store: &Store<N, K, V, P, H>,
     task: &U,
     shared: &U::Shared,
-    seat: Seat<S, U::Job>,
-) -> Seat<S, U::Report>
+    seat: &mut Seat<S, U::Job, U::Report>,
+)
 where
     K: Eq,
     H: Drop,
@@ -79,15 +84,13 @@ where
     N: Engine<S, K, V, P>,
     S: CallerSession,
 {
-    let Seat { mut session, work } = seat;
-    let report = task.call(rt, store, &mut session, shared, work);
-    Seat {
-        session,
-        work: report,
+    if let Some(job) = seat.job.take() {
+        let report = task.call(rt, store, &mut seat.session, shared, job);
+        seat.report = Some(report);
     }
 }
 
-// Calls a store by a thread for each job. Memory.
+// Calls a store by a thread for each job. Memory. Once one job has begun all are called: nothing is allocated between.
 fn call_all<R, K, V, P, H, U, N, S>(
     rt: &R,
     alloc: Global,
@@ -111,12 +114,13 @@ where
     N: Engine<S, K, V, P> + Send + Sync,
     S: CallerSession + Send,
 {
-    let seats = seats_of(alloc, session, jobs)?;
-    let call = |seat: Seat<S, U::Job>| -> Seat<S, U::Report> {
+    let mut seats = seats_of(alloc, session, jobs)?;
+    let threads = seats.len().max(1);
+    let call = |_number: usize, seat: &mut Seat<S, U::Job, U::Report>| {
         call_one(rt, store, task, shared, seat)
     };
-    let called = thread::map_vec(rt, seats, &call)?;
-    reports_of(alloc, session, called)
+    thread::for_each_mut(rt, seats.as_mut_slice(), threads, &call);
+    reports_of(alloc, session, seats)
 }
 
 // Begins a task, and has its threads call the store: what they share, and what they report.
@@ -172,7 +176,7 @@ where
     ensures ended { IfOk result (λ output. U.may_end task output) }
 {
     match begin_and_call(rt, alloc, store, session, &task, jobs) {
-        Ok((shared, reports)) => Ok(task.end(rt, store, session, shared, reports)),
+        Ok((shared, reports)) => Ok(task.end(rt, store, session, shared, reports.as_slice())),
         Err(error) => {
             let _ = store.close(rt, session);
             Err(error)

@@ -113,6 +113,9 @@ where
 /// with it by a thread for each job, and joins the store's own threads. Of each builder the engine's and the I/O engines' config, the
 /// compression and the recovery's mode are taken. `Config` for another number of builders, or without a shard; else refused as a
 /// builder is, or as the task begins, or `Memory`, also for more jobs than a session has parts. Then the task isn't ended.
+///
+/// The caller's own thread does the last job. If no thread can be made for another, it is done once later ones have ended. So a job may
+/// wait for the last one, and for no other.
 pub fn run_over_cores<R, T, L, K, V, P, H, O, D, S, C, G, I, U>(
     rt: R,
     alloc: Global,

@@ -54,7 +54,7 @@ pub trait StoreTask<R, K: Eq, V, P, H: Drop>: Sized + Drop {
         store: &Store<N, K, V, P, H>,
         session: &mut S,
         shared: Self::Shared,
-        reports: Vec<Self::Report>,
+        reports: &[Self::Report],
     ) -> Self::Output
     where
         S: CallerSession,

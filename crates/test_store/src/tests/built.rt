@@ -225,7 +225,7 @@ impl<'a, R: Wait> StoreTask<R, u128, String, NoProperties, LowBits> for AskedTas
 
     type Job = String;
 
-    type Report = Said;
+    type Report = Result<String>;
 
     type Output = Said;
 
@@ -246,13 +246,13 @@ impl<'a, R: Wait> StoreTask<R, u128, String, NoProperties, LowBits> for AskedTas
         session: &mut S,
         _shared: &(),
         job: String,
-    ) -> Said
+    ) -> Result<String>
     where
         S: CallerSession,
         N: Engine<S, u128, String, NoProperties>,
     {
         let beside = self.asked.beside();
-        answers_to(rt, self.alloc, store, beside, session, job.as_str())
+        answers_to(rt, self.alloc, store, beside, session, job.as_str()).text()
     }
 
     fn end<S, N>(
@@ -261,7 +261,7 @@ impl<'a, R: Wait> StoreTask<R, u128, String, NoProperties, LowBits> for AskedTas
         store: &Texts<N>,
         session: &mut S,
         _shared: (),
-        reports: Vec<Said>,
+        reports: &[Result<String>],
     ) -> Said
     where
         S: CallerSession,
@@ -277,7 +277,10 @@ impl<'a, R: Wait> StoreTask<R, u128, String, NoProperties, LowBits> for AskedTas
                 said.word(" & ");
             }
             is_first = false;
-            take(&mut said, more);
+            match more {
+                Ok(text) => said.word(text.as_str()),
+                Err(_) => said.miss(),
+            }
         }
         said
     }
