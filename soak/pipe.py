@@ -1,9 +1,9 @@
 #!/usr/bin/env python3
 """Asks foyerpipe by random frames, one in ten of which is broken, and kills it, and its callers, in between.
 
-Half of the programs have threads that answer gets. Checked: each request is answered once, and all but gets in their order; a reply has a code of
-its request's kind; a get is a miss, or a value of its own key that is no older than what was
-put before the last wait; what a wait followed and a delete took stays away while the program runs; a broken frame is answered by its
+Half of the programs have threads that answer gets, and half have a cache of two or four cores. Checked: each request is answered once, and
+all but gets in their order; a reply has a code of its request's kind; a get is a miss, or a value of its own key that is no older than what
+was put before the last wait; what a wait followed and a delete took stays away while the program runs; a broken frame is answered by its
 code and ends the program with status 1; a killed program's directory opens again, and gives whole values of the key that was asked for;
 a program whose caller was killed ends by itself; the program's memory stays below a bound. Ends with status 0 when all held.
 
@@ -46,8 +46,8 @@ def count_in(key, value):
 
 
 class Program:
-    def __init__(self, program, directory, readers=0):
-        words = [program, directory, *SIZES, "flushers=2", "engines=2", "readers=%d" % readers]
+    def __init__(self, program, directory, readers=0, cores=1):
+        words = [program, directory, *SIZES, "flushers=2", "engines=2", "readers=%d" % readers, "cores=%d" % cores]
         self.it = subprocess.Popen(words, stdin=subprocess.PIPE, stdout=subprocess.PIPE, stderr=subprocess.DEVNULL)
         self.number = 0
 
@@ -106,7 +106,7 @@ BROKEN = [
 
 def run_frames(args, rnd, directory):
     """One program, asked until a broken frame ends it: how many frames."""
-    program = Program(args.program, directory, rnd.choice([0, 0, 1, 3]))
+    program = Program(args.program, directory, rnd.choice([0, 0, 1, 3]), rnd.choice([1, 1, 2, 4]))
     newest, floor, deleted = {}, {}, set()
     asked = 0
     for _ in range(args.run):
@@ -170,8 +170,8 @@ def run_frames(args, rnd, directory):
     return asked + 1
 
 
-def check_open(args, directory, rnd):
-    program = Program(args.program, directory)
+def check_open(args, directory, cores):
+    program = Program(args.program, directory, cores=cores)
     hits = 0
     for key in range(KEYS):
         number = program.send(b"g", b"%d" % key)
@@ -192,7 +192,7 @@ import random, sys, time
 sys.path[:0] = [%r, %r]
 import pipe
 rnd = random.Random(%d)
-program = pipe.Program(%r, %r)
+program = pipe.Program(%r, %r, cores=%d)
 print(program.it.pid, flush=True)
 count = 0
 while True:
@@ -205,7 +205,9 @@ while True:
 
 def run_kill(args, rnd, directory):
     """Kills the program, or its caller, while it puts."""
-    text = CALLER % (TOP + "/soak", TOP + "/clients", rnd.randrange(1 << 30), args.program, directory)
+    cores = rnd.choice([1, 2, 4])
+    directory += "-%d" % cores
+    text = CALLER % (TOP + "/soak", TOP + "/clients", rnd.randrange(1 << 30), args.program, directory, cores)
     caller = subprocess.Popen([sys.executable, "-c", text], stdout=subprocess.PIPE, stderr=subprocess.DEVNULL)
     pid = int(caller.stdout.readline())
     time.sleep(rnd.random() * 0.2)
@@ -226,7 +228,7 @@ def run_kill(args, rnd, directory):
         else:
             fail("the program goes on without its caller")
     caller.wait()
-    return check_open(args, directory, rnd)
+    return check_open(args, directory, cores)
 
 
 def main():

@@ -2,6 +2,7 @@
 
     python3 soak/threads.py                         eight threads, a minute
     python3 soak/threads.py --seconds 600 --threads 4
+    python3 soak/threads.py --cores 4               over a store of four cores
     python3 soak/threads.py --kills 2000            threads alone that are killed while they write
     python3 soak/threads.py --scripts 10000         short scripts alone
     python3 soak/threads.py --faults 10000          short scripts alone in which accesses fail
@@ -44,7 +45,7 @@ def run_threads(options):
         while time.monotonic() < until:
             capacity, block = draw.choice(SIZES)
             directory = ":memory:" if draw.random() < 0.3 else os.path.join(top, f"{capacity}-{block}")
-            words = [options.soak, directory, capacity, block, options.threads, options.calls, runs + 1]
+            words = [options.soak, directory, capacity * options.cores, block, options.threads, options.calls, runs + 1, options.cores]
             try:
                 ran = subprocess.run([str(it) for it in words], capture_output=True, timeout=300, check=False)
             except subprocess.TimeoutExpired:
@@ -64,14 +65,15 @@ def run_kills(options):
         for number in range(options.kills):
             capacity, block = draw.choice(SIZES)
             directory = os.path.join(top, f"{capacity}-{block}-{draw.randrange(4)}")
-            words = [str(it) for it in (options.soak, directory, capacity, block, options.threads)]
-            child = subprocess.Popen(words + ["100000000", str(2 * number + 1)], stdout=subprocess.DEVNULL, stderr=subprocess.DEVNULL)
+            words = [str(it) for it in (options.soak, directory, capacity * options.cores, block, options.threads)]
+            last = [str(options.cores)]
+            child = subprocess.Popen(words + ["100000000", str(2 * number + 1)] + last, stdout=subprocess.DEVNULL, stderr=subprocess.DEVNULL)
             time.sleep(draw.random() * 0.06)
             child.kill()
             if child.wait() != -9:
                 raise SystemExit(f"ended with {child.returncode} before it was killed: {words}")
             try:
-                ran = subprocess.run(words + ["500", str(2 * number + 2)], capture_output=True, timeout=300, check=False)
+                ran = subprocess.run(words + ["500", str(2 * number + 2)] + last, capture_output=True, timeout=300, check=False)
             except subprocess.TimeoutExpired:
                 raise SystemExit(f"did not end within 300 s after kill {number}: {words}")
             found = FOUND.search(ran.stderr)
@@ -220,6 +222,7 @@ def main():
     parser.add_argument("--seconds", type=float, default=60)
     parser.add_argument("--threads", type=int, default=8)
     parser.add_argument("--calls", type=int, default=100000, help="of each thread, in each run")
+    parser.add_argument("--cores", type=int, choices=(1, 2, 4), default=1, help="of the store of each run of threads")
     parser.add_argument("--scripts", type=int, default=0, help="run so many short scripts in place of threads")
     parser.add_argument("--kills", type=int, default=0, help="kill so many runs of threads in place of letting them end")
     parser.add_argument("--faults", type=int, default=0, help="fail so many accesses of short scripts in place of threads")

@@ -5,4 +5,6 @@ pub mod asked;
 pub mod bench;
 pub mod caller;
 pub mod report;
+pub mod stores;
+pub mod task;
 pub mod words;

@@ -53,6 +53,7 @@ bounds-kept setting.Fill number plan has low high = record { some_threads = has.
 bounds-kept setting.Engines number plan has low high = record { some_threads = has.some_threads; few_threads = has.few_threads; value_bytes = has.value_bytes; some_keys = has.some_keys; few_keys = has.few_keys; skew = has.skew }
 bounds-kept setting.Flushers number plan has low high = record { some_threads = has.some_threads; few_threads = has.few_threads; value_bytes = has.value_bytes; some_keys = has.some_keys; few_keys = has.few_keys; skew = has.skew }
 bounds-kept setting.Recoverers number plan has low high = record { some_threads = has.some_threads; few_threads = has.few_threads; value_bytes = has.value_bytes; some_keys = has.some_keys; few_keys = has.few_keys; skew = has.skew }
+bounds-kept setting.Cores number plan has low high = record { some_threads = has.some_threads; few_threads = has.few_threads; value_bytes = has.value_bytes; some_keys = has.some_keys; few_keys = has.few_keys; skew = has.skew }
 bounds-kept setting.Patience number plan has low high = record { some_threads = has.some_threads; few_threads = has.few_threads; value_bytes = has.value_bytes; some_keys = has.some_keys; few_keys = has.few_keys; skew = has.skew }
 bounds-kept setting.Through number plan has low high = record { some_threads = has.some_threads; few_threads = has.few_threads; value_bytes = has.value_bytes; some_keys = has.some_keys; few_keys = has.few_keys; skew = has.skew }
 bounds-kept setting.Reinsert number plan has low high = record { some_threads = has.some_threads; few_threads = has.few_threads; value_bytes = has.value_bytes; some_keys = has.some_keys; few_keys = has.few_keys; skew = has.skew }

@@ -18,6 +18,7 @@ set_to setting.Fill number plan = record plan { fill = number }
 set_to setting.Engines number plan = record plan { engines = number }
 set_to setting.Flushers number plan = record plan { flushers = number }
 set_to setting.Recoverers number plan = record plan { recoverers = number }
+set_to setting.Cores number plan = record plan { cores = number }
 set_to setting.Patience number plan = record plan { patience = number }
 set_to setting.Through number plan = record plan { through = number }
 set_to setting.Reinsert number plan = record plan { reinsert = number }
@@ -28,8 +29,8 @@ AreSettings plan [] after = after ≡ plan
 AreSettings plan (word ∷ words) after = (s : Setting) × (number : ℕ) × IsSetting word s number × AreSettings (set_to s number plan) words after
 
 -- where nothing more is said: 100,000 keys at a skew of 0.99, 90 of a hundred calls are gets, nothing is put before, loads read
--- through one engine, one flusher writes, eight workers read the blocks at the opening, no put looks again, a miss puts nothing,
--- and nothing is written again
+-- through one engine, one flusher writes, eight workers read the blocks at the opening, there is one core, no put looks again, a miss
+-- puts nothing, and nothing is written again
 abbrev pub default_plan : ℕ → ℕ → ℕ → Plan
 default_plan threads value_bytes seconds = record {
   threads = threads;
@@ -44,6 +45,7 @@ default_plan threads value_bytes seconds = record {
   engines = 1;
   flushers = 1;
   recoverers = 8;
+  cores = 1;
   patience = 0;
   through = 0;
   reinsert = 0;

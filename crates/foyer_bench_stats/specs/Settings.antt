@@ -1,5 +1,5 @@
 -- Settings, each a name, an equals sign and a number.
-use Rattle.std.specs.Prelude.{◌≡◌, ℕ, ◌-◌, ◌^◌, ◌≤◌, List, ◌∷◌, ◌++◌, codes}
+use Rattle.std.specs.Prelude.{◌≡◌, ℕ, ◌-◌, ◌^◌, ◌≤◌, ◌==◌, Bool, true, false, not, List, ◌∷◌, ◌++◌, codes}
 use Rattle.std.specs.Str.Parse.{IsNumeral, digits_value, without_leading_plus}
 use Rattle.foyer_bench_stats.specs.declared.settings.Setting.{Setting}
 use Rattle.foyer_bench_stats.specs.declared.settings.Setting.TheVariants as setting
@@ -23,6 +23,7 @@ name_of setting.Fill = codes "fill"
 name_of setting.Engines = codes "engines"
 name_of setting.Flushers = codes "flushers"
 name_of setting.Recoverers = codes "recoverers"
+name_of setting.Cores = codes "cores"
 name_of setting.Patience = codes "patience"
 name_of setting.Through = codes "through"
 name_of setting.Reinsert = codes "reinsert"
@@ -32,6 +33,7 @@ least_of setting.Keys = 1
 least_of setting.Engines = 1
 least_of setting.Flushers = 1
 least_of setting.Recoverers = 1
+least_of setting.Cores = 1
 least_of _ = 0
 
 abbrev pub greatest_of : Setting → ℕ
@@ -41,19 +43,26 @@ greatest_of setting.Gets = 100
 greatest_of setting.Engines = 1024
 greatest_of setting.Flushers = 1024
 greatest_of setting.Recoverers = 1024
+greatest_of setting.Cores = 4
 greatest_of setting.Patience = 2 ^ 32 - 1
 greatest_of setting.Through = 1
 greatest_of setting.Reinsert = 1
 greatest_of _ = 2 ^ 64 - 1
+
+-- whether it may have a number between these: a store has one core, two or four
+abbrev pub takes : Setting → ℕ → Bool
+takes setting.Cores number = not (number == 3)
+takes _ number = true
 
 -- the word is a setting's name, an equals sign, and a number that it may have
 pub record IsSetting (word : List ℕ) (s : Setting) (number : ℕ) : Type 0 where
   pub text : List ℕ
   pub parts : word ≡ name_of s ++ 61 ∷ text
   pub is_number : IsNumberIn text (least_of s) (greatest_of s) number
+  pub is_taken : takes s number ≡ true
 
 -- why a word is no setting: its name is none's, or its number is none that the setting may have
 abbrev pub IsRefusedWord : List ℕ → Refusal → Type 0
 IsRefusedWord word refusal.Unknown = (s : Setting) (text : List ℕ) → ¬ (word ≡ name_of s ++ 61 ∷ text)
-IsRefusedWord word (refusal.Number s) = (text : List ℕ) × (word ≡ name_of s ++ 61 ∷ text) × ((number : ℕ) → ¬ IsNumberIn text (least_of s) (greatest_of s) number)
+IsRefusedWord word (refusal.Number s) = (text : List ℕ) × (word ≡ name_of s ++ 61 ∷ text) × ((number : ℕ) → IsNumberIn text (least_of s) (greatest_of s) number → takes s number ≡ false)
 IsRefusedWord word _ = ⊥

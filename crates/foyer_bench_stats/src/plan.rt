@@ -32,6 +32,8 @@ pub struct Plan {
     pub flushers: u64,
     /// How many workers read the blocks when the store is opened.
     pub recoverers: u64,
+    /// How many cores the store has: 1, 2 or 4.
+    pub cores: u64,
     /// How often a put that finds too much queued looks again.
     pub patience: u64,
     /// 1 where a get that misses puts its key, else 0.
@@ -55,6 +57,7 @@ impl Plan {
             Setting::Engines => self.engines = number,
             Setting::Flushers => self.flushers = number,
             Setting::Recoverers => self.recoverers = number,
+            Setting::Cores => self.cores = number,
             Setting::Patience => self.patience = number,
             Setting::Through => self.through = number,
             Setting::Reinsert => self.reinsert = number,
@@ -64,7 +67,7 @@ impl Plan {
 
     /// Reads the words. Of settings of one name the last counts; where none is there, 100,000 keys are asked of at a skew of 0.99,
     /// 90 of a hundred calls are gets, the seed is 1, nothing is put before, loads read through one engine, one flusher writes, eight
-    /// workers read the blocks at the opening, no put looks again, a miss puts nothing, and nothing is written again.
+    /// workers read the blocks at the opening, there is one core, no put looks again, a miss puts nothing, and nothing is written again.
     pub fn parse<A: Allocator>(words: &[String<A>]) -> Result<Plan, Refusal>
         ensures read { MatchResult result (ArePlanWords (map string_bytes words.now)) (AreRefused (map string_bytes words.now)) }
         ensures bounds { IfOk result HasBounds }
@@ -94,6 +97,7 @@ impl Plan {
             engines: 1,
             flushers: 1,
             recoverers: 8,
+            cores: 1,
             patience: 0,
             through: 0,
             reinsert: 0,

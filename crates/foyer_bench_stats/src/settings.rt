@@ -1,6 +1,6 @@
 //! Settings, each `name=value`, and why words are refused.
 ghost use Rattle.std.specs.Prelude.{◌≡◌, ℕ, MatchOption, MatchResult};
-ghost use Rattle.foyer_bench_stats.specs.Settings.{IsNumberIn, IsRefusedWord, IsSetting, greatest_of, least_of, name_of};
+ghost use Rattle.foyer_bench_stats.specs.Settings.{IsNumberIn, IsRefusedWord, IsSetting, greatest_of, least_of, name_of, takes};
 
 /// What a setting sets.
 #[derive(Clone, Copy, Debug, PartialEq, Eq)]
@@ -14,6 +14,7 @@ pub enum Setting {
     Engines,
     Flushers,
     Recoverers,
+    Cores,
     Patience,
     Through,
     Reinsert,
@@ -45,7 +46,7 @@ impl Refusal {
             Refusal::ValueBytes => "VALUE_BYTES is a number up to 2^30",
             Refusal::Seconds => "SECONDS is a number from 1 to 2^30",
             Refusal::Unknown =>
-                "a setting is calls=, keys=, skew=, gets=, seed=, fill=, engines=, flushers=, recoverers=, patience=, through= or reinsert=",
+                "a setting is calls=, keys=, skew=, gets=, seed=, fill=, engines=, flushers=, recoverers=, cores=, patience=, through= or reinsert=",
             Refusal::Number(Setting::Calls) => "calls= is a number",
             Refusal::Number(Setting::Keys) => "keys= is a number from 1 to 2^26",
             Refusal::Number(Setting::Skew) => "skew= is a number of hundredths up to 1000",
@@ -55,6 +56,7 @@ impl Refusal {
             Refusal::Number(Setting::Engines) => "engines= is a number from 1 to 1024",
             Refusal::Number(Setting::Flushers) => "flushers= is a number from 1 to 1024",
             Refusal::Number(Setting::Recoverers) => "recoverers= is a number from 1 to 1024",
+            Refusal::Number(Setting::Cores) => "cores= is 1, 2 or 4",
             Refusal::Number(Setting::Patience) => "patience= is a number up to 4294967295",
             Refusal::Number(Setting::Through) => "through= is 0 or 1",
             Refusal::Number(Setting::Reinsert) => "reinsert= is 0 or 1",
@@ -87,6 +89,7 @@ impl Setting {
             "engines" => Some(Setting::Engines),
             "flushers" => Some(Setting::Flushers),
             "recoverers" => Some(Setting::Recoverers),
+            "cores" => Some(Setting::Cores),
             "patience" => Some(Setting::Patience),
             "through" => Some(Setting::Through),
             "reinsert" => Some(Setting::Reinsert),
@@ -98,7 +101,11 @@ impl Setting {
         ensures { result ≡ least_of self }
     {
         match self {
-            Setting::Keys | Setting::Engines | Setting::Flushers | Setting::Recoverers => 1,
+            Setting::Keys
+            | Setting::Engines
+            | Setting::Flushers
+            | Setting::Recoverers
+            | Setting::Cores => 1,
             _ => 0,
         }
     }
@@ -111,9 +118,20 @@ impl Setting {
             Setting::Skew => 1000,
             Setting::Gets => 100,
             Setting::Engines | Setting::Flushers | Setting::Recoverers => 1024,
+            Setting::Cores => 4,
             Setting::Patience => u32::MAX as u64,
             Setting::Through | Setting::Reinsert => 1,
             _ => u64::MAX,
+        }
+    }
+
+    // Whether it may have a number between these.
+    fn takes(self, number: u64) -> bool
+        ensures { result ≡ takes self number }
+    {
+        match self {
+            Setting::Cores => number != 3,
+            _ => true,
         }
     }
 
@@ -128,7 +146,13 @@ impl Setting {
             return Err(Refusal::Unknown);
         };
         match number(text, setting.least(), setting.greatest()) {
-            Some(number) => Ok((setting, number)),
+            Some(number) => {
+                if setting.takes(number) {
+                    Ok((setting, number))
+                } else {
+                    Err(Refusal::Number(setting))
+                }
+            }
             None => Err(Refusal::Number(setting)),
         }
     }

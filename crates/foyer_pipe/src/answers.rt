@@ -8,11 +8,11 @@ use foyer_device_page::error::Result;
 use foyer_format_checksum::Checksummer;
 use foyer_format_record::serde::{HashBuilder, NoProperties};
 use foyer_frames::kind::Kind;
-use foyer_storage_build::config::Engine;
-use foyer_storage_build::counters::StoreCounters;
-use foyer_storage_build::engine::engine::Enqueued;
-use foyer_storage_build::engine::load::Load;
-use foyer_storage_build::store::Store;
+use foyer_storage_cores_run::build::config::Engine;
+use foyer_storage_cores_run::build::counters::StoreCounters;
+use foyer_storage_cores_run::build::engine::engine::Enqueued;
+use foyer_storage_cores_run::build::engine::load::Load;
+use foyer_storage_cores_run::build::store::Store;
 use std::alloc::Global;
 use std::fmt::Write as _;
 use std::io::Write;
@@ -132,7 +132,7 @@ pub(crate) fn answer_get<S: Drop, N: Engine<S, Bytes, Bytes, NoProperties>, O: W
     reply_get(rt, replies, get.number, got);
 }
 
-// Leaves a get to a thread that answers gets, or answers it if there is none or too many wait.
+// Leaves a get to a thread that answers gets, or answers it if none runs or too many wait.
 fn answer_or_leave<S: Drop, N: Engine<S, Bytes, Bytes, NoProperties>, O: Write + Drop>(
     rt: &impl Wait,
     cache: &Cache<N>,
@@ -142,7 +142,7 @@ fn answer_or_leave<S: Drop, N: Engine<S, Bytes, Bytes, NoProperties>, O: Write +
     now: u64,
     replies: &Replies<O>,
 ) {
-    if gets.readers() == 0 {
+    if !gets.has_readers() {
         return answer_get(rt, cache, session, &get, now, replies);
     }
     if let Err(get) = gets.offer(rt, get) {

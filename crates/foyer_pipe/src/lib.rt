@@ -7,3 +7,4 @@ pub mod options;
 mod readers;
 mod replies;
 pub mod serve;
+mod task;

@@ -1,10 +1,10 @@
 //! The program's arguments.
-ghost use Rattle.std.specs.Prelude.{◌≡◌, ◌≤◌, ◌<◌, ◌^◌, IfSome};
+ghost use Rattle.std.specs.Prelude.{◌≡◌, ◌≢◌, ◌⊎◌, Some, None};
 
 use foyer_cli::command::number;
 use foyer_cli::options::Options;
 use foyer_frames::request::Limits;
-use foyer_storage_build::engine::core_steps::open::RecoverMode;
+use foyer_storage_cores_run::build::engine::core_steps::open::RecoverMode;
 use std::alloc::Allocator;
 
 /// Printed if the arguments are bad.
@@ -25,6 +25,8 @@ pub struct PipeOptions {
     pub patience: u32,
     /// What keys are hashed behind, in eight bytes; 0 for nothing.
     pub seed: u64,
+    /// The cores, each with a part of the keys, a directory and threads of its own: 1, 2 or 4.
+    pub cores: u64,
     /// The clean blocks below which a reclaim may begin.
     pub clean: usize,
     /// Whether deletes are logged.
@@ -47,8 +49,8 @@ pub const DEFAULT_KEY_BYTES: u32 = 1 << 16;
 pub const DEFAULT_VALUE_BYTES: u32 = 1 << 26;
 
 impl PipeOptions {
-    /// One flusher, one reclaimer, one I/O engine for gets, no thread for gets alone, no patience, no seed, one clean block, no log, the mode
-    /// `quiet`, no limits, keys of 64 KiB and values of 64 MiB at most.
+    /// One flusher, one reclaimer, one I/O engine for gets, no thread for gets alone, no patience, no seed, one core, one clean block, no log,
+    /// the mode `quiet`, no limits, keys of 64 KiB and values of 64 MiB at most.
     pub fn new() -> PipeOptions {
         PipeOptions {
             flushers: 1,
@@ -57,6 +59,7 @@ impl PipeOptions {
             readers: 0,
             patience: 0,
             seed: 0,
+            cores: 1,
             clean: 1,
             has_log: false,
             mode: RecoverMode::Quiet,
@@ -100,6 +103,7 @@ impl PipeOptions {
             "readers" => self.readers = up_to(number, 1024)?,
             "patience" => self.patience = up_to(number, u32::MAX)?,
             "seed" => self.seed = number,
+            "cores" => self.cores = cores_of(number)?,
             "clean" => self.clean = any,
             "log" => self.has_log = flag_of(number)?,
             "read_bytes" => self.read_bytes = any,
@@ -139,6 +143,17 @@ fn count_of(number: u64, greatest: u32) -> Option<u32> {
         return None;
     }
     Some(count)
+}
+
+// The number of a store's cores.
+fn cores_of(number: u64) -> Option<u64>
+    ensures taken { (number ≡ 1) ⊎ ((number ≡ 2) ⊎ (number ≡ 4)) → result ≡ Some number }
+    ensures refused { number ≢ 1 → number ≢ 2 → number ≢ 4 → result ≡ None }
+{
+    match number {
+        1 | 2 | 4 => Some(number),
+        _ => None,
+    }
 }
 
 fn flag_of(number: u64) -> Option<bool> {

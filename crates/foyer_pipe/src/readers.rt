@@ -3,11 +3,12 @@ use crate::answers::{Bytes, Cache, answer_get};
 use crate::replies::Replies;
 use foyer_format_record::serde::NoProperties;
 use foyer_lock::lock_spinning;
-use foyer_storage_build::config::Engine;
-use foyer_storage_build::threads::workers::Clock;
+use foyer_storage_cores_run::build::config::Engine;
+use foyer_storage_cores_run::build::threads::workers::Clock;
 use std::alloc::Global;
 use std::collections::VecDeque;
 use std::io::Write;
+use std::sync::atomic::{AtomicUsize, Ordering};
 use std::sync::{Condvar, Mutex, Wait};
 
 // How many gets may wait for each thread.
@@ -52,11 +53,12 @@ impl Queue {
     }
 }
 
-/// The gets that wait for so many threads.
+/// The gets that wait for the threads that answer gets.
 pub(crate) struct Gets {
     queue: Mutex<Queue>,
     changed: Condvar,
-    readers: u32,
+    // How many threads have begun.
+    readers: AtomicUsize,
 }
 
 // Written out, so that it is proved once.
@@ -71,8 +73,8 @@ impl Drop for Gets {
 }
 
 impl Gets {
-    /// None, for so many threads.
-    pub(crate) fn new(alloc: Global, readers: u32) -> Gets {
+    /// None, and no thread.
+    pub(crate) fn new(alloc: Global) -> Gets {
         let queue = Queue {
             waiting: VecDeque::new(alloc),
             is_closed: false,
@@ -80,18 +82,19 @@ impl Gets {
         Gets {
             queue: Mutex::new(queue),
             changed: Condvar::new(),
-            readers,
+            readers: AtomicUsize::new(0),
         }
     }
 
-    /// How many threads they wait for.
-    pub(crate) fn readers(&self) -> u32 {
-        self.readers
+    /// Whether a thread has begun.
+    pub(crate) fn has_readers(&self) -> bool {
+        self.readers.load(Ordering::Relaxed) > 0
     }
 
     /// Leaves a get to a thread. It is handed back if too many wait already, or memory is refused.
     pub(crate) fn offer(&self, rt: &impl Wait, get: Get) -> std::result::Result<(), Get> {
-        let most = (self.readers as usize).saturating_mul(WAITING_FOR_EACH);
+        let readers = self.readers.load(Ordering::Relaxed);
+        let most = readers.saturating_mul(WAITING_FOR_EACH);
         lock_spinning(&self.queue, rt).add(get, most)?;
         self.changed.notify_one();
         Ok(())
@@ -119,48 +122,30 @@ impl Gets {
     }
 }
 
-/// A thread that answers gets, before it is started. It is a type of its own, so that the proof of who starts it doesn't go over its parts.
-pub(crate) struct Reader<'a, S: Drop, N: Drop, C, O: Write + Drop> {
-    pub(crate) cache: &'a Cache<N>,
-    pub(crate) session: S,
-    pub(crate) clock: &'a C,
-    pub(crate) gets: &'a Gets,
-    pub(crate) replies: &'a Replies<O>,
-}
-
-// Written out, so that it is proved once.
-impl<S: Drop, N: Drop, C, O: Write + Drop> Drop for Reader<'_, S, N, C, O> {
-    fn drop(self) {
-        let Reader {
-            cache: _,
-            session: _,
-            clock: _,
-            gets: _,
-            replies: _,
-        } = self;
-    }
-}
-
-impl<S, N, C, O> Reader<'_, S, N, C, O>
+/// Answers gets until no more come. Each reply is flushed by its own thread or by that of a later get.
+pub(crate) fn answer_gets<S, N, C, O>(
+    rt: &impl Wait,
+    cache: &Cache<N>,
+    session: &mut S,
+    clock: &C,
+    gets: &Gets,
+    replies: &Replies<O>,
+)
 where
     S: Drop,
     N: Engine<S, Bytes, Bytes, NoProperties>,
     C: Clock,
     O: Write + Drop,
 {
-    /// Answers gets until no more come. Each reply is flushed by its own thread or by that of a later get.
-    pub(crate) fn answer(self, rt: &impl Wait) {
-        let mut reader = self;
-        let (cache, gets, replies) = (reader.cache, reader.gets, reader.replies);
-        for _ in rt.forever() {
-            let Some(get) = gets.take(rt) else {
-                return;
-            };
-            let now = reader.clock.now();
-            answer_get(rt, cache, &mut reader.session, &get, now, replies);
-            if gets.is_empty(rt) {
-                let _ = replies.flush(rt);
-            }
+    let _ = gets.readers.fetch_add(1, Ordering::Relaxed);
+    for _ in rt.forever() {
+        let Some(get) = gets.take(rt) else {
+            return;
+        };
+        let now = clock.now();
+        answer_get(rt, cache, session, &get, now, replies);
+        if gets.is_empty(rt) {
+            let _ = replies.flush(rt);
         }
     }
 }

@@ -1,37 +1,36 @@
 //! The whole program, over any reader and writers.
 ghost use Rattle.std.specs.Prelude.{◌≡◌, ◌⊎◌, ◌^◌};
 ghost use Rattle.foyer_cli.specs.Arguments.{AskVersion};
-ghost use denote.Param.Send.{IsSend, IsSync};
-ghost use Rattle.foyer_core_tally.specs.Ledgers.{AreOf};
+ghost use Rattle.foyer_storage_cores_run.specs.CoreLedgers.{AreOfCores};
 
-use crate::answers::{Asked, Bytes, BytesHashBuilder, Cache, answer};
-use crate::codes::fault_code;
+use crate::answers::{Bytes, BytesHashBuilder};
 use crate::options::{PipeOptions, USAGE, parse_words};
-use crate::readers::{Gets, Reader};
-use crate::replies::Replies;
+use crate::task::{Job, PipeTask, STATUS_FAULT};
 use foyer_cli::faults::name_of;
 use foyer_cli::options::{GENERATOR_SEED, Options, ask_version, print_version};
-use foyer_core_tally::book::{Blanks, Kinds};
+use foyer_core_tally::book::Kinds;
 use foyer_device_page::error::{Error, Result};
 use foyer_device_partition::io::device::{
     Device, DeviceBuilder, FsDeviceBuilder, MemoryDeviceBuilder, Throttle,
 };
 use foyer_format_record::serde::NoProperties;
-use foyer_frames::frames::{Filled, Frames, Taken};
+use foyer_frames::frames::Frames;
 use foyer_io_engine::io::engine::{
     IoEngineConfig, MemoryIoEngine, PsyncIoEngineConfig, SharedMemoryIoEngineConfig,
 };
-use foyer_storage_build::builder::StoreBuilder;
-use foyer_storage_build::config::{BlockEngineConfig, Engine};
-use foyer_storage_build::session::StoreSession;
-use foyer_storage_build::threads::workers::{Clock, SystemClock, Workers};
+use foyer_storage_cores_run::build::builder::StoreBuilder;
+use foyer_storage_cores_run::build::config::BlockEngineConfig;
+use foyer_storage_cores_run::build::cores::kinds::CoreBlanks;
+use foyer_storage_cores_run::build::threads::workers::{Clock, SystemClock};
+use foyer_storage_cores_run::paths::core_path;
+use foyer_storage_cores_run::run::run_over_cores;
 use std::alloc::{Allocator, Global};
 use std::fs::File;
+use std::io;
 use std::io::{BufWriter, Read, Write};
 use std::rt::Files;
 use std::sync::Wait;
 use std::thread::Threads;
-use std::{io, thread};
 
 // The bytes of the output's buffer.
 const OUTPUT_CAPACITY: usize = 64 * 1024;
@@ -39,259 +38,62 @@ const OUTPUT_CAPACITY: usize = 64 * 1024;
 // Into how many shards the keeper is divided.
 const KEEPER_SHARDS: usize = 64;
 
-// All went well; a frame was none or cut short, or a stream or the close failed; the arguments were bad.
-const STATUS_OK: u8 = 0;
-
-const STATUS_FAULT: u8 = 1;
-
+// The arguments were bad.
 const STATUS_USAGE: u8 = 2;
 
-// What became of the requests that were read whole.
-#[derive(Clone, Copy, PartialEq, Eq)]
-enum Went {
-    // All are answered.
-    Well,
-    // One is none: no frame can be found behind it.
-    Badly,
-}
-
-// Answers the requests that were read whole.
-fn answer_whole<S, N, R, O>(
-    rt: &impl Wait,
-    alloc: Global,
-    cache: &Cache<N>,
-    session: &mut S,
-    clock: &impl Clock,
-    frames: &mut Frames<R, Global>,
-    gets: &Gets,
-    seed: u64,
-    replies: &Replies<O>,
-) -> Went
-where
-    S: Drop,
-    N: Engine<S, Bytes, Bytes, NoProperties>,
-    R: Read + Drop,
-    O: Write + Drop,
-{
-    for _ in 0..u64::MAX {
-        match frames.take() {
-            Taken::Partial => return Went::Well,
-            Taken::Refused(fault) => {
-                replies.write(rt, 0, fault_code(fault), &[]);
-                return Went::Badly;
-            }
-            Taken::Request(head) => {
-                let asked = Asked {
-                    kind: head.kind,
-                    number: head.number,
-                    key: frames.key(),
-                    value: frames.value(),
-                };
-                answer(
-                    rt,
-                    alloc,
-                    cache,
-                    session,
-                    gets,
-                    seed,
-                    asked,
-                    clock.now(),
-                    replies,
-                );
-            }
-        }
+// The threads that answer gets, and last the one for requests, for whose end they wait. Memory.
+fn jobs_of(alloc: Global, readers: u32) -> Result<Vec<Job>> {
+    let mut jobs = Vec::new(alloc);
+    for _ in 0..readers {
+        jobs.push(Job::Gets)?;
     }
-    Went::Badly
+    jobs.push(Job::Requests)?;
+    Ok(jobs)
 }
 
-// Answers every request, until the input ends or fails, a frame is none, or the output fails: whether all went well. Replies are written
-// out before more input is asked for, but for those that other threads write.
-fn answer_all<S, N, R, O>(
-    rt: &impl Wait,
+// What a core lies in.
+#[derive(Drop)]
+struct Place<D: Drop, I: Drop> {
+    device: D,
+    io_engine: I,
+}
+
+// Builds the engine of a core.
+type CoreBuilder<D, I> = StoreBuilder<BytesHashBuilder, BlockEngineConfig<D>, I>;
+
+fn builders_of<D: Device, I: Drop>(
     alloc: Global,
-    cache: &Cache<N>,
-    session: &mut S,
-    clock: &impl Clock,
-    frames: &mut Frames<R, Global>,
-    gets: &Gets,
-    seed: u64,
-    replies: &Replies<O>,
-) -> bool
-where
-    S: Drop,
-    N: Engine<S, Bytes, Bytes, NoProperties>,
-    R: Read + Drop,
-    O: Write + Drop,
-{
-    for _ in 0..u64::MAX {
-        let went = answer_whole(
-            rt, alloc, cache, session, clock, frames, gets, seed, replies,
-        );
-        if !replies.flush(rt) || went == Went::Badly {
-            return false;
-        }
-        match frames.fill() {
-            Ok(Filled::More | Filled::Ready) => {}
-            Ok(Filled::End) => return true,
-            Ok(Filled::Cut) | Err(_) => return false,
-        }
-    }
-    false
-}
-
-// A part of the session for a thread that answers gets; none if the session has too few.
-fn part_of<L: Kinds>(session: &mut StoreSession<L>) -> Option<StoreSession<L>> {
-    if session.parts() < 2 {
-        return None;
-    }
-    Some(session.split(1))
-}
-
-// The same, with threads that answer gets. If one can't be started, there are fewer, or none.
-fn answer_with_readers<L, N, T, C, R, O>(
-    rt: &T,
-    alloc: Global,
-    cache: &Cache<N>,
-    session: &mut StoreSession<L>,
-    clock: &C,
-    frames: &mut Frames<R, Global>,
+    places: Vec<Place<D, I>>,
+    block_size: usize,
     options: &PipeOptions,
-    replies: &Replies<O>,
-) -> bool
-where
-    L: Kinds + Send + Sync,
-    N: Engine<StoreSession<L>, Bytes, Bytes, NoProperties> + Send + Sync,
-    T: Threads + Wait + Sync,
-    C: Clock + Sync,
-    R: Read + Drop,
-    O: Write + Drop + Send,
-{
-    let gets = &Gets::new(alloc, options.readers);
-    let mut is_well = false;
-    thread::scope(
-        thread::scope_env(),
-        rt,
-        |scope|
-            requires { IsSync T.row × IsSync N.row × IsSend L.row × IsSync L.row × IsSend O.row × IsSync C.row }
-        {
-            for _ in 0..options.readers {
-                let Some(part) = part_of(session) else {
-                    break;
-                };
-                let reader = Reader {
-                    cache,
-                    session: part,
-                    clock,
-                    gets,
-                    replies,
-                };
-                let started = scope.spawn(move || reader.answer(rt));
-                if started.is_err() {
-                    break;
-                }
-            }
-            is_well = answer_all(
-                rt,
-                alloc,
-                cache,
-                session,
-                clock,
-                frames,
-                gets,
-                options.seed,
-                replies,
-            );
-            gets.close(rt);
-        },
-    );
-    is_well && replies.flush(rt)
-}
-
-// The same, unless memory is refused for what reads and writes.
-fn answer_frames<L, N, T, C, R, W>(
-    rt: &T,
-    alloc: Global,
-    cache: &Cache<N>,
-    session: &mut StoreSession<L>,
-    clock: &C,
-    options: &PipeOptions,
-    input: R,
-    output: W,
-) -> bool
-where
-    L: Kinds + Send + Sync,
-    N: Engine<StoreSession<L>, Bytes, Bytes, NoProperties> + Send + Sync,
-    T: Threads + Wait + Sync,
-    C: Clock + Sync,
-    R: Read + Drop,
-    W: Write + Drop + Send,
-{
-    let Ok(mut frames) = Frames::new(alloc, input, options.limits) else {
-        return false;
-    };
-    let Ok(output) = BufWriter::with_capacity(alloc, OUTPUT_CAPACITY, output) else {
-        return false;
-    };
-    let replies = Replies::new(output);
-    answer_with_readers(
-        rt,
-        alloc,
-        cache,
-        session,
-        clock,
-        &mut frames,
-        options,
-        &replies,
-    )
-}
-
-// Answers the input's requests, closes the cache, and joins its workers: the status.
-fn answer_and_close<L, N, T, C, R, W>(
-    rt: &T,
-    alloc: Global,
-    cache: &Cache<N>,
-    mut session: StoreSession<L>,
-    workers: Workers<L>,
-    clock: &C,
-    options: &PipeOptions,
-    input: R,
-    output: W,
-) -> u8
-where
-    L: Kinds + Send + Sync,
-    N: Engine<StoreSession<L>, Bytes, Bytes, NoProperties> + Send + Sync,
-    T: Threads + Wait + Sync,
-    C: Clock + Sync,
-    R: Read + Drop,
-    W: Write + Drop + Send,
-{
-    let is_well = answer_frames(
-        rt,
-        alloc,
-        cache,
-        &mut session,
-        clock,
-        options,
-        input,
-        output,
-    );
-    let is_closed = cache.close(rt, &mut session).is_ok();
-    let _ = workers.join(rt, session.into_steps());
-    if is_well && is_closed {
-        STATUS_OK
-    } else {
-        STATUS_FAULT
+) -> Result<Vec<CoreBuilder<D, I>>> {
+    let mut builders = Vec::new(alloc);
+    for place in places {
+        let Place { device, io_engine } = place;
+        let config = BlockEngineConfig::new(device)
+            .with_block_size(block_size)
+            .with_flushers(options.flushers)
+            .with_reclaimers(options.reclaimers)
+            .with_load_engines(options.engines)
+            .with_enqueue_patience(options.patience)
+            .with_clean_block_threshold(options.clean)
+            .with_tombstone_log(options.has_log);
+        let builder = StoreBuilder::new("foyerpipe", BytesHashBuilder, KEEPER_SHARDS)
+            .with_engine_config(config)
+            .with_io_engine_config(io_engine)
+            .with_recover_mode(options.mode);
+        builders.push(builder)?;
     }
+    Ok(builders)
 }
 
-// Builds a cache over a device and I/O engines, and answers the input's requests.
+// Opens a cache over these places, one for each core, and answers the input's requests.
 fn serve_over<L, T, I, D, R, W>(
     rt: T,
     alloc: Global,
-    blanks: Blanks,
+    blanks: CoreBlanks,
     clock: SystemClock<T>,
-    device: D,
-    io_engine: I,
+    places: Vec<Place<D, I>>,
     block_size: usize,
     options: &PipeOptions,
     input: R,
@@ -304,41 +106,45 @@ where
     I::Engine: Send + 'static,
     D: Device,
     D::Partition: Drop + Send + Sync + 'static,
-    R: Read + Drop,
+    R: Read + Drop + Send,
     W: Write + Drop + Send,
-    requires { AreOf L.name_of L.all blanks × (L.all ≡ 2 ^ 32) }
+    requires { AreOfCores L.name_of L.all blanks × (L.all ≡ 2 ^ 32) }
 {
-    let config = BlockEngineConfig::new(device)
-        .with_block_size(block_size)
-        .with_flushers(options.flushers)
-        .with_reclaimers(options.reclaimers)
-        .with_load_engines(options.engines)
-        .with_enqueue_patience(options.patience)
-        .with_clean_block_threshold(options.clean)
-        .with_tombstone_log(options.has_log);
-    let builder = StoreBuilder::new("foyerpipe", BytesHashBuilder, KEEPER_SHARDS)
-        .with_engine_config(config)
-        .with_io_engine_config(io_engine)
-        .with_recover_mode(options.mode);
-    let built = builder.build::<T, SystemClock<T>, L, Bytes, Bytes, NoProperties>(
+    let builders = builders_of(alloc, places, block_size, options)?;
+    let jobs = jobs_of(alloc, options.readers)?;
+    let frames = Frames::new(alloc, input, options.limits)?;
+    let output = BufWriter::with_capacity(alloc, OUTPUT_CAPACITY, output)?;
+    let task = PipeTask::new(alloc, clock, options.seed, frames, output);
+    run_over_cores::<T, SystemClock<T>, L, Bytes, Bytes, NoProperties, _, _, D, _, _, _, I, _>(
         rt,
         alloc,
         blanks,
+        "foyerpipe",
+        BytesHashBuilder,
+        KEEPER_SHARDS,
+        builders,
         clock,
         GENERATOR_SEED,
-    );
-    let (cache, session, workers) = built?;
-    Ok(answer_and_close(
-        &rt, alloc, &cache, session, workers, &clock, options, input, output,
-    ))
+        task,
+        jobs,
+    )
 }
 
+// A core's part of a limit, if there is one.
+fn part_of(limit: usize, cores: u64) -> usize {
+    if limit == 0 {
+        return 0;
+    }
+    (limit / (cores as usize).max(1)).max(1)
+}
+
+// The limits of a core's device.
 fn throttle_of(options: &PipeOptions) -> Throttle {
     Throttle::new()
-        .with_read_throughput(options.read_bytes)
-        .with_write_throughput(options.write_bytes)
-        .with_read_iops(options.read_calls)
-        .with_write_iops(options.write_calls)
+        .with_read_throughput(part_of(options.read_bytes, options.cores))
+        .with_write_throughput(part_of(options.write_bytes, options.cores))
+        .with_read_iops(part_of(options.read_calls, options.cores))
+        .with_write_iops(part_of(options.write_calls, options.cores))
 }
 
 // What builds I/O engines over one memory of so many bytes.
@@ -348,11 +154,11 @@ fn memory(alloc: Global, capacity: usize) -> Result<SharedMemoryIoEngineConfig<G
     SharedMemoryIoEngineConfig::new(alloc, engine)
 }
 
-// As `serve_over`, over memory.
+// As `serve_over`, over memory, of which each core has an equal part.
 fn serve_memory<L, T, R, W>(
     rt: T,
     alloc: Global,
-    blanks: Blanks,
+    blanks: CoreBlanks,
     words: &Options<'_>,
     options: &PipeOptions,
     input: R,
@@ -361,26 +167,30 @@ fn serve_memory<L, T, R, W>(
 where
     L: Kinds + Send + Sync + 'static,
     T: Threads + Wait + std::rt::Clock + Files + Copy + Send + Sync + 'static,
-    R: Read + Drop,
+    R: Read + Drop + Send,
     W: Write + Drop + Send,
-    requires { AreOf L.name_of L.all blanks × (L.all ≡ 2 ^ 32) }
+    requires { AreOfCores L.name_of L.all blanks × (L.all ≡ 2 ^ 32) }
 {
-    let capacity = words.capacity as usize;
-    let io_engine = memory(alloc, capacity)?;
+    let capacity = (words.capacity / options.cores.max(1)) as usize;
     let clock = SystemClock::start(rt)?;
-    let builder = MemoryDeviceBuilder::new(capacity).with_throttle(throttle_of(options));
-    let device = builder.build(&rt, alloc, clock.now())?;
+    let mut places = Vec::new(alloc);
+    for _ in 0..options.cores {
+        let io_engine = memory(alloc, capacity)?;
+        let builder = MemoryDeviceBuilder::new(capacity).with_throttle(throttle_of(options));
+        let device = builder.build(&rt, alloc, clock.now())?;
+        places.push(Place { device, io_engine })?;
+    }
     let block_size = words.block_size as usize;
     serve_over::<L, T, _, _, R, W>(
-        rt, alloc, blanks, clock, device, io_engine, block_size, options, input, output,
+        rt, alloc, blanks, clock, places, block_size, options, input, output,
     )
 }
 
-// As `serve_over`, over the files of a directory.
+// As `serve_over`, over the files of a directory: each of several cores has a directory in it, and an equal part of the capacity.
 fn serve_directory<L, T, R, W>(
     rt: T,
     alloc: Global,
-    blanks: Blanks,
+    blanks: CoreBlanks,
     words: &Options<'_>,
     options: &PipeOptions,
     input: R,
@@ -397,27 +207,27 @@ where
         + Send
         + Sync
         + 'static,
-    R: Read + Drop,
+    R: Read + Drop + Send,
     W: Write + Drop + Send,
-    requires { AreOf L.name_of L.all blanks × (L.all ≡ 2 ^ 32) }
+    requires { AreOfCores L.name_of L.all blanks × (L.all ≡ 2 ^ 32) }
 {
+    let capacity = (words.capacity / options.cores.max(1)) as usize;
     let clock = SystemClock::start(rt)?;
-    let builder = FsDeviceBuilder::new(words.directory)
-        .with_capacity(words.capacity as usize)
-        .with_throttle(throttle_of(options));
-    let device = builder.build(&rt, alloc, clock.now())?;
+    let mut places = Vec::new(alloc);
+    for core in 0..options.cores {
+        let path = core_path(alloc, words.directory, core, options.cores)?;
+        let builder = FsDeviceBuilder::new(path.as_str())
+            .with_capacity(capacity)
+            .with_throttle(throttle_of(options));
+        let device = builder.build(&rt, alloc, clock.now())?;
+        places.push(Place {
+            device,
+            io_engine: PsyncIoEngineConfig::new(),
+        })?;
+    }
     let block_size = words.block_size as usize;
     serve_over::<L, T, _, _, R, W>(
-        rt,
-        alloc,
-        blanks,
-        clock,
-        device,
-        PsyncIoEngineConfig::new(),
-        block_size,
-        options,
-        input,
-        output,
+        rt, alloc, blanks, clock, places, block_size, options, input, output,
     )
 }
 
@@ -437,7 +247,7 @@ fn report<W: Write>(errors: &mut W, error: Error) -> io::Result<()> {
 pub fn serve<L, T, B, R, W, E>(
     rt: T,
     alloc: Global,
-    blanks: Blanks,
+    blanks: CoreBlanks,
     words: &[String<B>],
     input: R,
     output: W,
@@ -455,10 +265,10 @@ where
         + Sync
         + 'static,
     B: Allocator,
-    R: Read + Drop,
+    R: Read + Drop + Send,
     W: Write + Drop + Send,
     E: Write + Drop,
-    requires { AreOf L.name_of L.all blanks × (L.all ≡ 2 ^ 32) }
+    requires { AreOfCores L.name_of L.all blanks × (L.all ≡ 2 ^ 32) }
     ensures version { AskVersion words.now → (result ≡ 0) ⊎ (result ≡ 1) }
 {
     if ask_version(words) {

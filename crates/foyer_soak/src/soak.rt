@@ -1,13 +1,13 @@
 //! Threads that ask a store at once, each of keys of its own, and judge each answer by what they put last.
 ghost use Rattle.std.specs.Prelude.{◌≡◌, ◌≢◌, ◌^◌, length};
-ghost use Rattle.foyer_core_tally.specs.Ledgers.{AreOf};
+ghost use Rattle.foyer_storage_cores_run.specs.CoreLedgers.{AreOfCores};
 
 mod asker;
 
 use asker::{Asker, Plan, Values};
 use foyer_cli::command::number;
 use foyer_cli::options::Options;
-use foyer_core_tally::book::{Blanks, Kinds};
+use foyer_core_tally::book::Kinds;
 use foyer_device_page::error::Result;
 use foyer_device_partition::io::device::{
     Device, DeviceBuilder, FsDeviceBuilder, MemoryDeviceBuilder,
@@ -16,20 +16,30 @@ use foyer_format_record::serde::{IdentityHashBuilder, NoProperties};
 use foyer_io_engine::io::engine::{
     IoEngineConfig, MemoryIoEngine, PsyncIoEngineConfig, SharedMemoryIoEngineConfig,
 };
-use foyer_storage_build::builder::StoreBuilder;
-use foyer_storage_build::config::{BlockEngineConfig, Engine};
-use foyer_storage_build::session::StoreSession;
-use foyer_storage_build::threads::workers::{Moment, Workers};
+use foyer_storage_cores_run::build::builder::StoreBuilder;
+use foyer_storage_cores_run::build::config::{BlockEngineConfig, Engine};
+use foyer_storage_cores_run::build::cores::kinds::CoreBlanks;
+use foyer_storage_cores_run::build::cores::sessions::CallerSession;
+use foyer_storage_cores_run::build::threads::workers::Moment;
+use foyer_storage_cores_run::paths::core_path;
+use foyer_storage_cores_run::run::run_over_cores;
+use foyer_storage_cores_run::task::StoreTask;
 use std::alloc::{Allocator, Global};
 use std::fs::File;
+use std::io;
 use std::io::Write;
 use std::rt::Files;
 use std::sync::Wait;
 use std::thread::Threads;
-use std::{io, thread};
+
+// Into how many shards the keeper is divided.
+const KEEPER_SHARDS: usize = 64;
+
+// How many threads ask at most.
+const MOST_THREADS: u64 = 1024;
 
 /// Printed where the arguments are bad.
-pub const USAGE: &str = "usage: foyersoak DIR CAPACITY BLOCK THREADS CALLS SEED\n";
+pub const USAGE: &str = "usage: foyersoak DIR CAPACITY BLOCK THREADS CALLS SEED CORES\n";
 
 /// What threads asked and found: how many calls they made, loads that were answered by a value, answers that can't be right, and
 /// calls that were refused.
@@ -59,107 +69,117 @@ impl Found {
     }
 }
 
-// What a thread is given, and what it gives back.
-#[derive(Drop)]
-struct Job<L: Kinds> {
-    session: StoreSession<L>,
-    plan: Plan,
-}
-
-#[derive(Drop)]
-struct Report<L: Kinds> {
-    session: StoreSession<L>,
-    found: Found,
-}
-
-// One thread's calls.
-fn ask_one<L: Kinds, N: Engine<StoreSession<L>, u64, Vec<u8>, NoProperties>>(
-    rt: &impl Wait,
-    alloc: Global,
-    store: &Values<N>,
-    job: Job<L>,
-) -> Report<L> {
-    let Job { mut session, plan } = job;
-    let mut asker = Asker::new(plan.seed);
-    asker.ask(rt, alloc, store, &mut session, plan);
-    Report {
-        session,
-        found: asker.found,
-    }
-}
-
-// The half of a session's parts; None where it has one alone.
-fn split<L: Kinds>(session: &mut StoreSession<L>) -> Option<StoreSession<L>> {
-    let half = session.parts() / 2;
-    if half == 0 {
-        return None;
-    }
-    Some(session.split(half))
-}
-
-// A job for each thread, each with parts of the session. Memory.
-fn jobs_of<L: Kinds>(
-    alloc: Global,
-    session: &mut StoreSession<L>,
-    threads: u64,
-    plan: Plan,
-) -> Result<Vec<Job<L>>> {
-    let mut jobs = Vec::new(alloc);
-    for number in 0..threads {
-        let Some(part) = split(session) else {
-            break;
-        };
-        let plan = Plan {
+// A plan for each thread, of keys of its own. Memory.
+fn plans_of(alloc: Global, threads: u64, plan: Plan) -> Result<Vec<Plan>> {
+    let mut plans = Vec::new(alloc);
+    for number in 0..threads.min(MOST_THREADS) {
+        plans.push(Plan {
             first: number.wrapping_shl(32),
             ..plan
-        };
-        jobs.push(Job {
-            session: part,
-            plan,
         })?;
     }
-    Ok(jobs)
+    Ok(plans)
 }
 
-// Asks a store by so many threads, closes it, and joins its workers.
-fn ask_all<L, N, R>(
-    rt: &R,
+// How a store is asked: by a thread for each plan.
+#[derive(Clone, Copy)]
+struct SoakTask {
     alloc: Global,
-    store: &Values<N>,
-    session: &mut StoreSession<L>,
-    threads: u64,
-    plan: Plan,
-) -> Result<Found>
-where
-    L: Kinds + Send + Sync + 'static,
-    N: Engine<StoreSession<L>, u64, Vec<u8>, NoProperties> + Send + Sync,
-    R: Threads + Wait + Sync,
-{
-    let jobs = jobs_of(alloc, session, threads, plan)?;
-    let ask = |job: Job<L>| -> Report<L> { ask_one(rt, alloc, store, job) };
-    let reports = thread::map_vec(rt, jobs, &ask)?;
-    let mut found = NOTHING;
-    for report in reports {
-        let Report {
-            session: part,
-            found: more,
-        } = report;
-        session.join(part);
-        found = found.plus(more);
-    }
-    Ok(found)
 }
 
-// Builds a store over a device, asks it, closes it and joins its workers.
+impl<R: Wait> StoreTask<R, u64, Vec<u8>, NoProperties, IdentityHashBuilder> for SoakTask {
+    type Shared = ();
+
+    type Job = Plan;
+
+    type Report = Found;
+
+    type Output = Result<Found>;
+
+    ghost may_end = { λ _ _. Unit {0} };
+
+    fn begin<S, N>(&self, _rt: &R, _store: &Values<N>, _session: &mut S) -> Result<()>
+    where
+        S: CallerSession,
+        N: Engine<S, u64, Vec<u8>, NoProperties>,
+    {
+        Ok(())
+    }
+
+    fn call<S, N>(
+        &self,
+        rt: &R,
+        store: &Values<N>,
+        session: &mut S,
+        _shared: &(),
+        job: Plan,
+    ) -> Found
+    where
+        S: CallerSession,
+        N: Engine<S, u64, Vec<u8>, NoProperties>,
+    {
+        let mut asker = Asker::new(job.seed);
+        asker.ask(rt, self.alloc, store, session, job);
+        asker.found
+    }
+
+    fn end<S, N>(
+        self,
+        rt: &R,
+        store: &Values<N>,
+        session: &mut S,
+        _shared: (),
+        reports: &[Found],
+    ) -> Result<Found>
+    where
+        S: CallerSession,
+        N: Engine<S, u64, Vec<u8>, NoProperties>,
+        ensures { Unit {0} }
+    {
+        store.close(rt, session)?;
+        let mut found = NOTHING;
+        for more in reports {
+            found = found.plus(*more);
+        }
+        Ok(found)
+    }
+}
+
+// What a core lies in.
+#[derive(Drop)]
+struct Place<D: Drop, I: Drop> {
+    device: D,
+    io_engine: I,
+}
+
+// Builds the engine of a core.
+type CoreBuilder<D, I> = StoreBuilder<IdentityHashBuilder, BlockEngineConfig<D>, I>;
+
+fn builders_of<D: Device, I: Drop>(
+    alloc: Global,
+    places: Vec<Place<D, I>>,
+    block_size: usize,
+) -> Result<Vec<CoreBuilder<D, I>>> {
+    let mut builders = Vec::new(alloc);
+    for place in places {
+        let Place { device, io_engine } = place;
+        let config = BlockEngineConfig::new(device).with_block_size(block_size);
+        let builder = StoreBuilder::new("foyersoak", IdentityHashBuilder, KEEPER_SHARDS)
+            .with_engine_config(config)
+            .with_io_engine_config(io_engine);
+        builders.push(builder)?;
+    }
+    Ok(builders)
+}
+
+// Opens a store over these places, one for each core, and asks it.
 fn soak_over<L, T, I, D>(
     rt: T,
     alloc: Global,
-    blanks: Blanks,
-    device: D,
-    io_engine: I,
+    blanks: CoreBlanks,
+    places: Vec<Place<D, I>>,
     block_size: usize,
-    threads: u64,
-    plan: Plan,
+    plans: Vec<Plan>,
 ) -> Result<Found>
 where
     L: Kinds + Send + Sync + 'static,
@@ -168,25 +188,35 @@ where
     I::Engine: Send + 'static,
     D: Device,
     D::Partition: Drop + Send + Sync + 'static,
-    requires { AreOf L.name_of L.all blanks × (L.all ≡ 2 ^ 32) }
+    requires { AreOfCores L.name_of L.all blanks × (L.all ≡ 2 ^ 32) }
 {
-    let config = BlockEngineConfig::new(device).with_block_size(block_size);
-    let builder = StoreBuilder::new("foyersoak", IdentityHashBuilder, 64)
-        .with_engine_config(config)
-        .with_io_engine_config(io_engine);
-    let (store, session, workers) = builder.build::<T, Moment, L, u64, Vec<u8>, NoProperties>(
+    let builders = builders_of(alloc, places, block_size)?;
+    run_over_cores::<T, Moment, L, u64, Vec<u8>, NoProperties, _, _, D, _, _, _, I, _>(
         rt,
         alloc,
         blanks,
+        "foyersoak",
+        IdentityHashBuilder,
+        KEEPER_SHARDS,
+        builders,
         Moment(0),
         0,
-    )?;
-    ask_and_close(&rt, alloc, store, session, workers, threads, plan)
+        SoakTask { alloc },
+        plans,
+    )?
 }
 
-// The last three words.
-fn numbers<B: Allocator>(words: &[String<B>]) -> Option<(u64, Plan)> {
-    if words.len() != 3 {
+// How a store is asked, and over how many cores.
+#[derive(Clone, Copy)]
+struct Asked {
+    threads: u64,
+    plan: Plan,
+    cores: u64,
+}
+
+// The last four words.
+fn numbers<B: Allocator>(words: &[String<B>]) -> Option<Asked> {
+    if words.len() != 4 {
         return None;
     }
     let threads = number(words[0].as_bytes())?;
@@ -195,7 +225,15 @@ fn numbers<B: Allocator>(words: &[String<B>]) -> Option<(u64, Plan)> {
         seed: number(words[2].as_bytes())?,
         first: 0,
     };
-    Some((threads, plan))
+    let cores = number(words[3].as_bytes())?;
+    if cores != 1 && cores != 2 && cores != 4 {
+        return None;
+    }
+    Some(Asked {
+        threads,
+        plan,
+        cores,
+    })
 }
 
 // What was found: whether all went well on the output, and the numbers, which depend on the schedule, among the errors.
@@ -218,13 +256,13 @@ fn print_found<W: Write, E: Write>(output: &mut W, errors: &mut E, found: Found)
     Ok(1)
 }
 
-/// Runs the words `DIR CAPACITY BLOCK THREADS CALLS SEED`: so many threads ask one store, each as many calls, of keys of its own,
-/// and judge each answer by what they put last. Gives the exit status: 0, or 1 where an answer was wrong, a call was refused or the
-/// store couldn't be built, or 2 for bad words. A value that an earlier run left in the directory may be found.
+/// Runs the words `DIR CAPACITY BLOCK THREADS CALLS SEED CORES`: so many threads ask one store of so many cores, each as many calls, of
+/// keys of its own, and judge each answer by what they put last. Gives the exit status: 0, or 1 where an answer was wrong, a call was
+/// refused or the store couldn't be built, or 2 for bad words. A value that an earlier run left in the directory may be found.
 pub fn soak<L, T, B, W, E>(
     rt: T,
     alloc: Global,
-    blanks: Blanks,
+    blanks: CoreBlanks,
     words: &[String<B>],
     mut output: W,
     mut errors: E,
@@ -235,26 +273,24 @@ where
     B: Allocator,
     W: Write + Drop,
     E: Write + Drop,
-    requires { AreOf L.name_of L.all blanks × (L.all ≡ 2 ^ 32) }
-    ensures usage { length words.now ≢ 6 → result ≡ 2 }
+    requires { AreOfCores L.name_of L.all blanks × (L.all ≡ 2 ^ 32) }
+    ensures usage { length words.now ≢ 7 → result ≡ 2 }
 {
-    if words.len() != 6 {
+    if words.len() != 7 {
         let _ = errors.write_all(USAGE.as_bytes());
         return 2;
     }
-    let (options, plan) = match (Options::parse(&words[..3]), numbers(&words[3..])) {
-        (Some(options), Some(plan)) => (options, plan),
+    let (options, asked) = match (Options::parse(&words[..3]), numbers(&words[3..])) {
+        (Some(options), Some(asked)) => (options, asked),
         _ => {
             let _ = errors.write_all(USAGE.as_bytes());
             return 2;
         }
     };
-    let (threads, plan) = plan;
-    let (capacity, block_size) = (options.capacity as usize, options.block_size as usize);
     let found = if options.is_memory() {
-        soak_memory::<L, T>(rt, alloc, blanks, capacity, block_size, threads, plan)
+        soak_memory::<L, T>(rt, alloc, blanks, &options, asked)
     } else {
-        soak_directory::<L, T>(rt, alloc, blanks, &options, threads, plan)
+        soak_directory::<L, T>(rt, alloc, blanks, &options, asked)
     };
     match found {
         Ok(found) => print_found(&mut output, &mut errors, found).unwrap_or(1),
@@ -265,71 +301,58 @@ where
     }
 }
 
-// As `soak_over`, over memory.
+// As `soak_over`, over memory, of which each core has an equal part.
 fn soak_memory<L, T>(
     rt: T,
     alloc: Global,
-    blanks: Blanks,
-    capacity: usize,
-    block_size: usize,
-    threads: u64,
-    plan: Plan,
+    blanks: CoreBlanks,
+    options: &Options<'_>,
+    asked: Asked,
 ) -> Result<Found>
 where
     L: Kinds + Send + Sync + 'static,
     T: Threads + Wait + Files + Copy + Send + Sync + 'static,
-    requires { AreOf L.name_of L.all blanks × (L.all ≡ 2 ^ 32) }
+    requires { AreOfCores L.name_of L.all blanks × (L.all ≡ 2 ^ 32) }
 {
-    let mut engine = MemoryIoEngine::new(alloc);
-    engine.add_file(alloc, capacity)?;
-    let io_engine = SharedMemoryIoEngineConfig::new(alloc, engine)?;
-    let device = MemoryDeviceBuilder::new(capacity).build(&rt, alloc, 0)?;
-    soak_over::<L, T, _, _>(
-        rt, alloc, blanks, device, io_engine, block_size, threads, plan,
-    )
+    let capacity = (options.capacity / asked.cores.max(1)) as usize;
+    let plans = plans_of(alloc, asked.threads, asked.plan)?;
+    let mut places = Vec::new(alloc);
+    for _ in 0..asked.cores {
+        let mut engine = MemoryIoEngine::new(alloc);
+        engine.add_file(alloc, capacity)?;
+        let io_engine = SharedMemoryIoEngineConfig::new(alloc, engine)?;
+        let device = MemoryDeviceBuilder::new(capacity).build(&rt, alloc, 0)?;
+        places.push(Place { device, io_engine })?;
+    }
+    let block_size = options.block_size as usize;
+    soak_over::<L, T, _, _>(rt, alloc, blanks, places, block_size, plans)
 }
 
-// Asks a store, closes it and joins its workers.
-fn ask_and_close<L, N, T>(
-    rt: &T,
-    alloc: Global,
-    store: Values<N>,
-    mut session: StoreSession<L>,
-    workers: Workers<L>,
-    threads: u64,
-    plan: Plan,
-) -> Result<Found>
-where
-    L: Kinds + Send + Sync + 'static,
-    N: Engine<StoreSession<L>, u64, Vec<u8>, NoProperties> + Send + Sync,
-    T: Threads + Wait + Sync,
-{
-    let found = ask_all(rt, alloc, &store, &mut session, threads, plan);
-    let closed = store.close(rt, &mut session);
-    let _ = workers.join(rt, session.into_steps());
-    closed?;
-    found
-}
-
-// As `soak_over`, over the files of a directory.
+// As `soak_over`, over the files of a directory for each core.
 fn soak_directory<L, T>(
     rt: T,
     alloc: Global,
-    blanks: Blanks,
+    blanks: CoreBlanks,
     options: &Options<'_>,
-    threads: u64,
-    plan: Plan,
+    asked: Asked,
 ) -> Result<Found>
 where
     L: Kinds + Send + Sync + 'static,
     T: Threads + Wait + Files<File = File> + AllocGlobal + Copy + Send + Sync + 'static,
-    requires { AreOf L.name_of L.all blanks × (L.all ≡ 2 ^ 32) }
+    requires { AreOfCores L.name_of L.all blanks × (L.all ≡ 2 ^ 32) }
 {
-    let builder = FsDeviceBuilder::new(options.directory).with_capacity(options.capacity as usize);
-    let device = builder.build(&rt, alloc, 0)?;
-    let io_engine = PsyncIoEngineConfig::new();
+    let capacity = (options.capacity / asked.cores.max(1)) as usize;
+    let plans = plans_of(alloc, asked.threads, asked.plan)?;
+    let mut places = Vec::new(alloc);
+    for core in 0..asked.cores {
+        let path = core_path(alloc, options.directory, core, asked.cores)?;
+        let builder = FsDeviceBuilder::new(path.as_str()).with_capacity(capacity);
+        let device = builder.build(&rt, alloc, 0)?;
+        places.push(Place {
+            device,
+            io_engine: PsyncIoEngineConfig::new(),
+        })?;
+    }
     let block_size = options.block_size as usize;
-    soak_over::<L, T, _, _>(
-        rt, alloc, blanks, device, io_engine, block_size, threads, plan,
-    )
+    soak_over::<L, T, _, _>(rt, alloc, blanks, places, block_size, plans)
 }

@@ -2,7 +2,7 @@
 #![tactic(auto)]
 
 use foyer_bench::bench::bench;
-use foyer_core_tally::book::Blanks;
+use foyer_storage_cores::kinds::CoreBlanks;
 use std::marker::Brand;
 use std::process::ExitCode;
 use std::{env, io};
@@ -21,7 +21,7 @@ fn main(rt: HostRuntime) -> ExitCode {
         Err(error) if error.kind() == io::ErrorKind::OutOfMemory => return ExitCode::from(1),
         Err(_) => {}
     }
-    let blanks = Blanks::new(1 << 32);
+    let blanks = CoreBlanks::new(1 << 32);
     let status = bench::<Brand, HostRuntime, _, _, _>(
         rt,
         rt.alloc(),

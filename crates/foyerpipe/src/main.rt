@@ -1,8 +1,8 @@
 //! `foyerpipe DIR CAPACITY BLOCK [NAME=VALUE..]`: a disk cache of byte strings that is asked by frames.
 #![tactic(auto)]
 
-use foyer_core_tally::book::Blanks;
 use foyer_pipe::serve::serve;
+use foyer_storage_cores::kinds::CoreBlanks;
 use std::marker::Brand;
 use std::process::ExitCode;
 use std::{env, io};
@@ -21,7 +21,7 @@ fn main(rt: HostRuntime) -> ExitCode {
         Err(error) if error.kind() == io::ErrorKind::OutOfMemory => return ExitCode::from(1),
         Err(_) => {}
     }
-    let blanks = Blanks::new(1 << 32);
+    let blanks = CoreBlanks::new(1 << 32);
     let status = serve::<Brand, HostRuntime, _, _, _, _>(
         rt,
         rt.alloc(),

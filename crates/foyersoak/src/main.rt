@@ -1,8 +1,8 @@
-//! `foyersoak DIR CAPACITY BLOCK THREADS CALLS SEED`: threads that ask one store at once, and judge each answer.
+//! `foyersoak DIR CAPACITY BLOCK THREADS CALLS SEED CORES`: threads that ask one store at once, and judge each answer.
 #![tactic(auto)]
 
-use foyer_core_tally::book::Blanks;
 use foyer_soak::soak::soak;
+use foyer_storage_cores::kinds::CoreBlanks;
 use std::marker::Brand;
 use std::process::ExitCode;
 use std::{env, io};
@@ -21,7 +21,7 @@ fn main(rt: HostRuntime) -> ExitCode {
         Err(error) if error.kind() == io::ErrorKind::OutOfMemory => return ExitCode::from(1),
         Err(_) => {}
     }
-    let blanks = Blanks::new(1 << 32);
+    let blanks = CoreBlanks::new(1 << 32);
     let status = soak::<Brand, HostRuntime, _, _, _>(
         rt,
         rt.alloc(),

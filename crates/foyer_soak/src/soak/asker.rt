@@ -4,10 +4,10 @@ ghost use Rattle.std.specs.Prelude.{◌<◌};
 use super::{Found, NOTHING};
 use foyer_device_page::error::Result;
 use foyer_format_record::serde::{IdentityHashBuilder, NoProperties};
-use foyer_storage_build::config::Engine;
-use foyer_storage_build::engine::engine::Enqueued;
-use foyer_storage_build::engine::load::Load;
-use foyer_storage_build::store::Store;
+use foyer_storage_cores_run::build::config::Engine;
+use foyer_storage_cores_run::build::engine::engine::Enqueued;
+use foyer_storage_cores_run::build::engine::load::Load;
+use foyer_storage_cores_run::build::store::Store;
 use std::alloc::Global;
 use std::sync::Wait;
 

@@ -3,14 +3,13 @@
 use crate::tests::counted::say_counts;
 use crate::tests::dials::Dial;
 use crate::tests::gates::HoldingGate;
-use foyer_core_tally::book::Kinds;
 use foyer_device_page::error::{Error, Result};
 use foyer_format_record::serde::{HashBuilder, NoProperties};
 use foyer_policy_filter::StorageFilterResult;
 use foyer_program::store::config::{DeviceSummary, Engine};
+use foyer_program::store::cores::sessions::CallerSession;
 use foyer_program::store::engine::engine::Enqueued;
 use foyer_program::store::engine::load::Load;
-use foyer_program::store::session::StoreSession;
 use foyer_program::store::store::Store;
 use foyer_program::store::threads::workers::Clock;
 use foyer_testing::said::Said;
@@ -91,7 +90,7 @@ fn say_load(said: &mut Said, answer: Result<Load<u128, String, NoProperties, Glo
 }
 
 // How many steps of each kind a session made, but for those that are of no kind: a wait makes as many as it needs.
-fn say_tally<L: Kinds>(said: &mut Said, session: &StoreSession<L>) {
+fn say_tally<S: CallerSession>(said: &mut Said, session: &S) {
     let tally = session.tally();
     said.word("tally");
     for count in &tally[..7] {
@@ -100,7 +99,7 @@ fn say_tally<L: Kinds>(said: &mut Said, session: &StoreSession<L>) {
 }
 
 // How many of no kind.
-fn say_others<L: Kinds>(said: &mut Said, session: &StoreSession<L>) {
+fn say_others<S: CallerSession>(said: &mut Said, session: &S) {
     let tally = session.tally();
     said.number("others ", tally[7]);
 }
@@ -148,11 +147,11 @@ fn say_beside(said: &mut Said, beside: Beside<'_>, word: &str, how: &str) {
     }
 }
 
-fn put<L: Kinds, N: Engine<StoreSession<L>, u128, String, NoProperties>>(
+fn put<S: CallerSession, N: Engine<S, u128, String, NoProperties>>(
     rt: &impl Wait,
     alloc: Global,
     store: &Texts<N>,
-    session: &mut StoreSession<L>,
+    session: &mut S,
     key: u128,
     text: &str,
     now: u64,
@@ -161,11 +160,11 @@ fn put<L: Kinds, N: Engine<StoreSession<L>, u128, String, NoProperties>>(
     store.put(rt, alloc, session, key, value, NoProperties, now)
 }
 
-fn force<L: Kinds, N: Engine<StoreSession<L>, u128, String, NoProperties>>(
+fn force<S: CallerSession, N: Engine<S, u128, String, NoProperties>>(
     rt: &impl Wait,
     alloc: Global,
     store: &Texts<N>,
-    session: &mut StoreSession<L>,
+    session: &mut S,
     key: u128,
     text: &str,
     now: u64,
@@ -184,11 +183,11 @@ fn long_text(alloc: Global, len: &str) -> Result<String> {
 }
 
 // Puts a text of so many bytes.
-fn fill<L: Kinds, N: Engine<StoreSession<L>, u128, String, NoProperties>>(
+fn fill<S: CallerSession, N: Engine<S, u128, String, NoProperties>>(
     rt: &impl Wait,
     alloc: Global,
     store: &Texts<N>,
-    session: &mut StoreSession<L>,
+    session: &mut S,
     key: u128,
     len: &str,
     now: u64,
@@ -198,10 +197,10 @@ fn fill<L: Kinds, N: Engine<StoreSession<L>, u128, String, NoProperties>>(
 }
 
 // Whether the device comes to have a key's hash, and no piece of it is kept.
-fn is_seen<L: Kinds, N: Engine<StoreSession<L>, u128, String, NoProperties>>(
+fn is_seen<S: CallerSession, N: Engine<S, u128, String, NoProperties>>(
     rt: &impl Wait,
     store: &Texts<N>,
-    session: &mut StoreSession<L>,
+    session: &mut S,
     key: u128,
 ) -> Result<bool> {
     for _ in 0..1_000_000 {
@@ -215,14 +214,14 @@ fn is_seen<L: Kinds, N: Engine<StoreSession<L>, u128, String, NoProperties>>(
 }
 
 // Whether so many reclaims come to have begun. Their threads may start late.
-fn has_reclaimed<L: Kinds, N: Engine<StoreSession<L>, u128, String, NoProperties>>(
+fn has_reclaimed<S: CallerSession, N: Engine<S, u128, String, NoProperties>>(
     rt: &impl Wait,
     store: &Texts<N>,
     now: u64,
     count: u128,
 ) -> bool {
     for _ in 0..20_000_000 {
-        if u128::from(store.counters::<StoreSession<L>>(rt, now).reclaims) >= count {
+        if u128::from(store.counters::<S>(rt, now).reclaims) >= count {
             return true;
         }
         thread::yield_now();
@@ -231,11 +230,11 @@ fn has_reclaimed<L: Kinds, N: Engine<StoreSession<L>, u128, String, NoProperties
 }
 
 // Notes what a store says of itself.
-fn say_store<L: Kinds, N: Engine<StoreSession<L>, u128, String, NoProperties>>(
+fn say_store<S: CallerSession, N: Engine<S, u128, String, NoProperties>>(
     rt: &impl Wait,
     store: &Texts<N>,
     beside: Beside<'_>,
-    session: &StoreSession<L>,
+    session: &S,
     said: &mut Said,
     word: &str,
     first: &str,
@@ -248,24 +247,24 @@ fn say_store<L: Kinds, N: Engine<StoreSession<L>, u128, String, NoProperties>>(
         "others" => say_others(said, session),
         "name" => said.word(store.name()),
         "hash" => said.number("hash ", store.hash_of(&key)),
-        "device" => say_device(said, store.device::<StoreSession<L>>()),
-        "judge" => say_verdict(said, store.filter::<StoreSession<L>>(rt, &key, 60, now)),
+        "device" => say_device(said, store.device::<S>()),
+        "judge" => say_verdict(said, store.filter::<S>(rt, &key, 60, now)),
         "counts" => {
-            let counts = store.counters::<StoreSession<L>>(rt, now);
+            let counts = store.counters::<S>(rt, now);
             say_counts(said, &counts, first);
         }
-        "reclaims" => said.flag("", has_reclaimed::<L, N>(rt, store, now, key)),
+        "reclaims" => said.flag("", has_reclaimed::<S, N>(rt, store, now, key)),
         _ => say_beside(said, beside, word, first),
     }
 }
 
 // Notes a call's answer.
-fn say_line<L: Kinds, N: Engine<StoreSession<L>, u128, String, NoProperties>>(
+fn say_line<S: CallerSession, N: Engine<S, u128, String, NoProperties>>(
     rt: &impl Wait,
     alloc: Global,
     store: &Texts<N>,
     beside: Beside<'_>,
-    session: &mut StoreSession<L>,
+    session: &mut S,
     said: &mut Said,
     line: &str,
 ) {
@@ -289,12 +288,12 @@ fn say_line<L: Kinds, N: Engine<StoreSession<L>, u128, String, NoProperties>>(
 }
 
 /// What a store answers to a script.
-pub(crate) fn answers_to<L: Kinds, N: Engine<StoreSession<L>, u128, String, NoProperties>>(
+pub(crate) fn answers_to<S: CallerSession, N: Engine<S, u128, String, NoProperties>>(
     rt: &impl Wait,
     alloc: Global,
     store: &Texts<N>,
     beside: Beside<'_>,
-    session: &mut StoreSession<L>,
+    session: &mut S,
     script: &str,
 ) -> Said {
     let mut said = Said::new(alloc);

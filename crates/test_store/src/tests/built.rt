@@ -1,6 +1,7 @@
 //! Stores that are built, asked, closed and joined.
 ghost use Rattle.std.specs.Prelude.{◌≡◌, ◌^◌};
 ghost use Rattle.foyer_core_tally.specs.Ledgers.{AreOf};
+ghost use Rattle.foyer_storage_cores.specs.CoreLedgers.{AreOfCores};
 
 use crate::tests::asked::{Beside, LowBits, Texts, answers_to};
 use crate::tests::dials::Dial;
@@ -17,11 +18,16 @@ use foyer_program::store::builder::StoreBuilder;
 use foyer_program::store::config::{
     BlockEngineConfig, Engine, EngineBuildContext, EngineConfig, PickerSource,
 };
+use foyer_program::store::cores::kinds::CoreBlanks;
+use foyer_program::store::cores::sessions::CallerSession;
+use foyer_program::store::running::JoinWorkers;
 use foyer_program::store::session::StoreSession;
 use foyer_program::store::threads::hand::Hand;
 use foyer_program::store::threads::recover::Recoverer;
 use foyer_program::store::threads::workers::{Worker, Workers};
 use foyer_program::store::whole::WholeSession;
+use foyer_storage_cores_run::run::run_over_cores;
+use foyer_storage_cores_run::task::StoreTask;
 use foyer_testing::said::Said;
 use std::alloc::Global;
 use std::rt::Files;
@@ -69,17 +75,17 @@ fn take(said: &mut Said, other: Said) {
 }
 
 // The answers to a script; behind an ampersand comes one that another thread asks meanwhile, and its answers.
-fn answers_of_both<L, N, R>(
+fn answers_of_both<S, N, R>(
     rt: &R,
     alloc: Global,
     store: &Texts<N>,
     beside: Beside<'_>,
-    session: &mut StoreSession<L>,
+    session: &mut S,
     script: &str,
 ) -> Said
 where
-    L: Kinds + Send + Sync + 'static,
-    N: Engine<StoreSession<L>, u128, String, NoProperties> + Send + Sync,
+    S: CallerSession + Send,
+    N: Engine<S, u128, String, NoProperties> + Send + Sync,
     R: Threads + Wait + Sync,
 {
     let (own, others) = script.split_once(" & ").unwrap_or((script, ""));
@@ -97,24 +103,25 @@ where
 }
 
 // Asks a store, closes it, and joins its workers.
-fn answers_of_store<L, N, R>(
+fn answers_of_store<S, W, N, R>(
     rt: &R,
     alloc: Global,
     store: &Texts<N>,
-    mut session: StoreSession<L>,
-    workers: Workers<L>,
+    mut session: S,
+    workers: W,
     asked: &Asked,
 ) -> Said
 where
-    L: Kinds + Send + Sync + 'static,
-    N: Engine<StoreSession<L>, u128, String, NoProperties> + Send + Sync,
+    S: CallerSession + Send,
+    W: JoinWorkers<S>,
+    N: Engine<S, u128, String, NoProperties> + Send + Sync,
     R: Threads + Wait + Sync,
 {
     let script = asked.script.as_str();
     let said = answers_of_both(rt, alloc, store, asked.beside(), &mut session, script);
     asked.gate.open();
     let _ = store.close(rt, &mut session);
-    let _ = workers.join(rt, session.into_steps());
+    let _ = workers.join(rt, session);
     said
 }
 
@@ -204,4 +211,128 @@ where
     requires { AreOf L.name_of L.all blanks × (L.all ≡ 2 ^ 32) }
 {
     answers_of_built::<L, R, _, _>(rt, alloc, blanks, builder, asked)
+}
+
+// What a store of several cores is asked.
+#[derive(Drop)]
+struct AskedTask<'a> {
+    alloc: Global,
+    asked: &'a Asked,
+}
+
+impl<'a, R: Wait> StoreTask<R, u128, String, NoProperties, LowBits> for AskedTask<'a> {
+    type Shared = ();
+
+    type Job = String;
+
+    type Report = Result<String>;
+
+    type Output = Said;
+
+    ghost may_end = { λ _ _. Unit {0} };
+
+    fn begin<S, N>(&self, _rt: &R, _store: &Texts<N>, _session: &mut S) -> Result<()>
+    where
+        S: CallerSession,
+        N: Engine<S, u128, String, NoProperties>,
+    {
+        Ok(())
+    }
+
+    fn call<S, N>(
+        &self,
+        rt: &R,
+        store: &Texts<N>,
+        session: &mut S,
+        _shared: &(),
+        job: String,
+    ) -> Result<String>
+    where
+        S: CallerSession,
+        N: Engine<S, u128, String, NoProperties>,
+    {
+        let beside = self.asked.beside();
+        answers_to(rt, self.alloc, store, beside, session, job.as_str()).text()
+    }
+
+    fn end<S, N>(
+        self,
+        rt: &R,
+        store: &Texts<N>,
+        session: &mut S,
+        _shared: (),
+        reports: &[Result<String>],
+    ) -> Said
+    where
+        S: CallerSession,
+        N: Engine<S, u128, String, NoProperties>,
+        ensures { Unit {0} }
+    {
+        self.asked.gate.open();
+        let _ = store.close(rt, session);
+        let mut said = Said::new(self.alloc);
+        let mut is_first = true;
+        for more in reports {
+            if !is_first {
+                said.word(" & ");
+            }
+            is_first = false;
+            match more {
+                Ok(text) => said.word(text.as_str()),
+                Err(_) => said.miss(),
+            }
+        }
+        said
+    }
+}
+
+// A script for each thread: behind an ampersand comes another one's.
+fn scripts_of(alloc: Global, script: &str) -> Result<Vec<String>> {
+    let mut scripts = Vec::new(alloc);
+    for part in script.split(" & ") {
+        scripts.push(String::from_str(alloc, part)?)?;
+    }
+    Ok(scripts)
+}
+
+/// Builds a store of as many cores as there are builders, and asks it, or notes why it isn't built.
+pub(crate) fn answers_of_cores<L, R, I, D, S, C, G>(
+    rt: R,
+    alloc: Global,
+    blanks: CoreBlanks,
+    builders: Vec<StoreBuilder<LowBits, BlockEngineConfig<D, S, C, G>, I>>,
+    asked: &Asked,
+) -> Result<Said>
+where
+    L: Kinds + Send + Sync + 'static,
+    R: Threads + Wait + Files + Copy + Send + Sync + 'static,
+    I: IoEngineConfig<R> + Drop,
+    I::Engine: Send + 'static,
+    D: Device,
+    D::Partition: Drop + Send + Sync + 'static,
+    S: PickerSource,
+    S::Picker: Send + 'static,
+    C: StorageFilterCondition + Send + Sync + 'static,
+    G: Gate + Send + Sync + 'static,
+    requires { AreOfCores L.name_of L.all blanks × (L.all ≡ 2 ^ 32) }
+{
+    let task = AskedTask { alloc, asked };
+    let scripts = scripts_of(alloc, asked.script.as_str())?;
+    let answered = run_over_cores::<R, Dial, L, u128, String, NoProperties, _, _, D, S, C, G, I, _>(
+        rt,
+        alloc,
+        blanks,
+        "cores",
+        LowBits,
+        asked.over.shards,
+        builders,
+        asked.dial,
+        asked.over.seed,
+        task,
+        scripts,
+    );
+    match answered {
+        Ok(said) => Ok(said),
+        Err(error) => Ok(refusal(alloc, error)),
+    }
 }

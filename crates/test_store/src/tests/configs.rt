@@ -1,11 +1,12 @@
 //! The configs that words lead to, and what stores of them answer.
 ghost use Rattle.std.specs.Prelude.{◌≡◌, ◌^◌};
 ghost use Rattle.foyer_core_tally.specs.Ledgers.{AreOf};
+ghost use Rattle.foyer_storage_cores.specs.CoreLedgers.{AreOfCores};
 
 use crate::tests::asked::LowBits;
-use crate::tests::built::{Asked, answers_of_nothing, answers_over};
+use crate::tests::built::{Asked, answers_of_cores, answers_of_nothing, answers_over};
 use crate::tests::gates::HoldingGate;
-use crate::tests::memories::SameMemory;
+use crate::tests::memories::{CoreMemories, SameMemory};
 use crate::tests::over::{Kind, Over, Picks, Sizes};
 use crate::tests::pickers::{any, odd_alone, odd_in_a_box, own};
 use foyer_core_tally::book::{Blanks, Kinds};
@@ -20,6 +21,7 @@ use foyer_policy_filter::{
 };
 use foyer_program::store::builder::StoreBuilder;
 use foyer_program::store::config::{BlockEngineConfig, DefaultPickers, PickerSource};
+use foyer_program::store::cores::kinds::{CoreBlanks, CoreKinds};
 use foyer_testing::said::Said;
 use std::alloc::Global;
 use std::marker::Brand;
@@ -30,6 +32,13 @@ use std::thread::Threads;
 
 /// A config over a device, with the pickers and conditions that one has where none are given.
 pub(crate) type Blocks<D> = BlockEngineConfig<D, DefaultPickers, BuiltInCondition, HoldingGate>;
+
+// Builds the engine of a core.
+type CoreBuilder = StoreBuilder<
+    LowBits,
+    Blocks<MemoryDevice<Global>>,
+    FaultIoEngineConfig<SameMemory>,
+>;
 
 fn filter_of(alloc: Global, admits: bool) -> Result<StorageFilter<BuiltInCondition, Global>> {
     let filter = StorageFilter::new();
@@ -245,7 +254,68 @@ where
     answers_by::<L, R, _, _, _>(rt, alloc, blanks, asked, memory, config)
 }
 
+// The builder of a core's engine, over a device of memory of its own.
+fn core_builder<R: Files>(
+    rt: &R,
+    alloc: Global,
+    asked: &Asked,
+    memory: &SameMemory,
+) -> Result<CoreBuilder> {
+    let over = &asked.over;
+    let device = memory_of(rt, alloc, over.sizes.capacity(), over.limits.throttle())?;
+    let config = config_of(alloc, device, over, &asked.gate)?;
+    let accesses = FaultIoEngineConfig::new(memory.share()?, over.access, over.kept, over.stops);
+    Ok(
+        StoreBuilder::new("blocks", LowBits, over.shards)
+            .with_engine_config(config)
+            .with_io_engine_config(accesses)
+            .with_compression(over.compression)
+            .with_recover_mode(over.mode),
+    )
+}
+
+// Of a store that is opened core by core.
+fn answers_in_cores<L, R>(
+    rt: R,
+    alloc: Global,
+    blanks: CoreBlanks,
+    asked: &Asked,
+    memories: &CoreMemories,
+) -> Result<Said>
+where
+    L: Kinds + Send + Sync + 'static,
+    R: Threads + Wait + Files + Copy + Send + Sync + 'static,
+    requires { AreOfCores L.name_of L.all blanks × (L.all ≡ 2 ^ 32) }
+{
+    let mut builders = Vec::new(alloc);
+    for core in 0..asked.over.cores {
+        let memory = memories.of_core(core);
+        builders.push(core_builder(&rt, alloc, asked, memory)?)?;
+    }
+    answers_of_cores::<L, R, _, _, _, _, _>(rt, alloc, blanks, builders, asked)
+}
+
 fn answers_of<L, R>(
+    rt: R,
+    alloc: Global,
+    blanks: CoreBlanks,
+    asked: &Asked,
+    memories: &CoreMemories,
+) -> Result<Said>
+where
+    L: Kinds + Send + Sync + 'static,
+    R: Threads + Wait + Files + Copy + Send + Sync + 'static,
+    requires { AreOfCores L.name_of L.all blanks × (L.all ≡ 2 ^ 32) }
+{
+    if asked.over.cores > 0 {
+        return answers_in_cores::<L, R>(rt, alloc, blanks, asked, memories);
+    }
+    let (first, _, _, _) = blanks.into_parts();
+    answers_in_one::<CoreKinds<L, 0>, R>(rt, alloc, first, asked, &memories.first)
+}
+
+// Of one that is built of its one engine.
+fn answers_in_one<L, R>(
     rt: R,
     alloc: Global,
     blanks: Blanks,
@@ -273,8 +343,8 @@ pub(crate) fn opened<R: Threads + Wait + Files + Copy + Send + Sync + 'static>(
     alloc: Global,
     over: Over,
     script: &str,
-    memory: &SameMemory,
+    memories: &CoreMemories,
 ) -> Result<String> {
     let asked = Asked::new(alloc, over, script)?;
-    answers_of::<Brand, R>(rt, alloc, Blanks::new(1 << 32), &asked, memory)?.text()
+    answers_of::<Brand, R>(rt, alloc, CoreBlanks::new(1 << 32), &asked, memories)?.text()
 }

@@ -16,6 +16,37 @@ pub(crate) struct SameMemory {
     config: Arc<SharedMemoryIoEngineConfig<Global>, Global>,
 }
 
+/// The memories of the cores of one store.
+#[derive(Drop)]
+pub(crate) struct CoreMemories {
+    pub(crate) first: SameMemory,
+    pub(crate) second: SameMemory,
+    pub(crate) third: SameMemory,
+    pub(crate) fourth: SameMemory,
+}
+
+impl CoreMemories {
+    /// Each of two files of zeros.
+    pub(crate) fn new(alloc: Global) -> Result<CoreMemories> {
+        Ok(CoreMemories {
+            first: SameMemory::new(alloc)?,
+            second: SameMemory::new(alloc)?,
+            third: SameMemory::new(alloc)?,
+            fourth: SameMemory::new(alloc)?,
+        })
+    }
+
+    /// That of a core.
+    pub(crate) fn of_core(&self, core: u64) -> &SameMemory {
+        match core {
+            0 => &self.first,
+            1 => &self.second,
+            2 => &self.third,
+            _ => &self.fourth,
+        }
+    }
+}
+
 impl SameMemory {
     /// Two files of zeros.
     pub(crate) fn new(alloc: Global) -> Result<SameMemory> {

@@ -89,6 +89,48 @@ device combined, log, clean 0 < device, put 1 a, wait, del 1, wait, counts writt
 device combined, write-bytes 4096 < put 1 a, wait, judge 2 | queued, ok, throttled 3000
 ";
 
+// The cores of a key are told apart by bits of its hash: of two cores the second has 1 and 3, of four the second 1, the fourth 3.
+const CORES: &str =
+    "a store that is opened over one core, two or four answers as one that is built, and its counts are sums
+cores 1 < put 1 a, put 2 b, put 3 c, put 4 d, wait, get 1, get 2, get 3, get 4, get 5, has 4, has 5, del 1, del 2, get 1, get 2, get 3, tally, counts puts, device | queued, queued, queued, queued, ok, entry a, entry b, entry c, entry d, miss, yes, no, ok, ok, miss, miss, entry c, tally 4 0 2 5 3 5 0, queued 4 ignored 0 dropped 0 rejected 0 returned 0 deletes 2, has 65536 gave 65536 in 4
+cores 2 < put 1 a, put 2 b, put 3 c, put 4 d, wait, get 1, get 2, get 3, get 4, get 5, has 4, has 5, del 1, del 2, get 1, get 2, get 3, tally, counts puts, device | queued, queued, queued, queued, ok, entry a, entry b, entry c, entry d, miss, yes, no, ok, ok, miss, miss, entry c, tally 4 0 2 5 3 5 0, queued 4 ignored 0 dropped 0 rejected 0 returned 0 deletes 2, has 131072 gave 131072 in 8
+cores 4 < put 1 a, put 2 b, put 3 c, put 4 d, wait, get 1, get 2, get 3, get 4, get 5, has 4, has 5, del 1, del 2, get 1, get 2, get 3, tally, counts puts, device | queued, queued, queued, queued, ok, entry a, entry b, entry c, entry d, miss, yes, no, ok, ok, miss, miss, entry c, tally 4 0 2 5 3 5 0, queued 4 ignored 0 dropped 0 rejected 0 returned 0 deletes 2, has 262144 gave 262144 in 16
+cores 1 < name, hash 5, judge 1, force 1 a, fill 3 5000, wait, get 1, get 3, get 1+, has 1+, put 1 b, put 3 c, wait, get 1, get 3, counts puts, counts blocks, close, judge 1, enabled | cores, hash 5, admit, queued, queued, ok, entry a, entry of 5000, miss, yes, queued, queued, ok, entry b, entry c, queued 4 ignored 0 dropped 0 rejected 0 returned 0 deletes 0, failed 0 reclaimed 0 again 0, ok, admit, yes
+cores 2 < name, hash 5, judge 1, force 1 a, fill 3 5000, wait, get 1, get 3, get 1+, has 1+, put 1 b, put 3 c, wait, get 1, get 3, counts puts, counts blocks, close, judge 1, enabled | cores, hash 5, admit, queued, queued, ok, entry a, entry of 5000, miss, yes, queued, queued, ok, entry b, entry c, queued 4 ignored 0 dropped 0 rejected 0 returned 0 deletes 0, failed 0 reclaimed 0 again 0, ok, admit, yes
+cores 4 < name, hash 5, judge 1, force 1 a, fill 3 5000, wait, get 1, get 3, get 1+, has 1+, put 1 b, put 3 c, wait, get 1, get 3, counts puts, counts blocks, close, judge 1, enabled | cores, hash 5, admit, queued, queued, ok, entry a, entry of 5000, miss, yes, queued, queued, ok, entry b, entry c, queued 4 ignored 0 dropped 0 rejected 0 returned 0 deletes 0, failed 0 reclaimed 0 again 0, ok, admit, yes
+cores 1, rejects < judge 1, put 1 a, put 2 b, force 1 c, wait, get 1, get 2 | reject, deleted, deleted, queued, ok, entry c, miss
+cores 2, rejects < judge 1, put 1 a, put 2 b, force 1 c, wait, get 1, get 2 | reject, deleted, deleted, queued, ok, entry c, miss
+cores 4, rejects < judge 1, put 1 a, put 2 b, force 1 c, wait, get 1, get 2 | reject, deleted, deleted, queued, ok, entry c, miss
+a destroy, a close and a wait go to all cores
+cores 1 < put 1 a, put 2 b, wait, destroy, get 1, get 2, put 1 c, put 2 d, wait, get 1, get 2, close, put 3 e, del 1, get 2, wait, destroy | queued, queued, ok, ok, miss, miss, queued, queued, ok, entry c, entry d, ok, fault Closed, fault Closed, entry d, ok, fault Closed
+cores 2 < put 1 a, put 2 b, wait, destroy, get 1, get 2, put 1 c, put 2 d, wait, get 1, get 2, close, put 3 e, del 1, get 2, wait, destroy | queued, queued, ok, ok, miss, miss, queued, queued, ok, entry c, entry d, ok, fault Closed, fault Closed, entry d, ok, fault Closed
+cores 4 < put 1 a, put 2 b, wait, destroy, get 1, get 2, put 1 c, put 2 d, wait, get 1, get 2, close, put 3 e, del 1, get 2, wait, destroy | queued, queued, ok, ok, miss, miss, queued, queued, ok, entry c, entry d, ok, fault Closed, fault Closed, entry d, ok, fault Closed
+cores 4 < put 1 a, put 2 b, put 3 c, wait, destroy, get 1, get 2, get 3, close, put 1 e, put 2 f, put 3 g | queued, queued, queued, ok, ok, miss, miss, miss, ok, fault Closed, fault Closed, fault Closed
+threads ask with sessions of their own
+cores 1 < put 1 a, wait, get 1 & put 2 b, wait, get 2 | queued, ok, entry a & queued, ok, entry b
+cores 2 < put 1 a, wait, get 1 & put 2 b, wait, get 2 | queued, ok, entry a & queued, ok, entry b
+cores 4 < put 1 a, wait, get 1 & put 2 b, wait, get 2 | queued, ok, entry a & queued, ok, entry b
+each core has blocks of its own: a key's are used up by the keys of its core alone
+cores 2, blocks 2 < put 2 x, wait, put 1 a, wait, put 3 b, wait, put 6 c, wait, put 8 d, wait, put 9 e, wait, put 11 f, wait, put 14 g, wait, get 2, get 1, get 14 | queued, ok, queued, ok, queued, ok, queued, ok, queued, ok, queued, ok, queued, ok, queued, ok, entry x, miss, entry g
+built again with as many cores all is found, and what was put last
+cores 1 < put 1 a, put 2 b, put 3 c, put 4 d, wait, del 2, put 3 e, wait / get 1, get 3, get 4, has 4, put 2 f, del 1, wait, get 2, get 1 / get 2, get 3, get 4 | queued, queued, queued, queued, ok, ok, queued, ok / entry a, entry e, entry d, yes, queued, ok, ok, entry f, miss / entry f, entry e, entry d
+cores 2 < put 1 a, put 2 b, put 3 c, put 4 d, wait, del 2, put 3 e, wait / get 1, get 3, get 4, has 4, put 2 f, del 1, wait, get 2, get 1 / get 2, get 3, get 4 | queued, queued, queued, queued, ok, ok, queued, ok / entry a, entry e, entry d, yes, queued, ok, ok, entry f, miss / entry f, entry e, entry d
+cores 4 < put 1 a, put 2 b, put 3 c, put 4 d, wait, del 2, put 3 e, wait / get 1, get 3, get 4, has 4, put 2 f, del 1, wait, get 2, get 1 / get 2, get 3, get 4 | queued, queued, queued, queued, ok, ok, queued, ok / entry a, entry e, entry d, yes, queued, ok, ok, entry f, miss / entry f, entry e, entry d
+with another number what lies in cores that aren't there, or in another core than the key's, isn't found
+cores 4 < put 1 a, put 2 b, put 3 c, put 5 e, wait / get 1, get 2, get 3, get 5 / cores 2 < get 1, get 2, get 3, get 5 / cores 1 < get 1, get 2, get 3, get 5 | queued, queued, queued, queued, ok / entry a, entry b, entry c, entry e / entry a, entry b, miss, entry e / miss, entry b, miss, entry e
+deletes of all cores are kept in their logs
+cores 1, log < put 1 a, put 2 b, wait, del 1, del 2, wait / get 1, get 2 | queued, queued, ok, ok, ok, ok / miss, miss
+cores 2, log < put 1 a, put 2 b, wait, del 1, del 2, wait / get 1, get 2 | queued, queued, ok, ok, ok, ok / miss, miss
+cores 4, log < put 1 a, put 2 b, wait, del 1, del 2, wait / get 1, get 2 | queued, queued, ok, ok, ok, ok / miss, miss
+there are one, two or four cores
+cores 3 < enabled | refused Config
+cores 5 < enabled | refused Config
+a core that is refused ends the others
+cores 1, flushers 0 < enabled | refused Config
+cores 2, flushers 0 < enabled | refused Config
+cores 4, blocks 2, flushers 3 < enabled | refused Config
+";
+
 #[test]
 fn sizes_change_answers_so(rt: HostRuntime) -> std::result::Result<(), Fail> {
     let answers = rows_of(rt, rt.alloc(), SIZES)?;
@@ -107,5 +149,12 @@ fn other_options_change_answers_so(rt: HostRuntime) -> std::result::Result<(), F
 fn devices_keep_blocks_so(rt: HostRuntime) -> std::result::Result<(), Fail> {
     let answers = rows_of(rt, rt.alloc(), DEVICES)?;
     assert!(rt; answers.as_str() == DEVICES, "{answers}");
+    Ok(())
+}
+
+#[test]
+fn cores_answer_as_one(rt: HostRuntime) -> std::result::Result<(), Fail> {
+    let answers = rows_of(rt, rt.alloc(), CORES)?;
+    assert!(rt; answers.as_str() == CORES, "{answers}");
     Ok(())
 }

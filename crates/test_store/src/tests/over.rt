@@ -77,6 +77,8 @@ pub(crate) struct Over {
     pub(crate) sizes: Sizes,
     pub(crate) limits: Limits,
     pub(crate) picks: Picks,
+    /// How many cores it is opened over, each with a device of its own; 0 if it is built of one engine.
+    pub(crate) cores: u64,
     /// The shards of its keeper.
     pub(crate) shards: usize,
     /// Whether it admits what isn't forced.
@@ -129,6 +131,7 @@ pub(crate) const USUAL: Over = Over {
         per: 0,
     },
     picks: Picks::Usual,
+    cores: 0,
     shards: 4,
     admits: true,
     mode: RecoverMode::Quiet,
@@ -316,6 +319,10 @@ fn with_number(over: Over, word: &str, how: &str) -> Over {
     match word {
         "shards" => Over {
             shards: bytes,
+            ..over
+        },
+        "cores" => Over {
+            cores: number,
             ..over
         },
         "fails" => Over {

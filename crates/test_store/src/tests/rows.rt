@@ -1,6 +1,6 @@
 //! Rows of text: what a store, or the program over one, is asked, and what it answers.
 use crate::tests::configs::opened;
-use crate::tests::memories::SameMemory;
+use crate::tests::memories::CoreMemories;
 use crate::tests::over::{USUAL, over_of};
 use crate::tests::programs::{say_broken, say_file, say_forged, say_served};
 use foyer_device_page::error::Result;
@@ -237,7 +237,7 @@ fn say_stores<R: Threads + Wait + Files + Copy + Send + Sync + 'static>(
     said: &mut Said,
     asked: &str,
 ) -> Result<()> {
-    let memory = SameMemory::new(alloc)?;
+    let memories = CoreMemories::new(alloc)?;
     let mut over = USUAL;
     let mut is_first = true;
     for part in asked.split(" / ") {
@@ -247,7 +247,7 @@ fn say_stores<R: Threads + Wait + Files + Copy + Send + Sync + 'static>(
         is_first = false;
         let (words, script) = part.split_once(" < ").unwrap_or(("", part));
         over = over_of(over, words);
-        let answers = opened(rt, alloc, over, script, &memory)?;
+        let answers = opened(rt, alloc, over, script, &memories)?;
         said.word(answers.as_str());
     }
     Ok(())

@@ -1,0 +1,1 @@
+pub use Rattle.foyer_storage_build.specs.CoreLedgers
