@@ -1,7 +1,12 @@
 //! The disks over a device's blocks, and what is opened and made with each.
 ghost use Rattle.std.specs.Arc.{arc_value};
-ghost use Rattle.std.specs.Prelude.{◌≡◌, ◌⊎◌, ◌+◌, ◌*◌, ◌<◌, ◌≤◌, ◌^◌, IfErr, IfOk, OnOk, true, vec_len};
+ghost use Rattle.std.specs.Prelude.{◌≡◌, ◌⊎◌, ◌+◌, ◌*◌, ◌++◌, ◌<◌, ◌≤◌, ◌^◌, IfErr, IfOk, IfSome, OnOk, is_some, map, replicate, true, vec_len};
+ghost use Rattle.std.specs.List.{range_with_len};
 ghost use Rattle.foyer_device_page.specs.declared.error.Error.TheVariants as error;
+ghost use Rattle.foyer_io_engine.specs.Disk.{IfKnown};
+ghost use Rattle.foyer_block_tombstone.specs.PageBytes.{ring_on};
+ghost use Rattle.foyer_block_tombstone.specs.Pages.{pages_of};
+ghost use Rattle.foyer_block_tombstone.specs.Ring.{marks_of};
 ghost use Rattle.foyer_storage_build.specs.Building.{IsOpenError, is_disk_error};
 ghost use Rattle.foyer_core_tally.specs.Ledgers.{AreOf};
 
@@ -141,6 +146,7 @@ impl<R, I: IoEngineConfig<R>, Q: Partition + Copy> Disks<'_, R, I, Q> {
         requires { count < recorder.old.view.parts }
         ensures left { recorder.old.view.parts ≤ recorder.new.view.parts + count }
         ensures few { vec_len result ≤ count }
+        ensures blocks { map (λ r. r.recoverer.disk.disk.blocks.items) result.items ≡ replicate (vec_len result) self.now.blocks.now }
     {
         let mut recoverers = Vec::new(alloc);
         if mode == RecoverMode::None || count < 2 {
@@ -170,6 +176,9 @@ impl<R, I: IoEngineConfig<R>, Q: Partition + Copy> Disks<'_, R, I, Q> {
         Q: Drop,
         requires { 1 < recorder.old.view.parts }
         ensures left { recorder.old.view.parts ≤ recorder.new.view.parts + 1 }
+        ensures made { IfOk result (λ log. is_some log ≡ is_some partition) }
+        ensures marks { IfOk result (λ log. IfSome log (λ l. IfKnown (⟦<MonitoredIoEngine<I::Engine, Global> as IoEngine>⟧.disk l.engine)
+            (λ d. marks.new.items ≡ marks.old.items ++ marks_of (ring_on d l.places) (256 * pages_of l.places)))) }
         ensures refused { IfErr result (λ e. (is_disk_error e ≡ true) ⊎ (e ≡ error.OutOfRange)) }
     {
         let Some(partition) = partition else {
@@ -242,6 +251,8 @@ impl<R, I: IoEngineConfig<R>, Q: Partition + Copy> Disks<'_, R, I, Q> {
         Q: Drop,
         requires { count < recorder.old.view.parts }
         ensures count { IfOk result (λ workers. vec_len workers ≡ count) }
+        ensures numbers { IfOk result (λ workers. map (λ w. w.worker.parts.flusher) workers.items ≡ range_with_len 0 count) }
+        ensures blocks { IfOk result (λ workers. map (λ w. w.worker.parts.disk.blocks.items) workers.items ≡ replicate count self.now.blocks.now) }
         ensures seats { OnOk result (recorder.new.view.parts + count ≡ recorder.old.view.parts) }
         ensures refused { IfErr result (λ e. is_disk_error e ≡ true) }
     {
@@ -272,6 +283,7 @@ impl<R, I: IoEngineConfig<R>, Q: Partition + Copy> Disks<'_, R, I, Q> {
         T: Clock + Copy,
         requires { 2 < recorder.old.view.parts }
         ensures seats { OnOk result (recorder.new.view.parts + 2 ≡ recorder.old.view.parts) }
+        ensures blocks { IfOk result (λ w. w.worker.parts.disk.blocks.items ≡ self.now.blocks.now) }
         ensures refused { IfErr result (λ e. is_disk_error e ≡ true) }
     {
         let engine = Arc::try_clone(engine)?;
@@ -306,6 +318,7 @@ impl<R, I: IoEngineConfig<R>, Q: Partition + Copy> Disks<'_, R, I, Q> {
         T: Clock + Copy,
         requires { 2 * count < recorder.old.view.parts }
         ensures count { IfOk result (λ workers. vec_len workers ≡ count) }
+        ensures blocks { IfOk result (λ workers. map (λ w. w.worker.parts.disk.blocks.items) workers.items ≡ replicate count self.now.blocks.now) }
         ensures seats { OnOk result (recorder.new.view.parts + 2 * count ≡ recorder.old.view.parts) }
         ensures refused { IfErr result (λ e. is_disk_error e ≡ true) }
     {
@@ -346,6 +359,7 @@ impl<R, I: IoEngineConfig<R>, Q: Partition + Copy> Disks<'_, R, I, Q> {
         requires ledgers { AreOf L.name_of L.all blanks × (L.all ≡ 2 ^ 32) }
         ensures seats { OnOk result (recorder.old.view.parts ≤ recorder.new.view.parts + loads + 1) }
         ensures settings { IfOk result (λ o. (arc_value o.engine).settings ≡ settings) }
+        ensures log { IfOk result (λ o. is_some o.log ≡ is_some log) }
         ensures loads { IfOk result (λ o. (vec_len (arc_value o.engine).others + 1 ≡ loads) × ((arc_value o.engine).patience ≡ patience)) }
         ensures refused { IfErr result (λ e. IsOpenError mode e) }
     {

@@ -1,6 +1,6 @@
 //! How a device is divided, and gets its counters.
 ghost use Rattle.std.specs.Arc.{arc_value};
-ghost use Rattle.std.specs.Prelude.{◌≡◌, ◌⊎◌, ◌+◌, ◌++◌, ◌*◌, ◌<◌, ◌≤◌, ◌^◌, ◌||◌, if◌then◌else◌, IfErr, IfOk, IfSome, OnOk, is_some, length, map, min, nat_le, nat_lt, replicate, true, vec_len};
+ghost use Rattle.std.specs.Prelude.{◌≡◌, ◌⊎◌, ◌+◌, ◌++◌, ◌*◌, ◌<◌, ◌≤◌, ◌^◌, ◌||◌, if◌then◌else◌, IfErr, IfOk, IfSome, IsTrue, OnOk, is_some, length, map, min, nat_le, nat_lt, replicate, true, vec_len};
 ghost use Rattle.foyer_storage_build.specs.Building.{is_begin_error};
 ghost use Rattle.foyer_block_tombstone.specs.Pages.{log_pages};
 ghost use Rattle.foyer_device_partition.specs.Extent.{AreDisjoint, total_size};
@@ -61,6 +61,9 @@ fn make_blocks<D: Device, R: Files>(
 ) -> Result<Vec<D::Partition>>
     ensures sizes { IfOk result (λ blocks. map D.Partition.bytes blocks.items ≡ replicate (vec_len blocks) planned.now.block_size) }
     ensures few { IfOk result (λ blocks. vec_len blocks ≤ planned.now.blocks) }
+    // There are fewer only if a device with these partitions has no room for one more.
+    ensures full { IfOk result (λ blocks. (vec_len blocks ≡ planned.now.blocks)
+        ⊎ ((left : D) × IsTrue (D.lacks_space left planned.now.block_size) × (D.sizes left ≡ D.sizes device.new))) }
     ensures made { IfOk result (λ blocks. D.extents device.new ≡ D.extents device.old ++ map D.Partition.extent blocks.items) }
     ensures apart { IfOk result (λ blocks. AreDisjoint (map D.Partition.extent blocks.items)) }
     ensures refused { IfErr result (λ e. is_begin_error e ≡ true) }
@@ -162,6 +165,7 @@ pub(super) fn divide<D: Device, R: Files>(
     ensures apart { IfOk result (λ d. AreDisjoint (map D.Partition.extent d.blocks.items)) }
     ensures threshold { IfOk result (λ d. (d.settings.clean_block_threshold ≤ 1) ⊎ (d.settings.clean_block_threshold < d.settings.blocks)) }
     ensures log { IfOk result (λ d. is_some d.log ≡ sizes.now.tombstone_log) }
+    ensures pages { IfOk result (λ d. IfSome d.log (λ p. D.Partition.bytes p ≡ log_pages (D.room device) * 4096)) }
     ensures device { IfOk result (λ d. (D.room d.device ≡ D.room device) × (D.limits d.device ≡ D.limits device)) }
     ensures refused { IfErr result (λ e. is_begin_error e ≡ true) }
 {

@@ -1,6 +1,7 @@
 //! How an engine over the blocks of a device is made.
 ghost use Rattle.std.specs.Arc.{arc_value};
-ghost use Rattle.std.specs.Prelude.{◌≡◌, ◌+◌, ◌*◌, ◌<◌, ◌≤◌, ◌^◌, IfErr, IfOk, vec_len};
+ghost use Rattle.std.specs.Prelude.{◌≡◌, ◌+◌, ◌*◌, ◌<◌, ◌≤◌, ◌^◌, IfErr, IfOk, map, replicate, vec_len};
+ghost use Rattle.std.specs.List.{range_with_len};
 ghost use Rattle.foyer_device_page.specs.declared.error.Error.TheVariants as error;
 ghost use Rattle.foyer_storage_build.specs.Building.{IsOpenError};
 ghost use Rattle.foyer_core_tally.specs.Ledgers.{AreOf};
@@ -96,6 +97,7 @@ where
         × (r.opening.counted.patience ≡ counted.patience)) }
     ensures lent { IfOk result (λ r. (r.opening.env ≡ env) × (r.opening.admission ≡ admission) × (r.opening.context ≡ context)) }
     ensures few { IfOk result (λ r. vec_len r.recoverers ≤ counted.recoverers) }
+    ensures read { IfOk result (λ r. map (λ w. w.recoverer.disk.disk.blocks.items) r.recoverers.items ≡ replicate (vec_len r.recoverers) counted.blocks.items) }
     ensures refused { IfErr result (λ e. e ≡ error.Memory) }
 {
     let gate = Arc::new(alloc, gate)?;
@@ -181,6 +183,10 @@ where
     ensures settings { IfOk result (λ b. (arc_value b.engine.engine).settings ≡ opening.counted.settings) }
     ensures workers { IfOk result (λ b. (vec_len b.flushers ≡ opening.counted.settings.flushers)
         × (vec_len b.reclaimers ≡ opening.counted.settings.reclaimers)) }
+    ensures numbers { IfOk result (λ b. map (λ w. w.worker.parts.flusher) b.flushers.items ≡ range_with_len 0 opening.counted.settings.flushers) }
+    ensures blocks { IfOk result (λ b.
+        (map (λ w. w.worker.parts.disk.blocks.items) b.flushers.items ≡ replicate opening.counted.settings.flushers opening.counted.blocks.items)
+        × (map (λ w. w.worker.parts.disk.blocks.items) b.reclaimers.items ≡ replicate opening.counted.settings.reclaimers opening.counted.blocks.items)) }
     ensures loads { IfOk result (λ b. (vec_len (arc_value b.engine.engine).others + 1 ≡ opening.counted.loads)
         × ((arc_value b.engine.engine).patience ≡ opening.counted.patience)) }
     ensures refused { IfErr result (λ e. IsOpenError opening.context.recover_mode e) }
