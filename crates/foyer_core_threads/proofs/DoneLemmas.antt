@@ -1,6 +1,5 @@
 -- What a call did, by what its steps and accesses say.
-use Rattle.std.proofs.Common.{◌≡◌, ◌⊎◌, inl, inr, ℕ, ◌<◌, Bool, true, false, if◌then◌else◌, List, [], ◌∷◌, ◌++◌, Option, Some, None, Result, Ok, Err, refl, sym, ap, ◌∙◌, subst, is_ok}
-use Rattle.std.specs.declared.vec.Vec.{Vec}
+use Rattle.std.proofs.Common.{◌≡◌, ◌⊎◌, inl, inr, ℕ, Bool, true, false, [], ◌∷◌, ◌++◌, Result, sym, ap, ◌∙◌, subst, is_ok}
 use Rattle.foyer_device_page.specs.declared.error.Error.{Error}
 use Rattle.foyer_device_page.specs.declared.error.ErrorKind.TheVariants as kind
 use Rattle.foyer_core_chronicle.specs.declared.View.{View}
@@ -22,12 +21,11 @@ use Rattle.foyer_core_steps.specs.declared.reply.Reply.{Reply}
 use Rattle.foyer_core_steps.specs.declared.reply.Reply.TheVariants as replies
 use Rattle.foyer_core_steps.specs.declared.step.Step.{Step}
 use Rattle.foyer_core_steps.specs.declared.step.Step.TheVariants as steps
-use Rattle.foyer_core_steps.specs.declared.step.Ticket.{Ticket}
 use Rattle.foyer_core_told.specs.declared.event.Told.{Told}
 use Rattle.foyer_core_told.specs.declared.event.Told.TheVariants as told
 use Rattle.foyer_core_told.specs.ToldRuns.{Tells, IsTold}
-use Rattle.foyer_core_told.specs.ToldLoads.{IsReadOf, is_read}
-use Rattle.foyer_core_told.specs.Telling.{IsStep, HasGoneOn, HasStepped}
+use Rattle.foyer_core_told.specs.ToldLoads.{is_read}
+use Rattle.foyer_core_told.specs.Telling.{IsStep, HasStepped}
 use Rattle.foyer_core_told.proofs.ToldStepLemmas.{run_split}
 use Rattle.foyer_core_told.proofs.TellingLemmas.{not_empty}
 use Rattle.foyer_core_threads.specs.Done.{IsMade, IsNoted, HasLoaded, IsLoadNoted}

@@ -1,5 +1,5 @@
 -- The writes of a flusher, in the history that its session has seen.
-use Rattle.std.proofs.Common.{◌≡◌, ◌≢◌, ◌⊎◌, inl, inr, ℕ, ◌+◌, ◌<◌, if◌then◌else◌, Bool, true, false, List, [], ◌∷◌, map, drop, suc, length, Option, Some, None, Result, Ok, Err, refl, sym, ap, ◌∙◌, subst, is_ok, arith}
+use Rattle.std.proofs.Common.{◌≡◌, ◌≢◌, ◌⊎◌, inl, inr, ℕ, ◌+◌, ◌<◌, if◌then◌else◌, Bool, true, false, List, [], ◌∷◌, map, drop, suc, Option, Some, None, Result, Ok, Err, refl, sym, ap, ◌∙◌, subst, is_ok, arith}
 use Rattle.std.specs.declared.vec.Vec.{Vec}
 use Rattle.foyer_format_layout.specs.BlockBytes.{Write}
 use Rattle.foyer_device_page.specs.declared.error.Error.{Error}

@@ -1,5 +1,5 @@
 -- What a call did, in the one history of all threads.
-use Rattle.std.specs.Prelude.{◌≡◌, ◌≢◌, ◌⊎◌, ℕ, Bool, true, false, is_ok, List, [], ◌∷◌, Option, Some, None, Result, Ok, Err}
+use Rattle.std.specs.Prelude.{◌≡◌, ◌≢◌, ◌⊎◌, ℕ, Bool, true, false, is_ok, List, [], ◌∷◌, Option, Some, None, Result}
 use Rattle.std.specs.declared.vec.Vec.{Vec}
 use Rattle.foyer_device_page.specs.declared.error.Error.{Error}
 use Rattle.foyer_device_page.specs.declared.error.ErrorKind.TheVariants as kind

@@ -1,4 +1,4 @@
-use Rattle.std.proofs.Common.{◌≡◌, inl, inr, refl, subst, ap, ◌∙◌, sym}
+use Rattle.std.proofs.Common.{inr, refl, subst, ap, ◌∙◌, sym}
 use Rattle.foyer_core_laws.specs.Content.{meaning}
 use Rattle.foyer_core_steps.specs.declared.reply.Reply.TheVariants as replies
 use Rattle.foyer_core_steps.specs.declared.step.Step.TheVariants as steps
