@@ -259,6 +259,14 @@ fn requests_as_bytes(rt: HostRuntime) {
         value: b"",
     };
     assert!(rt; sent(rt.alloc(), &wait).is_none());
+    // One without a value is sent too.
+    let get = Request {
+        kind: Kind::Get,
+        number: u32::MAX,
+        key: b"ab",
+        value: b"",
+    };
+    assert!(rt; sent(rt.alloc(), &get).is_some_and(|bytes| bytes.as_slice() == GET));
     request::one_reading();
 }
 
@@ -276,5 +284,21 @@ fn replies_as_bytes(rt: HostRuntime) -> Result<(), Fail> {
     assert!(rt; Reply::decode(REPLY, 2) == Err(Fault::ValueTooLong));
     assert!(rt; Reply::decode(&REPLY[..11], 3) == Err(Fault::Short));
     reply::one_reading();
+    Ok(())
+}
+
+#[test]
+fn a_reply_of_more_than_two_bytes_of_length_is_sent(rt: HostRuntime) -> Result<(), Fail> {
+    let bytes = Vec::from_elem(rt.alloc(), 7u8, 65_536)
+        .ok()
+        .ok_or("memory")?;
+    let reply = Reply {
+        number: 258,
+        code: 1,
+        bytes: bytes.as_slice(),
+    };
+    let mut output = Vec::new(rt.alloc());
+    reply.write_to(&mut output).ok().ok_or("memory")?;
+    assert_eq!(rt; output.len(), 65_545);
     Ok(())
 }
