@@ -4,3 +4,4 @@ pub mod PlainSteps
 pub mod LoadLemmas
 pub mod WriteLemmas
 pub mod DoneLemmas
+pub mod Sent

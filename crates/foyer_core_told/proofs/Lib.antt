@@ -4,3 +4,4 @@ pub mod ToldLoadLemmas
 pub mod ToldMissLemmas
 pub mod ToldRightLemmas
 pub mod TellingLemmas
+pub mod Sent

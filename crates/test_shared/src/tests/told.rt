@@ -1,5 +1,5 @@
-//! Sessions that share a core and its disk in memory, of which each step and each access is added to one history.
-ghost use Rattle.std.specs.Prelude.{◌≡◌, ◌<◌, ◌^◌, []};
+//! Sessions and threads that share a core and its disk in memory, of which each step and each access is added to one history.
+ghost use Rattle.std.specs.Prelude.{◌≡◌, ◌-◌, ◌<◌, ◌^◌, [], IfOk};
 ghost use Rattle.foyer_core_chronicle.specs.Rights.{times};
 ghost use Rattle.foyer_core_chronicle.specs.SharedHistory.{newcomer};
 ghost use Rattle.foyer_core_model.specs.Ids.{ids};
@@ -27,6 +27,8 @@ use std::alloc::Global;
 use std::marker::Brand;
 use std::sync::Wait;
 use std::test::Fail;
+use std::thread;
+use std::thread::Threads;
 
 type Numbers<J, L> = ToldShared<
     J,
@@ -90,6 +92,78 @@ fn value_of<J: HistoryName, L: Kinds>(
     }
 }
 
+// Puts the numbers below three hundred under one hash.
+fn put_all<J: HistoryName, L: Kinds>(
+    rt: &impl Wait,
+    alloc: Global,
+    shared: &Numbers<J, L>,
+    mut session: Mine<L>,
+) -> Result<Mine<L>>
+    requires mine { (session.witness.table_id ≡ J.table) × (session.witness.me.1 ≡ []) }
+    requires right { 0 < times (writes_right 0) session.witness.me.0.has }
+    requires part { 0 < session.session.shares.parts }
+    ensures mine { IfOk result (λ s. (s.witness.table_id ≡ J.table) × (s.witness.me.1 ≡ [])) }
+    ensures parts { IfOk result (λ s. s.session.shares.parts ≡ session.session.shares.parts) }
+{
+    'values: for value in 0..300 {
+        put(rt, alloc, shared, &mut session, 7, value)?;
+    }
+    Ok(session)
+}
+
+// Loads three hundred times: whether nothing was missed once something was found, and no number is below one that was loaded before.
+fn load_all<J: HistoryName, L: Kinds>(
+    rt: &impl Wait,
+    alloc: Global,
+    shared: &Numbers<J, L>,
+    mut session: Mine<L>,
+) -> Result<(Mine<L>, bool)>
+    requires mine { (session.witness.table_id ≡ J.table) × (session.witness.me.1 ≡ []) }
+    requires part { 0 < session.session.shares.parts }
+    ensures mine { IfOk result (λ r. (r.0.witness.table_id ≡ J.table) × (r.0.witness.me.1 ≡ [])) }
+    ensures parts { IfOk result (λ r. r.0.session.shares.parts ≡ session.session.shares.parts) }
+{
+    let mut is_right = true;
+    let mut last = None;
+    'loads: for _ in 0..300 {
+        let loaded = value_of(rt, alloc, shared, &mut session, 7)?;
+        is_right = is_right && last <= loaded;
+        last = loaded;
+    }
+    Ok((session, is_right))
+}
+
+// A core over a disk of two blocks in memory, and the session that has everything.
+fn opened<J: HistoryName, L: Kinds>(
+    alloc: Global,
+    history: ToldHistory<u64, u64, NoProperties, Global, MemoryDisk<Global>>,
+    witness: ToldWitness<u64, u64, NoProperties, Global, MemoryDisk<Global>>,
+    blanks: Blanks,
+) -> Result<(Numbers<J, L>, Mine<L>)>
+    requires history { history.table.shared.table_id ≡ J.table }
+    requires witness { (witness.table_id ≡ J.table) × (witness.me ≡ (newcomer (ids rights_count), [])) }
+    requires ledgers { AreOf L.name_of L.all blanks × (L.all ≡ 2 ^ 32) }
+    ensures mine { IfOk result (λ r. (r.1.witness.table_id ≡ J.table) × (r.1.witness.me.1 ≡ [])) }
+    ensures right { IfOk result (λ r. 0 < times (writes_right 0) r.1.witness.me.0.has) }
+    ensures parts { IfOk result (λ r. r.1.session.shares.parts ≡ 2 ^ 32) }
+{
+    let env = Env::with_default_pickers(alloc, 0)?;
+    let settings = Settings::new(2, 1 << 20);
+    let disk = MemoryDisk::new(alloc, settings.blocks, settings.block_size)?;
+    let mode = RecoverMode::None;
+    Numbers::<J, L>::open(
+        history,
+        witness,
+        alloc,
+        env,
+        settings,
+        disk,
+        mode,
+        &[],
+        blanks,
+    )
+}
+
 // Two sessions of one history: one puts the numbers below a hundred, and after each the other loads. Whether it always loaded what was put
 // last, and what is loaded once they are joined.
 fn run<J: HistoryName, L: Kinds>(
@@ -103,21 +177,7 @@ fn run<J: HistoryName, L: Kinds>(
     requires witness { (witness.table_id ≡ J.table) × (witness.me ≡ (newcomer (ids rights_count), [])) }
     requires ledgers { AreOf L.name_of L.all blanks × (L.all ≡ 2 ^ 32) }
 {
-    let env = Env::with_default_pickers(alloc, 0)?;
-    let settings = Settings::new(2, 1 << 20);
-    let disk = MemoryDisk::new(alloc, settings.blocks, settings.block_size)?;
-    let mode = RecoverMode::None;
-    let (shared, mut one) = Numbers::<J, L>::open(
-        history,
-        witness,
-        alloc,
-        env,
-        settings,
-        disk,
-        mode,
-        &[],
-        blanks,
-    )?;
+    let (shared, mut one) = opened::<J, L>(alloc, history, witness, blanks)?;
     let mut two = one.split(shared.history(), 1);
     let mut is_right = true;
     'values: for value in 0..100 {
@@ -130,11 +190,59 @@ fn run<J: HistoryName, L: Kinds>(
     Ok((is_right, last))
 }
 
+// One thread puts while another loads. Whether what was loaded never went back, and what is loaded once they are joined.
+fn run_by_two<J, L, R>(
+    rt: &R,
+    alloc: Global,
+    history: ToldHistory<u64, u64, NoProperties, Global, MemoryDisk<Global>>,
+    witness: ToldWitness<u64, u64, NoProperties, Global, MemoryDisk<Global>>,
+    blanks: Blanks,
+) -> Result<(bool, Option<u64>)>
+where
+    J: HistoryName + Send + Sync,
+    L: Kinds + Send + Sync,
+    R: Threads + Wait + Sync,
+    requires history { history.table.shared.table_id ≡ J.table }
+    requires witness { (witness.table_id ≡ J.table) × (witness.me ≡ (newcomer (ids rights_count), [])) }
+    requires ledgers { AreOf L.name_of L.all blanks × (L.all ≡ 2 ^ 32) }
+{
+    let (shared, mut one) = opened::<J, L>(alloc, history, witness, blanks)?;
+    let two = one.split(shared.history(), 1);
+    let lent = &shared;
+    let (one, two) = thread::join(
+        rt,
+        move || -> Result<Mine<L>>
+            requires { (one.witness.table_id ≡ J.table) × (one.witness.me.1 ≡ []) × (0 < times (writes_right 0) one.witness.me.0.has)
+                × (one.session.shares.parts ≡ 2 ^ 32 - 1) }
+            ensures { IfOk result (λ s. (s.witness.table_id ≡ J.table) × (s.witness.me.1 ≡ []) × (s.session.shares.parts ≡ 2 ^ 32 - 1)) }
+        { put_all(rt, alloc, lent, one) },
+        move || -> Result<(Mine<L>, bool)>
+            requires { (two.witness.table_id ≡ J.table) × (two.witness.me.1 ≡ []) × (two.session.shares.parts ≡ 1) }
+            ensures { IfOk result (λ r. (r.0.witness.table_id ≡ J.table) × (r.0.witness.me.1 ≡ []) × (r.0.session.shares.parts ≡ 1)) }
+        { load_all(rt, alloc, lent, two) },
+    );
+    let mut one = one?;
+    let (two, is_right) = two?;
+    one.join(shared.history(), two);
+    let last = value_of(rt, alloc, &shared, &mut one, 7)?;
+    Ok((is_right, last))
+}
+
 #[test]
 fn a_session_loads_what_another_put(rt: HostRuntime) -> std::result::Result<(), Fail> {
     let alloc = rt.alloc();
     let (history, witness) = open_history(alloc)?;
     let ran = run::<Brand, Brand>(&rt, alloc, history, witness, Blanks::new(1 << 32));
     assert_eq!(rt; ran?, (true, Some(99)));
+    Ok(())
+}
+
+#[test]
+fn a_thread_loads_what_another_puts(rt: HostRuntime) -> std::result::Result<(), Fail> {
+    let alloc = rt.alloc();
+    let (history, witness) = open_history(alloc)?;
+    let blanks = Blanks::new(1 << 32);
+    let ran = run_by_two::<Brand, Brand, HostRuntime>(&rt, alloc, history, witness, blanks);
+    assert_eq!(rt; ran?, (true, Some(299)));
     Ok(())
 }
