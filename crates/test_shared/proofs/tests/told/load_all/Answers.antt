@@ -1,4 +1,4 @@
-use Rattle.std.proofs.Common.{◌<◌, refl, sym, ◌∙◌, subst}
+use Rattle.std.proofs.Common.{◌<◌, refl, sym, subst}
 use Rattle.test_shared.proofs.tests.told.load_all.Goals as goal
 
 pub loads-init : goal.loads-init

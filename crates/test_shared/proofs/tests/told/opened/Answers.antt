@@ -1,4 +1,4 @@
-use Rattle.std.proofs.Common.{ℕ, ◌<◌, Result, Ok, Err, arith}
+use Rattle.std.proofs.Common.{Result, Ok, Err, arith}
 use Rattle.std.specs.Result.{IfOk}
 use Rattle.foyer_core_told.specs.ToldRights.{writes_right}
 use Rattle.foyer_core_told.proofs.ToldRightLemmas.{rights_there}
