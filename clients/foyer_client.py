@@ -166,7 +166,7 @@ class Cache:
         self._call(b"d", key)
 
     def wait(self):
-        """Waits until all that was put before is written."""
+        """Waits until all that was put before is written, or given up after a failed write."""
         self._call(b"w")
 
     def counters(self):

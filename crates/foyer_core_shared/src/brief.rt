@@ -2,6 +2,7 @@
 ghost use Rattle.std.specs.Prelude.{◌≡◌};
 ghost use Rattle.foyer_core_shared.specs.Briefs.{len_of, listed_in, outcome_of, reply_brief, step_brief};
 ghost use Rattle.foyer_core_shared.specs.Kinds.{kind_of};
+ghost use Rattle.foyer_core_shared.specs.Sessions.{is_close, is_destroy};
 ghost use Rattle.foyer_core_shared.specs.declared.brief.StepBrief.TheVariants as asked;
 
 use foyer_block_index::manager::BlockId;
@@ -327,6 +328,25 @@ impl ReplyBrief {
             Reply::Cleared => ReplyBrief::Cleared,
             Reply::Destroyed(first) => ReplyBrief::Destroyed(*first),
         }
+    }
+}
+
+impl StepBrief {
+    // Whether it is a close.
+    pub(crate) fn is_close(&self) -> bool
+        ensures { result ≡ is_close self.now }
+    {
+        matches!(self, StepBrief::Close)
+    }
+
+    // Whether it is a destroy's beginning, its clear, or the outcome of one of its cleans.
+    pub(crate) fn is_destroy(&self) -> bool
+        ensures { result ≡ is_destroy self.now }
+    {
+        matches!(
+            self,
+            StepBrief::DestroyBegin | StepBrief::DestroyClear | StepBrief::DestroyCleaned { .. }
+        )
     }
 }
 

@@ -5,12 +5,14 @@ ghost use Rattle.foyer_core_steps.specs.Content.{meaning};
 ghost use Rattle.foyer_core_shared.specs.Behind.{HasRoom, kept_notes};
 ghost use Rattle.foyer_core_shared.specs.Kinds.{kind_of, tallied};
 ghost use Rattle.foyer_core_shared.specs.Noted.{and_note, notes_at_first};
+ghost use Rattle.foyer_core_shared.specs.Sessions.{CountsEnds};
 ghost use Rattle.foyer_core_tally.specs.Ledgers.{AreOf};
-ghost use Rattle.foyer_core_tally.specs.Tally.{grown, none, both, shown, listed};
+ghost use Rattle.foyer_core_tally.specs.Tally.{grown, none, both, saturated};
 ghost use Rattle.std.specs.Prelude.{◌≡◌, ◌≢◌, ◌+◌, ◌<◌, IfErr, IfOk, IsOkUnless, OnOk, None, Some, [], ◌∷◌};
 ghost use Rattle.std.specs.Option.{ForSome};
 
 mod loads;
+mod shown;
 
 use crate::brief::{Brief, ReplyBrief, StepBrief};
 use crate::notes::{Notes, Noting};
@@ -38,6 +40,8 @@ pub struct Session<L: Kinds> {
     shares: Shares<L>,
     newest: Option<Brief>,
     before: Option<Brief>,
+    closes: u64,
+    destroys: u64,
 }
 
 // Written out, so that it is proved once.
@@ -47,6 +51,8 @@ impl<L: Kinds> Drop for Session<L> {
             shares: _,
             newest: _,
             before: _,
+            closes: _,
+            destroys: _,
         } = self;
     }
 }
@@ -56,7 +62,7 @@ impl<L: Kinds> Model for Session<L> {
 
     ghost Value = { SessionState };
 
-    ghost view = { λ s. record { shares = s.shares; newest = s.newest; before = s.before } };
+    ghost view = { λ s. record { shares = s.shares; newest = s.newest; before = s.before; closes = s.closes; destroys = s.destroys } };
 }
 
 impl<L: Kinds> Session<L> {
@@ -65,36 +71,17 @@ impl<L: Kinds> Session<L> {
         requires { AreOf L.name_of L.all blanks }
         ensures none { result.0 ≡ none }
         ensures all { result.1.shares ≡ record { parts = L.all; amounts = none } }
-        ensures fresh { (result.1.newest ≡ None) × (result.1.before ≡ None) }
+        ensures fresh { (result.1.newest ≡ None) × (result.1.before ≡ None) × (result.1.closes ≡ 0) × (result.1.destroys ≡ 0) }
     {
         let (books, shares) = blanks.open::<L>();
         let session = Session {
             shares,
             newest: None,
             before: None,
+            closes: 0,
+            destroys: 0,
         };
         (books, session)
-    }
-
-    /// What it asked last and before that, each with the reply, newest first.
-    pub fn last(&self) -> [Option<Brief>; 2]
-        ensures { result ≡ self.now.newest ∷ self.now.before ∷ [] }
-    {
-        [self.newest, self.before]
-    }
-
-    /// How many steps of each kind were noted with it, in the order of the kinds; 2^64 - 1 stands for all numbers above.
-    pub fn tally(&self) -> [u64; 8]
-        ensures { result ≡ listed (shown self.now.shares.amounts) }
-    {
-        self.shares.tally()
-    }
-
-    /// How many parts of the book it has.
-    pub fn parts(&self) -> u64
-        ensures { result ≡ self.now.shares.parts }
-    {
-        self.shares.parts()
     }
 
     /// Gives so many parts away, and no briefs.
@@ -102,7 +89,8 @@ impl<L: Kinds> Session<L> {
         requires some { 0 < parts }
         requires fewer { parts < self.old.shares.parts }
         ensures given { result.shares ≡ record { parts = parts; amounts = none } }
-        ensures fresh { (result.newest ≡ None) × (result.before ≡ None) }
+        ensures fresh { (result.newest ≡ None) × (result.before ≡ None) × (result.closes ≡ 0) × (result.destroys ≡ 0) }
+        ensures ends { (self.new.closes ≡ self.old.closes) × (self.new.destroys ≡ self.old.destroys) }
         ensures left { (self.new.shares.parts + parts ≡ self.old.shares.parts) × (self.new.shares.amounts ≡ self.old.shares.amounts) }
         ensures briefs { (self.new.newest ≡ self.old.newest) × (self.new.before ≡ self.old.before) }
     {
@@ -111,6 +99,8 @@ impl<L: Kinds> Session<L> {
             shares,
             newest: None,
             before: None,
+            closes: 0,
+            destroys: 0,
         }
     }
 
@@ -118,22 +108,35 @@ impl<L: Kinds> Session<L> {
     pub fn join(&mut self, other: Session<L>)
         ensures shares { self.new.shares ≡ record { parts = self.old.shares.parts + other.shares.parts; amounts = both self.old.shares.amounts other.shares.amounts } }
         ensures briefs { (self.new.newest ≡ self.old.newest) × (self.new.before ≡ self.old.before) }
+        ensures ends { (self.new.closes ≡ saturated (self.old.closes + other.closes)) × (self.new.destroys ≡ saturated (self.old.destroys + other.destroys)) }
+        ensures none { (other.closes ≡ 0 → self.new.closes ≡ self.old.closes) × (other.destroys ≡ 0 → self.new.destroys ≡ self.old.destroys) }
     {
         let Session {
             shares,
             newest: _,
             before: _,
+            closes,
+            destroys,
         } = other;
         self.shares.merge(shares);
+        self.closes = self.closes.saturating_add(closes);
+        self.destroys = self.destroys.saturating_add(destroys);
     }
 
     // The newest brief is this one. `Locked::step` alone may write one, so that a session never names a step that wasn't made.
     fn note(&mut self, brief: Brief)
         ensures noted { (self.new.newest ≡ Some brief) × (self.new.before ≡ self.old.newest) }
         ensures shares { self.new.shares ≡ self.old.shares }
+        ensures ends { CountsEnds self.old self.new brief.step }
     {
         self.before = self.newest;
         self.newest = Some(brief);
+        if brief.step.is_close() {
+            self.closes = self.closes.saturating_add(1);
+        }
+        if brief.step.is_destroy() {
+            self.destroys = self.destroys.saturating_add(1);
+        }
     }
 }
 
@@ -215,6 +218,8 @@ where
 {
     noted: NotedCore<L, K, V, P, A, N>,
     env: Env<E, C>,
+    // How it was opened.
+    mode: RecoverMode,
 }
 
 // Written out, so that it is proved once.
@@ -230,7 +235,11 @@ where
     N: Noting,
 {
     fn drop(self) {
-        let Locked { noted: _, env: _ } = self;
+        let Locked {
+            noted: _,
+            env: _,
+            mode: _,
+        } = self;
     }
 }
 
@@ -296,7 +305,7 @@ where
     ghost use Rattle.foyer_block_recover.specs.declared.block.recover.RecoverMode.TheVariants as recover_mode;
     ghost use Rattle.foyer_core_steps.specs.Sizes.{AreValid, sizes_in};
     ghost use Rattle.foyer_block_manager.specs.Shown.{evictable_below};
-    ghost use Rattle.foyer_core_shared.specs.Briefs.{brief_of};
+    ghost use Rattle.foyer_core_shared.specs.Briefs.{brief_of, step_brief};
     ghost use Rattle.foyer_core_shared.specs.Chunks.{all_of};
     ghost use Rattle.foyer_core_shared.specs.History.{BeginAlike, BeginsWith, IsLegal, Made};
     ghost use Rattle.foyer_core_shared.specs.Replies.{may_reply};
@@ -326,8 +335,10 @@ where
             settings bytes (sure_of (sizes_in settings) listings.slots.items failed
             (SurelyCame (D.surely_has disk.old) (D.surely_lies disk.old) (D.faults disk.old) (D.faults disk.new))) mode (marks_of marks.now)
             ((mode ≡ recover_mode.None) ⊎ D.is_known disk.old) r.0.noted.core) }
+        ensures mode { IfOk result (λ r. r.0.mode ≡ mode) }
         ensures fresh { IfOk result (λ r. (r.0.noted.calls ≡ none) × (r.0.noted.notes ≡ notes_at_first N.keeps)) }
         ensures session { IfOk result (λ r. (r.1.shares ≡ record { parts = L.all; amounts = none }) × (r.1.newest ≡ None) × (r.1.before ≡ None)) }
+        ensures ends { IfOk result (λ r. (r.1.closes ≡ 0) × (r.1.destroys ≡ 0)) }
         ensures shown { IfOk result (λ r. HaveLearned E.begins E.learns settings.blocks settings.block_size
             (evictable_below r.0.noted.core.manager.blocks (length r.0.noted.core.manager.blocks)) env.pickers.items r.0.env.pickers.items) }
         ensures lent { IfOk result (λ r. (r.0.env.reinsertion ≡ env.reinsertion) × (r.0.env.io ≡ env.io)) }
@@ -356,13 +367,22 @@ where
             calls,
             noting: PhantomData,
         };
-        let locked = Locked { noted, env };
+        let locked = Locked { noted, env, mode };
         let session = Session {
             shares,
             newest: None,
             before: None,
+            closes: 0,
+            destroys: 0,
         };
         Ok((locked, session))
+    }
+
+    /// The mode in which it was opened.
+    pub fn recover_mode(&self) -> RecoverMode
+        ensures { result ≡ self.now.mode }
+    {
+        self.mode
     }
 
     /// Applies a step as `Core::apply` does, notes it, and counts it with the session's shares, as one of its kind; the session's
@@ -399,6 +419,7 @@ where
         ensures lent { (self.new.env.reinsertion ≡ self.old.env.reinsertion) × OnOk result (self.new.env.io ≡ io) }
         ensures noted { IfOk result (λ answer. (self.new.noted.notes ≡ and_note (brief_of step answer) self.old.noted.notes)
             × (session.new.newest ≡ Some (brief_of step answer)) × (session.new.before ≡ session.old.newest)) }
+        ensures ends { OnOk result (CountsEnds session.old session.new (step_brief step)) }
         ensures counted { IfOk result (λ answer. (self.new.noted.calls ≡ grown (kind_of (brief_of step answer)) self.old.noted.calls)
             × (session.new.shares ≡ record { parts = session.old.shares.parts; amounts = grown (kind_of (brief_of step answer)) session.old.shares.amounts })) }
         ensures roomless { IfErr result (λ given. (given ≡ step) × (session.new ≡ session.old) × (N.keeps ≡ true)
@@ -452,7 +473,7 @@ where
         ensures count { self.new.noted.calls ≡ all.new.shares.amounts }
         ensures notes { ForSome self.new.noted.notes (λ notes. tallied notes ≡ all.new.shares.amounts) }
         ensures same { (self.new.noted ≡ self.old.noted) × (self.new.env ≡ self.old.env) }
-        ensures session { (all.new.shares ≡ all.old.shares) × (all.new.newest ≡ all.old.newest) × (all.new.before ≡ all.old.before) }
+        ensures session { all.new ≡ all.old }
     {
         self.noted.calls.audit(&mut all.shares);
     }

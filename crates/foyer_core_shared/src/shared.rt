@@ -15,6 +15,7 @@ use crate::notes::Noting;
 use crate::session::Session;
 use foyer_block_manager::block::eviction::EvictionPicker;
 use foyer_core_steps::load::Judged;
+use foyer_core_steps::open::RecoverMode;
 use foyer_core_steps::reply::Reply;
 use foyer_core_steps::step::{Step, Ticket};
 use foyer_core_tally::book::Kinds;
@@ -38,6 +39,7 @@ where
     C: StorageFilterCondition,
     N: Noting,
 {
+    mode: RecoverMode,
     inside: Mutex<Locked<L, K, V, P, A, E, C, N>>,
 }
 
@@ -54,7 +56,7 @@ where
     N: Noting,
 {
     fn drop(self) {
-        let Shared { inside: _ } = self;
+        let Shared { mode: _, inside: _ } = self;
     }
 }
 
@@ -70,10 +72,20 @@ where
     N: Noting,
 {
     /// An opened core behind its lock (`Locked::open`), before its first step.
-    pub fn new(locked: Locked<L, K, V, P, A, E, C, N>) -> Shared<L, K, V, P, A, E, C, N> {
+    pub fn new(locked: Locked<L, K, V, P, A, E, C, N>) -> Shared<L, K, V, P, A, E, C, N>
+        ensures { result.mode ≡ locked.mode }
+    {
         Shared {
+            mode: locked.recover_mode(),
             inside: Mutex::new(locked),
         }
+    }
+
+    /// The mode in which the core was opened.
+    pub fn recover_mode(&self) -> RecoverMode
+        ensures { result ≡ self.now.mode }
+    {
+        self.mode
     }
 
     /// One step, under the lock; a filter that is asked is shown `io`. The session's newest brief is then that of this step and of
@@ -143,9 +155,9 @@ where
         requires { all.old.shares.parts ≡ L.all }
         ensures count { result.noted.calls ≡ all.new.shares.amounts }
         ensures notes { ForSome result.noted.notes (λ notes. tallied notes ≡ all.new.shares.amounts) }
-        ensures session { (all.new.shares ≡ all.old.shares) × (all.new.newest ≡ all.old.newest) × (all.new.before ≡ all.old.before) }
+        ensures session { all.new ≡ all.old }
     {
-        let Shared { inside } = self;
+        let Shared { mode: _, inside } = self;
         let mut locked = inside.into_inner();
         locked.audit(all);
         locked

@@ -1,5 +1,5 @@
 -- What a call did, by what its steps and accesses say.
-use Rattle.std.proofs.Common.{◌≡◌, ◌⊎◌, inl, inr, ℕ, Bool, true, false, [], ◌∷◌, ◌++◌, Result, sym, ap, ◌∙◌, subst, is_ok}
+use Rattle.std.proofs.Common.{◌≡◌, ◌⊎◌, inl, inr, ℕ, suc, Bool, true, false, [], ◌∷◌, ◌++◌, Result, sym, ap, ◌∙◌, subst, is_ok}
 use Rattle.foyer_device_page.specs.declared.error.Error.{Error}
 use Rattle.foyer_device_page.specs.declared.error.ErrorKind.TheVariants as kind
 use Rattle.foyer_core_chronicle.specs.declared.View.{View}
@@ -14,6 +14,7 @@ use Rattle.foyer_core_model.specs.World.{World, MayAllHappen}
 use Rattle.foyer_core_rights.specs.Deeds as deeds
 use Rattle.foyer_core_rights.specs.Deeds.{Deed, events_in}
 use Rattle.foyer_core_shared.specs.Briefed.{IsNotedIn}
+use Rattle.foyer_core_shared.specs.Replies.{may_reply, is_look_up_reply}
 use Rattle.foyer_core_shared.specs.Sessions.{SessionState}
 use Rattle.foyer_core_steps.specs.Asked.{step_of, went_well}
 use Rattle.foyer_core_steps.specs.Replied.{IsReply}
@@ -21,6 +22,7 @@ use Rattle.foyer_core_steps.specs.declared.reply.Reply.{Reply}
 use Rattle.foyer_core_steps.specs.declared.reply.Reply.TheVariants as replies
 use Rattle.foyer_core_steps.specs.declared.step.Step.{Step}
 use Rattle.foyer_core_steps.specs.declared.step.Step.TheVariants as steps
+use Rattle.foyer_core_steps.specs.declared.step.Ticket.{Ticket}
 use Rattle.foyer_core_told.specs.declared.event.Told.{Told}
 use Rattle.foyer_core_told.specs.declared.event.Told.TheVariants as told
 use Rattle.foyer_core_told.specs.ToldRuns.{Tells, IsTold}
@@ -28,7 +30,9 @@ use Rattle.foyer_core_told.specs.ToldLoads.{is_read}
 use Rattle.foyer_core_told.specs.Telling.{IsStep, HasStepped}
 use Rattle.foyer_core_told.proofs.ToldStepLemmas.{run_split}
 use Rattle.foyer_core_told.proofs.TellingLemmas.{not_empty}
-use Rattle.foyer_core_threads.specs.Done.{IsMade, IsNoted, HasLoaded, IsLoadNoted}
+use Rattle.std.specs.declared.vec.Vec.{Vec}
+use Rattle.foyer_core_threads.specs.Asking.{IsLoadReply}
+use Rattle.foyer_core_threads.specs.Done.{AreNoted, IsMade, IsNoted, HasLoaded, IsLoadNoted}
 use Rattle.foyer_core_threads.proofs.LoadLemmas.{opens_no_step}
 use Rattle.foyer_core_threads.proofs.WriteLemmas.{well_is, next_went_well}
 
@@ -89,3 +93,31 @@ only_looked m byte_at mine after h throttled asked answer keeps made back unread
 pub noted_look_up : {K V P A : Type 0} (old new : SessionState) (h : ℕ) (throttled : Bool) (asked answer : Reply K V P A) (keeps : Bool)
     → IsNoted keeps old new (steps.LoadBegin h throttled) asked → answer ≡ asked → IsLoadNoted keeps old new h throttled answer
 noted_look_up old new h throttled asked answer keeps noted back = subst (λ r. IsLoadNoted keeps old new h throttled r) (sym back) (inl noted)
+
+-- what a look-up is replied, and the end of a load
+pub look_up_replied : {K V P A : Type 0} (h : ℕ) (throttled : Bool) (asked answer : Reply K V P A) (keeps : Bool)
+    → (may_reply {K = K} {V = V} {P = P} {A = A} (steps.LoadBegin h throttled) asked ≡ true) ⊎ ((keeps ≡ true) × (asked ≡ replies.Refused kind.Memory (steps.LoadBegin h throttled)))
+    → answer ≡ asked → IsLoadReply keeps throttled answer
+look_up_replied h throttled asked answer keeps (inl may) same = inl (ap (is_look_up_reply throttled) same ∙ may)
+look_up_replied h throttled asked answer keeps (inr none) same = inr (inr (none.0, (steps.LoadBegin h throttled, same ∙ none.1)))
+
+pub end_replied : {K V P A : Type 0} (throttled : Bool) (ticket : Ticket) (outcome : Result (Vec ℕ A) Error) (answer : Reply K V P A) (keeps : Bool)
+    → (may_reply {K = K} {V = V} {P = P} {A = A} (steps.LoadEnd ticket outcome) answer ≡ true) ⊎ ((keeps ≡ true) × (answer ≡ replies.Refused kind.Memory (steps.LoadEnd ticket outcome)))
+    → IsLoadReply keeps throttled answer
+end_replied throttled ticket outcome answer keeps (inl may) = inr (inl (went_well outcome, may))
+end_replied throttled ticket outcome answer keeps (inr none) = inr (inr (none.0, (steps.LoadEnd ticket outcome, none.1)))
+
+-- one refusal more
+pub noted_more : {K V P A : Type 0} (old from new : SessionState) (step given back : Step K V P A) (answer : Reply K V P A) (keeps : Bool) (times : ℕ) (Same : Type 0) → (Same → new ≡ from)
+    → IsNotedIn from new given answer ⊎ ((keeps ≡ true) × (answer ≡ replies.Refused kind.Memory given) × Same) → answer ≡ replies.Refused kind.Memory back → given ≡ step → back ≡ step
+    → AreNoted keeps times old from step → (more : ℕ) × AreNoted keeps more old new step
+noted_more {K = K} {V = V} {P = P} {A = A} old from new step given back answer keeps times Same seen noted is is_step is_back before =
+    let one : IsNoted keeps from new given answer = noted_of from new given answer keeps Same seen noted in
+    (suc times, (from, before, subst (λ (x : Step K V P A × Reply K V P A). IsNoted keeps from new x.0 x.1) (λ i. (is_step i, (is ∙ ap (replies.Refused kind.Memory) is_back) i)) one))
+
+-- the note of a step that wasn't refused for want of memory
+pub noted_last : {K V P A : Type 0} {X Y : Type 0} (from new : SessionState) (step given : Step K V P A) (answer : Reply K V P A)
+    → IsNotedIn from new given answer ⊎ (X × (answer ≡ replies.Refused kind.Memory given) × Y) → given ≡ step → ((back : Step K V P A) → answer ≡ replies.Refused kind.Memory back → ⊥)
+    → IsNotedIn from new step answer
+noted_last from new step given answer (inl noted) is other = subst (λ x. IsNotedIn from new x answer) is noted
+noted_last from new step given answer (inr none) is other = absurd (other given none.1)

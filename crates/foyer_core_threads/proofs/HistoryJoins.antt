@@ -9,7 +9,7 @@ use Rattle.foyer_core_model.specs.Ids.{ids}
 use Rattle.foyer_core_laws.specs.Content.{Meaning}
 use Rattle.foyer_core_told.specs.declared.event.Told.{Told}
 use Rattle.foyer_core_told.specs.ToldRuns.{IsTold}
-use Rattle.foyer_core_told.specs.ToldRights.{disk_right, rights_count, ticket_right, writes_right, takes}
+use Rattle.foyer_core_told.specs.ToldRights.{clean_right, disk_right, rights_count, scan_right, ticket_right, writes_right, takes}
 use Rattle.foyer_core_told.proofs.ToldRightLemmas.{same_self}
 use Rattle.foyer_core_threads.specs.Sessions.{HasJoined}
 
@@ -59,6 +59,12 @@ ticket_above n = omega arith
 
 pub writes_above : (f : ℕ) → disk_right < writes_right f
 writes_above f = omega arith
+
+pub cleans_above : (b : ℕ) → disk_right < clean_right b
+cleans_above b = omega arith
+
+pub scans_above : (b : ℕ) → disk_right < scan_right b
+scans_above b = omega arith
 
 -- two sessions that came together
 pub both_seen : {K V P A D : Type 0} (m : Meaning K V P) (byte_at : D → ℕ → ℕ → ℕ) (mine other both after : View (Told K V P A D)) → both ≡ joined mine other → SeesAll (IsTold m byte_at) takes both after

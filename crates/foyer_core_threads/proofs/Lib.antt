@@ -4,4 +4,8 @@ pub mod PlainSteps
 pub mod LoadLemmas
 pub mod WriteLemmas
 pub mod DoneLemmas
+pub mod ReclaimLemmas
+pub mod GoingLemmas
+pub mod AgainLemmas
+pub mod DestroyLemmas
 pub mod Sent

@@ -14,6 +14,7 @@ use Rattle.foyer_core_told.specs.declared.event.Told.{Told}
 use Rattle.foyer_core_told.specs.ToldRights.{step_takes}
 use Rattle.foyer_core_told.specs.Telling.{BringsTrue}
 use Rattle.foyer_core_threads.specs.Asking.{IsPlain}
+use Rattle.foyer_core_threads.specs.Going.{IsRepeatable}
 
 -- what can be encoded is encoded as its codes say
 abbrev pub Encodes : {K V P : Type 0} → Meaning K V P → Type 0
@@ -55,3 +56,8 @@ plain_takes (steps.ReclaimRead block outcome) k plain taken = plain
 plain_takes (steps.ReclaimCleaned block outcome) k plain taken = plain
 plain_takes (steps.DestroyCleaned block outcome) k plain taken = plain
 plain_takes step k plain taken = true≢false (sym taken)
+
+-- and it may be made again
+pub plain_repeats : {K V P A : Type 0} (step : Step K V P A) → IsPlain step → IsRepeatable step
+plain_repeats (steps.LoadEnd ticket outcome) plain = plain
+plain_repeats step plain = tt

@@ -4,7 +4,7 @@ use denote.Param.Send.{IsSend, IsSync, Frees, sendable, recorded_send, recorded_
 use denote.Struct.Declared.{shape}
 use denote.Builtin.{u8}
 use Rattle.std.proofs.vec.Vec.TheSendSync.{the_send as vec_send}
-use Rattle.std.proofs.sync.Mutex.TheSendSync.{the_sync as mutex_sync}
+use Rattle.std.proofs.sync.Mutex.TheSendSync.{the_send as mutex_send, the_sync as mutex_sync}
 use Rattle.atomic_table.proofs.shared.Seat.TheSendSync.{the_send as seat_send}
 use Rattle.std.specs.declared.alloc.Allocator.{Ghosts as Allocators}
 use Rattle.foyer_format_record.specs.declared.serde.Code.{Ghosts as Codes}
@@ -13,7 +13,7 @@ use Rattle.foyer_io_disk.specs.declared.disk.Disk.{Ghosts as Disks}
 use Rattle.foyer_block_manager.specs.declared.block.eviction.EvictionPicker.{Ghosts as Pickers}
 use Rattle.foyer_policy_filter.specs.declared.filter.StorageFilterCondition.{Ghosts as Conditions}
 use Rattle.foyer_core_chronicle.specs.contracts.View.{the_row as view_row}
-use Rattle.foyer_core_chronicle.proofs.Chronicle.TheSendSync.{the_field_sync as chronicle_sync}
+use Rattle.foyer_core_chronicle.proofs.Chronicle.TheSendSync.{the_field_send as chronicle_send, the_field_sync as chronicle_sync}
 use Rattle.foyer_core_shared.proofs.locked.Locked.TheSendSync.{the_field_send as locked_send}
 use Rattle.foyer_core_shared.proofs.locked.Session.TheSendSync.{the_send as session_part_send}
 use Rattle.foyer_core_shared.specs.declared.notes.Noting.{Ghosts as Notings}
@@ -68,5 +68,18 @@ shared_sync H L K V P A E C N D j e c n l k v p a d j_sent k_sent v_sent p_sent 
       (
         mutex_sync _ (core_send H L K V P A E C N D j l k v p a e c n d j_sent k_sent v_sent p_sent a_sent e_sent c_sent k_used v_used p_used a_used free),
         (mutex_sync _ (disk_send H K V P A D j k v p a d j_sent a_sent d_sent free), tt),
+      ),
+    ))
+
+pub shared_send : (H L K V P A E C N D : RattleType) (j : HistoryNames H.Denot) (e : Pickers E.Denot) (c : Conditions C.Denot) (n : Notings N.Denot) (l : KindsOf L.Denot) (k : Codes K.Denot A.Denot)
+    (v : Codes V.Denot A.Denot) (p : PropertiesOf P.Denot) (a : Allocators A.Denot) (d : Disks D.Denot)
+    → IsSend H → IsSend K → IsSend V → IsSend P → IsSend A → IsSend E → IsSend C → IsSend D → IsSync K → IsSync V → IsSync P → IsSync A → Frees {D = A.Denot} {G = Allocators A.Denot} a a.dealloc_token
+    → IsSend (shared_row H L K V P A E C N D j e c n l k v p a d)
+shared_send H L K V P A E C N D j e c n l k v p a d j_sent k_sent v_sent p_sent a_sent e_sent c_sent d_sent k_used v_used p_used a_used free =
+    recorded_send _ _ _ (shared_type H L K V P A E C N D j e c n l k v p a d).to_one (struct_send (shape (shared_type H L K V P A E C N D j e c n l k v p a d)) (
+      chronicle_send (told_row K V P A D a) (rule_row K V P A D) (ghosts K V P A D k no_dict v no_dict p no_dict a no_dict d no_dict no_dict) (told_send K V P A D a),
+      (
+        mutex_send _ (core_send H L K V P A E C N D j l k v p a e c n d j_sent k_sent v_sent p_sent a_sent e_sent c_sent k_used v_used p_used a_used free),
+        (mutex_send _ (disk_send H K V P A D j k v p a d j_sent a_sent d_sent free), tt),
       ),
     ))

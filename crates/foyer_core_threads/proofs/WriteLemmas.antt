@@ -133,12 +133,6 @@ module _ {K V P A D : Type 0} (m : Meaning K V P) (byte_at : D → ℕ → ℕ �
       go [] same = tt
       go (w ∷ ws) same = writes_issued mine after f block n writes w ws (stepped_as m byte_at mine after (steps.FlushBlock f) answer (replies.Write block writes) n told is (λ back clash. let e : replies.Write block writes ≡ replies.Refused kind.Memory back = clash in cc)) same
 
-  pub next_as : {X Y : Type 0} (mine after : View (Told K V P A D)) (f n : ℕ) (answer : Reply K V P A) (outcome : Result Unit Error)
-      → HasStepped m byte_at mine after (steps.FlushWrote f outcome) answer n ⊎ (X × (answer ≡ replies.Refused kind.Memory (steps.FlushWrote f outcome)) × Y) → answer ≡ replies.Next
-      → HasStepped m byte_at mine after (steps.FlushWrote f outcome) replies.Next n
-  next_as mine after f n answer outcome told is =
-      stepped_as m byte_at mine after (steps.FlushWrote f outcome) answer replies.Next n told is (λ back clash. let e : replies.Next ≡ replies.Refused kind.Memory back = clash in cc)
-
   -- the next one of a list
   pub next_of : (log : List (Told K V P A D)) (f block : ℕ) (items : List (CoreWrite A)) (i : ℕ) (x : CoreWrite A) → slice_get items i ≡ Some x → AreToWrite m byte_at log f block (map write_of (drop i items))
       → HasWrites m byte_at log f block [] (write_of x ∷ map write_of (drop (i + 1) items))

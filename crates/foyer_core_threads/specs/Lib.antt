@@ -1,4 +1,5 @@
 pub mod Sessions
 pub mod Asking
+pub mod Going
 pub mod Newest
 pub mod Done

@@ -215,4 +215,9 @@ where
         );
         Ok((reply, spare))
     }
+
+    /// Whether so much is queued that another piece isn't taken, as `Core::is_full` says.
+    pub fn is_full(&self) -> bool {
+        self.locked.core().is_full()
+    }
 }

@@ -2,6 +2,7 @@
 ghost use Rattle.std.specs.Prelude.{◌≡◌, ◌+◌, ◌<◌, []};
 ghost use Rattle.foyer_core_chronicle.specs.SharedHistory.{viewer};
 ghost use Rattle.foyer_core_laws.specs.Content.{meaning};
+ghost use Rattle.foyer_core_threads.specs.Going.{GoesOn};
 ghost use Rattle.foyer_core_threads.specs.Sessions.{HasJoined};
 ghost use Rattle.foyer_core_tally.specs.Tally.{none};
 
@@ -89,6 +90,24 @@ where
         let ToldSession { session, witness } = other;
         self.session.join(session);
         history.take(&mut self.witness, witness);
+        history.look(&mut self.witness);
+    }
+
+    /// Sees what another session has seen, and whatever else was added to the history until then.
+    pub fn see(
+        &mut self,
+        history: &ToldHistory<K, V, P, A, D>,
+        other: &mut ToldSession<L, K, V, P, A, D>,
+    )
+        requires own { (self.old.witness.table_id ≡ history.now.table.shared.table_id) × (other.old.witness.table_id ≡ history.now.table.shared.table_id) }
+        requires whole { self.old.witness.me.1 ≡ [] }
+        ensures same { (self.new.witness.table_id ≡ self.old.witness.table_id) × (self.new.witness.me.1 ≡ []) × (self.new.session ≡ self.old.session) }
+        ensures other { (other.new.witness.table_id ≡ other.old.witness.table_id) × (other.new.witness.me ≡ other.old.witness.me) × (other.new.session ≡ other.old.session) }
+        ensures joined { HasJoined (meaning K.encoding V.encoding K.is_encodable V.is_encodable K.is_decodable V.is_decodable P.age) D.byte_at self.old.witness.me.0 (viewer other.old.witness.me.0.seen []) self.new.witness.me.0 }
+        ensures on { GoesOn (meaning K.encoding V.encoding K.is_encodable V.is_encodable K.is_decodable V.is_decodable P.age) D.byte_at self.old.witness.me.0 self.new.witness.me.0 }
+    {
+        let seen = history.give_seen(&mut other.witness);
+        history.take(&mut self.witness, seen);
         history.look(&mut self.witness);
     }
 }

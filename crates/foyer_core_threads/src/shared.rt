@@ -14,10 +14,14 @@ ghost use Rattle.foyer_device_page.specs.declared.error.ErrorKind.TheVariants as
 ghost use Rattle.foyer_core_told.specs.ToldRights.{disk_right, rights_count, step_takes};
 ghost use Rattle.foyer_core_told.specs.ToldSteps.{IsOpeningOf};
 ghost use Rattle.foyer_core_told.specs.Telling.{BringsTrue, HasStepped, WasOpened};
-ghost use Rattle.foyer_core_threads.specs.Asking.{IsPlain};
+ghost use Rattle.foyer_core_threads.specs.Asking.{HasSizes, IsPlain};
+ghost use Rattle.foyer_core_threads.specs.Going.{GoesOn};
 
+mod again;
+mod destroy;
 mod load;
 mod opening;
+mod reclaim;
 mod write;
 
 use crate::locked::ToldCore;
@@ -150,6 +154,7 @@ where
         ensures session { result.1.session ≡ session }
         ensures whole { (result.1.witness.table_id ≡ J.table) × (result.1.witness.me.1 ≡ []) }
         ensures seen { (e : _) × IsOpeningOf locked.noted.core disk e × (result.1.witness.me.0.seen ≡ e ∷ []) }
+        ensures sizes { HasSizes (meaning K.encoding V.encoding K.is_encodable V.is_encodable K.is_decodable V.is_decodable P.age) D.byte_at result.1.witness.me.0.seen locked.noted.core.settings }
         ensures rights { (k : ℕ) → disk_right < k → k < rights_count → 0 < times k result.1.witness.me.0.has }
     {
         let mut own = witness;
@@ -189,6 +194,7 @@ where
         requires rights { (k : ℕ) → step_takes step k ≡ true → 0 < times k session.old.witness.me.0.has }
         requires brings { BringsTrue (meaning K.encoding V.encoding K.is_encodable V.is_encodable K.is_decodable V.is_decodable P.age) D.byte_at session.old.witness.me.0 step }
         ensures mine { (session.new.witness.table_id ≡ J.table) × (session.new.witness.me.1 ≡ []) }
+        ensures on { GoesOn (meaning K.encoding V.encoding K.is_encodable V.is_encodable K.is_decodable V.is_decodable P.age) D.byte_at session.old.witness.me.0 session.new.witness.me.0 }
         ensures told { HasStepped (meaning K.encoding V.encoding K.is_encodable V.is_encodable K.is_decodable V.is_decodable P.age) D.byte_at session.old.witness.me.0 session.new.witness.me.0 step result.0 result.1
             ⊎ ((N.keeps ≡ true) × (result.0 ≡ reply.Refused kind.Memory step) × (session.new ≡ session.old)) }
         ensures answer { IsAnswer K.is_decodable V.is_decodable K.encoding V.encoding step result.0 }
@@ -203,6 +209,11 @@ where
         }
     }
 
+    /// Whether so much is queued just then that another piece isn't taken. No clause says it: who is answered so may only look, and decide.
+    pub fn is_full(&self, rt: &impl Wait) -> bool {
+        lock_spinning(&self.core, rt).is_full()
+    }
+
     /// One step that takes no right and brings no outcome of an access, as `step` does.
     pub fn ask(
         &self,
@@ -215,6 +226,7 @@ where
         requires part { 0 < session.old.session.shares.parts }
         requires plain { IsPlain step }
         ensures mine { (session.new.witness.table_id ≡ J.table) × (session.new.witness.me.1 ≡ []) }
+        ensures on { GoesOn (meaning K.encoding V.encoding K.is_encodable V.is_encodable K.is_decodable V.is_decodable P.age) D.byte_at session.old.witness.me.0 session.new.witness.me.0 }
         ensures told { HasStepped (meaning K.encoding V.encoding K.is_encodable V.is_encodable K.is_decodable V.is_decodable P.age) D.byte_at session.old.witness.me.0 session.new.witness.me.0 step result.0 result.1
             ⊎ ((N.keeps ≡ true) × (result.0 ≡ reply.Refused kind.Memory step) × (session.new ≡ session.old)) }
         ensures answer { IsAnswer K.is_decodable V.is_decodable K.encoding V.encoding step result.0 }
@@ -240,6 +252,7 @@ where
         requires part { 0 < session.old.session.shares.parts }
         requires brings { BringsTrue (meaning K.encoding V.encoding K.is_encodable V.is_encodable K.is_decodable V.is_decodable P.age) D.byte_at session.old.witness.me.0 (steps.LoadEnd ticket outcome) }
         ensures mine { (session.new.witness.table_id ≡ J.table) × (session.new.witness.me.1 ≡ []) }
+        ensures on { GoesOn (meaning K.encoding V.encoding K.is_encodable V.is_encodable K.is_decodable V.is_decodable P.age) D.byte_at session.old.witness.me.0 session.new.witness.me.0 }
         ensures told { ((n : ℕ) × HasStepped (meaning K.encoding V.encoding K.is_encodable V.is_encodable K.is_decodable V.is_decodable P.age) D.byte_at session.old.witness.me.0 session.new.witness.me.0 (steps.LoadEnd ticket outcome) result.0 n)
             ⊎ ((N.keeps ≡ true) × (result.0 ≡ reply.Refused kind.Memory (steps.LoadEnd ticket outcome)) × (session.new ≡ session.old)) }
         ensures answer { IsAnswer K.is_decodable V.is_decodable K.encoding V.encoding (steps.LoadEnd ticket outcome) result.0 }

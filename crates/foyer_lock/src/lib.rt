@@ -4,9 +4,10 @@
 use std::hint::spin_loop;
 use std::sync::{Mutex, MutexGuard, Wait};
 
-/// How often a thread looks for what another brings about shortly, with a `pause_shortly` between, before it sleeps for it: for about
-/// as long as it takes to sleep and to be woken, 10 to 25 microseconds.
-pub const LOOKS: u32 = 100;
+/// How often a thread looks for what another brings about shortly, with a `pause_shortly` between, before it sleeps for it: for 100 to 250
+/// microseconds. Chosen by measurement: against 100 looks, four threads that read through one I/O engine got twice as many records. On one
+/// processor nothing was lost.
+pub const LOOKS: u32 = 1000;
 
 // How often a processor pauses between two looks.
 const PAUSES: u32 = 4;

@@ -1,7 +1,13 @@
 //! The answers to requests, by a store.
+ghost use Rattle.std.specs.Prelude.{◌≡◌, ◌⊎◌, Bool, Result, IfOk};
+ghost use Rattle.std.specs.Arc.{arc_value};
+ghost use Rattle.foyer_device_page.specs.declared.error.Error.{Error};
+ghost use Rattle.foyer_frames.specs.declared.kind.Kind.TheVariants as kind;
 ghost use Rattle.foyer_format_checksum.specs.Xxh64.{xxh64};
+ghost use Rattle.foyer_pipe.specs.Keys.{seeded_key};
+ghost use Rattle.foyer_pipe.specs.Codes.{done_code, get_bytes, get_code, put_code, whether_code};
 
-use crate::codes::{DELETED, DONE, ENTRY, IGNORED, MISS, NO, THROTTLED, YES};
+use crate::codes::{DELETED, DONE, ENTRY, IGNORED, MISS, NO, THROTTLED, YES, error_code};
 use crate::readers::{Get, Gets};
 use crate::replies::Replies;
 use foyer_device_page::error::Result;
@@ -36,30 +42,82 @@ impl HashBuilder<Bytes> for BytesHashBuilder {
 /// What a store of the program is.
 pub(crate) type Cache<N> = Store<N, Bytes, Bytes, NoProperties, BytesHashBuilder>;
 
+// The code of the answer to a put.
+fn put_code(put: &Result<Enqueued>) -> u8
+    ensures { result ≡ put_code put.now }
+{
+    match put {
+        Ok(Enqueued::Queued) => DONE,
+        Ok(Enqueued::Ignored) => IGNORED,
+        Ok(Enqueued::Deleted) => DELETED,
+        Err(error) => error_code(error.kind()),
+    }
+}
+
+// The code of the answer to a delete, a wait, a destroy or a close.
+fn done_code(done: &Result<()>) -> u8
+    ensures { result ≡ done_code done.now }
+{
+    match done {
+        Ok(()) => DONE,
+        Err(error) => error_code(error.kind()),
+    }
+}
+
+// The code of the answer to a question.
+fn whether_code(has: &Result<bool>) -> u8
+    ensures { result ≡ whether_code has.now }
+{
+    match has {
+        Ok(true) => YES,
+        Ok(false) => NO,
+        Err(error) => error_code(error.kind()),
+    }
+}
+
+// What stands for an answer in a reply.
+#[derive(Drop)]
+struct Coded<'a> {
+    code: u8,
+    bytes: &'a [u8],
+}
+
+// What stands for the answer to a get.
+fn encode_load(got: &Result<Load<Bytes, Bytes, NoProperties, Global>>) -> Coded<'_>
+    ensures code { result.code ≡ get_code got.now }
+    ensures bytes { result.bytes.now ≡ get_bytes got.now }
+{
+    match got {
+        Ok(Load::Entry { value, .. }) => Coded {
+            code: ENTRY,
+            bytes: value.as_slice(),
+        },
+        Ok(Load::Piece { piece, .. }) => Coded {
+            code: ENTRY,
+            bytes: piece.value().as_slice(),
+        },
+        Ok(Load::Miss) => Coded {
+            code: MISS,
+            bytes: &[],
+        },
+        Ok(Load::Throttled) => Coded {
+            code: THROTTLED,
+            bytes: &[],
+        },
+        Err(error) => Coded {
+            code: error_code(error.kind()),
+            bytes: &[],
+        },
+    }
+}
+
 fn reply_done<O: Write + Drop>(
     rt: &impl Wait,
     replies: &Replies<O>,
     number: u32,
     done: Result<()>,
 ) {
-    match done {
-        Ok(()) => replies.write(rt, number, DONE, &[]),
-        Err(error) => replies.write_error(rt, number, error),
-    }
-}
-
-fn reply_put<O: Write + Drop>(
-    rt: &impl Wait,
-    replies: &Replies<O>,
-    number: u32,
-    put: Result<Enqueued>,
-) {
-    match put {
-        Ok(Enqueued::Queued) => replies.write(rt, number, DONE, &[]),
-        Ok(Enqueued::Ignored) => replies.write(rt, number, IGNORED, &[]),
-        Ok(Enqueued::Deleted) => replies.write(rt, number, DELETED, &[]),
-        Err(error) => replies.write_error(rt, number, error),
-    }
+    replies.write(rt, number, done_code(&done), &[]);
 }
 
 fn reply_get<O: Write + Drop>(
@@ -68,36 +126,20 @@ fn reply_get<O: Write + Drop>(
     number: u32,
     got: Result<Load<Bytes, Bytes, NoProperties, Global>>,
 ) {
-    match got {
-        Ok(Load::Entry { value, .. }) => replies.write(rt, number, ENTRY, value.as_slice()),
-        Ok(Load::Piece { piece, .. }) => {
-            replies.write(rt, number, ENTRY, piece.value().as_slice());
-        }
-        Ok(Load::Miss) => replies.write(rt, number, MISS, &[]),
-        Ok(Load::Throttled) => replies.write(rt, number, THROTTLED, &[]),
-        Err(error) => replies.write_error(rt, number, error),
-    }
+    let coded = encode_load(&got);
+    replies.write(rt, number, coded.code, coded.bytes);
 }
 
-fn reply_whether<O: Write + Drop>(
-    rt: &impl Wait,
-    replies: &Replies<O>,
-    number: u32,
-    has: Result<bool>,
-) {
-    match has {
-        Ok(true) => replies.write(rt, number, YES, &[]),
-        Ok(false) => replies.write(rt, number, NO, &[]),
-        Err(error) => replies.write_error(rt, number, error),
-    }
-}
-
-fn bytes_of(alloc: Global, bytes: &[u8]) -> Result<Bytes> {
+fn bytes_of(alloc: Global, bytes: &[u8]) -> Result<Bytes>
+    ensures { IfOk result (λ kept. kept.items ≡ bytes.now) }
+{
     Ok(Vec::from_slice(alloc, bytes)?)
 }
 
 // A key as it is kept: behind the eight bytes of the seed, the lowest first, unless that is 0.
-fn key_of(alloc: Global, seed: u64, key: &[u8]) -> Result<Bytes> {
+fn key_of(alloc: Global, seed: u64, key: &[u8]) -> Result<Bytes>
+    ensures { IfOk result (λ kept. kept.items ≡ seeded_key seed key.now) }
+{
     if seed == 0 {
         return bytes_of(alloc, key);
     }
@@ -240,12 +282,17 @@ fn answer_keyed<S: Drop, N: Engine<S, Bytes, Bytes, NoProperties>, O: Write + Dr
     key: Bytes,
     now: u64,
     replies: &Replies<O>,
-) {
+)
+    ensures deletes { asked.entry.kind ≡ kind.Delete → (deleted : Result (Unit {0}) Error)
+        × N.may_delete (arc_value cache.now.shared).engine session.old session.new (xxh64 key.items) deleted }
+    ensures asks { asked.entry.kind ≡ kind.Contains → (session.new ≡ session.old)
+        ⊎ ((has : Result Bool Error) × N.may_ask (arc_value cache.now.shared).engine session.old session.new (xxh64 key.items) has) }
+{
     let number = asked.number;
     match asked.kind {
         Kind::Put => {
             let put = put(rt, alloc, cache, session, key, asked.value, now);
-            reply_put(rt, replies, number, put);
+            replies.write(rt, number, put_code(&put), &[]);
         }
         Kind::Delete => {
             let deleted = cache.delete(rt, session, &key);
@@ -253,7 +300,7 @@ fn answer_keyed<S: Drop, N: Engine<S, Bytes, Bytes, NoProperties>, O: Write + Dr
         }
         Kind::Contains => {
             let has = cache.may_contains(rt, session, &key);
-            reply_whether(rt, replies, number, has);
+            replies.write(rt, number, whether_code(&has), &[]);
         }
         _ => {
             let get = Get { number, key };

@@ -1,5 +1,6 @@
 //! The codes of replies.
 ghost use Rattle.std.specs.Prelude.{◌≡◌};
+ghost use Rattle.foyer_pipe.specs.Codes.{error_code, fault_code};
 
 use foyer_device_page::error::ErrorKind;
 use foyer_frames::request::Fault;
@@ -29,7 +30,9 @@ pub const YES: u8 = 6;
 pub const NO: u8 = 7;
 
 /// The code of an error: 64 and the kind's number, from 65 for `Io` to 77 for `SequenceEnd`.
-pub fn error_code(kind: ErrorKind) -> u8 {
+pub fn error_code(kind: ErrorKind) -> u8
+    ensures { result ≡ error_code kind }
+{
     match kind {
         ErrorKind::Io => 65,
         ErrorKind::Memory => 66,
@@ -48,7 +51,9 @@ pub fn error_code(kind: ErrorKind) -> u8 {
 }
 
 /// The code of a frame that is none, after which the program ends.
-pub fn fault_code(fault: Fault) -> u8 {
+pub fn fault_code(fault: Fault) -> u8
+    ensures { result ≡ fault_code fault }
+{
     match fault {
         Fault::Short => 128,
         Fault::UnknownKind => 129,

@@ -1,8 +1,13 @@
 //! Replies, which several threads write.
+ghost use Rattle.std.specs.Prelude.{◌≡◌, OnOk};
+ghost use Rattle.std.specs.Io.KnownBytes.{Appends};
+ghost use Rattle.foyer_frames.specs.Reply.{reply_bytes};
+
 use crate::codes::error_code;
 use foyer_device_page::error::Error;
 use foyer_frames::reply::Reply;
 use foyer_lock::lock_spinning;
+use std::io;
 use std::io::Write;
 use std::sync::atomic::{AtomicBool, Ordering};
 use std::sync::{Mutex, Wait};
@@ -24,6 +29,18 @@ impl<O: Write + Drop> Drop for Replies<O> {
     }
 }
 
+// Writes the frame of a reply.
+fn write_frame<O: Write>(output: &mut O, number: u32, code: u8, bytes: &[u8]) -> io::Result<()>
+    ensures { OnOk result (Appends (O.contents output.old) (O.contents output.new) (reply_bytes (record { number = number; code = code; bytes = bytes.now }))) }
+{
+    let reply = Reply {
+        number,
+        code,
+        bytes,
+    };
+    reply.write_to(output)
+}
+
 impl<O: Write + Drop> Replies<O> {
     /// Replies to this output, which has a buffer of its own.
     pub(crate) fn new(output: O) -> Replies<O> {
@@ -35,12 +52,7 @@ impl<O: Write + Drop> Replies<O> {
 
     /// Writes a reply. One that is longer than a frame can say is answered as `OutOfRange`.
     pub(crate) fn write(&self, rt: &impl Wait, number: u32, code: u8, bytes: &[u8]) {
-        let reply = Reply {
-            number,
-            code,
-            bytes,
-        };
-        let written = reply.write_to(&mut *lock_spinning(&self.output, rt));
+        let written = write_frame(&mut *lock_spinning(&self.output, rt), number, code, bytes);
         if written.is_err() {
             self.has_failed.store(true, Ordering::Relaxed);
         }

@@ -1,6 +1,9 @@
 //! The whole program, over any reader and writers.
-ghost use Rattle.std.specs.Prelude.{◌≡◌, ◌⊎◌, ◌^◌};
+ghost use Rattle.std.specs.Prelude.{◌≡◌, ◌⊎◌, ◌^◌, IfOk};
 ghost use Rattle.foyer_cli.specs.Arguments.{AskVersion};
+ghost use Rattle.foyer_device_throttle.specs.Limits.{IsLimit};
+ghost use Rattle.foyer_frames.specs.Stream.{limits_of};
+ghost use Rattle.foyer_pipe.specs.Keys.{core_part};
 ghost use Rattle.foyer_storage_cores_run.specs.CoreLedgers.{AreOfCores};
 
 use crate::answers::{Bytes, BytesHashBuilder};
@@ -24,7 +27,7 @@ use foyer_storage_cores_run::build::cores::kinds::CoreBlanks;
 use foyer_storage_cores_run::build::threads::workers::{Clock, SystemClock};
 use foyer_storage_cores_run::paths::core_path;
 use foyer_storage_cores_run::run::run_over_cores;
-use std::alloc::{Allocator, Global};
+use std::alloc::{AllocError, Allocator, Global};
 use std::fs::File;
 use std::io;
 use std::io::{BufWriter, Read, Write};
@@ -87,6 +90,17 @@ fn builders_of<D: Device, I: Drop>(
     Ok(builders)
 }
 
+// The requests of an input, within the limits that are set.
+fn frames_of<R: Read + Drop>(
+    alloc: Global,
+    input: R,
+    options: &PipeOptions,
+) -> std::result::Result<Frames<R, Global>, AllocError>
+    ensures { IfOk result (λ f. limits_of f ≡ options.now.limits) }
+{
+    Frames::new(alloc, input, options.limits)
+}
+
 // Opens a cache over these places, one for each core, and answers the input's requests.
 fn serve_over<L, T, I, D, R, W>(
     rt: T,
@@ -112,7 +126,7 @@ where
 {
     let builders = builders_of(alloc, places, block_size, options)?;
     let jobs = jobs_of(alloc, options.readers)?;
-    let frames = Frames::new(alloc, input, options.limits)?;
+    let frames = frames_of(alloc, input, options)?;
     let output = BufWriter::with_capacity(alloc, OUTPUT_CAPACITY, output)?;
     let task = PipeTask::new(alloc, clock, options.seed, frames, output);
     run_over_cores::<T, SystemClock<T>, L, Bytes, Bytes, NoProperties, _, _, D, _, _, _, I, _>(
@@ -131,7 +145,9 @@ where
 }
 
 // A core's part of a limit, if there is one.
-fn part_of(limit: usize, cores: u64) -> usize {
+fn part_of(limit: usize, cores: u64) -> usize
+    ensures { result ≡ core_part limit cores }
+{
     if limit == 0 {
         return 0;
     }
@@ -139,7 +155,10 @@ fn part_of(limit: usize, cores: u64) -> usize {
 }
 
 // The limits of a core's device.
-fn throttle_of(options: &PipeOptions) -> Throttle {
+fn throttle_of(options: &PipeOptions) -> Throttle
+    ensures reads { IsLimit result.read_throughput (core_part options.now.read_bytes options.now.cores) × IsLimit result.read_iops (core_part options.now.read_calls options.now.cores) }
+    ensures writes { IsLimit result.write_throughput (core_part options.now.write_bytes options.now.cores) × IsLimit result.write_iops (core_part options.now.write_calls options.now.cores) }
+{
     Throttle::new()
         .with_read_throughput(part_of(options.read_bytes, options.cores))
         .with_write_throughput(part_of(options.write_bytes, options.cores))

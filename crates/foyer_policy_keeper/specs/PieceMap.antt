@@ -1,9 +1,10 @@
 -- What is kept: for each hash and key a piece with its number, or none. A key is asked for by `==`, whose meaning is `eq`.
-use Rattle.std.specs.Prelude.{◌≡◌, ℕ, ◌<◌, ◌≤◌, ◌==◌, Bool, true, ◌&&◌, not, if◌then◌else◌, nat_eq, Option, Some, None, IsSome, List, [], find, filter, ◌⊎◌}
-use Rattle.std.specs.Option.{ForSome}
+use Rattle.std.specs.Prelude.{◌≡◌, ℕ, ◌<◌, ◌≤◌, ◌==◌, Bool, true, ◌&&◌, not, if◌then◌else◌, nat_eq, Option, Some, None, IsSome, List, [], find, filter, ◌⊎◌, Result, Ok, Err}
+use Rattle.std.specs.Option.{ForSome, option_map}
 use Rattle.std.specs.Map.{lookup}
 use Rattle.foyer_policy_piece.specs.Record.{Record}
 use Rattle.foyer_policy_piece.specs.Referred.{Referred}
+use Rattle.foyer_policy_keeper.specs.declared.keeper.shard.NotKept.{NotKept}
 
 -- the pieces of one hash
 abbrev pub Pieces : Type 0 → Type 0 → Type 0 → Type 0
@@ -49,6 +50,16 @@ module _ {K V P : Type 0} (eq : K → K → Bool) where
   -- the piece of a hash and a key
   abbrev pub piece_at : PieceMap K V P → ℕ → K → Option (Referred K V P)
   piece_at map hash key = piece_of (pieces_at map hash) key
+
+  -- what a look under a hash and a key gives: the piece that is there, or what shows that none is
+  abbrev pub IsFound : PieceMap K V P → ℕ → K → Result (Record K V P) NotKept → Type 0
+  IsFound map hash key (Ok piece) = option_map (λ held. held.piece) (piece_at map hash key) ≡ Some piece
+  IsFound map hash key (Err shown) = (piece_at map hash key ≡ None) × (shown.hash ≡ hash)
+
+  -- what a question under a hash and a key gives: what shows that no piece is there, where none is
+  abbrev pub IsLacked : PieceMap K V P → ℕ → K → Option NotKept → Type 0
+  IsLacked map hash key None = IsSome (piece_at map hash key)
+  IsLacked map hash key (Some shown) = (piece_at map hash key ≡ None) × (shown.hash ≡ hash)
 
   -- of all pieces of a hash the key's becomes this one, and the other keys keep theirs
   abbrev pub Enters : Pieces K V P → Pieces K V P → Referred K V P → Type 0

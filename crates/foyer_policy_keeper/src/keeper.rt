@@ -5,7 +5,7 @@ ghost use Rattle.foyer_policy_keeper.specs.PieceMap.{IsOf};
 mod bucket;
 pub mod shard;
 
-use self::shard::Shard;
+use self::shard::{NotKept, Shard};
 use foyer_device_page::error::{Error, Result};
 use foyer_policy_piece::keeper::{Piece, PieceRef};
 use std::alloc::Allocator;
@@ -33,6 +33,22 @@ impl<K: Eq, V, P, A: Allocator> Model for Keeper<K, V, P, A> {
     ghost view = { λ k. length k.shards.items };
 
     ghost invariant = { λ k. 0 < length k.shards.items };
+}
+
+/// The shard that this hash lies in: only a keeper gives one.
+#[derive(Drop)]
+pub struct ShardOf<'a, K: Eq, V, P, A: Allocator> {
+    hash: u64,
+    lock: &'a Mutex<Shard<K, V, P, A>>,
+}
+
+impl<'a, K: Eq, V, P, A: Allocator> ShardOf<'a, K, V, P, A> {
+    /// Its lock.
+    pub fn lock(&self) -> &'a Mutex<Shard<K, V, P, A>>
+        ensures { result.now ≡ self.now.lock.now }
+    {
+        self.lock
+    }
 }
 
 // Which of so many shards a hash lies in.
@@ -76,17 +92,26 @@ impl<K: Eq + Drop, V: Drop, P: Drop, A: Allocator + Clone> Keeper<K, V, P, A> {
         shard_of(&self.shards, piece.hash()).lock(rt).insert(piece)
     }
 
-    /// One more owner of the piece that is kept under a hash and a key. Memory, where the piece has 2^63 - 1 owners.
-    pub fn get(&self, rt: &impl Wait, hash: u64, key: &K) -> Result<Option<Piece<K, V, P, A>>>
-        ensures own { IfOk result (λ held. IfSome held (IsOf K.eq hash key.now)) }
+    /// One more owner of the piece that is kept under a hash and a key, or what shows that none was. Memory, where the piece has
+    /// 2^63 - 1 owners.
+    pub fn get(
+        &self,
+        rt: &impl Wait,
+        hash: u64,
+        key: &K,
+    ) -> Result<std::result::Result<Piece<K, V, P, A>, NotKept>>
+        ensures own { IfOk result (λ found. IfOk found (IsOf K.eq hash key.now)) }
+        ensures none { IfOk result (λ found. IfErr found (λ shown. shown.hash ≡ hash)) }
         ensures refused { IsOkUnless result Error.Memory }
     {
         shard_of(&self.shards, hash).lock(rt).get(hash, key)
     }
 
-    /// Whether a piece is kept under a hash and a key.
-    pub fn contains(&self, rt: &impl Wait, hash: u64, key: &K) -> bool {
-        shard_of(&self.shards, hash).lock(rt).contains(hash, key)
+    /// What shows that no piece was kept under a hash and a key, where none was.
+    pub fn lacks(&self, rt: &impl Wait, hash: u64, key: &K) -> Option<NotKept>
+        ensures { IfSome result (λ shown. shown.hash ≡ hash) }
+    {
+        shard_of(&self.shards, hash).lock(rt).lacks(hash, key)
     }
 
     /// Removes the piece that this keeper has under the hash and the key, if it has this very number. So a reference that was
@@ -97,8 +122,13 @@ impl<K: Eq + Drop, V: Drop, P: Drop, A: Allocator + Clone> Keeper<K, V, P, A> {
             .release(&piece);
     }
 
-    /// The lock of the shard that a hash lies in.
-    pub fn shard(&self, hash: u64) -> &Mutex<Shard<K, V, P, A>> {
-        shard_of(&self.shards, hash)
+    /// The shard that a hash lies in.
+    pub fn shard(&self, hash: u64) -> ShardOf<'_, K, V, P, A>
+        ensures { result.hash ≡ hash }
+    {
+        ShardOf {
+            hash,
+            lock: shard_of(&self.shards, hash),
+        }
     }
 }

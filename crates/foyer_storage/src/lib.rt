@@ -217,6 +217,8 @@ pub use crate::io::engine::WriteBuffer;
 pub use crate::keeper::Keeper;
 pub use crate::keeper::Piece;
 pub use crate::keeper::PieceRef;
+pub use crate::keeper::ShardOf;
+pub use crate::keeper::shard::NotKept;
 pub use crate::keeper::shard::Reserved;
 pub use crate::keeper::shard::Shard;
 pub use crate::local::LocalEngine;

@@ -7,6 +7,7 @@ use foyer_device_page::error::Result;
 use foyer_device_statistics::IoState;
 use foyer_policy_filter::StorageFilterResult;
 use foyer_policy_keeper::keeper::Keeper;
+use foyer_policy_keeper::keeper::shard::NotKept;
 use foyer_policy_piece::keeper::Piece;
 use foyer_storage_store::calls::{DeviceSummary, Engine};
 use foyer_storage_store::engine::engine::Enqueued;
@@ -167,13 +168,13 @@ where
         &self,
         rt: &impl Wait,
         session: &mut TwoSessions<S, T>,
-        hash: u64,
+        lacking: NotKept,
         now: u64,
     ) -> Result<Load<K, V, P, Global>> {
-        if is_high(hash, self.bit) {
-            self.high.load(rt, &mut session.high, hash, now)
+        if is_high(lacking.hash(), self.bit) {
+            self.high.load(rt, &mut session.high, lacking, now)
         } else {
-            self.low.load(rt, &mut session.low, hash, now)
+            self.low.load(rt, &mut session.low, lacking, now)
         }
     }
 
@@ -189,12 +190,12 @@ where
         &self,
         rt: &impl Wait,
         session: &mut TwoSessions<S, T>,
-        hash: u64,
+        lacking: NotKept,
     ) -> Result<bool> {
-        if is_high(hash, self.bit) {
-            self.high.may_contains(rt, &mut session.high, hash)
+        if is_high(lacking.hash(), self.bit) {
+            self.high.may_contains(rt, &mut session.high, lacking)
         } else {
-            self.low.may_contains(rt, &mut session.low, hash)
+            self.low.may_contains(rt, &mut session.low, lacking)
         }
     }
 

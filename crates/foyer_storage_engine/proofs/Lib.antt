@@ -2,4 +2,3 @@ pub mod AnsweringLemmas
 pub mod RefusalLemmas
 pub mod EndingLemmas
 pub mod HoldingLemmas
-pub mod ReportingLemmas

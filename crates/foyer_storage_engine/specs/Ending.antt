@@ -6,7 +6,7 @@ use Rattle.foyer_device_page.specs.declared.error.Error.TheVariants as error
 use Rattle.foyer_device_page.specs.declared.error.ErrorKind.{ErrorKind}
 use Rattle.foyer_device_page.specs.declared.error.ErrorKind.TheVariants as kind
 use Rattle.foyer_core_shared.specs.Briefs.{outcome_of}
-use Rattle.foyer_core_shared.specs.Sessions.{SessionState}
+use Rattle.foyer_core_shared.specs.Sessions.{SessionState, is_close, is_destroy}
 use Rattle.foyer_core_shared.specs.Kinds.{kind_in}
 use Rattle.foyer_core_shared.specs.declared.brief.ReplyBrief.{ReplyBrief}
 use Rattle.foyer_core_shared.specs.declared.brief.ReplyBrief.TheVariants as replied
@@ -17,22 +17,43 @@ use Rattle.foyer_storage_engine.specs.declared.engine.ends.Early.TheVariants as 
 use Rattle.foyer_core_tally.specs.Tally.{grown, none}
 use Rattle.foyer_core_shared.specs.Refusals.{error_of}
 
--- The session counts no step of the seven named kinds beside those that it had: it made no put, no delete and no load.
+-- as many steps of each of the seven named kinds
+abbrev pub HoldsTally : SessionState → SessionState → Type 0
+HoldsTally old new = new.shares.amounts ≡ record old.shares.amounts { other = new.shares.amounts.other }
+
+-- The session counts no step of the seven named kinds beside those that it had, no close, and no step of a destroy: it made no put, no delete
+-- and no load, and ended nothing.
 abbrev pub HoldsNamed : SessionState → SessionState → Type 0
-HoldsNamed old new = new.shares.amounts ≡ record old.shares.amounts { other = new.shares.amounts.other }
+HoldsNamed old new = HoldsTally old new × (new.closes ≡ old.closes) × (new.destroys ≡ old.destroys)
+
+-- the same of a close, which counts closes
+abbrev pub HoldsButCloses : SessionState → SessionState → Type 0
+HoldsButCloses old new = HoldsTally old new × (new.destroys ≡ old.destroys)
+
+-- and of a destroy, which counts its steps
+abbrev pub HoldsButDestroys : SessionState → SessionState → Type 0
+HoldsButDestroys old new = HoldsTally old new × (new.closes ≡ old.closes)
+
+-- the same of one step, whatever it is
+abbrev pub HoldsBut : StepBrief → SessionState → SessionState → Type 0
+HoldsBut given old new =
+    HoldsTally old new × (is_close given ≡ false → new.closes ≡ old.closes) × (is_destroy given ≡ false → new.destroys ≡ old.destroys)
 
 -- it made so many steps of no named kind at least
 abbrev pub HasMade : (steps : ℕ) → SessionState → SessionState → Type 0
 HasMade steps old new = old.shares.amounts.other + steps ≤ new.shares.amounts.other
 
--- all steps that it counts are of no named kind
+-- all steps that it counts are of no named kind, and none is a close or of a destroy
 abbrev pub CountsUnnamed : SessionState → Type 0
-CountsUnnamed session = session.shares.amounts ≡ record none { other = session.shares.amounts.other }
+CountsUnnamed session = (session.shares.amounts ≡ record none { other = session.shares.amounts.other }) × (session.closes ≡ 0) × (session.destroys ≡ 0)
 
--- it counts the step as one of its kind, and besides only refusals of it, which are of no named kind
+-- It counts the step as one of its kind, and besides only refusals of it, which are of no named kind. No close and no step of a destroy is
+-- counted beside it.
 pub record CountsStep (old new : SessionState) (given : StepBrief) (answer : ReplyBrief) : Type 0 where
   pub others : ℕ
   pub counted : new.shares.amounts ≡ grown (kind_in given answer) (record old.shares.amounts { other = others })
+  pub unclosed : is_close given ≡ false → new.closes ≡ old.closes
+  pub kept : is_destroy given ≡ false → new.destroys ≡ old.destroys
 
 -- the newest step asks whether no reclaim runs, as the last one of a wait does, and is answered
 pub record AsksForReclaims (session : SessionState) : Type 0 where

@@ -20,11 +20,11 @@ pub mod waits;
 
 use self::reader::Reader;
 use self::signals::Signals;
+use crate::answers::{answer_of, deleted_of, enqueued_of, load_of};
 use crate::enqueue::enqueue;
-use crate::load::{Load, Populated};
+use crate::load::Load;
 use foyer_block_manager::block::eviction::EvictionPicker;
 use foyer_core_shared::core_steps::apply::no_io;
-use foyer_core_shared::core_steps::refusal::error_of;
 use foyer_core_shared::core_steps::reply::Reply;
 use foyer_core_shared::core_steps::settings::Settings;
 use foyer_core_shared::core_steps::step::{Step, Ticket};
@@ -32,14 +32,14 @@ use foyer_core_shared::notes::Noting;
 use foyer_core_shared::session::Session;
 use foyer_core_shared::shared::Shared;
 use foyer_core_tally::book::Kinds;
-use foyer_device_page::error::{Error, Result};
+use foyer_device_page::error::Result;
 use foyer_format_record::serde::{Code, Properties};
 use foyer_io_disk::disk::Disk;
 use foyer_io_gate::gate::{Gate, Point};
 use foyer_lock::lock_spinning;
 use foyer_policy_filter::StorageFilterCondition;
-use foyer_policy_keeper::keeper::Keeper;
 use foyer_policy_keeper::keeper::shard::Shard;
+use foyer_policy_keeper::keeper::{Keeper, ShardOf};
 use foyer_policy_piece::keeper::{Piece, PieceRef};
 use std::alloc::Allocator;
 use std::sync::{Arc, Mutex, Wait};
@@ -53,67 +53,6 @@ pub enum Enqueued {
     Ignored,
     /// It isn't taken, since too much is queued, and its hash is deleted.
     Deleted,
-}
-
-// What the last step of a load is answered as.
-fn load_of<K: Drop, V: Drop, P: Drop, A: Allocator>(
-    reply: Reply<K, V, P, A>,
-) -> Result<Load<K, V, P, A>>
-    ensures answer { IsLoadOf reply result }
-    ensures refused { (has_read : Bool) → is_end_reply has_read reply ≡ true → IfErr result (λ e. is_load_error e ≡ true) }
-    ensures unread { (throttled : Bool) → is_look_up_reply throttled reply ≡ true → IfErr result (λ e. is_load_error e ≡ true) }
-{
-    match reply {
-        Reply::Entry { key, value, age } => Ok(Load::Entry {
-            key,
-            value,
-            populated: Populated { age },
-        }),
-        Reply::Throttled => Ok(Load::Throttled),
-        Reply::Miss => Ok(Load::Miss),
-        Reply::Refused(kind, _) => Err(error_of(kind)),
-        _ => Err(Error::Unsupported),
-    }
-}
-
-// What an enqueue's reply is answered as.
-fn enqueued_of<K: Drop, V: Drop, P: Drop, A: Allocator>(
-    reply: Reply<K, V, P, A>,
-) -> Result<Enqueued>
-    ensures answer { result ≡ enqueued_as (reply_brief reply) }
-    ensures refused { is_enqueue_reply reply ≡ true → IfErr result (λ e. is_draw_error e ≡ true) }
-{
-    match reply {
-        Reply::Queued(_) => Ok(Enqueued::Queued),
-        Reply::Ignored(_) => Ok(Enqueued::Ignored),
-        Reply::Dropped(_, _) => Ok(Enqueued::Deleted),
-        Reply::Refused(kind, _) => Err(error_of(kind)),
-        _ => Err(Error::Unsupported),
-    }
-}
-
-// What a delete's reply is answered as.
-fn deleted_of<K: Drop, V: Drop, P: Drop, A: Allocator>(reply: Reply<K, V, P, A>) -> Result<()>
-    ensures answer { result ≡ deleted_as (reply_brief reply) }
-    ensures refused { is_delete_reply reply ≡ true → IfErr result (λ e. is_draw_error e ≡ true) }
-{
-    match reply {
-        Reply::Deleted(_) => Ok(()),
-        Reply::Refused(kind, _) => Err(error_of(kind)),
-        _ => Err(Error::Unsupported),
-    }
-}
-
-// What a question's reply is answered as.
-fn answer_of<K: Drop, V: Drop, P: Drop, A: Allocator>(reply: Reply<K, V, P, A>) -> Result<bool>
-    ensures answer { result ≡ asked_as (reply_brief reply) }
-    ensures refused { is_question_reply reply ≡ true → IfErr result (λ e. is_question_error false e ≡ true) }
-{
-    match reply {
-        Reply::Answer(answer) => Ok(answer),
-        Reply::Refused(kind, _) => Err(error_of(kind)),
-        _ => Err(Error::Unsupported),
-    }
 }
 
 // Keeps a buffer for the next read, unless another thread reads just now.
@@ -213,7 +152,7 @@ where
         disk: D,
         gate: G,
     ) -> Result<BlockEngine<L, K, V, P, A, E, C, D, G, N>>
-        ensures settings { IfOk result (λ engine. engine.settings ≡ settings) }
+        ensures settings { IfOk result (λ engine. (engine.settings ≡ settings) × (engine.shared ≡ shared)) }
         ensures alone { IfOk result (λ engine. (vec_len engine.others ≡ 0) × (engine.patience ≡ 0)) }
         ensures refused { IfErr result (λ e. e ≡ error.Memory) }
     {
@@ -343,6 +282,27 @@ where
         enqueued_of(reply)
     }
 
+    // The same under the lock of the shard that the piece's hash lies in.
+    fn enqueue_at(
+        &self,
+        rt: &impl Wait,
+        session: &mut Session<L>,
+        shard: ShardOf<'_, K, V, P, A>,
+        piece: &Piece<K, V, P, A>,
+        size: usize,
+    ) -> Result<Enqueued>
+    where
+        K: Eq,
+        requires part { 0 < session.old.shares.parts }
+        requires own { shard.hash ≡ piece.now.hash }
+        ensures answer { IsAnsweredUnlessFull N.keeps session.old session.new (asked.Enqueue piece.now.hash size) result }
+        ensures refused { IfErr result (λ e. is_draw_error e ≡ true) }
+        ensures parts { session.new.shares.parts ≡ session.old.shares.parts }
+    {
+        let lock = shard.lock();
+        self.enqueue_into(rt, session, &mut lock_spinning(lock, rt), piece, size)
+    }
+
     /// Queues a piece, and keeps it in this keeper where it is queued; `size` is its estimated size in bytes. The keeper's shard
     /// is locked from before the core's step until after it: no look-up and no release comes between. `Closed`, `Memory` and
     /// `SequenceEnd` leave the engine as it was, and a piece that isn't queued replaces none in the keeper.
@@ -362,8 +322,7 @@ where
         ensures parts { session.new.shares.parts ≡ session.old.shares.parts }
     {
         self.look_for_room(rt);
-        let shard = keeper.shard(piece.hash());
-        let answer = self.enqueue_into(rt, session, &mut lock_spinning(shard, rt), piece, size);
+        let answer = self.enqueue_at(rt, session, keeper.shard(piece.hash()), piece, size);
         self.signals.queued.ring(rt);
         answer
     }

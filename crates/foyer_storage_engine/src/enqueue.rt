@@ -26,8 +26,8 @@ use foyer_policy_keeper::keeper::shard::{Reserved, Shard};
 use foyer_policy_piece::keeper::Piece;
 use std::alloc::Allocator;
 
-// Puts the piece where the reply says that it is queued.
-fn put_where_queued<K: Eq + Drop, V: Drop, P: Drop, A: Allocator + Clone>(
+/// Puts the piece where the reply says that it is queued.
+pub fn put_where_queued<K: Eq + Drop, V: Drop, P: Drop, A: Allocator + Clone>(
     shard: &mut Shard<K, V, P, A>,
     reserved: Reserved<K, V, P, A>,
     reply: &Reply<K, V, P, A>,

@@ -4,6 +4,7 @@
 //! It passes on the core's crates, so that whoever stands on the engine lists it alone.
 #![tactic(auto)]
 
+pub mod answers;
 pub mod bell;
 pub mod engine;
 pub mod enqueue;

@@ -1,6 +1,7 @@
 -- What the calls of a store make of its engine's answers.
 use Rattle.std.specs.Prelude.{◌≡◌, ◌+◌, ◌-◌, ◌^◌, ◌<◌, ◌⊎◌, ℕ, min, Bool, true, false, List, length, Option, Some, None, Result, Ok, Err, IfErr, OnOk}
 use Rattle.foyer_storage_engine.specs.Sessions.{SessionState}
+use Rattle.foyer_core_tally.specs.Tally.{saturated}
 use Rattle.foyer_storage_engine.specs.Ticket.{Ticket}
 use Rattle.std.specs.declared.vec.Vec.{Vec}
 use Rattle.foyer_device_page.specs.declared.error.Error.{Error}
@@ -16,7 +17,7 @@ use Rattle.std.specs.Duration.{as_nanos, max_nanos}
 use Rattle.std.specs.declared.time.Duration.{Duration}
 use Rattle.foyer_storage_engine.specs.Answering.{IsLoaded, is_draw_error}
 use Rattle.foyer_storage_engine.specs.Decided.{decided_load}
-use Rattle.foyer_storage_engine.specs.Ending.{AsksForReclaims, EndsWithClean, HasMade}
+use Rattle.foyer_storage_engine.specs.Ending.{AsksForReclaims, EndsWithClean, HasMade, HoldsButCloses, HoldsButDestroys, HoldsNamed}
 use Rattle.foyer_storage_engine.specs.declared.engine.Enqueued.{Enqueued}
 use Rattle.foyer_storage_engine.specs.declared.engine.Enqueued.TheVariants as enqueued
 use Rattle.foyer_storage_engine.specs.declared.load.Load.{Load}
@@ -85,14 +86,21 @@ IsStored may_judge may_enqueue may_delete force answered =
     ⊎ ((force ≡ false) × (verdict : StorageFilterResult) × may_judge verdict × ((IsAdmit verdict × may_enqueue answered)
     ⊎ ((IsAdmit verdict → ⊥) × (deleted : Result (Unit {0}) Error) × may_delete deleted × (answered ≡ deleted_for deleted))))
 
--- a wait, or a close, that ended: it made so many steps at least, of which the last asks whether no reclaim runs
+-- A wait that ended: it made so many steps at least, of which the last asks whether no reclaim runs. None of them was a put, a delete or a load,
+-- and it closed and destroyed nothing.
 abbrev pub HasWaited : (steps : ℕ) → SessionState → SessionState → Result (Unit {0}) Error → Type 0
 HasWaited steps old new answered =
-    OnOk answered (AsksForReclaims new) × OnOk answered (HasMade steps old new) × IfErr answered (λ e. is_draw_error e ≡ true)
+    HoldsNamed old new × OnOk answered (AsksForReclaims new) × OnOk answered (HasMade steps old new) × IfErr answered (λ e. is_draw_error e ≡ true)
 
--- a destroy of so many blocks that ended: its last step brings the outcome of the last block's clean, which came of it so, and it is
--- answered so; or it is refused before that
-abbrev pub HasDestroyed : (came : ℕ → Result (Unit {0}) Error → Type 0) → (blocks : ℕ) → SessionState → Result (Unit {0}) Error → Type 0
-HasDestroyed came blocks new answered =
-    OnOk answered (0 < blocks → EndsWithClean came (blocks - 1) new answered)
+-- The same of a close, which is one close, and destroyed nothing.
+abbrev pub HasClosed : (steps : ℕ) → SessionState → SessionState → Result (Unit {0}) Error → Type 0
+HasClosed steps old new answered =
+    HoldsButCloses old new × OnOk answered (new.closes ≡ saturated (old.closes + 1)) × OnOk answered (AsksForReclaims new)
+    × OnOk answered (HasMade steps old new) × IfErr answered (λ e. is_draw_error e ≡ true)
+
+-- A destroy of so many blocks that ended: its last step brings the outcome of the last block's clean, which came of it so, and it is
+-- answered so; or it is refused before that. It made no put, no delete and no load, and closed nothing.
+abbrev pub HasDestroyed : (came : ℕ → Result (Unit {0}) Error → Type 0) → (blocks : ℕ) → SessionState → SessionState → Result (Unit {0}) Error → Type 0
+HasDestroyed came blocks old new answered =
+    HoldsButDestroys old new × OnOk answered (0 < blocks → EndsWithClean came (blocks - 1) new answered)
     × IfErr answered (λ e. (is_draw_error e ≡ true) ⊎ (0 < blocks → EndsWithClean came (blocks - 1) new answered))

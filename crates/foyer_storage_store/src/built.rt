@@ -20,6 +20,7 @@ use foyer_io_monitor::MonitoredIoEngine;
 use foyer_lock::lock_spinning;
 use foyer_policy_filter::{StorageFilter, StorageFilterCondition, StorageFilterResult};
 use foyer_policy_keeper::keeper::Keeper;
+use foyer_policy_keeper::keeper::shard::NotKept;
 use foyer_policy_piece::keeper::Piece;
 use foyer_storage_engine::core_shared::notes::NoNotes;
 use foyer_storage_engine::core_steps::apply::no_io;
@@ -221,7 +222,7 @@ where
     ghost use Rattle.foyer_storage_engine.specs.Accessing.{IsCleanedBy, IsReadBy};
     ghost use Rattle.foyer_storage_engine.specs.Calls.{IsDeleteAnswer, IsEnqueueAnswer, IsQuestionAnswer};
     ghost use Rattle.std.specs.Arc.{arc_value};
-    ghost use Rattle.foyer_storage_store.specs.Storing.{HasDestroyed, HasWaited, IsAdmissionUnder, IsLoadedUnder};
+    ghost use Rattle.foyer_storage_store.specs.Storing.{HasClosed, HasDestroyed, HasWaited, IsAdmissionUnder, IsLoadedUnder};
 
     ghost summary = { λ b. b.device };
 
@@ -238,10 +239,10 @@ where
 
     ghost may_wait = { λ b old new answer. HasWaited ((arc_value b.engine).settings.flushers + 1) old.steps new.steps answer × (new.steps.shares.parts ≡ old.steps.shares.parts) };
 
-    ghost may_close = { λ b old new answer. HasWaited ((arc_value b.engine).settings.flushers + 2) old.steps new.steps answer × (new.steps.shares.parts ≡ old.steps.shares.parts) };
+    ghost may_close = { λ b old new answer. HasClosed ((arc_value b.engine).settings.flushers + 2) old.steps new.steps answer × (new.steps.shares.parts ≡ old.steps.shares.parts) };
 
     ghost may_destroy = { λ b old new answer. HasDestroyed (IsCleanedBy ⟦<DeviceBlocks<N, Q> as Disk>⟧.is_known ⟦<DeviceBlocks<N, Q> as Disk>⟧.byte_at
-        ⟦<DeviceBlocks<N, Q> as Disk>⟧.surely_has ⟦<DeviceBlocks<N, Q> as Disk>⟧.surely_lies ⟦<DeviceBlocks<N, Q> as Disk>⟧.faults) (arc_value b.engine).settings.blocks new.steps answer × (new.steps.shares.parts ≡ old.steps.shares.parts) };
+        ⟦<DeviceBlocks<N, Q> as Disk>⟧.surely_has ⟦<DeviceBlocks<N, Q> as Disk>⟧.surely_lies ⟦<DeviceBlocks<N, Q> as Disk>⟧.faults) (arc_value b.engine).settings.blocks old.steps new.steps answer × (new.steps.shares.parts ≡ old.steps.shares.parts) };
 
     fn device(&self) -> DeviceSummary {
         self.device
@@ -284,14 +285,14 @@ where
         &self,
         rt: &impl Wait,
         session: &mut StoreSession<L>,
-        hash: u64,
+        lacking: NotKept,
         now: u64,
     ) -> Result<Load<K, V, P, Global>> {
         let throttled = self.is_read_throttled(rt, now);
         let disk = self.disk_of(session.disk);
         session.disk = Some(disk);
         self.engine
-            .load_by(rt, &mut session.steps, hash, throttled, disk)
+            .load_by(rt, &mut session.steps, lacking.hash(), throttled, disk)
     }
 
     fn delete(&self, rt: &impl Wait, session: &mut StoreSession<L>, hash: u64) -> Result<()> {
@@ -302,9 +303,10 @@ where
         &self,
         rt: &impl Wait,
         session: &mut StoreSession<L>,
-        hash: u64,
+        lacking: NotKept,
     ) -> Result<bool> {
-        self.engine.may_contains(rt, &mut session.steps, hash)
+        self.engine
+            .may_contains(rt, &mut session.steps, lacking.hash())
     }
 
     fn destroy(&self, rt: &impl Wait, session: &mut StoreSession<L>) -> Result<()> {

@@ -3,6 +3,7 @@ use foyer_device_page::error::Result;
 use foyer_device_statistics::IoState;
 use foyer_policy_filter::StorageFilterResult;
 use foyer_policy_keeper::keeper::Keeper;
+use foyer_policy_keeper::keeper::shard::NotKept;
 use foyer_policy_piece::keeper::Piece;
 use foyer_storage_engine::engine::Enqueued;
 use foyer_storage_engine::engine::counts::WorkCounts;
@@ -84,15 +85,16 @@ pub trait Engine<S: Drop, K: Eq, V, P>: Drop {
         ensures answered { may_enqueue self.now session.old session.new piece.now.hash size result }
         ensures refused { IfErr result (λ e. is_draw_error e ≡ true) };
 
-    /// Looks a hash up at a moment, and reads what it stands for. `Io`, `Memory`, `Parse`, `Unsupported`, `SequenceEnd`.
+    /// Looks the hash up, of which a keeper had no piece, at a moment, and reads what it stands for. `Io`, `Memory`, `Parse`, `Unsupported`,
+    /// `SequenceEnd`.
     fn load(
         &self,
         rt: &impl Wait,
         session: &mut S,
-        hash: u64,
+        lacking: NotKept,
         now: u64,
     ) -> Result<Load<K, V, P, Global>>
-        ensures answered { may_load self.now session.old session.new hash result }
+        ensures answered { may_load self.now session.old session.new lacking.hash result }
         ensures refused { IfErr result (λ e. is_load_error e ≡ true) };
 
     /// Accepts a delete of a hash. `Closed`, `Memory`, `SequenceEnd`.
@@ -100,9 +102,9 @@ pub trait Engine<S: Drop, K: Eq, V, P>: Drop {
         ensures answered { may_delete self.now session.old session.new hash result }
         ensures refused { IfErr result (λ e. is_draw_error e ≡ true) };
 
-    /// Whether a hash is indexed. `SequenceEnd`.
-    fn may_contains(&self, rt: &impl Wait, session: &mut S, hash: u64) -> Result<bool>
-        ensures answered { may_ask self.now session.old session.new hash result }
+    /// Whether the hash is indexed, of which a keeper had no piece. `SequenceEnd`.
+    fn may_contains(&self, rt: &impl Wait, session: &mut S, lacking: NotKept) -> Result<bool>
+        ensures answered { may_ask self.now session.old session.new lacking.hash result }
         ensures refused { IfErr result (λ e. is_question_error false e ≡ true) };
 
     /// Destroys all entries.

@@ -8,6 +8,7 @@ use foyer_device_page::error::Result;
 use foyer_device_statistics::IoState;
 use foyer_policy_filter::StorageFilterResult;
 use foyer_policy_keeper::keeper::Keeper;
+use foyer_policy_keeper::keeper::shard::NotKept;
 use foyer_policy_piece::keeper::Piece;
 use foyer_storage_engine::core_steps::apply::no_io;
 use foyer_storage_engine::engine::Enqueued;
@@ -97,7 +98,7 @@ impl<L: Kinds, K: Eq + Drop, V: Drop, P: Drop> Engine<StoreSession<L>, K, V, P> 
         &self,
         _rt: &impl Wait,
         _session: &mut StoreSession<L>,
-        _hash: u64,
+        _lacking: NotKept,
         _now: u64,
     ) -> Result<Load<K, V, P, Global>> {
         Ok(Load::Miss)
@@ -111,7 +112,7 @@ impl<L: Kinds, K: Eq + Drop, V: Drop, P: Drop> Engine<StoreSession<L>, K, V, P> 
         &self,
         _rt: &impl Wait,
         _session: &mut StoreSession<L>,
-        _hash: u64,
+        _lacking: NotKept,
     ) -> Result<bool> {
         Ok(false)
     }

@@ -1,6 +1,6 @@
 //! The sessions that a store is asked with, and what they are made of: facts about their parts lie in their types.
 ghost use Rattle.std.specs.Prelude.{◌≡◌, ◌+◌, ◌<◌, ◌∷◌, [], None};
-ghost use Rattle.foyer_core_tally.specs.Tally.{both, none, shown, listed};
+ghost use Rattle.foyer_core_tally.specs.Tally.{both, none, shown, listed, saturated};
 
 use foyer_core_tally::book::Kinds;
 use foyer_storage_engine::core_shared::brief::Brief;
@@ -65,7 +65,8 @@ impl<L: Kinds> StoreSession<L> {
         requires some { 0 < parts }
         requires fewer { parts < self.old.steps.shares.parts }
         ensures given { result.steps.shares ≡ record { parts = parts; amounts = none } }
-        ensures fresh { (result.steps.newest ≡ None) × (result.steps.before ≡ None) }
+        ensures fresh { (result.steps.newest ≡ None) × (result.steps.before ≡ None) × (result.steps.closes ≡ 0) × (result.steps.destroys ≡ 0) }
+        ensures ends { (self.new.steps.closes ≡ self.old.steps.closes) × (self.new.steps.destroys ≡ self.old.steps.destroys) }
         ensures left { (self.new.steps.shares.parts + parts ≡ self.old.steps.shares.parts) × (self.new.steps.shares.amounts ≡ self.old.steps.shares.amounts) }
         ensures briefs { (self.new.steps.newest ≡ self.old.steps.newest) × (self.new.steps.before ≡ self.old.steps.before) }
     {
@@ -82,6 +83,7 @@ impl<L: Kinds> StoreSession<L> {
           amounts = both self.old.steps.shares.amounts other.steps.shares.amounts;
         } }
         ensures briefs { (self.new.steps.newest ≡ self.old.steps.newest) × (self.new.steps.before ≡ self.old.steps.before) }
+        ensures ends { (self.new.steps.closes ≡ saturated (self.old.steps.closes + other.steps.closes)) × (self.new.steps.destroys ≡ saturated (self.old.steps.destroys + other.steps.destroys)) }
     {
         self.steps.join(other.into_steps());
     }

@@ -316,13 +316,15 @@ impl<N: Drop, K: Eq + Drop, V: Drop, P: Drop, H: Drop> Store<N, K, V, P, H> {
     {
         let inner = &self.shared;
         let hash = inner.hasher.hash_one(key);
-        let kept = inner.keeper.get(rt, hash, key)?;
-        if kept.is_some() {
-            let answer = decide_load(key, kept, Load::Miss);
-            inner.calls.add_load(hash, &answer);
-            return Ok(answer);
-        }
-        let read = inner.engine.load(rt, session, hash, now)?;
+        let lacking = match inner.keeper.get(rt, hash, key)? {
+            Ok(piece) => {
+                let answer = decide_load(key, Some(piece), Load::Miss);
+                inner.calls.add_load(hash, &answer);
+                return Ok(answer);
+            }
+            Err(lacking) => lacking,
+        };
+        let read = inner.engine.load(rt, session, lacking, now)?;
         let answer = decide_load(key, None, read);
         inner.calls.add_load(hash, &answer);
         Ok(answer)
@@ -355,10 +357,10 @@ impl<N: Drop, K: Eq + Drop, V: Drop, P: Drop, H: Drop> Store<N, K, V, P, H> {
         ensures refused { IfErr result (λ e. is_question_error false e ≡ true) }
     {
         let hash = self.shared.hasher.hash_one(key);
-        if self.shared.keeper.contains(rt, hash, key) {
-            return Ok(true);
+        match self.shared.keeper.lacks(rt, hash, key) {
+            Some(lacking) => self.shared.engine.may_contains(rt, session, lacking),
+            None => Ok(true),
         }
-        self.shared.engine.may_contains(rt, session, hash)
     }
 
     /// Destroys all entries: what was put before is gone, on the device too. Once it has begun it tries again what is refused

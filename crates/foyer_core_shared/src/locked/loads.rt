@@ -5,6 +5,7 @@ ghost use Rattle.foyer_core_shared.specs.History.{BeginAlike, IsLegal, Made};
 ghost use Rattle.foyer_core_shared.specs.Kinds.{kind_of};
 ghost use Rattle.foyer_core_shared.specs.Noted.{and_note};
 ghost use Rattle.foyer_core_shared.specs.Replies.{may_reply};
+ghost use Rattle.foyer_core_shared.specs.Sessions.{CountsEnds};
 ghost use Rattle.foyer_core_steps.specs.Answered.{Describes, HandsBack, spare_of};
 ghost use Rattle.foyer_core_steps.specs.Judging.{IsJudged};
 ghost use Rattle.foyer_core_steps.specs.Refines.{Refines};
@@ -61,6 +62,7 @@ where
         ensures spare { IfOk result (λ r. r.1 ≡ spare_of judged.outcome r.0) }
         ensures noted { IfOk result (λ r. (self.new.noted.notes ≡ and_note (brief_of (steps.LoadEnd judged.ticket judged.outcome) r.0) self.old.noted.notes)
             × (session.new.newest ≡ Some (brief_of (steps.LoadEnd judged.ticket judged.outcome) r.0)) × (session.new.before ≡ session.old.newest)) }
+        ensures ends { IfOk result (λ r. CountsEnds session.old session.new ((brief_of (steps.LoadEnd judged.ticket judged.outcome) r.0).step)) }
         ensures counted { IfOk result (λ r. (self.new.noted.calls ≡ grown (kind_of (brief_of (steps.LoadEnd judged.ticket judged.outcome) r.0)) self.old.noted.calls)
             × (session.new.shares ≡ record { parts = session.old.shares.parts; amounts = grown (kind_of (brief_of (steps.LoadEnd judged.ticket judged.outcome) r.0)) session.old.shares.amounts })) }
         ensures lent { self.new.env ≡ self.old.env }

@@ -12,9 +12,10 @@ ghost use Rattle.foyer_core_told.specs.ToldLoads.{IsReadOf};
 ghost use Rattle.foyer_core_told.specs.ToldRights.{ticket_right};
 ghost use Rattle.foyer_core_told.specs.Telling.{HasGoneOn, HasStepped};
 ghost use Rattle.foyer_io_told.specs.ToldAccess.{HasTicket};
-ghost use Rattle.foyer_core_threads.specs.Asking.{IsTicketIn};
+ghost use Rattle.foyer_core_threads.specs.Asking.{IsLoadReply, IsTicketIn};
 ghost use Rattle.foyer_core_threads.specs.Done.{HasLoaded, IsLoadNoted};
 ghost use Rattle.foyer_core_threads.specs.Newest.{WasNewest, WasMissed};
+ghost use Rattle.foyer_core_threads.specs.Going.{GoesOn};
 
 use super::ToldShared;
 use crate::session::ToldSession;
@@ -72,6 +73,7 @@ where
         requires right { 0 < times (ticket_right number) session.old.witness.me.0.has }
         requires ticket { HasTicket (meaning K.encoding V.encoding K.is_encodable V.is_encodable K.is_decodable V.is_decodable P.age) D.byte_at session.old.witness.me.0.seen number ticket.now ReadIssued }
         ensures mine { (session.new.witness.table_id ≡ J.table) × (session.new.witness.me.1 ≡ []) }
+        ensures on { GoesOn (meaning K.encoding V.encoding K.is_encodable V.is_encodable K.is_decodable V.is_decodable P.age) D.byte_at session.old.witness.me.0 session.new.witness.me.0 }
         ensures told { IfOk result (λ outcome. HasGoneOn (meaning K.encoding V.encoding K.is_encodable V.is_encodable K.is_decodable V.is_decodable P.age) D.byte_at session.old.witness.me.0 session.new.witness.me.0 (λ e. IsReadOf e number outcome)) }
         ensures read { IfOk result (λ outcome. HasTicket (meaning K.encoding V.encoding K.is_encodable V.is_encodable K.is_decodable V.is_decodable P.age) D.byte_at session.new.witness.me.0.seen number ticket.now (ReadDone (came_of outcome))) }
         ensures same { session.new.session ≡ session.old.session }
@@ -102,9 +104,11 @@ where
         requires mine { (session.old.witness.table_id ≡ J.table) × (session.old.witness.me.1 ≡ []) }
         requires part { 0 < session.old.session.shares.parts }
         ensures mine { (session.new.witness.table_id ≡ J.table) × (session.new.witness.me.1 ≡ []) }
+        ensures on { GoesOn (meaning K.encoding V.encoding K.is_encodable V.is_encodable K.is_decodable V.is_decodable P.age) D.byte_at session.old.witness.me.0 session.new.witness.me.0 }
         ensures told { IfOk result (λ answer. HasLoaded (meaning K.encoding V.encoding K.is_encodable V.is_encodable K.is_decodable V.is_decodable P.age) D.byte_at N.keeps session.old.witness.me.0 session.new.witness.me.0 hash throttled answer) }
         ensures noted { IfOk result (λ answer. IsLoadNoted N.keeps session.old.session session.new.session hash throttled answer) }
         ensures refused { IfErr result (λ e. (e ≡ Memory) × ((ticket : Ticket) × (n : ℕ) × HasStepped (meaning K.encoding V.encoding K.is_encodable V.is_encodable K.is_decodable V.is_decodable P.age) D.byte_at session.old.witness.me.0 session.new.witness.me.0 (steps.LoadBegin hash throttled) (reply.Read ticket) n)) }
+        ensures replied { IfOk result (IsLoadReply N.keeps throttled) }
         ensures newest { IfOk result (λ answer. (key : K) (value : V) (age : _) → answer ≡ reply.Entry key value age
             → WasNewest (meaning K.encoding V.encoding K.is_encodable V.is_encodable K.is_decodable V.is_decodable P.age) D.byte_at session.old.witness.me.0.seen session.new.witness.me.0.seen hash (content (meaning K.encoding V.encoding K.is_encodable V.is_encodable K.is_decodable V.is_decodable P.age) key value)) }
         ensures missed { IfOk result (λ answer. answer ≡ reply.Miss

@@ -13,6 +13,8 @@ ghost use Rattle.foyer_device_page.specs.declared.error.Error.TheVariants.{Confi
 ghost use Rattle.foyer_io_disk.specs.Disk.{SurelyCame};
 ghost use Rattle.foyer_core_tally.specs.Ledgers.{AreOf};
 ghost use Rattle.foyer_core_tally.specs.Tally.{none};
+ghost use Rattle.foyer_core_laws.specs.Content.{meaning};
+ghost use Rattle.foyer_core_threads.specs.Asking.{HasSizes};
 ghost use Rattle.foyer_core_told.specs.ToldRights.{disk_right, rights_count};
 
 use super::ToldShared;
@@ -75,6 +77,7 @@ where
             × (D.byte_at over ≡ D.byte_at disk)
             × IsOpenedFrom settings (D.byte_at disk) (SurelyCame (D.surely_has disk) (D.surely_lies disk) (D.faults disk) (D.faults over)) mode (marks_of marks.now)
             ((mode ≡ recover_mode.None) ⊎ D.is_known disk) core) }
+        ensures sizes { IfOk result (λ r. HasSizes (meaning K.encoding V.encoding K.is_encodable V.is_encodable K.is_decodable V.is_decodable P.age) D.byte_at r.1.witness.me.0.seen settings) }
         ensures sound { IfOk result (λ _. AreValid settings) }
         ensures refused { IfErr result (λ e. (e ≡ Memory) ⊎ ((e ≡ Config) × (AreValid settings → ⊥))
             ⊎ ((e ≡ Recover) × (mode ≡ recover_mode.Strict)) ⊎ ((e ≡ SequenceEnd) × (mode ≡ recover_mode.None → marks.now ≢ []))) }

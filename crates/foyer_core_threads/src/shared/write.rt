@@ -11,7 +11,8 @@ ghost use Rattle.foyer_device_page.specs.declared.error.ErrorKind.TheVariants as
 ghost use Rattle.foyer_core_told.specs.ToldRights.{writes_right};
 ghost use Rattle.foyer_io_told.specs.ToldAccess.{HasWrites};
 ghost use Rattle.foyer_core_threads.specs.Asking.{AreToWrite};
-ghost use Rattle.foyer_core_threads.specs.Done.{HasWrote, HasWroteAll, IsMade, IsNoted};
+ghost use Rattle.foyer_core_threads.specs.Done.{HasWrote, HasWroteAll, IsMade, IsNoted, IsNotedAgain};
+ghost use Rattle.foyer_core_threads.specs.Going.{GoesOn};
 
 use super::ToldShared;
 use crate::session::ToldSession;
@@ -55,6 +56,7 @@ where
         requires part { 0 < session.old.session.shares.parts }
         requires right { 0 < times (writes_right flusher) session.old.witness.me.0.has }
         ensures mine { (session.new.witness.table_id ≡ J.table) × (session.new.witness.me.1 ≡ []) }
+        ensures on { GoesOn (meaning K.encoding V.encoding K.is_encodable V.is_encodable K.is_decodable V.is_decodable P.age) D.byte_at session.old.witness.me.0 session.new.witness.me.0 }
         ensures right { 0 < times (writes_right flusher) session.new.witness.me.0.has }
         ensures told { IsMade (meaning K.encoding V.encoding K.is_encodable V.is_encodable K.is_decodable V.is_decodable P.age) D.byte_at N.keeps session.old.witness.me.0 session.new.witness.me.0 (steps.FlushBlock flusher) result }
         ensures noted { IsNoted N.keeps session.old.session session.new.session (steps.FlushBlock flusher) result }
@@ -82,9 +84,10 @@ where
         requires right { 0 < times (writes_right flusher) session.old.witness.me.0.has }
         requires write { (left : List BlockWrite) × HasWrites (meaning K.encoding V.encoding K.is_encodable V.is_encodable K.is_decodable V.is_decodable P.age) D.byte_at session.old.witness.me.0.seen flusher block [] (write_of write.now ∷ left) }
         ensures mine { (session.new.witness.table_id ≡ J.table) × (session.new.witness.me.1 ≡ []) }
+        ensures on { GoesOn (meaning K.encoding V.encoding K.is_encodable V.is_encodable K.is_decodable V.is_decodable P.age) D.byte_at session.old.witness.me.0 session.new.witness.me.0 }
         ensures right { 0 < times (writes_right flusher) session.new.witness.me.0.has }
         ensures told { HasWrote (meaning K.encoding V.encoding K.is_encodable V.is_encodable K.is_decodable V.is_decodable P.age) D.byte_at N.keeps session.old.witness.me.0 session.new.witness.me.0 flusher block (write_of write.now) result }
-        ensures noted { (outcome : _) × IsNoted N.keeps session.old.session session.new.session (steps.FlushWrote flusher outcome) result }
+        ensures noted { (outcome : _) × IsNotedAgain N.keeps session.old.session session.new.session (steps.FlushWrote flusher outcome) result }
         ensures next { (left : List BlockWrite) → HasWrites (meaning K.encoding V.encoding K.is_encodable V.is_encodable K.is_decodable V.is_decodable P.age) D.byte_at session.old.witness.me.0.seen flusher block [] (write_of write.now ∷ left)
             → result ≡ reply.Next → HasWrites (meaning K.encoding V.encoding K.is_encodable V.is_encodable K.is_decodable V.is_decodable P.age) D.byte_at session.new.witness.me.0.seen flusher block [] left }
         ensures parts { session.new.session.shares.parts ≡ session.old.session.shares.parts }
@@ -97,8 +100,7 @@ where
             write,
         );
         let step = Step::FlushWrote { flusher, result };
-        let (reply, _) = self.step(rt, session, no_io(), step);
-        reply
+        self.step_again(rt, session, no_io(), step)
     }
 
     /// Does the writes of a block, which were issued, and reports each, until one fails or ends the block: the last reply, if there was one.
@@ -115,6 +117,7 @@ where
         requires right { 0 < times (writes_right flusher) session.old.witness.me.0.has }
         requires writes { AreToWrite (meaning K.encoding V.encoding K.is_encodable V.is_encodable K.is_decodable V.is_decodable P.age) D.byte_at session.old.witness.me.0.seen flusher block (map write_of writes.now) }
         ensures mine { (session.new.witness.table_id ≡ J.table) × (session.new.witness.me.1 ≡ []) }
+        ensures on { GoesOn (meaning K.encoding V.encoding K.is_encodable V.is_encodable K.is_decodable V.is_decodable P.age) D.byte_at session.old.witness.me.0 session.new.witness.me.0 }
         ensures right { 0 < times (writes_right flusher) session.new.witness.me.0.has }
         ensures told { HasWroteAll (meaning K.encoding V.encoding K.is_encodable V.is_encodable K.is_decodable V.is_decodable P.age) D.byte_at N.keeps session.old.witness.me.0 session.new.witness.me.0 flusher block (map write_of writes.now) result }
         ensures parts { session.new.session.shares.parts ≡ session.old.session.shares.parts }

@@ -1,9 +1,9 @@
 //! The part of a keeper that one lock guards.
-ghost use Rattle.std.specs.Prelude.{◌≡◌, ◌↔◌, ◌<◌, ◌≤◌, ◌+◌, ◌⊎◌, [], Some, None, IfOk, OnOk, OnErr, IfErr, IfSome, IsSome, IsTrue, IsOkUnless, nat_eq};
+ghost use Rattle.std.specs.Prelude.{◌≡◌, ◌<◌, ◌≤◌, ◌+◌, ◌⊎◌, [], Some, None, IfOk, OnOk, OnErr, IfErr, IfSome, IsOkUnless, nat_eq};
 ghost use Rattle.std.specs.HashMap.{spare};
 ghost use Rattle.std.specs.Map.{lookup};
-ghost use Rattle.std.specs.Option.{option_copied, option_map};
-ghost use Rattle.foyer_policy_keeper.specs.PieceMap.{piece_at, without_number, ChangesAt, HoldsSame, HasPlaceIn, HasRoomFor, IsOf};
+ghost use Rattle.std.specs.Option.{option_copied};
+ghost use Rattle.foyer_policy_keeper.specs.PieceMap.{piece_at, without_number, ChangesAt, HoldsSame, HasPlaceIn, HasRoomFor, IsFound, IsLacked, IsOf};
 
 use super::bucket::Bucket;
 use foyer_device_page::error::{Error, Result};
@@ -14,6 +14,21 @@ use std::hash::{BuildHasherDefault, FoldHasher};
 use std::marker::Model;
 
 type Buckets<K, V, P, A> = HashMap<u64, Bucket<K, V, P, A>, BuildHasherDefault<FoldHasher>, A>;
+
+/// What shows that a shard had no piece under this hash and the key that it was asked for: only a look gives one.
+#[derive(Clone, Copy, Debug, PartialEq, Eq)]
+pub struct NotKept {
+    hash: u64,
+}
+
+impl NotKept {
+    /// The hash.
+    pub fn hash(&self) -> u64
+        ensures { result ≡ self.now.hash }
+    {
+        self.hash
+    }
+}
 
 /// A map from a hash and a key to a piece and the number of its insertion. Two keys are the same where `==` says so.
 #[derive(Drop)]
@@ -174,23 +189,26 @@ impl<K: Eq + Drop, V: Drop, P: Drop, A: Allocator + Clone> Shard<K, V, P, A> {
         }
     }
 
-    /// One more owner of the piece of a hash and a key. Memory, where the piece has 2^63 - 1 owners.
-    pub fn get(&self, hash: u64, key: &K) -> Result<Option<Piece<K, V, P, A>>>
-        ensures value { IfOk result (λ held. held ≡ option_map (λ r. r.piece) (piece_at K.eq self.now.map hash key.now)) }
-        ensures own { IfOk result (λ held. IfSome held (IsOf K.eq hash key.now)) }
+    /// One more owner of the piece of a hash and a key, or what shows that there is none. Memory, where the piece has 2^63 - 1 owners.
+    pub fn get(&self, hash: u64, key: &K) -> Result<std::result::Result<Piece<K, V, P, A>, NotKept>>
+        ensures value { IfOk result (IsFound K.eq self.now.map hash key.now) }
+        ensures own { IfOk result (λ found. IfOk found (IsOf K.eq hash key.now)) }
         ensures refused { IsOkUnless result Error.Memory }
     {
         match self.find(hash, key) {
-            Some(held) => Ok(Some((**held).clone()?)),
-            None => Ok(None),
+            Some(held) => Ok(Ok((**held).clone()?)),
+            None => Ok(Err(NotKept { hash })),
         }
     }
 
-    /// Whether there is a piece of the hash and the key.
-    pub fn contains(&self, hash: u64, key: &K) -> bool
-        ensures { IsTrue result ↔ IsSome (piece_at K.eq self.now.map hash key.now) }
+    /// What shows that there is no piece of the hash and the key, where there is none.
+    pub fn lacks(&self, hash: u64, key: &K) -> Option<NotKept>
+        ensures { IsLacked K.eq self.now.map hash key.now result }
     {
-        self.find(hash, key).is_some()
+        match self.find(hash, key) {
+            Some(_) => None,
+            None => Some(NotKept { hash }),
+        }
     }
 
     /// Removes the piece of a reference's hash and key, if it has the reference's number. It takes no memory.

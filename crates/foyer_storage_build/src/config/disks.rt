@@ -359,6 +359,7 @@ impl<R, I: IoEngineConfig<R>, Q: Partition + Copy> Disks<'_, R, I, Q> {
         requires ledgers { AreOf L.name_of L.all blanks × (L.all ≡ 2 ^ 32) }
         ensures seats { OnOk result (recorder.old.view.parts ≤ recorder.new.view.parts + loads + 1) }
         ensures settings { IfOk result (λ o. (arc_value o.engine).settings ≡ settings) }
+        ensures mode { IfOk result (λ o. (arc_value o.engine).shared.mode ≡ mode) }
         ensures log { IfOk result (λ o. is_some o.log ≡ is_some log) }
         ensures loads { IfOk result (λ o. (vec_len (arc_value o.engine).others + 1 ≡ loads) × ((arc_value o.engine).patience ≡ patience)) }
         ensures refused { IfErr result (λ e. IsOpenError mode e) }
@@ -428,6 +429,7 @@ where
     G: Gate,
     requires { AreOf L.name_of L.all blanks × (L.all ≡ 2 ^ 32) }
     ensures settings { IfOk result (λ r. (arc_value r.0).settings ≡ settings) }
+    ensures mode { IfOk result (λ r. (arc_value r.0).shared.mode ≡ mode) }
     ensures others { IfOk result (λ r. vec_len (arc_value r.0).others ≡ vec_len others) }
     ensures patience { IfOk result (λ r. (arc_value r.0).patience ≡ patience) }
     ensures refused { IfErr result (λ e. IsOpenError mode e) }

@@ -181,6 +181,7 @@ where
     ensures built { IfOk result (λ b. (b.engine.admission ≡ opening.admission) × (b.engine.throttle ≡ opening.counted.throttle)
         × (b.throttle ≡ opening.counted.throttle) × (b.engine.device ≡ opening.counted.summary) × (b.statistics ≡ opening.counted.statistics)) }
     ensures settings { IfOk result (λ b. (arc_value b.engine.engine).settings ≡ opening.counted.settings) }
+    ensures mode { IfOk result (λ b. (arc_value b.engine.engine).shared.mode ≡ opening.context.recover_mode) }
     ensures workers { IfOk result (λ b. (vec_len b.flushers ≡ opening.counted.settings.flushers)
         × (vec_len b.reclaimers ≡ opening.counted.settings.reclaimers)) }
     ensures numbers { IfOk result (λ b. map (λ w. w.worker.parts.flusher) b.flushers.items ≡ range_with_len 0 opening.counted.settings.flushers) }
@@ -312,7 +313,7 @@ where
 
     ghost may_refuse = { λ _ context e. IsOpenError context.recover_mode e };
 
-    ghost may_build = { λ config _ engine throttle flushers reclaimers. (engine.admission ≡ config.admission) × (engine.throttle ≡ throttle)
+    ghost may_build = { λ config context engine throttle flushers reclaimers. (engine.admission ≡ config.admission) × ((arc_value engine.engine).shared.mode ≡ context.recover_mode) × (engine.throttle ≡ throttle)
         × (throttle ≡ D.limits config.device) × (engine.device.capacity ≡ D.room config.device)
         × ((arc_value engine.engine).settings
         ≡ settings_of config.sizes (arc_value engine.engine).settings.blocks (arc_value engine.engine).settings.indexer_shards)
@@ -403,7 +404,7 @@ where
             ≡ settings_of config.sizes opening.counted.settings.blocks opening.counted.settings.indexer_shards)
             × (opening.counted.loads ≡ config.sizes.load_engines) × (opening.counted.patience ≡ config.sizes.enqueue_patience) × (opening.env.reinsertion ≡ config.reinsertion)
             × S.gives config.pickers opening.env.pickers.items × (opening.env.generator ≡ generator_of context.generator)
-            × (opening.context ≡ context) → IfOk result (λ b. (b.engine.admission ≡ config.admission) × (b.engine.throttle ≡ b.throttle)
+            × (opening.context ≡ context) → IfOk result (λ b. (b.engine.admission ≡ config.admission) × ((arc_value b.engine.engine).shared.mode ≡ context.recover_mode) × (b.engine.throttle ≡ b.throttle)
             × (b.throttle ≡ D.limits config.device) × (b.engine.device.capacity ≡ D.room config.device)
             × ((arc_value b.engine.engine).settings
             ≡ settings_of config.sizes (arc_value b.engine.engine).settings.blocks (arc_value b.engine.engine).settings.indexer_shards)

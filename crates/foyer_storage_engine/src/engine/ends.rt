@@ -6,11 +6,12 @@ ghost use Rattle.foyer_device_page.specs.declared.error.ErrorKind.TheVariants as
 ghost use Rattle.foyer_core_shared.specs.Answers.{IsAnswer};
 ghost use Rattle.foyer_core_shared.specs.Briefs.{brief_of, reply_brief, step_brief};
 ghost use Rattle.foyer_core_shared.specs.Replies.{may_reply};
+ghost use Rattle.foyer_core_tally.specs.Tally.{saturated};
 ghost use Rattle.foyer_storage_engine.specs.Answering.{is_draw_error};
 ghost use Rattle.foyer_core_shared.specs.declared.brief.ReplyBrief.TheVariants as replied;
 ghost use Rattle.foyer_core_shared.specs.declared.brief.StepBrief.TheVariants as asked;
 ghost use Rattle.foyer_storage_engine.specs.Accessing.{IsCleanedBy};
-ghost use Rattle.foyer_storage_engine.specs.Ending.{AsksForReclaims, AsksToWait, BringsClean, CountsStep, EndsWithClean, HasBegun, HasMade, HoldsNamed, IsEarly, IsUnbegun, early_error, is_late_error};
+ghost use Rattle.foyer_storage_engine.specs.Ending.{AsksForReclaims, AsksToWait, BringsClean, CountsStep, EndsWithClean, HasBegun, HasMade, HoldsButCloses, HoldsButDestroys, HoldsNamed, IsEarly, IsUnbegun, early_error, is_late_error};
 
 use super::BlockEngine;
 use super::waits::{AnsweredWait, BegunWait};
@@ -67,7 +68,7 @@ where
 {
     /// One step, at which a filter that is asked is shown `io`, made again while memory is refused for it. The session's newest
     /// brief is then that of this step and of this very reply.
-    #[tactic(auto, using(crate::proofs::HoldingLemmas::counts_step, crate::proofs::HoldingLemmas::held_by_refusal))]
+    #[tactic(auto, using(crate::proofs::HoldingLemmas::counts_made, crate::proofs::HoldingLemmas::held_by_refusal, crate::proofs::HoldingLemmas::held_but_same))]
     pub fn step_again(
         &self,
         rt: &impl Wait,
@@ -177,13 +178,14 @@ where
     }
 
     /// Takes no more enqueues, deletes and destroys, and waits as `wait` does.
-    #[tactic(auto, using(crate::proofs::HoldingLemmas::held_by_made, crate::proofs::HoldingLemmas::held_on))]
+    #[tactic(auto, using(crate::proofs::HoldingLemmas::closed_by_made, crate::proofs::HoldingLemmas::closes_on))]
     pub fn close(&self, rt: &impl Wait, session: &mut Session<L>) -> Result<()>
         requires { 0 < session.old.shares.parts }
         ensures asks { OnOk result (AsksForReclaims session.new) }
         ensures counted { OnOk result (HasMade (self.now.settings.flushers + 2) session.old session.new) }
         ensures refused { IfErr result (λ e. is_draw_error e ≡ true) }
-        ensures named { HoldsNamed session.old session.new }
+        ensures closed { OnOk result (session.new.closes ≡ saturated (session.old.closes + 1)) }
+        ensures named { HoldsButCloses session.old session.new }
         ensures parts { session.new.shares.parts ≡ session.old.shares.parts }
     {
         if let Reply::Refused(kind, _) = self.shared.step(rt, session, no_io(), Step::Close) {
@@ -193,7 +195,7 @@ where
     }
 
     // Begins a destroy, once none is under way.
-    #[tactic(auto, using(crate::proofs::HoldingLemmas::held_by_made, crate::proofs::HoldingLemmas::held_on))]
+    #[tactic(auto, using(crate::proofs::HoldingLemmas::destroyed_by_made, crate::proofs::HoldingLemmas::destroys_on))]
     fn begin_destroy(
         &self,
         rt: &impl Wait,
@@ -204,7 +206,7 @@ where
         ensures early { IfErr result (IsEarly N.keeps asked.DestroyBegin session.new) }
         ensures refused { IfErr result (λ early. is_draw_error (early_error early) ≡ true) }
         ensures unbegun { IfErr result (λ early. (is_late_error (early_error early) ≡ true) ⊎ IsUnbegun N.keeps session.new (early_error early)) }
-        ensures named { HoldsNamed session.old session.new }
+        ensures named { HoldsButDestroys session.old session.new }
         ensures parts { session.new.shares.parts ≡ session.old.shares.parts }
     {
         for _ in rt.forever() {
@@ -241,13 +243,13 @@ where
     }
 
     // Clears the index, once nothing is under way.
-    #[tactic(auto, using(crate::proofs::HoldingLemmas::held_by_step, crate::proofs::HoldingLemmas::held_on))]
+    #[tactic(auto, using(crate::proofs::HoldingLemmas::destroys_by_step, crate::proofs::HoldingLemmas::destroys_on))]
     fn clear(&self, rt: &impl Wait, session: &mut Session<L>) -> std::result::Result<(), Early>
         requires { 0 < session.old.shares.parts }
         ensures cleared { OnOk result (session.new.newest ≡ Some (record { step = asked.DestroyClear; reply = replied.Cleared })) }
         ensures early { IfErr result (IsEarly false asked.DestroyClear session.new) }
         ensures refused { IfErr result (λ early. is_late_error (early_error early) ≡ true) }
-        ensures named { HoldsNamed session.old session.new }
+        ensures named { HoldsButDestroys session.old session.new }
         ensures parts { session.new.shares.parts ≡ session.old.shares.parts }
     {
         for _ in rt.forever() {
@@ -266,11 +268,11 @@ where
     }
 
     // Cleans a block for a destroy: the outcome of all cleans, where this was the last.
-    #[tactic(auto, using(crate::proofs::HoldingLemmas::held_by_step, crate::proofs::HoldingLemmas::held_on))]
+    #[tactic(auto, using(crate::proofs::HoldingLemmas::destroys_by_step, crate::proofs::HoldingLemmas::destroys_on))]
     fn clean(&self, rt: &impl Wait, session: &mut Session<L>, block: BlockId) -> Option<Result<()>>
         requires { 0 < session.old.shares.parts }
         ensures brings { BringsClean (IsCleanedBy D.is_known D.byte_at D.surely_has D.surely_lies D.faults) block session.new result }
-        ensures named { HoldsNamed session.old session.new }
+        ensures named { HoldsButDestroys session.old session.new }
         ensures parts { session.new.shares.parts ≡ session.old.shares.parts }
     {
         let result = self.reader.lock(rt).clean(block);
@@ -285,7 +287,7 @@ where
     /// Destroys all entries: waits as `wait` does, clears the index, and cleans each block, the last one last. Once it has begun it tries again
     /// what is refused memory. `Closed` where the engine is closed, and `SequenceEnd` where no step is left. `Io`, or another kind, is that
     /// of the first clean that failed: the others were done.
-    #[tactic(auto, using(crate::proofs::HoldingLemmas::held_on))]
+    #[tactic(auto, using(crate::proofs::HoldingLemmas::destroys_on, crate::proofs::HoldingLemmas::destroys_beside))]
     pub fn destroy(&self, rt: &impl Wait, session: &mut Session<L>) -> Result<()>
         requires { 0 < session.old.shares.parts }
         ensures cleaned { OnOk result (0 < self.now.settings.blocks → EndsWithClean (IsCleanedBy D.is_known D.byte_at D.surely_has D.surely_lies D.faults)
@@ -296,7 +298,7 @@ where
         ensures unbegun { IfErr result (λ e. (is_late_error e ≡ true) ⊎ (IsUnbegun N.keeps session.new e
             ⊎ (0 < self.now.settings.blocks → EndsWithClean (IsCleanedBy D.is_known D.byte_at D.surely_has D.surely_lies D.faults)
             (self.now.settings.blocks - 1) session.new result))) }
-        ensures named { HoldsNamed session.old session.new }
+        ensures named { HoldsButDestroys session.old session.new }
         ensures parts { session.new.shares.parts ≡ session.old.shares.parts }
     {
         if let Err(early) = self.begin_destroy(rt, session) {

@@ -10,6 +10,7 @@ use super::Worker;
 use super::receiving::receive_all;
 use crate::hand::Hand;
 use foyer_block_index::manager::BlockId;
+use foyer_block_index::tombstone::Tombstone;
 use foyer_block_manager::block::eviction::EvictionPicker;
 use foyer_block_tombstone::block::tombstone::MarkLog;
 use foyer_core_tally::book::Kinds;
@@ -255,6 +256,40 @@ where
     engine.signals().done.ring(rt);
 }
 
+// Appends the marks of a batch to the log of deletes, if the engine has one, and reports the outcome.
+#[tactic(auto, using(foyer_storage_engine::proofs::HoldingLemmas::held_on, foyer_storage_engine::proofs::HoldingLemmas::held_by_step, foyer_storage_engine::proofs::HoldingLemmas::held_same))]
+fn log_marks<L, K, V, P, A, E, C, D, G, N, M>(
+    rt: &impl Wait,
+    engine: &BlockEngine<L, K, V, P, A, E, C, D, G, N>,
+    log: &Mutex<M>,
+    flusher: u32,
+    session: &mut Session<L>,
+    marks: &[Tombstone],
+)
+where
+    L: Kinds,
+    K: Code<A> + Drop,
+    V: Code<A> + Drop,
+    P: Properties + Drop,
+    A: Allocator + Clone,
+    E: EvictionPicker,
+    C: StorageFilterCondition,
+    D: Disk + Drop,
+    G: Gate,
+    N: Noting,
+    M: MarkLog,
+    requires { 0 < session.old.shares.parts }
+    ensures named { HoldsNamed session.old session.new }
+    ensures parts { session.new.shares.parts ≡ session.old.shares.parts }
+{
+    if !engine.settings().tombstone_log {
+        return;
+    }
+    let result = log.lock(rt).append_marks(marks);
+    let wrote = Step::LogWrote { flusher, result };
+    let _ = engine.step_again(rt, session, no_io(), wrote);
+}
+
 // Takes what is queued, and writes it as one batch: whether there was anything to do.
 #[tactic(auto, using(foyer_storage_engine::proofs::HoldingLemmas::held_on, foyer_storage_engine::proofs::HoldingLemmas::held_by_step))]
 fn flush<L, K, V, P, A, E, C, D, G, N, O, M>(
@@ -289,11 +324,7 @@ where
         _ => return is_busy,
     };
     engine.signals().work.add_batch();
-    if engine.settings().tombstone_log {
-        let result = parts.log.lock(rt).append_marks(&marks);
-        let wrote = Step::LogWrote { flusher, result };
-        let _ = engine.step_again(rt, session, no_io(), wrote);
-    }
+    log_marks(rt, engine, &*parts.log, flusher, session, &marks);
     write_batch(rt, engine, &mut parts.disk, flusher, own, session);
     end_batch(rt, engine, &*parts.keeper, flusher, session);
     true

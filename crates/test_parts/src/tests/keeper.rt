@@ -37,13 +37,13 @@ fn value_of<A: Allocator + Clone>(
     key: u8,
 ) -> Result<u8> {
     match keeper.get(rt, hash, &key)? {
-        Some(piece) => Ok(*piece.value()),
-        None => Ok(b'-'),
+        Ok(piece) => Ok(*piece.value()),
+        Err(_) => Ok(b'-'),
     }
 }
 
 fn has(rt: &impl Wait, keeper: &Bytes<Global>, hash: u8, key: u8) -> u8 {
-    if keeper.contains(rt, u64::from(hash), &key) {
+    if keeper.lacks(rt, u64::from(hash), &key).is_none() {
         b'y'
     } else {
         b'n'

@@ -82,6 +82,8 @@ fn step_of<A: Allocator + Clone>(alloc: &A, word: u8, digit: u8) -> Result<Given
             throttled: false,
         }),
         b'f' => Ok(Step::FlushEnd { flusher: 0 }),
+        b'c' => Ok(Step::Close),
+        b'r' => Ok(Step::DestroyClear),
         _ => Err(Error::Parse),
     }
 }

@@ -233,6 +233,8 @@ use foyer_storage::io::engine::WriteBuffer;
 use foyer_storage::keeper::Keeper;
 use foyer_storage::keeper::Piece;
 use foyer_storage::keeper::PieceRef;
+use foyer_storage::keeper::ShardOf;
+use foyer_storage::keeper::shard::NotKept;
 use foyer_storage::keeper::shard::Reserved;
 use foyer_storage::keeper::shard::Shard;
 use foyer_storage::laws::answers_only;

@@ -9,6 +9,7 @@ use foyer_storage_engine::core_shared::brief::{Brief, ReplyBrief, StepBrief};
 use foyer_storage_engine::core_shared::notes::{KeepsNotes, NoNotes, Noting};
 use foyer_storage_engine::core_shared::session::Session;
 use foyer_storage_engine::core_shared::shared::Shared;
+use foyer_storage_engine::core_steps::open::RecoverMode;
 use std::alloc::Global;
 use std::marker::Brand;
 use std::sync::Wait;
@@ -214,5 +215,27 @@ fn is_dropped_apart<L: Kinds, R: Wait>(rt: &R, alloc: Global, blanks: Blanks) ->
 fn a_dropped_piece_is_counted_apart(rt: HostRuntime) -> std::result::Result<(), Fail> {
     let blanks = Blanks::new(1 << 32);
     assert!(rt; is_dropped_apart::<Brand, HostRuntime>(&rt, rt.alloc(), blanks)?);
+    Ok(())
+}
+
+// Whether each session counts its closes and its steps of a destroy, refused and out of turn too, and takes in another's; and the core
+// says how it was opened.
+fn are_ends_counted<L: Kinds, R: Wait>(rt: &R, alloc: Global, blanks: Blanks) -> Result<bool>
+    requires { AreOf L.name_of L.all blanks × (L.all ≡ 2 ^ 32) }
+{
+    let (locked, mut first) = opened::<L, Global, NoNotes>(&alloc, alloc, blanks)?;
+    let shared = Shared::new(locked);
+    let mut second = first.split(5);
+    make_all(rt, alloc, &shared, &mut first, &mut second, "c0 e1 c0 -r0")?;
+    let (one, two) = (first.ends(), second.ends());
+    first.join(second);
+    let is_mode = shared.recover_mode() == RecoverMode::None;
+    Ok(is_mode && one == [2, 0] && two == [0, 1] && first.ends() == [2, 1])
+}
+
+#[test]
+fn each_session_counts_its_closes_and_destroys(rt: HostRuntime) -> std::result::Result<(), Fail> {
+    let blanks = Blanks::new(1 << 32);
+    assert!(rt; are_ends_counted::<Brand, HostRuntime>(&rt, rt.alloc(), blanks)?);
     Ok(())
 }

@@ -5,7 +5,8 @@ use Rattle.foyer_core_steps.specs.declared.step.Step.TheVariants as steps
 use Rattle.foyer_core_shared.specs.Answers.{IsAnswer}
 use Rattle.foyer_core_threads.proofs.LoadLemmas.{looked_known, end_brings, was_newest, was_missed, was_missed_late, no_entry, stepped_as, ended_as, may_miss, miss_no_refusal, entry_no_refusal, read_no_refusal}
 use Rattle.foyer_core_threads.specs.Done.{IsNoted}
-use Rattle.foyer_core_threads.proofs.DoneLemmas.{made_of, made_as, noted_of, noted_as, only_looked, noted_look_up}
+use Rattle.foyer_core_threads.proofs.DoneLemmas.{made_of, made_as, noted_of, noted_as, only_looked, noted_look_up, look_up_replied, end_replied}
+use Rattle.foyer_core_threads.proofs.GoingLemmas.{on_on}
 use Rattle.foyer_core_threads.proofs.HistoryJoins.{ticket_above}
 use Rattle.foyer_core_told.specs.ToldRights.{ticket_right}
 use Rattle.foyer_core_threads.proofs.shared.ToldShared.load.Goals as goal
@@ -75,3 +76,17 @@ returns-clause-noted g c = inr (
   subst (λ x. IsNoted g.N.Noting.keeps x c.end_load-reply.new.session.session (steps.LoadEnd c.in-Ok.ticket c.in_ok-outcome.outcome) c.end_load-reply.result.0) c.read.ensures.same
       (noted_of c.read.new.session.session c.end_load-reply.new.session.session (steps.LoadEnd c.in-Ok.ticket c.in_ok-outcome.outcome) c.end_load-reply.result.0 g.N.Noting.keeps _ (λ same. ap (λ x. x.session) same) c.end_load-reply.ensures.noted),
 )
+
+pub returns-in-Err-clause-replied : goal.returns-in-Err-clause-replied
+returns-in-Err-clause-replied g c = look_up_replied c.args.hash c.args.throttled c.ask-reply.result.0 c.in-Err.reply g.N.Noting.keeps c.ask-reply.ensures.replied c.in-Err.ensures.0
+
+pub returns-clause-replied : goal.returns-clause-replied
+returns-clause-replied g c = end_replied c.args.throttled c.in-Ok.ticket c.in_ok-outcome.outcome c.end_load-reply.result.0 g.N.Noting.keeps c.end_load-reply.ensures.replied
+
+pub returns-in-Err-clause-on : goal.returns-in-Err-clause-on
+returns-in-Err-clause-on g c = c.ask-reply.ensures.on
+
+pub returns-clause-on : goal.returns-clause-on
+returns-clause-on g c =
+    on_on (meaning g.K.Code.encoding g.V.Code.encoding g.K.Code.is_encodable g.V.Code.is_encodable g.K.Code.is_decodable g.V.Code.is_decodable g.P.Properties.age) g.D.Disk.byte_at c.args.session.now.witness.me.0 c.read.new.session.witness.me.0 c.end_load-reply.new.session.witness.me.0
+    (on_on (meaning g.K.Code.encoding g.V.Code.encoding g.K.Code.is_encodable g.V.Code.is_encodable g.K.Code.is_decodable g.V.Code.is_decodable g.P.Properties.age) g.D.Disk.byte_at c.args.session.now.witness.me.0 c.ask-reply.new.session.witness.me.0 c.read.new.session.witness.me.0 c.ask-reply.ensures.on c.read.ensures.on) c.end_load-reply.ensures.on

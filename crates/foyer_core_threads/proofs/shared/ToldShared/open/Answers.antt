@@ -1,10 +1,12 @@
-use Rattle.std.proofs.Common.{◌≡◌, ◌⊎◌, false}
+use Rattle.std.proofs.Common.{◌≡◌, ◌⊎◌, false, subst}
 use Rattle.foyer_block_recover.proofs.SourcesLemmas.{none_listed, sure_of_none}
 use Rattle.foyer_block_recover.specs.Recovery.{marks_of}
 use Rattle.foyer_block_recover.specs.declared.block.recover.RecoverMode.TheVariants as recover_mode
+use Rattle.foyer_core_laws.specs.Content.{meaning}
 use Rattle.foyer_core_laws.specs.Sizes.{sizes_in}
 use Rattle.foyer_core_steps.specs.Opened.{IsOpenedFrom}
 use Rattle.foyer_io_disk.specs.Disk.{SurelyCame}
+use Rattle.foyer_core_threads.specs.Asking.{HasSizes}
 use Rattle.foyer_core_threads.proofs.ToldOpenings.{was_opened}
 use Rattle.foyer_core_threads.proofs.shared.ToldShared.open.Goals as goal
 
@@ -30,3 +32,11 @@ returns-clause-seen g c =
           (λ sure. IsOpenedFrom c.args.settings (g.D.Disk.byte_at c.args.disk) sure c.args.mode (marks_of c.args.marks.now) ((c.args.mode ≡ recover_mode.None) ⊎ g.D.Disk.is_known c.args.disk) core)
           from,
     )
+
+pub returns-clause-sizes : goal.returns-clause-sizes
+returns-clause-sizes g c =
+    let from = c.in-Ok.ensures.opened (g.D.Disk.byte_at c.args.disk) (λ b p. false) (none_listed (sizes_in c.args.settings) c.args.settings.blocks (g.D.Disk.byte_at c.args.disk) c.none-listings.result.slots.items c.none-listings.ensures) in
+    subst (λ t. HasSizes (meaning g.K.Code.encoding g.V.Code.encoding g.K.Code.is_encodable g.V.Code.is_encodable g.K.Code.is_decodable g.V.Code.is_decodable g.P.Properties.age) g.D.Disk.byte_at c.new.result.1.witness.me.0.seen t) from.opened.sizes c.new.ensures.sizes
+
+pub returns-in-Err-clause-refused : goal.returns-in-Err-clause-refused
+returns-in-Err-clause-refused g c = c.in-Err.ensures.refused

@@ -9,3 +9,6 @@ returns-clause-blocks g c = (
 
 pub returns-clause-loads : goal.returns-clause-loads
 returns-clause-loads g c = rw c.new-built.ensures.engine c.in_ok-opened.ensures.loads
+
+pub returns-clause-mode : goal.returns-clause-mode
+returns-clause-mode g c = rw c.new-built.ensures.engine c.in_ok-opened.ensures.mode

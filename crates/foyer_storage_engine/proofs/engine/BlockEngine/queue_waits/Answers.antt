@@ -12,7 +12,7 @@ loop-flusher-preserved g c =
       λ some. subst (λ f. AsksToWait f c.id-id.result c.step-reply.new.session) (sym same)
           (asked_to_wait g.N.Noting.keeps c.loop-flusher.session c.step-reply.new.session c.loop-flusher.flusher c.id-id.result c.step-reply.result c.step-reply.ensures.noted (λ k back is. c.in_default.not-Refused k back is)),
       held_on c.args.session.now c.loop-flusher.session c.step-reply.new.session c.loop-flusher.invariant.2
-          (held_by_made g.N.Noting.keeps c.loop-flusher.session c.step-reply.new.session (step.Wait c.loop-flusher.flusher c.id-id.result) c.step-reply.result refl c.step-reply.ensures.noted),
+          (held_by_made g.N.Noting.keeps c.loop-flusher.session c.step-reply.new.session (step.Wait c.loop-flusher.flusher c.id-id.result) c.step-reply.result refl refl refl c.step-reply.ensures.noted),
       made_one g.N.Noting.keeps c.args.session.now c.loop-flusher.session c.step-reply.new.session (step.Wait c.loop-flusher.flusher c.id-id.result) c.step-reply.result c.loop-flusher.flusher refl c.step-reply.ensures.noted
           (λ k back is. c.in_default.not-Refused k back is) c.loop-flusher.invariant.3,
     )

@@ -11,7 +11,7 @@ use Rattle.foyer_storage_workers.proofs.workers.flusher.write_block.Goals as goa
 pub writes-init : goal.writes-init
 writes-init g c = record {
   parts = refl;
-  named = refl;
+  named = (refl, refl, refl);
   known = λ known. known;
   reported = λ known some. absurd (omega (arith, some));
   so_far = λ known. goes_first (λ w. w.offset) (λ w. written_bytes w.bytes) c.args.flusher c.args.block c.args.writes.now (g.O.Disk.byte_at c.args.disk.now) refl;

@@ -1,0 +1,9 @@
+use Rattle.std.specs.Prelude.{◌≡◌}
+use Rattle.foyer_core_laws.specs.Content.{meaning}
+use Rattle.foyer_core_threads.specs.Going.{GoesOn}
+use Rattle.foyer_core_model.specs.Access.{ReadIssued}
+use Rattle.foyer_io_told.specs.ToldAccess.{HasScan}
+use Rattle.foyer_storage_history.proofs.maintainer.Maintainer.read_block.Given as goal
+
+abbrev pub invariant-parts : goal.invariant-parts
+invariant-parts g l = GoesOn (meaning g.K.Code.encoding g.V.Code.encoding g.K.Code.is_encodable g.V.Code.is_encodable g.K.Code.is_decodable g.V.Code.is_decodable g.P.Properties.age) g.D.Disk.byte_at l.fn.self.told.witness.me.0 l.self.told.witness.me.0 × (l.self.settings ≡ l.fn.self.settings) × HasScan (meaning g.K.Code.encoding g.V.Code.encoding g.K.Code.is_encodable g.V.Code.is_encodable g.K.Code.is_decodable g.V.Code.is_decodable g.P.Properties.age) g.D.Disk.byte_at l.self.told.witness.me.0.seen l.block l.part ReadIssued

@@ -1,0 +1,329 @@
+//! The engine.
+ghost use Rattle.std.specs.Prelude.{◌≡◌, ◌≢◌, ◌⊎◌, ◌+◌, ◌-◌, ◌<◌, [], IfErr, IfOk, false, true};
+ghost use Rattle.foyer_core_chronicle.specs.SharedHistory.{newcomer};
+ghost use Rattle.foyer_core_laws.specs.Content.{meaning};
+ghost use Rattle.foyer_core_model.specs.Ids.{ids};
+ghost use Rattle.foyer_core_steps.specs.declared.step.Step.TheVariants as steps;
+ghost use Rattle.foyer_core_tally.specs.Ledgers.{AreOf};
+ghost use Rattle.foyer_core_told.specs.ToldRights.{rights_count};
+ghost use Rattle.foyer_core_threads.specs.Going.{GoesOn};
+ghost use Rattle.foyer_device_page.specs.declared.error.Error.TheVariants.{Config, Memory, Recover, SequenceEnd};
+ghost use Rattle.foyer_storage_engine.specs.Answering.{asked_as, deleted_as, enqueued_as, is_draw_error, is_load_error, is_question_error};
+ghost use Rattle.foyer_storage_engine.specs.Keeping.{IsKeptWhereQueued};
+ghost use Rattle.foyer_storage_engine.specs.Kept.{reference_of};
+ghost use Rattle.foyer_storage_history.specs.HistoryCalls.{IsAnswerTo, IsEnqueued, IsNewestAnswer, IsSeenBy};
+
+mod calls;
+mod ends;
+
+use crate::maintainer::{HistoryCore, Maintainer};
+use crate::session::HistorySession;
+use foyer_block_manager::block::eviction::EvictionPicker;
+use foyer_core_settings::settings::Settings;
+use foyer_core_shared::core_steps::apply::{Env, no_io};
+use foyer_core_shared::core_steps::open::RecoverMode;
+use foyer_core_shared::core_steps::reply::Reply;
+use foyer_core_shared::core_steps::step::Step;
+use foyer_core_tally::book::{Blanks, Kinds};
+use foyer_core_threads::core_told::history::{ToldHistory, ToldWitness};
+use foyer_core_threads::io_told::disk::HistoryName;
+use foyer_device_page::error::{Error, Result};
+use foyer_format_record::serde::{Code, Properties};
+use foyer_io_disk::disk::Disk;
+use foyer_lock::lock_spinning;
+use foyer_policy_filter::StorageFilterCondition;
+use foyer_policy_keeper::keeper::shard::{NotKept, Shard};
+use foyer_policy_keeper::keeper::{Keeper, ShardOf};
+use foyer_policy_piece::keeper::Piece;
+use foyer_storage_engine::answers::{answer_of, deleted_of, enqueued_of, load_of};
+use foyer_storage_engine::engine::Enqueued;
+use foyer_storage_engine::engine::counts::WorkCounters;
+use foyer_storage_engine::enqueue::put_where_queued;
+use foyer_storage_engine::load::Load;
+use std::alloc::Global;
+use std::sync::{Arc, Mutex, Wait};
+
+/// An engine over memory that threads share by reference: a core behind one lock, its disk behind another, and the history of what threads do
+/// to them.
+pub struct HistoryEngine<J, L, K, V, P, E, C, D>
+where
+    J: HistoryName,
+    L: Kinds,
+    K: Code<Global> + Eq,
+    V: Code<Global>,
+    P: Properties + Drop,
+    E: EvictionPicker,
+    C: StorageFilterCondition,
+    D: Disk + Drop,
+{
+    shared: HistoryCore<J, L, K, V, P, E, C, D>,
+    maintainer: Mutex<Maintainer<J, L, K, V, P, D>>,
+    pub(crate) keeper: Arc<Keeper<K, V, P, Global>, Global>,
+    settings: Settings,
+    work: WorkCounters,
+    alloc: Global,
+}
+
+// Written out, so that it is proved once.
+impl<J, L, K, V, P, E, C, D> Drop for HistoryEngine<J, L, K, V, P, E, C, D>
+where
+    J: HistoryName,
+    L: Kinds,
+    K: Code<Global> + Eq + Drop,
+    V: Code<Global> + Drop,
+    P: Properties + Drop,
+    E: EvictionPicker,
+    C: StorageFilterCondition,
+    D: Disk + Drop,
+{
+    fn drop(self) {
+        let HistoryEngine {
+            shared: _,
+            maintainer: _,
+            keeper: _,
+            settings: _,
+            work: _,
+            alloc: _,
+        } = self;
+    }
+}
+
+impl<J, L, K, V, P, E, C, D> HistoryEngine<J, L, K, V, P, E, C, D>
+where
+    J: HistoryName,
+    L: Kinds,
+    K: Code<Global> + Eq + Drop,
+    V: Code<Global> + Drop,
+    P: Properties + Drop,
+    E: EvictionPicker,
+    C: StorageFilterCondition,
+    D: Disk + Drop,
+{
+    /// Opens an engine over a disk whose bytes are known, with an empty history of the name `J` and the witness of all its rights; the session
+    /// has all parts but one. Pieces that are queued are kept in so many shards. `Config`, if the settings can't be met, or ask for a log of
+    /// deletes; `Recover` for bytes that a strict recovery refuses; `Memory`; `SequenceEnd`.
+    #[tactic(auto, using(crate::proofs::HistoryLemmas::nil_is))]
+    pub fn open(
+        history: ToldHistory<K, V, P, Global, D>,
+        witness: ToldWitness<K, V, P, Global, D>,
+        alloc: Global,
+        env: Env<E, C>,
+        settings: Settings,
+        disk: D,
+        mode: RecoverMode,
+        shards: usize,
+        blanks: Blanks,
+    ) -> Result<
+        (
+            HistoryEngine<J, L, K, V, P, E, C, D>,
+            HistorySession<J, L, K, V, P, D>,
+        ),
+    >
+        requires history { history.table.shared.table_id ≡ J.table }
+        requires witness { (witness.table_id ≡ J.table) × (witness.me ≡ (newcomer (ids rights_count), [])) }
+        requires known { D.is_known disk }
+        requires ledgers { AreOf L.name_of L.all blanks }
+        requires parts { 1 < L.all }
+        requires shards { shards ≢ 0 }
+        ensures settings { IfOk result (λ r. r.0.settings ≡ settings) }
+        ensures log { IfOk result (λ _. settings.tombstone_log ≡ false) }
+        ensures parts { IfOk result (λ r. r.1.told.session.shares.parts ≡ L.all - 1) }
+        ensures refused { IfErr result (λ e. (e ≡ Memory) ⊎ ((e ≡ Config) ⊎ ((e ≡ Recover) ⊎ (e ≡ SequenceEnd)))) }
+    {
+        if settings.tombstone_log {
+            return Err(Error::Config);
+        }
+        let (shared, mut all) = HistoryCore::<J, L, K, V, P, E, C, D>::open(
+            history,
+            witness,
+            alloc,
+            env,
+            settings,
+            disk,
+            mode,
+            &[],
+            blanks,
+        )?;
+        let keeper = Arc::new(alloc, Keeper::new(alloc, shards)?)?;
+        let parts = all.session.parts() - 1;
+        let caller = all.split(shared.history(), parts);
+        let engine = HistoryEngine {
+            shared,
+            maintainer: Mutex::new(Maintainer::new(all, settings)),
+            keeper,
+            settings,
+            work: WorkCounters::new(),
+            alloc,
+        };
+        Ok((engine, HistorySession::new(caller)))
+    }
+
+    /// The settings that it was opened with.
+    pub fn settings(&self) -> &Settings
+        ensures { result.now ≡ self.now.settings }
+    {
+        &self.settings
+    }
+
+    /// Gives so many parts of a session to another one, for another thread, which has seen what the first has.
+    #[tactic(auto, using(crate::proofs::HistoryLemmas::nil_is))]
+    pub fn split(
+        &self,
+        session: &mut HistorySession<J, L, K, V, P, D>,
+        parts: u64,
+    ) -> HistorySession<J, L, K, V, P, D>
+        requires some { 0 < parts }
+        requires fewer { parts < session.old.told.session.shares.parts }
+        ensures parts { result.told.session.shares.parts ≡ parts }
+        ensures seen { IsSeenBy session.old.told.witness.me.0 result.told.witness.me.0 }
+        ensures left { session.new.told.session.shares.parts ≡ session.old.told.session.shares.parts - parts }
+        ensures on { GoesOn (meaning K.encoding V.encoding K.is_encodable V.is_encodable K.is_decodable V.is_decodable P.age) D.byte_at session.old.told.witness.me.0 session.new.told.witness.me.0 }
+    {
+        HistorySession::new(session.told.split(self.shared.history(), parts))
+    }
+
+    /// Takes another thread's session back: its parts, and what it has seen.
+    #[tactic(auto, using(crate::proofs::HistoryLemmas::nil_is))]
+    pub fn join(
+        &self,
+        session: &mut HistorySession<J, L, K, V, P, D>,
+        other: HistorySession<J, L, K, V, P, D>,
+    )
+        ensures seen { IsSeenBy other.told.witness.me.0 session.new.told.witness.me.0 }
+        ensures on { GoesOn (meaning K.encoding V.encoding K.is_encodable V.is_encodable K.is_decodable V.is_decodable P.age) D.byte_at session.old.told.witness.me.0 session.new.told.witness.me.0 }
+    {
+        session.told.join(self.shared.history(), other.into_told());
+    }
+
+    // Writes what is queued, if so much is that a piece isn't taken.
+    #[tactic(auto, using(crate::proofs::HistoryLemmas::nil_is))]
+    fn make_room(&self, rt: &impl Wait) {
+        if !self.shared.is_full(rt) {
+            return;
+        }
+        let mut maintainer = lock_spinning(&self.maintainer, rt);
+        for flusher in 0..self.settings.flushers {
+            let _ = maintainer.flush(
+                rt,
+                &self.shared,
+                &*self.keeper,
+                &self.work,
+                &self.alloc,
+                flusher,
+                0,
+            );
+        }
+    }
+
+    // Queues a piece, and puts it into a keeper's shard where it is queued, under the shard's next number.
+    #[tactic(auto, using(crate::proofs::HistoryLemmas::nil_is))]
+    fn enqueue_into(
+        &self,
+        rt: &impl Wait,
+        session: &mut HistorySession<J, L, K, V, P, D>,
+        shard: &mut Shard<K, V, P, Global>,
+        piece: &Piece<K, V, P, Global>,
+        size: usize,
+    ) -> Result<Enqueued>
+        ensures answer { IsEnqueued (meaning K.encoding V.encoding K.is_encodable V.is_encodable K.is_decodable V.is_decodable P.age) D.byte_at session.old.told.witness.me.0 session.new.told.witness.me.0 piece.now.hash size result }
+        ensures kept { IsKeptWhereQueued K.eq shard.old.map shard.new.map (reference_of piece.now (shard.old.last + 1)) result }
+        ensures refused { IfErr result (λ e. is_draw_error e ≡ true) }
+    {
+        // For the prover alone: a hash has 64 bits.
+        let _hash = piece.hash();
+        let (piece, reserved) = shard.reserve(piece)?;
+        let step = Step::Enqueue { piece, size };
+        let (reply, _) = self.shared.ask(rt, &mut session.told, no_io(), step);
+        put_where_queued(shard, reserved, &reply);
+        enqueued_of(reply)
+    }
+
+    // The same under the lock of the shard that the piece's hash lies in.
+    #[tactic(auto, using(crate::proofs::HistoryLemmas::nil_is))]
+    fn enqueue_at(
+        &self,
+        rt: &impl Wait,
+        session: &mut HistorySession<J, L, K, V, P, D>,
+        shard: ShardOf<'_, K, V, P, Global>,
+        piece: &Piece<K, V, P, Global>,
+        size: usize,
+    ) -> Result<Enqueued>
+        requires { shard.hash ≡ piece.now.hash }
+        ensures answer { IsEnqueued (meaning K.encoding V.encoding K.is_encodable V.is_encodable K.is_decodable V.is_decodable P.age) D.byte_at session.old.told.witness.me.0 session.new.told.witness.me.0 piece.now.hash size result }
+        ensures refused { IfErr result (λ e. is_draw_error e ≡ true) }
+    {
+        let lock = shard.lock();
+        self.enqueue_into(rt, session, &mut lock_spinning(lock, rt), piece, size)
+    }
+
+    /// Queues a piece, and keeps it in this keeper if it is queued. If too much is queued that is written first.
+    #[tactic(auto, using(crate::proofs::HistoryLemmas::nil_is))]
+    pub fn enqueue_kept(
+        &self,
+        rt: &impl Wait,
+        session: &mut HistorySession<J, L, K, V, P, D>,
+        keeper: &Keeper<K, V, P, Global>,
+        piece: &Piece<K, V, P, Global>,
+        size: usize,
+    ) -> Result<Enqueued>
+        ensures answer { IsEnqueued (meaning K.encoding V.encoding K.is_encodable V.is_encodable K.is_decodable V.is_decodable P.age) D.byte_at session.old.told.witness.me.0 session.new.told.witness.me.0 piece.now.hash size result }
+        ensures refused { IfErr result (λ e. is_draw_error e ≡ true) }
+    {
+        self.make_room(rt);
+        self.enqueue_at(rt, session, keeper.shard(piece.hash()), piece, size)
+    }
+
+    /// Accepts a delete of a hash.
+    #[tactic(auto, using(crate::proofs::HistoryLemmas::nil_is))]
+    pub fn delete_hash(
+        &self,
+        rt: &impl Wait,
+        session: &mut HistorySession<J, L, K, V, P, D>,
+        hash: u64,
+    ) -> Result<()>
+        ensures answer { IsAnswerTo (meaning K.encoding V.encoding K.is_encodable V.is_encodable K.is_decodable V.is_decodable P.age) D.byte_at deleted_as session.old.told.witness.me.0 session.new.told.witness.me.0 (steps.Delete hash) result }
+        ensures refused { IfErr result (λ e. is_draw_error e ≡ true) }
+    {
+        self.make_room(rt);
+        let step = Step::Delete { hash };
+        let (reply, _) = self.shared.ask(rt, &mut session.told, no_io(), step);
+        deleted_of(reply)
+    }
+
+    /// Whether a hash is indexed, of which a keeper had no piece.
+    #[tactic(auto, using(crate::proofs::HistoryLemmas::nil_is))]
+    pub fn is_indexed(
+        &self,
+        rt: &impl Wait,
+        session: &mut HistorySession<J, L, K, V, P, D>,
+        lacking: NotKept,
+    ) -> Result<bool>
+        ensures answer { IsAnswerTo (meaning K.encoding V.encoding K.is_encodable V.is_encodable K.is_decodable V.is_decodable P.age) D.byte_at asked_as session.old.told.witness.me.0 session.new.told.witness.me.0 (steps.MayContains lacking.hash) result }
+        ensures refused { IfErr result (λ e. is_question_error false e ≡ true) }
+    {
+        let step = Step::MayContains {
+            hash: lacking.hash(),
+        };
+        let (reply, _) = self.shared.ask(rt, &mut session.told, no_io(), step);
+        answer_of(reply)
+    }
+
+    /// Looks a hash up, of which a keeper had no piece, and reads what it stands for. An entry was the newest put of its hash at a moment
+    /// between call and return, in the one history of all threads, after all that the session had seen; a miss has its cause there.
+    #[tactic(auto, using(crate::proofs::HistoryLemmas::nil_is))]
+    pub fn load_newest(
+        &self,
+        rt: &impl Wait,
+        session: &mut HistorySession<J, L, K, V, P, D>,
+        lacking: NotKept,
+    ) -> Result<Load<K, V, P, Global>>
+        ensures newest { IsNewestAnswer (meaning K.encoding V.encoding K.is_encodable V.is_encodable K.is_decodable V.is_decodable P.age) D.byte_at session.old.told.witness.me.0 session.new.told.witness.me.0 lacking.hash result }
+        ensures on { GoesOn (meaning K.encoding V.encoding K.is_encodable V.is_encodable K.is_decodable V.is_decodable P.age) D.byte_at session.old.told.witness.me.0 session.new.told.witness.me.0 }
+        ensures refused { IfErr result (λ e. is_load_error e ≡ true) }
+    {
+        let reply = self
+            .shared
+            .load(rt, &mut session.told, &self.alloc, lacking.hash(), false)?;
+        load_of(reply)
+    }
+}

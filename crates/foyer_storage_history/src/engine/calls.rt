@@ -1,0 +1,144 @@
+//! The engine's calls, as a store makes them.
+use super::HistoryEngine;
+use crate::session::HistorySession;
+use foyer_block_manager::block::eviction::EvictionPicker;
+use foyer_core_shared::core_steps::apply::no_io;
+use foyer_core_tally::book::Kinds;
+use foyer_core_threads::io_told::disk::HistoryName;
+use foyer_device_page::error::Result;
+use foyer_device_statistics::IoState;
+use foyer_format_record::serde::{Code, Properties};
+use foyer_io_disk::disk::Disk;
+use foyer_policy_filter::{StorageFilterCondition, StorageFilterResult};
+use foyer_policy_keeper::keeper::Keeper;
+use foyer_policy_keeper::keeper::shard::NotKept;
+use foyer_policy_piece::keeper::Piece;
+use foyer_storage_engine::engine::Enqueued;
+use foyer_storage_engine::engine::counts::WorkCounts;
+use foyer_storage_engine::load::Load;
+use foyer_storage_store::calls::{DeviceSummary, Engine};
+use std::alloc::Global;
+use std::sync::Wait;
+
+impl<J, L, K, V, P, E, C, D> Engine<HistorySession<J, L, K, V, P, D>, K, V, P>
+    for HistoryEngine<J, L, K, V, P, E, C, D>
+where
+    J: HistoryName,
+    L: Kinds,
+    K: Code<Global> + Eq + Drop,
+    V: Code<Global> + Drop,
+    P: Properties + Drop,
+    E: EvictionPicker,
+    C: StorageFilterCondition,
+    D: Disk + Drop,
+{
+    ghost use Rattle.std.specs.Prelude.{◌≡◌, ◌⊎◌, ◌*◌, ◌-◌, ◌<◌, ℕ, IfErr, OnOk, min, ◌^◌, true};
+    ghost use Rattle.foyer_core_laws.specs.Content.{meaning};
+    ghost use Rattle.foyer_core_steps.specs.declared.step.Step.TheVariants as steps;
+    ghost use Rattle.foyer_core_threads.specs.Going.{GoesOn};
+    ghost use Rattle.foyer_policy_filter.specs.Verdict.{IsAdmit};
+    ghost use Rattle.foyer_storage_engine.specs.Answering.{asked_as, deleted_as};
+    ghost use Rattle.foyer_storage_history.specs.HistoryCalls.{IsAnswerTo, IsClosed, IsDestroyed, IsEnqueued, IsNewestAnswer, IsWaitedFor};
+
+    ghost summary = { λ engine. record { capacity = min (engine.settings.blocks * engine.settings.block_size) (2 ^ 64 - 1); allocated = min (engine.settings.blocks * engine.settings.block_size) (2 ^ 64 - 1); partitions = engine.settings.blocks } };
+
+    ghost may_judge = { λ _ _ _ verdict. IsAdmit verdict };
+
+    ghost may_enqueue = { λ _ old new hash size answer. IsEnqueued (meaning K.encoding V.encoding K.is_encodable V.is_encodable K.is_decodable V.is_decodable P.age) D.byte_at old.told.witness.me.0 new.told.witness.me.0 hash size answer };
+
+    ghost may_load = { λ _ old new hash answer. IsNewestAnswer (meaning K.encoding V.encoding K.is_encodable V.is_encodable K.is_decodable V.is_decodable P.age) D.byte_at old.told.witness.me.0 new.told.witness.me.0 hash answer };
+
+    ghost may_delete = { λ _ old new hash answer. IsAnswerTo (meaning K.encoding V.encoding K.is_encodable V.is_encodable K.is_decodable V.is_decodable P.age) D.byte_at deleted_as old.told.witness.me.0 new.told.witness.me.0 (steps.Delete hash) answer };
+
+    ghost may_ask = { λ _ old new hash answer. IsAnswerTo (meaning K.encoding V.encoding K.is_encodable V.is_encodable K.is_decodable V.is_decodable P.age) D.byte_at asked_as old.told.witness.me.0 new.told.witness.me.0 (steps.MayContains hash) answer };
+
+    ghost may_wait = { λ engine old new answer. OnOk answer ((flusher : ℕ) → flusher < engine.settings.flushers → IsWaitedFor (meaning K.encoding V.encoding K.is_encodable V.is_encodable K.is_decodable V.is_decodable P.age) D.byte_at old.told.witness.me.0 new.told.witness.me.0 flusher) };
+
+    ghost may_close = { λ engine old new answer. OnOk answer (IsClosed (meaning K.encoding V.encoding K.is_encodable V.is_encodable K.is_decodable V.is_decodable P.age) D.byte_at old.told.witness.me.0 new.told.witness.me.0 engine.settings.flushers) };
+
+    ghost may_destroy = { λ engine old new answer. OnOk answer ((blocks : ℕ) × (0 < blocks → IsDestroyed (meaning K.encoding V.encoding K.is_encodable V.is_encodable K.is_decodable V.is_decodable P.age) D.byte_at old.told.witness.me.0 new.told.witness.me.0 (blocks - 1) answer)) };
+
+    fn device(&self) -> DeviceSummary {
+        let settings = self.settings;
+        let capacity = (settings.blocks as usize).saturating_mul(settings.block_size);
+        DeviceSummary {
+            capacity,
+            allocated: capacity,
+            partitions: settings.blocks as usize,
+        }
+    }
+
+    fn io_state(&self, _rt: &impl Wait, _now: u64) -> IoState {
+        no_io()
+    }
+
+    fn work(&self) -> WorkCounts {
+        self.work.shown()
+    }
+
+    fn filter(&self, _rt: &impl Wait, _hash: u64, _size: usize, _now: u64) -> StorageFilterResult {
+        StorageFilterResult::Admit
+    }
+
+    #[tactic(auto, using(crate::proofs::HistoryLemmas::nil_is))]
+    fn enqueue(
+        &self,
+        rt: &impl Wait,
+        session: &mut HistorySession<J, L, K, V, P, D>,
+        keeper: &Keeper<K, V, P, Global>,
+        piece: &Piece<K, V, P, Global>,
+        size: usize,
+    ) -> Result<Enqueued> {
+        self.enqueue_kept(rt, session, keeper, piece, size)
+    }
+
+    #[tactic(auto, using(crate::proofs::HistoryLemmas::nil_is))]
+    fn load(
+        &self,
+        rt: &impl Wait,
+        session: &mut HistorySession<J, L, K, V, P, D>,
+        lacking: NotKept,
+        _now: u64,
+    ) -> Result<Load<K, V, P, Global>> {
+        self.load_newest(rt, session, lacking)
+    }
+
+    #[tactic(auto, using(crate::proofs::HistoryLemmas::nil_is))]
+    fn delete(
+        &self,
+        rt: &impl Wait,
+        session: &mut HistorySession<J, L, K, V, P, D>,
+        hash: u64,
+    ) -> Result<()> {
+        self.delete_hash(rt, session, hash)
+    }
+
+    #[tactic(auto, using(crate::proofs::HistoryLemmas::nil_is))]
+    fn may_contains(
+        &self,
+        rt: &impl Wait,
+        session: &mut HistorySession<J, L, K, V, P, D>,
+        lacking: NotKept,
+    ) -> Result<bool> {
+        self.is_indexed(rt, session, lacking)
+    }
+
+    #[tactic(auto, using(crate::proofs::HistoryLemmas::nil_is))]
+    fn destroy(
+        &self,
+        rt: &impl Wait,
+        session: &mut HistorySession<J, L, K, V, P, D>,
+    ) -> Result<()> {
+        self.destroy_all(rt, session)
+    }
+
+    #[tactic(auto, using(crate::proofs::HistoryLemmas::nil_is))]
+    fn wait(&self, rt: &impl Wait, session: &mut HistorySession<J, L, K, V, P, D>) -> Result<()> {
+        self.wait_all(rt, session)
+    }
+
+    #[tactic(auto, using(crate::proofs::HistoryLemmas::nil_is))]
+    fn close(&self, rt: &impl Wait, session: &mut HistorySession<J, L, K, V, P, D>) -> Result<()> {
+        self.close_all(rt, session)
+    }
+}

@@ -1,0 +1,123 @@
+//! The calls that wait, close and destroy.
+ghost use Rattle.std.specs.Prelude.{◌≡◌, ◌⊎◌, ◌-◌, ◌<◌, ℕ, IfErr, OnOk, true};
+ghost use Rattle.foyer_core_laws.specs.Content.{meaning};
+ghost use Rattle.foyer_core_threads.specs.Going.{GoesOn};
+ghost use Rattle.foyer_device_page.specs.declared.error.Error.TheVariants as error;
+ghost use Rattle.foyer_storage_engine.specs.Answering.{is_draw_error};
+ghost use Rattle.foyer_storage_history.specs.HistoryCalls.{IsClosed, IsDestroyed, IsWaitedFor};
+
+use super::HistoryEngine;
+use crate::session::HistorySession;
+use foyer_block_manager::block::eviction::EvictionPicker;
+use foyer_core_shared::core_steps::apply::no_io;
+use foyer_core_shared::core_steps::refusal::error_of;
+use foyer_core_shared::core_steps::reply::Reply;
+use foyer_core_shared::core_steps::step::Step;
+use foyer_core_tally::book::Kinds;
+use foyer_core_threads::io_told::disk::HistoryName;
+use foyer_device_page::error::{Error, Result};
+use foyer_format_record::serde::{Code, Properties};
+use foyer_io_disk::disk::Disk;
+use foyer_lock::lock_spinning;
+use foyer_policy_filter::StorageFilterCondition;
+use std::alloc::Global;
+use std::sync::Wait;
+
+impl<J, L, K, V, P, E, C, D> HistoryEngine<J, L, K, V, P, E, C, D>
+where
+    J: HistoryName,
+    L: Kinds,
+    K: Code<Global> + Eq + Drop,
+    V: Code<Global> + Drop,
+    P: Properties + Drop,
+    E: EvictionPicker,
+    C: StorageFilterCondition,
+    D: Disk + Drop,
+{
+    // Queues a wait at a flusher, and writes until a batch's end answers it.
+    #[tactic(auto, using(crate::proofs::HistoryLemmas::nil_is))]
+    fn wait_for(
+        &self,
+        rt: &impl Wait,
+        session: &mut HistorySession<J, L, K, V, P, D>,
+        flusher: u32,
+    ) -> Result<()>
+        ensures waited { OnOk result (IsWaitedFor (meaning K.encoding V.encoding K.is_encodable V.is_encodable K.is_decodable V.is_decodable P.age) D.byte_at session.old.told.witness.me.0 session.new.told.witness.me.0 flusher) }
+        ensures on { GoesOn (meaning K.encoding V.encoding K.is_encodable V.is_encodable K.is_decodable V.is_decodable P.age) D.byte_at session.old.told.witness.me.0 session.new.told.witness.me.0 }
+        ensures refused { IfErr result (λ e. (is_draw_error e ≡ true) ⊎ (e ≡ error.Unsupported)) }
+    {
+        let mut maintainer = lock_spinning(&self.maintainer, rt);
+        maintainer.wait_for(
+            rt,
+            &self.shared,
+            &*self.keeper,
+            &self.work,
+            &self.alloc,
+            &mut session.told,
+            flusher,
+        )
+    }
+
+    /// Waits until all that was queued before is written: each flusher in turn.
+    #[tactic(auto, using(crate::proofs::HistoryLemmas::nil_is, crate::proofs::HistoryLemmas::goes_on, crate::proofs::HistoryLemmas::goes_self))]
+    pub fn wait_all(
+        &self,
+        rt: &impl Wait,
+        session: &mut HistorySession<J, L, K, V, P, D>,
+    ) -> Result<()>
+        ensures waited { OnOk result ((flusher : ℕ) → flusher < self.now.settings.flushers → IsWaitedFor (meaning K.encoding V.encoding K.is_encodable V.is_encodable K.is_decodable V.is_decodable P.age) D.byte_at session.old.told.witness.me.0 session.new.told.witness.me.0 flusher) }
+        ensures on { GoesOn (meaning K.encoding V.encoding K.is_encodable V.is_encodable K.is_decodable V.is_decodable P.age) D.byte_at session.old.told.witness.me.0 session.new.told.witness.me.0 }
+        ensures refused { IfErr result (λ e. (is_draw_error e ≡ true) ⊎ (e ≡ error.Unsupported)) }
+    {
+        for flusher in 0..self.settings.flushers {
+            match self.wait_for(rt, session, flusher) {
+                Ok(()) => {}
+                Err(error) => return Err(error),
+            }
+        }
+        Ok(())
+    }
+
+    /// Takes no more puts, deletes and destroys, and waits.
+    #[tactic(auto, using(crate::proofs::HistoryLemmas::nil_is, crate::proofs::HistoryLemmas::goes_on, crate::proofs::HistoryLemmas::goes_self))]
+    pub fn close_all(
+        &self,
+        rt: &impl Wait,
+        session: &mut HistorySession<J, L, K, V, P, D>,
+    ) -> Result<()>
+        ensures closed { OnOk result (IsClosed (meaning K.encoding V.encoding K.is_encodable V.is_encodable K.is_decodable V.is_decodable P.age) D.byte_at session.old.told.witness.me.0 session.new.told.witness.me.0 self.now.settings.flushers) }
+        ensures on { GoesOn (meaning K.encoding V.encoding K.is_encodable V.is_encodable K.is_decodable V.is_decodable P.age) D.byte_at session.old.told.witness.me.0 session.new.told.witness.me.0 }
+        ensures refused { IfErr result (λ e. (is_draw_error e ≡ true) ⊎ (e ≡ error.Unsupported)) }
+    {
+        let reply = self
+            .shared
+            .ask_again(rt, &mut session.told, no_io(), Step::Close);
+        match reply {
+            Reply::Done => {}
+            Reply::Refused(kind, _) => return Err(error_of(kind)),
+            _ => return Err(Error::Unsupported),
+        }
+        self.wait_all(rt, session)
+    }
+
+    /// Destroys all entries: what was put before is gone. `Io`, or another kind, is that of the first clean that failed.
+    #[tactic(auto, using(crate::proofs::HistoryLemmas::nil_is))]
+    pub fn destroy_all(
+        &self,
+        rt: &impl Wait,
+        session: &mut HistorySession<J, L, K, V, P, D>,
+    ) -> Result<()>
+        ensures destroyed { OnOk result ((blocks : ℕ) × (0 < blocks → IsDestroyed (meaning K.encoding V.encoding K.is_encodable V.is_encodable K.is_decodable V.is_decodable P.age) D.byte_at session.old.told.witness.me.0 session.new.told.witness.me.0 (blocks - 1) result)) }
+        ensures on { GoesOn (meaning K.encoding V.encoding K.is_encodable V.is_encodable K.is_decodable V.is_decodable P.age) D.byte_at session.old.told.witness.me.0 session.new.told.witness.me.0 }
+    {
+        let mut maintainer = lock_spinning(&self.maintainer, rt);
+        maintainer.destroy(
+            rt,
+            &self.shared,
+            &*self.keeper,
+            &self.work,
+            &self.alloc,
+            &mut session.told,
+        )
+    }
+}

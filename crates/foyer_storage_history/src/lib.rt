@@ -1,0 +1,13 @@
+//! An engine over memory that threads share, whose steps and accesses are all in one history: what a load answers was put last under its hash
+//! at a moment of the call, whatever other threads do.
+//!
+//! No thread works for it. Who waits, and whose put finds too much queued, writes what is queued, and reclaims where no block is clean. It is
+//! an `Engine` of a `Store`, beside `BlockEngine`, which works over files and has threads of its own.
+#![tactic(auto)]
+
+pub mod engine;
+mod maintainer;
+pub mod session;
+pub mod store;
+
+pub use foyer_core_threads as core_threads;

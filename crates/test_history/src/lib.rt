@@ -1,0 +1,5 @@
+//! Tests of a store whose loads are proved newest.
+#![tactic(auto)]
+
+#[cfg(test)]
+mod tests;
