@@ -5,8 +5,8 @@
 
 Over memory and over the files of a directory in the page cache, with values of 100 bytes, 4 KiB and 64 KiB, so many threads only get, only
 put, or get nine times for each put, for so many seconds (2). Keys are drawn by a Zipf distribution of skew 0.99, and all that is asked
-for was put before. Gets read through one I/O engine, and through one for each thread. Puts have one flusher, one for each thread, and one and
-patience: a put that finds too much queued looks again up to 1,000 times, else it deletes its key. What counts is gets that are hits and puts
+for was put before. Gets read through one I/O engine, and through one for each thread. Puts have one flusher, one for each thread, a core for each
+thread, and the first and the last with patience: a put that finds too much queued looks again up to 1,000 times, else it deletes its key. What counts is gets that are hits and puts
 that are queued. Of several rounds (2) the best rate counts, with the latencies of its round. It prints tables in Markdown; `--figures` keeps the figures as JSON, and a file that is there is drawn
 without a run; `--picture` draws docs/performance.svg's picture. It ends with status 0, 1 where a run answered wrongly, 2 for bad arguments.
 """
@@ -37,15 +37,15 @@ class Wrong(Exception):
     """A run that was answered wrongly."""
 
 
-# How puts are called: with one flusher, with one for each thread, and with patience.
-PLAIN, FLUSHERS, PATIENT = "one flusher", "a flusher each", "patience"
+# How puts are called: with one flusher, one for each thread, a core for each thread; with patience.
+PLAIN, FLUSHERS, CORES, PATIENT, CORES_PATIENT = WAYS = ("one flusher", "a flusher each", "a core each", "patience", "a core each, patience")
 
 
 def ways(calls, threads):
     """The engines that gets read through and how puts are called, for each run of so many threads."""
     if calls != "puts":
         return [(engines, PLAIN) for engines in sorted({1, threads})]
-    return [(1, way) for way in (PLAIN, FLUSHERS, PATIENT) if way != FLUSHERS or threads > 1]
+    return [(1, way) for way in WAYS if threads > 1 or way in (PLAIN, PATIENT)]
 
 
 def run_once(options, place, size, gets, threads, engines, way, seed):
@@ -53,7 +53,9 @@ def run_once(options, place, size, gets, threads, engines, way, seed):
     directory = ":memory:" if place == "memory" else os.path.join(options.directory, "bench")
     words = [options.binary, directory, capacity, block, threads, value, options.seconds,
              f"gets={gets}", f"keys={keys}", f"fill={keys}", f"engines={engines}", f"seed={seed}"]
-    words += {FLUSHERS: [f"flushers={threads}"], PATIENT: ["patience=1000"]}.get(way, [])
+    words += [f"flushers={threads}"] if way == FLUSHERS else []
+    words += [f"cores={threads}"] if way in (CORES, CORES_PATIENT) else []
+    words += ["patience=1000"] if way in (PATIENT, CORES_PATIENT) else []
     try:
         ran = subprocess.run([str(it) for it in words], capture_output=True, timeout=600, check=False)
     finally:
@@ -91,7 +93,7 @@ def named(size):
 
 def print_puts(figures):
     """Rates of puts, by threads and how they are called."""
-    counts = sorted({(it["threads"], it["way"]) for it in figures}, key=lambda it: (it[0], [PLAIN, FLUSHERS, PATIENT].index(it[1])))
+    counts = sorted({(it["threads"], it["way"]) for it in figures}, key=lambda it: (it[0], WAYS.index(it[1])))
     print("Thousand queued puts a second, by threads:\n")
     print("| Where, bytes | " + " | ".join(f"{t}, {way}" for t, way in counts) + " |")
     print("|-" * (len(counts) + 1) + "|")
@@ -148,7 +150,7 @@ WIDTH, HEIGHT, LEFT, TOP = 300, 150, 24, 64
 
 
 def panel(x, y, title, bars):
-    """A panel of bars: each is a label, a rate, and whether each thread has an engine of its own, or puts have patience."""
+    """A panel of bars: each is a label, a rate, and whether each thread has an engine or a core of its own."""
     greatest = max(rate for _, rate, _ in bars)
     parts = [f'  <text x="{x}" y="{y - 10}">{title}</text>', f'  <path class="axis" d="M{x} {y + 100} h{WIDTH - 30}"/>']
     step = (WIDTH - 40) / len(bars)
@@ -171,13 +173,13 @@ def draw(figures, path):
         f'  <rect class="page" x="0.5" y="0.5" width="{width - 1}" height="{height - 1}" rx="10"/>',
         f'  <text class="n" x="{LEFT}" y="26">Thousand hits and queued puts a second</text>',
         f'  <rect class="one" x="{LEFT + 390}" y="16" width="12" height="12"/><text x="{LEFT + 408}" y="26">gets read through one I/O engine</text>',
-        f'  <rect class="each" x="{LEFT + 640}" y="16" width="12" height="12"/><text x="{LEFT + 658}" y="26">one for each thread; puts with patience</text>',
+        f'  <rect class="each" x="{LEFT + 640}" y="16" width="12" height="12"/><text x="{LEFT + 658}" y="26">one for each thread; puts: a core each</text>',
     ]
     for row, (place, calls) in enumerate((place, calls) for place in PLACES for calls, _ in CALLS):
         for column, size in enumerate(SIZES):
             found = [it for it in figures if (it["place"], it["calls"], it["bytes"]) == (place, calls, size[0])]
-            found = sorted((it for it in found if it["way"] != FLUSHERS), key=lambda it: (it["threads"], it["engines"], it["way"] == PATIENT))
-            bars = [(f"{it['threads']}t", it["rate"], it["engines"] > 1 or it["way"] == PATIENT) for it in found]
+            found = sorted((it for it in found if it["way"] in (PLAIN, CORES)), key=lambda it: (it["threads"], it["engines"], it["way"] == CORES))
+            bars = [(f"{it['threads']}t", it["rate"], it["engines"] > 1 or it["way"] == CORES) for it in found]
             if bars:
                 parts += panel(LEFT + column * WIDTH, TOP + row * HEIGHT, f"{calls} of {named(size[0])}, {place}", bars)
     with open(path, "w", encoding="utf-8") as file:

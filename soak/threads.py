@@ -6,9 +6,10 @@
     python3 soak/threads.py --kills 2000            threads alone that are killed while they write
     python3 soak/threads.py --scripts 10000         short scripts alone
     python3 soak/threads.py --faults 10000          short scripts alone in which accesses fail
+    python3 soak/threads.py --faults 10000 --cores 2   the same over a store of two cores, by frames
 
-The first and the second need crates/foyersoak/out/foyersoak (FOYER_PROGRAM=foyersoak ./foyerdisk builds and runs it), the others
-crates/foyerdisk/out/foyerdisk. Each thread judges its own answers: what it put last, or a miss, and of a key that it hasn't put yet
+Runs of threads and kills need crates/foyersoak/out/foyersoak (FOYER_PROGRAM=foyersoak ./foyerdisk builds and runs it), faults over several
+cores crates/foyerpipe/out/foyerpipe, the others crates/foyerdisk/out/foyerdisk. Each thread judges its own answers: what it put last, or a miss, and of a key that it hasn't put yet
 a whole value of an earlier run. After each kill the directory is opened by threads that end by themselves.
 
 With `--faults` each read and each write of a script's block files fails in turn, with nothing, a part and all of it done, and with
@@ -24,6 +25,7 @@ import os
 import random
 import re
 import shutil
+import struct
 import subprocess
 import tempfile
 import time
@@ -85,9 +87,10 @@ def run_kills(options):
 
 
 class Script:
-    """A short script, and of each line the answers that it may get where an access fails."""
+    """A short script over so many keys, and of each line the answers that it may get where an access fails."""
 
-    def __init__(self, draw):
+    def __init__(self, draw, keys=3):
+        self.keys = keys
         self.lines, self.allowed = [], []
         # Of each key the texts that were put since it was deleted last, and all since the last destroy; and the newest since a wait.
         self.texts, self.ever, self.kept = collections.defaultdict(list), collections.defaultdict(list), {}
@@ -100,7 +103,7 @@ class Script:
         self.allowed.append(answers)
 
     def add(self, draw, number):
-        key, kind = draw.randint(1, 3), draw.choice("ppppgggdwwx")
+        key, kind = draw.randint(1, self.keys), draw.choice("ppppgggdwwx")
         if kind == "p":
             text = f"{key}.{number}" + "x" * draw.choice((0, 10, 3000, 9000))
             self.add_line(f"put {key} {text}", {"queued"})
@@ -122,14 +125,68 @@ class Script:
     def left(self, answers):
         """Of each key what may be found when the directory is opened again."""
         last = max((at for at, it in enumerate(zip(self.lines, answers)) if it == ("destroy", "ok")), default=-1)
-        return [{"miss"} | {f"entry {text}" for number, text in self.ever[key] if number > last} for key in (1, 2, 3)]
+        return [{"miss"} | {f"entry {text}" for number, text in self.ever[key] if number > last} for key in range(1, self.keys + 1)]
 
 
-def check(script, answers, status, where):
+def check(script, answers, status, wanted, where):
     wrong = [it for it in zip(script.lines, answers, script.allowed) if it[1] not in it[2]]
-    if wrong or len(answers) != len(script.lines) or status != any(it.startswith("fault") for it in answers):
+    if wrong or len(answers) != len(script.lines) or status != wanted:
         told = "\n".join(f"{line[:60]}: {answer[:60]}" for line, answer in zip(script.lines, answers))
         raise SystemExit(f"{where}: status {status}, {[(it[0][:40], it[1][:60]) for it in wrong[:1]]}\n{told}")
+
+
+class Lines:
+    """The program that reads lines."""
+
+    def __init__(self, options, directory, draw):
+        self.words = [os.path.abspath(program.BINARY), directory, draw.choice((32768, 65536, 262144)), 16384]
+
+    def script(self, draw):
+        return Script(draw)
+
+    def sent(self, lines):
+        return "".join(it + "\n" for it in lines).encode()
+
+    def answers(self, lines, output):
+        return output.decode().splitlines()
+
+    def status(self, answers):
+        return any(it.startswith("fault") for it in answers)
+
+
+class Frames:
+    """The program that reads frames, over several cores. A piece is answered as an entry is."""
+
+    KINDS = {"put": b"p", "get": b"g", "del": b"d", "wait": b"w", "destroy": b"x", "close": b"q"}
+    CODES = {0: "ok", 1: "entry", 2: "miss", 65: "fault Io"}
+
+    def __init__(self, options, directory, draw):
+        capacity = options.cores * draw.choice((32768, 65536, 262144))
+        self.words = [os.path.abspath(options.pipe), directory, capacity, 16384, f"cores={options.cores}"]
+
+    def script(self, draw):
+        script = Script(draw, keys=8)
+        script.allowed = [{it.replace("piece ", "entry ") for it in one} for one in script.allowed]
+        return script
+
+    def sent(self, lines):
+        frames = b""
+        for number, line in enumerate(lines):
+            kind, key, value = (line.split(" ") + ["", ""])[:3]
+            frames += self.KINDS[kind] + struct.pack("<III", number, len(key), len(value)) + key.encode() + value.encode()
+        return frames
+
+    def answers(self, lines, output):
+        answers = {}
+        while len(output) >= 9:
+            number, code, size = struct.unpack("<IBI", output[:9])
+            word = self.CODES.get(code, f"code {code}")
+            answers[number] = f"entry {output[9 : 9 + size].decode()}" if code == 1 else word
+            output = output[9 + size :]
+        return ["queued" if line.startswith("put") and answers.get(at) == "ok" else answers.get(at, "none") for at, line in enumerate(lines)]
+
+    def status(self, answers):
+        return False
 
 
 def run_faults(options):
@@ -138,30 +195,32 @@ def run_faults(options):
     with tempfile.TemporaryDirectory(prefix="foyer-threads-", dir="/dev/shm" if os.access("/dev/shm", os.W_OK) else None) as top:
         directory = os.path.join(top, "blocks")
         while faults < options.faults:
-            script, scripts = Script(draw), scripts + 1
-            lines = "".join(it + "\n" for it in script.lines).encode()
-            words = [os.path.abspath(program.BINARY), directory, draw.choice((32768, 65536, 262144)), 16384]
-            _, _, calls = inject.run(words, lines)
+            asked = (Lines if options.cores == 1 else Frames)(options, directory, draw)
+            script, scripts = asked.script(draw), scripts + 1
+            lines = asked.sent(script.lines)
+            keys = range(1, script.keys + 1)
+            again = [f"get {key}" for key in keys] + ["put 1 again", "wait", "get 1"]
+            _, _, calls = inject.run(asked.words, lines)
             shutil.rmtree(directory)
             for n in range(1, calls + 1):
                 for kept, stops in ((0, False), (draw.randrange(1, 4096), False), (None, False), (0, True), (draw.randrange(1, 4096), True)):
                     where = f"script {scripts}, access {n} of {calls}, {kept} bytes done, {'all later ones fail' if stops else 'once'}"
                     try:
-                        output, status, _ = inject.run(words, lines, inject.Fault("io", n, kept, inject.ALL if stops else 0))
+                        output, status, _ = inject.run(asked.words, lines, inject.Fault("io", n, kept, inject.ALL if stops else 0))
                     except inject.Late as late:
                         raise SystemExit(f"{where}: {late}\n" + "\n".join(it[:60] for it in script.lines))
-                    answers = output.decode().splitlines()
-                    check(script, answers, status, where)
-                    ran = subprocess.run([str(it) for it in words], input=b"get 1\nget 2\nget 3\nput 1 again\nwait\nget 1\n", capture_output=True, timeout=60, check=False)
-                    found = ran.stdout.decode().splitlines()
+                    answers = asked.answers(script.lines, output)
+                    check(script, answers, status, asked.status(answers), where)
+                    ran = subprocess.run([str(it) for it in asked.words], input=asked.sent(again), capture_output=True, timeout=60, check=False)
+                    found = asked.answers(again, ran.stdout)
                     may = script.left(answers) + [{"queued"}, {"ok"}, {"entry again"}]
-                    if ran.returncode or len(found) != 6 or any(one not in other for one, other in zip(found, may)):
+                    if ran.returncode or len(found) != len(again) or any(one not in other for one, other in zip(found, may)):
                         raise SystemExit(f"{where}: opened again it answers {[it[:60] for it in found]}, status {ran.returncode}")
-                    said.update(it.split(" ")[0] for it in answers + found[:3])
+                    said.update(it.split(" ")[0] for it in answers + found[: script.keys])
                     faults += 1
                     shutil.rmtree(directory)
     told = ", ".join(f"{said[it]} {it}" for it in ("entry", "piece", "miss", "fault"))
-    print(f"{faults} faults in {scripts} scripts, seed {options.seed}: {told}; 0 wrong, all ended")
+    print(f"{faults} faults in {scripts} scripts over {options.cores} cores, seed {options.seed}: {told}; 0 wrong, all ended")
 
 
 def script_of(draw):
@@ -219,10 +278,11 @@ def run_scripts(options):
 def main():
     parser = argparse.ArgumentParser(description=__doc__, formatter_class=argparse.RawDescriptionHelpFormatter)
     parser.add_argument("--soak", default=program.BINARY.replace("foyerdisk", "foyersoak"), help="the soaking program")
+    parser.add_argument("--pipe", default=program.BINARY.replace("foyerdisk", "foyerpipe"), help="the program that reads frames")
     parser.add_argument("--seconds", type=float, default=60)
     parser.add_argument("--threads", type=int, default=8)
     parser.add_argument("--calls", type=int, default=100000, help="of each thread, in each run")
-    parser.add_argument("--cores", type=int, choices=(1, 2, 4), default=1, help="of the store of each run of threads")
+    parser.add_argument("--cores", type=int, choices=(1, 2, 4), default=1, help="of the store of each run")
     parser.add_argument("--scripts", type=int, default=0, help="run so many short scripts in place of threads")
     parser.add_argument("--kills", type=int, default=0, help="kill so many runs of threads in place of letting them end")
     parser.add_argument("--faults", type=int, default=0, help="fail so many accesses of short scripts in place of threads")
