@@ -1,2 +1,3 @@
 pub mod WorkerSteps
 pub use Rattle.foyer_storage_engine.specs.Ending
+pub mod Releasing

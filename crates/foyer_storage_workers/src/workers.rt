@@ -2,6 +2,7 @@
 ghost use Rattle.std.specs.Prelude.{◌≡◌, ◌+◌, ◌<◌, vec_len, OnOk};
 ghost use Rattle.foyer_storage_engine.specs.Ending.{HoldsNamed};
 
+mod appending;
 mod flusher;
 mod receiving;
 mod reclaimer;

@@ -1,12 +1,15 @@
 //! A flusher's worker: it takes what is queued, writes it in batches, and gives back what was written.
-ghost use Rattle.std.specs.Prelude.{◌≡◌, ◌<◌, false, length};
+ghost use Rattle.std.specs.Prelude.{◌≡◌, ◌<◌, false, length, true};
 ghost use Rattle.foyer_storage_engine.specs.Issuing.{written_bytes};
 ghost use Rattle.foyer_io_disk.specs.Disk.{SurelyCame};
 ghost use Rattle.foyer_storage_engine.specs.Ending.{HoldsNamed};
 ghost use Rattle.foyer_storage_engine.specs.Briefs.{reply_brief};
+ghost use Rattle.foyer_storage_workers.specs.Releasing.{HasReleased, IsBegunAs, IsLogged, pieces_in, pieces_of};
+ghost use Rattle.foyer_storage_workers.specs.declared.workers.flusher.Begun.TheVariants as begun;
 ghost use Rattle.foyer_storage_workers.specs.WorkerSteps.{AreWritten, IsAtBatchEnd, IsDoneAs, ReportsWrite, names_block};
 
 use super::Worker;
+use super::appending::{Appended, append};
 use super::receiving::receive_all;
 use crate::hand::Hand;
 use foyer_block_index::manager::BlockId;
@@ -19,6 +22,8 @@ use foyer_io_disk::disk::Disk;
 use foyer_io_gate::gate::{Gate, Point};
 use foyer_policy_filter::StorageFilterCondition;
 use foyer_policy_keeper::keeper::Keeper;
+use foyer_policy_release::noted::AllReleased;
+use foyer_policy_release::release::release_all;
 use foyer_storage_engine::core_access::disk::do_write;
 use foyer_storage_engine::core_shared::notes::Noting;
 use foyer_storage_engine::core_shared::session::Session;
@@ -216,7 +221,39 @@ where
     unreachable!()
 }
 
-// Ends a batch: its pieces are released in order, then its waits are answered.
+// Does what the reply to a batch's end asks: its pieces are released in order, then its waits are answered. The pieces, if the batch ended.
+fn do_end<L, K, V, P, A, E, C, D, G, N>(
+    rt: &impl Wait,
+    engine: &BlockEngine<L, K, V, P, A, E, C, D, G, N>,
+    keeper: &Keeper<K, V, P, A>,
+    reply: Reply<K, V, P, A>,
+) -> Option<AllReleased<K, V, P, A>>
+where
+    L: Kinds,
+    K: Code<A> + Eq + Drop,
+    V: Code<A> + Drop,
+    P: Properties + Drop,
+    A: Allocator + Clone,
+    E: EvictionPicker,
+    C: StorageFilterCondition,
+    D: Disk + Drop,
+    G: Gate,
+    N: Noting,
+    ensures { pieces_in result ≡ pieces_of reply }
+{
+    match reply {
+        Reply::Ended { pieces, waits } => {
+            let released = release_all(rt, keeper, pieces);
+            'waits: for id in &waits {
+                engine.signals().waits.answer(rt, *id);
+            }
+            Some(released)
+        }
+        _ => None,
+    }
+}
+
+// Ends a batch. The pieces that were released, each by its own number, if it ended.
 #[tactic(auto, using(foyer_storage_engine::proofs::HoldingLemmas::held_on, foyer_storage_engine::proofs::HoldingLemmas::held_by_step))]
 fn end_batch<L, K, V, P, A, E, C, D, G, N>(
     rt: &impl Wait,
@@ -224,7 +261,7 @@ fn end_batch<L, K, V, P, A, E, C, D, G, N>(
     keeper: &Keeper<K, V, P, A>,
     flusher: u32,
     session: &mut Session<L>,
-)
+) -> Option<AllReleased<K, V, P, A>>
 where
     L: Kinds,
     K: Code<A> + Eq + Drop,
@@ -239,21 +276,23 @@ where
     requires { 0 < session.old.shares.parts }
     ensures named { HoldsNamed session.old session.new }
     ensures parts { session.new.shares.parts ≡ session.old.shares.parts }
+    ensures released { HasReleased A flusher session.new (pieces_in result) }
 {
-    if let Reply::Ended { pieces, waits } = engine.step_again(
-        rt,
-        session,
-        no_io(),
-        Step::FlushEnd { flusher },
-    ) {
-        for piece in pieces {
-            keeper.release(rt, piece);
-        }
-        'waits: for id in &waits {
-            engine.signals().waits.answer(rt, *id);
-        }
-    }
+    let reply = engine.step_again(rt, session, no_io(), Step::FlushEnd { flusher });
+    let released = do_end(rt, engine, keeper, reply);
     engine.signals().done.ring(rt);
+    released
+}
+
+// What the reply to a batch's beginning said.
+#[derive(Drop)]
+enum Begun<A: Allocator> {
+    // No batch began.
+    No,
+    // One began, of an engine that has no log.
+    Unlogged,
+    // One began, and its marks were appended to the log.
+    Logged(Appended<A>),
 }
 
 // Appends the marks of a batch to the log of deletes, if the engine has one, and reports the outcome.
@@ -264,8 +303,8 @@ fn log_marks<L, K, V, P, A, E, C, D, G, N, M>(
     log: &Mutex<M>,
     flusher: u32,
     session: &mut Session<L>,
-    marks: &[Tombstone],
-)
+    marks: Vec<Tombstone, A>,
+) -> Begun<A>
 where
     L: Kinds,
     K: Code<A> + Drop,
@@ -281,13 +320,50 @@ where
     requires { 0 < session.old.shares.parts }
     ensures named { HoldsNamed session.old session.new }
     ensures parts { session.new.shares.parts ≡ session.old.shares.parts }
+    ensures unlogged { engine.now.settings.tombstone_log ≡ false → result ≡ begun.Unlogged }
+    ensures logged { engine.now.settings.tombstone_log ≡ true → IsLogged flusher marks session.new result }
 {
     if !engine.settings().tombstone_log {
-        return;
+        return Begun::Unlogged;
     }
-    let result = log.lock(rt).append_marks(marks);
+    let appended = append(rt, log, marks);
+    let result = appended.outcome();
     let wrote = Step::LogWrote { flusher, result };
     let _ = engine.step_again(rt, session, no_io(), wrote);
+    Begun::Logged(appended)
+}
+
+// Does what the reply to a batch's beginning asks.
+#[tactic(auto, using(foyer_storage_engine::proofs::HoldingLemmas::held_same))]
+fn do_begin<L, K, V, P, A, E, C, D, G, N, M>(
+    rt: &impl Wait,
+    engine: &BlockEngine<L, K, V, P, A, E, C, D, G, N>,
+    log: &Mutex<M>,
+    flusher: u32,
+    session: &mut Session<L>,
+    reply: Reply<K, V, P, A>,
+) -> Begun<A>
+where
+    L: Kinds,
+    K: Code<A> + Drop,
+    V: Code<A> + Drop,
+    P: Properties + Drop,
+    A: Allocator + Clone,
+    E: EvictionPicker,
+    C: StorageFilterCondition,
+    D: Disk + Drop,
+    G: Gate,
+    N: Noting,
+    M: MarkLog,
+    requires { 0 < session.old.shares.parts }
+    ensures named { HoldsNamed session.old session.new }
+    ensures parts { session.new.shares.parts ≡ session.old.shares.parts }
+    ensures begun { IsBegunAs reply flusher engine.now.settings.tombstone_log session.new result }
+{
+    match reply {
+        Reply::Began { blocks: _, marks } => log_marks(rt, engine, log, flusher, session, marks),
+        _ => Begun::No,
+    }
 }
 
 // Takes what is queued, and writes it as one batch: whether there was anything to do.
@@ -319,14 +395,13 @@ where
     let flusher = parts.flusher;
     let is_busy = receive_all(rt, engine, &*parts.keeper, flusher, session);
     let begin = Step::FlushBegin { flusher };
-    let marks = match engine.step_again(rt, session, no_io(), begin) {
-        Reply::Began { blocks: _, marks } => marks,
-        _ => return is_busy,
-    };
+    let reply = engine.step_again(rt, session, no_io(), begin);
+    if let Begun::No = do_begin(rt, engine, &*parts.log, flusher, session, reply) {
+        return is_busy;
+    }
     engine.signals().work.add_batch();
-    log_marks(rt, engine, &*parts.log, flusher, session, &marks);
     write_batch(rt, engine, &mut parts.disk, flusher, own, session);
-    end_batch(rt, engine, &*parts.keeper, flusher, session);
+    let _ = end_batch(rt, engine, &*parts.keeper, flusher, session);
     true
 }
 

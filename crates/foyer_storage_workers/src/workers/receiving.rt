@@ -2,6 +2,7 @@
 ghost use Rattle.std.specs.Prelude.{◌≡◌, ◌<◌};
 ghost use Rattle.foyer_storage_engine.specs.Ending.{HoldsNamed};
 ghost use Rattle.foyer_storage_engine.specs.Reporting.{AsksToReceive};
+ghost use Rattle.foyer_storage_workers.specs.Releasing.{IsHeldAs};
 
 use foyer_block_manager::block::eviction::EvictionPicker;
 use foyer_core_tally::book::Kinds;
@@ -13,6 +14,8 @@ use foyer_lock::lock_spinning;
 use foyer_policy_filter::StorageFilterCondition;
 use foyer_policy_keeper::keeper::Keeper;
 use foyer_policy_piece::keeper::PieceRef;
+use foyer_policy_release::release::release;
+use foyer_policy_release::shown::Released;
 use foyer_storage_engine::core_shared::locked::Locked;
 use foyer_storage_engine::core_shared::notes::Noting;
 use foyer_storage_engine::core_shared::session::Session;
@@ -78,6 +81,38 @@ enum HoldEnd<K, V, P, A: Allocator> {
     Back(PieceRef<K, V, P, A>, bool),
     // Nothing more is queued; and whether anything was taken before.
     Drained(bool),
+}
+
+// The same once the core's lock is let go.
+#[derive(Drop)]
+enum Held {
+    // A batch has enough, or less than half of the buffer is left.
+    Enough,
+    // So much was taken as one hold takes.
+    More,
+    // Memory was refused: it is to be tried again.
+    Refused,
+    // A piece didn't fit, and was released; and whether a batch is to begin.
+    Back(Released, bool),
+    // Nothing more is queued; and whether anything was taken before.
+    Drained(bool),
+}
+
+// Releases the piece with which a hold ended, if there is one.
+fn held_of<K: Eq + Drop, V: Drop, P: Drop, A: Allocator + Clone>(
+    rt: &impl Wait,
+    keeper: &Keeper<K, V, P, A>,
+    end: HoldEnd<K, V, P, A>,
+) -> Held
+    ensures { IsHeldAs end result }
+{
+    match end {
+        HoldEnd::Enough => Held::Enough,
+        HoldEnd::More => Held::More,
+        HoldEnd::Refused => Held::Refused,
+        HoldEnd::Back(piece, wants_flush) => Held::Back(release(rt, keeper, &piece), wants_flush),
+        HoldEnd::Drained(took) => Held::Drained(took),
+    }
 }
 
 // Takes what is queued under one hold of the core's lock, until nothing is, a piece doesn't fit, memory is refused, or it is enough for
@@ -154,22 +189,21 @@ where
             session,
             flusher,
         );
-        match end {
-            HoldEnd::Enough => return true,
-            HoldEnd::More => is_busy = true,
-            HoldEnd::Refused => {
+        match held_of(rt, keeper, end) {
+            Held::Enough => return true,
+            Held::More => is_busy = true,
+            Held::Refused => {
                 is_busy = true;
                 thread::yield_now();
             }
-            HoldEnd::Back(piece, wants_flush) => {
+            Held::Back(_, wants_flush) => {
                 is_busy = true;
                 engine.signals().work.add_returned_put();
-                keeper.release(rt, piece);
                 if wants_flush {
                     return true;
                 }
             }
-            HoldEnd::Drained(took) => return is_busy || took,
+            Held::Drained(took) => return is_busy || took,
         }
     }
     is_busy
