@@ -26,8 +26,18 @@ use Rattle.foyer_core_steps.specs.declared.reply.Reply.{Reply}
 use Rattle.foyer_core_steps.specs.declared.reply.Reply.TheVariants as replies
 use Rattle.foyer_core_told.proofs.ToldRightLemmas.{rights_there}
 use Rattle.foyer_core_told.specs.ToldRights.{clean_right, rights_count, scan_right, writes_right}
-use Rattle.std.proofs.Common.{◌≡◌, ◌⊎◌, inl, inr, ℕ, ◌+◌, ◌-◌, ◌<◌, ◌≤◌, ◌==◌, Bool, true, false, true≢false, Some, None, List, [], ◌∷◌, ◌++◌, refl, sym, ap, ◌∙◌, subst, append_assoc, append-nil, arith, Result, Ok, Err, OnOk, slice_get}
+use Rattle.foyer_device_page.specs.declared.error.ErrorKind.TheVariants as kind
+use Rattle.foyer_core_shared.specs.Briefs.{brief_of, step_brief}
+use Rattle.foyer_core_shared.specs.Kinds.{kind_of}
+use Rattle.foyer_core_shared.specs.Sessions.{SessionState, is_close, is_destroy}
+use Rattle.foyer_core_tally.specs.declared.kinds.Counts.{Counts}
+use Rattle.foyer_core_tally.specs.declared.kinds.StepKind.TheVariants.{Other}
+use Rattle.foyer_core_threads.specs.Done.{AreNoted, IsNotedAgain}
+use Rattle.foyer_storage_engine.specs.Ending.{HoldsBut, HoldsButCloses, HoldsButDestroys, HoldsTally}
+use Rattle.foyer_storage_engine.proofs.HoldingLemmas.{closed_by_made, destroyed_by_made, destroys_on, held_but_same, held_by_refusal}
+use Rattle.std.proofs.Common.{◌≡◌, ◌⊎◌, inl, inr, ℕ, zero, suc, ◌+◌, ◌-◌, ◌<◌, ◌≤◌, ◌==◌, Bool, true, false, true≢false, Some, None, List, [], ◌∷◌, ◌++◌, refl, sym, ap, ◌∙◌, subst, append_assoc, append-nil, arith, Result, Ok, Err, OnOk, slice_get}
 use Rattle.foyer_core_chronicle.specs.declared.View.{View}
+use Rattle.foyer_storage_history.specs.Releasing.{AnswersWait}
 use Rattle.foyer_storage_history.specs.HistoryCalls.{AreCleaned, IsCleared, IsDestroyed, IsEndAnswering, IsNewestAnswer, IsSeenBy, IsWaitedFor, cleared_as, is_nil}
 
 pub nil_is : {X : Type 0} (xs : List X) → is_nil xs ≡ true → xs ≡ []
@@ -75,6 +85,31 @@ below_or_at n f below = go (f == n) refl
     go true is = inr (eqb-true f n is)
     go false is = let apart : f ≡ n → ⊥ = eqb-false f n is in inl (omega arith)
 
+-- as many steps of each of the seven named kinds, over two calls
+tally_then : (old between new : SessionState) → HoldsTally old between → HoldsTally between new → HoldsTally old new
+tally_then old between new first next = next ∙ ap (λ (x : Counts). record x { other = new.shares.amounts.other }) first
+
+-- what a session counts of the refusals of a step
+refusals_but : {K V P : Type 0} (times : ℕ) (old new : SessionState) (step : Step K V P Global) → AreNoted false times old new step → HoldsBut (step_brief step) old new
+refusals_but zero old new step same = subst (HoldsBut (step_brief step) old) (sym same) (held_but_same (step_brief step) old)
+refusals_but (suc n) old new step (between, before, inl noted) = held_by_refusal old between new (step_brief step) kind.Memory (refusals_but n old between step before) noted.counted noted.ends
+refusals_but (suc n) old new step (between, before, inr none) = absurd (true≢false (sym none.0))
+
+-- A step that begins a destroy is counted as no other step but one of a destroy.
+pub destroys_named : {K V P : Type 0} (old new : SessionState) (step : Step K V P Global) (answer : Reply K V P Global) → kind_of (brief_of step answer) ≡ Other → is_close (step_brief step) ≡ false
+    → IsNotedAgain false old new step answer → HoldsButDestroys old new
+destroys_named old new step answer other unclosed (before, refused, noted) =
+    let held = refusals_but refused.0 old before step refused.1 in
+    destroys_on old before new (held.0, held.1 unclosed) (destroyed_by_made false before new step answer other unclosed (inl noted))
+
+-- A close is counted as no other step but a close.
+pub closes_named : {K V P : Type 0} (old new : SessionState) (step : Step K V P Global) (answer : Reply K V P Global) → kind_of (brief_of step answer) ≡ Other → is_destroy (step_brief step) ≡ false
+    → IsNotedAgain false old new step answer → HoldsButCloses old new
+closes_named old new step answer other kept (before, refused, noted) =
+    let held = refusals_but refused.0 old before step refused.1 in
+    let last = closed_by_made false before new step answer other kept (inl noted) in
+    (tally_then old before new held.0 last.0, last.1 ∙ held.2 kept)
+
 module _ {K V P D : Type 0} (m : Meaning K V P) (byte_at : D → ℕ → ℕ → ℕ) where
   pub goes_self : (v : View (Told K V P Global D)) → GoesOn m byte_at v v
   goes_self v = same_on m byte_at v v refl
@@ -121,6 +156,10 @@ module _ {K V P D : Type 0} (m : Meaning K V P) (byte_at : D → ℕ → ℕ →
     own = own;
     last = seen_self after;
   }
+
+  pub end_answering : (mine after : View (Told K V P Global D)) (flusher id : ℕ) (reply : Reply K V P Global) → IsMadeAgain m byte_at mine after (steps.FlushEnd flusher) reply → AnswersWait id reply → IsEndAnswering m byte_at mine after flusher id
+  end_answering mine after flusher id (replies.Ended pieces waits) made answers = end_answers mine after flusher id (replies.Ended pieces waits) pieces waits answers.0 made refl answers.1
+  end_answering mine after flusher id reply made answers = absurd answers
 
   pub answers_after : (v w u : View (Told K V P Global D)) (flusher id : ℕ) → GoesOn m byte_at v w → IsEndAnswering m byte_at w u flusher id → IsEndAnswering m byte_at v u flusher id
   answers_after v w u flusher id on ends = record {
@@ -223,6 +262,17 @@ module _ {K V P D : Type 0} (m : Meaning K V P) (byte_at : D → ℕ → ℕ →
     clear = clears.clear;
     clean = cleans;
     ended = shown;
+  }
+
+  pub destroyed_after : (v w u : View (Told K V P Global D)) (last : ℕ) (answered : Result (Unit {0}) Error) → GoesOn m byte_at v w → IsDestroyed m byte_at w u last answered → IsDestroyed m byte_at v u last answered
+  destroyed_after v w u last answered on is = record {
+    begun = is.begun;
+    cleared = is.cleared;
+    cleaned = is.cleaned;
+    first = seen_on v w is.begun (sees v w on) is.first;
+    clear = is.clear;
+    clean = is.clean;
+    ended = is.ended;
   }
 
   -- the cleans of the blocks behind one that was cleaned

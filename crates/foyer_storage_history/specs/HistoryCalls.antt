@@ -12,7 +12,9 @@ use Rattle.foyer_core_model.specs.Access.{CleanIssued}
 use Rattle.foyer_io_told.specs.ToldAccess.{HasClean}
 use Rattle.foyer_core_shared.specs.Briefs.{reply_brief}
 use Rattle.foyer_core_shared.specs.Refusals.{error_of}
+use Rattle.foyer_core_shared.specs.Sessions.{SessionState}
 use Rattle.foyer_core_shared.specs.declared.brief.ReplyBrief.{ReplyBrief}
+use Rattle.foyer_core_shared.specs.declared.brief.StepBrief.TheVariants as asked
 use Rattle.foyer_core_steps.specs.declared.reply.Reply.{Reply}
 use Rattle.foyer_core_steps.specs.declared.reply.Reply.TheVariants as replies
 use Rattle.foyer_core_steps.specs.declared.step.Step.{Step}
@@ -23,6 +25,7 @@ use Rattle.foyer_core_threads.specs.Done.{HasCleaned}
 use Rattle.foyer_core_threads.specs.Going.{IsMadeAgain}
 use Rattle.foyer_core_threads.specs.Newest.{WasNewest, WasMissed}
 use Rattle.foyer_storage_engine.specs.Answering.{deleted_as, enqueued_as, asked_as}
+use Rattle.foyer_storage_engine.specs.Ending.{is_refused}
 use Rattle.foyer_storage_engine.specs.declared.engine.Enqueued.{Enqueued}
 use Rattle.foyer_storage_engine.specs.declared.load.Load.{Load}
 use Rattle.foyer_storage_engine.specs.declared.load.Load.TheVariants as load
@@ -48,6 +51,10 @@ destroyed_as (replies.Destroyed None) = Ok tt
 destroyed_as (replies.Destroyed (Some kind)) = Err (error_of kind)
 destroyed_as (replies.Refused kind back) = Err (error_of kind)
 destroyed_as other = Err error.Unsupported
+
+-- the session's newest step asks for a destroy, and isn't refused
+abbrev pub AsksToDestroy : SessionState → Type 0
+AsksToDestroy session = (answer : ReplyBrief) × (session.newest ≡ Some (record { step = asked.DestroyBegin; reply = answer })) × (is_refused answer ≡ false)
 
 module _ {K V P D : Type 0} (m : Meaning K V P) (byte_at : D → ℕ → ℕ → ℕ) where
   -- A load's answer: an entry was the newest put of its hash at a moment of the call, and a miss has its cause then. It is nothing else.

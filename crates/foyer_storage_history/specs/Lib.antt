@@ -1,1 +1,2 @@
 pub mod HistoryCalls
+pub mod Releasing

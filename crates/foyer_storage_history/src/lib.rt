@@ -5,6 +5,7 @@
 //! an `Engine` of a `Store`, beside `BlockEngine`, which works over files and has threads of its own.
 #![tactic(auto)]
 
+mod begun;
 pub mod engine;
 mod maintainer;
 pub mod session;

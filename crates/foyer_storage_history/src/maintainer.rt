@@ -10,6 +10,7 @@ ghost use Rattle.foyer_core_threads.specs.Asking.{AreToWrite, HasSizes, IsPlain}
 ghost use Rattle.foyer_core_threads.specs.Going.{GoesOn, IsMadeAgain};
 ghost use Rattle.foyer_storage_history.specs.declared.maintainer.Flushed.TheVariants as flushed;
 ghost use Rattle.foyer_storage_history.specs.HistoryCalls.{IsEndAnswering, IsSeenBy, is_nil};
+ghost use Rattle.foyer_storage_history.specs.Releasing.{AnswersWait, HasReleased, IsFrontOf, pieces_in, pieces_of};
 
 mod destroy;
 mod reclaim;
@@ -32,6 +33,9 @@ use foyer_format_record::serde::{Code, Properties};
 use foyer_io_disk::disk::Disk;
 use foyer_policy_filter::StorageFilterCondition;
 use foyer_policy_keeper::keeper::Keeper;
+use foyer_policy_release::noted::AllReleased;
+use foyer_policy_release::release::{release, release_all};
+use foyer_policy_release::shown::Released;
 use foyer_storage_engine::engine::counts::WorkCounters;
 use std::alloc::Global;
 use std::marker::PhantomData;
@@ -76,6 +80,77 @@ fn has_wait(waits: &[u64], id: u64) -> bool
         }
     }
     false
+}
+
+// What became of the front of a queue.
+#[derive(Drop)]
+enum Front {
+    // It was taken into the buffer.
+    Taken,
+    // It was a piece that doesn't fit, and was released.
+    Back(Released),
+    // Nothing was taken.
+    Over,
+}
+
+// What the reply to a question for the front of a queue says. A piece that is handed back is released.
+fn front_of<K: Eq + Drop, V: Drop, P: Drop>(
+    rt: &impl Wait,
+    keeper: &Keeper<K, V, P, Global>,
+    reply: Reply<K, V, P, Global>,
+) -> Front
+    ensures { IsFrontOf reply result }
+{
+    match reply {
+        Reply::Received(None) => Front::Taken,
+        Reply::Received(Some(piece)) => Front::Back(release(rt, keeper, &piece)),
+        _ => Front::Over,
+    }
+}
+
+// What a flush did that ended a batch.
+fn flushed_of(answers: bool) -> Flushed
+    ensures { result ≡ flushed.Answered → answers ≡ true }
+{
+    if answers {
+        return Flushed::Answered;
+    }
+    Flushed::Some
+}
+
+// What the end of a batch did.
+#[derive(Drop)]
+struct BatchEnd<K, V, P> {
+    // Whether it answered a wait.
+    answers: bool,
+    // Its pieces, which were released, if it ended.
+    released: Option<AllReleased<K, V, P, Global>>,
+}
+
+// What the reply to a batch's end says: the pieces are released, in their order. Whether it answers this wait.
+fn ended_of<K: Eq + Drop, V: Drop, P: Drop>(
+    rt: &impl Wait,
+    keeper: &Keeper<K, V, P, Global>,
+    reply: Reply<K, V, P, Global>,
+    id: u64,
+) -> BatchEnd<K, V, P>
+    ensures released { pieces_in result.released ≡ pieces_of reply }
+    ensures answers { result.answers ≡ true → AnswersWait id reply }
+{
+    match reply {
+        Reply::Ended { pieces, waits } => {
+            let answers = has_wait(&waits, id);
+            let released = release_all(rt, keeper, pieces);
+            BatchEnd {
+                answers,
+                released: Some(released),
+            }
+        }
+        _ => BatchEnd {
+            answers: false,
+            released: None,
+        },
+    }
 }
 
 /// The session that has the rights of all flushers and blocks. It lies behind a lock: who holds that writes, reclaims and destroys.
@@ -221,14 +296,13 @@ where
     {
         let mut is_busy = false;
         'front: for _ in 0..MOST_OF_A_BATCH {
-            match self.ask(rt, shared, Step::Receive { flusher }) {
-                Reply::Received(None) => is_busy = true,
-                Reply::Received(Some(piece)) => {
+            match front_of(rt, keeper, self.ask(rt, shared, Step::Receive { flusher })) {
+                Front::Taken => is_busy = true,
+                Front::Back(_) => {
                     work.add_returned_put();
-                    keeper.release(rt, piece);
                     return true;
                 }
-                _ => return is_busy,
+                Front::Over => return is_busy,
             }
         }
         is_busy
@@ -328,8 +402,8 @@ where
         unreachable!()
     }
 
-    // Ends a batch: its pieces are released in order. Whether it answers this wait.
-    #[tactic(auto, using(crate::proofs::HistoryLemmas::nil_is, crate::proofs::HistoryLemmas::goes_on, crate::proofs::HistoryLemmas::goes_self))]
+    // Ends a batch: its pieces are released, each by its own number. Whether it answers this wait.
+    #[tactic(auto, using(crate::proofs::HistoryLemmas::nil_is))]
     fn end_batch<E, C>(
         &mut self,
         rt: &impl Wait,
@@ -337,24 +411,17 @@ where
         keeper: &Keeper<K, V, P, Global>,
         flusher: u32,
         id: u64,
-    ) -> bool
+    ) -> BatchEnd<K, V, P>
     where
         E: EvictionPicker,
         C: StorageFilterCondition,
         ensures on { GoesOn (meaning K.encoding V.encoding K.is_encodable V.is_encodable K.is_decodable V.is_decodable P.age) D.byte_at self.old.told.witness.me.0 self.new.told.witness.me.0 }
-        ensures answers { result ≡ true → IsEndAnswering (meaning K.encoding V.encoding K.is_encodable V.is_encodable K.is_decodable V.is_decodable P.age) D.byte_at self.old.told.witness.me.0 self.new.told.witness.me.0 flusher id }
+        ensures answers { result.answers ≡ true → IsEndAnswering (meaning K.encoding V.encoding K.is_encodable V.is_encodable K.is_decodable V.is_decodable P.age) D.byte_at self.old.told.witness.me.0 self.new.told.witness.me.0 flusher id }
+        ensures released { HasReleased (meaning K.encoding V.encoding K.is_encodable V.is_encodable K.is_decodable V.is_decodable P.age) D.byte_at self.old.told.witness.me.0 self.new.told.witness.me.0 flusher (pieces_in result.released) }
         ensures settings { self.new.settings ≡ self.old.settings }
     {
-        match self.ask(rt, shared, Step::FlushEnd { flusher }) {
-            Reply::Ended { pieces, waits } => {
-                let answers = has_wait(&waits, id);
-                'pieces: for piece in pieces {
-                    keeper.release(rt, piece);
-                }
-                answers
-            }
-            _ => false,
-        }
+        let reply = self.ask(rt, shared, Step::FlushEnd { flusher });
+        ended_of(rt, keeper, reply, id)
     }
 
     /// Takes what is queued at a flusher, and writes it as one batch.
@@ -384,9 +451,7 @@ where
         }
         work.add_batch();
         self.write_batch(rt, shared, work, alloc, flusher);
-        if self.end_batch(rt, shared, keeper, flusher, id) {
-            return Flushed::Answered;
-        }
-        Flushed::Some
+        let end = self.end_batch(rt, shared, keeper, flusher, id);
+        flushed_of(end.answers)
     }
 }

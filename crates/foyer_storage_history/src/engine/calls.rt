@@ -38,6 +38,7 @@ where
     ghost use Rattle.foyer_core_threads.specs.Going.{GoesOn};
     ghost use Rattle.foyer_policy_filter.specs.Verdict.{IsAdmit};
     ghost use Rattle.foyer_storage_engine.specs.Answering.{asked_as, deleted_as};
+    ghost use Rattle.foyer_storage_engine.specs.Ending.{HoldsButCloses, HoldsButDestroys};
     ghost use Rattle.foyer_storage_history.specs.HistoryCalls.{IsAnswerTo, IsClosed, IsDestroyed, IsEnqueued, IsNewestAnswer, IsWaitedFor};
 
     ghost summary = { λ engine. record { capacity = min (engine.settings.blocks * engine.settings.block_size) (2 ^ 64 - 1); allocated = min (engine.settings.blocks * engine.settings.block_size) (2 ^ 64 - 1); partitions = engine.settings.blocks } };
@@ -52,11 +53,11 @@ where
 
     ghost may_ask = { λ _ old new hash answer. IsAnswerTo (meaning K.encoding V.encoding K.is_encodable V.is_encodable K.is_decodable V.is_decodable P.age) D.byte_at asked_as old.told.witness.me.0 new.told.witness.me.0 (steps.MayContains hash) answer };
 
-    ghost may_wait = { λ engine old new answer. OnOk answer ((flusher : ℕ) → flusher < engine.settings.flushers → IsWaitedFor (meaning K.encoding V.encoding K.is_encodable V.is_encodable K.is_decodable V.is_decodable P.age) D.byte_at old.told.witness.me.0 new.told.witness.me.0 flusher) };
+    ghost may_wait = { λ engine old new answer. (new.told.session ≡ old.told.session) × OnOk answer ((flusher : ℕ) → flusher < engine.settings.flushers → IsWaitedFor (meaning K.encoding V.encoding K.is_encodable V.is_encodable K.is_decodable V.is_decodable P.age) D.byte_at old.told.witness.me.0 new.told.witness.me.0 flusher) };
 
-    ghost may_close = { λ engine old new answer. OnOk answer (IsClosed (meaning K.encoding V.encoding K.is_encodable V.is_encodable K.is_decodable V.is_decodable P.age) D.byte_at old.told.witness.me.0 new.told.witness.me.0 engine.settings.flushers) };
+    ghost may_close = { λ engine old new answer. HoldsButCloses old.told.session new.told.session × OnOk answer (IsClosed (meaning K.encoding V.encoding K.is_encodable V.is_encodable K.is_decodable V.is_decodable P.age) D.byte_at old.told.witness.me.0 new.told.witness.me.0 engine.settings.flushers) };
 
-    ghost may_destroy = { λ engine old new answer. OnOk answer ((blocks : ℕ) × (0 < blocks → IsDestroyed (meaning K.encoding V.encoding K.is_encodable V.is_encodable K.is_decodable V.is_decodable P.age) D.byte_at old.told.witness.me.0 new.told.witness.me.0 (blocks - 1) answer)) };
+    ghost may_destroy = { λ engine old new answer. HoldsButDestroys old.told.session new.told.session × OnOk answer ((blocks : ℕ) × (0 < blocks → IsDestroyed (meaning K.encoding V.encoding K.is_encodable V.is_encodable K.is_decodable V.is_decodable P.age) D.byte_at old.told.witness.me.0 new.told.witness.me.0 (blocks - 1) answer)) };
 
     fn device(&self) -> DeviceSummary {
         let settings = self.settings;

@@ -1,12 +1,17 @@
 //! The calls that wait, close and destroy.
 ghost use Rattle.std.specs.Prelude.{◌≡◌, ◌⊎◌, ◌-◌, ◌<◌, ℕ, IfErr, OnOk, true};
 ghost use Rattle.foyer_core_laws.specs.Content.{meaning};
-ghost use Rattle.foyer_core_threads.specs.Going.{GoesOn};
+ghost use Rattle.foyer_core_threads.specs.Going.{GoesOn, IsMadeAgain};
 ghost use Rattle.foyer_device_page.specs.declared.error.Error.TheVariants as error;
+ghost use Rattle.foyer_core_shared.specs.Replies.{may_reply};
+ghost use Rattle.foyer_core_steps.specs.declared.reply.Reply.TheVariants as replies;
+ghost use Rattle.foyer_core_steps.specs.declared.step.Step.TheVariants as steps;
 ghost use Rattle.foyer_storage_engine.specs.Answering.{is_draw_error};
+ghost use Rattle.foyer_storage_engine.specs.Ending.{HoldsButCloses, HoldsButDestroys};
 ghost use Rattle.foyer_storage_history.specs.HistoryCalls.{IsClosed, IsDestroyed, IsWaitedFor};
 
 use super::HistoryEngine;
+use crate::begun::begin_destroy;
 use crate::session::HistorySession;
 use foyer_block_manager::block::eviction::EvictionPicker;
 use foyer_core_shared::core_steps::apply::no_io;
@@ -22,6 +27,18 @@ use foyer_lock::lock_spinning;
 use foyer_policy_filter::StorageFilterCondition;
 use std::alloc::Global;
 use std::sync::Wait;
+
+// What the reply to a close is answered as.
+fn closed_of<K: Drop, V: Drop, P: Drop>(reply: Reply<K, V, P, Global>) -> Result<()>
+    ensures done { OnOk result (reply ≡ replies.Done) }
+    ensures refused { may_reply steps.Close reply ≡ true → IfErr result (λ e. (is_draw_error e ≡ true) ⊎ (e ≡ error.Unsupported)) }
+{
+    match reply {
+        Reply::Done => Ok(()),
+        Reply::Refused(kind, _) => Err(error_of(kind)),
+        _ => Err(Error::Unsupported),
+    }
+}
 
 impl<J, L, K, V, P, E, C, D> HistoryEngine<J, L, K, V, P, E, C, D>
 where
@@ -44,6 +61,7 @@ where
     ) -> Result<()>
         ensures waited { OnOk result (IsWaitedFor (meaning K.encoding V.encoding K.is_encodable V.is_encodable K.is_decodable V.is_decodable P.age) D.byte_at session.old.told.witness.me.0 session.new.told.witness.me.0 flusher) }
         ensures on { GoesOn (meaning K.encoding V.encoding K.is_encodable V.is_encodable K.is_decodable V.is_decodable P.age) D.byte_at session.old.told.witness.me.0 session.new.told.witness.me.0 }
+        ensures same { session.new.told.session ≡ session.old.told.session }
         ensures refused { IfErr result (λ e. (is_draw_error e ≡ true) ⊎ (e ≡ error.Unsupported)) }
     {
         let mut maintainer = lock_spinning(&self.maintainer, rt);
@@ -58,7 +76,7 @@ where
         )
     }
 
-    /// Waits until all that was queued before is written: each flusher in turn.
+    /// Waits until all that was queued before is written: each flusher in turn. It makes no step by this session.
     #[tactic(auto, using(crate::proofs::HistoryLemmas::nil_is, crate::proofs::HistoryLemmas::goes_on, crate::proofs::HistoryLemmas::goes_self))]
     pub fn wait_all(
         &self,
@@ -67,6 +85,7 @@ where
     ) -> Result<()>
         ensures waited { OnOk result ((flusher : ℕ) → flusher < self.now.settings.flushers → IsWaitedFor (meaning K.encoding V.encoding K.is_encodable V.is_encodable K.is_decodable V.is_decodable P.age) D.byte_at session.old.told.witness.me.0 session.new.told.witness.me.0 flusher) }
         ensures on { GoesOn (meaning K.encoding V.encoding K.is_encodable V.is_encodable K.is_decodable V.is_decodable P.age) D.byte_at session.old.told.witness.me.0 session.new.told.witness.me.0 }
+        ensures same { session.new.told.session ≡ session.old.told.session }
         ensures refused { IfErr result (λ e. (is_draw_error e ≡ true) ⊎ (e ≡ error.Unsupported)) }
     {
         for flusher in 0..self.settings.flushers {
@@ -78,7 +97,26 @@ where
         Ok(())
     }
 
-    /// Takes no more puts, deletes and destroys, and waits.
+    // Has the core closed.
+    #[tactic(auto, using(crate::proofs::HistoryLemmas::nil_is))]
+    fn close_core(
+        &self,
+        rt: &impl Wait,
+        session: &mut HistorySession<J, L, K, V, P, D>,
+    ) -> Result<()>
+        ensures made { OnOk result (IsMadeAgain (meaning K.encoding V.encoding K.is_encodable V.is_encodable K.is_decodable V.is_decodable P.age) D.byte_at session.old.told.witness.me.0 session.new.told.witness.me.0 steps.Close replies.Done) }
+        ensures on { GoesOn (meaning K.encoding V.encoding K.is_encodable V.is_encodable K.is_decodable V.is_decodable P.age) D.byte_at session.old.told.witness.me.0 session.new.told.witness.me.0 }
+        ensures named { HoldsButCloses session.old.told.session session.new.told.session }
+        ensures parts { session.new.told.session.shares.parts ≡ session.old.told.session.shares.parts }
+        ensures refused { IfErr result (λ e. (is_draw_error e ≡ true) ⊎ (e ≡ error.Unsupported)) }
+    {
+        let reply = self
+            .shared
+            .ask_again(rt, &mut session.told, no_io(), Step::Close);
+        closed_of(reply)
+    }
+
+    /// Takes no more puts, deletes and destroys, and waits. Its session makes no step but the close.
     #[tactic(auto, using(crate::proofs::HistoryLemmas::nil_is, crate::proofs::HistoryLemmas::goes_on, crate::proofs::HistoryLemmas::goes_self))]
     pub fn close_all(
         &self,
@@ -87,21 +125,20 @@ where
     ) -> Result<()>
         ensures closed { OnOk result (IsClosed (meaning K.encoding V.encoding K.is_encodable V.is_encodable K.is_decodable V.is_decodable P.age) D.byte_at session.old.told.witness.me.0 session.new.told.witness.me.0 self.now.settings.flushers) }
         ensures on { GoesOn (meaning K.encoding V.encoding K.is_encodable V.is_encodable K.is_decodable V.is_decodable P.age) D.byte_at session.old.told.witness.me.0 session.new.told.witness.me.0 }
+        ensures named { HoldsButCloses session.old.told.session session.new.told.session }
+        ensures parts { session.new.told.session.shares.parts ≡ session.old.told.session.shares.parts }
         ensures refused { IfErr result (λ e. (is_draw_error e ≡ true) ⊎ (e ≡ error.Unsupported)) }
     {
-        let reply = self
-            .shared
-            .ask_again(rt, &mut session.told, no_io(), Step::Close);
-        match reply {
-            Reply::Done => {}
-            Reply::Refused(kind, _) => return Err(error_of(kind)),
-            _ => return Err(Error::Unsupported),
+        match self.close_core(rt, session) {
+            Ok(()) => {}
+            Err(error) => return Err(error),
         }
         self.wait_all(rt, session)
     }
 
-    /// Destroys all entries: what was put before is gone. `Io`, or another kind, is that of the first clean that failed.
-    #[tactic(auto, using(crate::proofs::HistoryLemmas::nil_is))]
+    /// Destroys all entries: what was put before is gone. Its session makes no step but that which
+    /// begins the destroy. `Io`, or another kind, is that of the first clean that failed.
+    #[tactic(auto, using(crate::proofs::HistoryLemmas::nil_is, crate::proofs::HistoryLemmas::goes_on))]
     pub fn destroy_all(
         &self,
         rt: &impl Wait,
@@ -109,8 +146,14 @@ where
     ) -> Result<()>
         ensures destroyed { OnOk result ((blocks : ℕ) × (0 < blocks → IsDestroyed (meaning K.encoding V.encoding K.is_encodable V.is_encodable K.is_decodable V.is_decodable P.age) D.byte_at session.old.told.witness.me.0 session.new.told.witness.me.0 (blocks - 1) result)) }
         ensures on { GoesOn (meaning K.encoding V.encoding K.is_encodable V.is_encodable K.is_decodable V.is_decodable P.age) D.byte_at session.old.told.witness.me.0 session.new.told.witness.me.0 }
+        ensures named { HoldsButDestroys session.old.told.session session.new.told.session }
+        ensures parts { session.new.told.session.shares.parts ≡ session.old.told.session.shares.parts }
     {
         let mut maintainer = lock_spinning(&self.maintainer, rt);
+        let begun = match begin_destroy(rt, &self.shared, session) {
+            Ok(begun) => begun,
+            Err(error) => return Err(error),
+        };
         maintainer.destroy(
             rt,
             &self.shared,
@@ -118,6 +161,7 @@ where
             &self.work,
             &self.alloc,
             &mut session.told,
+            begun,
         )
     }
 }

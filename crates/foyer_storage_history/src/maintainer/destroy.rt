@@ -9,6 +9,7 @@ ghost use Rattle.foyer_io_told.specs.ToldAccess.{HasClean};
 ghost use Rattle.foyer_storage_history.specs.HistoryCalls.{AreCleaned, IsCleared, IsDestroyed, cleared_as, destroyed_as};
 
 use super::{Flushed, HistoryCore, Maintainer};
+use crate::begun::DestroyBegun;
 use foyer_block_index::manager::BlockId;
 use foyer_block_manager::block::eviction::EvictionPicker;
 use foyer_core_shared::core_steps::refusal::error_of;
@@ -198,27 +199,8 @@ where
         ended
     }
 
-    // Begins a destroy, unless one has begun.
-    #[tactic(auto, using(crate::proofs::HistoryLemmas::nil_is))]
-    fn begin_destroy<E, C>(
-        &mut self,
-        rt: &impl Wait,
-        shared: &HistoryCore<J, L, K, V, P, E, C, D>,
-    ) -> Result<()>
-    where
-        E: EvictionPicker,
-        C: StorageFilterCondition,
-        ensures on { GoesOn (meaning K.encoding V.encoding K.is_encodable V.is_encodable K.is_decodable V.is_decodable P.age) D.byte_at self.old.told.witness.me.0 self.new.told.witness.me.0 }
-        ensures settings { self.new.settings ≡ self.old.settings }
-    {
-        match self.ask(rt, shared, Step::DestroyBegin) {
-            Reply::Refused(kind, _) => Err(error_of(kind)),
-            _ => Ok(()),
-        }
-    }
-
-    /// Destroys all entries, after all that a caller has seen: writes what is queued, clears the index, and cleans each block. Then the caller
-    /// has seen that. A destroy that was ended early goes on.
+    /// Destroys all entries, after all that a caller has seen, whose destroy has begun: writes what is queued, clears the index, and cleans each
+    /// block. Then the caller has seen that.
     #[tactic(auto, using(crate::proofs::HistoryLemmas::nil_is, crate::proofs::HistoryLemmas::goes_on, crate::proofs::HistoryLemmas::goes_self))]
     pub(crate) fn destroy<E, C>(
         &mut self,
@@ -228,6 +210,7 @@ where
         work: &WorkCounters,
         alloc: &Global,
         caller: &mut ToldSession<L, K, V, P, Global, D>,
+        _begun: DestroyBegun,
     ) -> Result<()>
     where
         E: EvictionPicker,
@@ -239,9 +222,6 @@ where
         ensures settings { self.new.settings ≡ self.old.settings }
     {
         self.see(shared, caller);
-        if let Err(error) = self.begin_destroy(rt, shared) {
-            return Err(error);
-        }
         if let Err(error) = self.clear(rt, shared, keeper, work, alloc) {
             return Err(error);
         }
