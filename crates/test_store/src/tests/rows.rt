@@ -64,6 +64,8 @@ naps < force 1 a, put 2 b, wait, get 1, get 2, del 2, get 2, put 3 c, put 3 d, w
 blocks 2, flushers 2, naps < put 1 x, wait, put 2 x, wait, put 3 x, wait, put 4 x, wait, put 5 x, wait, put 6 x, wait, put 7 x, wait, put 8 x, wait, get 7, get 8 | queued, ok, queued, ok, queued, ok, queued, ok, queued, ok, queued, ok, queued, ok, queued, ok, entry x, entry x
 calls are answered while a load is held, which another thread asked for
 holds load < put 1 a, wait, reached, has 1, put 2 b, wait, has 2, del 2, has 2, held, open & seen 1, get 1 | queued, ok, yes, yes, queued, ok, yes, ok, no, yes, open & yes, entry a
+two destroys that meet are both done
+holds flush < put 1 a, reached, destroy, get 1 & reached, destroy, get 1 | queued, yes, ok, miss & yes, ok, miss
 two threads load, each through an I/O engine of its own
 loads 2 < put 1 a, put 2 b, wait, seen 2, get 1, get 2 & seen 1, seen 2, get 1, get 2 | queued, queued, ok, yes, entry a, entry b & yes, yes, entry a, entry b
 ";
@@ -92,6 +94,8 @@ put 1 a, wait, del 1, wait, get 1 / get 1 | queued, ok, ok, ok, miss / entry a
 log < put 1 a, put 2 b, wait, del 1, wait, get 1 / get 1, get 2, put 1 c, wait / get 1, get 2 | queued, queued, ok, ok, ok, miss / miss, entry b, queued, ok / entry c, entry b
 a long text is written again where its block is reclaimed; an opening drops it, since a newer text lies before it in its block
 blocks 3, clean 0, again < put 1 aaaaaaaa, put 2 b, put 3 c, wait, put 4 d, put 5 e, put 6 f, wait, put 7 g, put 8 h, put 9 i, wait, put 10 j, wait, wait, get 1, get 2, get 10 / get 1, get 2, get 10 | queued, queued, queued, ok, queued, queued, queued, ok, queued, queued, queued, ok, queued, ok, ok, entry aaaaaaaa, miss, entry j / miss, miss, entry j
+so is one of a block that isn't the first, once that is reclaimed
+blocks 3, clean 0, again < put 1 a, put 2 b, put 3 c, wait, put 4 aaaaaaaa, put 5 e, put 6 f, wait, put 7 g, put 8 h, put 9 i, wait, put 10 j, put 11 k, put 12 l, wait, put 13 m, wait, wait, get 4, get 5, get 1, get 13 | queued, queued, queued, ok, queued, queued, queued, ok, queued, queued, queued, ok, queued, queued, queued, ok, queued, ok, ok, entry aaaaaaaa, miss, miss, entry m
 what was destroyed stays away
 put 1 a, put 2 b, wait, destroy, put 3 c, wait / get 1, get 2, get 3 | queued, queued, ok, ok, queued, ok / miss, miss, entry c
 an opening that recovers nothing leaves what is there
