@@ -1,6 +1,6 @@
 -- A session may go to another thread, and threads may share an engine, if what these are made of may.
 use denote.RattleType.{RattleType}
-use denote.Param.Send.{IsSend, IsSync, Frees, sendable}
+use denote.Param.Send.{IsSend, IsSync, sendable}
 use denote.Param.SendFields.{declared_send, declared_sync}
 use Rattle.std.proofs.sync.Mutex.TheSendSync.{the_send as mutex_send, the_sync as mutex_sync}
 use Rattle.std.specs.contracts.alloc.Global.{the_row as global_row}

@@ -4,7 +4,6 @@ use Rattle.std.specs.declared.alloc.Global.{Global}
 use Rattle.std.specs.declared.vec.Vec.{Vec}
 use Rattle.foyer_device_page.specs.declared.error.Error.{Error}
 use Rattle.foyer_device_page.specs.declared.error.Error.TheVariants as error
-use Rattle.foyer_device_page.specs.declared.error.ErrorKind.{ErrorKind}
 use Rattle.foyer_policy_piece.specs.Referred.{Referred}
 use Rattle.foyer_core_chronicle.specs.declared.View.{View}
 use Rattle.foyer_core_laws.specs.Content.{Meaning, content}
@@ -24,7 +23,7 @@ use Rattle.foyer_core_told.specs.Telling.{HasStepped}
 use Rattle.foyer_core_threads.specs.Done.{HasCleaned}
 use Rattle.foyer_core_threads.specs.Going.{IsMadeAgain}
 use Rattle.foyer_core_threads.specs.Newest.{WasNewest, WasMissed}
-use Rattle.foyer_storage_engine.specs.Answering.{deleted_as, enqueued_as, asked_as}
+use Rattle.foyer_storage_engine.specs.Answering.{enqueued_as}
 use Rattle.foyer_storage_engine.specs.Ending.{is_refused}
 use Rattle.foyer_storage_engine.specs.declared.engine.Enqueued.{Enqueued}
 use Rattle.foyer_storage_engine.specs.declared.load.Load.{Load}

@@ -1,4 +1,4 @@
-use Rattle.std.proofs.Common.{◌≡◌, refl}
+use Rattle.std.proofs.Common.{refl}
 use Rattle.foyer_core_shared.specs.Briefs.{reply_brief}
 use Rattle.foyer_core_steps.specs.declared.step.Step.TheVariants as steps
 use Rattle.foyer_storage_history.proofs.HistoryLemmas.{destroys_named, ok_map}

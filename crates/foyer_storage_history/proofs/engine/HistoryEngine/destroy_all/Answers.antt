@@ -1,4 +1,4 @@
-use Rattle.std.proofs.Common.{◌≡◌, ap, sym, subst}
+use Rattle.std.proofs.Common.{sym, subst}
 use Rattle.foyer_core_laws.specs.Content.{meaning}
 use Rattle.foyer_core_shared.specs.Sessions.{SessionState}
 use Rattle.foyer_storage_engine.specs.Ending.{HoldsButDestroys}

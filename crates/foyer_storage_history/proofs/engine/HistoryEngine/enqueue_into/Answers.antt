@@ -1,4 +1,4 @@
-use Rattle.std.proofs.Common.{◌≡◌, ◌<◌, inl, ap, sym, subst, ◌∙◌, refl, arith}
+use Rattle.std.proofs.Common.{inl, ap}
 use Rattle.foyer_core_laws.specs.Content.{meaning}
 use Rattle.foyer_storage_history.proofs.HistoryLemmas.{made_one}
 use Rattle.foyer_storage_history.proofs.engine.HistoryEngine.enqueue_into.Goals as goal

@@ -1,4 +1,3 @@
-use Rattle.std.proofs.Common.{◌≡◌, ◌<◌, inl, ap, sym, subst, ◌∙◌, refl, arith}
 use Rattle.foyer_core_laws.specs.Content.{meaning}
 use Rattle.foyer_core_threads.proofs.GoingLemmas.{joined_on}
 use Rattle.foyer_storage_history.proofs.engine.HistoryEngine.join.Goals as goal

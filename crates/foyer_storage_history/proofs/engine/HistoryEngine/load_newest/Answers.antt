@@ -1,4 +1,4 @@
-use Rattle.std.proofs.Common.{◌≡◌, ◌<◌, inl, ap, sym, subst, ◌∙◌, refl, arith}
+use Rattle.std.proofs.Common.{subst}
 use Rattle.foyer_core_laws.specs.Content.{content, meaning}
 use Rattle.foyer_core_threads.specs.Newest.{WasNewest, WasMissed}
 use Rattle.foyer_storage_history.proofs.HistoryLemmas.{newest_answer}

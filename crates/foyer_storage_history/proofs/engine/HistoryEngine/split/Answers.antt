@@ -1,4 +1,4 @@
-use Rattle.std.proofs.Common.{◌≡◌, ◌<◌, inl, ap, sym, subst, ◌∙◌, refl, arith}
+use Rattle.std.proofs.Common.{ap}
 use Rattle.foyer_core_laws.specs.Content.{meaning}
 use Rattle.foyer_core_threads.proofs.GoingLemmas.{same_on}
 use Rattle.foyer_storage_history.proofs.engine.HistoryEngine.split.Goals as goal

@@ -1,4 +1,4 @@
-use Rattle.std.proofs.Common.{◌≡◌, ◌<◌, inl, ap, sym, subst, ◌∙◌, refl, arith}
+use Rattle.std.proofs.Common.{◌≡◌, ◌<◌, sym, subst, ◌∙◌, refl, arith}
 use Rattle.foyer_core_laws.specs.Content.{meaning}
 use Rattle.foyer_storage_history.proofs.HistoryLemmas.{goes_on, goes_self, waited_more}
 use Rattle.foyer_storage_history.proofs.engine.HistoryEngine.wait_all.Goals as goal

@@ -1,5 +1,4 @@
-use Rattle.std.proofs.Common.{◌≡◌, ◌<◌, ap, sym, subst, ◌∙◌, refl, arith}
-use Rattle.foyer_core_laws.specs.Content.{meaning}
+use Rattle.std.proofs.Common.{◌<◌, ap, sym, subst, arith}
 use Rattle.foyer_core_threads.proofs.HistoryJoins.{cleans_above}
 use Rattle.foyer_storage_history.proofs.HistoryLemmas.{cleans_below}
 use Rattle.foyer_storage_history.specs.HistoryCalls.{is_nil}

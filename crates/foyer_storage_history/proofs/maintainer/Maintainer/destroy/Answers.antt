@@ -1,4 +1,4 @@
-use Rattle.std.proofs.Common.{◌≡◌, ◌+◌, ◌-◌, ◌<◌, ap, sym, subst, ◌∙◌, refl, arith}
+use Rattle.std.proofs.Common.{◌-◌, ◌<◌, subst, ◌∙◌}
 use Rattle.foyer_core_laws.specs.Content.{meaning}
 use Rattle.foyer_core_laws.specs.Settings.{Settings}
 use Rattle.foyer_storage_history.specs.HistoryCalls.{AreCleaned, IsCleared}

@@ -1,4 +1,3 @@
-use Rattle.std.proofs.Common.{◌≡◌}
 use Rattle.foyer_core_laws.specs.Content.{meaning}
 use Rattle.foyer_storage_history.proofs.HistoryLemmas.{end_answering}
 use Rattle.foyer_storage_history.proofs.maintainer.Maintainer.end_batch.Goals as goal

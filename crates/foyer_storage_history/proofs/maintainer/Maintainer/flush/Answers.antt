@@ -1,4 +1,3 @@
-use Rattle.std.proofs.Common.{◌≡◌}
 use Rattle.foyer_core_laws.specs.Content.{meaning}
 use Rattle.foyer_storage_history.proofs.HistoryLemmas.{answers_after, goes_on}
 use Rattle.foyer_storage_history.proofs.maintainer.Maintainer.flush.Goals as goal

@@ -1,7 +1,5 @@
-use Rattle.std.proofs.Common.{◌≡◌, ◌<◌, ap, sym, subst, ◌∙◌, refl, arith}
 use Rattle.foyer_core_laws.specs.Content.{meaning}
 use Rattle.foyer_storage_history.proofs.HistoryLemmas.{answers_after}
-use Rattle.foyer_storage_history.specs.HistoryCalls.{is_nil}
 use Rattle.foyer_storage_history.proofs.maintainer.Maintainer.flush_until.Goals as goal
 
 pub returns-in-Answered-clause-answers : goal.returns-in-Answered-clause-answers

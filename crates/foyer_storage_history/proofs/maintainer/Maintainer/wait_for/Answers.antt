@@ -1,7 +1,5 @@
-use Rattle.std.proofs.Common.{◌≡◌, ◌<◌, ap, sym, subst, ◌∙◌, refl, arith}
 use Rattle.foyer_core_laws.specs.Content.{meaning}
 use Rattle.foyer_storage_history.proofs.HistoryLemmas.{waited}
-use Rattle.foyer_storage_history.specs.HistoryCalls.{is_nil}
 use Rattle.foyer_storage_history.proofs.maintainer.Maintainer.wait_for.Goals as goal
 
 pub returns-clause-waited : goal.returns-clause-waited
