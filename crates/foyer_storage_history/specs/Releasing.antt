@@ -37,7 +37,7 @@ module _ {K V P : Type 0} where
   IsFrontOf other became = became ≡ front.Over
 
 module _ {K V P D : Type 0} (m : Meaning K V P) (byte_at : D → ℕ → ℕ → ℕ) where
-  -- A flusher was asked to end its batch, and all pieces that the reply hands back were released, each by its own number, and no other.
+  -- A flusher was asked to end its batch, and all pieces that the reply hands back were released, each by its own number.
   pub record HasReleased (mine after : View (Told K V P Global D)) (flusher : ℕ) (released : List (Referred K V P)) : Type 0 where
     pub reply : Reply K V P Global
     pub made : IsMadeAgain m byte_at mine after (steps.FlushEnd flusher) reply

@@ -116,7 +116,7 @@ where
         closed_of(reply)
     }
 
-    /// Takes no more puts, deletes and destroys, and waits. Its session makes no step but the close.
+    /// Takes no more puts, deletes and destroys, and waits. Its session counts no put, delete, load or destroy.
     #[tactic(auto, using(crate::proofs::HistoryLemmas::nil_is, crate::proofs::HistoryLemmas::goes_on, crate::proofs::HistoryLemmas::goes_self))]
     pub fn close_all(
         &self,
@@ -136,8 +136,8 @@ where
         self.wait_all(rt, session)
     }
 
-    /// Destroys all entries: what was put before is gone. Its session makes no step but that which
-    /// begins the destroy. `Io`, or another kind, is that of the first clean that failed.
+    /// Destroys all entries: what was put before is gone. Its session counts no put, delete, load or close. `Io`, or another kind, is that of the first
+    /// clean that failed.
     #[tactic(auto, using(crate::proofs::HistoryLemmas::nil_is, crate::proofs::HistoryLemmas::goes_on))]
     pub fn destroy_all(
         &self,
