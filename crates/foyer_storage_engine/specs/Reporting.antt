@@ -1,9 +1,8 @@
 -- What a worker does at its disk, and what its session shows that it reported.
-use Rattle.std.specs.Prelude.{◌≡◌, ◌⊎◌, ℕ, Bool, true, Some, Result, OnOk, OnErr}
+use Rattle.std.specs.Prelude.{◌≡◌, ℕ, Some, Result, OnOk, OnErr}
 use Rattle.foyer_core_model.specs.Numbers.{page}
 use Rattle.foyer_core_access.specs.Reclaims.{IsCleaned}
-use Rattle.foyer_core_shared.specs.Briefs.{outcome_of, reply_brief}
-use Rattle.foyer_core_shared.specs.Reply.{Reply}
+use Rattle.foyer_core_shared.specs.Briefs.{outcome_of}
 use Rattle.foyer_core_shared.specs.Sessions.{SessionState}
 use Rattle.foyer_core_shared.specs.declared.brief.ReplyBrief.{ReplyBrief}
 use Rattle.foyer_core_shared.specs.declared.brief.StepBrief.TheVariants as asked
@@ -19,8 +18,3 @@ pub record ReportsClean (block : ℕ) (old new : ℕ → ℕ → ℕ) (surely_ca
   pub cleaned : OnOk outcome (IsCleaned old block new)
   pub torn : OnErr outcome (IsTorn old block 0 page new)
   pub fails : OnErr outcome (surely_came → ⊥)
-
--- the newest step takes what is in front of this flusher's queue, and got this reply; or, where notes are kept, none was made
-abbrev pub AsksToReceive : {K V P A : Type 0} → (keeps : Bool) → (flusher : ℕ) → SessionState → SessionState → Reply K V P A → Type 0
-AsksToReceive keeps flusher old new answer =
-    (new.newest ≡ Some (record { step = asked.Receive flusher; reply = reply_brief answer })) ⊎ ((keeps ≡ true) × (new ≡ old))

@@ -1,7 +1,7 @@
 -- The waits of callers that flushers have yet to answer.
 use Rattle.std.specs.Prelude.{◌≡◌, ◌⊎◌, ◌<◌, ◌≤◌, ◌-◌, ◌==◌, ◌||◌, ℕ, Bool, false, not, is_some, List, Option, None, Some, position, slice_get, slice_set, swap_remove}
-use Rattle.foyer_storage_engine.specs.declared.engine.waits.OpenWait.{OpenWait}
-use Rattle.foyer_storage_engine.specs.declared.engine.waits.WaitTable.{WaitTable}
+use Rattle.foyer_storage_engine.specs.declared.engine.wait_table.OpenWait.{OpenWait}
+use Rattle.foyer_storage_engine.specs.declared.engine.wait_table.WaitTable.{WaitTable}
 
 -- where a wait of this number stands
 abbrev pub place_of : List OpenWait → (id : ℕ) → Option ℕ

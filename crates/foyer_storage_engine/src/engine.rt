@@ -16,6 +16,7 @@ mod ends;
 mod patience;
 mod reader;
 pub mod signals;
+mod wait_table;
 pub mod waits;
 
 use self::reader::Reader;

@@ -1,0 +1,167 @@
+//! The waits that aren't answered, as they stand behind their lock, and what shows how one went on.
+ghost use Rattle.std.specs.Prelude.{◌≡◌, ◌+◌, ◌%◌, ◌^◌, ◌++◌, ◌∷◌, [], ◌↔◌, true, false, not, IfOk, IfSome, IsOkUnless, IsSome, IsTrue, OnErr};
+ghost use Rattle.foyer_device_page.specs.declared.error.Error.TheVariants.{Memory};
+ghost use Rattle.foyer_storage_engine.specs.Waiting.{is_over, place_of, IsAnsweredAt, IsForgottenAt};
+
+use foyer_device_page::error::Result;
+use std::alloc::Allocator;
+use std::mem;
+
+// A wait that flushers have yet to answer, and how many of them.
+#[derive(Clone, Copy, Debug, PartialEq, Eq)]
+struct OpenWait {
+    id: u64,
+    left: u32,
+}
+
+/// A wait that was begun: its number, and how many flushers are to answer it.
+#[derive(Clone, Copy, Debug, PartialEq, Eq)]
+pub struct BegunWait {
+    id: u64,
+    flushers: u32,
+}
+
+impl BegunWait {
+    /// The number by which flushers answer it.
+    pub fn id(&self) -> u64
+        ensures { result ≡ self.now.id }
+    {
+        self.id
+    }
+}
+
+/// What shows that all have answered a wait, or that nobody answers any more: only who waited for it has one.
+#[derive(Clone, Copy, Debug, PartialEq, Eq)]
+pub struct AnsweredWait {
+    id: u64,
+}
+
+/// What shows that a flusher answered a wait: only who counts the answer has one.
+#[derive(Drop)]
+pub struct GivenAnswer {
+    id: u64,
+}
+
+// What stands behind the lock: the waits that aren't answered, whether none is answered any more, and whether a caller has begun
+// to wait since the last time that all were woken.
+#[derive(Drop)]
+pub(crate) struct WaitTable<A: Allocator> {
+    next: u64,
+    waiting: Vec<OpenWait, A>,
+    is_closed: bool,
+    is_awaited: bool,
+}
+
+// Where a wait stands in a list.
+fn place_of(waiting: &[OpenWait], id: u64) -> Option<usize>
+    ensures { result ≡ place_of waiting.now id }
+{
+    waiting.iter().position(|wait| wait.id == id)
+}
+
+impl<A: Allocator> WaitTable<A> {
+    pub(crate) fn new(alloc: A) -> WaitTable<A>
+        ensures { (result.waiting.items ≡ []) × (result.is_closed ≡ false) }
+    {
+        WaitTable {
+            next: 0,
+            waiting: Vec::new(alloc),
+            is_closed: false,
+            is_awaited: false,
+        }
+    }
+
+    // A new wait, that so many flushers are to answer. Memory.
+    pub(crate) fn begin(&mut self, flushers: u32) -> Result<BegunWait>
+        ensures refused { IsOkUnless result Memory }
+        ensures next { IfOk result (λ _. self.new.next ≡ (self.old.next + 1) % 2 ^ 64) }
+        ensures wait { IfOk result (λ wait. (wait.id ≡ self.old.next) × (wait.flushers ≡ flushers)) }
+        ensures added { IfOk result (λ _. self.new.waiting.items ≡ self.old.waiting.items ++ record { id = self.old.next; left = flushers } ∷ []) }
+        ensures same { OnErr result ((self.new.waiting.items ≡ self.old.waiting.items) × (self.new.next ≡ self.old.next)) }
+    {
+        let id = self.next;
+        self.waiting.push(OpenWait { id, left: flushers })?;
+        self.next = id.wrapping_add(1);
+        Ok(BegunWait { id, flushers })
+    }
+
+    // One flusher answers a wait: whether callers are to be woken. A wait that isn't there, since its caller gave it up, is left
+    // alone.
+    fn count_answer(&mut self, id: u64) -> bool
+        ensures { IsAnsweredAt (place_of self.old.waiting.items id) self.old self.new result }
+    {
+        let Some(place) = place_of(&self.waiting, id) else {
+            return false;
+        };
+        let left = self.waiting[place].left;
+        if left > 1 {
+            self.waiting[place].left = left - 1;
+            return false;
+        }
+        let _ = self.waiting.swap_remove(place);
+        mem::replace(&mut self.is_awaited, false)
+    }
+
+    // The same, and what shows it.
+    pub(crate) fn answer(&mut self, id: u64) -> (bool, GivenAnswer)
+        ensures counted { IsAnsweredAt (place_of self.old.waiting.items id) self.old self.new result.0 }
+        ensures own { result.1.id ≡ id }
+    {
+        (self.count_answer(id), GivenAnswer { id })
+    }
+
+    // Nobody answers any more.
+    pub(crate) fn close(&mut self)
+        ensures { self.new ≡ record self.old { is_closed = true } }
+    {
+        self.is_closed = true;
+    }
+
+    // Gives a wait up.
+    pub(crate) fn forget(&mut self, id: u64)
+        ensures { IsForgottenAt (place_of self.old.waiting.items id) self.old self.new }
+    {
+        if let Some(place) = place_of(&self.waiting, id) {
+            let _ = self.waiting.swap_remove(place);
+        }
+    }
+
+    // Whether all have answered a wait, or it was given up, or nobody answers any more.
+    fn is_over(&self, id: u64) -> bool
+        ensures { result ≡ is_over self.now id }
+    {
+        self.is_closed || place_of(&self.waiting, id).is_none()
+    }
+
+    // What shows that a wait is over, where it is.
+    pub(crate) fn answered(&self, id: u64) -> Option<AnsweredWait>
+        ensures over { IsSome result ↔ IsTrue (is_over self.now id) }
+        ensures own { IfSome result (λ wait. wait.id ≡ id) }
+    {
+        if !self.is_over(id) {
+            return None;
+        }
+        Some(AnsweredWait { id })
+    }
+
+    // The same of one that is known to be over.
+    pub(crate) fn over(&self, id: u64) -> AnsweredWait
+        requires { IsTrue (is_over self.now id) }
+        ensures { result.id ≡ id }
+    {
+        AnsweredWait { id }
+    }
+
+    // Whether to wait on: who does is to be woken where a wait ends.
+    pub(crate) fn begins_to_wait(&mut self, id: u64) -> bool
+        ensures waits { result ≡ not (is_over self.old id) }
+        ensures awaited { result ≡ true → self.new ≡ record self.old { is_awaited = true } }
+        ensures same { result ≡ false → self.new ≡ self.old }
+    {
+        if self.is_over(id) {
+            return false;
+        }
+        self.is_awaited = true;
+        true
+    }
+}
