@@ -1,1 +1,2 @@
 pub mod WorkerStepLemmas
+pub mod TurnLemmas

@@ -1,6 +1,8 @@
 -- What a worker does at its disk, and what its session shows of it.
-use Rattle.std.specs.Prelude.{◌≡◌, ◌⊎◌, ◌&&◌, ℕ, Bool, true, false, List, [], ◌∷◌, length, Some, Result, Ok, OnOk, OnErr, is_ok}
-use Rattle.foyer_core_shared.specs.Briefs.{outcome_of}
+use Rattle.std.specs.Prelude.{◌≡◌, ◌⊎◌, ◌&&◌, ℕ, Bool, true, false, List, [], ◌∷◌, length, Option, Some, None, Result, Ok, OnOk, OnErr, IfOk, is_ok, vec_len}
+use Rattle.std.specs.declared.vec.Vec.{Vec}
+use Rattle.foyer_core_access.specs.declared.reclaims.Part.{Part}
+use Rattle.foyer_core_shared.specs.Briefs.{len_of, outcome_of}
 use Rattle.foyer_core_shared.specs.Issuing.{written_bytes}
 use Rattle.foyer_core_shared.specs.Reply.{Reply}
 use Rattle.foyer_core_shared.specs.Reply.TheVariants as reply
@@ -10,7 +12,7 @@ use Rattle.foyer_core_shared.specs.declared.brief.ReplyBrief.TheVariants as repl
 use Rattle.foyer_core_shared.specs.declared.brief.StepBrief.TheVariants as asked
 use Rattle.foyer_device_page.specs.declared.error.Error.{Error}
 use Rattle.foyer_device_page.specs.declared.error.ErrorKind.{ErrorKind}
-use Rattle.foyer_io_disk.specs.Disk.{IsTorn, IsWritten}
+use Rattle.foyer_io_disk.specs.Disk.{IsRead, IsTorn, IsWritten}
 
 abbrev pub is_next : ReplyBrief → Bool
 is_next replied.Next = true
@@ -86,3 +88,34 @@ pub record HasRead (block : ℕ) (session : SessionState) : Type 0 where
   pub answer : ReplyBrief
   pub newest : session.newest ≡ Some (record { step = asked.ReclaimRead block outcome; reply = answer })
   pub ended : reads_on answer ≡ false
+
+-- what a reclaim reads first: an index
+abbrev pub first_part : (index_size : ℕ) → Part
+first_part index_size = record { offset = 0; len = index_size }
+
+-- what a reply has read next
+abbrev pub part_of : ReplyBrief → Option Part
+part_of (replied.Scan block offset len listed) = Some (record { offset = offset; len = len })
+part_of other = None
+
+-- The newest step brings what was read of a part of a block, if contracts see what the disk has, or a fault; and its reply has this read next.
+pub record ReportsRead (A : Type 0) (block : ℕ) (bytes_at : ℕ → ℕ → ℕ) (part : Part) (session : SessionState) (then : Option Part) : Type 0 where
+  pub outcome : Result (Vec ℕ A) Error
+  pub answer : ReplyBrief
+  pub newest : session.newest ≡ Some (record { step = asked.ReclaimRead block (len_of outcome); reply = answer })
+  pub read : IfOk outcome (λ bytes. IsRead bytes_at block part.offset bytes.items)
+  pub whole : IfOk outcome (λ bytes. vec_len bytes ≡ part.len)
+  pub next : then ≡ part_of answer
+
+-- A part of a block was read and reported, and then those behind it, each as the reply to the one before has it; the newest step is the last
+-- one's report.
+abbrev pub AreReadOn : (A : Type 0) → (block : ℕ) → (bytes_at : ℕ → ℕ → ℕ) → SessionState → (behind : List Part) → Part → Type 0
+AreReadOn A block bytes_at session [] part = ReportsRead A block bytes_at part session None
+AreReadOn A block bytes_at session (next ∷ behind) part = ((at : SessionState) × ReportsRead A block bytes_at part at (Some next)) × AreReadOn A block bytes_at session behind next
+
+abbrev pub AreReadFrom : (A : Type 0) → (block : ℕ) → (bytes_at : ℕ → ℕ → ℕ) → SessionState → Part → Type 0
+AreReadFrom A block bytes_at session part = (behind : List Part) × AreReadOn A block bytes_at session behind part
+
+-- the newest step has the entries of this block forgotten
+abbrev pub AsksToForget : (block : ℕ) → SessionState → Type 0
+AsksToForget block session = (answer : ReplyBrief) × (session.newest ≡ Some (record { step = asked.ReclaimForget block; reply = answer }))

@@ -2,10 +2,16 @@
 ghost use Rattle.std.specs.Prelude.{◌≡◌, ◌+◌, ◌<◌, vec_len, OnOk};
 ghost use Rattle.foyer_storage_engine.specs.Ending.{HoldsNamed};
 
+mod answering;
+mod answers;
 mod appending;
+mod batch;
 mod flusher;
+mod forgetting;
+mod reading;
 mod receiving;
 mod reclaimer;
+mod turn;
 
 pub use self::flusher::{FlusherParts, FlusherWorker};
 pub use self::reclaimer::{ReclaimerParts, ReclaimerWorker};

@@ -2,8 +2,8 @@
 ghost use Rattle.std.specs.Prelude.{◌≡◌, IfOk, IfSome, IsOkUnless};
 ghost use Rattle.foyer_device_page.specs.declared.error.Error.TheVariants.{Memory};
 
-pub use super::wait_table::{AnsweredWait, BegunWait, GivenAnswer};
 use super::wait_table::WaitTable;
+pub use super::wait_table::{AnsweredWait, BegunWait, GivenAnswer};
 use crate::bell::LOOKS;
 use foyer_device_page::error::Result;
 use foyer_lock::lock_spinning;

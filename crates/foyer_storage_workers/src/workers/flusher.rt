@@ -1,35 +1,21 @@
 //! A flusher's worker: it takes what is queued, writes it in batches, and gives back what was written.
-ghost use Rattle.std.specs.Prelude.{◌≡◌, ◌<◌, false, length, true};
-ghost use Rattle.foyer_storage_engine.specs.Issuing.{written_bytes};
-ghost use Rattle.foyer_io_disk.specs.Disk.{SurelyCame};
+ghost use Rattle.std.specs.Prelude.{◌≡◌, ◌<◌};
 ghost use Rattle.foyer_storage_engine.specs.Ending.{HoldsNamed};
-ghost use Rattle.foyer_storage_engine.specs.Briefs.{reply_brief};
-ghost use Rattle.foyer_storage_workers.specs.Releasing.{HasReleased, IsBegunAs, IsLogged, pieces_in, pieces_of};
-ghost use Rattle.foyer_storage_workers.specs.declared.workers.flusher.Begun.TheVariants as begun;
-ghost use Rattle.foyer_storage_workers.specs.WorkerSteps.{AreWritten, IsAtBatchEnd, IsDoneAs, ReportsWrite, names_block};
+ghost use Rattle.foyer_storage_workers.specs.Turning.{IsIdle};
 
 use super::Worker;
-use super::appending::{Appended, append};
-use super::receiving::receive_all;
+use super::turn::{Drained, Turn, take_turn};
 use crate::hand::Hand;
-use foyer_block_index::manager::BlockId;
-use foyer_block_index::tombstone::Tombstone;
 use foyer_block_manager::block::eviction::EvictionPicker;
 use foyer_block_tombstone::block::tombstone::MarkLog;
 use foyer_core_tally::book::Kinds;
 use foyer_format_record::serde::{Code, Properties};
 use foyer_io_disk::disk::Disk;
-use foyer_io_gate::gate::{Gate, Point};
+use foyer_io_gate::gate::Gate;
 use foyer_policy_filter::StorageFilterCondition;
 use foyer_policy_keeper::keeper::Keeper;
-use foyer_policy_release::noted::AllReleased;
-use foyer_policy_release::release::release_all;
-use foyer_storage_engine::core_access::disk::do_write;
 use foyer_storage_engine::core_shared::notes::Noting;
 use foyer_storage_engine::core_shared::session::Session;
-use foyer_storage_engine::core_steps::apply::no_io;
-use foyer_storage_engine::core_steps::reply::{Reply, Write};
-use foyer_storage_engine::core_steps::step::Step;
 use foyer_storage_engine::engine::BlockEngine;
 use std::alloc::{Allocator, Global};
 use std::sync::{Arc, Mutex, Wait};
@@ -47,364 +33,6 @@ pub struct FlusherParts<K: Eq, V, P, A: Allocator, D: Disk + Drop, M: MarkLog + 
     pub keeper: Arc<Keeper<K, V, P, A>, Global>,
 }
 
-// Does a write of a block, and reports its outcome: whether the next one is to be done.
-#[tactic(auto, using(foyer_storage_engine::proofs::HoldingLemmas::held_on, foyer_storage_engine::proofs::HoldingLemmas::held_by_step, crate::proofs::WorkerStepLemmas::not_next))]
-fn write_one<L, K, V, P, A, E, C, D, G, N, O>(
-    rt: &impl Wait,
-    engine: &BlockEngine<L, K, V, P, A, E, C, D, G, N>,
-    disk: &mut O,
-    flusher: u32,
-    session: &mut Session<L>,
-    block: BlockId,
-    write: &Write<A>,
-) -> bool
-where
-    L: Kinds,
-    K: Code<A> + Drop,
-    V: Code<A> + Drop,
-    P: Properties + Drop,
-    A: Allocator + Clone,
-    E: EvictionPicker,
-    C: StorageFilterCondition,
-    D: Disk + Drop,
-    G: Gate,
-    N: Noting,
-    O: Disk,
-    requires { 0 < session.old.shares.parts }
-    ensures named { HoldsNamed session.old session.new }
-    ensures parts { session.new.shares.parts ≡ session.old.shares.parts }
-    ensures reports { O.is_known disk.old → ReportsWrite flusher block write.now.offset (written_bytes write.now.bytes) (O.byte_at disk.old) (O.byte_at disk.new)
-        (SurelyCame (O.surely_has disk.old) (O.surely_lies disk.old) (O.faults disk.old) (O.faults disk.new)
-        block write.now.offset (length (written_bytes write.now.bytes))) session.new result }
-    ensures known { O.is_known disk.old → O.is_known disk.new }
-{
-    let result = do_write(disk, block, write);
-    let is_written = result.is_ok();
-    let step = Step::FlushWrote { flusher, result };
-    match engine.step_again(rt, session, no_io(), step) {
-        Reply::Next => is_written,
-        Reply::Failed => {
-            engine.signals().work.add_failed_block();
-            // The flusher leaves the block.
-            engine.signals().reclaims.ring(rt);
-            false
-        }
-        _ => false,
-    }
-}
-
-// Does a block's writes, and reports each, until one fails or ends the block.
-#[tactic(auto, using(foyer_storage_engine::proofs::HoldingLemmas::held_on, foyer_storage_engine::proofs::HoldingLemmas::held_by_step))]
-fn write_block<L, K, V, P, A, E, C, D, G, N, O>(
-    rt: &impl Wait,
-    engine: &BlockEngine<L, K, V, P, A, E, C, D, G, N>,
-    disk: &mut O,
-    flusher: u32,
-    session: &mut Session<L>,
-    block: BlockId,
-    writes: &[Write<A>],
-)
-where
-    L: Kinds,
-    K: Code<A> + Drop,
-    V: Code<A> + Drop,
-    P: Properties + Drop,
-    A: Allocator + Clone,
-    E: EvictionPicker,
-    C: StorageFilterCondition,
-    D: Disk + Drop,
-    G: Gate,
-    N: Noting,
-    O: Disk,
-    requires { 0 < session.old.shares.parts }
-    ensures named { HoldsNamed session.old session.new }
-    ensures parts { session.new.shares.parts ≡ session.old.shares.parts }
-    ensures writes { O.is_known disk.old → AreWritten writes.now (λ w. w.offset) (λ w. written_bytes w.bytes) flusher block session.new (O.byte_at disk.old) (O.byte_at disk.new) }
-{
-    if writes.is_empty() {
-        return;
-    }
-    engine.gate().pass(Point::FlushWrite);
-    'writes: for write in writes {
-        if !write_one(rt, engine, disk, flusher, session, block, write) {
-            return;
-        }
-    }
-}
-
-// Does what the reply to a batch's question for a block asks: writes it, or waits for one where none is clean. Whether the batch goes on. A
-// reclaim may begin where the flusher leaves its own block for another, since that takes a clean one and the other may be evicted: `own` is
-// the block that it wrote last.
-#[tactic(auto, using(crate::proofs::WorkerStepLemmas::does_none, crate::proofs::WorkerStepLemmas::names_none))]
-fn do_asked<L, K, V, P, A, E, C, D, G, N, O>(
-    rt: &impl Wait,
-    engine: &BlockEngine<L, K, V, P, A, E, C, D, G, N>,
-    disk: &mut O,
-    flusher: u32,
-    own: &mut Option<BlockId>,
-    session: &mut Session<L>,
-    seen: u64,
-    reply: Reply<K, V, P, A>,
-) -> bool
-where
-    L: Kinds,
-    K: Code<A> + Drop,
-    V: Code<A> + Drop,
-    P: Properties + Drop,
-    A: Allocator + Clone,
-    E: EvictionPicker,
-    C: StorageFilterCondition,
-    D: Disk + Drop,
-    G: Gate,
-    N: Noting,
-    O: Disk,
-    requires { 0 < session.old.shares.parts }
-    ensures named { HoldsNamed session.old session.new }
-    ensures parts { session.new.shares.parts ≡ session.old.shares.parts }
-    ensures does { O.is_known disk.old → IsDoneAs reply flusher session.new (O.byte_at disk.old) (O.byte_at disk.new) }
-    ensures goes_on { result ≡ names_block (reply_brief reply) }
-    ensures same { result ≡ false → session.new ≡ session.old }
-{
-    match reply {
-        Reply::Write { block, writes } => {
-            if *own != Some(block) {
-                *own = Some(block);
-                engine.signals().reclaims.ring(rt);
-            }
-            write_block(rt, engine, disk, flusher, session, block, &writes);
-            true
-        }
-        Reply::NoBlock => {
-            *own = None;
-            engine.signals().reclaims.ring(rt);
-            let _ = engine.signals().done.wait_past(rt, seen);
-            true
-        }
-        _ => false,
-    }
-}
-
-// Writes the blocks of a batch, until it asks for none.
-#[tactic(auto, using(foyer_storage_engine::proofs::HoldingLemmas::held_on, foyer_storage_engine::proofs::HoldingLemmas::held_by_step))]
-fn write_batch<L, K, V, P, A, E, C, D, G, N, O>(
-    rt: &impl Wait,
-    engine: &BlockEngine<L, K, V, P, A, E, C, D, G, N>,
-    disk: &mut O,
-    flusher: u32,
-    own: &mut Option<BlockId>,
-    session: &mut Session<L>,
-)
-where
-    L: Kinds,
-    K: Code<A> + Drop,
-    V: Code<A> + Drop,
-    P: Properties + Drop,
-    A: Allocator + Clone,
-    E: EvictionPicker,
-    C: StorageFilterCondition,
-    D: Disk + Drop,
-    G: Gate,
-    N: Noting,
-    O: Disk,
-    requires { 0 < session.old.shares.parts }
-    ensures named { HoldsNamed session.old session.new }
-    ensures parts { session.new.shares.parts ≡ session.old.shares.parts }
-    ensures ended { IsAtBatchEnd flusher session.new }
-{
-    for _ in rt.forever() {
-        let seen = engine.signals().done.count(rt);
-        let reply = engine.step_again(rt, session, no_io(), Step::FlushBlock { flusher });
-        if !do_asked(rt, engine, disk, flusher, own, session, seen, reply) {
-            return;
-        }
-    }
-    unreachable!()
-}
-
-// Does what the reply to a batch's end asks: its pieces are released in order, then its waits are answered. The pieces, if the batch ended.
-fn do_end<L, K, V, P, A, E, C, D, G, N>(
-    rt: &impl Wait,
-    engine: &BlockEngine<L, K, V, P, A, E, C, D, G, N>,
-    keeper: &Keeper<K, V, P, A>,
-    reply: Reply<K, V, P, A>,
-) -> Option<AllReleased<K, V, P, A>>
-where
-    L: Kinds,
-    K: Code<A> + Eq + Drop,
-    V: Code<A> + Drop,
-    P: Properties + Drop,
-    A: Allocator + Clone,
-    E: EvictionPicker,
-    C: StorageFilterCondition,
-    D: Disk + Drop,
-    G: Gate,
-    N: Noting,
-    ensures { pieces_in result ≡ pieces_of reply }
-{
-    match reply {
-        Reply::Ended { pieces, waits } => {
-            let released = release_all(rt, keeper, pieces);
-            'waits: for id in &waits {
-                engine.signals().waits.answer(rt, *id);
-            }
-            Some(released)
-        }
-        _ => None,
-    }
-}
-
-// Ends a batch. The pieces that were released, each by its own number, if it ended.
-#[tactic(auto, using(foyer_storage_engine::proofs::HoldingLemmas::held_on, foyer_storage_engine::proofs::HoldingLemmas::held_by_step))]
-fn end_batch<L, K, V, P, A, E, C, D, G, N>(
-    rt: &impl Wait,
-    engine: &BlockEngine<L, K, V, P, A, E, C, D, G, N>,
-    keeper: &Keeper<K, V, P, A>,
-    flusher: u32,
-    session: &mut Session<L>,
-) -> Option<AllReleased<K, V, P, A>>
-where
-    L: Kinds,
-    K: Code<A> + Eq + Drop,
-    V: Code<A> + Drop,
-    P: Properties + Drop,
-    A: Allocator + Clone,
-    E: EvictionPicker,
-    C: StorageFilterCondition,
-    D: Disk + Drop,
-    G: Gate,
-    N: Noting,
-    requires { 0 < session.old.shares.parts }
-    ensures named { HoldsNamed session.old session.new }
-    ensures parts { session.new.shares.parts ≡ session.old.shares.parts }
-    ensures released { HasReleased A flusher session.new (pieces_in result) }
-{
-    let reply = engine.step_again(rt, session, no_io(), Step::FlushEnd { flusher });
-    let released = do_end(rt, engine, keeper, reply);
-    engine.signals().done.ring(rt);
-    released
-}
-
-// What the reply to a batch's beginning said.
-#[derive(Drop)]
-enum Begun<A: Allocator> {
-    // No batch began.
-    No,
-    // One began, of an engine that has no log.
-    Unlogged,
-    // One began, and its marks were appended to the log.
-    Logged(Appended<A>),
-}
-
-// Appends the marks of a batch to the log of deletes, if the engine has one, and reports the outcome.
-#[tactic(auto, using(foyer_storage_engine::proofs::HoldingLemmas::held_on, foyer_storage_engine::proofs::HoldingLemmas::held_by_step, foyer_storage_engine::proofs::HoldingLemmas::held_same))]
-fn log_marks<L, K, V, P, A, E, C, D, G, N, M>(
-    rt: &impl Wait,
-    engine: &BlockEngine<L, K, V, P, A, E, C, D, G, N>,
-    log: &Mutex<M>,
-    flusher: u32,
-    session: &mut Session<L>,
-    marks: Vec<Tombstone, A>,
-) -> Begun<A>
-where
-    L: Kinds,
-    K: Code<A> + Drop,
-    V: Code<A> + Drop,
-    P: Properties + Drop,
-    A: Allocator + Clone,
-    E: EvictionPicker,
-    C: StorageFilterCondition,
-    D: Disk + Drop,
-    G: Gate,
-    N: Noting,
-    M: MarkLog,
-    requires { 0 < session.old.shares.parts }
-    ensures named { HoldsNamed session.old session.new }
-    ensures parts { session.new.shares.parts ≡ session.old.shares.parts }
-    ensures unlogged { engine.now.settings.tombstone_log ≡ false → result ≡ begun.Unlogged }
-    ensures logged { engine.now.settings.tombstone_log ≡ true → IsLogged flusher marks session.new result }
-{
-    if !engine.settings().tombstone_log {
-        return Begun::Unlogged;
-    }
-    let appended = append(rt, log, marks);
-    let result = appended.outcome();
-    let wrote = Step::LogWrote { flusher, result };
-    let _ = engine.step_again(rt, session, no_io(), wrote);
-    Begun::Logged(appended)
-}
-
-// Does what the reply to a batch's beginning asks.
-#[tactic(auto, using(foyer_storage_engine::proofs::HoldingLemmas::held_same))]
-fn do_begin<L, K, V, P, A, E, C, D, G, N, M>(
-    rt: &impl Wait,
-    engine: &BlockEngine<L, K, V, P, A, E, C, D, G, N>,
-    log: &Mutex<M>,
-    flusher: u32,
-    session: &mut Session<L>,
-    reply: Reply<K, V, P, A>,
-) -> Begun<A>
-where
-    L: Kinds,
-    K: Code<A> + Drop,
-    V: Code<A> + Drop,
-    P: Properties + Drop,
-    A: Allocator + Clone,
-    E: EvictionPicker,
-    C: StorageFilterCondition,
-    D: Disk + Drop,
-    G: Gate,
-    N: Noting,
-    M: MarkLog,
-    requires { 0 < session.old.shares.parts }
-    ensures named { HoldsNamed session.old session.new }
-    ensures parts { session.new.shares.parts ≡ session.old.shares.parts }
-    ensures begun { IsBegunAs reply flusher engine.now.settings.tombstone_log session.new result }
-{
-    match reply {
-        Reply::Began { blocks: _, marks } => log_marks(rt, engine, log, flusher, session, marks),
-        _ => Begun::No,
-    }
-}
-
-// Takes what is queued, and writes it as one batch: whether there was anything to do.
-#[tactic(auto, using(foyer_storage_engine::proofs::HoldingLemmas::held_on, foyer_storage_engine::proofs::HoldingLemmas::held_by_step))]
-fn flush<L, K, V, P, A, E, C, D, G, N, O, M>(
-    rt: &impl Wait,
-    engine: &BlockEngine<L, K, V, P, A, E, C, D, G, N>,
-    parts: &mut FlusherParts<K, V, P, A, O, M>,
-    own: &mut Option<BlockId>,
-    session: &mut Session<L>,
-) -> bool
-where
-    L: Kinds,
-    K: Code<A> + Eq + Drop,
-    V: Code<A> + Drop,
-    P: Properties + Drop,
-    A: Allocator + Clone,
-    E: EvictionPicker,
-    C: StorageFilterCondition,
-    D: Disk + Drop,
-    G: Gate,
-    N: Noting,
-    O: Disk + Drop,
-    M: MarkLog + Drop,
-    requires { 0 < session.old.shares.parts }
-    ensures named { HoldsNamed session.old session.new }
-    ensures parts { session.new.shares.parts ≡ session.old.shares.parts }
-{
-    let flusher = parts.flusher;
-    let is_busy = receive_all(rt, engine, &*parts.keeper, flusher, session);
-    let begin = Step::FlushBegin { flusher };
-    let reply = engine.step_again(rt, session, no_io(), begin);
-    if let Begun::No = do_begin(rt, engine, &*parts.log, flusher, session, reply) {
-        return is_busy;
-    }
-    engine.signals().work.add_batch();
-    write_batch(rt, engine, &mut parts.disk, flusher, own, session);
-    let _ = end_batch(rt, engine, &*parts.keeper, flusher, session);
-    true
-}
-
 // Flushes until the bell of what is queued is closed, and nothing is left.
 #[tactic(auto, using(foyer_storage_engine::proofs::HoldingLemmas::held_on, foyer_storage_engine::proofs::HoldingLemmas::held_by_step))]
 fn work<L, K, V, P, A, E, C, D, G, N, O, M>(
@@ -412,7 +40,7 @@ fn work<L, K, V, P, A, E, C, D, G, N, O, M>(
     engine: &BlockEngine<L, K, V, P, A, E, C, D, G, N>,
     mut parts: FlusherParts<K, V, P, A, O, M>,
     session: &mut Session<L>,
-)
+) -> Drained
 where
     L: Kinds,
     K: Code<A> + Eq + Drop,
@@ -429,19 +57,19 @@ where
     requires { 0 < session.old.shares.parts }
     ensures named { HoldsNamed session.old session.new }
     ensures parts { session.new.shares.parts ≡ session.old.shares.parts }
+    ensures drained { IsIdle parts.flusher session.new }
 {
-    let mut is_closed = false;
+    let mut closed = None;
     let mut own = None;
     for _ in rt.forever() {
         let seen = engine.signals().queued.count(rt);
-        if flush(rt, engine, &mut parts, &mut own, session) {
-            continue;
+        match take_turn(rt, engine, &mut parts, &mut own, session, closed) {
+            Turn::Busy => {}
+            Turn::Idle => closed = engine.signals().queued.closed_past(rt, seen),
+            Turn::Drained(drained) => return drained,
         }
-        if is_closed {
-            return;
-        }
-        is_closed = engine.signals().queued.wait_past(rt, seen);
     }
+    unreachable!()
 }
 
 /// A flusher's worker, before its thread is started.
@@ -507,7 +135,7 @@ where
     fn work(self, rt: &impl Wait, hand: Hand<L>) -> Hand<L> {
         let FlusherWorker { engine, parts } = self;
         let mut session = hand.into_session();
-        work(rt, &*engine, parts, &mut session);
+        let _ = work(rt, &*engine, parts, &mut session);
         Hand::from_session(session)
     }
 }

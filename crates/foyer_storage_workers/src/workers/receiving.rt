@@ -1,8 +1,7 @@
 //! How a flusher's worker takes what is queued.
 ghost use Rattle.std.specs.Prelude.{◌≡◌, ◌<◌};
 ghost use Rattle.foyer_storage_engine.specs.Ending.{HoldsNamed};
-ghost use Rattle.foyer_storage_engine.specs.Reporting.{AsksToReceive};
-ghost use Rattle.foyer_storage_workers.specs.Releasing.{IsHeldAs};
+ghost use Rattle.foyer_storage_workers.specs.Receiving.{IsHeldAs, IsHoldEnd, IsReceived, hold_end_of};
 
 use foyer_block_manager::block::eviction::EvictionPicker;
 use foyer_core_tally::book::Kinds;
@@ -46,7 +45,7 @@ where
     requires { 0 < session.old.shares.parts }
     ensures named { HoldsNamed session.old session.new }
     ensures parts { session.new.shares.parts ≡ session.old.shares.parts }
-    ensures asks { AsksToReceive N.keeps flusher session.old session.new result.0 }
+    ensures asks { IsReceived N.keeps flusher session.old session.new result.0 }
 {
     match locked.step(session, no_io(), Step::Receive { flusher }) {
         Ok(reply) => {
@@ -115,6 +114,22 @@ fn held_of<K: Eq + Drop, V: Drop, P: Drop, A: Allocator + Clone>(
     }
 }
 
+// How the reply to a take ends a hold: not if something was taken.
+fn end_of<K: Drop, V: Drop, P: Drop, A: Allocator>(
+    reply: Reply<K, V, P, A>,
+    wants_flush: bool,
+    is_busy: bool,
+) -> Option<HoldEnd<K, V, P, A>>
+    ensures { result ≡ hold_end_of wants_flush is_busy reply }
+{
+    match reply {
+        Reply::Received(None) => None,
+        Reply::Received(Some(piece)) => Some(HoldEnd::Back(piece, wants_flush)),
+        Reply::Refused(ErrorKind::Memory, _step) => Some(HoldEnd::Refused),
+        _other => Some(HoldEnd::Drained(is_busy)),
+    }
+}
+
 // Takes what is queued under one hold of the core's lock, until nothing is, a piece doesn't fit, memory is refused, or it is enough for
 // a batch or for this hold.
 #[tactic(auto, using(foyer_storage_engine::proofs::HoldingLemmas::held_on))]
@@ -135,17 +150,16 @@ where
     requires { 0 < session.old.shares.parts }
     ensures named { HoldsNamed session.old session.new }
     ensures parts { session.new.shares.parts ≡ session.old.shares.parts }
+    ensures ends { IsHoldEnd flusher session.new result }
 {
     let (_, room) = locked.core().received(flusher);
     let mut is_busy = false;
-    for _ in 0..MOST_OF_A_HOLD {
+    for taken in 0..MOST_OF_A_HOLD {
         let (reply, wants_flush) = receive(locked, session, flusher);
-        match reply {
-            Reply::Received(None) => is_busy = true,
-            Reply::Received(Some(piece)) => return HoldEnd::Back(piece, wants_flush),
-            Reply::Refused(ErrorKind::Memory, _step) => return HoldEnd::Refused,
-            _other => return HoldEnd::Drained(is_busy),
+        if let Some(end) = end_of(reply, wants_flush, is_busy) {
+            return end;
         }
+        is_busy = true;
         let (records, left) = locked.core().received(flusher);
         if wants_flush || records >= MOST_OF_A_BATCH {
             return HoldEnd::Enough;

@@ -1,25 +1,25 @@
 //! A reclaimer's worker: it reclaims blocks, one at a time.
-ghost use Rattle.std.specs.Prelude.{◌≡◌, ◌<◌, IfOk, vec_len};
+ghost use Rattle.std.specs.Prelude.{◌≡◌, ◌<◌};
 ghost use Rattle.foyer_core_model.specs.Numbers.{page};
-ghost use Rattle.foyer_io_disk.specs.Disk.{IsRead, SurelyCame};
+ghost use Rattle.foyer_io_disk.specs.Disk.{SurelyCame};
 ghost use Rattle.foyer_storage_engine.specs.Ending.{HoldsNamed};
 ghost use Rattle.foyer_storage_engine.specs.Reporting.{ReportsClean};
-ghost use Rattle.foyer_storage_workers.specs.WorkerSteps.{HasRead};
 
 use super::Worker;
+use super::forgetting::{Forgotten, forget};
+use super::reading::read_block;
 use crate::clock::Clock;
 use crate::hand::Hand;
 use foyer_block_index::manager::BlockId;
 use foyer_block_manager::block::eviction::EvictionPicker;
 use foyer_core_tally::book::Kinds;
-use foyer_device_page::error::{Error, Result};
 use foyer_device_statistics::Recorder;
 use foyer_format_record::serde::{Code, Properties};
 use foyer_io_disk::disk::Disk;
 use foyer_io_gate::gate::{Gate, Point};
 use foyer_policy_filter::StorageFilterCondition;
 use foyer_storage_engine::bell::BellClosed;
-use foyer_storage_engine::core_access::reclaims::{BlockCleaner, Part, next_part, read_bytes};
+use foyer_storage_engine::core_access::reclaims::BlockCleaner;
 use foyer_storage_engine::core_shared::notes::Noting;
 use foyer_storage_engine::core_shared::session::Session;
 use foyer_storage_engine::core_steps::apply::no_io;
@@ -28,7 +28,6 @@ use foyer_storage_engine::core_steps::step::Step;
 use foyer_storage_engine::engine::BlockEngine;
 use std::alloc::{Allocator, Global};
 use std::sync::{Arc, Wait};
-use std::thread;
 
 /// What a reclaimer's worker has of its own, beside the engine.
 #[derive(Drop)]
@@ -41,97 +40,14 @@ pub struct ReclaimerParts<A: Allocator, D: Disk + Drop, T: Clock> {
     pub clock: T,
 }
 
-// Reads a part of a block, again while memory is refused for it.
-fn read_again<A: Allocator + Clone, O: Disk>(
-    rt: &impl Wait,
-    alloc: &A,
-    disk: &mut O,
-    block: BlockId,
-    part: Part,
-) -> Result<Vec<u8, A>>
-    ensures read { O.is_known disk.old → IfOk result (λ bytes. IsRead (O.byte_at disk.old) block part.offset bytes.items) }
-    ensures len { IfOk result (λ bytes. vec_len bytes ≡ part.len) }
-    ensures known { O.is_known disk.old → O.is_known disk.new }
-    ensures same { O.byte_at disk.new ≡ O.byte_at disk.old }
-{
-    for _ in rt.forever() {
-        match read_bytes(alloc, disk, block, part) {
-            Err(Error::Memory) => thread::yield_now(),
-            outcome => return outcome,
-        }
-    }
-    unreachable!()
-}
-
-// How many records of the index that was listed are admitted for reinsertion.
-fn admitted<K, V, P, A: Allocator>(reply: &Reply<K, V, P, A>) -> u64 {
-    match reply {
-        Reply::Scan {
-            block: _,
-            offset: _,
-            len: _,
-            verdicts: Some(verdicts),
-        } => verdicts.iter().filter(|is_admitted| **is_admitted).count() as u64,
-        Reply::Listed {
-            verdicts: Some(verdicts),
-        } => verdicts.iter().filter(|is_admitted| **is_admitted).count() as u64,
-        _ => 0,
-    }
-}
-
-// Reads what the reclaim of a block asks for, from its first index on, until it asks for no more.
-#[tactic(auto, using(foyer_storage_engine::proofs::HoldingLemmas::held_on, foyer_storage_engine::proofs::HoldingLemmas::held_by_step))]
-fn read_block<L, K, V, P, A, E, C, D, G, N, O, T>(
-    rt: &impl Wait,
-    engine: &BlockEngine<L, K, V, P, A, E, C, D, G, N>,
-    parts: &mut ReclaimerParts<A, O, T>,
-    session: &mut Session<L>,
-    block: BlockId,
-)
-where
-    L: Kinds,
-    K: Code<A> + Drop,
-    V: Code<A> + Drop,
-    P: Properties + Drop,
-    A: Allocator + Clone,
-    E: EvictionPicker,
-    C: StorageFilterCondition,
-    D: Disk + Drop,
-    G: Gate,
-    N: Noting,
-    O: Disk + Drop,
-    T: Clock,
-    requires { 0 < session.old.shares.parts }
-    ensures named { HoldsNamed session.old session.new }
-    ensures parts { session.new.shares.parts ≡ session.old.shares.parts }
-    ensures read { HasRead block session.new }
-    ensures known { O.is_known parts.old.disk → O.is_known parts.new.disk }
-    ensures same { O.byte_at parts.new.disk ≡ O.byte_at parts.old.disk }
-{
-    let mut part = Part {
-        offset: 0,
-        len: engine.settings().blob_index_size,
-    };
-    for _ in rt.forever() {
-        let result = read_again(rt, engine.allocator(), &mut parts.disk, block, part);
-        let io = parts.recorder.io_state(rt, parts.clock.now());
-        let reply = engine.step_again(rt, session, io, Step::ReclaimRead { block, result });
-        engine.signals().work.add_reinsertions(admitted(&reply));
-        match next_part(&reply) {
-            Some(next) => part = next,
-            None => return,
-        }
-    }
-}
-
-// Cleans a block that is reclaimed, and reports the outcome.
+// Cleans a block whose entries were forgotten, and reports the outcome.
 #[tactic(auto, using(foyer_storage_engine::proofs::HoldingLemmas::held_on, foyer_storage_engine::proofs::HoldingLemmas::held_by_step))]
 fn clean<L, K, V, P, A, E, C, D, G, N, O>(
     rt: &impl Wait,
     engine: &BlockEngine<L, K, V, P, A, E, C, D, G, N>,
     disk: &mut O,
     session: &mut Session<L>,
-    block: BlockId,
+    forgotten: Forgotten,
 )
 where
     L: Kinds,
@@ -148,9 +64,10 @@ where
     requires { 0 < session.old.shares.parts }
     ensures named { HoldsNamed session.old session.new }
     ensures parts { session.new.shares.parts ≡ session.old.shares.parts }
-    ensures reports { O.is_known disk.old → ReportsClean block (O.byte_at disk.old) (O.byte_at disk.new)
-        (SurelyCame (O.surely_has disk.old) (O.surely_lies disk.old) (O.faults disk.old) (O.faults disk.new) block 0 page) session.new }
+    ensures reports { O.is_known disk.old → ReportsClean forgotten.block (O.byte_at disk.old) (O.byte_at disk.new)
+        (SurelyCame (O.surely_has disk.old) (O.surely_lies disk.old) (O.faults disk.old) (O.faults disk.new) forgotten.block 0 page) session.new }
 {
+    let block = forgotten.block();
     let result = BlockCleaner::clean(disk, block);
     let cleaned = Step::ReclaimCleaned { block, result };
     let _ = engine.step_again(rt, session, no_io(), cleaned);
@@ -188,8 +105,8 @@ where
     engine.gate().pass(Point::Reclaim);
     read_block(rt, engine, parts, session, block);
     engine.signals().queued.ring(rt);
-    let _ = engine.step_again(rt, session, no_io(), Step::ReclaimForget { block });
-    clean(rt, engine, &mut parts.disk, session, block);
+    let forgotten = forget(rt, engine, session, block);
+    clean(rt, engine, &mut parts.disk, session, forgotten);
     engine.signals().done.ring(rt);
 }
 

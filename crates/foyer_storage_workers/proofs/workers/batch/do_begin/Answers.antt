@@ -1,6 +1,6 @@
 use Rattle.std.proofs.Common.{◌≡◌, sym, subst}
 use Rattle.foyer_storage_workers.specs.Releasing.{IsBegunAs}
-use Rattle.foyer_storage_workers.proofs.workers.flusher.do_begin.Goals as goal
+use Rattle.foyer_storage_workers.proofs.workers.batch.do_begin.Goals as goal
 
 pub returns-in-Began-clause-begun : goal.returns-in-Began-clause-begun
 returns-in-Began-clause-begun g c =

@@ -1,6 +1,9 @@
-use Rattle.std.proofs.Common.{◌≡◌, ap, sym, ◌∙◌}
-use Rattle.foyer_storage_workers.specs.Releasing.{pieces_of}
-use Rattle.foyer_storage_workers.proofs.workers.flusher.do_end.Goals as goal
+use Rattle.std.proofs.Common.{◌≡◌, Some, refl, sym, subst}
+use Rattle.foyer_storage_workers.specs.Releasing.{IsEndedAs}
+use Rattle.foyer_storage_workers.specs.declared.workers.batch.BatchEnd.{BatchEnd}
+use Rattle.foyer_storage_workers.proofs.workers.batch.do_end.Goals as goal
 
 pub returns-in-Ended : goal.returns-in-Ended
-returns-in-Ended g c = ap (λ v. v.items) c.release_all-released.ensures ∙ ap pieces_of (sym c.in-Ended.is)
+returns-in-Ended g c =
+    let end : BatchEnd g.row.K.Denot g.row.V.Denot g.row.P.Denot g.row.A.Denot = record { released = c.release_all-released.result; answered = c.answer_all-answered.result } in
+    subst (λ r. IsEndedAs r (Some end)) (sym c.in-Ended.is) (end, refl, c.release_all-released.ensures, c.answer_all-answered.ensures)

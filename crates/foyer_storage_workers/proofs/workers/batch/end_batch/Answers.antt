@@ -1,9 +1,9 @@
 use Rattle.std.proofs.Common.{◌≡◌}
-use Rattle.foyer_storage_workers.proofs.workers.flusher.end_batch.Goals as goal
+use Rattle.foyer_storage_workers.proofs.workers.batch.end_batch.Goals as goal
 
-pub returns-clause-released : goal.returns-clause-released
-returns-clause-released g c = record {
+pub returns-clause-ended : goal.returns-clause-ended
+returns-clause-ended g c = record {
   answer = c.step_again-reply.result;
   newest = c.step_again-reply.ensures.newest;
-  pieces = c.do_end-released.ensures;
+  given = c.do_end-end.ensures;
 }

@@ -1,7 +1,7 @@
 use Rattle.std.proofs.Common.{◌≡◌, Some, refl, subst}
 use Rattle.foyer_core_shared.specs.Briefs.{outcome_of, reply_brief}
 use Rattle.foyer_core_shared.specs.declared.brief.StepBrief.TheVariants as asked
-use Rattle.foyer_storage_workers.proofs.workers.flusher.log_marks.Goals as goal
+use Rattle.foyer_storage_workers.proofs.workers.batch.log_marks.Goals as goal
 
 pub returns-clause-logged : goal.returns-clause-logged
 returns-clause-logged g c = λ has. (

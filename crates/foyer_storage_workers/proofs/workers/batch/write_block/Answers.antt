@@ -6,7 +6,7 @@ use Rattle.foyer_storage_engine.specs.Issuing.{written_bytes}
 use Rattle.foyer_storage_workers.specs.WorkerSteps.{ReportsWrite}
 use Rattle.foyer_storage_engine.proofs.HoldingLemmas.{held_on}
 use Rattle.foyer_storage_workers.proofs.WorkerStepLemmas.{goes_first, reported_on, write_at, written_all, written_left, written_on}
-use Rattle.foyer_storage_workers.proofs.workers.flusher.write_block.Goals as goal
+use Rattle.foyer_storage_workers.proofs.workers.batch.write_block.Goals as goal
 
 pub writes-init : goal.writes-init
 writes-init g c = record {

@@ -2,7 +2,7 @@ use Rattle.std.specs.Prelude.{◌≡◌}
 use Rattle.foyer_storage_engine.specs.Ending.{HoldsNamed}
 use Rattle.foyer_storage_engine.specs.Issuing.{written_bytes}
 use Rattle.foyer_storage_workers.proofs.WorkerStepLemmas.{GoesOn, ReportsSoMany}
-use Rattle.foyer_storage_workers.proofs.workers.flusher.write_block.Given as goal
+use Rattle.foyer_storage_workers.proofs.workers.batch.write_block.Given as goal
 
 abbrev pub invariant-writes : goal.invariant-writes
 invariant-writes g l = record {
