@@ -1,4 +1,4 @@
-use Rattle.std.proofs.Common.{◌≡◌, sym, subst}
+use Rattle.std.proofs.Common.{sym, subst}
 use Rattle.foyer_storage_workers.specs.Releasing.{IsBegunAs}
 use Rattle.foyer_storage_workers.proofs.workers.batch.do_begin.Goals as goal
 

@@ -1,4 +1,4 @@
-use Rattle.std.proofs.Common.{◌≡◌, Some, refl, sym, subst}
+use Rattle.std.proofs.Common.{Some, refl, sym, subst}
 use Rattle.foyer_storage_workers.specs.Releasing.{IsEndedAs}
 use Rattle.foyer_storage_workers.specs.declared.workers.batch.BatchEnd.{BatchEnd}
 use Rattle.foyer_storage_workers.proofs.workers.batch.do_end.Goals as goal

@@ -1,4 +1,3 @@
-use Rattle.std.proofs.Common.{◌≡◌}
 use Rattle.foyer_storage_workers.proofs.workers.batch.end_batch.Goals as goal
 
 pub returns-clause-ended : goal.returns-clause-ended
