@@ -102,7 +102,7 @@ where
     said
 }
 
-// Asks a store, closes it, and joins its workers.
+// Asks a store, closes it, and joins its workers. What stands behind `left:` is asked after the join of a store that isn't closed.
 fn answers_of_store<S, W, N, R>(
     rt: &R,
     alloc: Global,
@@ -118,10 +118,18 @@ where
     R: Threads + Wait + Sync,
 {
     let script = asked.script.as_str();
-    let said = answers_of_both(rt, alloc, store, asked.beside(), &mut session, script);
+    let (script, left) = script.split_once(" left: ").unwrap_or((script, ""));
+    let mut said = answers_of_both(rt, alloc, store, asked.beside(), &mut session, script);
     asked.gate.open();
-    let _ = store.close(rt, &mut session);
-    let _ = workers.join(rt, session);
+    if left.is_empty() {
+        let _ = store.close(rt, &mut session);
+    }
+    let mut session = workers.join(rt, session);
+    if !left.is_empty() {
+        said.word(" left: ");
+        let more = answers_to(rt, alloc, store, asked.beside(), &mut session, left);
+        take(&mut said, more);
+    }
     said
 }
 

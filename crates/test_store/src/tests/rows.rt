@@ -66,6 +66,8 @@ calls are answered while a load is held, which another thread asked for
 holds load < put 1 a, wait, reached, has 1, put 2 b, wait, has 2, del 2, has 2, held, open & seen 1, get 1 | queued, ok, yes, yes, queued, ok, yes, ok, no, yes, open & yes, entry a
 two destroys that meet are both done
 holds flush < put 1 a, reached, destroy, get 1 & reached, destroy, get 1 | queued, yes, ok, miss & yes, ok, miss
+no wait lasts once the threads are joined: a destroy that something queued is in the way of is refused
+put 1 a, wait left: put 2 b, wait, destroy, get 1, get 2 | queued, ok left: queued, ok, fault Closed, entry a, piece b
 two threads load, each through an I/O engine of its own
 loads 2 < put 1 a, put 2 b, wait, seen 2, get 1, get 2 & seen 1, seen 2, get 1, get 2 | queued, queued, ok, yes, entry a, entry b & yes, yes, entry a, entry b
 ";
