@@ -8,4 +8,7 @@ pub mod ReclaimLemmas
 pub mod GoingLemmas
 pub mod AgainLemmas
 pub mod DestroyLemmas
+pub mod AnswerLemmas
+pub mod CountLemmas
+pub mod SeeingLemmas
 pub mod Sent

@@ -3,3 +3,4 @@ pub mod Asking
 pub mod Going
 pub mod Newest
 pub mod Done
+pub mod Queued

@@ -3,6 +3,7 @@
 #![tactic(auto)]
 
 pub mod locked;
+pub mod queued;
 pub mod session;
 pub mod shared;
 

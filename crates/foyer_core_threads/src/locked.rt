@@ -10,8 +10,12 @@ ghost use Rattle.foyer_core_steps.specs.Judging.{IsJudged};
 ghost use Rattle.foyer_core_steps.specs.declared.step.Step.TheVariants as steps;
 ghost use Rattle.foyer_core_told.specs.ToldLoads.{tickets_in};
 ghost use Rattle.foyer_core_told.specs.ToldRights.{core_right, step_takes};
+ghost use Rattle.foyer_core_told.specs.ToldQueued.{IsQuiet};
 ghost use Rattle.foyer_core_told.specs.Telling.{BringsTrue, HasStepped, StandsAt};
+ghost use Rattle.foyer_core_threads.specs.Going.{GoesOn};
+ghost use Rattle.foyer_core_threads.specs.Queued.{AreCounted};
 
+use crate::queued::{QueuedCounts, enqueued_hash};
 use crate::session::ToldSession;
 use foyer_block_manager::block::eviction::EvictionPicker;
 use foyer_core_shared::locked::Locked;
@@ -20,7 +24,7 @@ use foyer_core_steps::load::Judged;
 use foyer_core_steps::reply::Reply;
 use foyer_core_steps::step::Step;
 use foyer_core_tally::book::Kinds;
-use foyer_core_told::history::{ToldHistory, ToldWitness, tell_step};
+use foyer_core_told::history::{CoreRight, ToldHistory, ToldWitness, tell_step};
 use foyer_device_statistics::IoState;
 use foyer_format_record::serde::{Code, Properties};
 use foyer_io_disk::disk::Disk;
@@ -48,6 +52,8 @@ where
     witness: ToldWitness<K, V, P, A, D>,
     // How many tickets were issued.
     tickets: u64,
+    // How many pieces are queued.
+    queued: QueuedCounts<A>,
     name: PhantomData<J>,
 }
 
@@ -70,6 +76,7 @@ where
             locked: _,
             witness: _,
             tickets: _,
+            queued: _,
             name: _,
         } = self;
     }
@@ -94,6 +101,7 @@ where
     ghost use Rattle.foyer_core_told.specs.ToldLoads.{tickets_in};
     ghost use Rattle.foyer_core_told.specs.ToldRights.{core_right};
     ghost use Rattle.foyer_core_told.specs.Telling.{StandsAt};
+    ghost use Rattle.foyer_core_threads.specs.Queued.{AreCounted};
 
     ghost Value = { Unit {0} };
 
@@ -101,7 +109,8 @@ where
 
     ghost invariant = { λ d. (d.witness.table_id ≡ J.table) × (d.witness.me.1 ≡ []) × (0 < times core_right d.witness.me.0.has)
         × (d.tickets ≡ tickets_in d.witness.me.0.seen)
-        × StandsAt (meaning K.encoding V.encoding K.is_encodable V.is_encodable K.is_decodable V.is_decodable P.age) D.byte_at d.witness.me.0.seen d.locked.noted.core };
+        × StandsAt (meaning K.encoding V.encoding K.is_encodable V.is_encodable K.is_decodable V.is_decodable P.age) D.byte_at d.witness.me.0.seen d.locked.noted.core
+        × AreCounted d.queued d.witness.me.0.seen };
 }
 
 impl<J, L, K, V, P, A, E, C, N, D> ToldCore<J, L, K, V, P, A, E, C, N, D>
@@ -117,20 +126,23 @@ where
     N: Noting,
     D: Disk,
 {
-    /// The core of a history that was told of its opening, with the witness that has the core's right.
+    /// The core of a history that was told of its opening, with the witness that has the core's right, and the counts of what is queued.
     pub fn new(
         locked: Locked<L, K, V, P, A, E, C, N>,
         witness: ToldWitness<K, V, P, A, D>,
+        queued: QueuedCounts<A>,
     ) -> ToldCore<J, L, K, V, P, A, E, C, N, D>
         requires history { (witness.table_id ≡ J.table) × (witness.me.1 ≡ []) }
         requires right { 0 < times core_right witness.me.0.has }
         requires fresh { tickets_in witness.me.0.seen ≡ 0 }
+        requires counted { AreCounted queued witness.me.0.seen }
         requires told { StandsAt (meaning K.encoding V.encoding K.is_encodable V.is_encodable K.is_decodable V.is_decodable P.age) D.byte_at witness.me.0.seen locked.noted.core }
     {
         ToldCore {
             locked,
             witness,
             tickets: 0,
+            queued,
             name: PhantomData,
         }
     }
@@ -160,10 +172,12 @@ where
         ensures roomless { IfErr result (λ given. (given ≡ step) × (session.new ≡ session.old) × (N.keeps ≡ true)) }
     {
         let said = Snapshot::of(&step);
+        let hash = enqueued_hash(&step);
         let reply = match self.locked.step(&mut session.session, io, step) {
             Ok(reply) => reply,
             Err(step) => return Err(step),
         };
+        self.queued.note(hash, &reply);
         let number = tell_step(
             history,
             &mut self.witness,
@@ -204,6 +218,7 @@ where
             Ok(answer) => answer,
             Err(step) => return Err(step),
         };
+        self.queued.note(None, &reply);
         let _ = tell_step(
             history,
             &mut self.witness,
@@ -214,6 +229,28 @@ where
             self.locked.core(),
         );
         Ok((reply, spare))
+    }
+
+    /// Whether nothing of a hash's class is queued. The session has seen the whole history then, as it is under the core's lock. No event is
+    /// added to it.
+    pub fn sees_none_queued(
+        &mut self,
+        history: &ToldHistory<K, V, P, A, D>,
+        session: &mut ToldSession<L, K, V, P, A, D>,
+        hash: u64,
+    ) -> bool
+        requires history { history.now.table.shared.table_id ≡ J.table }
+        requires mine { (session.old.witness.table_id ≡ J.table) × (session.old.witness.me.1 ≡ []) }
+        ensures mine { (session.new.witness.table_id ≡ J.table) × (session.new.witness.me.1 ≡ []) }
+        ensures on { GoesOn (meaning K.encoding V.encoding K.is_encodable V.is_encodable K.is_decodable V.is_decodable P.age) D.byte_at session.old.witness.me.0 session.new.witness.me.0 }
+        ensures quiet { result ≡ true → IsQuiet hash session.new.witness.me.0.seen }
+        ensures same { session.new.session ≡ session.old.session }
+    {
+        let brought = history.give_all(&mut session.witness);
+        history.take(&mut self.witness, brought);
+        history.look(&mut self.witness);
+        session.witness = history.give_others::<CoreRight>(&mut self.witness);
+        self.queued.is_quiet(hash)
     }
 
     /// Whether so much is queued that another piece isn't taken, as `Core::is_full` says.

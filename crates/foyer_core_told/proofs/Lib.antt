@@ -4,4 +4,5 @@ pub mod ToldLoadLemmas
 pub mod ToldMissLemmas
 pub mod ToldRightLemmas
 pub mod TellingLemmas
+pub mod QueuedLemmas
 pub mod Sent

@@ -30,7 +30,7 @@ use Rattle.foyer_core_told.specs.ToldRuns.{Opens, Tells, IsRun, HasRun, IsCoreAt
 use Rattle.foyer_core_told.specs.ToldSteps.{IsOpeningOf, AreAccesses, IsStepOf, IsFedTo, IsLeft}
 use Rattle.foyer_core_told.specs.ToldLoads.{is_read, makes_ticket, tickets_in, count_of, steps_in}
 use Rattle.foyer_core_told.specs.ToldRights.{core_right, disk_right, step_takes, takes, rights_count, ticket_right}
-use Rattle.foyer_core_told.specs.Telling.{WasOpened, IsNew, HasOpened, IsEventOf, IsStep, MayStep, BringsTrue, IsCoreStep, StandsAt, HasStepped}
+use Rattle.foyer_core_told.specs.Telling.{WasOpened, IsNew, HasOpened, IsEventOf, IsStep, HasAdded, MayStep, BringsTrue, IsCoreStep, StandsAt, HasStepped}
 use Rattle.foyer_core_told.proofs.ToldStepLemmas.{run_split, opening_told, goes_on, leaves}
 use Rattle.foyer_core_told.proofs.ToldCounts.{runs_counted}
 use Rattle.foyer_core_told.proofs.ToldRightLemmas.{excluded}
@@ -164,14 +164,18 @@ module _ {K V P A D : Type 0} (m : Meaning K V P) (byte_at : D → ℕ → ℕ �
   more_tickets [] ys = omega arith
   more_tickets (x ∷ xs) ys = let h : tickets_in (xs ++ ys) ≡ tickets_in xs + tickets_in ys = more_tickets xs ys in omega arith
 
+  pub tickets_still : (seen since : List (Told K V P A D)) → AreAccesses since → tickets_in (seen ++ since) ≡ tickets_in seen
+  tickets_still seen since all =
+      let none : tickets_in since ≡ 0 = none_made since all in
+      let more : tickets_in (seen ++ since) ≡ tickets_in seen + tickets_in since = more_tickets seen since in
+      omega arith
+
   -- since the lock's witness looked, none was issued
   same_tickets : (own mine owns after : View (Told K V P A D)) (e : Told K V P A D) → 0 < times core_right own.has
       → (added : GoesOnWith (IsTold m byte_at) takes makes_ticket rights_count core_right own mine e owns after) → tickets_in added.log ≡ tickets_in own.seen
   same_tickets own mine owns after e right added =
       let k = added.fits in
-      let none : tickets_in k.0 ≡ 0 = none_made k.0 ((excluded k.0).accesses (k.2 core_right right)) in
-      let all : tickets_in (own.seen ++ k.0) ≡ tickets_in own.seen + tickets_in k.0 = more_tickets own.seen k.0 in
-      ap tickets_in k.1 ∙ omega arith
+      ap tickets_in k.1 ∙ tickets_still own.seen k.0 ((excluded k.0).accesses (k.2 core_right right))
 
   -- each ticket was issued by a step that counts
   one_below : (answer : Reply K V P A) → one (is_read answer) ≤ count_of answer
@@ -233,6 +237,13 @@ module _ {K V P A D : Type 0} (m : Meaning K V P) (byte_at : D → ℕ → ℕ �
           let kept : new_count ≡ old_count = none is_it in
           let nothing : one (makes_ticket e) ≡ 0 = ap one (made ∙ is_it) in
           omega arith
+
+  -- what the core's lock has seen then
+  pub step_adds : (own mine owns after : View (Told K V P A D)) (e : Told K V P A D) (step : Step K V P A) (answer : Reply K V P A) (new : Core K V P A) → IsEventOf step answer new e → 0 < times core_right own.has
+      → GoesOnWith (IsTold m byte_at) takes makes_ticket rights_count core_right own mine e owns after → HasAdded own owns step answer new
+  step_adds own mine owns after e step answer new is right added =
+      let k = added.fits in
+      record { since = k.0; event = e; accesses = (excluded k.0).accesses (k.2 core_right right); seen = added.own_seen ∙ ap (λ l. l ++ e ∷ []) k.1; is = is }
 
   -- what the caller has seen then
   pub step_has : (own mine owns after : View (Told K V P A D)) (e : Told K V P A D) (step : Step K V P A) (answer : Reply K V P A) (new : Core K V P A) (number : ℕ) → IsEventOf step answer new e

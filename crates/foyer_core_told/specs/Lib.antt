@@ -4,3 +4,4 @@ pub mod ToldLoads
 pub mod ToldMisses
 pub mod ToldRights
 pub mod Telling
+pub mod ToldQueued

@@ -20,7 +20,7 @@ use Rattle.foyer_core_steps.specs.declared.step.Step.{Step}
 use Rattle.foyer_core_told.specs.declared.event.Told.{Told}
 use Rattle.foyer_core_told.specs.declared.event.Told.TheVariants as told
 use Rattle.foyer_core_told.specs.ToldRuns.{IsRun, IsTold, Knows}
-use Rattle.foyer_core_told.specs.ToldSteps.{IsOpeningOf}
+use Rattle.foyer_core_told.specs.ToldSteps.{IsOpeningOf, AreAccesses}
 use Rattle.foyer_core_told.specs.ToldLoads.{is_read, tickets_in}
 use Rattle.foyer_core_told.specs.ToldRights.{core_right, disk_right, ticket_right, step_takes, takes}
 
@@ -51,6 +51,14 @@ module _ {K V P A D : Type 0} where
   abbrev pub IsStep : Step K V P A → Reply K V P A → Told K V P A D → Type 0
   IsStep step reply (told.Steps made gave left) = (made.value ≡ step) × (gave.value ≡ reply)
   IsStep step reply event = ⊥
+
+  -- What the core's lock has seen once a step is told: all that it had seen, accesses alone since then, and the step at the end.
+  pub record HasAdded (own after : View (Told K V P A D)) (step : Step K V P A) (reply : Reply K V P A) (core : Core K V P A) : Type 0 where
+    pub since : List (Told K V P A D)
+    pub event : Told K V P A D
+    pub accesses : AreAccesses since
+    pub seen : after.seen ≡ (own.seen ++ since) ++ event ∷ []
+    pub is : IsEventOf step reply core event
 
   -- the core's lock has the right of the core, and the caller that of the step
   abbrev pub MayStep : (own mine : View (Told K V P A D)) → Step K V P A → Type 0

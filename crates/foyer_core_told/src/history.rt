@@ -7,7 +7,7 @@ ghost use Rattle.foyer_core_model.specs.Ids.{ids};
 ghost use Rattle.foyer_core_laws.specs.Content.{meaning};
 ghost use Rattle.foyer_core_told.specs.ToldLoads.{is_read, tickets_in};
 ghost use Rattle.foyer_core_told.specs.ToldRights.{rights_count, core_right};
-ghost use Rattle.foyer_core_told.specs.Telling.{WasOpened, IsNew, HasOpened, MayStep, BringsTrue, IsCoreStep, StandsAt, HasStepped};
+ghost use Rattle.foyer_core_told.specs.Telling.{WasOpened, IsNew, HasOpened, MayStep, BringsTrue, HasAdded, IsCoreStep, StandsAt, HasStepped};
 
 use crate::event::Told;
 use foyer_core_chronicle::{Chronicle, HistoryRule, RightNumber, Witness};
@@ -148,6 +148,8 @@ where
     ensures right { 0 < times core_right own.new.me.0.has }
     ensures core { StandsAt (meaning K.encoding V.encoding K.is_encodable V.is_encodable K.is_decodable V.is_decodable P.age) D.byte_at own.new.me.0.seen core.now }
     ensures counted { tickets.new ≡ tickets_in own.new.me.0.seen }
+    ensures added { HasAdded own.old.me.0 own.new.me.0 step.value reply.now core.now }
+    ensures both { own.new.me.0.seen ≡ mine.new.me.0.seen }
     ensures told { HasStepped (meaning K.encoding V.encoding K.is_encodable V.is_encodable K.is_decodable V.is_decodable P.age) D.byte_at mine.old.me.0 mine.new.me.0 step.value reply.now result }
 {
     let number = count_ticket(tickets, reply);

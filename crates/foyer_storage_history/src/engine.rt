@@ -5,6 +5,7 @@ ghost use Rattle.foyer_core_laws.specs.Content.{meaning};
 ghost use Rattle.foyer_core_model.specs.Ids.{ids};
 ghost use Rattle.foyer_core_steps.specs.declared.step.Step.TheVariants as steps;
 ghost use Rattle.foyer_core_tally.specs.Ledgers.{AreOf};
+ghost use Rattle.foyer_core_told.specs.ToldQueued.{IsQuiet};
 ghost use Rattle.foyer_core_told.specs.ToldRights.{rights_count};
 ghost use Rattle.foyer_core_threads.specs.Going.{GoesOn};
 ghost use Rattle.foyer_device_page.specs.declared.error.Error.TheVariants.{Config, Memory, Recover, SequenceEnd};
@@ -195,12 +196,9 @@ where
         session.told.join(self.shared.history(), other.into_told());
     }
 
-    // Writes what is queued, if so much is that a piece isn't taken.
+    // Writes what is queued, one batch of each flusher.
     #[tactic(auto, using(crate::proofs::HistoryLemmas::nil_is))]
-    fn make_room(&self, rt: &impl Wait) {
-        if !self.shared.is_full(rt) {
-            return;
-        }
+    fn write_queued(&self, rt: &impl Wait) {
         let mut maintainer = lock_spinning(&self.maintainer, rt);
         for flusher in 0..self.settings.flushers {
             let _ = maintainer.flush(
@@ -213,6 +211,29 @@ where
                 0,
             );
         }
+    }
+
+    // Writes what is queued, if so much is that a piece isn't taken.
+    #[tactic(auto, using(crate::proofs::HistoryLemmas::nil_is))]
+    fn make_room(&self, rt: &impl Wait) {
+        if self.shared.is_full(rt) {
+            self.write_queued(rt);
+        }
+    }
+
+    // Writes what is queued, until the session has seen a moment at which nothing of a hash's class was.
+    #[tactic(auto, using(crate::proofs::HistoryLemmas::nil_is, crate::proofs::HistoryLemmas::goes_on, crate::proofs::HistoryLemmas::goes_self))]
+    fn see_quiet(&self, rt: &impl Wait, session: &mut HistorySession<J, L, K, V, P, D>, hash: u64)
+        ensures quiet { IsQuiet hash session.new.told.witness.me.0.seen }
+        ensures on { GoesOn (meaning K.encoding V.encoding K.is_encodable V.is_encodable K.is_decodable V.is_decodable P.age) D.byte_at session.old.told.witness.me.0 session.new.told.witness.me.0 }
+    {
+        for _ in rt.forever() {
+            if self.shared.sees_none_queued(rt, &mut session.told, hash) {
+                return;
+            }
+            self.write_queued(rt);
+        }
+        unreachable!()
     }
 
     // Queues a piece, and puts it into a keeper's shard where it is queued, under the shard's next number.
@@ -308,8 +329,9 @@ where
         answer_of(reply)
     }
 
-    /// Looks a hash up, of which a keeper had no piece, and reads what it stands for. An entry was the newest put of its hash at a moment
-    /// between call and return, in the one history of all threads, after all that the session had seen; a miss has its cause there.
+    /// Looks a hash up, of which a keeper had no piece, and reads what it stands for. First, what is queued is written, until nothing of the
+    /// hash is queued. An entry was the newest put of its hash at a later moment of the call, in the one history of all threads; a miss has
+    /// its cause there.
     #[tactic(auto, using(crate::proofs::HistoryLemmas::nil_is))]
     pub fn load_newest(
         &self,
@@ -321,6 +343,7 @@ where
         ensures on { GoesOn (meaning K.encoding V.encoding K.is_encodable V.is_encodable K.is_decodable V.is_decodable P.age) D.byte_at session.old.told.witness.me.0 session.new.told.witness.me.0 }
         ensures refused { IfErr result (λ e. is_load_error e ≡ true) }
     {
+        self.see_quiet(rt, session, lacking.hash());
         let reply = self
             .shared
             .load(rt, &mut session.told, &self.alloc, lacking.hash(), false)?;

@@ -1,9 +1,11 @@
-use Rattle.std.proofs.Common.{◌≡◌, true, true≢false, sym, subst}
+use Rattle.std.proofs.Common.{◌≡◌, true, true≢false, None, sym, ap, ◌∙◌, subst}
 use Rattle.foyer_core_laws.specs.Content.{meaning}
 use Rattle.foyer_core_steps.specs.Refines.{Refines}
 use Rattle.foyer_core_steps.specs.declared.step.Step.TheVariants as steps
 use Rattle.foyer_core_told.specs.ToldRights.{step_takes}
-use Rattle.foyer_core_told.specs.Telling.{BringsTrue, HasStepped, IsCoreStep}
+use Rattle.foyer_core_told.specs.ToldQueued.{enqueued_hash}
+use Rattle.foyer_core_told.specs.Telling.{BringsTrue, HasStepped, IsCoreStep, StandsAt}
+use Rattle.foyer_core_threads.proofs.CountLemmas.{counted_step}
 use Rattle.foyer_core_threads.proofs.locked.ToldCore.end_judged.Goals as goal
 
 pub tell_step-requires-clause-core : goal.tell_step-requires-clause-core
@@ -20,3 +22,14 @@ tell_step-requires-clause-brings g c = subst (λ x. BringsTrue (meaning g.K.Code
 pub returns-clause-told : goal.returns-clause-told
 returns-clause-told g c =
     (c.tell_step.result, subst (λ x. HasStepped (meaning g.K.Code.encoding g.V.Code.encoding g.K.Code.is_encodable g.V.Code.is_encodable g.K.Code.is_decodable g.V.Code.is_decodable g.P.Properties.age) g.D.Disk.byte_at c.args.session.now.witness.me.0 c.tell_step.new.mine.me.0 x c.in-Ok.answer.0 c.tell_step.result) c.requires.said c.tell_step.ensures.told)
+
+pub invariant_of-self-2 : goal.invariant_of-self-2
+invariant_of-self-2 g c = (
+  c.tell_step.ensures.same.0 ∙ c.self.invariant.0,
+  c.tell_step.ensures.whole.0,
+  c.tell_step.ensures.right,
+  c.tell_step.ensures.counted,
+  subst (StandsAt (meaning g.K.Code.encoding g.V.Code.encoding g.K.Code.is_encodable g.V.Code.is_encodable g.K.Code.is_decodable g.V.Code.is_decodable g.P.Properties.age) g.D.Disk.byte_at c.tell_step.new.own.me.0.seen) c.core.ensures c.tell_step.ensures.core,
+  counted_step c.self.inside.queued c.note.new.self c.self.inside.witness.me.0 c.tell_step.new.own.me.0 c.args.said.value None c.in-Ok.answer.0 c.core.result.now c.self.invariant.5 c.tell_step.ensures.added
+      (ap enqueued_hash (sym c.requires.said)) c.note.ensures,
+)

@@ -10,8 +10,8 @@ use Rattle.foyer_core_threads.specs.Asking.{HasSizes}
 use Rattle.foyer_core_threads.proofs.ToldOpenings.{was_opened}
 use Rattle.foyer_core_threads.proofs.shared.ToldShared.open.Goals as goal
 
-pub new-requires-clause-opened : goal.new-requires-clause-opened
-new-requires-clause-opened g c =
+pub new-requires-2-clause-opened : goal.new-requires-2-clause-opened
+new-requires-2-clause-opened g c =
     was_opened c.args.settings (g.D.Disk.byte_at c.args.disk) _ c.args.mode _ _ c.in-Ok.opened.0.noted.core c.in-Ok.ensures.sound
     (c.in-Ok.ensures.opened (g.D.Disk.byte_at c.args.disk) (λ b p. false) (none_listed (sizes_in c.args.settings) c.args.settings.blocks (g.D.Disk.byte_at c.args.disk) _ c.none-listings.ensures))
 
@@ -23,9 +23,9 @@ returns-clause-seen g c =
     let core = c.in-Ok.opened.0.noted.core in (
       core,
       disk,
-      c.new.ensures.seen.0,
-      c.new.ensures.seen.1,
-      c.new.ensures.seen.2,
+      c.new-2.ensures.seen.0,
+      c.new-2.ensures.seen.1,
+      c.new-2.ensures.seen.2,
       c.in-Ok.ensures.same,
       sure_of_none (sizes_in c.args.settings) slots c.none-listings.ensures
           (SurelyCame (g.D.Disk.surely_has c.args.disk) (g.D.Disk.surely_lies c.args.disk) (g.D.Disk.faults c.args.disk) (g.D.Disk.faults disk))
@@ -36,7 +36,7 @@ returns-clause-seen g c =
 pub returns-clause-sizes : goal.returns-clause-sizes
 returns-clause-sizes g c =
     let from = c.in-Ok.ensures.opened (g.D.Disk.byte_at c.args.disk) (λ b p. false) (none_listed (sizes_in c.args.settings) c.args.settings.blocks (g.D.Disk.byte_at c.args.disk) c.none-listings.result.slots.items c.none-listings.ensures) in
-    subst (λ t. HasSizes (meaning g.K.Code.encoding g.V.Code.encoding g.K.Code.is_encodable g.V.Code.is_encodable g.K.Code.is_decodable g.V.Code.is_decodable g.P.Properties.age) g.D.Disk.byte_at c.new.result.1.witness.me.0.seen t) from.opened.sizes c.new.ensures.sizes
+    subst (λ t. HasSizes (meaning g.K.Code.encoding g.V.Code.encoding g.K.Code.is_encodable g.V.Code.is_encodable g.K.Code.is_decodable g.V.Code.is_decodable g.P.Properties.age) g.D.Disk.byte_at c.new-2.result.1.witness.me.0.seen t) from.opened.sizes c.new-2.ensures.sizes
 
 pub returns-in-Err-clause-refused : goal.returns-in-Err-clause-refused
 returns-in-Err-clause-refused g c = c.in-Err.ensures.refused
