@@ -332,7 +332,7 @@ where
     /// Looks a hash up, of which a keeper had no piece, and reads what it stands for. First, what is queued is written, until nothing of the
     /// hash is queued. An entry was the newest put of its hash at a later moment of the call, in the one history of all threads; a miss has
     /// its cause there.
-    #[tactic(auto, using(crate::proofs::HistoryLemmas::nil_is))]
+    #[tactic(auto, using(crate::proofs::HistoryLemmas::nil_is, crate::proofs::HistoryLemmas::goes_on))]
     pub fn load_newest(
         &self,
         rt: &impl Wait,
