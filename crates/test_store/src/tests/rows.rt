@@ -64,7 +64,16 @@ naps < force 1 a, put 2 b, wait, get 1, get 2, del 2, get 2, put 3 c, put 3 d, w
 blocks 2, flushers 2, naps < put 1 x, wait, put 2 x, wait, put 3 x, wait, put 4 x, wait, put 5 x, wait, put 6 x, wait, put 7 x, wait, put 8 x, wait, get 7, get 8 | queued, ok, queued, ok, queued, ok, queued, ok, queued, ok, queued, ok, queued, ok, queued, ok, entry x, entry x
 calls are answered while a load is held, which another thread asked for
 holds load < put 1 a, wait, reached, has 1, put 2 b, wait, has 2, del 2, has 2, held, open & seen 1, get 1 | queued, ok, yes, yes, queued, ok, yes, ok, no, yes, open & yes, entry a
-two destroys that meet are both done
+two destroys that meet are both done, also where one waits for the other: they meet so in a few of ten
+holds flush < put 1 a, reached, destroy, get 1 & reached, destroy, get 1 | queued, yes, ok, miss & yes, ok, miss
+holds flush < put 1 a, reached, destroy, get 1 & reached, destroy, get 1 | queued, yes, ok, miss & yes, ok, miss
+holds flush < put 1 a, reached, destroy, get 1 & reached, destroy, get 1 | queued, yes, ok, miss & yes, ok, miss
+holds flush < put 1 a, reached, destroy, get 1 & reached, destroy, get 1 | queued, yes, ok, miss & yes, ok, miss
+holds flush < put 1 a, reached, destroy, get 1 & reached, destroy, get 1 | queued, yes, ok, miss & yes, ok, miss
+holds flush < put 1 a, reached, destroy, get 1 & reached, destroy, get 1 | queued, yes, ok, miss & yes, ok, miss
+holds flush < put 1 a, reached, destroy, get 1 & reached, destroy, get 1 | queued, yes, ok, miss & yes, ok, miss
+holds flush < put 1 a, reached, destroy, get 1 & reached, destroy, get 1 | queued, yes, ok, miss & yes, ok, miss
+holds flush < put 1 a, reached, destroy, get 1 & reached, destroy, get 1 | queued, yes, ok, miss & yes, ok, miss
 holds flush < put 1 a, reached, destroy, get 1 & reached, destroy, get 1 | queued, yes, ok, miss & yes, ok, miss
 no wait lasts once the threads are joined: a destroy that something queued is in the way of is refused
 put 1 a, wait left: put 2 b, wait, destroy, get 1, get 2 | queued, ok left: queued, ok, fault Closed, entry a, piece b
