@@ -9,6 +9,6 @@ pub mod GoingLemmas
 pub mod AgainLemmas
 pub mod DestroyLemmas
 pub mod AnswerLemmas
-pub mod CountLemmas
+pub mod NotedLemmas
 pub mod SeeingLemmas
 pub mod Sent

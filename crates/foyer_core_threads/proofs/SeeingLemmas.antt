@@ -1,5 +1,5 @@
 -- The core's lock and a session see the whole history as it is, and no event is added.
-use Rattle.std.proofs.Common.{◌≡◌, ℕ, ◌+◌, ◌<◌, List, ◌++◌, refl, sym, ap, ◌∙◌, subst, arith}
+use Rattle.std.proofs.Common.{◌≡◌, ℕ, ◌+◌, ◌<◌, List, ◌++◌, sym, ap, ◌∙◌, subst, arith}
 use Rattle.foyer_core_chronicle.specs.Rights.{times, only, without}
 use Rattle.foyer_core_chronicle.specs.SharedHistory.{Continues, Fits, SeesAll, joined, rights_of, with_only, with_others, with_rights}
 use Rattle.foyer_core_chronicle.specs.declared.View.{View}
@@ -9,7 +9,7 @@ use Rattle.foyer_core_steps.specs.StateOf.{IsStateOf}
 use Rattle.foyer_core_steps.specs.declared.state.Core.{Core}
 use Rattle.foyer_core_told.specs.declared.event.Told.{Told}
 use Rattle.foyer_core_told.specs.ToldLoads.{tickets_in}
-use Rattle.foyer_core_told.specs.ToldRights.{core_right, disk_right, takes}
+use Rattle.foyer_core_told.specs.ToldRights.{core_right, takes}
 use Rattle.foyer_core_told.specs.ToldRuns.{IsTold}
 use Rattle.foyer_core_told.specs.ToldSteps.{AreAccesses}
 use Rattle.foyer_core_told.specs.Telling.{KeepsRights, StandsAt}
@@ -18,8 +18,8 @@ use Rattle.foyer_core_told.proofs.ToldRightLemmas.{excluded}
 use Rattle.foyer_io_told.proofs.ToldAccessLemmas.{known_on}
 use Rattle.foyer_core_threads.specs.Asking.{HasSizes}
 use Rattle.foyer_core_threads.specs.Going.{GoesOn}
-use Rattle.foyer_core_threads.specs.Queued.{AreCounted, Counted}
-use Rattle.foyer_core_threads.proofs.CountLemmas.{counted_still}
+use Rattle.foyer_core_threads.specs.Queued.{AreNoted, Noted}
+use Rattle.foyer_core_threads.proofs.NotedLemmas.{noted_still}
 
 module _ {K V P A D : Type 0} (m : Meaning K V P) (byte_at : D → ℕ → ℕ → ℕ) where
   -- What both have seen then, and that each has the rights that it had.
@@ -79,5 +79,5 @@ module _ {K V P A D : Type 0} (m : Meaning K V P) (byte_at : D → ℕ → ℕ �
     pub sees_tickets : 0 < times core_right own.has → tickets_in owns.seen ≡ tickets_in own.seen
     sees_tickets right = ap tickets_in (seen.own_seen ∙ seen.fits.1) ∙ tickets_still m byte_at own.seen seen.fits.0 (only_accesses right)
 
-    pub sees_counted : (counted : Counted) → 0 < times core_right own.has → AreCounted counted own.seen → AreCounted counted owns.seen
-    sees_counted counted right counts = counted_still counted own.seen seen.fits.0 owns.seen counts (only_accesses right) (seen.own_seen ∙ seen.fits.1)
+    pub sees_noted : (noted : Noted) → 0 < times core_right own.has → AreNoted noted own.seen → AreNoted noted owns.seen
+    sees_noted noted right are = noted_still noted own.seen seen.fits.0 owns.seen are (only_accesses right) (seen.own_seen ∙ seen.fits.1)

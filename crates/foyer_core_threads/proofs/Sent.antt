@@ -27,8 +27,8 @@ use Rattle.foyer_io_told.specs.contracts.disk.ToldDisk.{the_row as disk_row}
 use Rattle.foyer_io_told.specs.contracts.disk.ToldDisk.TheInside.{the_type as disk_type}
 use Rattle.foyer_core_threads.specs.contracts.locked.ToldCore.{the_row as core_row}
 use Rattle.foyer_core_threads.specs.contracts.locked.ToldCore.TheInside.{the_type as core_type}
-use Rattle.foyer_core_threads.specs.contracts.queued.QueuedCounts.{the_row as counts_row}
-use Rattle.foyer_core_threads.specs.contracts.queued.QueuedCounts.TheInside.{the_type as counts_type}
+use Rattle.foyer_core_threads.specs.contracts.queued.QueuedPlaces.{the_row as places_row}
+use Rattle.foyer_core_threads.specs.contracts.queued.QueuedPlaces.TheInside.{the_type as places_type}
 use Rattle.foyer_core_threads.specs.contracts.session.ToldSession.{the_row as session_row, the_type as session_type}
 use Rattle.foyer_core_threads.specs.contracts.shared.ToldShared.{the_row as shared_row, the_type as shared_type}
 
@@ -39,9 +39,10 @@ session_send L K V P A D l a =
       (seat_send (told_row K V P A D a) (view_row (told_row K V P A D a)) (told_send K V P A D a), tt),
     ))
 
-counts_send : (A : RattleType) (a : Allocators A.Denot) → IsSend A → Frees {D = A.Denot} {G = Allocators A.Denot} a a.dealloc_token → IsSend (counts_row A a)
-counts_send A a a_sent free =
-    view_send _ _ _ _ _ (recorded_send _ _ _ (counts_type A a).to_one (struct_send (shape (counts_type A a)) (vec_send u64 A a (search sendable) a_sent free, (search sendable, tt))))
+places_send : (A : RattleType) (a : Allocators A.Denot) → IsSend A → Frees {D = A.Denot} {G = Allocators A.Denot} a a.dealloc_token → IsSend (places_row A a)
+places_send A a a_sent free =
+    let numbers = vec_send u64 A a (search sendable) a_sent free in
+    view_send _ _ _ _ _ (recorded_send _ _ _ (places_type A a).to_one (struct_send (shape (places_type A a)) (numbers, (numbers, (numbers, (numbers, (numbers, (search sendable, tt))))))))
 
 core_send : (H L K V P A E C N D : RattleType) (j : HistoryNames H.Denot) (l : KindsOf L.Denot) (k : Codes K.Denot A.Denot) (v : Codes V.Denot A.Denot) (p : PropertiesOf P.Denot) (a : Allocators A.Denot)
     (e : Pickers E.Denot) (c : Conditions C.Denot) (n : Notings N.Denot) (d : Disks D.Denot)
@@ -52,7 +53,7 @@ core_send H L K V P A E C N D j l k v p a e c n d j_sent k_sent v_sent p_sent a_
       locked_send L K V P A E C N l k v p a n k_sent v_sent p_sent a_sent e_sent c_sent k_used v_used p_used a_used free,
       (
         seat_send (told_row K V P A D a) (view_row (told_row K V P A D a)) (told_send K V P A D a),
-        (search sendable, (counts_send A a a_sent free, (search sendable, tt))),
+        (search sendable, (places_send A a a_sent free, (search sendable, tt))),
       ),
     )))
 

@@ -1,5 +1,5 @@
 //! A core with the witness of its lock.
-ghost use Rattle.std.specs.Prelude.{◌≡◌, ◌<◌, ℕ, [], IfErr, IfOk, true};
+ghost use Rattle.std.specs.Prelude.{◌≡◌, ◌⊎◌, ◌<◌, ◌∷◌, ℕ, [], IfErr, IfNone, IfOk, IfSome, true};
 ghost use Rattle.foyer_core_chronicle.specs.Rights.{times};
 ghost use Rattle.foyer_core_laws.specs.Content.{meaning};
 ghost use Rattle.foyer_core_shared.specs.Answers.{IsAnswer};
@@ -7,24 +7,30 @@ ghost use Rattle.foyer_core_shared.specs.Briefed.{IsNotedIn};
 ghost use Rattle.foyer_core_shared.specs.Replies.{may_reply};
 ghost use Rattle.foyer_core_steps.specs.Answered.{spare_of};
 ghost use Rattle.foyer_core_steps.specs.Judging.{IsJudged};
+ghost use Rattle.foyer_core_steps.specs.declared.reply.Reply.TheVariants as reply;
 ghost use Rattle.foyer_core_steps.specs.declared.step.Step.TheVariants as steps;
+ghost use Rattle.foyer_device_page.specs.declared.error.ErrorKind.TheVariants as kind;
 ghost use Rattle.foyer_core_told.specs.ToldLoads.{tickets_in};
 ghost use Rattle.foyer_core_told.specs.ToldRights.{core_right, step_takes};
-ghost use Rattle.foyer_core_told.specs.ToldQueued.{IsQuiet};
+ghost use Rattle.foyer_core_told.specs.ToldSteps.{IsOpeningOf};
+ghost use Rattle.foyer_core_told.specs.ToldQueued.{IsAllWritten};
 ghost use Rattle.foyer_core_told.specs.Telling.{BringsTrue, HasStepped, StandsAt};
 ghost use Rattle.foyer_core_threads.specs.Going.{GoesOn};
-ghost use Rattle.foyer_core_threads.specs.Queued.{AreCounted};
+ghost use Rattle.foyer_core_threads.specs.Queued.{AreNoted};
 
-use crate::queued::{QueuedCounts, enqueued_hash};
+use crate::queued::{Left, NoneQueued, QueuedPlaces};
 use crate::session::ToldSession;
 use foyer_block_manager::block::eviction::EvictionPicker;
 use foyer_core_shared::locked::Locked;
 use foyer_core_shared::notes::Noting;
+use foyer_core_steps::apply::no_io;
 use foyer_core_steps::load::Judged;
 use foyer_core_steps::reply::Reply;
 use foyer_core_steps::step::Step;
 use foyer_core_tally::book::Kinds;
 use foyer_core_told::history::{CoreRight, ToldHistory, ToldWitness, tell_step};
+use foyer_core_told::queued::{Moving, moving_of};
+use foyer_device_page::error::ErrorKind;
 use foyer_device_statistics::IoState;
 use foyer_format_record::serde::{Code, Properties};
 use foyer_io_disk::disk::Disk;
@@ -52,8 +58,8 @@ where
     witness: ToldWitness<K, V, P, A, D>,
     // How many tickets were issued.
     tickets: u64,
-    // How many pieces are queued.
-    queued: QueuedCounts<A>,
+    // Where pieces were queued, and which have left.
+    places: QueuedPlaces<A>,
     name: PhantomData<J>,
 }
 
@@ -76,7 +82,7 @@ where
             locked: _,
             witness: _,
             tickets: _,
-            queued: _,
+            places: _,
             name: _,
         } = self;
     }
@@ -95,13 +101,13 @@ where
     N: Noting,
     D: Disk,
 {
-    ghost use Rattle.std.specs.Prelude.{◌≡◌, ◌<◌, []};
+    ghost use Rattle.std.specs.Prelude.{◌≡◌, ◌⊎◌, ◌<◌, []};
     ghost use Rattle.foyer_core_chronicle.specs.Rights.{times};
     ghost use Rattle.foyer_core_laws.specs.Content.{meaning};
     ghost use Rattle.foyer_core_told.specs.ToldLoads.{tickets_in};
     ghost use Rattle.foyer_core_told.specs.ToldRights.{core_right};
     ghost use Rattle.foyer_core_told.specs.Telling.{StandsAt};
-    ghost use Rattle.foyer_core_threads.specs.Queued.{AreCounted};
+    ghost use Rattle.foyer_core_threads.specs.Queued.{AreNoted};
 
     ghost Value = { Unit {0} };
 
@@ -110,7 +116,7 @@ where
     ghost invariant = { λ d. (d.witness.table_id ≡ J.table) × (d.witness.me.1 ≡ []) × (0 < times core_right d.witness.me.0.has)
         × (d.tickets ≡ tickets_in d.witness.me.0.seen)
         × StandsAt (meaning K.encoding V.encoding K.is_encodable V.is_encodable K.is_decodable V.is_decodable P.age) D.byte_at d.witness.me.0.seen d.locked.noted.core
-        × AreCounted d.queued d.witness.me.0.seen };
+        × AreNoted d.places d.witness.me.0.seen };
 }
 
 impl<J, L, K, V, P, A, E, C, N, D> ToldCore<J, L, K, V, P, A, E, C, N, D>
@@ -126,23 +132,22 @@ where
     N: Noting,
     D: Disk,
 {
-    /// The core of a history that was told of its opening, with the witness that has the core's right, and the counts of what is queued.
+    /// The core of a history that was told of its opening alone, with the witness that has the core's right, and places at which nothing was queued.
     pub fn new(
         locked: Locked<L, K, V, P, A, E, C, N>,
         witness: ToldWitness<K, V, P, A, D>,
-        queued: QueuedCounts<A>,
+        none: NoneQueued<A>,
     ) -> ToldCore<J, L, K, V, P, A, E, C, N, D>
         requires history { (witness.table_id ≡ J.table) × (witness.me.1 ≡ []) }
         requires right { 0 < times core_right witness.me.0.has }
-        requires fresh { tickets_in witness.me.0.seen ≡ 0 }
-        requires counted { AreCounted queued witness.me.0.seen }
+        requires opening { (e : _) × (disk : D) × IsOpeningOf locked.noted.core disk e × (witness.me.0.seen ≡ e ∷ []) }
         requires told { StandsAt (meaning K.encoding V.encoding K.is_encodable V.is_encodable K.is_decodable V.is_decodable P.age) D.byte_at witness.me.0.seen locked.noted.core }
     {
         ToldCore {
             locked,
             witness,
             tickets: 0,
-            queued,
+            places: none.into_places(),
             name: PhantomData,
         }
     }
@@ -172,12 +177,12 @@ where
         ensures roomless { IfErr result (λ given. (given ≡ step) × (session.new ≡ session.old) × (N.keeps ≡ true)) }
     {
         let said = Snapshot::of(&step);
-        let hash = enqueued_hash(&step);
+        let done = moving_of(&step);
         let reply = match self.locked.step(&mut session.session, io, step) {
             Ok(reply) => reply,
             Err(step) => return Err(step),
         };
-        self.queued.note(hash, &reply);
+        self.places.note(done, &reply);
         let number = tell_step(
             history,
             &mut self.witness,
@@ -218,7 +223,7 @@ where
             Ok(answer) => answer,
             Err(step) => return Err(step),
         };
-        self.queued.note(None, &reply);
+        self.places.note(Moving::Other, &reply);
         let _ = tell_step(
             history,
             &mut self.witness,
@@ -231,9 +236,10 @@ where
         Ok((reply, spare))
     }
 
-    /// Whether nothing of a hash's class is queued. The session has seen the whole history then, as it is under the core's lock. No event is
-    /// added to it.
-    pub fn sees_none_queued(
+    /// Whether all pieces of a hash that were queued have left their flusher. The session has seen the whole history then, as it is under the core's
+    /// lock. No event is added to it. If they have, each was written, or something newer of its hash was, unless a batch failed since or
+    /// a destroy cleared the index.
+    pub fn sees_written(
         &mut self,
         history: &ToldHistory<K, V, P, A, D>,
         session: &mut ToldSession<L, K, V, P, A, D>,
@@ -243,14 +249,61 @@ where
         requires mine { (session.old.witness.table_id ≡ J.table) × (session.old.witness.me.1 ≡ []) }
         ensures mine { (session.new.witness.table_id ≡ J.table) × (session.new.witness.me.1 ≡ []) }
         ensures on { GoesOn (meaning K.encoding V.encoding K.is_encodable V.is_encodable K.is_decodable V.is_decodable P.age) D.byte_at session.old.witness.me.0 session.new.witness.me.0 }
-        ensures quiet { result ≡ true → IsQuiet hash session.new.witness.me.0.seen }
+        ensures written { result ≡ true → IsAllWritten (meaning K.encoding V.encoding K.is_encodable V.is_encodable K.is_decodable V.is_decodable P.age) D.byte_at hash session.new.witness.me.0.seen }
         ensures same { session.new.session ≡ session.old.session }
     {
         let brought = history.give_all(&mut session.witness);
         history.take(&mut self.witness, brought);
         history.look(&mut self.witness);
         session.witness = history.give_others::<CoreRight>(&mut self.witness);
-        self.queued.is_quiet(hash)
+        let flushers = self.locked.core().settings().flushers;
+        self.places.have_left(hash, flushers).is_some()
+    }
+
+    /// Looks a hash up as `step` does, if all pieces of it that were queued have left their flusher: just before, each was written, or something
+    /// newer of its hash was, unless a batch failed since or a destroy cleared the index. Else `None`, and no step is made. If notes are kept and
+    /// memory for this one is refused, the reply is `Refused(Memory, step)`.
+    pub fn look_up(
+        &mut self,
+        history: &ToldHistory<K, V, P, A, D>,
+        session: &mut ToldSession<L, K, V, P, A, D>,
+        hash: u64,
+        throttled: bool,
+    ) -> Option<(Reply<K, V, P, A>, u64)>
+        requires history { history.now.table.shared.table_id ≡ J.table }
+        requires mine { (session.old.witness.table_id ≡ J.table) × (session.old.witness.me.1 ≡ []) }
+        requires part { 0 < session.old.session.shares.parts }
+        ensures mine { (session.new.witness.table_id ≡ J.table) × (session.new.witness.me.1 ≡ []) }
+        ensures on { GoesOn (meaning K.encoding V.encoding K.is_encodable V.is_encodable K.is_decodable V.is_decodable P.age) D.byte_at session.old.witness.me.0 session.new.witness.me.0 }
+        ensures told { IfSome result (λ r. ((stepped : HasStepped (meaning K.encoding V.encoding K.is_encodable V.is_encodable K.is_decodable V.is_decodable P.age) D.byte_at session.old.witness.me.0 session.new.witness.me.0 (steps.LoadBegin hash throttled) r.0 r.1)
+            × IsAllWritten (meaning K.encoding V.encoding K.is_encodable V.is_encodable K.is_decodable V.is_decodable P.age) D.byte_at hash stepped.gone.log)
+            ⊎ ((N.keeps ≡ true) × (r.0 ≡ reply.Refused kind.Memory (steps.LoadBegin hash throttled)) × (session.new ≡ session.old))) }
+        ensures answer { IfSome result (λ r. IsAnswer K.is_decodable V.is_decodable K.encoding V.encoding (steps.LoadBegin hash throttled) r.0) }
+        ensures noted { IfSome result (λ r. IsNotedIn session.old.session session.new.session (steps.LoadBegin hash throttled) r.0
+            ⊎ ((N.keeps ≡ true) × (r.0 ≡ reply.Refused kind.Memory (steps.LoadBegin hash throttled)) × (session.new ≡ session.old))) }
+        ensures replied { IfSome result (λ r. (may_reply (steps.LoadBegin hash throttled) r.0 ≡ true)
+            ⊎ ((N.keeps ≡ true) × (r.0 ≡ reply.Refused kind.Memory (steps.LoadBegin hash throttled)))) }
+        ensures parts { session.new.session.shares.parts ≡ session.old.session.shares.parts }
+        ensures queued { IfNone result (session.new ≡ session.old) }
+    {
+        let flushers = self.locked.core().settings().flushers;
+        let Left = self.places.have_left(hash, flushers)?;
+        let step = Step::LoadBegin { hash, throttled };
+        let said = Snapshot::of(&step);
+        let reply = match self.locked.step(&mut session.session, no_io(), step) {
+            Ok(reply) => reply,
+            Err(step) => return Some((Reply::Refused(ErrorKind::Memory, step), 0)),
+        };
+        let number = tell_step(
+            history,
+            &mut self.witness,
+            &mut session.witness,
+            &mut self.tickets,
+            said,
+            &reply,
+            self.locked.core(),
+        );
+        Some((reply, number))
     }
 
     /// Whether so much is queued that another piece isn't taken, as `Core::is_full` says.

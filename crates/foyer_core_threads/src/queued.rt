@@ -1,62 +1,112 @@
-//! How many pieces are queued, by the classes of their hashes.
-ghost use Rattle.std.specs.Prelude.{◌≡◌, ◌↔◌, ℕ, IfErr, IfOk, IsTrue, false, slice_index, sum_by, vec_len};
-ghost use Rattle.foyer_core_told.specs.ToldQueued as queue;
-ghost use Rattle.foyer_core_told.specs.ToldQueued.{in_class, queued_by, returned_by};
-ghost use Rattle.foyer_core_threads.specs.Queued.{AreNone, HaveGoneOn};
+//! How many pieces were queued at each flusher and left it, and which of a class of hashes was the last.
+ghost use Rattle.std.specs.Prelude.{◌≡◌, ◌⊎◌, ◌+◌, ◌%◌, ◌^◌, ◌<◌, ◌≤◌, ℕ, ◌==◌, if◌then◌else◌, IfErr, IfOk, IfSome, false, length, slice_index, true, vec_len};
+ghost use Rattle.foyer_core_threads.specs.Queued as noted;
+ghost use Rattle.foyer_core_threads.specs.Queued.{AreNone, FitsEnded, FitsPassed, FitsQueued, HasNoted, HasSeenLeave};
 ghost use Rattle.foyer_device_page.specs.declared.error.Error.TheVariants.{Memory};
 
 use foyer_core_steps::reply::Reply;
-use foyer_core_steps::step::Step;
+use foyer_core_told::queued::Moving;
 use foyer_device_page::error::Result;
-use foyer_policy_piece::keeper::PieceRef;
 use std::alloc::Allocator;
 use std::marker::Model;
 
 // So many classes of hashes there are.
 const CLASSES: u64 = 65_536;
 
-/// How many pieces of each class of hashes are queued. The class of a hash is its remainder by 65,536.
-pub struct QueuedCounts<A: Allocator> {
-    counts: Vec<u64, A>,
-    // Whether a count came that is no number of 64 bits. Nothing is known from then on.
+/// Of each flusher, how many pieces were queued and left it; of each class of hashes, the place of the last piece that was queued. The class of a
+/// hash is its remainder by 65,536.
+pub struct QueuedPlaces<A: Allocator> {
+    // By class, at least the place of the last piece that was queued, among those of its flusher, from 1 on.
+    last: Vec<u64, A>,
+    // By flusher, how many were queued.
+    queued: Vec<u64, A>,
+    // By flusher, how many left it.
+    returned: Vec<u64, A>,
+    // By flusher, how many left it from the front of its queue since its last batch began.
+    passed: Vec<u64, A>,
+    // By flusher, up to which place all had left it when a batch ended.
+    left: Vec<u64, A>,
+    // Whether a number came that has no 64 bits, or a flusher that isn't there. Nothing is known from then on.
     is_lost: bool,
 }
 
 // Written out, so that it is proved once.
-impl<A: Allocator> Drop for QueuedCounts<A> {
+impl<A: Allocator> Drop for QueuedPlaces<A> {
     fn drop(self) {
-        let QueuedCounts {
-            counts: _,
+        let QueuedPlaces {
+            last: _,
+            queued: _,
+            returned: _,
+            passed: _,
+            left: _,
             is_lost: _,
         } = self;
     }
 }
 
-impl<A: Allocator> Model for QueuedCounts<A> {
+impl<A: Allocator> Model for QueuedPlaces<A> {
     ghost use Rattle.std.specs.Prelude.{◌≡◌, length};
-    ghost use Rattle.foyer_core_told.specs.ToldQueued.{queue_classes};
-    ghost use Rattle.foyer_core_threads.specs.Queued.{Counted};
+    ghost use Rattle.foyer_core_threads.specs.Queued.{Noted, queue_classes};
 
-    ghost Value = { Counted };
+    ghost Value = { Noted };
 
-    ghost view = { λ c. record { counts = c.counts.items; is_lost = c.is_lost } };
+    ghost view = { λ n. record { last = n.last.items; queued = n.queued.items; returned = n.returned.items; passed = n.passed.items; left = n.left.items; is_lost = n.is_lost } };
 
-    ghost invariant = { λ c. length c.counts.items ≡ queue_classes };
+    ghost invariant = { λ n. length n.last.items ≡ queue_classes };
 }
 
-/// The hash of the piece that a step brings to be queued.
-pub(crate) fn enqueued_hash<K, V, P, A: Allocator>(step: &Step<K, V, P, A>) -> Option<u64>
-    ensures { result ≡ queue.enqueued_hash step.now }
-{
-    match step {
-        Step::Enqueue { piece, .. } => Some(piece.hash()),
-        _ => None,
+/// All pieces of a hash have left their flusher.
+#[derive(Clone, Copy)]
+pub(crate) struct Left;
+
+/// Places at which nothing was queued yet.
+pub struct NoneQueued<A: Allocator> {
+    places: QueuedPlaces<A>,
+    ghost none: { AreNone places },
+}
+
+// Written out, so that it is proved once.
+impl<A: Allocator> Drop for NoneQueued<A> {
+    fn drop(self) {
+        let NoneQueued { places: _ } = self;
+    }
+}
+
+impl<A: Allocator + Clone> NoneQueued<A> {
+    /// For so many flushers. `Memory`.
+    pub fn new(alloc: &A, flushers: u32) -> Result<NoneQueued<A>>
+        ensures refused { IfErr result (λ e. e ≡ Memory) }
+    {
+        let last = zeros(alloc.clone()?, CLASSES as usize)?;
+        let queued = zeros(alloc.clone()?, flushers as usize)?;
+        let returned = zeros(alloc.clone()?, flushers as usize)?;
+        let passed = zeros(alloc.clone()?, flushers as usize)?;
+        let left = zeros(alloc.clone()?, flushers as usize)?;
+        let places = QueuedPlaces {
+            last,
+            queued,
+            returned,
+            passed,
+            left,
+            is_lost: false,
+        };
+        Ok(NoneQueued { places })
+    }
+}
+
+impl<A: Allocator> NoneQueued<A> {
+    // The places.
+    pub(crate) fn into_places(self) -> QueuedPlaces<A>
+        ensures { AreNone result }
+    {
+        let NoneQueued { places } = self;
+        places
     }
 }
 
 // The class of a hash.
 fn class_of(hash: u64) -> usize
-    ensures { result ≡ queue.class_of hash }
+    ensures { result ≡ noted.class_of hash }
 {
     (hash % CLASSES) as usize
 }
@@ -70,70 +120,174 @@ fn zeros<A: Allocator>(alloc: A, count: usize) -> Result<Vec<u64, A>>
     Ok(vec![in alloc; 0u64; count]?)
 }
 
-impl<A: Allocator> QueuedCounts<A> {
-    /// Counts of nothing. `Memory`.
-    pub fn new(alloc: A) -> Result<QueuedCounts<A>>
-        ensures none { IfOk result AreNone }
-        ensures refused { IfErr result (λ e. e ≡ Memory) }
-    {
-        let counts = zeros(alloc, CLASSES as usize)?;
-        Ok(QueuedCounts {
-            counts,
-            is_lost: false,
-        })
+// Adds to a number, if it is there and the sum has 64 bits.
+fn raise(numbers: &mut [u64], at: usize, by: usize) -> bool
+    ensures len { length numbers.new ≡ length numbers.old }
+    ensures fits { at < length numbers.old → slice_index numbers.old at + by < 2 ^ 64 → result ≡ true }
+    ensures raised { result ≡ true → (r : ℕ) → slice_index numbers.new r ≡ slice_index numbers.old r + (if at == r then by else 0) }
+{
+    if at >= numbers.len() {
+        return false;
     }
+    match numbers[at].checked_add(by as u64) {
+        Some(sum) => {
+            numbers[at] = sum;
+            true
+        }
+        None => false,
+    }
+}
 
-    // Counts a piece of this hash that was queued.
+// Puts a number, if it is there.
+fn put(numbers: &mut [u64], at: usize, number: u64) -> bool
+    ensures len { length numbers.new ≡ length numbers.old }
+    ensures fits { at < length numbers.old → result ≡ true }
+    ensures put { result ≡ true → (r : ℕ) → slice_index numbers.new r ≡ (if at == r then number else slice_index numbers.old r) }
+{
+    if at >= numbers.len() {
+        return false;
+    }
+    numbers[at] = number;
+    true
+}
+
+// Makes a number at least as great as another one.
+fn lift(numbers: &mut [u64], at: usize, number: u64)
+    ensures len { length numbers.new ≡ length numbers.old }
+    ensures lifted { (r : ℕ) → slice_index numbers.old r ≤ slice_index numbers.new r }
+    ensures reached { at < length numbers.old → number ≤ slice_index numbers.new at }
+{
+    if at < numbers.len() && numbers[at] < number {
+        numbers[at] = number;
+    }
+}
+
+// A number, or 0 if it isn't there.
+fn number_at(numbers: &[u64], at: usize) -> u64
+    ensures { result ≡ slice_index numbers.now at }
+{
+    match numbers.get(at) {
+        Some(number) => *number,
+        None => 0,
+    }
+}
+
+impl<A: Allocator> QueuedPlaces<A> {
+    // A piece of this hash was queued.
     fn add(&mut self, hash: u64)
-        ensures { HaveGoneOn (λ r. in_class r hash) (λ r. 0) self.old self.new }
+        ensures kept { self.new.is_lost ≡ false → self.old.is_lost ≡ false }
+        ensures same { (self.new.returned ≡ self.old.returned) × (self.new.passed ≡ self.old.passed) × (self.new.left ≡ self.old.left) }
+        ensures len { length self.new.queued ≡ length self.old.queued }
+        ensures there { self.new.is_lost ≡ false → hash % length self.old.queued < length self.old.queued }
+        ensures keeps { self.old.is_lost ≡ false → FitsQueued hash self.old → self.new.is_lost ≡ false }
+        ensures queued { self.new.is_lost ≡ false → (r : ℕ) → slice_index self.new.queued r ≡ slice_index self.old.queued r + (if hash % length self.old.queued == r then 1 else 0) }
+        ensures last { (r : ℕ) → slice_index self.old.last r ≤ slice_index self.new.last r }
+        ensures placed { slice_index self.new.queued (hash % length self.old.queued) ≤ slice_index self.new.last (noted.class_of hash) }
     {
-        let class = class_of(hash);
-        match self.counts[class].checked_add(1) {
-            Some(count) => self.counts[class] = count,
-            None => self.is_lost = true,
+        let flushers = self.queued.len() as u64;
+        if flushers == 0 {
+            self.is_lost = true;
+            return;
+        }
+        let flusher = (hash % flushers) as usize;
+        if !raise(&mut self.queued, flusher, 1) {
+            self.is_lost = true;
+        }
+        let place = number_at(&self.queued, flusher);
+        lift(&mut self.last, class_of(hash), place);
+    }
+
+    // A piece left this flusher from the front of its queue.
+    fn pass(&mut self, flusher: usize)
+        ensures kept { self.new.is_lost ≡ false → self.old.is_lost ≡ false }
+        ensures same { (self.new.queued ≡ self.old.queued) × (self.new.last ≡ self.old.last) × (self.new.left ≡ self.old.left) }
+        ensures returned { self.new.is_lost ≡ false → (r : ℕ) → slice_index self.new.returned r ≡ slice_index self.old.returned r + (if flusher == r then 1 else 0) }
+        ensures passed { self.new.is_lost ≡ false → (r : ℕ) → slice_index self.new.passed r ≡ slice_index self.old.passed r + (if flusher == r then 1 else 0) }
+        ensures keeps { self.old.is_lost ≡ false → FitsPassed flusher self.old → self.new.is_lost ≡ false }
+    {
+        if !raise(&mut self.returned, flusher, 1) {
+            self.is_lost = true;
+        }
+        if !raise(&mut self.passed, flusher, 1) {
+            self.is_lost = true;
         }
     }
 
-    // Counts a piece of this hash that was handed back.
-    fn take(&mut self, hash: u64)
-        ensures { HaveGoneOn (λ r. 0) (λ r. in_class r hash) self.old self.new }
+    // A batch of this flusher began.
+    fn begin(&mut self, flusher: usize)
+        ensures kept { self.new.is_lost ≡ false → self.old.is_lost ≡ false }
+        ensures same { (self.new.queued ≡ self.old.queued) × (self.new.last ≡ self.old.last) × (self.new.returned ≡ self.old.returned) × (self.new.left ≡ self.old.left) }
+        ensures passed { self.new.is_lost ≡ false → (r : ℕ) → slice_index self.new.passed r ≡ (if flusher == r then 0 else slice_index self.old.passed r) }
+        ensures keeps { self.old.is_lost ≡ false → flusher < length self.old.passed → self.new.is_lost ≡ false }
     {
-        let class = class_of(hash);
-        match self.counts[class].checked_sub(1) {
-            Some(count) => self.counts[class] = count,
-            None => self.is_lost = true,
+        if !put(&mut self.passed, flusher, 0) {
+            self.is_lost = true;
         }
     }
 
-    // Counts pieces that were handed back.
-    fn take_all<K, V, P>(&mut self, pieces: &[PieceRef<K, V, P, A>])
-        ensures { HaveGoneOn (λ r. 0) (λ r. sum_by (λ piece. in_class r piece.piece.hash) pieces.now) self.old self.new }
+    // A batch of so many pieces ended at this flusher.
+    fn end(&mut self, flusher: usize, pieces: usize)
+        ensures kept { self.new.is_lost ≡ false → self.old.is_lost ≡ false }
+        ensures same { (self.new.queued ≡ self.old.queued) × (self.new.last ≡ self.old.last) × (self.new.passed ≡ self.old.passed) }
+        ensures returned { self.new.is_lost ≡ false → (r : ℕ) → slice_index self.new.returned r ≡ slice_index self.old.returned r + (if flusher == r then pieces else 0) }
+        ensures left { self.new.is_lost ≡ false → (r : ℕ) → (slice_index self.new.left r ≡ slice_index self.old.left r)
+            ⊎ ((flusher ≡ r) × (slice_index self.new.left r + slice_index self.new.passed r ≤ slice_index self.new.returned r)) }
+        ensures keeps { self.old.is_lost ≡ false → FitsEnded flusher pieces self.old → self.new.is_lost ≡ false }
     {
-        'pieces: for piece in pieces {
-            self.take(piece.hash());
+        if !raise(&mut self.returned, flusher, pieces) {
+            self.is_lost = true;
+        }
+        let returned = number_at(&self.returned, flusher);
+        let passed = number_at(&self.passed, flusher);
+        let place = returned.saturating_sub(passed);
+        if passed <= returned && number_at(&self.left, flusher) < place {
+            if !put(&mut self.left, flusher, place) {
+                self.is_lost = true;
+            }
         }
     }
 
-    /// Counts what a step queued and what its reply hands back, by the hash of the piece that the step brought.
-    pub(crate) fn note<K, V, P>(&mut self, hash: Option<u64>, reply: &Reply<K, V, P, A>)
-        ensures { HaveGoneOn (λ r. queued_by r hash reply.now) (λ r. returned_by r reply.now) self.old self.new }
+    /// Notes what a step did with pieces, by its reply.
+    pub(crate) fn note<K, V, P>(&mut self, done: Moving, reply: &Reply<K, V, P, A>)
+        ensures { HasNoted done reply.now self.old self.new }
     {
-        match reply {
-            Reply::Queued(_) => {
-                if let Some(hash) = hash {
+        match done {
+            Moving::Queues(hash) => {
+                if let Reply::Queued(_) = reply {
                     self.add(hash);
                 }
             }
-            Reply::Received(Some(piece)) => self.take(piece.hash()),
-            Reply::Ended { pieces, .. } => self.take_all(pieces),
-            _ => {}
+            Moving::Receives(flusher) => {
+                if let Reply::Received(Some(_)) = reply {
+                    self.pass(flusher as usize);
+                }
+            }
+            Moving::Begins(flusher) => {
+                if let Reply::Began { .. } = reply {
+                    self.begin(flusher as usize);
+                }
+            }
+            Moving::Ends(flusher) => {
+                if let Reply::Ended { pieces, .. } = reply {
+                    self.end(flusher as usize, pieces.len());
+                }
+            }
+            Moving::Other => {}
         }
     }
 
-    /// Whether nothing of a hash's class is queued, as far as is known.
-    pub(crate) fn is_quiet(&self, hash: u64) -> bool
-        ensures { IsTrue result ↔ ((self.now.is_lost ≡ false) × (slice_index self.now.counts (queue.class_of hash) ≡ 0)) }
+    /// Whether all pieces of a hash that were queued have left their flusher, of so many, as far as is known.
+    pub(crate) fn have_left(&self, hash: u64, flushers: u32) -> Option<Left>
+        ensures { IfSome result (λ _. HasSeenLeave self.now flushers hash) }
     {
-        !self.is_lost && self.counts[class_of(hash)] == 0
+        if self.is_lost || flushers == 0 || self.queued.len() != flushers as usize {
+            return None;
+        }
+        let flusher = (hash % flushers as u64) as usize;
+        if number_at(&self.last, class_of(hash)) <= number_at(&self.left, flusher) {
+            Some(Left)
+        } else {
+            None
+        }
     }
 }

@@ -12,12 +12,11 @@ ghost use Rattle.foyer_core_steps.specs.declared.reply.Reply.TheVariants as repl
 ghost use Rattle.foyer_core_steps.specs.declared.step.Step.TheVariants as steps;
 ghost use Rattle.foyer_device_page.specs.declared.error.ErrorKind.TheVariants as kind;
 ghost use Rattle.foyer_core_told.specs.ToldRights.{disk_right, rights_count, step_takes};
-ghost use Rattle.foyer_core_told.specs.ToldQueued.{IsQuiet};
+ghost use Rattle.foyer_core_told.specs.ToldQueued.{IsAllWritten};
 ghost use Rattle.foyer_core_told.specs.ToldSteps.{IsOpeningOf};
 ghost use Rattle.foyer_core_told.specs.Telling.{BringsTrue, HasStepped, WasOpened};
 ghost use Rattle.foyer_core_threads.specs.Asking.{HasSizes, IsPlain};
 ghost use Rattle.foyer_core_threads.specs.Going.{GoesOn};
-ghost use Rattle.foyer_core_threads.specs.Queued.{AreNone};
 
 mod again;
 mod destroy;
@@ -27,7 +26,7 @@ mod reclaim;
 mod write;
 
 use crate::locked::ToldCore;
-use crate::queued::QueuedCounts;
+use crate::queued::NoneQueued;
 use crate::session::ToldSession;
 use foyer_block_manager::block::eviction::EvictionPicker;
 use foyer_core_shared::locked::Locked;
@@ -138,7 +137,8 @@ where
     D: Disk,
 {
     /// A core that was opened over this disk, whose bytes are known, and the session that has all parts and all rights of flushers and
-    /// blocks. Their opening is the first event of the history, which is new; `spare` is a buffer for the first read, and `queued` counts nothing.
+    /// blocks. Their opening is the first event of the history, which is new; `spare` is a buffer for the first read, and `none` has places for the
+    /// core's flushers (for another number of them no load would be answered by `load_written`).
     pub fn new(
         history: ToldHistory<K, V, P, A, D>,
         witness: ToldWitness<K, V, P, A, D>,
@@ -146,7 +146,7 @@ where
         session: Session<L>,
         disk: D,
         spare: Vec<u8, A>,
-        queued: QueuedCounts<A>,
+        none: NoneQueued<A>,
     ) -> (
         ToldShared<J, L, K, V, P, A, E, C, N, D>,
         ToldSession<L, K, V, P, A, D>,
@@ -155,7 +155,6 @@ where
         requires witness { (witness.table_id ≡ J.table) × (witness.me ≡ (newcomer (ids rights_count), [])) }
         requires opened { WasOpened locked.noted.core }
         requires known { D.is_known disk }
-        requires none { AreNone queued }
         ensures session { result.1.session ≡ session }
         ensures whole { (result.1.witness.table_id ≡ J.table) × (result.1.witness.me.1 ≡ []) }
         ensures seen { (e : _) × IsOpeningOf locked.noted.core disk e × (result.1.witness.me.0.seen ≡ e ∷ []) }
@@ -166,7 +165,7 @@ where
         tell_opening(&history, &mut own, locked.core(), &disk);
         let mut of_disk = history.give_others::<CoreRight>(&mut own);
         let witness = history.give_others::<DiskRight>(&mut of_disk);
-        let core = ToldCore::new(locked, own, queued);
+        let core = ToldCore::new(locked, own, none);
         let disk = ToldDisk::new(disk, spare, of_disk);
         let shared = ToldShared {
             history,
@@ -219,8 +218,10 @@ where
         lock_spinning(&self.core, rt).is_full()
     }
 
-    /// Whether nothing of a hash's class is queued at a moment of this call, under the core's lock. The session has seen the history until then.
-    pub fn sees_none_queued(
+    /// Whether all pieces of a hash that were queued have left their flusher at a moment of this call, under the core's lock. The session has seen the
+    /// history until then. If they have, each was written, or something newer of its hash was, unless a batch failed since or a destroy cleared
+    /// the index.
+    pub fn sees_written(
         &self,
         rt: &impl Wait,
         session: &mut ToldSession<L, K, V, P, A, D>,
@@ -229,10 +230,10 @@ where
         requires mine { (session.old.witness.table_id ≡ J.table) × (session.old.witness.me.1 ≡ []) }
         ensures mine { (session.new.witness.table_id ≡ J.table) × (session.new.witness.me.1 ≡ []) }
         ensures on { GoesOn (meaning K.encoding V.encoding K.is_encodable V.is_encodable K.is_decodable V.is_decodable P.age) D.byte_at session.old.witness.me.0 session.new.witness.me.0 }
-        ensures quiet { result ≡ true → IsQuiet hash session.new.witness.me.0.seen }
+        ensures written { result ≡ true → IsAllWritten (meaning K.encoding V.encoding K.is_encodable V.is_encodable K.is_decodable V.is_decodable P.age) D.byte_at hash session.new.witness.me.0.seen }
         ensures same { session.new.session ≡ session.old.session }
     {
-        lock_spinning(&self.core, rt).sees_none_queued(&self.history, session, hash)
+        lock_spinning(&self.core, rt).sees_written(&self.history, session, hash)
     }
 
     /// One step that takes no right and brings no outcome of an access, as `step` does.

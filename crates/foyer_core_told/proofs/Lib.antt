@@ -5,4 +5,6 @@ pub mod ToldMissLemmas
 pub mod ToldRightLemmas
 pub mod TellingLemmas
 pub mod QueuedLemmas
+pub mod SpokenLemmas
+pub mod WrittenLemmas
 pub mod Sent

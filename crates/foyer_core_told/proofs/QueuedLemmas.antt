@@ -1,67 +1,101 @@
--- How many pieces of a class were queued and handed back, over more events.
-use Rattle.std.proofs.Common.{◌≡◌, ℕ, ◌+◌, true≢false, List, [], ◌∷◌, ◌++◌, refl, sym, ap, ◌∙◌, arith}
+-- How many pieces were queued and left their flushers, over more events.
+use Rattle.std.proofs.Common.{◌≡◌, ◌⊎◌, inl, inr, ℕ, ◌+◌, Bool, true, false, true≢false, ◌||◌, List, [], ◌∷◌, ◌++◌, refl, sym, ap, arith}
+use Rattle.std.proofs.lemmas.Bool.{or_right}
 use Rattle.foyer_core_steps.specs.declared.state.Core.{Core}
 use Rattle.foyer_core_steps.specs.declared.reply.Reply.{Reply}
 use Rattle.foyer_core_steps.specs.declared.step.Step.{Step}
 use Rattle.foyer_core_told.specs.declared.event.Told.{Told}
 use Rattle.foyer_core_told.specs.declared.event.Told.TheVariants as told
 use Rattle.foyer_core_told.specs.ToldSteps.{AreAccesses}
-use Rattle.foyer_core_told.specs.ToldQueued.{enqueued_hash, queued_by, queued_in, returned_by, returned_in}
+use Rattle.foyer_core_told.specs.ToldQueued.{IsQueuing, is_loss, lost_in, moving_of, passed_by, passed_in, queued_by, queued_in, returned_by, returned_in}
 use Rattle.foyer_core_told.specs.Telling.{IsEventOf}
 
-module _ {K V P A D : Type 0} (r : ℕ) where
-  more_queued : (xs ys : List (Told K V P A D)) → queued_in r (xs ++ ys) ≡ queued_in r xs + queued_in r ys
-  more_queued [] ys = omega arith
-  more_queued (told.Steps step reply core ∷ xs) ys = let h : queued_in r (xs ++ ys) ≡ queued_in r xs + queued_in r ys = more_queued xs ys in omega arith
-  more_queued (x ∷ xs) ys = more_queued xs ys
+module _ {X : Type 0} where
+  abbrev first_or : X → List X → X
+  first_or d [] = d
+  first_or d (x ∷ xs) = x
 
-  more_returned : (xs ys : List (Told K V P A D)) → returned_in r (xs ++ ys) ≡ returned_in r xs + returned_in r ys
-  more_returned [] ys = omega arith
-  more_returned (told.Steps step reply core ∷ xs) ys = let h : returned_in r (xs ++ ys) ≡ returned_in r xs + returned_in r ys = more_returned xs ys in omega arith
-  more_returned (x ∷ xs) ys = more_returned xs ys
+  abbrev rest_of : List X → List X
+  rest_of [] = []
+  rest_of (x ∷ xs) = xs
 
-  none_queued : (es : List (Told K V P A D)) → AreAccesses es → queued_in r es ≡ 0
-  none_queued [] all = refl
-  none_queued (told.Steps step reply core ∷ es) all = absurd (true≢false (sym all.0))
-  none_queued (e ∷ es) all = none_queued es all.1
+  -- A member of two lists, one behind the other, is in the first or in the second.
+  pub append_split : (xs ys before since : List X) (x : X) → xs ++ ys ≡ before ++ x ∷ since
+      → ((mid : List X) × (xs ≡ before ++ x ∷ mid) × (since ≡ mid ++ ys)) ⊎ ((mid : List X) × (before ≡ xs ++ mid) × (ys ≡ mid ++ x ∷ since))
+  append_split [] ys before since x same = inr (before, refl, same)
+  append_split (z ∷ xs) ys [] since x same =
+      inl (xs, ap (λ (y : X). y ∷ xs) (ap (first_or z) same), sym (ap rest_of same))
+  append_split (z ∷ xs) ys (b ∷ before) since x same =
+      elim (append_split xs ys before since x (ap rest_of same)) [
+        | inl (mid, is, rest) ↦ inl (mid, (λ i. ap (first_or z) same i ∷ is i), rest)
+        | inr (mid, is, rest) ↦ inr (mid, (λ i. sym (ap (first_or z) same) i ∷ is i), rest)
+      ]
 
-  none_returned : (es : List (Told K V P A D)) → AreAccesses es → returned_in r es ≡ 0
-  none_returned [] all = refl
-  none_returned (told.Steps step reply core ∷ es) all = absurd (true≢false (sym all.0))
-  none_returned (e ∷ es) all = none_returned es all.1
+module _ {K V P A D : Type 0} where
+  pub more_queued : (flushers f : ℕ) (xs ys : List (Told K V P A D)) → queued_in flushers f (xs ++ ys) ≡ queued_in flushers f xs + queued_in flushers f ys
+  more_queued flushers f [] ys = omega arith
+  more_queued flushers f (told.Steps step reply core ∷ xs) ys = let h : queued_in flushers f (xs ++ ys) ≡ queued_in flushers f xs + queued_in flushers f ys = more_queued flushers f xs ys in omega arith
+  more_queued flushers f (x ∷ xs) ys = more_queued flushers f xs ys
 
-  -- accesses queue nothing, and hand nothing back
-  pub queued_still : (seen since : List (Told K V P A D)) → AreAccesses since → queued_in r (seen ++ since) ≡ queued_in r seen
-  queued_still seen since all =
-      let more : queued_in r (seen ++ since) ≡ queued_in r seen + queued_in r since = more_queued seen since in
-      let none : queued_in r since ≡ 0 = none_queued since all in
+  pub more_returned : (f : ℕ) (xs ys : List (Told K V P A D)) → returned_in f (xs ++ ys) ≡ returned_in f xs + returned_in f ys
+  more_returned f [] ys = omega arith
+  more_returned f (told.Steps step reply core ∷ xs) ys = let h : returned_in f (xs ++ ys) ≡ returned_in f xs + returned_in f ys = more_returned f xs ys in omega arith
+  more_returned f (x ∷ xs) ys = more_returned f xs ys
+
+  pub more_passed : (f : ℕ) (xs ys : List (Told K V P A D)) (n : ℕ) → passed_in f (xs ++ ys) n ≡ passed_in f ys (passed_in f xs n)
+  more_passed f [] ys n = refl
+  more_passed f (told.Steps step reply core ∷ xs) ys n = more_passed f xs ys (passed_by f (moving_of step.value) reply.value n)
+  more_passed f (x ∷ xs) ys n = more_passed f xs ys n
+
+  pub lost_front : (xs ys : List (Told K V P A D)) → lost_in xs ≡ true → lost_in (xs ++ ys) ≡ true
+  lost_front [] ys is = absurd (true≢false (sym is))
+  lost_front (told.Steps step reply core ∷ xs) ys is = one (is_loss reply.value) (lost_front xs ys) is
+    where
+      one : (b : Bool) → (lost_in xs ≡ true → lost_in (xs ++ ys) ≡ true) → (b || lost_in xs) ≡ true → (b || lost_in (xs ++ ys)) ≡ true
+      one true rest was = refl
+      one false rest was = rest was
+  lost_front (x ∷ xs) ys is = lost_front xs ys is
+
+  pub lost_back : (xs ys : List (Told K V P A D)) → lost_in ys ≡ true → lost_in (xs ++ ys) ≡ true
+  lost_back [] ys is = is
+  lost_back (told.Steps step reply core ∷ xs) ys is = or_right (is_loss reply.value) (lost_in (xs ++ ys)) (lost_back xs ys is)
+  lost_back (x ∷ xs) ys is = lost_back xs ys is
+
+  -- accesses queue nothing, and nothing leaves a flusher by them
+  pub none_queued : (flushers f : ℕ) (es : List (Told K V P A D)) → AreAccesses es → queued_in flushers f es ≡ 0
+  none_queued flushers f [] all = refl
+  none_queued flushers f (told.Steps step reply core ∷ es) all = absurd (true≢false (sym all.0))
+  none_queued flushers f (e ∷ es) all = none_queued flushers f es all.1
+
+  pub none_returned : (f : ℕ) (es : List (Told K V P A D)) → AreAccesses es → returned_in f es ≡ 0
+  none_returned f [] all = refl
+  none_returned f (told.Steps step reply core ∷ es) all = absurd (true≢false (sym all.0))
+  none_returned f (e ∷ es) all = none_returned f es all.1
+
+  pub none_passed : (f : ℕ) (es : List (Told K V P A D)) (n : ℕ) → AreAccesses es → passed_in f es n ≡ n
+  none_passed f [] n all = refl
+  none_passed f (told.Steps step reply core ∷ es) n all = absurd (true≢false (sym all.0))
+  none_passed f (e ∷ es) n all = none_passed f es n all.1
+
+  pub none_queuing : (before since : List (Told K V P A D)) (e : Told K V P A D) (hash sequence : ℕ) → AreAccesses (before ++ e ∷ since) → IsQueuing hash sequence e → ⊥
+  none_queuing [] since (told.Steps step reply core) hash sequence all is = true≢false (sym all.0)
+  none_queuing [] since e hash sequence all is = is
+  none_queuing (b ∷ before) since e hash sequence all is = none_queuing before since e hash sequence all.1 is
+
+  -- of one step
+  pub queued_one : (flushers f : ℕ) (e : Told K V P A D) (step : Step K V P A) (answer : Reply K V P A) (new : Core K V P A) → IsEventOf step answer new e → queued_in flushers f (e ∷ []) ≡ queued_by flushers f (moving_of step) answer
+  queued_one flushers f (told.Steps made gave left) step answer new is =
+      let same : queued_by flushers f (moving_of made.value) gave.value ≡ queued_by flushers f (moving_of step) answer = ap (λ (x : Step K V P A × Reply K V P A). queued_by flushers f (moving_of x.0) x.1) (λ i. (is.0 i, is.1 i)) in
       omega arith
+  queued_one flushers f e step answer new is = absurd is
 
-  pub returned_still : (seen since : List (Told K V P A D)) → AreAccesses since → returned_in r (seen ++ since) ≡ returned_in r seen
-  returned_still seen since all =
-      let more : returned_in r (seen ++ since) ≡ returned_in r seen + returned_in r since = more_returned seen since in
-      let none : returned_in r since ≡ 0 = none_returned since all in
+  pub returned_one : (f : ℕ) (e : Told K V P A D) (step : Step K V P A) (answer : Reply K V P A) (new : Core K V P A) → IsEventOf step answer new e → returned_in f (e ∷ []) ≡ returned_by f (moving_of step) answer
+  returned_one f (told.Steps made gave left) step answer new is =
+      let same : returned_by f (moving_of made.value) gave.value ≡ returned_by f (moving_of step) answer = ap (λ (x : Step K V P A × Reply K V P A). returned_by f (moving_of x.0) x.1) (λ i. (is.0 i, is.1 i)) in
       omega arith
+  returned_one f e step answer new is = absurd is
 
-  queued_one : (e : Told K V P A D) (step : Step K V P A) (answer : Reply K V P A) (new : Core K V P A) → IsEventOf step answer new e → queued_in r (e ∷ []) ≡ queued_by r (enqueued_hash step) answer
-  queued_one (told.Steps made gave left) step answer new is =
-      let same : queued_by r (enqueued_hash made.value) gave.value ≡ queued_by r (enqueued_hash step) answer = ap (λ (x : Step K V P A × Reply K V P A). queued_by r (enqueued_hash x.0) x.1) (λ i. (is.0 i, is.1 i)) in
-      omega arith
-  queued_one e step answer new is = absurd is
-
-  returned_one : (e : Told K V P A D) (step : Step K V P A) (answer : Reply K V P A) (new : Core K V P A) → IsEventOf step answer new e → returned_in r (e ∷ []) ≡ returned_by r answer
-  returned_one (told.Steps made gave left) step answer new is = let same : returned_by r gave.value ≡ returned_by r answer = ap (returned_by r) is.1 in omega arith
-  returned_one e step answer new is = absurd is
-
-  -- a step more
-  pub queued_then : (log : List (Told K V P A D)) (e : Told K V P A D) (step : Step K V P A) (answer : Reply K V P A) (new : Core K V P A) → IsEventOf step answer new e
-      → queued_in r (log ++ e ∷ []) ≡ queued_in r log + queued_by r (enqueued_hash step) answer
-  queued_then log e step answer new is =
-      let more : queued_in r (log ++ e ∷ []) ≡ queued_in r log + queued_in r (e ∷ []) = more_queued log (e ∷ []) in
-      more ∙ ap (λ n. queued_in r log + n) (queued_one e step answer new is)
-
-  pub returned_then : (log : List (Told K V P A D)) (e : Told K V P A D) (step : Step K V P A) (answer : Reply K V P A) (new : Core K V P A) → IsEventOf step answer new e
-      → returned_in r (log ++ e ∷ []) ≡ returned_in r log + returned_by r answer
-  returned_then log e step answer new is =
-      let more : returned_in r (log ++ e ∷ []) ≡ returned_in r log + returned_in r (e ∷ []) = more_returned log (e ∷ []) in
-      more ∙ ap (λ n. returned_in r log + n) (returned_one e step answer new is)
+  pub passed_one : (f n : ℕ) (e : Told K V P A D) (step : Step K V P A) (answer : Reply K V P A) (new : Core K V P A) → IsEventOf step answer new e → passed_in f (e ∷ []) n ≡ passed_by f (moving_of step) answer n
+  passed_one f n (told.Steps made gave left) step answer new is =
+      ap (λ (x : Step K V P A × Reply K V P A). passed_by f (moving_of x.0) x.1 n) (λ i. (is.0 i, is.1 i))
+  passed_one f n e step answer new is = absurd is

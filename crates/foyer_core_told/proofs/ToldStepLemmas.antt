@@ -63,7 +63,7 @@ module _ {K V P A D : Type 0} (m : Meaning K V P) (s : Settings) (sound : AreVal
   same_one w (told.Cleans b is_ok disk) (deeds.CleansAt c ok torn) is tells = refl
   same_one w e d is tells = absurd tells
 
-  same_core : (w : World Content) (es : List (Told K V P A D)) (u : World Content) → AreAccesses es → LeadsTo m s sound byte_at w es u → u.core ≡ w.core
+  pub same_core : (w : World Content) (es : List (Told K V P A D)) (u : World Content) → AreAccesses es → LeadsTo m s sound byte_at w es u → u.core ≡ w.core
   same_core w [] u all is = ap (λ (x : World Content). x.core) is
   same_core w (e ∷ es) u all run = same_core (after_deed (machine m s sound) w run.0) es u all.1 run.3 ∙ same_one w e run.0 all.0 run.1
 

@@ -2,6 +2,7 @@
 ghost use Rattle.foyer_core_told.specs.ToldSteps.{OpeningIsTold, StepGoesOn, LeavesCore, LeavesDisk};
 ghost use Rattle.foyer_core_told.specs.ToldLoads.{RunsAreCounted, AnswersToldNewest};
 ghost use Rattle.foyer_core_told.specs.ToldMisses.{LooksUpToldNewest, EndsAsToldNewest, LookUpMissesAreCaused, EndMissesAreCaused};
+ghost use Rattle.foyer_core_told.specs.ToldQueued.{LeftIsWritten};
 ghost use Rattle.foyer_core_told.specs.ToldRights.{RightsAreThere, RightsKeepTheirParts};
 
 use std::alloc::Allocator;
@@ -52,4 +53,10 @@ pub fn misses_told_only<K, V, P, A: Allocator, D>()
 pub fn misses_are_caused<K, V, P, A: Allocator, D>()
     ensures looks_up { LookUpMissesAreCaused K V P A D }
     ensures ends { EndMissesAreCaused K V P A D }
+{}
+
+/// What has left its flusher when a batch of it ended is written, or something newer of its hash is, unless a batch failed since or a destroy cleared
+/// the index.
+pub fn left_is_written<K, V, P, A: Allocator, D>()
+    ensures { LeftIsWritten K V P A D }
 {}

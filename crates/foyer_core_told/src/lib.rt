@@ -4,3 +4,4 @@
 pub mod event;
 pub mod history;
 pub mod laws;
+pub mod queued;

@@ -5,7 +5,7 @@ use Rattle.std.specs.declared.alloc.Global.{Global}
 use Rattle.std.specs.declared.vec.Vec.{Vec}
 use Rattle.foyer_device_page.specs.declared.error.Error.{Error}
 use Rattle.foyer_policy_piece.specs.Referred.{Referred}
-use Rattle.foyer_core_laws.specs.Content.{Content, Meaning, content}
+use Rattle.foyer_core_laws.specs.Content.{Meaning, content}
 use Rattle.foyer_core_model.specs.Access.{CleanIssued}
 use Rattle.foyer_core_steps.specs.declared.step.Step.{Step}
 use Rattle.foyer_core_steps.specs.declared.step.Step.TheVariants as steps
@@ -14,7 +14,7 @@ use Rattle.foyer_core_told.specs.Telling.{HasStepped}
 use Rattle.foyer_io_told.specs.ToldAccess.{HasClean}
 use Rattle.foyer_core_threads.specs.Asking.{IsLoadReply}
 use Rattle.foyer_core_threads.specs.Going.{GoesOn, IsMadeAgain}
-use Rattle.foyer_core_threads.specs.Newest.{Moment, WasNewest, WasMissed}
+use Rattle.foyer_core_threads.specs.Newest.{WasMissedWritten, WasPutLast}
 use Rattle.foyer_core_threads.proofs.AgainLemmas.{tried_on}
 use Rattle.foyer_core_threads.proofs.GoingLemmas.{on_on, same_on}
 use Rattle.foyer_storage_engine.specs.Answering.{IsLoadOf}
@@ -38,7 +38,7 @@ use Rattle.foyer_storage_engine.proofs.HoldingLemmas.{closed_by_made, destroyed_
 use Rattle.std.proofs.Common.{◌≡◌, ◌⊎◌, inl, inr, ℕ, zero, suc, ◌+◌, ◌-◌, ◌<◌, ◌≤◌, ◌==◌, Bool, true, false, true≢false, Some, None, List, [], ◌∷◌, ◌++◌, refl, sym, ap, ◌∙◌, subst, append_assoc, append-nil, arith, Result, Ok, Err, OnOk, slice_get}
 use Rattle.foyer_core_chronicle.specs.declared.View.{View}
 use Rattle.foyer_storage_history.specs.Releasing.{AnswersWait}
-use Rattle.foyer_storage_history.specs.HistoryCalls.{AreCleaned, IsCleared, IsDestroyed, IsEndAnswering, IsNewestAnswer, IsSeenBy, IsWaitedFor, WasQuiet, cleared_as, is_nil}
+use Rattle.foyer_storage_history.specs.HistoryCalls.{AreCleaned, IsCleared, IsDestroyed, IsEndAnswering, IsNewestAnswer, IsSeenBy, IsWaitedFor, cleared_as, is_nil}
 
 pub nil_is : {X : Type 0} (xs : List X) → is_nil xs ≡ true → xs ≡ []
 nil_is [] is = refl
@@ -130,35 +130,16 @@ module _ {K V P D : Type 0} (m : Meaning K V P) (byte_at : D → ℕ → ℕ →
   tried_sees mine after step answer made = sees mine made.tried (tried_on m byte_at made.times step mine made.tried made.refused)
 
   -- a load's answer, by its reply
-  pub newest_answer : (mine after : View (Told K V P Global D)) (hash : ℕ) (was : WasQuiet mine hash) (reply : Reply K V P Global) (answered : Result (Load K V P Global) Error) → IsLoadReply false false reply → IsLoadOf reply answered
-      → ((key : K) (value : V) (age : _) → reply ≡ replies.Entry key value age → WasNewest m byte_at was.quiet.seen after.seen hash (content m key value))
-      → (reply ≡ replies.Miss → WasMissed m byte_at was.quiet.seen after.seen hash) → IsNewestAnswer m byte_at mine after hash answered
-  newest_answer mine after hash was (replies.Entry key value age) answered may is newest missed = subst (IsNewestAnswer m byte_at mine after hash) (sym is) (was, newest key value age refl)
-  newest_answer mine after hash was replies.Miss answered may is newest missed = subst (IsNewestAnswer m byte_at mine after hash) (sym is) (was, missed refl)
-  newest_answer mine after hash was replies.Throttled answered (inl look) is newest missed = absurd (true≢false (sym look))
-  newest_answer mine after hash was replies.Throttled answered (inr (inl end)) is newest missed = absurd (true≢false (sym end.1))
-  newest_answer mine after hash was replies.Throttled answered (inr (inr none)) is newest missed = absurd (true≢false (sym none.0))
-  newest_answer mine after hash was (replies.Refused kind back) answered may is newest missed = subst (IsNewestAnswer m byte_at mine after hash) (sym is) tt
-  newest_answer mine after hash was reply answered may is newest missed = subst (IsNewestAnswer m byte_at mine after hash) (sym is) tt
-
-  -- what came after a moment of the call came after all that was seen at the call
-  abbrev later_moment : (mine quiet : View (Told K V P Global D)) (after : List (Told K V P Global D)) → IsSeenBy mine quiet → Moment m byte_at quiet.seen after → Moment m byte_at mine.seen after
-  later_moment mine quiet after seen moment = record {
-    there = moment.there;
-    first = seen.0 ++ moment.first;
-    since = moment.since;
-    later = moment.later ∙ ap (λ l. l ++ moment.first) seen.1 ∙ append_assoc mine.seen seen.0 moment.first;
-    earlier = moment.earlier;
-    told = moment.told;
-  }
-
-  -- so an entry was the newest put of its hash at a moment of the call
-  pub newest_in_call : (mine quiet : View (Told K V P Global D)) (after : List (Told K V P Global D)) (hash : ℕ) (c : Content) → IsSeenBy mine quiet → WasNewest m byte_at quiet.seen after hash c → WasNewest m byte_at mine.seen after hash c
-  newest_in_call mine quiet after hash c seen was = record { moment = later_moment mine quiet after seen was.moment; newest_then = was.newest_then }
-
-  -- and a miss has its cause at one
-  pub missed_in_call : (mine quiet : View (Told K V P Global D)) (after : List (Told K V P Global D)) (hash : ℕ) → IsSeenBy mine quiet → WasMissed m byte_at quiet.seen after hash → WasMissed m byte_at mine.seen after hash
-  missed_in_call mine quiet after hash seen was = record { moment = later_moment mine quiet after seen was.moment; caused = was.caused }
+  pub newest_answer : (mine after : View (Told K V P Global D)) (hash : ℕ) (reply : Reply K V P Global) (answered : Result (Load K V P Global) Error) → IsLoadReply false false reply → IsLoadOf reply answered
+      → ((key : K) (value : V) (age : _) → reply ≡ replies.Entry key value age → WasPutLast m byte_at mine.seen after.seen hash (content m key value))
+      → (reply ≡ replies.Miss → WasMissedWritten m byte_at mine.seen after.seen hash) → IsNewestAnswer m byte_at mine after hash answered
+  newest_answer mine after hash (replies.Entry key value age) answered may is newest missed = subst (IsNewestAnswer m byte_at mine after hash) (sym is) (newest key value age refl)
+  newest_answer mine after hash replies.Miss answered may is newest missed = subst (IsNewestAnswer m byte_at mine after hash) (sym is) (missed refl)
+  newest_answer mine after hash replies.Throttled answered (inl look) is newest missed = absurd (true≢false (sym look))
+  newest_answer mine after hash replies.Throttled answered (inr (inl end)) is newest missed = absurd (true≢false (sym end.1))
+  newest_answer mine after hash replies.Throttled answered (inr (inr none)) is newest missed = absurd (true≢false (sym none.0))
+  newest_answer mine after hash (replies.Refused kind back) answered may is newest missed = subst (IsNewestAnswer m byte_at mine after hash) (sym is) tt
+  newest_answer mine after hash reply answered may is newest missed = subst (IsNewestAnswer m byte_at mine after hash) (sym is) tt
 
   -- the end of a batch
   pub end_answers : (mine after : View (Told K V P Global D)) (flusher id : ℕ) (reply : Reply K V P Global) (pieces : Vec (Referred K V P) Global) (waits : Vec ℕ Global) (at : ℕ)

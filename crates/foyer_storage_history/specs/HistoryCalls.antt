@@ -19,11 +19,10 @@ use Rattle.foyer_core_steps.specs.declared.reply.Reply.TheVariants as replies
 use Rattle.foyer_core_steps.specs.declared.step.Step.{Step}
 use Rattle.foyer_core_steps.specs.declared.step.Step.TheVariants as steps
 use Rattle.foyer_core_told.specs.declared.event.Told.{Told}
-use Rattle.foyer_core_told.specs.ToldQueued.{IsQuiet}
 use Rattle.foyer_core_told.specs.Telling.{HasStepped}
 use Rattle.foyer_core_threads.specs.Done.{HasCleaned}
 use Rattle.foyer_core_threads.specs.Going.{IsMadeAgain}
-use Rattle.foyer_core_threads.specs.Newest.{WasNewest, WasMissed}
+use Rattle.foyer_core_threads.specs.Newest.{WasMissedWritten, WasPutLast}
 use Rattle.foyer_storage_engine.specs.Answering.{enqueued_as}
 use Rattle.foyer_storage_engine.specs.Ending.{is_refused}
 use Rattle.foyer_storage_engine.specs.declared.engine.Enqueued.{Enqueued}
@@ -56,18 +55,11 @@ destroyed_as other = Err error.Unsupported
 abbrev pub AsksToDestroy : SessionState → Type 0
 AsksToDestroy session = (answer : ReplyBrief) × (session.newest ≡ Some (record { step = asked.DestroyBegin; reply = answer })) × (is_refused answer ≡ false)
 
--- At a moment after all that the caller had seen at the call, nothing of the hash was queued.
-pub record WasQuiet {K V P D : Type 0} (mine : View (Told K V P Global D)) (hash : ℕ) : Type 0 where
-  pub quiet : View (Told K V P Global D)
-  pub first : IsSeenBy mine quiet
-  pub none_queued : IsQuiet hash quiet.seen
-
 module _ {K V P D : Type 0} (m : Meaning K V P) (byte_at : D → ℕ → ℕ → ℕ) where
-  -- A load's answer: at a moment of the call nothing of the hash was queued, and at a later one an entry was the newest put of its hash; a miss
-  -- has its cause then. It is nothing else.
+  -- A load's answer: an entry was put last under its hash at a moment of the call; a miss has its cause there. It is nothing else.
   abbrev pub IsNewestAnswer : (mine after : View (Told K V P Global D)) → (hash : ℕ) → Result (Load K V P Global) Error → Type 0
-  IsNewestAnswer mine after hash (Ok (load.Entry key value populated)) = (was : WasQuiet mine hash) × WasNewest m byte_at was.quiet.seen after.seen hash (content m key value)
-  IsNewestAnswer mine after hash (Ok load.Miss) = (was : WasQuiet mine hash) × WasMissed m byte_at was.quiet.seen after.seen hash
+  IsNewestAnswer mine after hash (Ok (load.Entry key value populated)) = WasPutLast m byte_at mine.seen after.seen hash (content m key value)
+  IsNewestAnswer mine after hash (Ok load.Miss) = WasMissedWritten m byte_at mine.seen after.seen hash
   IsNewestAnswer mine after hash (Err e) = Unit {0}
   IsNewestAnswer mine after hash answered = ⊥
 

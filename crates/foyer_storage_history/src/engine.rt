@@ -1,13 +1,15 @@
 //! The engine.
 ghost use Rattle.std.specs.Prelude.{◌≡◌, ◌≢◌, ◌⊎◌, ◌+◌, ◌-◌, ◌<◌, [], IfErr, IfOk, false, true};
 ghost use Rattle.foyer_core_chronicle.specs.SharedHistory.{newcomer};
-ghost use Rattle.foyer_core_laws.specs.Content.{meaning};
+ghost use Rattle.foyer_core_laws.specs.Content.{content, meaning};
 ghost use Rattle.foyer_core_model.specs.Ids.{ids};
+ghost use Rattle.foyer_core_steps.specs.declared.reply.Reply.TheVariants as reply;
 ghost use Rattle.foyer_core_steps.specs.declared.step.Step.TheVariants as steps;
 ghost use Rattle.foyer_core_tally.specs.Ledgers.{AreOf};
-ghost use Rattle.foyer_core_told.specs.ToldQueued.{IsQuiet};
 ghost use Rattle.foyer_core_told.specs.ToldRights.{rights_count};
+ghost use Rattle.foyer_core_threads.specs.Asking.{IsLoadReply};
 ghost use Rattle.foyer_core_threads.specs.Going.{GoesOn};
+ghost use Rattle.foyer_core_threads.specs.Newest.{WasMissedWritten, WasPutLast};
 ghost use Rattle.foyer_device_page.specs.declared.error.Error.TheVariants.{Config, Memory, Recover, SequenceEnd};
 ghost use Rattle.foyer_storage_engine.specs.Answering.{asked_as, deleted_as, enqueued_as, is_draw_error, is_load_error, is_question_error};
 ghost use Rattle.foyer_storage_engine.specs.Keeping.{IsKeptWhereQueued};
@@ -221,15 +223,29 @@ where
         }
     }
 
-    // Writes what is queued, until the session has seen a moment at which nothing of a hash's class was.
-    #[tactic(auto, using(crate::proofs::HistoryLemmas::nil_is, crate::proofs::HistoryLemmas::goes_on, crate::proofs::HistoryLemmas::goes_self))]
-    fn see_quiet(&self, rt: &impl Wait, session: &mut HistorySession<J, L, K, V, P, D>, hash: u64)
-        ensures quiet { IsQuiet hash session.new.told.witness.me.0.seen }
+    // Looks a hash up and reads what it stands for, once all pieces of it that were queued have left their flusher; until then, what is queued is
+    // written.
+    #[tactic(auto, using(crate::proofs::HistoryLemmas::nil_is, crate::proofs::HistoryLemmas::goes_self))]
+    fn load_written(
+        &self,
+        rt: &impl Wait,
+        session: &mut HistorySession<J, L, K, V, P, D>,
+        hash: u64,
+    ) -> Result<Reply<K, V, P, Global>>
+        ensures put_last { IfOk result (λ answer. (key : K) (value : V) (age : _) → answer ≡ reply.Entry key value age
+            → WasPutLast (meaning K.encoding V.encoding K.is_encodable V.is_encodable K.is_decodable V.is_decodable P.age) D.byte_at session.old.told.witness.me.0.seen session.new.told.witness.me.0.seen hash (content (meaning K.encoding V.encoding K.is_encodable V.is_encodable K.is_decodable V.is_decodable P.age) key value)) }
+        ensures missed { IfOk result (λ answer. answer ≡ reply.Miss
+            → WasMissedWritten (meaning K.encoding V.encoding K.is_encodable V.is_encodable K.is_decodable V.is_decodable P.age) D.byte_at session.old.told.witness.me.0.seen session.new.told.witness.me.0.seen hash) }
+        ensures replied { IfOk result (IsLoadReply false false) }
         ensures on { GoesOn (meaning K.encoding V.encoding K.is_encodable V.is_encodable K.is_decodable V.is_decodable P.age) D.byte_at session.old.told.witness.me.0 session.new.told.witness.me.0 }
+        ensures refused { IfErr result (λ e. e ≡ Memory) }
     {
         for _ in rt.forever() {
-            if self.shared.sees_none_queued(rt, &mut session.told, hash) {
-                return;
+            let ended = self
+                .shared
+                .load_written(rt, &mut session.told, &self.alloc, hash, false);
+            if let Some(ended) = ended {
+                return ended;
             }
             self.write_queued(rt);
         }
@@ -329,10 +345,10 @@ where
         answer_of(reply)
     }
 
-    /// Looks a hash up, of which a keeper had no piece, and reads what it stands for. First, what is queued is written, until nothing of the
-    /// hash is queued. An entry was the newest put of its hash at a later moment of the call, in the one history of all threads; a miss has
-    /// its cause there.
-    #[tactic(auto, using(crate::proofs::HistoryLemmas::nil_is, crate::proofs::HistoryLemmas::goes_on))]
+    /// Looks a hash up, of which a keeper had no piece, and reads what it stands for, once all pieces of it that were queued are written. An entry
+    /// was put last under its hash at a moment of the call, in the one history of all threads: it was the newest put, and no piece that had
+    /// been queued was newer, unless a batch had failed since or a destroy had cleared the index. A miss has its cause there.
+    #[tactic(auto, using(crate::proofs::HistoryLemmas::nil_is))]
     pub fn load_newest(
         &self,
         rt: &impl Wait,
@@ -343,10 +359,7 @@ where
         ensures on { GoesOn (meaning K.encoding V.encoding K.is_encodable V.is_encodable K.is_decodable V.is_decodable P.age) D.byte_at session.old.told.witness.me.0 session.new.told.witness.me.0 }
         ensures refused { IfErr result (λ e. is_load_error e ≡ true) }
     {
-        self.see_quiet(rt, session, lacking.hash());
-        let reply = self
-            .shared
-            .load(rt, &mut session.told, &self.alloc, lacking.hash(), false)?;
+        let reply = self.load_written(rt, session, lacking.hash())?;
         load_of(reply)
     }
 }

@@ -1,5 +1,5 @@
 //! A load, from its look-up to its answer.
-ghost use Rattle.std.specs.Prelude.{◌≡◌, ◌<◌, ℕ, [], IfErr, IfOk};
+ghost use Rattle.std.specs.Prelude.{◌≡◌, ◌<◌, ℕ, [], IfErr, IfNone, IfOk, IfSome};
 ghost use Rattle.foyer_core_chronicle.specs.Rights.{times};
 ghost use Rattle.foyer_core_laws.specs.Content.{content, meaning};
 ghost use Rattle.foyer_core_model.specs.Access.{ReadIssued, ReadDone};
@@ -14,7 +14,7 @@ ghost use Rattle.foyer_core_told.specs.Telling.{HasGoneOn, HasStepped};
 ghost use Rattle.foyer_io_told.specs.ToldAccess.{HasTicket};
 ghost use Rattle.foyer_core_threads.specs.Asking.{IsLoadReply, IsTicketIn};
 ghost use Rattle.foyer_core_threads.specs.Done.{HasLoaded, IsLoadNoted};
-ghost use Rattle.foyer_core_threads.specs.Newest.{WasNewest, WasMissed};
+ghost use Rattle.foyer_core_threads.specs.Newest.{WasNewest, WasMissed, WasMissedWritten, WasPutLast};
 ghost use Rattle.foyer_core_threads.specs.Going.{GoesOn};
 
 use super::ToldShared;
@@ -88,6 +88,48 @@ where
             ticket,
         )?;
         Ok(outcome)
+    }
+
+    /// A load as `load` does it, if all pieces of the hash that were queued have left their flusher; else nothing is done, and the answer is `None`.
+    /// An entry was put last under its hash at a moment between the call and the return: it was the newest put, and no piece that had been
+    /// queued was newer, unless a batch had failed since or a destroy had cleared the index.
+    pub fn load_written(
+        &self,
+        rt: &impl Wait,
+        session: &mut ToldSession<L, K, V, P, A, D>,
+        alloc: &A,
+        hash: u64,
+        throttled: bool,
+    ) -> Option<Result<Reply<K, V, P, A>>>
+        requires mine { (session.old.witness.table_id ≡ J.table) × (session.old.witness.me.1 ≡ []) }
+        requires part { 0 < session.old.session.shares.parts }
+        ensures mine { (session.new.witness.table_id ≡ J.table) × (session.new.witness.me.1 ≡ []) }
+        ensures on { GoesOn (meaning K.encoding V.encoding K.is_encodable V.is_encodable K.is_decodable V.is_decodable P.age) D.byte_at session.old.witness.me.0 session.new.witness.me.0 }
+        ensures refused { IfSome result (λ ended. IfErr ended (λ e. e ≡ Memory)) }
+        ensures replied { IfSome result (λ ended. IfOk ended (IsLoadReply N.keeps throttled)) }
+        ensures put_last { IfSome result (λ ended. IfOk ended (λ answer. (key : K) (value : V) (age : _) → answer ≡ reply.Entry key value age
+            → WasPutLast (meaning K.encoding V.encoding K.is_encodable V.is_encodable K.is_decodable V.is_decodable P.age) D.byte_at session.old.witness.me.0.seen session.new.witness.me.0.seen hash (content (meaning K.encoding V.encoding K.is_encodable V.is_encodable K.is_decodable V.is_decodable P.age) key value))) }
+        ensures missed { IfSome result (λ ended. IfOk ended (λ answer. answer ≡ reply.Miss
+            → WasMissedWritten (meaning K.encoding V.encoding K.is_encodable V.is_encodable K.is_decodable V.is_decodable P.age) D.byte_at session.old.witness.me.0.seen session.new.witness.me.0.seen hash)) }
+        ensures noted { IfSome result (λ ended. IfOk ended (λ answer. IsLoadNoted N.keeps session.old.session session.new.session hash throttled answer)) }
+        ensures queued { IfNone result (session.new ≡ session.old) }
+        ensures parts { session.new.session.shares.parts ≡ session.old.session.shares.parts }
+    {
+        let looked = lock_spinning(&self.core, rt).look_up(&self.history, session, hash, throttled);
+        let (reply, number) = match looked {
+            Some(looked) => looked,
+            None => return None,
+        };
+        let ticket = match ticket_of(reply) {
+            Ok(ticket) => ticket,
+            Err(reply) => return Some(Ok(reply)),
+        };
+        let outcome = match self.read(rt, session, alloc, number, &ticket) {
+            Ok(outcome) => outcome,
+            Err(error) => return Some(Err(error)),
+        };
+        let (reply, _) = self.end_load(rt, session, alloc, ticket, outcome);
+        Some(Ok(reply))
     }
 
     /// Looks a hash up, reads what it stands for, and ends the load: the last reply. An entry was the newest put of its hash at a moment

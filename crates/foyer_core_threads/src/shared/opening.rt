@@ -18,7 +18,7 @@ ghost use Rattle.foyer_core_threads.specs.Asking.{HasSizes};
 ghost use Rattle.foyer_core_told.specs.ToldRights.{disk_right, rights_count};
 
 use super::ToldShared;
-use crate::queued::QueuedCounts;
+use crate::queued::NoneQueued;
 use crate::session::ToldSession;
 use foyer_block_index::tombstone::Tombstone;
 use foyer_block_manager::block::eviction::EvictionPicker;
@@ -87,7 +87,7 @@ where
         let mut disk = disk;
         let listings = Listings::none(alloc.clone()?);
         let spare = Vec::new(alloc.clone()?);
-        let queued = QueuedCounts::new(alloc.clone()?)?;
+        let none = NoneQueued::new(&alloc, settings.flushers)?;
         let opened = Locked::open(
             alloc, env, settings, &mut disk, mode, marks, listings, blanks,
         );
@@ -95,6 +95,6 @@ where
             Ok(opened) => opened,
             Err(error) => return Err(error),
         };
-        Ok(ToldShared::new(history, witness, locked, session, disk, spare, queued))
+        Ok(ToldShared::new(history, witness, locked, session, disk, spare, none))
     }
 }

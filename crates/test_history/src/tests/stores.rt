@@ -191,6 +191,40 @@ fn run<J: HistoryName, L: Kinds>(
     Ok((answers, refused == Err(Error::Closed)))
 }
 
+// Puts a number under a key: what another key has then, and what the first has after that.
+fn ask_beside<S: Drop, N: Engine<S, u64, u64, NoProperties>>(
+    rt: &impl Wait,
+    alloc: Global,
+    store: &Numbers<N>,
+    session: &mut S,
+    key: u64,
+    other: u64,
+) -> Result<[Option<(u64, bool)>; 2]> {
+    let _ = put_all(rt, alloc, store, session, key, 1)?;
+    let beside = number(rt, store, session, other)?;
+    let own = number(rt, store, session, key)?;
+    Ok([beside, own])
+}
+
+// The same of two keys whose hashes are of one class, and of two whose hashes aren't.
+fn run_beside<J: HistoryName, L: Kinds>(
+    rt: &impl Wait,
+    alloc: Global,
+    history: ToldHistory<u64, u64, NoProperties, Global, Disk>,
+    witness: ToldWitness<u64, u64, NoProperties, Global, Disk>,
+    blanks: Blanks,
+) -> Result<[[Option<(u64, bool)>; 2]; 2]>
+    requires history { history.table.shared.table_id ≡ J.table }
+    requires witness { (witness.table_id ≡ J.table) × (witness.me ≡ (newcomer (ids rights_count), [])) }
+    requires ledgers { AreOf L.name_of L.all blanks × (L.all ≡ 2 ^ 32) }
+{
+    let (engine, mut session) = opened::<J, L>(alloc, history, witness, blanks)?;
+    let store = engine.into_store(alloc, "numbers", hashes(), 0)?;
+    let same = ask_beside(rt, alloc, &store, &mut session, 202, 264)?;
+    let apart = ask_beside(rt, alloc, &store, &mut session, 1, 2)?;
+    Ok([same, apart])
+}
+
 // Two threads put numbers, each under a key of its own, while a third loads both: whether all puts were queued, and no load went back.
 fn run_by_three<S, N, R>(
     rt: &R,
@@ -251,6 +285,18 @@ fn calls_of_one_thread_are_answered_so(rt: HostRuntime) -> std::result::Result<(
         None,
     ];
     assert_eq!(rt; ran?, (answers, true));
+    Ok(())
+}
+
+#[test]
+fn a_load_writes_what_is_queued_of_its_class_alone(
+    rt: HostRuntime,
+) -> std::result::Result<(), Fail> {
+    let alloc = rt.alloc();
+    let (history, witness) = open_history(alloc)?;
+    let ran = run_beside::<Brand, Brand>(&rt, alloc, history, witness, Blanks::new(1 << 32));
+    let answers = [[None, Some((0, true))], [None, Some((0, false))]];
+    assert_eq!(rt; ran?, answers);
     Ok(())
 }
 

@@ -1,11 +1,12 @@
-use Rattle.std.proofs.Common.{◌≡◌, true, true≢false, None, sym, ap, ◌∙◌, subst}
+use Rattle.std.proofs.Common.{◌≡◌, true, true≢false, sym, ap, ◌∙◌, subst}
 use Rattle.foyer_core_laws.specs.Content.{meaning}
 use Rattle.foyer_core_steps.specs.Refines.{Refines}
 use Rattle.foyer_core_steps.specs.declared.step.Step.TheVariants as steps
 use Rattle.foyer_core_told.specs.ToldRights.{step_takes}
-use Rattle.foyer_core_told.specs.ToldQueued.{enqueued_hash}
+use Rattle.foyer_core_told.specs.declared.queued.Moving.TheVariants as moving
+use Rattle.foyer_core_told.specs.ToldQueued.{moving_of}
 use Rattle.foyer_core_told.specs.Telling.{BringsTrue, HasStepped, IsCoreStep, StandsAt}
-use Rattle.foyer_core_threads.proofs.CountLemmas.{counted_step}
+use Rattle.foyer_core_threads.proofs.NotedLemmas.{noted_step}
 use Rattle.foyer_core_threads.proofs.locked.ToldCore.end_judged.Goals as goal
 
 pub tell_step-requires-clause-core : goal.tell_step-requires-clause-core
@@ -30,6 +31,6 @@ invariant_of-self-2 g c = (
   c.tell_step.ensures.right,
   c.tell_step.ensures.counted,
   subst (StandsAt (meaning g.K.Code.encoding g.V.Code.encoding g.K.Code.is_encodable g.V.Code.is_encodable g.K.Code.is_decodable g.V.Code.is_decodable g.P.Properties.age) g.D.Disk.byte_at c.tell_step.new.own.me.0.seen) c.core.ensures c.tell_step.ensures.core,
-  counted_step c.self.inside.queued c.note.new.self c.self.inside.witness.me.0 c.tell_step.new.own.me.0 c.args.said.value None c.in-Ok.answer.0 c.core.result.now c.self.invariant.5 c.tell_step.ensures.added
-      (ap enqueued_hash (sym c.requires.said)) c.note.ensures,
+  noted_step c.self.inside.places c.note.new.self c.self.inside.witness.me.0 c.tell_step.new.own.me.0 c.args.said.value moving.Other c.in-Ok.answer.0 c.core.result.now c.self.invariant.5 c.tell_step.ensures.added
+      (ap moving_of (sym c.requires.said)) c.note.ensures,
 )

@@ -1,10 +1,10 @@
 use Rattle.std.proofs.Common.{sym, ap, ◌∙◌, subst}
 use Rattle.foyer_core_laws.specs.Content.{meaning}
 use Rattle.foyer_core_steps.specs.Refines.{Refines}
-use Rattle.foyer_core_told.specs.ToldQueued.{enqueued_hash}
+use Rattle.foyer_core_told.specs.ToldQueued.{moving_of}
 use Rattle.foyer_core_told.specs.Telling.{IsCoreStep, StandsAt}
 use Rattle.foyer_core_threads.proofs.AnswerLemmas.{is_answer}
-use Rattle.foyer_core_threads.proofs.CountLemmas.{counted_step}
+use Rattle.foyer_core_threads.proofs.NotedLemmas.{noted_step}
 use Rattle.foyer_core_threads.proofs.locked.ToldCore.step.Goals as goal
 
 pub tell_step-number-requires-clause-core : goal.tell_step-number-requires-clause-core
@@ -19,8 +19,8 @@ invariant_of-self-2 g c = (
   c.tell_step-number.ensures.right,
   c.tell_step-number.ensures.counted,
   subst (StandsAt (meaning g.K.Code.encoding g.V.Code.encoding g.K.Code.is_encodable g.V.Code.is_encodable g.K.Code.is_decodable g.V.Code.is_decodable g.P.Properties.age) g.D.Disk.byte_at c.tell_step-number.new.own.me.0.seen) c.core.ensures c.tell_step-number.ensures.core,
-  counted_step c.self.inside.queued c.note.new.self c.self.inside.witness.me.0 c.tell_step-number.new.own.me.0 c.of-said.result.value c.enqueued_hash-hash.result c.in-Ok.reply c.core.result.now c.self.invariant.5 c.tell_step-number.ensures.added
-      (c.enqueued_hash-hash.ensures ∙ ap enqueued_hash (sym c.of-said.ensures)) c.note.ensures,
+  noted_step c.self.inside.places c.note.new.self c.self.inside.witness.me.0 c.tell_step-number.new.own.me.0 c.of-said.result.value c.moving_of-done.result c.in-Ok.reply c.core.result.now c.self.invariant.5 c.tell_step-number.ensures.added
+      (c.moving_of-done.ensures ∙ ap moving_of (sym c.of-said.ensures)) c.note.ensures,
 )
 
 pub returns-clause-answer : goal.returns-clause-answer

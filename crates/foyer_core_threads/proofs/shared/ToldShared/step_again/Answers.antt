@@ -1,8 +1,6 @@
 use Rattle.std.proofs.Common.{◌≡◌, ap, refl, sym, subst, ◌∙◌}
 use Rattle.foyer_core_laws.specs.Content.{meaning}
 use Rattle.foyer_core_shared.specs.Answers.{IsAnswer}
-use Rattle.foyer_core_shared.specs.Briefed.{IsNotedIn}
-use Rattle.foyer_core_shared.specs.Replies.{may_reply}
 use Rattle.foyer_core_threads.specs.Done.{IsNotedAgain}
 use Rattle.foyer_core_threads.specs.Going.{IsMadeAgain}
 use Rattle.foyer_core_threads.proofs.AgainLemmas.{made_last, refused_more, tried_on}

@@ -1,0 +1,19 @@
+//! What became of the pieces that were queued: laws of every run.
+#![tactic(auto)]
+
+ghost use Rattle.std.specs.Prelude.{◌≡◌, ℕ, Bool, true, List};
+ghost use Rattle.foyer_core_model.specs.Record.{Record};
+ghost use Rattle.foyer_core_model.specs.Position.{Position, BlockLayout};
+ghost use Rattle.foyer_core_model.specs.Rules.{Rules};
+ghost use Rattle.foyer_core_written.specs.Written.{PastStays, QueuedAreWritten, ReturnsQueued};
+
+/// A piece whose place is among those that its flusher has handed back is written, or something newer of its hash is, unless a batch failed or
+/// a destroy cleared the index since.
+pub fn queued_are_written<C>()
+    ensures written { (rules : Rules C) (splits : Position → List (Record C) → List (BlockLayout C) → Bool) (is_value : C → Bool)
+        → QueuedAreWritten rules (λ f rs ss. splits f rs ss ≡ true) (λ c. is_value c ≡ true) }
+    ensures stays { (rules : Rules C) (splits : Position → List (Record C) → List (BlockLayout C) → Bool) (is_value : C → Bool)
+        → PastStays rules (λ f rs ss. splits f rs ss ≡ true) (λ c. is_value c ≡ true) }
+    ensures returns { (rules : Rules C) (splits : Position → List (Record C) → List (BlockLayout C) → Bool) (is_value : C → Bool)
+        → ReturnsQueued rules (λ f rs ss. splits f rs ss ≡ true) (λ c. is_value c ≡ true) }
+{}
