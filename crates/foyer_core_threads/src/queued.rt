@@ -1,5 +1,5 @@
 //! How many pieces were queued at each flusher and left it, and which of a class of hashes was the last.
-ghost use Rattle.std.specs.Prelude.{◌≡◌, ◌⊎◌, ◌+◌, ◌%◌, ◌^◌, ◌<◌, ◌≤◌, ℕ, ◌==◌, if◌then◌else◌, IfErr, IfOk, IfSome, false, length, slice_index, true, vec_len};
+ghost use Rattle.std.specs.Prelude.{◌≡◌, ◌⊎◌, ◌+◌, ◌%◌, ◌^◌, ◌<◌, ◌≤◌, ℕ, ◌==◌, if◌then◌else◌, IfErr, IfOk, IfSome, is_some, false, length, slice_index, true, vec_len};
 ghost use Rattle.foyer_core_threads.specs.Queued as noted;
 ghost use Rattle.foyer_core_threads.specs.Queued.{AreNone, FitsEnded, FitsPassed, FitsQueued, HasNoted, HasSeenLeave};
 ghost use Rattle.foyer_device_page.specs.declared.error.Error.TheVariants.{Memory};
@@ -278,7 +278,8 @@ impl<A: Allocator> QueuedPlaces<A> {
 
     /// Whether all pieces of a hash that were queued have left their flusher, of so many, as far as is known.
     pub(crate) fn have_left(&self, hash: u64, flushers: u32) -> Option<Left>
-        ensures { IfSome result (λ _. HasSeenLeave self.now flushers hash) }
+        ensures left { IfSome result (λ _. HasSeenLeave self.now flushers hash) }
+        ensures found { HasSeenLeave self.now flushers hash → 0 < flushers → is_some result ≡ true }
     {
         if self.is_lost || flushers == 0 || self.queued.len() != flushers as usize {
             return None;

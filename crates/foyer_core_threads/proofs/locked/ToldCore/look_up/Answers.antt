@@ -31,7 +31,7 @@ pub returns-clause-told : goal.returns-clause-told
 returns-clause-told g c = inl (subst (λ x. (stepped : HasStepped (meaning g.K.Code.encoding g.V.Code.encoding g.K.Code.is_encodable g.V.Code.is_encodable g.K.Code.is_decodable g.V.Code.is_decodable g.P.Properties.age) g.D.Disk.byte_at c.args.session.now.witness.me.0 c.tell_step-number.new.mine.me.0 x c.in-Ok.reply c.tell_step-number.result) × IsAllWritten (meaning g.K.Code.encoding g.V.Code.encoding g.K.Code.is_encodable g.V.Code.is_encodable g.K.Code.is_decodable g.V.Code.is_decodable g.P.Properties.age) g.D.Disk.byte_at c.args.hash stepped.gone.log) c.of-said.ensures (
   c.tell_step-number.ensures.told,
   looked_written (meaning g.K.Code.encoding g.V.Code.encoding g.K.Code.is_encodable g.V.Code.is_encodable g.K.Code.is_decodable g.V.Code.is_decodable g.P.Properties.age) g.D.Disk.byte_at c.self.inside.places c.args.hash c.self.inside.witness.me.0 c.args.session.now.witness.me.0 c.tell_step-number.new.own.me.0 c.tell_step-number.new.mine.me.0 c.of-said.result.value c.in-Ok.reply c.self.inside.locked.noted.core c.core-2.result.now c.tell_step-number.result
-      c.self.invariant.5 c.self.invariant.4 (subst (λ n. HasSeenLeave c.self.inside.places n c.args.hash) (ap (λ x. x.flushers) (c.settings-flushers.ensures ∙ ap (λ x. x.settings) c.core.ensures)) c.in_ok-have_left.ensures)
+      c.self.invariant.5 c.self.invariant.4 (subst (λ n. HasSeenLeave c.self.inside.places n c.args.hash) (ap (λ x. x.flushers) (c.settings-flushers.ensures ∙ ap (λ x. x.settings) c.core.ensures)) c.in_ok-have_left.ensures.left)
       c.tell_step-number.ensures.added c.tell_step-number.ensures.both c.tell_step-number.ensures.told,
 ))
 

@@ -34,4 +34,4 @@ returns-clause-written g c = λ is.
     seen_written m g.D.Disk.byte_at c.self.inside.places c.args.hash c.give_others.result.me.0.seen c.self.inside.locked.noted.core
     (subst (AreNoted c.self.inside.places) same (sees_noted m g.D.Disk.byte_at c.self.inside.witness.me.0 c.args.session.now.witness.me.0 c.give_others.new.witness.me.0 c.give_others.result.me.0 seen c.self.inside.places c.self.invariant.2 c.self.invariant.5))
     (subst (λ l. StandsAt m g.D.Disk.byte_at l c.self.inside.locked.noted.core) same (sees_core m g.D.Disk.byte_at c.self.inside.witness.me.0 c.args.session.now.witness.me.0 c.give_others.new.witness.me.0 c.give_others.result.me.0 seen c.self.inside.locked.noted.core c.self.invariant.2 c.self.invariant.4))
-    (subst (λ n. HasSeenLeave c.self.inside.places n c.args.hash) (ap (λ x. x.flushers) (c.settings-flushers.ensures ∙ ap (λ x. x.settings) c.core.ensures)) (some_left c.have_left.result (HasSeenLeave c.self.inside.places c.settings-flushers.result.flushers c.args.hash) (sym c.is_some.ensures ∙ is) c.have_left.ensures))
+    (subst (λ n. HasSeenLeave c.self.inside.places n c.args.hash) (ap (λ x. x.flushers) (c.settings-flushers.ensures ∙ ap (λ x. x.settings) c.core.ensures)) (some_left c.have_left.result (HasSeenLeave c.self.inside.places c.settings-flushers.result.flushers c.args.hash) (sym c.is_some.ensures ∙ is) c.have_left.ensures.left))
